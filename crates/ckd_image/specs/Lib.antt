@@ -1,0 +1,6 @@
+pub mod Device
+pub mod Header
+pub mod Track
+pub mod Reading
+pub mod Break
+pub mod Walk

@@ -1,0 +1,12 @@
+//! Images of disk packs in the CKD layout of Hercules: devices, header, tracks.
+#![tactic(auto)]
+
+mod device;
+mod header;
+mod record;
+mod track;
+
+pub use device::DiskType;
+pub use header::{Geometry, Header, ImageErr};
+pub use record::{RecordParts, record_at};
+pub use track::{BadCount, track_of};

@@ -1,0 +1,50 @@
+-- What a hall always tells, in this project's profile: its units, and its counts of faults.
+use Rattle.std.specs.Prelude.{◌≡◌, ℕ, ◌+◌, ◌-◌, ◌^◌, ◌≤◌, min, List, [], ◌∷◌, ◌++◌, length, map, Contains, Result, OnErr, IfOk, IsErrOf, slice_index_or}
+use Rattle.hall_core.specs.declared.hall.HallErr.{HallErr}
+use Rattle.hall_core.specs.declared.hall.HallErr.TheVariants.{Failed, Memory}
+
+-- a count grew, or stands at its type's end
+abbrev pub Rose : ℕ → ℕ → Type 0
+Rose before now = min (before + 1) (2 ^ 64 - 1) ≤ now
+
+-- an attached file: its name, and its size in bytes
+pub record Attached : Type 0 where
+  pub name : List ℕ
+  pub size : ℕ
+
+-- the units in the order of their numbers, and the counts of device and print faults
+pub record Facts : Type 0 where
+  pub units : List Attached
+  pub dev_faults : ℕ
+  pub print_faults : ℕ
+
+-- the attached file of a unit
+abbrev pub unit_of : List Attached → ℕ → Attached
+unit_of units unit = slice_index_or units unit (record { name = []; size = 0 })
+
+-- a file is attached under this name
+abbrev pub IsAttached : List Attached → List ℕ → Type 0
+IsAttached units name = Contains (map (λ (u : Attached). u.name) units) name
+
+-- A device call: it fails only where its count rose, and the rest stays.
+pub record DeviceCall {T E : Type 0} (old new : Facts) (result : Result T E) : Type 0 where
+  pub units : new.units ≡ old.units
+  pub prints : new.print_faults ≡ old.print_faults
+  pub later : old.dev_faults ≤ new.dev_faults
+  pub failed : OnErr result (Rose old.dev_faults new.dev_faults)
+
+-- A print: it fails only where its count rose, and the rest stays.
+pub record PrintCall {T E : Type 0} (old new : Facts) (result : Result T E) : Type 0 where
+  pub units : new.units ≡ old.units
+  pub devices : new.dev_faults ≡ old.dev_faults
+  pub later : old.print_faults ≤ new.print_faults
+  pub failed : OnErr result (Rose old.print_faults new.print_faults)
+
+-- An attachment: the file is the next unit, or the units stay; want of memory changes nothing.
+pub record AttachCall (name : List ℕ) (old new : Facts) (result : Result ℕ HallErr) : Type 0 where
+  pub added : IfOk result (λ unit. (unit ≡ length old.units) × ((size : ℕ) × (new.units ≡ old.units ++ record { name = name; size = size } ∷ [])))
+  pub stays : OnErr result (new.units ≡ old.units)
+  pub prints : new.print_faults ≡ old.print_faults
+  pub later : old.dev_faults ≤ new.dev_faults
+  pub failed : IsErrOf result Failed → Rose old.dev_faults new.dev_faults
+  pub memory : IsErrOf result Memory → new ≡ old

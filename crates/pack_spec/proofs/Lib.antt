@@ -1,0 +1,6 @@
+pub mod Bounds
+pub mod Walks
+pub mod Labels
+pub mod SlotParts
+pub mod Extents
+pub mod Faults

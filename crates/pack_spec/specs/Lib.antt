@@ -1,0 +1,9 @@
+pub mod Label
+pub mod Vtoc
+pub mod Names
+pub mod Views
+pub use Rattle.ckd_image.specs.Header
+pub use Rattle.ckd_image.specs.Device
+pub use Rattle.ckd_image.specs.Track
+pub use Rattle.ckd_image.specs.Reading
+pub use Rattle.dscb_codec.specs.Layout

@@ -1,0 +1,118 @@
+//! Addresses, and the volume label.
+ghost use Rattle.std.specs.Prelude.{◌≡◌, ℕ, ◌≤◌, ◌<◌, ◌+◌, length, map, slice_range, IsTrue, IfOk, IfSome};
+ghost use Rattle.std.specs.Option.{option_copied};
+ghost use Rattle.std.specs.Int.{w16, from_be_bytes};
+ghost use Rattle.ckd_image.specs.Header.{HasGeometry};
+ghost use Rattle.pack_spec.specs.Label.{address_at, is_inside, track_of_address, is_keyed, label_in, label_of, are_label};
+ghost use Rattle.pack_spec.specs.Views.{address_of, record_of, tracks_of};
+
+use crate::track::{Record, records_on};
+use ckd_image::Geometry;
+use std::alloc::{AllocError, Global};
+
+// The keys of the first three records of a pack, in EBCDIC; the label's data begins with its key.
+const IPL1: &[u8] = &[0xC9, 0xD7, 0xD3, 0xF1];
+
+const IPL2: &[u8] = &[0xC9, 0xD7, 0xD3, 0xF2];
+
+const VOL1: &[u8] = &[0xE5, 0xD6, 0xD3, 0xF1];
+
+// The bytes of data of these records.
+const IPL1_LEN: usize = 24;
+
+const IPL2_LEN: usize = 144;
+
+const LABEL_LEN: usize = 80;
+
+// The record of the label, behind the two of the initial program.
+const LABEL_RECORD: u8 = 3;
+
+// The address of a track.
+#[derive(Clone, Copy, Debug, PartialEq, Eq)]
+pub(crate) struct Address {
+    pub cylinder: u16,
+    pub head: u16,
+}
+
+impl Address {
+    // CCHH at an offset.
+    pub(crate) fn read(bytes: &[u8], at: usize) -> Address
+        requires { at + 4 ≤ length bytes.now }
+        ensures { address_of result ≡ address_at at bytes.now }
+    {
+        Address {
+            cylinder: halfword_at(bytes, at),
+            head: halfword_at(bytes, at + 2),
+        }
+    }
+
+    // Whether the image has the track.
+    pub(crate) fn is_inside(self, geometry: Geometry) -> bool
+        ensures { result ≡ is_inside geometry (address_of self) }
+    {
+        self.cylinder < geometry.cylinders && self.head < geometry.device.heads()
+    }
+
+    // The number of the track, counted from 0 over the volume.
+    pub(crate) fn track(self, geometry: Geometry) -> u16
+        requires whole { (len : ℕ) × HasGeometry len geometry }
+        requires inside { IsTrue (is_inside geometry (address_of self)) }
+        ensures exact { result ≡ track_of_address geometry (address_of self) }
+        ensures bound { result < tracks_of geometry }
+    {
+        self.cylinder * geometry.device.heads() + self.head
+    }
+}
+
+// The number in two bytes at an offset.
+fn halfword_at(bytes: &[u8], at: usize) -> u16
+    requires { at + 2 ≤ length bytes.now }
+    ensures { result ≡ from_be_bytes w16 (slice_range bytes.now at (at + 2)) }
+{
+    u16::from_be_bytes([bytes[at], bytes[at + 1]])
+}
+
+// The data of the volume label, which stands on cylinder 0, head 0.
+#[tactic(auto, unfolding(crate::specs::Label::label_of))]
+pub(crate) fn label(
+    alloc: Global,
+    image: &[u8],
+    geometry: Geometry,
+) -> Result<Option<&[u8]>, AllocError>
+    requires { HasGeometry (length image.now) geometry }
+    ensures exact { IfOk result (λ found. option_copied found ≡ label_of image.now geometry) }
+    ensures len { IfOk result (λ found. IfSome found (λ content. length content.now ≡ 80)) }
+{
+    match records_on(alloc, image, geometry, Some(LABEL_RECORD), 0)? {
+        Some(records) => Ok(label_in(&records)),
+        None => Ok(None),
+    }
+}
+
+// The data of the volume label among the first three records.
+fn label_in<'a>(records: &[Record<'a>]) -> Option<&'a [u8]>
+    ensures exact { option_copied result ≡ label_in (map record_of records.now) }
+    ensures len { IfSome result (λ content. length content.now ≡ 80) }
+{
+    let [first, second, label] = records else {
+        return None;
+    };
+    are_label(first, second, label).then_some(label.data)
+}
+
+// Whether these are the first three records of a pack: those of the initial program, and the label.
+fn are_label(first: &Record, second: &Record, label: &Record) -> bool
+    ensures { result ≡ are_label (record_of first.now) (record_of second.now) (record_of label.now) }
+{
+    is_keyed(first, IPL1, IPL1_LEN)
+        && is_keyed(second, IPL2, IPL2_LEN)
+        && is_keyed(label, VOL1, LABEL_LEN)
+        && label.data.starts_with(VOL1)
+}
+
+// Whether a record has this key, and so many bytes of data.
+fn is_keyed(candidate: &Record, key: &[u8], len: usize) -> bool
+    ensures { result ≡ is_keyed key.now len (record_of candidate.now) }
+{
+    candidate.key == key && candidate.data.len() == len
+}

@@ -1,0 +1,104 @@
+//! The slots of the VTOC.
+ghost use Rattle.std.specs.Prelude.{◌≡◌, ◌≤◌, ◌<◌, ◌+◌, ◌*◌, length, map, vec_len, Some, None, IfOk, if◌then◌else◌};
+ghost use Rattle.std.specs.Option.{option_map};
+ghost use Rattle.ckd_image.specs.Header.{HasGeometry};
+ghost use Rattle.pack_spec.specs.Vtoc.{is_slot, slot_bytes, slots_in, slots_on, slots_from, slots_of};
+ghost use Rattle.pack_spec.specs.Views.{Answers, record_of, tracks_of};
+
+use crate::track::{Record, records_on};
+use crate::vtoc::{Run, vtoc};
+use crate::{MountErr, NamesErr};
+use ckd_image::Geometry;
+use std::alloc::{AllocError, Global};
+
+// The bytes of a slot: its key, and its data.
+const KEY_LEN: usize = 44;
+
+const DATA_LEN: usize = 96;
+
+const SLOT_LEN: usize = 140;
+
+// The key and the data of a slot.
+pub(crate) type Slot = [u8; SLOT_LEN];
+
+// The slots of the VTOC.
+#[tactic(auto, unfolding(crate::specs::Vtoc::slots_of))]
+pub(crate) fn slots_of(
+    alloc: Global,
+    image: &[u8],
+    geometry: Geometry,
+) -> Result<Vec<Slot>, NamesErr>
+    requires { HasGeometry (length image.now) geometry }
+    ensures answer { Answers (λ v. v.items) (slots_of image.now geometry) result }
+    ensures few { IfOk result (λ v. vec_len v ≤ 257 * 255) }
+{
+    let vtoc = vtoc(alloc, image, geometry)?;
+    slots_within(alloc, image, geometry, vtoc)
+}
+
+// The slots on the tracks of an extent.
+fn slots_within(
+    alloc: Global,
+    image: &[u8],
+    geometry: Geometry,
+    vtoc: Run,
+) -> Result<Vec<Slot>, NamesErr>
+    requires whole { HasGeometry (length image.now) geometry }
+    requires inside { vtoc.start + vtoc.len ≤ tracks_of geometry }
+    ensures answer { Answers (λ v. v.items) (slots_from image.now geometry vtoc.start vtoc.len) result }
+    ensures few { IfOk result (λ v. vec_len v ≤ vtoc.len * 255) }
+{
+    let mut slots = Vec::new(alloc);
+    for track in vtoc.start..vtoc.start + vtoc.len {
+        let Some(found) = slots_on(alloc, image, geometry, track)? else {
+            return Err(NamesErr::Refused(MountErr::VtocTrack { track }));
+        };
+        slots.extend_from_slice(&found)?;
+    }
+    Ok(slots)
+}
+
+// The slots on a track; nothing where it breaks the grammar, or has a record that is no slot.
+#[tactic(auto, unfolding(crate::specs::Vtoc::slots_on))]
+fn slots_on(
+    alloc: Global,
+    image: &[u8],
+    geometry: Geometry,
+    track: u16,
+) -> Result<Option<Vec<Slot>>, AllocError>
+    requires whole { HasGeometry (length image.now) geometry }
+    requires inside { track < tracks_of geometry }
+    ensures { IfOk result (λ found. option_map (λ v. v.items) found ≡ slots_on image.now geometry track) }
+{
+    match records_on(alloc, image, geometry, None, track)? {
+        Some(records) => slots_in(alloc, &records),
+        None => Ok(None),
+    }
+}
+
+// The slots that are these records; nothing where one is none.
+fn slots_in(alloc: Global, records: &[Record]) -> Result<Option<Vec<Slot>>, AllocError>
+    ensures { IfOk result (λ found. option_map (λ v. v.items) found ≡ slots_in (map record_of records.now)) }
+{
+    let mut slots = Vec::new(alloc);
+    for record in records {
+        let Some(slot) = slot_of(record) else {
+            return Ok(None);
+        };
+        slots.push(slot)?;
+    }
+    Ok(Some(slots))
+}
+
+// The slot that is this record, if it has a slot's lengths.
+pub(crate) fn slot_of(candidate: &Record) -> Option<Slot>
+    ensures { result ≡ (if is_slot (record_of candidate.now) then Some (slot_bytes (record_of candidate.now)) else None) }
+{
+    if candidate.key.len() != KEY_LEN || candidate.data.len() != DATA_LEN {
+        return None;
+    }
+    let mut slot = [0; SLOT_LEN];
+    slot[..KEY_LEN].copy_from_slice(candidate.key);
+    slot[KEY_LEN..].copy_from_slice(candidate.data);
+    Some(slot)
+}

@@ -1,0 +1,11 @@
+mod Images
+mod TrackRecords
+mod SameRecords
+mod Extents
+mod Exits
+mod TrackMeaning
+mod TracksRead
+mod NameLemmas
+mod SlotsRead
+mod Units
+mod Replies

@@ -1,0 +1,48 @@
+//! The volume manager: `volman names FILE` prints the names of the data sets on a pack.
+#![tactic(auto)]
+
+mod file_hall;
+mod label;
+mod names;
+mod pack;
+mod records;
+mod status;
+mod text;
+mod top;
+mod track_content;
+mod tracks;
+mod vtoc;
+mod words;
+
+use file_hall::FileHall;
+use status::Status;
+use std::alloc::AllocError;
+use std::env;
+use std::fs::{File, Files};
+use std::io::{ErrorKind, Print};
+use std::process::ExitCode;
+use std::rt::Env;
+
+fn main(rt: HostRuntime) -> ExitCode {
+    ExitCode::from(run(&rt))
+}
+
+// Runs the program over the command line, the files of the system and the standard output.
+fn run<R: Files<File = File> + Print + Env + AllocGlobal>(rt: &R) -> u8 {
+    match command_line(rt) {
+        Ok(words) => top::volman(rt.alloc(), &words, &mut FileHall::new(rt.alloc(), rt)),
+        Err(AllocError) => Status::Memory.code(),
+    }
+}
+
+// The words of the command line, the program's name first, or no words where one isn't text.
+fn command_line<R: Env + AllocGlobal>(rt: &R) -> Result<Vec<String>, AllocError> {
+    match env::args(rt) {
+        Ok(words) => words.collect(rt.alloc()),
+        Err(error) if error.kind() == ErrorKind::InvalidData => Ok(Vec::new(rt.alloc())),
+        Err(_) => Err(AllocError),
+    }
+}
+
+#[cfg(test)]
+mod tests;

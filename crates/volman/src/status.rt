@@ -1,0 +1,29 @@
+//! The statuses of the program.
+ghost use Rattle.std.specs.Prelude.{◌≡◌};
+ghost use Rattle.volman.specs.Run.{code_of};
+
+/// How the program ends.
+#[derive(Clone, Copy, Debug, PartialEq, Eq)]
+pub enum Status {
+    /// What was asked for was done.
+    Done = 0,
+    /// The words are refused.
+    Words = 20,
+    /// The file is missing, or its image is refused.
+    Unit = 21,
+    /// The device failed.
+    Device = 22,
+    /// The printer failed.
+    Print = 24,
+    /// Memory ran out.
+    Memory = 25,
+}
+
+impl Status {
+    /// The number with which the program ends.
+    pub fn code(self) -> u8
+        ensures { result ≡ code_of self }
+    {
+        self as u8
+    }
+}

@@ -1,0 +1,252 @@
+//! The top call over a hall in memory, and the plain program beside it.
+ghost use Rattle.std.specs.Prelude.{◌≡◌, IfOk, []};
+ghost use Rattle.hall_core.specs.Memory.{facts_of};
+
+mod image;
+mod packs;
+
+use crate::top::volman;
+use ckd_image::ImageErr;
+use hall_core::MemHall;
+use pack_spec::{MountErr, NamesErr, names};
+use packs::{A_B, A1, AB, BROKEN, SMALL, Slot, Z9, pack, padded};
+use std::alloc::{AllocError, Global};
+use std::cmp::Ordering;
+use std::test::Fail;
+
+// The words that ask for the names of the file that the hall holds, and of one that it doesn't hold.
+const NAMES: &[&str] = &["volman", "names", "w.img"];
+
+const MISSING: &[&str] = &["volman", "names", "x.img"];
+
+const REFUSED: &[u8] = b"VOLMAN UNIT w.img REFUSED\n";
+
+const NO_FILE: &[u8] = b"VOLMAN UNIT x.img NO-FILE\n";
+
+// Slots whose listing takes 27 bytes.
+const TWO_SETS: &[&[Slot]] = &[
+    &[Slot::F5, Slot::F1(SYS1_MACLIB)],
+    &[Slot::F1(PAYROLL_MASTER)],
+];
+
+const TWO_SETS_LISTING: &[u8] = b"PAYROLL.MASTER\nSYS1.MACLIB\n";
+
+const SYS1_MACLIB: &[u8] = &[
+    0xE2, 0xE8, 0xE2, 0xF1, 0x4B, 0xD4, 0xC1, 0xC3, 0xD3, 0xC9, 0xC2,
+];
+
+const PAYROLL_MASTER: &[u8] = &[
+    0xD7, 0xC1, 0xE8, 0xD9, 0xD6, 0xD3, 0xD3, 0x4B, 0xD4, 0xC1, 0xE2, 0xE3, 0xC5, 0xD9,
+];
+
+// The call that is to fail, counted from 0, and the room for calls and bytes.
+#[derive(Clone, Copy, Debug)]
+struct Limits {
+    fail: Option<u64>,
+    calls: u64,
+    bytes: u64,
+}
+
+const AMPLE: Limits = Limits {
+    fail: None,
+    calls: 64,
+    bytes: 4096,
+};
+
+// A hall with the file w.img alone.
+fn hall_with(alloc: Global, image: &[u8], limits: Limits) -> Result<MemHall, AllocError>
+    ensures { IfOk result (λ hall. (facts_of hall).units ≡ []) }
+{
+    let mut files = Vec::new(alloc);
+    files.push((String::from_str(alloc, "w.img")?, image.to_vec(alloc)?))?;
+    let mut fails = Vec::new(alloc);
+    if let Some(call) = limits.fail {
+        fails.push(call)?;
+    }
+    let mut hall = MemHall::new(alloc, files, fails);
+    hall.room(limits.calls, limits.bytes)?;
+    Ok(hall)
+}
+
+// The status that these words end with.
+fn status(alloc: Global, words: &[&str], hall: &mut MemHall) -> Result<u8, AllocError>
+    requires { (facts_of hall.old).units ≡ [] }
+{
+    let mut owned = Vec::new(alloc);
+    for word in words {
+        owned.push(String::from_str(alloc, word)?)?;
+    }
+    Ok(volman(alloc, &owned, hall))
+}
+
+#[test]
+fn plain_program_and_top_call_list_a_name_twice(rt: HostRuntime) -> Result<(), Fail> {
+    let image = pack(rt.alloc(), SMALL)?;
+    assert_eq!(rt; image.len(), 82432);
+    let listed = names(rt.alloc(), &image)?;
+    let expected = [padded(A_B), padded(AB), padded(AB), padded(A1), padded(Z9)];
+    assert_eq!(rt; listed.as_slice(), expected.as_slice());
+    let mut hall = hall_with(rt.alloc(), &image, AMPLE)?;
+    assert_eq!(rt; status(rt.alloc(), NAMES, &mut hall)?, 0);
+    assert_eq!(rt; hall.printed(), b"A.B\nAB\nAB\nA1\nZ9\n".as_slice());
+    Ok(())
+}
+
+#[test]
+fn broken_packs_are_refused_and_stay(rt: HostRuntime) -> Result<(), Fail> {
+    for (patches, reason) in BROKEN {
+        let mut image = pack(rt.alloc(), SMALL)?;
+        for (at, byte) in patches {
+            assert!(rt; at < image.len());
+            image[at] = byte;
+        }
+        let refused = names(rt.alloc(), &image).err();
+        assert_eq!(rt; refused, Some(NamesErr::Refused(reason)), "{patches:?}");
+        let mut hall = hall_with(rt.alloc(), &image, AMPLE)?;
+        assert_eq!(rt; status(rt.alloc(), NAMES, &mut hall)?, 21, "{patches:?}");
+        assert_eq!(rt; hall.printed(), REFUSED, "{patches:?}");
+        assert_eq!(rt; hall.image("w.img"), Some(image.as_slice()), "{patches:?}");
+    }
+    Ok(())
+}
+
+#[test]
+fn sets_are_printed_in_the_order_of_their_ebcdic_bytes(rt: HostRuntime) -> Result<(), Fail> {
+    let no_sets: &[&[Slot]] = &[&[Slot::F5, Slot::F0]];
+    // Names that begin alike, one of them without a blank.
+    let fronts: &[&[Slot]] = &[&[
+        Slot::F1(AB),
+        Slot::F1(&[0xC1; 44]),
+        Slot::F1(&[0xC1]),
+        Slot::F1(A_B),
+    ]];
+    // Bytes that stand for no character, a blank within a name, and a name of blanks.
+    let others: &[&[Slot]] = &[&[
+        Slot::F1(&[0xC1, 0xFF]),
+        Slot::F1(&[0xC1, 0x40, 0xC2]),
+        Slot::F1(&[0xC1, 0x00, 0xC2]),
+        Slot::F1(&[]),
+    ]];
+    for (vtoc, listing) in [
+        (TWO_SETS, TWO_SETS_LISTING),
+        (no_sets, b"".as_slice()),
+        (
+            fronts,
+            b"A\nA.B\nAAAAAAAAAAAAAAAAAAAAAAAAAAAAAAAAAAAAAAAAAAAA\nAB\n".as_slice(),
+        ),
+        (others, b"\nA.B\nA B\nA.\n".as_slice()),
+    ] {
+        let image = pack(rt.alloc(), vtoc)?;
+        let mut hall = hall_with(rt.alloc(), &image, AMPLE)?;
+        assert_eq!(rt; status(rt.alloc(), NAMES, &mut hall)?, 0, "{listing:?}");
+        assert_eq!(rt; hall.printed(), listing);
+    }
+    Ok(())
+}
+
+#[test]
+fn other_words_are_refused(rt: HostRuntime) -> Result<(), Fail> {
+    let cases: [&[&str]; 8] = [
+        &[],
+        &["volman"],
+        &["volman", "names"],
+        &["volman", "names", ""],
+        &["volman", "names", "-x"],
+        &["volman", "names", "w.img", "w.img"],
+        &["volman", "list", "w.img"],
+        &["volman", "NAMES", "w.img"],
+    ];
+    for words in cases {
+        let mut hall = hall_with(rt.alloc(), b"", AMPLE)?;
+        assert_eq!(rt; status(rt.alloc(), words, &mut hall)?, 20, "{words:?}");
+        assert_eq!(rt; hall.printed(), b"VOLMAN WORDS\n".as_slice(), "{words:?}");
+    }
+    Ok(())
+}
+
+#[test]
+fn files_that_are_no_images_are_refused(rt: HostRuntime) -> Result<(), Fail> {
+    let mut compressed = [0; 512];
+    compressed[..8].copy_from_slice(b"CKD_C370");
+    let mut cut = [0; 511];
+    cut[..8].copy_from_slice(b"CKD_P370");
+    for (image, reason) in [
+        (compressed.as_slice(), ImageErr::Compressed),
+        (cut.as_slice(), ImageErr::BadMagic),
+        (b"".as_slice(), ImageErr::BadMagic),
+    ] {
+        let refused = names(rt.alloc(), image).err();
+        assert_eq!(rt; refused, Some(NamesErr::Refused(MountErr::Image(reason))));
+        let mut hall = hall_with(rt.alloc(), image, AMPLE)?;
+        assert_eq!(rt; status(rt.alloc(), NAMES, &mut hall)?, 21, "{reason:?}");
+        assert_eq!(rt; hall.printed(), REFUSED, "{reason:?}");
+    }
+    Ok(())
+}
+
+// The calls are to attach, to read the header, the label's track and each track of the VTOC, and to
+// print.
+#[test]
+fn each_track_is_read_once(rt: HostRuntime) -> Result<(), Fail> {
+    let five_tracks: &[&[Slot]] = &[
+        &[Slot::F5],
+        &[Slot::F1(PAYROLL_MASTER)],
+        &[Slot::F0],
+        &[],
+        &[Slot::F0, Slot::F1(SYS1_MACLIB)],
+    ];
+    for (vtoc, last) in [(TWO_SETS, 5), (five_tracks, 8)] {
+        let image = pack(rt.alloc(), vtoc)?;
+        for call in 0..last + 2 {
+            let limits = Limits {
+                fail: Some(call),
+                ..AMPLE
+            };
+            let mut hall = hall_with(rt.alloc(), &image, limits)?;
+            let (code, printed) = match call.cmp(&last) {
+                Ordering::Less => (22, b"".as_slice()),
+                Ordering::Equal => (24, b"".as_slice()),
+                Ordering::Greater => (0, TWO_SETS_LISTING),
+            };
+            assert_eq!(rt; status(rt.alloc(), NAMES, &mut hall)?, code, "{limits:?}");
+            assert_eq!(rt; hall.printed(), printed, "{limits:?}");
+        }
+    }
+    Ok(())
+}
+
+// Each call takes room for one, and of bytes those of the name w.img or x.img, and of the text.
+#[test]
+fn too_little_room_is_a_fault(rt: HostRuntime) -> Result<(), Fail> {
+    let image = pack(rt.alloc(), TWO_SETS)?;
+    let other: &[&str] = &["volman"];
+    for (words, calls, bytes, code, printed) in [
+        (NAMES, 0, 32, 22, b"".as_slice()),
+        (NAMES, 4, 32, 22, b"".as_slice()),
+        (NAMES, 5, 32, 24, b"".as_slice()),
+        (NAMES, 6, 4, 22, b"".as_slice()),
+        (NAMES, 6, 5, 24, b"".as_slice()),
+        (NAMES, 6, 31, 24, b"".as_slice()),
+        (NAMES, 6, 32, 0, TWO_SETS_LISTING),
+        (MISSING, 1, 31, 24, b"".as_slice()),
+        (MISSING, 2, 30, 24, b"".as_slice()),
+        (MISSING, 2, 31, 21, NO_FILE),
+        (other, 0, 13, 24, b"".as_slice()),
+        (other, 1, 12, 24, b"".as_slice()),
+        (other, 1, 13, 20, b"VOLMAN WORDS\n".as_slice()),
+    ] {
+        let limits = Limits {
+            fail: None,
+            calls,
+            bytes,
+        };
+        let mut hall = hall_with(rt.alloc(), &image, limits)?;
+        assert_eq!(rt;
+            status(rt.alloc(), words, &mut hall)?,
+            code,
+            "{words:?} {limits:?}"
+        );
+        assert_eq!(rt; hall.printed(), printed, "{words:?} {limits:?}");
+    }
+    Ok(())
+}

@@ -1,0 +1,60 @@
+//! The texts that the program prints.
+ghost use Rattle.std.specs.Prelude.{◌≡◌, ◌++◌, List, ℕ, IfOk, OnOk};
+ghost use Rattle.volman.specs.Answer.{words_line, unit_line, name_line, listing, trimmed};
+
+use ebcdic_names::to_ascii;
+use std::alloc::{AllocError, Global};
+
+/// Where the words are refused.
+pub const WORDS_LINE: &[u8; 13] = b"VOLMAN WORDS\n";
+
+/// The line that says why a file is refused.
+#[tactic(auto, unfolding(crate::specs::Answer::unit_line))]
+pub fn unit_line(alloc: Global, file: &str, reason: &str) -> Result<Vec<u8>, AllocError>
+    ensures { IfOk result (λ line. line.items ≡ unit_line file.now reason.now) }
+{
+    let mut line = Vec::from_slice(alloc, b"VOLMAN UNIT ")?;
+    line.extend_from_slice(file.as_bytes())?;
+    line.push(b' ')?;
+    line.extend_from_slice(reason.as_bytes())?;
+    line.push(b'\n')?;
+    Ok(line)
+}
+
+/// The names, each on a line without the blanks behind it.
+#[tactic(auto, unfolding(crate::specs::Answer::listing))]
+pub fn listing(alloc: Global, names: &[[u8; 44]]) -> Result<Vec<u8>, AllocError>
+    ensures { IfOk result (λ text. text.items ≡ listing names.now) }
+{
+    let mut text = Vec::new(alloc);
+    for name in names {
+        push_name(&mut text, name)?;
+    }
+    Ok(text)
+}
+
+// Adds a name and the end of its line.
+#[tactic(auto, unfolding(crate::specs::Answer::name_line))]
+fn push_name(text: &mut Vec<u8>, name: &[u8]) -> Result<(), AllocError>
+    ensures { OnOk result (text.new.items ≡ text.old.items ++ name_line name.now) }
+{
+    for byte in trimmed(name) {
+        text.push(to_ascii(*byte))?;
+    }
+    text.push(b'\n')?;
+    Ok(())
+}
+
+// A blank in EBCDIC.
+const BLANK: u8 = 0x40;
+
+// The name without the blanks behind it.
+fn trimmed(name: &[u8]) -> &[u8]
+    ensures { result.now ≡ trimmed name.now }
+{
+    let mut end = name.len();
+    while end > 0 && name[end - 1] == BLANK {
+        end -= 1;
+    }
+    &name[..end]
+}
