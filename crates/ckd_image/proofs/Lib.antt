@@ -9,3 +9,4 @@ pub mod Grammar
 pub mod GrammarBreak
 pub mod GrammarBegin
 pub mod GrammarFirstBreak
+pub mod Written

@@ -1,7 +1,7 @@
 -- The header of an image: 512 bytes in the layout of Hercules, numbers with their low byte first.
-use Rattle.std.specs.Prelude.{true, ◌≤◌, ◌≡◌, ℕ, ◌+◌, ◌-◌, ◌*◌, ◌/◌, ◌%◌, ◌==◌, ◌&&◌, ◌||◌, nat_lt, nat_le, not, Bool, List, Option, Some, None, Result, Ok, Err, take, slice_index, slice_range, codes, if◌then◌else◌}
+use Rattle.std.specs.Prelude.{true, ◌≤◌, ◌≡◌, ℕ, ◌+◌, ◌-◌, ◌*◌, ◌/◌, ◌%◌, ◌==◌, ◌&&◌, ◌||◌, nat_lt, nat_le, not, Bool, List, ◌∷◌, ◌++◌, Option, Some, None, Result, Ok, Err, take, replicate, slice_index, slice_range, codes, if◌then◌else◌}
 use Rattle.std.specs.Str.{bytes_eq}
-use Rattle.std.specs.Int.{w16, w32, from_le_bytes}
+use Rattle.std.specs.Int.{w16, w32, from_le_bytes, to_le_bytes}
 use Rattle.ckd_image.specs.declared.device.DiskType.{DiskType}
 use Rattle.ckd_image.specs.declared.header.Geometry.{Geometry}
 use Rattle.ckd_image.specs.declared.header.ImageErr.{ImageErr}
@@ -70,3 +70,11 @@ pub record HasGeometry (len : ℕ) (g : Geometry) : Type 0 where
   pub most : g.cylinders ≤ (row_of g.device).most_cylinders
   pub track_size : is_track_size g.device g.track_size ≡ true
   pub whole : len ≡ 512 + g.cylinders * ((row_of g.device).heads * g.track_size)
+
+-- the header of a new image: text, heads, track size, type, sequence 0, high cylinder 0, and reserved bytes of 0
+abbrev pub header_bytes : Geometry → List ℕ
+header_bytes g =
+    codes "CKD_P370"
+    ++ (to_le_bytes w32 (row_of g.device).heads
+    ++ (to_le_bytes w32 g.track_size
+    ++ ((row_of g.device).type_byte ∷ 0 ∷ 0 ∷ 0 ∷ replicate 492 0)))

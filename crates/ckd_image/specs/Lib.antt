@@ -1,4 +1,5 @@
 pub mod Device
+pub mod Fit
 pub mod Header
 pub mod Track
 pub mod Reading

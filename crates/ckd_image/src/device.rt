@@ -57,4 +57,143 @@ impl DiskType {
             DiskType::D3330 => 13030,
         }
     }
+
+    /// The byte that names the device in the header of a Hercules CKD image.
+    pub fn type_byte(self) -> u8
+        ensures { result ≡ (row_of self).type_byte }
+    {
+        match self {
+            DiskType::D2311 => 0x11,
+            DiskType::D2314 => 0x14,
+            DiskType::D3330 => 0x30,
+        }
+    }
+
+    /// The number of cylinders of a pack without its alternate cylinders.
+    pub fn primary_cylinders(self) -> u16
+        ensures { result ≡ (row_of self).primary_cylinders }
+    {
+        match self {
+            DiskType::D2311 | DiskType::D2314 => 200,
+            DiskType::D3330 => 404,
+        }
+    }
+
+    /// The bytes of a track that its records behind R0 share, each at its cost, as format 4 DSCBs have
+    /// it (System Control Blocks, GC28-6628).
+    pub fn track_capacity(self) -> u16
+        ensures { result ≡ (row_of self).track_capacity }
+    {
+        match self {
+            DiskType::D2311 => 3625,
+            DiskType::D2314 => 7294,
+            DiskType::D3330 => 13165,
+        }
+    }
+
+    /// The bytes that a record with a key costs beside its key and data where it isn't the last of its
+    /// track: I of a format 4 DSCB (System Control Blocks, GC28-6628).
+    pub fn overhead(self) -> u16
+        ensures { result ≡ (row_of self).overhead }
+    {
+        match self {
+            DiskType::D2311 => 81,
+            DiskType::D2314 => 146,
+            DiskType::D3330 => 191,
+        }
+    }
+
+    /// The bytes that a record with a key costs beside its key and data where it is the last of its
+    /// track: L of a format 4 DSCB.
+    pub fn last_overhead(self) -> u16
+        ensures { result ≡ (row_of self).last_overhead }
+    {
+        match self {
+            DiskType::D2311 => 20,
+            DiskType::D2314 => 45,
+            DiskType::D3330 => 191,
+        }
+    }
+
+    /// The bytes by which a record without a key costs less: K of a format 4 DSCB.
+    pub fn key_overhead(self) -> u16
+        ensures { result ≡ (row_of self).key_overhead }
+    {
+        match self {
+            DiskType::D2311 => 20,
+            DiskType::D2314 => 45,
+            DiskType::D3330 => 56,
+        }
+    }
+
+    /// What each byte of key and data costs in a record that isn't the last of its track, in 512ths of a
+    /// byte: the tolerance of a format 4 DSCB.
+    pub fn tolerance(self) -> u16
+        ensures { result ≡ (row_of self).tolerance }
+    {
+        match self {
+            DiskType::D2311 => 537,
+            DiskType::D2314 => 534,
+            DiskType::D3330 => 512,
+        }
+    }
+
+    /// The number of DSCBs, with keys of 44 bytes and data of 96, on a track of a VTOC.
+    pub fn dscbs_per_track(self) -> u8
+        ensures { result ≡ (row_of self).dscbs_per_track }
+    {
+        match self {
+            DiskType::D2311 => 16,
+            DiskType::D2314 => 25,
+            DiskType::D3330 => 39,
+        }
+    }
+
+    /// The number of blocks, with keys of 8 bytes and data of 256, on a track of a partitioned data
+    /// set's directory.
+    pub fn directory_blocks_per_track(self) -> u8
+        ensures { result ≡ (row_of self).directory_blocks_per_track }
+    {
+        match self {
+            DiskType::D2311 => 10,
+            DiskType::D2314 => 17,
+            DiskType::D3330 => 28,
+        }
+    }
+
+    /// The bytes that a track takes in a new image, which is this project's choice for the device.
+    pub fn written_track_size(self) -> u32
+        ensures { result ≡ (row_of self).written_track_size }
+    {
+        match self {
+            DiskType::D2311 => 4096,
+            DiskType::D2314 => 7680,
+            DiskType::D3330 => 13312,
+        }
+    }
+
+    /// The device code (UCBTYP) in the volume entries of a catalog.
+    pub fn device_code(self) -> u32
+        ensures { result ≡ (row_of self).device_code }
+    {
+        match self {
+            DiskType::D2311 => 0x3000_2001,
+            DiskType::D2314 => 0x30C0_2008,
+            DiskType::D3330 => 0x3050_2009,
+        }
+    }
+
+    /// The device's name on a card and in a listing, four digits.
+    pub fn device_word(self) -> &'static str
+        ensures { result.now ≡ (row_of self).device_word }
+    {
+        match self {
+            DiskType::D2311 => "2311",
+            DiskType::D2314 => "2314",
+            DiskType::D3330 => "3330",
+        }
+    }
 }
+
+#[cfg(test)]
+mod tests;

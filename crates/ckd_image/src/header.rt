@@ -1,8 +1,8 @@
 //! The header of an image.
-ghost use Rattle.std.specs.Prelude.{◌≡◌, ◌+◌, ◌-◌, ◌/◌, ◌≤◌, Some, None, slice_range, if◌then◌else◌, IfOk, IfSome, ◌*◌};
-ghost use Rattle.std.specs.Int.{w16, w32, from_le_bytes};
+ghost use Rattle.std.specs.Prelude.{◌≡◌, ℕ, ◌+◌, ◌-◌, ◌/◌, ◌≤◌, Some, None, Ok, slice_range, if◌then◌else◌, IfOk, IfSome, ◌*◌};
+ghost use Rattle.std.specs.Int.{w16, w32, from_le_bytes, to_le_bytes};
 ghost use Rattle.ckd_image.specs.Device.{row_of};
-ghost use Rattle.ckd_image.specs.Header.{HasGeometry, geometry_of, geometry_on, has_magic, is_track_size, is_length};
+ghost use Rattle.ckd_image.specs.Header.{HasGeometry, header_bytes, geometry_of, geometry_on, has_magic, is_track_size, is_length};
 
 use crate::device::DiskType;
 use byteorder::{ByteOrder, LittleEndian};
@@ -95,6 +95,25 @@ impl Header {
             None => Err(ImageErr::BadType(type_byte)),
         }
     }
+
+    /// The header of a new image with this geometry.
+    ///
+    /// The layout is that of `Header::read`, with file sequence 0, high cylinder 0 and zeros in the
+    /// reserved bytes. The number of cylinders stands in the length of the image alone: reading the
+    /// header at that length gives the same geometry.
+    pub fn write(geometry: &Geometry) -> [u8; 512]
+        ensures bytes { result ≡ header_bytes geometry.now }
+        ensures read_back { (len : ℕ) → HasGeometry len geometry.now → geometry_of result len ≡ Ok geometry.now }
+    {
+        let heads = four_bytes_of(u32::from(geometry.device.heads()));
+        let track_size = four_bytes_of(geometry.track_size);
+        let mut bytes = [0; 512];
+        bytes[..HEADS_AT].copy_from_slice(MAGIC);
+        bytes[HEADS_AT..TRACK_SIZE_AT].copy_from_slice(&heads);
+        bytes[TRACK_SIZE_AT..TYPE_AT].copy_from_slice(&track_size);
+        bytes[TYPE_AT] = geometry.device.type_byte();
+        bytes
+    }
 }
 
 // Whether a header begins with these eight characters.
@@ -138,6 +157,13 @@ fn four_bytes_at(bytes: &[u8; 512], at: usize) -> u32
     ensures { result ≡ from_le_bytes w32 (slice_range bytes.now at (at + 4)) }
 {
     LittleEndian::read_u32(&bytes[at..at + 4])
+}
+
+// A number in a field of four bytes, the lowest of them first.
+fn four_bytes_of(number: u32) -> [u8; 4]
+    ensures { result ≡ to_le_bytes w32 number }
+{
+    number.to_le_bytes()
 }
 
 // The number in two bytes of a header, the lower first.

@@ -1,5 +1,5 @@
 -- Code page 037 on the printable characters of ASCII.
-use Rattle.std.specs.Prelude.{ℕ, ◌+◌, ◌==◌, List, [], ◌∷◌, position}
+use Rattle.std.specs.Prelude.{ℕ, ◌+◌, ◌==◌, ◌-◌, Option, None, if◌then◌else◌, nat_lt, slice_get, List, [], ◌∷◌, position}
 use Rattle.std.specs.Option.{option_map_or}
 
 -- the EBCDIC bytes of the 95 characters from the blank to the tilde, in the order of ASCII
@@ -22,3 +22,7 @@ code_page =
 -- the character of an EBCDIC byte, and a period where it has none
 unfoldable pub ascii_of : ℕ → ℕ
 ascii_of e = option_map_or (λ k. 32 + k) (position (λ b. b == e) code_page) 46
+
+-- the EBCDIC byte of a printable character of ASCII
+abbrev pub ebcdic_of : ℕ → Option ℕ
+ebcdic_of c = if nat_lt c 32 then None else slice_get code_page (c - 32)

@@ -125,3 +125,24 @@ fn knows_devices(rt: HostRuntime) {
         }
     }
 }
+
+#[test]
+fn writes_headers(rt: HostRuntime) {
+    let d2314 = b"CKD_P370\x14\0\0\0\0\x1E\0\0\x14\0\0\0";
+    let d3330 = b"CKD_P370\x13\0\0\0\0\x34\0\0\x30\0\0\0";
+    let cases = [
+        (D2311, 8_192_512, DiskType::D2311, 200, 4096),
+        (d2314, 31_181_312, DiskType::D2314, 203, 7680),
+        (d3330, 103_953_920, DiskType::D3330, 411, 13312),
+    ];
+    for (front, len, device, cylinders, track_size) in cases {
+        let geometry = Geometry {
+            device,
+            cylinders,
+            track_size,
+        };
+        let bytes = Header::write(&geometry);
+        assert!(rt; bytes == header_of(front), "{geometry:?}");
+        assert_eq!(rt; Header::read(&bytes, len), Ok(geometry));
+    }
+}

@@ -1,0 +1,21 @@
+-- What records cost on a track, and whether they fit it: the track capacity formula of the device.
+use Rattle.std.specs.Prelude.{ℕ, ◌+◌, ◌-◌, ◌*◌, ◌/◌, ◌==◌, nat_le, Bool, List, sum_by, if◌then◌else◌}
+use Rattle.ckd_image.specs.declared.device.DiskType.{DiskType}
+use Rattle.ckd_image.specs.Device.{row_of}
+
+-- the bytes that a record without a key saves
+abbrev pub saved : DiskType → ℕ → ℕ
+saved device kl = if kl == 0 then (row_of device).key_overhead else 0
+
+-- the bytes that a record which isn't the last costs
+abbrev pub record_cost : DiskType → ℕ → ℕ → ℕ
+record_cost device kl dl = (row_of device).overhead + (kl + dl) * (row_of device).tolerance / 512 - saved device kl
+
+-- the bytes that the last record costs
+abbrev pub last_record_cost : DiskType → ℕ → ℕ → ℕ
+last_record_cost device kl dl = (row_of device).last_overhead + kl + dl - saved device kl
+
+-- a record of this KL and DL fits behind earlier ones, each with its KL and DL
+abbrev pub fits : DiskType → List (ℕ × ℕ) → ℕ → ℕ → Bool
+fits device earlier kl dl =
+    nat_le (sum_by (λ lengths. record_cost device lengths.0 lengths.1) earlier + last_record_cost device kl dl) (row_of device).track_capacity

@@ -1,0 +1,4 @@
+mod CodeLemmas
+mod DisplayLemmas
+mod EncodeLemmas
+mod NameLemmas

@@ -1,0 +1,289 @@
+// Data set names, names of one level and volume serials.
+
+ghost use Rattle.std.specs.Prelude.{◌≡◌, ◌≤◌, ◌==◌, ◌&&◌, chars, length, reverse, slice_get, take_while, Some};
+ghost use Rattle.std.specs.Fmt.{DisplaysOnOk};
+ghost use Rattle.ebcdic_names.specs.Names.{begins_level, byte_of, dsn_of, is_digit, level_allows, level_fault, name8_of, name_fault, padded, serial_allows, serial_fault, serial_faults, serial_of, shown, without_blanks};
+
+use crate::{to_ascii, to_ebcdic};
+use std::fmt;
+
+// The EBCDIC blank.
+const BLANK: u8 = 0x40;
+
+/// Why a text is no name.
+#[derive(Clone, Copy, Debug, PartialEq, Eq, Drop)]
+pub enum NameErr {
+    /// The text is empty.
+    Empty,
+    /// The text has too many characters: more than 44, or more than six for a volume serial.
+    TooLong,
+    /// The level of this number, counted from 0, is empty or longer than eight characters.
+    BadLevel(u8),
+    /// The character of this number, counted from 0, isn't allowed there.
+    BadChar(u8),
+}
+
+/// A data set name in EBCDIC, with blanks behind it.
+#[derive(Clone, Copy, Debug, PartialEq, Eq, PartialOrd, Ord)]
+pub struct Dsn {
+    /// The 44 bytes, as a label on the pack has them.
+    pub bytes: [u8; 44],
+}
+
+/// A name of up to eight characters in EBCDIC, as of a member, with blanks behind it.
+#[derive(Clone, Copy, Debug, PartialEq, Eq, PartialOrd, Ord)]
+pub struct Name8 {
+    /// The eight bytes, as a directory entry has them.
+    pub bytes: [u8; 8],
+}
+
+/// A volume serial in EBCDIC, with blanks behind it.
+#[derive(Clone, Copy, Debug, PartialEq, Eq, PartialOrd, Ord)]
+pub struct Serial {
+    /// The six bytes, as a volume label has them.
+    pub bytes: [u8; 6],
+}
+
+impl Dsn {
+    /// The data set name of a text, as Utilities GC28-6586 has it: levels joined by periods.
+    ///
+    /// A level begins with a capital letter, `@`, `#` or `$`, goes on with these, digits and `-`,
+    /// and has up to eight characters. `Empty` and `TooLong` (above 44 characters) are judged
+    /// first; else the first fault from the left is answered, and a ninth character of a level is
+    /// `BadLevel` before it is `BadChar`.
+    pub fn read(text: &str) -> Result<Dsn, NameErr>
+        ensures { result ≡ dsn_of (chars text.now) }
+    {
+        match name_fault(true, text) {
+            None => Ok(Dsn {
+                bytes: encode(text),
+            }),
+            Some(fault) => Err(fault),
+        }
+    }
+}
+
+impl Name8 {
+    /// The name of a text of one level, without `-`.
+    ///
+    /// It is judged as the level of a data set name: `TooLong` comes above 44 characters, 9 to 44
+    /// characters are `BadLevel(0)` unless one of the first eight isn't allowed, and a period is
+    /// `BadChar`.
+    pub fn read(text: &str) -> Result<Name8, NameErr>
+        ensures { result ≡ name8_of (chars text.now) }
+    {
+        match name_fault(false, text) {
+            None => Ok(Name8 {
+                bytes: encode(text),
+            }),
+            Some(fault) => Err(fault),
+        }
+    }
+}
+
+impl Serial {
+    /// The volume serial of a text: one to six capital letters, digits, `@`, `#` or `$`.
+    ///
+    /// `TooLong` comes above six characters; else the first character that isn't allowed is
+    /// `BadChar`.
+    pub fn read(text: &str) -> Result<Serial, NameErr>
+        ensures { result ≡ serial_of (chars text.now) }
+    {
+        match serial_fault(text) {
+            None => Ok(Serial {
+                bytes: encode(text),
+            }),
+            Some(fault) => Err(fault),
+        }
+    }
+}
+
+// The first fault of a volume serial.
+fn serial_fault(text: &str) -> Option<NameErr>
+    ensures { result ≡ serial_fault (chars text.now) }
+{
+    let length = characters(text);
+    if length == 0 {
+        return Some(NameErr::Empty);
+    }
+    if length > 6 {
+        return Some(NameErr::TooLong);
+    }
+    serial_char_fault(text)
+}
+
+// The first character that can't be in a volume serial.
+fn serial_char_fault(text: &str) -> Option<NameErr>
+    requires { length (chars text.now) ≤ 6 }
+    ensures { result ≡ slice_get (serial_faults 0 (chars text.now)) 0 }
+{
+    let mut place = 0u8;
+    for c in text.chars() {
+        if !serial_allows(c) {
+            return Some(NameErr::BadChar(place));
+        }
+        place += 1;
+    }
+    None
+}
+
+// The number of characters of a text.
+fn characters(text: &str) -> usize
+    ensures { result ≡ length (chars text.now) }
+{
+    text.chars().count()
+}
+
+// The first fault of a name, of several levels where these are joined by periods.
+fn name_fault(joined: bool, text: &str) -> Option<NameErr>
+    ensures { result ≡ name_fault joined (chars text.now) }
+{
+    let length = characters(text);
+    if length == 0 {
+        return Some(NameErr::Empty);
+    }
+    if length > 44 {
+        return Some(NameErr::TooLong);
+    }
+    level_fault(joined, text)
+}
+
+// The first fault of a name's levels.
+fn level_fault(joined: bool, text: &str) -> Option<NameErr>
+    requires { length (chars text.now) ≤ 44 }
+    ensures { result ≡ level_fault joined (chars text.now) }
+{
+    let mut level = 0u8;
+    let mut at = 0u8;
+    let mut place = 0u8;
+    for c in text.chars() {
+        if ends_level(joined, c) {
+            if at == 0 {
+                return Some(NameErr::BadLevel(level));
+            }
+            level += 1;
+            at = 0;
+        } else {
+            if at == 8 {
+                return Some(NameErr::BadLevel(level));
+            }
+            if !level_allows(joined, at, c) {
+                return Some(NameErr::BadChar(place));
+            }
+            at += 1;
+        }
+        place += 1;
+    }
+    if at == 0 {
+        Some(NameErr::BadLevel(level))
+    } else {
+        None
+    }
+}
+
+// Whether a character parts two levels.
+fn ends_level(joined: bool, c: char) -> bool
+    ensures { result ≡ (joined && (c == 46)) }
+{
+    joined && c == '.'
+}
+
+// Whether a character may be in a volume serial.
+fn serial_allows(c: char) -> bool
+    ensures { result ≡ serial_allows c }
+{
+    begins_level(c) || is_digit(c)
+}
+
+// Whether a character may stand at this place of a level.
+fn level_allows(joined: bool, at: u8, c: char) -> bool
+    ensures { result ≡ level_allows joined at c }
+{
+    begins_level(c) || at > 0 && (is_digit(c) || joined && c == '-')
+}
+
+// Whether a level may begin with a character.
+fn begins_level(c: char) -> bool
+    ensures { result ≡ begins_level c }
+{
+    'A' <= c && c <= 'Z' || c == '@' || c == '#' || c == '$'
+}
+
+fn is_digit(c: char) -> bool
+    ensures { result ≡ is_digit c }
+{
+    '0' <= c && c <= '9'
+}
+
+// The EBCDIC bytes of a text with blanks behind them.
+fn encode<const N: usize>(text: &str) -> [u8; N]
+    requires { length (chars text.now) ≤ N }
+    ensures { result ≡ padded N (chars text.now) }
+{
+    let mut bytes = [BLANK; N];
+    let mut at = 0usize;
+    for c in text.chars() {
+        bytes[at] = byte_of(c);
+        at += 1;
+    }
+    bytes
+}
+
+// The EBCDIC byte of a character, and a blank where it has none.
+fn byte_of(c: char) -> u8
+    ensures { result ≡ byte_of c }
+{
+    if c > '~' {
+        return BLANK;
+    }
+    to_ebcdic(c as u32 as u8).unwrap_or(BLANK)
+}
+
+impl fmt::Display for Dsn {
+    ghost output = { λ name. Some (shown name.bytes) };
+
+    fn fmt<W: fmt::Write>(&self, f: &mut fmt::Formatter<W>) -> fmt::Result {
+        write_characters(&self.bytes, f)
+    }
+}
+
+impl fmt::Display for Name8 {
+    ghost output = { λ name. Some (shown name.bytes) };
+
+    fn fmt<W: fmt::Write>(&self, f: &mut fmt::Formatter<W>) -> fmt::Result {
+        write_characters(&self.bytes, f)
+    }
+}
+
+impl fmt::Display for Serial {
+    ghost output = { λ serial. Some (shown serial.bytes) };
+
+    fn fmt<W: fmt::Write>(&self, f: &mut fmt::Formatter<W>) -> fmt::Result {
+        write_characters(&self.bytes, f)
+    }
+}
+
+// Writes the characters of a name without the blanks behind them.
+fn write_characters<W: fmt::Write>(bytes: &[u8], f: &mut fmt::Formatter<W>) -> fmt::Result
+    ensures { DisplaysOnOk W.write_str_gives f.old result (Some (shown bytes.now)) f.new }
+{
+    for e in without_blanks(bytes) {
+        f.write_char(char::from(to_ascii(*e)))?;
+    }
+    Ok(())
+}
+
+// The bytes of a name without the blanks behind them.
+fn without_blanks(bytes: &[u8]) -> &[u8]
+    ensures { result.now ≡ without_blanks bytes.entry.now }
+{
+    &bytes[..bytes.len() - trailing_blanks(bytes)]
+}
+
+// The number of blanks that bytes end with.
+fn trailing_blanks(bytes: &[u8]) -> usize
+    ensures count { result ≡ length (take_while (λ b. b == 0x40) (reverse bytes.now)) }
+    ensures fits { result ≤ length bytes.now }
+{
+    bytes.iter().rev().take_while(|b| **b == BLANK).count()
+}
