@@ -1,5 +1,5 @@
 -- What records cost on a track, and whether they fit it: the track capacity formula of the device.
-use Rattle.std.specs.Prelude.{ℕ, ◌+◌, ◌-◌, ◌*◌, ◌/◌, ◌==◌, nat_le, Bool, List, sum_by, if◌then◌else◌}
+use Rattle.std.specs.Prelude.{ℕ, ◌+◌, ◌-◌, ◌*◌, ◌/◌, ◌==◌, ◌≡◌, nat_le, Bool, true, false, List, replicate, sum_by, if◌then◌else◌}
 use Rattle.ckd_image.specs.declared.device.DiskType.{DiskType}
 use Rattle.ckd_image.specs.Device.{row_of}
 
@@ -19,3 +19,7 @@ last_record_cost device kl dl = (row_of device).last_overhead + kl + dl - saved 
 abbrev pub fits : DiskType → List (ℕ × ℕ) → ℕ → ℕ → Bool
 fits device earlier kl dl =
     nat_le (sum_by (λ lengths. record_cost device lengths.0 lengths.1) earlier + last_record_cost device kl dl) (row_of device).track_capacity
+
+-- so many records of this KL and DL fit a track, and one more doesn't
+abbrev pub IsMost : DiskType → ℕ → ℕ → ℕ → Type 0
+IsMost device kl dl n = (fits device (replicate (n - 1) (kl, dl)) kl dl ≡ true) × (fits device (replicate n (kl, dl)) kl dl ≡ false)

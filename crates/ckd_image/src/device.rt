@@ -1,6 +1,7 @@
 //! The devices whose packs are read.
 ghost use Rattle.std.specs.Prelude.{◌≡◌};
 ghost use Rattle.ckd_image.specs.Device.{row_of, device_of};
+ghost use Rattle.ckd_image.specs.Fit.{IsMost};
 
 /// A disk drive of System/360 and its packs.
 #[derive(Clone, Copy, Debug, PartialEq, Eq)]
@@ -140,7 +141,8 @@ impl DiskType {
 
     /// The number of DSCBs, with keys of 44 bytes and data of 96, on a track of a VTOC.
     pub fn dscbs_per_track(self) -> u8
-        ensures { result ≡ (row_of self).dscbs_per_track }
+        ensures table { result ≡ (row_of self).dscbs_per_track }
+        ensures most { IsMost self 44 96 result }
     {
         match self {
             DiskType::D2311 => 16,
@@ -152,7 +154,8 @@ impl DiskType {
     /// The number of blocks, with keys of 8 bytes and data of 256, on a track of a partitioned data
     /// set's directory.
     pub fn directory_blocks_per_track(self) -> u8
-        ensures { result ≡ (row_of self).directory_blocks_per_track }
+        ensures table { result ≡ (row_of self).directory_blocks_per_track }
+        ensures most { IsMost self 8 256 result }
     {
         match self {
             DiskType::D2311 => 10,

@@ -1,3 +1,4 @@
+mod Once
 pub mod Fields
 pub mod Parts
 pub mod Tables

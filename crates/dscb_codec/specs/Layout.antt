@@ -1,5 +1,5 @@
 -- The DSCBs of a VTOC, by the table of System Control Blocks GC28-6628: where each field stands in the 140 bytes of key and data.
-use Rattle.std.specs.Prelude.{◌≡◌, ℕ, ◌+◌, List, [], ◌∷◌, Option, Some, None, Bool, true, ◌<◌, ◌^◌, length, ◌==◌, ◌&&◌, ◌||◌, slice_index, slice_range, if◌then◌else◌}
+use Rattle.std.specs.Prelude.{◌≡◌, ℕ, ◌+◌, List, [], ◌∷◌, Option, Some, None, Bool, true, ◌<◌, ◌^◌, length, ◌==◌, ◌&&◌, ◌||◌, nat_le, nat_lt, slice_index, slice_range, if◌then◌else◌}
 use Rattle.std.specs.List.{AllByRecursion, list_all, concat}
 use Rattle.std.specs.Int.{w16, w32, to_be_bytes}
 use Rattle.dscb_codec.specs.declared.F1.{F1}
@@ -140,6 +140,10 @@ refusal_of bytes =
 abbrev pub covers : ℕ → List Field → ℕ → Bool
 covers start [] end = start == end
 covers start (f ∷ fields) end = f.at == start && covers (start + f.len) fields end
+
+-- whether byte k lies in the field
+abbrev pub holds_byte : ℕ → Field → Bool
+holds_byte k f = nat_le f.at k && nat_lt k (f.at + f.len)
 
 -- each number is below the bound
 abbrev pub AreBelow : ℕ → List ℕ → Type 0

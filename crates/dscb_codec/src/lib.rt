@@ -3,10 +3,10 @@
 //! The places of the fields follow System Control Blocks, GC28-6628; every number is big-endian.
 #![tactic(auto)]
 
-ghost use Rattle.std.specs.Prelude.{◌≡◌, ◌+◌, ◌*◌, ◌^◌, ◌≤◌, ◌<◌, ◌∷◌, ◌++◌, ℕ, List, [], None, Some, IfOk, MatchResult, IsTrue, length, map, slice_range, take};
+ghost use Rattle.std.specs.Prelude.{◌≡◌, ◌+◌, ◌*◌, ◌^◌, ◌≤◌, ◌<◌, ◌∷◌, ◌++◌, ℕ, List, [], None, Some, IfOk, MatchResult, IsTrue, count_by, nat_lt, if◌then◌else◌, length, map, slice_range, take};
 ghost use Rattle.std.specs.List.{concat};
 ghost use Rattle.std.specs.Int.{w16, w32, to_be_bytes};
-ghost use Rattle.dscb_codec.specs.Layout.{IsDscb, HasFields, AreRows, FitsTypes, f1_fields, f3_fields, f4_fields, f5_fields, format_byte, refusal_of, is_zeros, covers};
+ghost use Rattle.dscb_codec.specs.Layout.{IsDscb, HasFields, AreRows, FitsTypes, f1_fields, f3_fields, f4_fields, f5_fields, format_byte, refusal_of, is_zeros, covers, Field, holds_byte};
 ghost use Rattle.dscb_codec.specs.declared.F1.{F1};
 ghost use Rattle.dscb_codec.specs.declared.F3.{F3};
 ghost use Rattle.dscb_codec.specs.declared.F4.{F4};
@@ -498,13 +498,16 @@ pub fn encode(dscb: &Dscb) -> [u8; 140]
     }
 }
 
-/// A law of the tables: in each format the fields follow one another from byte 0 to byte 140, so
-/// that each byte lies in one field. It does nothing.
+/// A law of the tables: in each format the fields follow one another from byte 0 to byte 140, and by
+/// `once` each of these bytes then lies in exactly one field, and no field reaches beyond them. It
+/// does nothing.
 pub fn each_byte_has_a_field()
     ensures format_1 { (f : F1) → IsTrue (covers 0 (f1_fields f) 140) }
     ensures format_3 { (f : F3) → IsTrue (covers 0 (f3_fields f) 140) }
     ensures format_4 { (f : F4) → IsTrue (covers 0 (f4_fields f) 140) }
     ensures format_5 { (f : F5) → IsTrue (covers 0 (f5_fields f) 140) }
+    ensures once { (fields : List Field) (k : ℕ) → IsTrue (covers 0 fields 140)
+        → count_by (holds_byte k) fields ≡ (if nat_lt k 140 then 1 else 0) }
 {}
 
 #[cfg(test)]

@@ -47,15 +47,15 @@ pub ascii_at : (k : ℕ) → k < 95 → ascii_of (get_or code_page k 0) ≡ 32 +
 ascii_at k h = sym (get_or-map-range_with_len (λ m. ascii_of (get_or code_page m 0)) 0 95 k k 0 h (omega arith)) ∙ ap (λ (l : List ℕ). get_or l k 0) table ∙ get_or-range_with_len 32 95 k 0 h
 
 -- the byte of a printable character has that character
-pub character_back : (c : ℕ) → 32 ≤ c → c < 127 → MatchOption (ebcdic_of c) ⊥ (λ e. ascii_of e ≡ c)
-character_back c low high =
+pub ascii_of-ebcdic_of : (c : ℕ) → 32 ≤ c → c < 127 → MatchOption (ebcdic_of c) ⊥ (λ e. ascii_of e ≡ c)
+ascii_of-ebcdic_of c low high =
     let P : Option ℕ → Type 0 = λ o. MatchOption o ⊥ (λ e. ascii_of e ≡ c) in
     let same : 32 + (c - 32) ≡ c = omega (arith, low) in
     subst P (sym (some_byte c low high)) (ascii_at (c - 32) (omega (arith, low, high)) ∙ same)
 
 -- the character of a byte of the code page has that byte
-pub byte_back : (e : ℕ) → Contains code_page e → ebcdic_of (ascii_of e) ≡ Some e
-byte_back e (k, within, is) =
+pub ebcdic_of-ascii_of : (e : ℕ) → Contains code_page e → ebcdic_of (ascii_of e) ≡ Some e
+ebcdic_of-ascii_of e (k, within, is) =
     let zero : get_or code_page k 0 ≡ e = sym (get_or_default_zero code_page k e within) ∙ is in
     let low : k < 95 = omega (arith, within, page_len) in
     let at : 32 + k - 32 ≡ k = omega arith in

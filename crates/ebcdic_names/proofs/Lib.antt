@@ -1,4 +1,5 @@
-mod CodeLemmas
-mod DisplayLemmas
-mod EncodeLemmas
-mod NameLemmas
+pub mod BlankLemmas
+pub mod CodeLemmas
+pub mod DisplayLemmas
+pub mod EncodeLemmas
+pub mod NameLemmas

@@ -1,6 +1,9 @@
 -- Data set names, names of one level and volume serials, as lists of characters.
-use Rattle.std.specs.Prelude.{ℕ, ◌+◌, ◌-◌, ◌==◌, Bool, true, false, ◌&&◌, ◌||◌, nat_lt, nat_le, if◌then◌else◌, List, [], ◌∷◌, ◌++◌, length, map, replicate, slice_get, take, take_while, reverse, unwrap_or, Option, Some, None, Result, Ok, Err}
+use Rattle.std.specs.Prelude.{ℕ, ◌+◌, ◌-◌, ◌==◌, Bool, false, ◌&&◌, ◌||◌, nat_lt, nat_le, if◌then◌else◌, List, [], ◌∷◌, ◌++◌, length, map, replicate, slice_get, unwrap_or, Option, Some, None, Result, Ok, Err}
+use Rattle.std.specs.List.{list_all}
 use Rattle.ebcdic_names.specs.CodePage.{ascii_of, ebcdic_of}
+use Rattle.ebcdic_names.specs.declared.names.NameForm.{NameForm}
+use Rattle.ebcdic_names.specs.declared.names.NameForm.TheVariants.{Levels, OneLevel}
 use Rattle.ebcdic_names.specs.declared.names.NameErr.{NameErr}
 use Rattle.ebcdic_names.specs.declared.names.NameErr.TheVariants.{Empty, TooLong, BadLevel, BadChar}
 use Rattle.ebcdic_names.specs.declared.names.Dsn.{Dsn}
@@ -14,48 +17,58 @@ begins_level c = (nat_le 65 c && nat_le c 90) || ((c == 64) || ((c == 35) || (c 
 abbrev pub is_digit : ℕ → Bool
 is_digit c = nat_le 48 c && nat_le c 57
 
--- whether c may be the i-th character of a level, counted from 0; only in a name of several levels may it be a hyphen
-abbrev pub level_allows : Bool → ℕ → ℕ → Bool
-level_allows joined i c = begins_level c || (nat_lt 0 i && (is_digit c || (joined && (c == 45))))
+-- a digit, and in a name of several levels a hyphen
+abbrev pub continues_level : NameForm → ℕ → Bool
+continues_level Levels c = is_digit c || (c == 45)
+continues_level OneLevel c = is_digit c
+
+-- whether c may be the i-th character of a level, counted from 0
+abbrev pub level_allows : NameForm → ℕ → ℕ → Bool
+level_allows form i c = begins_level c || (nat_lt 0 i && continues_level form c)
 
 -- the faults of character c, the i-th of level k and the o-th of the name: the ninth makes its level too long
-unfoldable pub char_faults : Bool → ℕ → ℕ → ℕ → ℕ → List NameErr
-char_faults joined k i o c =
-    (if i == 8 then BadLevel k ∷ [] else []) ++ (if level_allows joined i c then [] else BadChar o ∷ [])
+unfoldable pub char_faults : NameForm → ℕ → ℕ → ℕ → ℕ → List NameErr
+char_faults form k i o c =
+    (if i == 8 then BadLevel k ∷ [] else []) ++ (if level_allows form i c then [] else BadChar o ∷ [])
 
 -- the faults of the characters of level k from its i-th on, which is the o-th of the name
-abbrev pub char_faults_from : Bool → ℕ → ℕ → ℕ → List ℕ → List NameErr
-char_faults_from joined k i o [] = []
-char_faults_from joined k i o (c ∷ cs) = char_faults joined k i o c ++ char_faults_from joined k (i + 1) (o + 1) cs
+abbrev pub char_faults_from : NameForm → ℕ → ℕ → ℕ → List ℕ → List NameErr
+char_faults_from form k i o [] = []
+char_faults_from form k i o (c ∷ cs) = char_faults form k i o c ++ char_faults_from form k (i + 1) (o + 1) cs
 
 -- the faults of level k, which begins at character o of the name: an empty level is one
-abbrev pub level_faults : Bool → ℕ → ℕ → List ℕ → List NameErr
-level_faults joined k o [] = BadLevel k ∷ []
-level_faults joined k o (c ∷ cs) = char_faults_from joined k 0 o (c ∷ cs)
+abbrev pub level_faults : NameForm → ℕ → ℕ → List ℕ → List NameErr
+level_faults form k o [] = BadLevel k ∷ []
+level_faults form k o (c ∷ cs) = char_faults_from form k 0 o (c ∷ cs)
 
 -- the faults of the levels from level k on, which begins at character o of the name
-abbrev pub levels_faults : Bool → ℕ → ℕ → List (List ℕ) → List NameErr
-levels_faults joined k o [] = []
-levels_faults joined k o (l ∷ ls) = level_faults joined k o l ++ levels_faults joined (k + 1) (o + length l + 1) ls
+abbrev pub levels_faults : NameForm → ℕ → ℕ → List (List ℕ) → List NameErr
+levels_faults form k o [] = []
+levels_faults form k o (l ∷ ls) = level_faults form k o l ++ levels_faults form (k + 1) (o + length l + 1) ls
 
 -- c before the first level
 abbrev pub onto_first : ℕ → List (List ℕ) → List (List ℕ)
 onto_first c [] = (c ∷ []) ∷ []
 onto_first c (l ∷ ls) = (c ∷ l) ∷ ls
 
--- the levels of a name, which periods part in a name of several levels
-abbrev pub levels : Bool → List ℕ → List (List ℕ)
-levels joined [] = [] ∷ []
-levels joined (c ∷ cs) = if joined && (c == 46) then [] ∷ levels joined cs else onto_first c (levels joined cs)
+-- a period, in a name of several levels
+abbrev pub ends_level : NameForm → ℕ → Bool
+ends_level Levels c = c == 46
+ends_level OneLevel c = false
+
+-- the levels of a name, of which a name of one level has one
+abbrev pub levels : NameForm → List ℕ → List (List ℕ)
+levels form [] = [] ∷ []
+levels form (c ∷ cs) = if ends_level form c then [] ∷ levels form cs else onto_first c (levels form cs)
 
 -- the first fault of a name
-abbrev pub level_fault : Bool → List ℕ → Option NameErr
-level_fault joined cs = slice_get (levels_faults joined 0 0 (levels joined cs)) 0
+abbrev pub level_fault : NameForm → List ℕ → Option NameErr
+level_fault form cs = slice_get (levels_faults form 0 0 (levels form cs)) 0
 
 -- the fault of a name: its length goes first
-abbrev pub name_fault : Bool → List ℕ → Option NameErr
-name_fault joined cs =
-    if length cs == 0 then Some Empty else (if nat_lt 44 (length cs) then Some TooLong else level_fault joined cs)
+abbrev pub name_fault : NameForm → List ℕ → Option NameErr
+name_fault form cs =
+    if length cs == 0 then Some Empty else (if nat_lt 44 (length cs) then Some TooLong else level_fault form cs)
 
 -- a capital letter, a digit, @, # or $
 abbrev pub serial_allows : ℕ → Bool
@@ -88,19 +101,24 @@ unless_fault (Some e) x = Err e
 
 -- what a text of these characters reads as: a name of levels joined by periods
 abbrev pub dsn_of : List ℕ → Result Dsn NameErr
-dsn_of cs = unless_fault (name_fault true cs) (record { bytes = padded 44 cs })
+dsn_of cs = unless_fault (name_fault Levels cs) (record { bytes = padded 44 cs })
 
 -- a name of one level
 abbrev pub name8_of : List ℕ → Result Name8 NameErr
-name8_of cs = unless_fault (name_fault false cs) (record { bytes = padded 8 cs })
+name8_of cs = unless_fault (name_fault OneLevel cs) (record { bytes = padded 8 cs })
 
 -- a volume serial
 abbrev pub serial_of : List ℕ → Result Serial NameErr
 serial_of cs = unless_fault (serial_fault cs) (record { bytes = padded 6 cs })
 
--- the bytes without the blanks behind them
+-- whether these bytes are blanks alone
+abbrev pub are_blanks : List ℕ → Bool
+are_blanks bs = list_all (λ b. b == 0x40) bs
+
+-- the bytes without the blanks behind them: a byte stays where it or one behind it isn't a blank
 abbrev pub without_blanks : List ℕ → List ℕ
-without_blanks bs = take (length bs - length (take_while (λ b. b == 0x40) (reverse bs))) bs
+without_blanks [] = []
+without_blanks (b ∷ bs) = if are_blanks (b ∷ bs) then [] else b ∷ without_blanks bs
 
 -- the characters of a name without the blanks behind them
 unfoldable pub shown : List ℕ → List ℕ

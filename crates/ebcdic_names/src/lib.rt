@@ -27,7 +27,7 @@ static ASCII: [u8; 256] = [
 
 /// The printable ASCII character, 32 to 126, of an EBCDIC byte in code page 037.
 ///
-/// A byte that stands for no such character gives a period.
+/// A byte that stands for none of these 95 characters gives a period.
 pub fn to_ascii(e: u8) -> u8
     ensures { result ≡ ascii_of e }
 {
@@ -69,7 +69,7 @@ pub fn code_page_law()
 
 mod names;
 
-pub use names::{Dsn, Name8, NameErr, Serial};
+pub use names::{Dsn, Name8, NameErr, Serial, without_blanks};
 
 #[cfg(test)]
 mod tests;

@@ -1,8 +1,8 @@
 // Data set names, names of one level and volume serials.
 
-ghost use Rattle.std.specs.Prelude.{◌≡◌, ◌≤◌, ◌==◌, ◌&&◌, chars, length, reverse, slice_get, take_while, Some};
+ghost use Rattle.std.specs.Prelude.{◌≡◌, ◌≢◌, ◌≤◌, ◌==◌, ◌-◌, ◌++◌, ◌∷◌, [], ℕ, List, chars, length, replicate, reverse, slice_get, take_while, Some};
 ghost use Rattle.std.specs.Fmt.{DisplaysOnOk};
-ghost use Rattle.ebcdic_names.specs.Names.{begins_level, byte_of, dsn_of, is_digit, level_allows, level_fault, name8_of, name_fault, padded, serial_allows, serial_fault, serial_faults, serial_of, shown, without_blanks};
+ghost use Rattle.ebcdic_names.specs.Names.{begins_level, byte_of, char_faults, continues_level, dsn_of, ends_level, is_digit, level_allows, level_fault, name8_of, name_fault, padded, serial_allows, serial_fault, serial_faults, serial_of, shown, without_blanks};
 
 use crate::{to_ascii, to_ebcdic};
 use std::fmt;
@@ -10,37 +10,48 @@ use std::fmt;
 // The EBCDIC blank.
 const BLANK: u8 = 0x40;
 
-/// Why a text is no name.
+// The forms of a name.
+#[derive(Clone, Copy)]
+enum NameForm {
+    // Levels joined by periods, as of a data set.
+    Levels,
+    // One level, as of a member.
+    OneLevel,
+}
+
+/// Why a text is no name. Levels and characters are counted from 0.
 #[derive(Clone, Copy, Debug, PartialEq, Eq, Drop)]
 pub enum NameErr {
     /// The text is empty.
     Empty,
     /// The text has too many characters: more than 44, or more than six for a volume serial.
     TooLong,
-    /// The level of this number, counted from 0, is empty or longer than eight characters.
+    /// The level of this number, 0 to 22, is empty or longer than eight characters.
     BadLevel(u8),
-    /// The character of this number, counted from 0, isn't allowed there.
+    /// The character of this number, 0 to 43, isn't allowed there.
     BadChar(u8),
 }
 
-/// A data set name in EBCDIC, with blanks behind it.
+/// A data set name in EBCDIC, with blanks behind it. Names are ordered by their bytes.
 #[derive(Clone, Copy, Debug, PartialEq, Eq, PartialOrd, Ord)]
 pub struct Dsn {
-    /// The 44 bytes, as a label on the pack has them.
+    /// The 44 bytes, as the key of a format 1 DSCB has them (System Control Blocks, GC28-6628).
     pub bytes: [u8; 44],
 }
 
-/// A name of up to eight characters in EBCDIC, as of a member, with blanks behind it.
+/// A name of up to eight characters in EBCDIC, as of a member, with blanks behind it. Names are
+/// ordered by their bytes.
 #[derive(Clone, Copy, Debug, PartialEq, Eq, PartialOrd, Ord)]
 pub struct Name8 {
-    /// The eight bytes, as a directory entry has them.
+    /// The eight bytes, as an entry of a partitioned set's directory has them (System Control
+    /// Blocks, GC28-6628).
     pub bytes: [u8; 8],
 }
 
-/// A volume serial in EBCDIC, with blanks behind it.
+/// A volume serial in EBCDIC, with blanks behind it. Serials are ordered by their bytes.
 #[derive(Clone, Copy, Debug, PartialEq, Eq, PartialOrd, Ord)]
 pub struct Serial {
-    /// The six bytes, as a volume label has them.
+    /// The six bytes, as the volume label has them (System Control Blocks, GC28-6628).
     pub bytes: [u8; 6],
 }
 
@@ -48,13 +59,13 @@ impl Dsn {
     /// The data set name of a text, as Utilities GC28-6586 has it: levels joined by periods.
     ///
     /// A level begins with a capital letter, `@`, `#` or `$`, goes on with these, digits and `-`,
-    /// and has up to eight characters. `Empty` and `TooLong` (above 44 characters) are judged
+    /// and has one to eight characters. `Empty` and `TooLong` (above 44 characters) are judged
     /// first; else the first fault from the left is answered, and a ninth character of a level is
     /// `BadLevel` before it is `BadChar`.
     pub fn read(text: &str) -> Result<Dsn, NameErr>
         ensures { result ≡ dsn_of (chars text.now) }
     {
-        match name_fault(true, text) {
+        match name_fault(NameForm::Levels, text) {
             None => Ok(Dsn {
                 bytes: encode(text),
             }),
@@ -64,15 +75,16 @@ impl Dsn {
 }
 
 impl Name8 {
-    /// The name of a text of one level, without `-`.
+    /// The name of a text of one level without `-`, as Utilities GC28-6586 has it.
     ///
-    /// It is judged as the level of a data set name: `TooLong` comes above 44 characters, 9 to 44
-    /// characters are `BadLevel(0)` unless one of the first eight isn't allowed, and a period is
-    /// `BadChar`.
+    /// It has one to eight characters, the first a capital letter, `@`, `#` or `$`, the others
+    /// digits too. It is judged as the level of a data set name: `Empty` comes first, `TooLong`
+    /// comes above 44 characters, 9 to 44 characters are `BadLevel(0)` unless one of the first eight
+    /// isn't allowed, and a period is `BadChar`.
     pub fn read(text: &str) -> Result<Name8, NameErr>
         ensures { result ≡ name8_of (chars text.now) }
     {
-        match name_fault(false, text) {
+        match name_fault(NameForm::OneLevel, text) {
             None => Ok(Name8 {
                 bytes: encode(text),
             }),
@@ -82,10 +94,11 @@ impl Name8 {
 }
 
 impl Serial {
-    /// The volume serial of a text: one to six capital letters, digits, `@`, `#` or `$`.
+    /// The volume serial of a text, as Utilities GC28-6586 has it: one to six capital letters,
+    /// digits, `@`, `#` or `$`, in any order.
     ///
-    /// `TooLong` comes above six characters; else the first character that isn't allowed is
-    /// `BadChar`.
+    /// `Empty` and `TooLong` (above six characters) are judged first; else the first character that
+    /// isn't allowed is `BadChar`. `BadLevel` never comes.
     pub fn read(text: &str) -> Result<Serial, NameErr>
         ensures { result ≡ serial_of (chars text.now) }
     {
@@ -134,9 +147,9 @@ fn characters(text: &str) -> usize
     text.chars().count()
 }
 
-// The first fault of a name, of several levels where these are joined by periods.
-fn name_fault(joined: bool, text: &str) -> Option<NameErr>
-    ensures { result ≡ name_fault joined (chars text.now) }
+// The first fault of a name.
+fn name_fault(form: NameForm, text: &str) -> Option<NameErr>
+    ensures { result ≡ name_fault form (chars text.now) }
 {
     let length = characters(text);
     if length == 0 {
@@ -145,30 +158,27 @@ fn name_fault(joined: bool, text: &str) -> Option<NameErr>
     if length > 44 {
         return Some(NameErr::TooLong);
     }
-    level_fault(joined, text)
+    level_fault(form, text)
 }
 
 // The first fault of a name's levels.
-fn level_fault(joined: bool, text: &str) -> Option<NameErr>
+fn level_fault(form: NameForm, text: &str) -> Option<NameErr>
     requires { length (chars text.now) ≤ 44 }
-    ensures { result ≡ level_fault joined (chars text.now) }
+    ensures { result ≡ level_fault form (chars text.now) }
 {
     let mut level = 0u8;
     let mut at = 0u8;
     let mut place = 0u8;
     for c in text.chars() {
-        if ends_level(joined, c) {
+        if ends_level(form, c) {
             if at == 0 {
                 return Some(NameErr::BadLevel(level));
             }
             level += 1;
             at = 0;
         } else {
-            if at == 8 {
-                return Some(NameErr::BadLevel(level));
-            }
-            if !level_allows(joined, at, c) {
-                return Some(NameErr::BadChar(place));
+            if let Some(fault) = char_fault(form, level, at, place, c) {
+                return Some(fault);
             }
             at += 1;
         }
@@ -181,11 +191,28 @@ fn level_fault(joined: bool, text: &str) -> Option<NameErr>
     }
 }
 
-// Whether a character parts two levels.
-fn ends_level(joined: bool, c: char) -> bool
-    ensures { result ≡ (joined && (c == 46)) }
+// The fault of a character, the at-th of its level: the ninth makes the level too long, before it is judged.
+#[tactic(auto, unfolding(crate::specs::Names::char_faults))]
+fn char_fault(form: NameForm, level: u8, at: u8, place: u8, c: char) -> Option<NameErr>
+    ensures { result ≡ slice_get (char_faults form level at place c) 0 }
 {
-    joined && c == '.'
+    if at == 8 {
+        return Some(NameErr::BadLevel(level));
+    }
+    if !level_allows(form, at, c) {
+        return Some(NameErr::BadChar(place));
+    }
+    None
+}
+
+// Whether a character ends a level.
+fn ends_level(form: NameForm, c: char) -> bool
+    ensures { result ≡ ends_level form c }
+{
+    match form {
+        NameForm::Levels => c == '.',
+        NameForm::OneLevel => false,
+    }
 }
 
 // Whether a character may be in a volume serial.
@@ -196,10 +223,20 @@ fn serial_allows(c: char) -> bool
 }
 
 // Whether a character may stand at this place of a level.
-fn level_allows(joined: bool, at: u8, c: char) -> bool
-    ensures { result ≡ level_allows joined at c }
+fn level_allows(form: NameForm, at: u8, c: char) -> bool
+    ensures { result ≡ level_allows form at c }
 {
-    begins_level(c) || at > 0 && (is_digit(c) || joined && c == '-')
+    begins_level(c) || at > 0 && continues_level(form, c)
+}
+
+// Whether a level may go on with a character that it can't begin with.
+fn continues_level(form: NameForm, c: char) -> bool
+    ensures { result ≡ continues_level form c }
+{
+    match form {
+        NameForm::Levels => is_digit(c) || c == '-',
+        NameForm::OneLevel => is_digit(c),
+    }
 }
 
 // Whether a level may begin with a character.
@@ -273,9 +310,13 @@ fn write_characters<W: fmt::Write>(bytes: &[u8], f: &mut fmt::Formatter<W>) -> f
     Ok(())
 }
 
-// The bytes of a name without the blanks behind them.
-fn without_blanks(bytes: &[u8]) -> &[u8]
-    ensures { result.now ≡ without_blanks bytes.entry.now }
+/// The bytes of a name without the blanks, X'40', behind them.
+///
+/// Blanks before or between other bytes stay, and a name of blanks alone gives no bytes.
+pub fn without_blanks(bytes: &[u8]) -> &[u8]
+    ensures name { result.now ≡ without_blanks bytes.now }
+    ensures blanks { bytes.now ≡ result.now ++ replicate (length bytes.now - length result.now) 0x40 }
+    ensures end { (front : List ℕ) → result.now ≢ front ++ 0x40 ∷ [] }
 {
     &bytes[..bytes.len() - trailing_blanks(bytes)]
 }

@@ -1,8 +1,8 @@
-use super::{Dsn, Name8, NameErr, Serial, to_ascii, to_ebcdic};
+use super::{Dsn, Name8, NameErr, Serial, to_ascii, to_ebcdic, without_blanks};
 use std::test::Fail;
 
 // The characters of the code page, each row behind the byte of its first character.
-const ROWS: [(u8, &[u8]); 22] = [
+const ROWS: [(u8, &[u8]); 16] = [
     (0x40, b" "),
     (0x4B, b".<(+|&"),
     (0x5A, b"!$*);"),
@@ -19,36 +19,21 @@ const ROWS: [(u8, &[u8]); 22] = [
     (0xE0, b"\\"),
     (0xE2, b"STUVWXYZ"),
     (0xF0, b"0123456789"),
-    (0x00, b"."),
-    (0x3F, b"."),
-    (0x4A, b"."),
-    (0x5F, b"."),
-    (0xE1, b"."),
-    (0xFA, b"......"),
 ];
 
 #[test]
 fn whole_code_page(rt: HostRuntime) {
+    let mut page = [b'.'; 256];
     for (first, characters) in ROWS {
         for (byte, character) in (first..=0xFF).zip(characters) {
-            assert_eq!(rt; to_ascii(byte), *character, "at {byte:02X}");
+            page[usize::from(byte)] = *character;
+            assert_eq!(rt; to_ebcdic(*character), Some(byte), "of {character}");
         }
     }
-}
-
-#[test]
-fn both_ways(rt: HostRuntime) {
-    for (byte, character) in [
-        (0x40, b' '),
-        (0x4B, b'.'),
-        (0xC1, b'A'),
-        (0xE2, b'S'),
-        (0xF9, b'9'),
-        (0xA1, b'~'),
-    ] {
-        assert_eq!(rt; to_ebcdic(character), Some(byte), "of {character}");
+    for byte in 0..=0xFF {
+        assert_eq!(rt; to_ascii(byte), page[usize::from(byte)], "at {byte:02X}");
     }
-    for character in [0, 31, 127, 255] {
+    for character in (0..32).chain(127..=0xFF) {
         assert_eq!(rt; to_ebcdic(character), None, "of {character}");
     }
 }
@@ -141,12 +126,48 @@ fn good_names(rt: HostRuntime) -> Result<(), Fail> {
         let shown = serial.to_string(alloc)?;
         assert_eq!(rt; shown.as_str(), text);
     }
-    let serial = Serial::read("ABC1").ok().ok_or("a serial")?;
-    assert_eq!(rt; serial.bytes, [0xC1, 0xC2, 0xC3, 0xF1, 0x40, 0x40]);
-    let inner = Serial {
-        bytes: [0xC1, 0x40, 0xC2, 0x00, 0x40, 0x40],
-    };
-    let shown = inner.to_string(alloc)?;
+    Ok(())
+}
+
+#[test]
+fn blanks_behind_a_name(rt: HostRuntime) -> Result<(), Fail> {
+    let alloc = rt.alloc();
+    let mut bytes = [0x40; 44];
+    bytes[..6].copy_from_slice(&[0xE2, 0xE8, 0xE2, 0xF1, 0x4B, 0xC1]);
+    assert_eq!(rt; Dsn::read("SYS1.A"), Ok(Dsn { bytes }));
+    let bytes = [0xC1, 0x5B, 0xF9, 0x40, 0x40, 0x40, 0x40, 0x40];
+    assert_eq!(rt; Name8::read("A$9"), Ok(Name8 { bytes }));
+    let bytes = [0xC1, 0xC2, 0xC3, 0xF1, 0x40, 0x40];
+    assert_eq!(rt; Serial::read("ABC1"), Ok(Serial { bytes }));
+    let inner = [0xC1, 0x40, 0xC2, 0x00, 0x40, 0x40];
+    assert_eq!(rt; without_blanks(&inner), &inner[..4]);
+    let shown = Serial { bytes: inner }.to_string(alloc)?;
     assert_eq!(rt; shown.as_str(), "A B.");
+    let shown = Serial { bytes: [0x40; 6] }.to_string(alloc)?;
+    assert_eq!(rt; shown.as_str(), "");
+    Ok(())
+}
+
+#[test]
+fn ordered_by_their_bytes(rt: HostRuntime) -> Result<(), Fail> {
+    // In EBCDIC digits come behind letters, and a period behind a blank.
+    for (first, second) in [
+        ("A", "A.B"),
+        ("A.B", "AB"),
+        ("$A", "#A"),
+        ("@A", "A"),
+        ("Z", "Z9"),
+        ("ZZ", "Z9"),
+    ] {
+        let first = Dsn::read(first).ok().ok_or("a data set name")?;
+        let second = Dsn::read(second).ok().ok_or("a data set name")?;
+        assert!(rt; first < second);
+    }
+    let first = Name8::read("IZ").ok().ok_or("a name")?;
+    let second = Name8::read("J").ok().ok_or("a name")?;
+    assert!(rt; first < second);
+    let first = Serial::read("A").ok().ok_or("a serial")?;
+    let second = Serial::read("1").ok().ok_or("a serial")?;
+    assert!(rt; first < second);
     Ok(())
 }

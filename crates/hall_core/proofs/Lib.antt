@@ -1,3 +1,10 @@
-mod Counted
-mod Named
-mod Units
+mod CallLemmas
+mod CardLemmas
+mod CountLemmas
+mod HistoryLemmas
+mod RecordLemmas
+mod ReplayLemmas
+mod UnitLemmas
+pub mod MomentLemmas
+pub mod StageLemmas
+pub mod StepLemmas

@@ -1,5 +1,5 @@
--- What a hall always tells, in this project's profile: its units, and its counts of faults.
-use Rattle.std.specs.Prelude.{◌≡◌, ℕ, ◌+◌, ◌-◌, ◌^◌, ◌≤◌, min, List, [], ◌∷◌, ◌++◌, length, map, Contains, Result, OnErr, IfOk, IsErrOf, slice_index_or}
+-- What a hall always tells, in this project's profile: its units, which hall it is, and its counts of faults.
+use Rattle.std.specs.Prelude.{◌≡◌, ℕ, ◌+◌, ◌-◌, ◌^◌, ◌≤◌, min, List, [], ◌∷◌, ◌++◌, length, map, Contains, Result, Ok, OnErr, IfOk, IsErrOf, slice_index_or}
 use Rattle.hall_core.specs.declared.hall.HallErr.{HallErr}
 use Rattle.hall_core.specs.declared.hall.HallErr.TheVariants.{Failed, Memory}
 
@@ -12,9 +12,10 @@ pub record Attached : Type 0 where
   pub name : List ℕ
   pub size : ℕ
 
--- the units in the order of their numbers, and the counts of device and print faults
+-- the units in the order of their numbers; the references that lead to the hall, so that a hall which was lent is known again; and the counts of device and print faults
 pub record Facts : Type 0 where
   pub units : List Attached
+  pub references : List ℕ
   pub dev_faults : ℕ
   pub print_faults : ℕ
 
@@ -29,13 +30,19 @@ IsAttached units name = Contains (map (λ (u : Attached). u.name) units) name
 -- A device call: it fails only where its count rose, and the rest stays.
 pub record DeviceCall {T E : Type 0} (old new : Facts) (result : Result T E) : Type 0 where
   pub units : new.units ≡ old.units
+  pub references : new.references ≡ old.references
   pub prints : new.print_faults ≡ old.print_faults
   pub later : old.dev_faults ≤ new.dev_faults
   pub failed : OnErr result (Rose old.dev_faults new.dev_faults)
 
+-- a device call without an answer
+abbrev pub NotedCall : Facts → Facts → Type 0
+NotedCall old new = DeviceCall {T = Unit {0}} {E = Unit {0}} old new (Ok tt)
+
 -- A print: it fails only where its count rose, and the rest stays.
 pub record PrintCall {T E : Type 0} (old new : Facts) (result : Result T E) : Type 0 where
   pub units : new.units ≡ old.units
+  pub references : new.references ≡ old.references
   pub devices : new.dev_faults ≡ old.dev_faults
   pub later : old.print_faults ≤ new.print_faults
   pub failed : OnErr result (Rose old.print_faults new.print_faults)
@@ -44,6 +51,7 @@ pub record PrintCall {T E : Type 0} (old new : Facts) (result : Result T E) : Ty
 pub record AttachCall (name : List ℕ) (old new : Facts) (result : Result ℕ HallErr) : Type 0 where
   pub added : IfOk result (λ unit. (unit ≡ length old.units) × ((size : ℕ) × (new.units ≡ old.units ++ record { name = name; size = size } ∷ [])))
   pub stays : OnErr result (new.units ≡ old.units)
+  pub references : new.references ≡ old.references
   pub prints : new.print_faults ≡ old.print_faults
   pub later : old.dev_faults ≤ new.dev_faults
   pub failed : IsErrOf result Failed → Rose old.dev_faults new.dev_faults

@@ -1,19 +1,15 @@
--- What a hall holds, where it tells, in this project's profile: files by name, and the bytes printed.
-use Rattle.std.specs.Prelude.{◌≡◌, ℕ, ◌<◌, List, [], ◌∷◌, ◌++◌, length, take, drop, Option, Some, None, Result, OnOk, IsErrOf, if◌then◌else◌, unwrap_or}
+-- What a hall holds, where it tells, in this project's profile: files by name. And what its calls do to them.
+use Rattle.std.specs.Prelude.{◌≡◌, ◌⊎◌, ◌↔◌, ℕ, ◌+◌, ◌<◌, List, [], ◌∷◌, ◌++◌, length, take, drop, Option, Some, None, Result, OnOk, OnErr, IsErr, IsErrOf, if◌then◌else◌, unwrap_or}
 use Rattle.std.specs.Str.{bytes_eq}
 use Rattle.hall_core.specs.declared.hall.HallErr.{HallErr}
 use Rattle.hall_core.specs.declared.hall.HallErr.TheVariants.{Missing}
 use Rattle.hall_core.specs.Facts.{Attached, Facts, unit_of}
+use Rattle.hall_core.specs.Moments.{Meaning, LeftNow, IsDurable, LeavesSame, ElapsesExactly, Same}
 
 -- a file: its name, and its bytes
 pub record File : Type 0 where
   pub name : List ℕ
   pub bytes : List ℕ
-
--- the files, and the bytes printed so far
-pub record Meaning : Type 0 where
-  pub files : List File
-  pub printed : List ℕ
 
 -- the bytes of the first file of this name
 abbrev pub file_of : List File → List ℕ → Option (List ℕ)
@@ -21,12 +17,21 @@ file_of [] name = None
 file_of (f ∷ files) name = if bytes_eq f.name name then Some f.bytes else file_of files name
 
 -- the image of a unit: the bytes of its file
-abbrev pub image_of : Meaning → Facts → ℕ → List ℕ
-image_of meaning facts unit = unwrap_or (file_of meaning.files (unit_of facts.units unit).name) []
+abbrev pub image_of : List File → Facts → ℕ → List ℕ
+image_of files facts unit = unwrap_or (file_of files (unit_of facts.units unit).name) []
 
 -- the file of this name has these bytes from the offset on
 abbrev pub HasBytesAt : List File → List ℕ → ℕ → List ℕ → Type 0
 HasBytesAt files name at bytes = (image : List ℕ) × (file_of files name ≡ Some image) × (bytes ≡ take (length bytes) (drop at image))
+
+-- an image over whose bytes others were written, from an offset on
+unfoldable pub patched : List ℕ → ℕ → List ℕ → List ℕ
+patched image at bytes = take at image ++ bytes ++ drop (at + length bytes) image
+
+-- the files after bytes were written over those of the first of this name, from an offset on
+unfoldable pub written : List File → List ℕ → ℕ → List ℕ → List File
+written [] name at bytes = []
+written (f ∷ files) name at bytes = if bytes_eq f.name name then record f { bytes = patched f.bytes at bytes } ∷ files else f ∷ written files name at bytes
 
 -- each unit is a file, of its size
 abbrev pub AreWhole : List File → List Attached → Type 0
@@ -37,13 +42,42 @@ abbrev pub IsPrefixOf : List ℕ → List ℕ → Type 0
 IsPrefixOf xs ys = (rest : List ℕ) × (xs ++ rest ≡ ys)
 
 -- An attachment changes nothing that is told; it is done only where the file is there, and reported missing only where it isn't.
-pub record Attaches (name : List ℕ) (old new : Meaning) (result : Result ℕ HallErr) : Type 0 where
-  pub same : new ≡ old
-  pub there : OnOk result ((image : List ℕ) × (file_of old.files name ≡ Some image))
-  pub missing : IsErrOf result Missing → file_of old.files name ≡ None
+pub record Attaches (name : List ℕ) (old new : Meaning (List File)) (result : Result ℕ HallErr) : Type 0 where
+  pub same : Same old new
+  pub there : OnOk result ((image : List ℕ) × (file_of old.state name ≡ Some image))
+  pub missing : IsErrOf result Missing → file_of old.state name ≡ None
 
--- A print, done or failed, keeps the files and has printed a prefix of the bytes: all of them, where it is done.
-pub record Prints {T E : Type 0} (bytes : List ℕ) (old new : Meaning) (result : Result T E) : Type 0 where
-  pub files : new.files ≡ old.files
+-- a stop leaves what one left before, without this write or with it
+abbrev pub IsPending : List ℕ → ℕ → List ℕ → Meaning (List File) → Meaning (List File) → Type 0
+IsPending name at bytes old new = (j : List File) → new.left j ↔ ((d : List File) × old.left d × ((j ≡ d) ⊎ (j ≡ written d name at bytes)))
+
+-- A write, done or failed, is pending: a stop may leave it out or keep it, also a stop in the call. One that failed is read or isn't, and may not have begun.
+pub record AfterWrite {T E : Type 0} (name : List ℕ) (at : ℕ) (bytes : List ℕ) (old new : Meaning (List File)) (result : Result T E) : Type 0 where
+  pub printed : new.printed ≡ old.printed
+  pub done : OnOk result (new.state ≡ written old.state name at bytes)
+  pub failed : OnErr result ((new.state ≡ old.state) ⊎ (new.state ≡ written old.state name at bytes))
+  pub pending : IsPending name at bytes old new ⊎ (IsErr result × LeavesSame old new)
+  pub ticks : OnOk result (old.clock < new.clock)
+  pub time : ElapsesExactly old new (LeftNow new)
+
+-- A sync that is done makes what is read durable, on all units; one that failed leaves the pending writes as they were.
+pub record AfterSync {T E : Type 0} (old new : Meaning (List File)) (result : Result T E) : Type 0 where
+  pub state : new.state ≡ old.state
+  pub printed : new.printed ≡ old.printed
+  pub done : OnOk result (IsDurable new)
+  pub failed : OnErr result (LeavesSame old new)
+  pub ticks : OnOk result (old.clock < new.clock)
+  pub time : ElapsesExactly old new (LeftNow old)
+
+-- A print, done or failed, keeps the files and has printed a prefix of the bytes: all of them, where it is done. A stop in the call leaves a prefix of what it printed.
+pub record AfterPrint {T E : Type 0} (bytes : List ℕ) (old new : Meaning (List File)) (result : Result T E) : Type 0 where
+  pub state : new.state ≡ old.state
+  pub left : LeavesSame old new
   pub done : OnOk result (new.printed ≡ old.printed ++ bytes)
   pub prefix : (q : List ℕ) × IsPrefixOf q bytes × (new.printed ≡ old.printed ++ q)
+  pub ticks : OnOk result (old.clock < new.clock)
+  pub time : ElapsesExactly old new (λ j p. old.left j × (IsPrefixOf old.printed p × IsPrefixOf p new.printed))
+
+-- what a hall means that tells nothing
+abbrev pub untold : Meaning (List File)
+untold = record { state = []; printed = []; left = λ _. Unit {0}; clock = 0; left_since = λ _ _ p. p ≡ [] }

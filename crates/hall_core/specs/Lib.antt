@@ -1,4 +1,13 @@
+pub mod Cards
+pub mod Example
 pub mod Facts
 pub mod Files
 pub mod Held
+pub mod History
+pub mod HistoryLaws
+pub mod Laws
 pub mod Memory
+pub mod MemoryCards
+pub mod Moments
+pub mod Replay
+pub mod Steps

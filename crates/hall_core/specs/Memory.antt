@@ -1,25 +1,39 @@
 -- What a hall in memory shows of itself.
-use Rattle.std.specs.Prelude.{◌≡◌, ◌↔◌, ◌⊎◌, ℕ, ◌+◌, ◌-◌, ◌^◌, ◌<◌, ◌≤◌, min, List, length, slice_index, Contains, Result, IsErrOf}
-use Rattle.std.proofs.Common.{ap, subst, sym, ◌∙◌}
-use Rattle.std.proofs.lemmas.List.{length-map, get_or-map}
-use Rattle.hall_core.specs.Facts.{Attached, Facts, unit_of}
-use Rattle.hall_core.specs.Files.{File, Meaning, AreWhole, file_of}
-use Rattle.hall_core.specs.Held.{files_of, file_at, attached_as, units_at}
+use Rattle.std.specs.Prelude.{◌≡◌, ◌↔◌, ◌⊎◌, ℕ, ◌+◌, ◌-◌, ◌^◌, ◌<◌, ◌≤◌, min, List, [], ◌∷◌, ◌++◌, length, take, Contains, Result, IsErrOf}
+use Rattle.hall_core.specs.Facts.{Facts}
+use Rattle.hall_core.specs.Files.{File}
+use Rattle.hall_core.specs.Moments.{Meaning}
+use Rattle.hall_core.specs.History.{Event, Disk, new_disk, after_all, meaning_after}
+use Rattle.hall_core.specs.Held.{files_of, first_pairs, shapes_of, units_at}
+use Rattle.hall_core.specs.Replay.{events_at}
 use Rattle.hall_core.specs.declared.hall.HallErr.{HallErr}
 use Rattle.hall_core.specs.declared.hall.HallErr.TheVariants.{Failed, Memory}
+use Rattle.hall_core.specs.declared.mem_hall.step.Call.{Call}
 use Rattle.hall_core.specs.declared.mem_hall.MemHall.{MemHall}
 
 -- the files that it was given
-abbrev pub files_held : MemHall → List File
-files_held hall = files_of hall.files.items
-
--- the files, and the bytes printed so far
-abbrev pub meaning_of : MemHall → Meaning
-meaning_of hall = record { files = files_held hall; printed = hall.printed.items }
+abbrev pub first_files : MemHall → List File
+first_files hall = files_of (first_pairs hall.first hall.files.items)
 
 -- the units, and the counts of faults
 abbrev pub facts_of : MemHall → Facts
-facts_of hall = record { units = units_at (files_held hall) hall.units.items; dev_faults = hall.dev_faults; print_faults = hall.print_faults }
+facts_of hall = record { units = units_at (shapes_of (files_of hall.files.items)) hall.units.items; references = []; dev_faults = hall.dev_faults; print_faults = hall.print_faults }
+
+-- what its calls did
+abbrev pub events_of : MemHall → List Event
+events_of hall = events_at (facts_of hall).units hall.written.items hall.printed.items hall.steps.items
+
+-- what it holds
+abbrev pub meaning_of : MemHall → Meaning (List File)
+meaning_of hall = meaning_after (first_files hall) (events_of hall)
+
+-- the disk at a moment: before the call of this number
+abbrev pub disk_at : MemHall → ℕ → Disk
+disk_at hall moment = after_all (new_disk (first_files hall)) (take moment (events_of hall))
+
+-- the record of its calls
+abbrev pub calls_of : MemHall → List Call
+calls_of hall = hall.calls.items
 
 -- the numbers of the calls that are to fail
 abbrev pub failing_calls : MemHall → List ℕ
@@ -27,7 +41,7 @@ failing_calls hall = hall.fails.items
 
 -- how many calls were numbered
 abbrev pub number_of_calls : MemHall → ℕ
-number_of_calls hall = hall.next_call
+number_of_calls hall = length (calls_of hall)
 
 -- for how many further calls there is room
 abbrev pub calls_left : MemHall → ℕ
@@ -41,56 +55,52 @@ bytes_left hall = hall.room_bytes
 abbrev pub LacksRoom : MemHall → ℕ → Type 0
 LacksRoom hall bytes = (calls_left hall ≡ 0) ⊎ (bytes_left hall < bytes)
 
+-- there is room for a call that uses so many bytes
+pub record HasRoom (hall : MemHall) (used : ℕ) : Type 0 where
+  pub calls : 0 < calls_left hall
+  pub bytes : used ≤ bytes_left hall
+
 -- the next call that is numbered is to fail
 abbrev pub NextCallFails : MemHall → Type 0
 NextCallFails hall = Contains (failing_calls hall) (number_of_calls hall)
 
--- the room stays, and no call is numbered
+-- the room stays
 pub record KeepsRoom (old new : MemHall) : Type 0 where
-  pub number : number_of_calls new ≡ number_of_calls old
   pub calls : calls_left new ≡ calls_left old
   pub bytes : bytes_left new ≡ bytes_left old
 
--- one call is numbered, and uses one call of the room and so many bytes of it
-pub record UsesRoom (used : ℕ) (old new : MemHall) : Type 0 where
-  pub number : number_of_calls new ≡ number_of_calls old + 1
-  pub calls : calls_left new + 1 ≡ calls_left old
-  pub bytes : bytes_left new + used ≡ bytes_left old
+-- no call was put on the record, and none did anything
+pub record KeepsRecord (old new : MemHall) : Type 0 where
+  pub calls : calls_of new ≡ calls_of old
+  pub events : events_of new ≡ events_of old
 
 -- what the hall was made with stays
 pub record KeepsSetup (old new : MemHall) : Type 0 where
-  pub files : files_held new ≡ files_held old
+  pub first : first_files new ≡ first_files old
   pub failing : failing_calls new ≡ failing_calls old
 
 -- all but the room stays
 pub record KeepsAllButRoom (old new : MemHall) : Type 0 where
   pub setup : KeepsSetup old new
-  pub meaning : meaning_of new ≡ meaning_of old
+  pub record_of_calls : KeepsRecord old new
   pub facts : facts_of new ≡ facts_of old
-  pub number : number_of_calls new ≡ number_of_calls old
 
--- How a call that uses so many bytes goes: it fails exactly where there is too little room or its number is to fail; with room it is numbered and uses the room, and without it isn't.
-pub record IsExactCall {T : Type 0} (used : ℕ) (old new : MemHall) (result : Result T HallErr) : Type 0 where
+-- this call was put on the record and did this, and it used one call of the room and so many bytes of it
+pub record Records (used : ℕ) (call : Call) (event : Event) (old new : MemHall) : Type 0 where
+  pub calls : calls_of new ≡ calls_of old ++ call ∷ []
+  pub events : events_of new ≡ events_of old ++ event ∷ []
+  pub room_calls : calls_left new + 1 ≡ calls_left old
+  pub room_bytes : bytes_left new + used ≡ bytes_left old
+
+-- How a call that uses so many bytes goes: it fails exactly where there is too little room or its number is to fail; with room it is put on the record and uses the room, and without it does neither.
+pub record IsExactCall {T : Type 0} (used : ℕ) (call : Call) (event : Event) (old new : MemHall) (result : Result T HallErr) : Type 0 where
   pub failed : IsErrOf result Failed ↔ (LacksRoom old used ⊎ NextCallFails old)
   pub memory : ¬ IsErrOf result Memory
-  pub lacking : LacksRoom old used → KeepsRoom old new
-  pub room : 0 < calls_left old → used ≤ bytes_left old → UsesRoom used old new
+  pub lacking : LacksRoom old used → KeepsRoom old new × KeepsRecord old new
+  pub room : HasRoom old used → Records used call event old new
   pub setup : KeepsSetup old new
 
 -- a count grows by one where the call failed, unless it stands at its type's end, and stays where it didn't
 pub record CountsFailure {T : Type 0} (before now : ℕ) (result : Result T HallErr) : Type 0 where
   pub failed : IsErrOf result Failed → now ≡ min (before + 1) (2 ^ 64 - 1)
   pub others : ¬ IsErrOf result Failed → now ≡ before
-
--- each unit of a hall in memory is a file, of the unit's size
-pub whole_units : (hall : MemHall) → AreWhole (meaning_of hall).files (facts_of hall).units
-whole_units hall k low =
-    let files = files_held hall in
-    let places = hall.units.items in
-    let unit_at : ℕ → Attached = λ place. attached_as (file_at files place) in
-    let inside : k < length places = subst (λ (n : ℕ). k < n) (length-map places unit_at) low in
-    let unit : unit_of (units_at files places) k ≡ unit_at (slice_index places k) = get_or-map unit_at places k 0 _ inside in (
-      (file_at files (slice_index places k)).bytes,
-      ap (λ (u : Attached). file_of files u.name) unit ∙ (hall.first k inside).1,
-      ap (λ (u : Attached). u.size) (sym unit),
-    )

@@ -1,7 +1,8 @@
 //! The trait of the outside, which a device and a test fixture implement alike.
-ghost use Rattle.std.specs.Prelude.{◌≡◌, ◌+◌, ◌<◌, ◌≤◌, Bool, length, IsTrue, OnOk, IfErr, ◌-◌, ◌^◌, min};
-ghost use Rattle.hall_core.specs.Facts.{Facts, unit_of, IsAttached, DeviceCall, PrintCall, AttachCall};
-ghost use Rattle.hall_core.specs.Files.{Meaning, HasBytesAt, AreWhole, Attaches, Prints};
+ghost use Rattle.std.specs.Prelude.{◌≡◌, ◌+◌, ◌<◌, ◌≤◌, ◌∷◌, ℕ, List, Bool, length, IsTrue, IsFalse, OnOk, IfErr, ◌-◌, ◌^◌, min};
+ghost use Rattle.hall_core.specs.Facts.{Facts, unit_of, IsAttached, DeviceCall, NotedCall, PrintCall, AttachCall, Rose};
+ghost use Rattle.hall_core.specs.Moments.{Meaning, LeftNow, Same};
+ghost use Rattle.hall_core.specs.Files.{File, HasBytesAt, AreWhole, Attaches, AfterWrite, AfterSync, AfterPrint};
 
 /// Why a call failed.
 #[derive(Clone, Copy, Debug, PartialEq, Eq)]
@@ -27,16 +28,21 @@ pub fn fault(count: &mut u64) -> HallErr
 
 /// Files that are attached as units, numbered from 0, and a place to print on.
 ///
+/// Writes are pending until a sync is done. A stop leaves the files as of the last sync that was done,
+/// with any of the writes since then, in their order; each such write is whole or absent. Of a print
+/// that it catches it leaves a prefix. So it is known call by call what a stop may leave, now or at
+/// any moment since an earlier one.
+///
 /// A real device can't tell what it holds; clauses on content hold where `tells` is true. What
 /// `facts` tells is always known.
 pub trait Hall {
     /// Whether the hall tells what it holds.
     ghost tells: { Bool };
 
-    /// What it holds, where it tells.
-    ghost meaning: { Self → Meaning };
+    /// What it holds, where it tells: the files as they are read, and what a stop leaves of them.
+    ghost meaning: { Self → Meaning (List File) };
 
-    /// Its units and its counts of faults.
+    /// Its units, which hall it is, and its counts of faults.
     ghost facts: { Self → Facts };
 
     /// Attaches a file as the next unit.
@@ -60,8 +66,26 @@ pub trait Hall {
     fn read(&mut self, unit: u8, at: u64, buf: &mut [u8]) -> Result<(), HallErr>
         requires attached { unit < length (facts self.old).units }
         requires inside { at + length buf.old ≤ (unit_of (facts self.old).units unit).size }
-        ensures bytes { IsTrue tells → OnOk result (HasBytesAt (meaning self.old).files (unit_of (facts self.old).units unit).name at buf.new) }
-        ensures told { IsTrue tells → meaning self.new ≡ meaning self.old }
+        ensures bytes { IsTrue tells → OnOk result (HasBytesAt (meaning self.old).state (unit_of (facts self.old).units unit).name at buf.new) }
+        ensures told { IsTrue tells → Same (meaning self.old) (meaning self.new) }
+        ensures call { DeviceCall (facts self.old) (facts self.new) result }
+        ensures error { IfErr result (λ e. e ≡ HallErr.Failed) };
+
+    /// Writes the bytes over those of the unit, from the offset `at` on.
+    ///
+    /// The write is pending until a sync is done, also after an error.
+    fn write(&mut self, unit: u8, at: u64, bytes: &[u8]) -> Result<(), HallErr>
+        requires attached { unit < length (facts self.old).units }
+        requires inside { at + length bytes.now ≤ (unit_of (facts self.old).units unit).size }
+        ensures told { IsTrue tells → AfterWrite (unit_of (facts self.old).units unit).name at bytes.now (meaning self.old) (meaning self.new) result }
+        ensures call { DeviceCall (facts self.old) (facts self.new) result }
+        ensures error { IfErr result (λ e. e ≡ HallErr.Failed) };
+
+    /// Makes the writes to all units durable.
+    ///
+    /// After an error they are pending as before.
+    fn sync(&mut self) -> Result<(), HallErr>
+        ensures told { IsTrue tells → AfterSync (meaning self.old) (meaning self.new) result }
         ensures call { DeviceCall (facts self.old) (facts self.new) result }
         ensures error { IfErr result (λ e. e ≡ HallErr.Failed) };
 
@@ -69,12 +93,33 @@ pub trait Hall {
     ///
     /// After an error a prefix of them is printed.
     fn print(&mut self, bytes: &[u8]) -> Result<(), HallErr>
-        ensures told { IsTrue tells → Prints bytes.now (meaning self.old) (meaning self.new) result }
+        ensures told { IsTrue tells → AfterPrint bytes.now (meaning self.old) (meaning self.new) result }
         ensures call { PrintCall (facts self.old) (facts self.new) result }
         ensures error { IfErr result (λ e. e ≡ HallErr.Failed) };
 
+    /// Notes that a track of a unit isn't as it was read before, or can't be as it is read.
+    ///
+    /// A hall that tells what it holds never comes to that, and nothing changes; for any other it is
+    /// a fault of the device. The track is counted from 0 over the unit.
+    fn differs(&mut self, unit: u8, track: u16)
+        requires { unit < length (facts self.old).units }
+        ensures rose { IsFalse tells → Rose (facts self.old).dev_faults (facts self.new).dev_faults }
+        ensures call { NotedCall (facts self.old) (facts self.new) }
+        ensures told { IsTrue tells → Same (meaning self.old) (meaning self.new) }
+        ensures clock { IsTrue tells → (meaning self.new).clock ≡ (meaning self.old).clock }
+        ensures facts { IsTrue tells → facts self.new ≡ facts self.old };
+
+    /// A stop may leave the files as they are read.
+    ghost leaves_state: { (h : Self) → (meaning h).left (meaning h).state };
+
+    /// What a stop leaves now, one since any earlier moment may have left.
+    ghost counts_now: { (h : Self) (t : ℕ) (j : List File) → t ≤ (meaning h).clock → (meaning h).left j → (meaning h).left_since t j (meaning h).printed };
+
+    /// Since this moment there is no other.
+    ghost only_now: { (h : Self) (j : List File) (p : List ℕ) → (meaning h).left_since (meaning h).clock j p → LeftNow (meaning h) j p };
+
     /// Each unit is a file, of the unit's size.
-    ghost whole: { (h : Self) → IsTrue tells → AreWhole (meaning h).files (facts h).units };
+    ghost whole: { (h : Self) → IsTrue tells → AreWhole (meaning h).state (facts h).units };
 }
 
 impl<H: Hall> Hall for &mut H {
@@ -82,7 +127,13 @@ impl<H: Hall> Hall for &mut H {
 
     ghost meaning = { λ h. H.meaning h.now };
 
-    ghost facts = { λ h. H.facts h.now };
+    ghost facts = { λ h. record (H.facts h.now) { references = h.ghost_name ∷ (H.facts h.now).references } };
+
+    ghost leaves_state = { λ h. H.leaves_state h.now };
+
+    ghost counts_now = { λ h. H.counts_now h.now };
+
+    ghost only_now = { λ h. H.only_now h.now };
 
     ghost whole = { λ h. H.whole h.now };
 
@@ -98,7 +149,19 @@ impl<H: Hall> Hall for &mut H {
         (**self).read(unit, at, buf)
     }
 
+    fn write(&mut self, unit: u8, at: u64, bytes: &[u8]) -> Result<(), HallErr> {
+        (**self).write(unit, at, bytes)
+    }
+
+    fn sync(&mut self) -> Result<(), HallErr> {
+        (**self).sync()
+    }
+
     fn print(&mut self, bytes: &[u8]) -> Result<(), HallErr> {
         (**self).print(bytes)
+    }
+
+    fn differs(&mut self, unit: u8, track: u16) {
+        (**self).differs(unit, track)
     }
 }

@@ -1,76 +1,95 @@
 //! A hall in memory, for tests of what stands on the trait.
-ghost use Rattle.std.specs.Prelude.{◌≡◌, ℕ, ◌+◌, ◌-◌, ◌^◌, min, ◌<◌, ◌≤◌, Bool, true, length, map, take, drop, MatchOption, vec_len, vec_capacity};
-ghost use Rattle.hall_core.specs.Files.{file_of};
-ghost use Rattle.hall_core.specs.Held.{files_of, file_at, IsFirst, AreFirst};
+ghost use Rattle.std.specs.Prelude.{◌≡◌, ℕ, ◌+◌, ◌-◌, ◌^◌, min, ◌<◌, ◌≤◌, Bool, true, length, vec_len, vec_capacity};
+ghost use Rattle.std.specs.Option.{ForNone};
+ghost use Rattle.hall_core.specs.Held.{files_of, first_pairs};
+ghost use Rattle.hall_core.specs.Replay.{IsReplay};
+
+mod note;
+mod pairs;
+mod replay;
+mod step;
 
 use crate::hall::{Hall, HallErr, fault};
+use note::{append, note, plain_step};
+use pairs::{copy_at, copy_of, first_named, write_file};
+use replay::{apply_done, apply_kept, pending_from, text_printed};
 use std::alloc::{AllocError, Global};
+pub use step::Call;
+use step::Step;
+
+/// What a stop leaves of a hall in memory: its files, each a name and its bytes, and what was printed.
+#[derive(Debug, Drop)]
+pub struct Left {
+    pub files: Vec<(String, Vec<u8>)>,
+    pub printed: Vec<u8>,
+}
 
 /// A hall in memory, which tells what it holds and fails where it is told to.
 ///
-/// Each call of `attach`, `read` and `print` uses one of the calls that there is room for, and of
-/// the bytes as many as the name that it attaches or the text that it prints has. A call for which
-/// there is too little room answers `Failed`, raises its count of faults and does nothing else.
-/// None takes memory, so none answers `Memory`.
+/// It keeps the record of its calls of `attach`, `read`, `write`, `sync` and `print`. Each uses one
+/// of the calls that there is room for, and of the bytes as many as the name that it attaches or the
+/// slice that it writes or prints has. A call for which there is too little room answers `Failed`,
+/// raises its count of faults and does nothing else. None takes memory, so none answers `Memory`.
+///
+/// A write that fails leaves what is read as it was, and is pending; a sync that fails leaves the
+/// pending writes; a print that fails prints nothing.
 #[derive(Debug, Drop)]
 pub struct MemHall {
+    alloc: Global,
     files: Vec<(String, Vec<u8>)>,
+    first: Option<Vec<(String, Vec<u8>)>>,
     units: Vec<usize>,
+    calls: Vec<Call>,
+    steps: Vec<Step>,
+    written: Vec<u8>,
     printed: Vec<u8>,
     fails: Vec<u64>,
-    next_call: u64,
     room_calls: u64,
     room_bytes: u64,
     dev_faults: u64,
     print_faults: u64,
-    ghost first: { AreFirst (files_of files.items) units.items },
-    ghost numbers: { next_call + room_calls < 2 ^ 64 },
+    ghost replay: { IsReplay (files_of (first_pairs first files.items)) (files_of files.items) units.items steps.items written.items printed.items },
+    ghost numbers: { vec_len calls ≡ vec_len steps },
+    ghost copied: { ForNone first (room_calls ≡ 0) },
     ghost units_room: { vec_len units + room_calls ≤ vec_capacity units },
+    ghost calls_room: { vec_len calls + room_calls ≤ vec_capacity calls },
+    ghost steps_room: { vec_len steps + room_calls ≤ vec_capacity steps },
+    ghost written_room: { vec_len written + room_bytes ≤ vec_capacity written },
     ghost printed_room: { vec_len printed + room_bytes ≤ vec_capacity printed },
 }
 
-// The place of the first file of this name.
-fn first_named(files: &[(String, Vec<u8>)], name: &str) -> Option<usize>
-    ensures { MatchOption result (file_of (files_of files.now) name.now ≡ None) (λ place. IsFirst (files_of files.now) place × ((file_at (files_of files.now) place).name ≡ name.now)) }
-{
-    for (place, file) in files.iter().enumerate() {
-        if file.0.as_str() == name {
-            return Some(place);
-        }
-    }
-    None
-}
-
-// Fills the buffer with the bytes from an offset on.
-fn copy_at(image: &[u8], at: usize, buf: &mut [u8])
-    requires { at + length buf.old ≤ length image.now }
-    ensures { buf.new ≡ take (length buf.new) (drop at image.now) }
-{
-    buf.copy_from_slice(&image[at..at + buf.len()]);
-}
-
 impl MemHall {
-    ghost use Rattle.std.specs.Prelude.{List, [], OnOk, OnErr, ◌⊎◌, ◌↔◌, false};
-    ghost use Rattle.hall_core.specs.Memory.{files_held, meaning_of, facts_of, failing_calls, number_of_calls, calls_left, bytes_left, LacksRoom, NextCallFails, KeepsRoom, UsesRoom, KeepsAllButRoom};
+    ghost use Rattle.std.specs.Prelude.{List, [], ◌∷◌, ◌++◌, take, Some, None, OnOk, OnErr, IfOk, MatchOption, IsTrue, ◌⊎◌, ◌↔◌, false, if◌then◌else◌};
+    ghost use Rattle.hall_core.specs.Facts.{unit_of};
+    ghost use Rattle.hall_core.specs.Files.{File, file_of, written};
+    ghost use Rattle.hall_core.specs.Held.{shapes_of, IsFirst};
+    ghost use Rattle.hall_core.specs.History.{Event, wrote, synced, printed, passed, Disk, new_disk, after_all, with_writes, kept, MayLeave, MayLeaveAt};
+    ghost use Rattle.hall_core.specs.Replay.{event_of};
+    ghost use Rattle.hall_core.specs.Memory.{first_files, events_of, meaning_of, facts_of, calls_of, failing_calls, number_of_calls, calls_left, bytes_left, LacksRoom, HasRoom, NextCallFails, KeepsRoom, KeepsSetup, KeepsAllButRoom, KeepsRecord, Records, disk_at};
 
     /// A hall that holds these files, each a name and its bytes, and has room for nothing.
     ///
     /// Of files of one name the first counts. `fails` are the numbers of the calls that are to
-    /// fail: calls that find room are numbered from 0, over `attach`, `read` and `print`.
+    /// fail: calls that find room are numbered from 0.
     pub fn new(alloc: Global, files: Vec<(String, Vec<u8>)>, fails: Vec<u64>) -> MemHall
-        ensures meaning { meaning_of result ≡ record { files = files_of files.items; printed = [] } }
-        ensures facts { facts_of result ≡ record { units = []; dev_faults = 0; print_faults = 0 } }
+        ensures first { first_files result ≡ files_of files.items }
+        ensures events { events_of result ≡ [] }
+        ensures record_of_calls { calls_of result ≡ [] }
+        ensures facts { facts_of result ≡ record { units = []; references = []; dev_faults = 0; print_faults = 0 } }
         ensures failing { failing_calls result ≡ fails.items }
-        ensures number { number_of_calls result ≡ 0 }
         ensures calls { calls_left result ≡ 0 }
         ensures bytes { bytes_left result ≡ 0 }
     {
         MemHall {
+            alloc,
             files,
+            first: None,
             units: Vec::new(alloc),
+            calls: Vec::new(alloc),
+            steps: Vec::new(alloc),
+            written: Vec::new(alloc),
             printed: Vec::new(alloc),
             fails,
-            next_call: 0,
             room_calls: 0,
             room_bytes: 0,
             dev_faults: 0,
@@ -80,8 +99,7 @@ impl MemHall {
 
     /// Makes room for so many further calls and bytes, beside the room that is left.
     ///
-    /// An error comes where memory runs out, also where the room or the number of the last call
-    /// that it is for would be above 2^64 - 1.
+    /// An error comes where memory runs out, also where the room would be above 2^64 - 1.
     pub fn room(&mut self, calls: u64, bytes: u64) -> Result<(), AllocError>
         ensures calls { OnOk result (calls_left self.new ≡ calls_left self.old + calls) }
         ensures bytes { OnOk result (bytes_left self.new ≡ bytes_left self.old + bytes) }
@@ -90,17 +108,30 @@ impl MemHall {
     {
         let all_calls = self.room_calls.checked_add(calls).ok_or(AllocError)?;
         let all_bytes = self.room_bytes.checked_add(bytes).ok_or(AllocError)?;
-        self.next_call.checked_add(all_calls).ok_or(AllocError)?;
         self.units.reserve(all_calls as usize)?;
+        self.calls.reserve(all_calls as usize)?;
+        self.steps.reserve(all_calls as usize)?;
+        self.written.reserve(all_bytes as usize)?;
         self.printed.reserve(all_bytes as usize)?;
+        if self.first.is_none() {
+            self.first = Some(copy_of(self.alloc, &self.files)?);
+        }
         self.room_calls = all_calls;
         self.room_bytes = all_bytes;
         Ok(())
     }
 
-    /// The bytes of the first file of this name.
+    /// The record of the calls, each at its number.
+    pub fn calls(&self) -> &[Call]
+        ensures record_of_calls { result.now ≡ calls_of self.now }
+        ensures number { length result.now ≡ (meaning_of self.now).clock }
+    {
+        self.calls.as_slice()
+    }
+
+    /// The bytes of the first file of this name, as they are read.
     pub fn image(&self, name: &str) -> Option<&[u8]>
-        ensures { MatchOption result (file_of (files_held self.now) name.now ≡ None) (λ image. file_of (files_held self.now) name.now ≡ Some image.now) }
+        ensures { MatchOption result (file_of (meaning_of self.now).state name.now ≡ None) (λ image. file_of (meaning_of self.now).state name.now ≡ Some image.now) }
     {
         let place = first_named(&self.files, name)?;
         Some(self.files[place].1.as_slice())
@@ -113,41 +144,145 @@ impl MemHall {
         self.printed.as_slice()
     }
 
-    // Whether a call that uses so many bytes goes on. Where there is room, it is numbered and uses it.
-    fn admits(&mut self, bytes: usize) -> bool
-        ensures failed { (result ≡ false) ↔ (LacksRoom self.old bytes ⊎ NextCallFails self.old) }
-        ensures lacking { LacksRoom self.old bytes → KeepsRoom self.old self.new }
-        ensures room { 0 < calls_left self.old → bytes ≤ bytes_left self.old → UsesRoom bytes self.old self.new }
+    /// What a stop leaves at a moment, that is before the call of this number or at the beginning of
+    /// it, where the i-th flag says whether the i-th write that is pending then is kept.
+    ///
+    /// A missing flag counts as false. A moment past the last call is now.
+    pub fn left_at(&self, moment: u64, keep: &[bool]) -> Result<Left, AllocError>
+        ensures files { IfOk result (λ left. files_of left.files.items ≡ with_writes (disk_at self.now moment).stable (kept keep.now (disk_at self.now moment).pending)) }
+        ensures text { IfOk result (λ left. left.printed.items ≡ (disk_at self.now moment).text) }
+        ensures left { IfOk result (λ left. MayLeaveAt (first_files self.now) (events_of self.now) moment (files_of left.files.items) left.printed.items) }
+        ensures since { IfOk result (λ left. moment ≤ (meaning_of self.now).clock → (meaning_of self.now).left_since moment (files_of left.files.items) left.printed.items) }
+        ensures every { IfOk result (λ left. (j : List File) → MayLeave (disk_at self.now moment) j → (flags : List Bool) × (keep.now ≡ flags → files_of left.files.items ≡ j)) }
+    {
+        let end = self.steps.len().min(moment as usize);
+        let steps = &self.steps[..end];
+        let from = pending_from(steps);
+        let mut files = copy_of(self.alloc, self.first_files())?;
+        apply_done(&mut files, &steps[..from], &self.units, &self.written);
+        apply_kept(&mut files, &steps[from..], &self.units, &self.written, keep);
+        let printed = text_printed(self.alloc, steps, &self.printed)?;
+        Ok(Left { files, printed })
+    }
+
+    // The files as first given.
+    fn first_files(&self) -> &[(String, Vec<u8>)]
+        ensures { result.now ≡ first_pairs self.now.first self.now.files.items }
+    {
+        match &self.first {
+            Some(first) => first.as_slice(),
+            None => self.files.as_slice(),
+        }
+    }
+
+    // Whether there is too little room for a call that uses so many bytes.
+    fn lacks_room(&self, bytes: usize) -> bool
+        ensures { IsTrue result ↔ LacksRoom self.now bytes }
+    {
+        self.room_calls == 0 || self.room_bytes < bytes as u64
+    }
+
+    // Whether the next call that finds room is to fail.
+    fn next_fails(&self) -> bool
+        ensures { IsTrue result ↔ NextCallFails self.now }
+    {
+        self.fails.contains(&(self.calls.len() as u64))
+    }
+
+    // Puts a call on the record that made a sync, or did nothing that stays.
+    fn record_plain(&mut self, used: usize, call: Call, is_sync: bool)
+        requires { HasRoom self.old used }
+        ensures noted { Records used call (if is_sync then synced else passed) self.old self.new }
+        ensures setup { KeepsSetup self.old self.new }
+        ensures facts { facts_of self.new ≡ facts_of self.old }
         ensures files { self.new.files ≡ self.old.files }
         ensures units { self.new.units ≡ self.old.units }
-        ensures printed { self.new.printed ≡ self.old.printed }
-        ensures fails { self.new.fails ≡ self.old.fails }
-        ensures devices { self.new.dev_faults ≡ self.old.dev_faults }
-        ensures prints { self.new.print_faults ≡ self.old.print_faults }
     {
-        let used = bytes as u64;
-        if self.room_calls == 0 || self.room_bytes < used {
-            return false;
-        }
-        let fails = self.fails.contains(&self.next_call);
-        self.next_call += 1;
+        note(&mut self.calls, &mut self.steps, call, plain_step(is_sync));
         self.room_calls -= 1;
-        self.room_bytes -= used;
-        !fails
+        self.room_bytes -= used as u64;
+    }
+
+    // Makes a write, and puts it on the record; one that isn't done stays unread.
+    fn record_write(&mut self, unit: u8, at: u64, bytes: &[u8], is_done: bool)
+        requires room { HasRoom self.old (length bytes.now) }
+        requires attached { unit < length (facts_of self.old).units }
+        requires inside { at + length bytes.now ≤ (unit_of (facts_of self.old).units unit).size }
+        ensures noted { Records (length bytes.now) (Call.Write unit at) (wrote (record { name = (unit_of (facts_of self.old).units unit).name; at = at; bytes = bytes.now; is_done = is_done })) self.old self.new }
+        ensures setup { KeepsSetup self.old self.new }
+        ensures facts { facts_of self.new ≡ facts_of self.old }
+    {
+        write_file(
+            &mut self.files,
+            self.units[unit as usize],
+            at as usize,
+            bytes,
+            is_done,
+        );
+        let start = append(&mut self.written, bytes);
+        let step = Step::Write {
+            unit,
+            at: at as usize,
+            start,
+            len: bytes.len(),
+            is_done,
+        };
+        let call = Call::Write { unit, at };
+        note(&mut self.calls, &mut self.steps, call, step);
+        self.room_calls -= 1;
+        self.room_bytes -= bytes.len() as u64;
+    }
+
+    // Makes a print, and puts it on the record.
+    fn record_print(&mut self, bytes: &[u8])
+        requires { HasRoom self.old (length bytes.now) }
+        ensures noted { Records (length bytes.now) Call.Print (printed bytes.now) self.old self.new }
+        ensures setup { KeepsSetup self.old self.new }
+        ensures facts { facts_of self.new ≡ facts_of self.old }
+    {
+        let start = append(&mut self.printed, bytes);
+        let step = Step::Print {
+            start,
+            len: bytes.len(),
+        };
+        note(&mut self.calls, &mut self.steps, Call::Print, step);
+        self.room_calls -= 1;
+        self.room_bytes -= bytes.len() as u64;
+    }
+
+    // Attaches the file at a place as the next unit, where there is memory for it.
+    fn add_unit(&mut self, place: usize)
+        requires first { IsFirst (shapes_of (files_of self.old.files.items)) place }
+        requires room { vec_len self.old.units + self.old.room_calls < vec_capacity self.old.units }
+        ensures facts { facts_of self.new ≡ record (facts_of self.old) { units = (facts_of self.old).units ++ unit_of (shapes_of (files_of self.old.files.items)) place ∷ [] } }
+        ensures setup { KeepsSetup self.old self.new }
+        ensures room_left { KeepsRoom self.old self.new }
+        ensures noted { KeepsRecord self.old self.new }
+    {
+        self.units.push(place).unwrap();
     }
 }
 
 impl Hall for MemHall {
-    ghost use Rattle.std.specs.Prelude.{OnOk, OnErr, IfErr, IsErrOf};
-    ghost use Rattle.hall_core.specs.Facts.{unit_of, IsAttached, DeviceCall, PrintCall, AttachCall};
-    ghost use Rattle.hall_core.specs.Files.{HasBytesAt, Attaches, Prints};
-    ghost use Rattle.hall_core.specs.Memory.{files_held, meaning_of, facts_of, IsExactCall, CountsFailure, whole_units};
+    ghost use Rattle.std.specs.Prelude.{List, [], ◌∷◌, OnOk, OnErr, IfErr, IsErrOf, None, is_ok, if◌then◌else◌};
+    ghost use Rattle.hall_core.specs.Facts.{unit_of, IsAttached, DeviceCall, PrintCall, AttachCall, NotedCall};
+    ghost use Rattle.hall_core.specs.Files.{file_of, HasBytesAt, Attaches, AfterWrite, AfterSync, AfterPrint};
+    ghost use Rattle.hall_core.specs.Moments.{Same};
+    ghost use Rattle.hall_core.specs.History.{wrote, synced, printed, passed};
+    ghost use Rattle.hall_core.specs.Memory.{first_files, events_of, meaning_of, facts_of, IsExactCall, CountsFailure};
+    ghost use Rattle.hall_core.specs.Laws.{leaves_state as state_left, counts_now as now_counted, only_now as none_since, whole_units};
 
     ghost tells = { true };
 
     ghost meaning = { λ hall. meaning_of hall };
 
     ghost facts = { λ hall. facts_of hall };
+
+    ghost leaves_state = { λ hall. state_left hall };
+
+    ghost counts_now = { λ hall t j before left. now_counted hall t j before left };
+
+    ghost only_now = { λ hall j p left. none_since hall j p left };
 
     ghost whole = { λ hall told. whole_units hall };
 
@@ -156,18 +291,23 @@ impl Hall for MemHall {
         requires once { ¬ IsAttached (facts_of self.old).units name.now }
         ensures told { Attaches name.now (meaning_of self.old) (meaning_of self.new) result }
         ensures call { AttachCall name.now (facts_of self.old) (facts_of self.new) result }
-        ensures exact { IsExactCall (length name.now) self.old self.new result }
+        ensures exact { IsExactCall (length name.now) Call.Attach passed self.old self.new result }
         ensures count { CountsFailure (facts_of self.old).dev_faults (facts_of self.new).dev_faults result }
-        ensures missing { ¬ IsErrOf result HallErr.Failed → file_of (files_held self.old) name.now ≡ None → result ≡ Err HallErr.Missing }
+        ensures missing { ¬ IsErrOf result HallErr.Failed → file_of (meaning_of self.old).state name.now ≡ None → result ≡ Err HallErr.Missing }
     {
-        if !self.admits(name.len()) {
+        if self.lacks_room(name.len()) {
+            return Err(fault(&mut self.dev_faults));
+        }
+        let fails = self.next_fails();
+        self.record_plain(name.len(), Call::Attach, false);
+        if fails {
             return Err(fault(&mut self.dev_faults));
         }
         let Some(place) = first_named(&self.files, name) else {
             return Err(HallErr::Missing);
         };
         let unit = self.units.len() as u8;
-        self.units.push(place).unwrap();
+        self.add_unit(place);
         Ok(unit)
     }
 
@@ -178,35 +318,84 @@ impl Hall for MemHall {
     fn read(&mut self, unit: u8, at: u64, buf: &mut [u8]) -> Result<(), HallErr>
         requires attached { unit < length (facts_of self.old).units }
         requires inside { at + length buf.old ≤ (unit_of (facts_of self.old).units unit).size }
-        ensures bytes { OnOk result (HasBytesAt (meaning_of self.old).files (unit_of (facts_of self.old).units unit).name at buf.new) }
-        ensures told { meaning_of self.new ≡ meaning_of self.old }
+        ensures bytes { OnOk result (HasBytesAt (meaning_of self.old).state (unit_of (facts_of self.old).units unit).name at buf.new) }
+        ensures told { Same (meaning_of self.old) (meaning_of self.new) }
         ensures call { DeviceCall (facts_of self.old) (facts_of self.new) result }
         ensures error { IfErr result (λ e. e ≡ HallErr.Failed) }
-        ensures exact { IsExactCall 0 self.old self.new result }
+        ensures exact { IsExactCall 0 (Call.Read unit at) passed self.old self.new result }
         ensures count { CountsFailure (facts_of self.old).dev_faults (facts_of self.new).dev_faults result }
         ensures kept { OnErr result (buf.new ≡ buf.old) }
     {
-        if !self.admits(0) {
+        if self.lacks_room(0) {
+            return Err(fault(&mut self.dev_faults));
+        }
+        let fails = self.next_fails();
+        self.record_plain(0, Call::Read { unit, at }, false);
+        if fails {
             return Err(fault(&mut self.dev_faults));
         }
         copy_at(&self.files[self.units[unit as usize]].1, at as usize, buf);
         Ok(())
     }
 
-    fn print(&mut self, bytes: &[u8]) -> Result<(), HallErr>
-        ensures told { Prints bytes.now (meaning_of self.old) (meaning_of self.new) result }
-        ensures call { PrintCall (facts_of self.old) (facts_of self.new) result }
+    fn write(&mut self, unit: u8, at: u64, bytes: &[u8]) -> Result<(), HallErr>
+        requires attached { unit < length (facts_of self.old).units }
+        requires inside { at + length bytes.now ≤ (unit_of (facts_of self.old).units unit).size }
+        ensures told { AfterWrite (unit_of (facts_of self.old).units unit).name at bytes.now (meaning_of self.old) (meaning_of self.new) result }
+        ensures call { DeviceCall (facts_of self.old) (facts_of self.new) result }
         ensures error { IfErr result (λ e. e ≡ HallErr.Failed) }
-        ensures exact { IsExactCall (length bytes.now) self.old self.new result }
-        ensures count { CountsFailure (facts_of self.old).print_faults (facts_of self.new).print_faults result }
-        ensures nothing { OnErr result (meaning_of self.new ≡ meaning_of self.old) }
+        ensures exact { IsExactCall (length bytes.now) (Call.Write unit at) (wrote (record { name = (unit_of (facts_of self.old).units unit).name; at = at; bytes = bytes.now; is_done = is_ok result })) self.old self.new result }
+        ensures count { CountsFailure (facts_of self.old).dev_faults (facts_of self.new).dev_faults result }
     {
-        if !self.admits(bytes.len()) {
-            return Err(fault(&mut self.print_faults));
+        if self.lacks_room(bytes.len()) {
+            return Err(fault(&mut self.dev_faults));
         }
-        self.printed.extend_from_slice(bytes).unwrap();
+        if self.next_fails() {
+            self.record_write(unit, at, bytes, false);
+            return Err(fault(&mut self.dev_faults));
+        }
+        self.record_write(unit, at, bytes, true);
         Ok(())
     }
+
+    fn sync(&mut self) -> Result<(), HallErr>
+        ensures told { AfterSync (meaning_of self.old) (meaning_of self.new) result }
+        ensures call { DeviceCall (facts_of self.old) (facts_of self.new) result }
+        ensures error { IfErr result (λ e. e ≡ HallErr.Failed) }
+        ensures exact { IsExactCall 0 Call.Sync (if is_ok result then synced else passed) self.old self.new result }
+        ensures count { CountsFailure (facts_of self.old).dev_faults (facts_of self.new).dev_faults result }
+    {
+        if self.lacks_room(0) {
+            return Err(fault(&mut self.dev_faults));
+        }
+        if self.next_fails() {
+            self.record_plain(0, Call::Sync, false);
+            return Err(fault(&mut self.dev_faults));
+        }
+        self.record_plain(0, Call::Sync, true);
+        Ok(())
+    }
+
+    fn print(&mut self, bytes: &[u8]) -> Result<(), HallErr>
+        ensures told { AfterPrint bytes.now (meaning_of self.old) (meaning_of self.new) result }
+        ensures call { PrintCall (facts_of self.old) (facts_of self.new) result }
+        ensures error { IfErr result (λ e. e ≡ HallErr.Failed) }
+        ensures exact { IsExactCall (length bytes.now) Call.Print (if is_ok result then printed bytes.now else passed) self.old self.new result }
+        ensures count { CountsFailure (facts_of self.old).print_faults (facts_of self.new).print_faults result }
+        ensures nothing { OnErr result ((meaning_of self.new).printed ≡ (meaning_of self.old).printed) }
+    {
+        if self.lacks_room(bytes.len()) {
+            return Err(fault(&mut self.print_faults));
+        }
+        if self.next_fails() {
+            self.record_plain(bytes.len(), Call::Print, false);
+            return Err(fault(&mut self.print_faults));
+        }
+        self.record_print(bytes);
+        Ok(())
+    }
+
+    fn differs(&mut self, unit: u8, track: u16) {}
 }
 
 #[cfg(test)]

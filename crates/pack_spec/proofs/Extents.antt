@@ -101,7 +101,7 @@ length-records_on image g track xs e =
     length-records_to_end 255 1 (drop 21 bytes) xs (taken (is_front (track / heads_of g) (track % heads_of g) bytes) _ xs e)
 
 -- at most 255 slots stand on a track
-length-slots_on : (image : List ℕ) (g : Geometry) (track : ℕ) (slots : List (List ℕ)) → slots_on image g track ≡ Some slots → length slots ≤ 255
+pub length-slots_on : (image : List ℕ) (g : Geometry) (track : ℕ) (slots : List (List ℕ)) → slots_on image g track ≡ Some slots → length slots ≤ 255
 unfolding slots_on
 length-slots_on image g track slots e =
     option_and_then_some slots_in (records_on image g None track) slots e (λ xs found are.

@@ -4,3 +4,7 @@ pub mod Labels
 pub mod SlotParts
 pub mod Extents
 pub mod Faults
+pub mod FirstFaults
+pub mod TrackSlots
+pub mod InOrder
+pub mod Volumes

@@ -1,6 +1,9 @@
 pub mod Label
 pub mod Vtoc
 pub mod Names
+pub mod Slots
+pub mod Faults
+pub mod Volume
 pub mod Views
 pub use Rattle.ckd_image.specs.Header
 pub use Rattle.ckd_image.specs.Device

@@ -5,6 +5,8 @@ use Rattle.ckd_image.specs.Track.{Record}
 use Rattle.pack_spec.specs.declared.MountErr.{MountErr}
 use Rattle.pack_spec.specs.declared.NamesErr.{NamesErr}
 use Rattle.pack_spec.specs.declared.NamesErr.TheVariants.{Refused, Memory}
+use Rattle.pack_spec.specs.declared.VolumeErr.{VolumeErr}
+use Rattle.pack_spec.specs.declared.VolumeErr.TheVariants as volumes
 use Rattle.pack_spec.specs.declared.track.Record as held
 use Rattle.pack_spec.specs.declared.label.Address as places
 use Rattle.pack_spec.specs.declared.vtoc.Run as extents
@@ -32,3 +34,8 @@ abbrev pub Answers : {A X : Type 0} → (X → A) → Result A MountErr → Resu
 Answers view meant (Ok x) = meant ≡ Ok (view x)
 Answers view meant (Err (Refused e)) = meant ≡ Err e
 Answers view meant (Err Memory) = Unit {0}
+
+-- why there is no volume, where the label or the VTOC isn't found
+abbrev pub volume_err_of : NamesErr → VolumeErr
+volume_err_of (Refused e) = volumes.Refused e
+volume_err_of Memory = volumes.Memory

@@ -37,7 +37,7 @@ fn later_fault(slots: &[Slot]) -> Option<MountErr>
 }
 
 // The rule that a slot behind slot 0 breaks.
-fn slot_fault(number: u32, slot: &Slot) -> Option<MountErr>
+pub(crate) fn slot_fault(number: u32, slot: &Slot) -> Option<MountErr>
     ensures { result ≡ slot_fault number (refusal_of slot.now) (format_byte slot.now) }
 {
     match decode(slot) {

@@ -65,7 +65,7 @@ impl Address {
 }
 
 // The number in two bytes at an offset.
-fn halfword_at(bytes: &[u8], at: usize) -> u16
+pub(crate) fn halfword_at(bytes: &[u8], at: usize) -> u16
     requires { at + 2 ≤ length bytes.now }
     ensures { result ≡ from_be_bytes w16 (slice_range bytes.now at (at + 2)) }
 {

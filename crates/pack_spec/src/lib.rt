@@ -1,22 +1,41 @@
 //! What the image of a pack stands for: definitions, and a plain program that follows them.
 #![tactic(auto)]
 
-ghost use Rattle.std.specs.Prelude.{◌≡◌, ◌≤◌, List, ℕ, Ok, Err, IfOk, length, take};
+ghost use Rattle.std.specs.Prelude.{◌≡◌, ◌≤◌, List, [], ℕ, Ok, Err, IfOk, length, slice_range, take, unwrap_or};
 ghost use Rattle.ckd_image.specs.Header.{HasGeometry, geometry_of};
+ghost use Rattle.pack_spec.specs.Label.{label_of};
+ghost use Rattle.pack_spec.specs.Vtoc.{vtoc_of};
 ghost use Rattle.pack_spec.specs.Names.{names_of, IsListing};
+ghost use Rattle.pack_spec.specs.Views.{volume_err_of};
+ghost use Rattle.pack_spec.specs.Volume.{volume_of, volume_within};
 ghost use Rattle.pack_spec.specs.declared.MountErr.{MountErr};
 ghost use Rattle.pack_spec.specs.declared.NamesErr.TheVariants.{Memory};
 
+mod addressed;
 mod dscbs;
 mod label;
+mod rules;
+mod set_extents;
+mod sets;
 mod slots;
 mod track;
 mod vtoc;
 
+use crate::addressed::slots_of_vtoc;
 use crate::dscbs::{names_in, slots_fault};
+use crate::label::label;
+use crate::rules::first_fault;
+use crate::sets::data_sets_in_order;
 use crate::slots::slots_of;
+use crate::vtoc::vtoc;
+pub use addressed::VtocSlot;
 use ckd_image::{Geometry, Header, ImageErr};
+use ebcdic_names::Serial;
 use std::alloc::{AllocError, Global};
+use vol_model::{DataSets, Run, Volume};
+
+// Where the serial stands in the data of the label.
+const SERIAL_AT: usize = 4;
 
 /// The first rule of mounting that an image breaks, in this order.
 #[derive(Clone, Copy, Debug, PartialEq, Eq)]
@@ -38,6 +57,8 @@ pub enum MountErr {
     },
     /// Slot 0 isn't of format 4, or isn't there.
     NoFormat4,
+    /// Slot 1 is neither of format 5 nor of format 0, or isn't there.
+    NoFormat5,
     /// A slot of no known format, or a format 4 behind slot 0. A zero format byte is format 0 where
     /// each byte of the slot is zero.
     BadDscb {
@@ -53,6 +74,31 @@ pub enum MountErr {
         slot: u32,
         /// Its format byte.
         byte: u8,
+    },
+    /// An extent of a data set has a type that isn't supported: one of the three in its format 1 has
+    /// another than X'00', X'01' and X'81', or one that is counted another than X'01' and X'81'.
+    UnsupportedExtent {
+        /// The slot of its format 1, counted from 0 over the VTOC, below 65,535.
+        slot: u32,
+    },
+    /// A data set counts more than 16 extents, or one that is counted leaves the image or ends before it
+    /// begins.
+    BadExtent {
+        /// The slot of its format 1, counted from 0 over the VTOC, below 65,535.
+        slot: u32,
+    },
+    /// A data set counts more than three extents, and its pointer leads to no format 3, or to one to
+    /// which a data set of a lower slot leads.
+    BadChain {
+        /// The slot of its format 1, counted from 0 over the VTOC, below 65,535.
+        slot: u32,
+    },
+    /// The name of a data set stands in an earlier slot.
+    DuplicateName {
+        /// The lowest slot, counted from 0 over the VTOC, whose name does.
+        slot: u32,
+        /// The lowest earlier slot of that name.
+        other: u32,
     },
 }
 
@@ -70,6 +116,36 @@ impl From<AllocError> for NamesErr {
 
     fn from(_e: AllocError) -> NamesErr {
         NamesErr::Memory
+    }
+}
+
+/// Why there is no volume.
+#[derive(Clone, Copy, Debug, PartialEq, Eq)]
+pub enum VolumeErr {
+    /// The image breaks a rule of mounting.
+    Refused(MountErr),
+    /// Memory ran out, which says nothing of the image.
+    Memory,
+}
+
+impl From<NamesErr> for VolumeErr {
+    ghost from_gives = { λ e given. given ≡ volume_err_of e };
+
+    fn from(e: NamesErr) -> VolumeErr {
+        match e {
+            NamesErr::Refused(fault) => VolumeErr::Refused(fault),
+            NamesErr::Memory => VolumeErr::Memory,
+        }
+    }
+}
+
+impl From<AllocError> for VolumeErr {
+    ghost use Rattle.pack_spec.specs.declared.VolumeErr.{VolumeErr};
+
+    ghost from_gives = { λ _ e. e ≡ VolumeErr.Memory };
+
+    fn from(_e: AllocError) -> VolumeErr {
+        VolumeErr::Memory
     }
 }
 
@@ -94,6 +170,64 @@ pub fn names(alloc: Global, image: &[u8]) -> Result<Vec<[u8; 44]>, NamesErr>
     let mut names = names_in(alloc, &slots)?;
     names.sort()?;
     Ok(names)
+}
+
+/// The volume that an image which lies in memory stands for, without the content of its data sets: the
+/// body of each is `Other`, and there is no catalog.
+///
+/// It is `Refused` with the first rule of mounting that the image breaks. This is written for its
+/// plainness, and to compare faster readers with: it holds all records of a track and all slots of the
+/// VTOC in memory, and goes over all slots for each of them.
+#[tactic(auto, unfolding(crate::specs::Volume::volume_of))]
+pub fn volume(alloc: Global, image: &[u8]) -> Result<Volume, VolumeErr>
+    ensures volume { IfOk result (λ volume. volume_of image.now ≡ Ok volume) }
+    ensures refused { (e : MountErr) → result ≡ Err (VolumeErr.Refused e) → volume_of image.now ≡ Err e }
+{
+    match geometry_of(image) {
+        Ok(geometry) => volume_on(alloc, image, geometry),
+        Err(fault) => Err(VolumeErr::Refused(MountErr::Image(fault))),
+    }
+}
+
+// The volume of an image with this geometry.
+fn volume_on(alloc: Global, image: &[u8], geometry: Geometry) -> Result<Volume, VolumeErr>
+    requires { HasGeometry (length image.now) geometry }
+    ensures volume { IfOk result (λ volume. volume_within image.now geometry (vtoc_of image.now geometry) ≡ Ok volume) }
+    ensures refused { (e : MountErr) → result ≡ Err (VolumeErr.Refused e) → volume_within image.now geometry (vtoc_of image.now geometry) ≡ Err e }
+{
+    let serial = serial(alloc, image, geometry)?;
+    let vtoc = vtoc(alloc, image, geometry)?;
+    let slots = slots_of_vtoc(alloc, image, geometry, vtoc)?;
+    if let Some(fault) = first_fault(alloc, geometry, &slots)? {
+        return Err(VolumeErr::Refused(fault));
+    }
+    let sets = data_sets_in_order(alloc, geometry, &slots)?;
+    Ok(Volume {
+        serial,
+        geometry,
+        vtoc: Run {
+            start: vtoc.start,
+            len: vtoc.len,
+        },
+        slots: slots.len() as u32,
+        sets: DataSets::from_vec(sets),
+        catalog: None,
+    })
+}
+
+// The serial in the volume label.
+#[tactic(auto, unfolding(crate::specs::Vtoc::vtoc_of, crate::specs::Vtoc::vtoc_at))]
+fn serial(alloc: Global, image: &[u8], geometry: Geometry) -> Result<Serial, VolumeErr>
+    requires { HasGeometry (length image.now) geometry }
+    ensures serial { IfOk result (λ serial. serial.bytes ≡ slice_range (unwrap_or (label_of image.now geometry) []) 4 10) }
+    ensures refused { (e : MountErr) → result ≡ Err (VolumeErr.Refused e) → vtoc_of image.now geometry ≡ Err e }
+{
+    let Some(label) = label(alloc, image, geometry)? else {
+        return Err(VolumeErr::Refused(MountErr::NoLabel));
+    };
+    let mut bytes = [0; 6];
+    bytes.copy_from_slice(&label[SERIAL_AT..SERIAL_AT + 6]);
+    Ok(Serial { bytes })
 }
 
 // The geometry that the header and the length of an image give.

@@ -60,7 +60,7 @@ fn slots_within(
 
 // The slots on a track; nothing where it breaks the grammar, or has a record that is no slot.
 #[tactic(auto, unfolding(crate::specs::Vtoc::slots_on))]
-fn slots_on(
+pub(crate) fn slots_on(
     alloc: Global,
     image: &[u8],
     geometry: Geometry,

@@ -5,7 +5,7 @@ use Rattle.std.proofs.lemmas.Bool.Decides.{nat_tests}
 use Rattle.ckd_image.specs.declared.header.ImageErr.TheVariants.{BadMagic}
 use Rattle.ckd_image.specs.Header.{geometry_of}
 use Rattle.hall_core.specs.Facts.{Facts, Attached, unit_of}
-use Rattle.hall_core.specs.Files.{File, Meaning, file_of, HasBytesAt, AreWhole, image_of}
+use Rattle.hall_core.specs.Files.{File, file_of, HasBytesAt, AreWhole, image_of}
 
 -- an image is as long as its unit
 pub image_length : (files : List File) (units : List Attached) (unit : ℕ) → AreWhole files units → unit < length units → length (unwrap_or (file_of files (unit_of units unit).name) []) ≡ (unit_of units unit).size
@@ -29,5 +29,5 @@ pub part_read : (image bytes : List ℕ) (at at' size : ℕ) → bytes ≡ take 
 part_read image bytes at at' size is long same = is ∙ ap (λ (n : ℕ). take n (drop at image)) long ∙ ap (λ (n : ℕ). take size (drop n image)) same
 
 -- the image of a unit stays while files and units do
-pub same_image : (m m0 : Meaning) (f f0 : Facts) (unit : ℕ) → m ≡ m0 → f.units ≡ f0.units → image_of m f unit ≡ image_of m0 f0 unit
-same_image m m0 f f0 unit files units = ap (λ (x : Meaning). image_of x f unit) files ∙ ap (λ (u : List Attached). unwrap_or (file_of m0.files (unit_of u unit).name) []) units
+pub same_image : (files files0 : List File) (f f0 : Facts) (unit : ℕ) → files ≡ files0 → f.units ≡ f0.units → image_of files f unit ≡ image_of files0 f0 unit
+same_image files files0 f f0 unit same units = ap (λ (x : List File). image_of x f unit) same ∙ ap (λ (u : List Attached). unwrap_or (file_of files0 (unit_of u unit).name) []) units

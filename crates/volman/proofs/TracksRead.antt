@@ -4,7 +4,8 @@ use Rattle.std.specs.Prelude.{Result, Ok, Err, IsErrOf, IsTrue, Bool}
 use Rattle.std.proofs.lemmas.List.{append-nil}
 use Rattle.ckd_image.specs.declared.header.Geometry.{Geometry}
 use Rattle.hall_core.specs.Facts.{Facts}
-use Rattle.hall_core.specs.Files.{Meaning}
+use Rattle.hall_core.specs.Files.{File}
+use Rattle.hall_core.specs.Moments.{Meaning, Same}
 use Rattle.pack_spec.specs.declared.MountErr.{MountErr}
 use Rattle.pack_spec.specs.declared.MountErr.TheVariants.{VtocTrack}
 use Rattle.pack_spec.specs.Vtoc.{slots_on, slots_from, slots_and}
@@ -24,11 +25,12 @@ pub record TracksDone (image : List ℕ) (g : Geometry) (start end number : ℕ)
   pub others : slots_from image g start (end - start) ≡ behind slots (slots_from image g number (end - number))
 
 -- what a loop over tracks keeps
-pub record KeepsReading (tells : Bool) (f0 f : Facts) (m0 m : Meaning) (image : List ℕ) (g : Geometry) (start end number : ℕ) (old new : List (List ℕ)) : Type 0 where
+pub record KeepsReading (tells : Bool) (f0 f : Facts) (m0 m : Meaning (List File)) (image : List ℕ) (g : Geometry) (start end number : ℕ) (old new : List (List ℕ)) : Type 0 where
   pub units : f.units ≡ f0.units
+  pub references : f.references ≡ f0.references
   pub prints : f.print_faults ≡ f0.print_faults
   pub later : f0.dev_faults ≤ f.dev_faults
-  pub told : IsTrue tells → m ≡ m0
+  pub told : IsTrue tells → Same m0 m
   pub done : IsTrue tells → TracksDone image g start end number old new
 
 behind_none : (r : Result (List (List ℕ)) MountErr) → r ≡ behind [] r

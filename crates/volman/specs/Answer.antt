@@ -1,8 +1,8 @@
 -- What the program answers: a status and a text, by its words and the files.
-use Rattle.std.specs.Prelude.{◌≡◌, ℕ, ◌-◌, ◌==◌, ◌&&◌, not, Bool, List, [], ◌∷◌, ◌++◌, map, take, length, codes, false, Option, Some, None, Result, Ok, Err, if◌then◌else◌}
-use Rattle.std.specs.List.{flat_map, suffix_len}
+use Rattle.std.specs.Prelude.{◌≡◌, ℕ, ◌==◌, ◌&&◌, not, Bool, List, [], ◌∷◌, ◌++◌, codes, false, Option, Some, None, Result, Ok, Err, if◌then◌else◌}
+use Rattle.std.specs.List.{flat_map}
 use Rattle.std.specs.Str.{bytes_eq}
-use Rattle.ebcdic_names.specs.CodePage.{ascii_of}
+use Rattle.ebcdic_names.specs.Names.{shown}
 use Rattle.hall_core.specs.Files.{File, file_of}
 use Rattle.pack_spec.specs.declared.MountErr.{MountErr}
 use Rattle.pack_spec.specs.Names.{names_of, IsListing}
@@ -29,13 +29,9 @@ words_line = line (codes "VOLMAN WORDS")
 unfoldable pub unit_line : List ℕ → List ℕ → List ℕ
 unit_line file reason = line (codes "VOLMAN UNIT " ++ file ++ codes " " ++ reason)
 
--- a name without the blanks behind it
-abbrev pub trimmed : List ℕ → List ℕ
-trimmed name = take (length name - suffix_len (λ b. b == 0x40) name) name
-
--- a name on a line of its own, in ASCII
+-- a name on a line of its own, in ASCII and without the blanks behind it
 unfoldable pub name_line : List ℕ → List ℕ
-name_line name = line (map ascii_of (trimmed name))
+name_line name = line (shown name)
 
 -- the names, a line each
 unfoldable pub listing : List (List ℕ) → List ℕ

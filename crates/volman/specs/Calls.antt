@@ -11,9 +11,10 @@ pub record IsPack (units : List Attached) (unit : ℕ) (g : Geometry) : Type 0 w
   pub attached : unit < length units
   pub whole : HasGeometry (unit_of units unit).size g
 
--- Calls that read: units and prints stay, and a fault of the device is reported only where its count rose.
+-- Calls that read: units, references and prints stay, and a fault of the device is reported only where its count rose.
 pub record ReadCall {T : Type 0} (old new : Facts) (result : Result T ReadErr) : Type 0 where
   pub units : new.units ≡ old.units
+  pub references : new.references ≡ old.references
   pub prints : new.print_faults ≡ old.print_faults
   pub later : old.dev_faults ≤ new.dev_faults
   pub device : IsErrOf result Device → Rose old.dev_faults new.dev_faults

@@ -7,6 +7,7 @@ mod names;
 mod pack;
 mod records;
 mod status;
+mod std_cards;
 mod text;
 mod top;
 mod track_content;
@@ -19,18 +20,22 @@ use status::Status;
 use std::alloc::AllocError;
 use std::env;
 use std::fs::{File, Files};
-use std::io::{ErrorKind, Print};
+use std::io::{ErrorKind, Input, Print};
 use std::process::ExitCode;
 use std::rt::Env;
+use std_cards::StdCards;
 
 fn main(rt: HostRuntime) -> ExitCode {
     ExitCode::from(run(&rt))
 }
 
-// Runs the program over the command line, the files of the system and the standard output.
-fn run<R: Files<File = File> + Print + Env + AllocGlobal>(rt: &R) -> u8 {
+// Runs the program over the command line, the standard input, the files of the system and the
+// standard output.
+fn run<R: Files<File = File> + Input + Print + Env + AllocGlobal>(rt: &R) -> u8 {
+    let mut cards = StdCards::new(rt.reader());
+    let mut hall = FileHall::new(rt.alloc(), rt);
     match command_line(rt) {
-        Ok(words) => top::volman(rt.alloc(), &words, &mut FileHall::new(rt.alloc(), rt)),
+        Ok(words) => top::volman(rt.alloc(), &words, &mut cards, &mut hall),
         Err(AllocError) => Status::Memory.code(),
     }
 }

@@ -6,6 +6,7 @@ ghost use Rattle.pack_spec.specs.Label.{address_at, is_inside, label_of, track_o
 ghost use Rattle.pack_spec.specs.Names.{names_of};
 ghost use Rattle.pack_spec.specs.Vtoc.{slots_from, slots_of, slots_within};
 ghost use Rattle.hall_core.specs.Files.{image_of};
+ghost use Rattle.hall_core.specs.Moments.{Same};
 ghost use Rattle.volman.specs.Calls.{IsPack, ReadCall, Reads};
 ghost use Rattle.volman.specs.Slots.{Finds, FirstIsRead, AddsAll, vtoc_on};
 ghost use Rattle.volman.specs.Views.{address_of};
@@ -30,8 +31,8 @@ fn read_label<H: Hall>(
 ) -> Result<Address, ReadErr>
     requires pack { IsPack (H.facts hall.old).units unit geometry }
     requires room { length track.old ≡ geometry.track_size }
-    ensures read { IsTrue H.tells → Finds address_of (option_map (address_at 11) (label_of (image_of (H.meaning hall.old) (H.facts hall.old) unit) geometry)) result }
-    ensures told { IsTrue H.tells → H.meaning hall.new ≡ H.meaning hall.old }
+    ensures read { IsTrue H.tells → Finds address_of (option_map (address_at 11) (label_of (image_of (H.meaning hall.old).state (H.facts hall.old) unit) geometry)) result }
+    ensures told { IsTrue H.tells → Same (H.meaning hall.old) (H.meaning hall.new) }
     ensures call { ReadCall (H.facts hall.old) (H.facts hall.new) result }
 {
     read_track(hall, unit, geometry, 0, track)?;
@@ -51,9 +52,9 @@ fn read_first<H: Hall>(
     requires pack { IsPack (H.facts hall.old).units unit geometry }
     requires room { length track.old ≡ geometry.track_size }
     requires begins { is_inside geometry (address_of begin) ≡ true }
-    ensures read { IsTrue H.tells → FirstIsRead (image_of (H.meaning hall.old) (H.facts hall.old) unit) geometry (address_of begin) slots.old.items slots.new.items result }
+    ensures read { IsTrue H.tells → FirstIsRead (image_of (H.meaning hall.old).state (H.facts hall.old) unit) geometry (address_of begin) slots.old.items slots.new.items result }
     ensures inside { IfOk result (λ n. (1 ≤ n) × (track_of_address geometry (address_of begin) + n ≤ geometry.cylinders * (row_of geometry.device).heads)) }
-    ensures told { IsTrue H.tells → H.meaning hall.new ≡ H.meaning hall.old }
+    ensures told { IsTrue H.tells → Same (H.meaning hall.old) (H.meaning hall.new) }
     ensures call { ReadCall (H.facts hall.old) (H.facts hall.new) result }
 {
     let first = track_at(geometry, begin);
@@ -76,8 +77,8 @@ fn read_others<H: Hall>(
     requires pack { IsPack (H.facts hall.old).units unit geometry }
     requires room { length track.old ≡ geometry.track_size }
     requires inside { tracks.end ≤ geometry.cylinders * (row_of geometry.device).heads }
-    ensures read { IsTrue H.tells → AddsAll (slots_from (image_of (H.meaning hall.old) (H.facts hall.old) unit) geometry tracks.start (tracks.end - tracks.start)) slots.old.items slots.new.items result }
-    ensures told { IsTrue H.tells → H.meaning hall.new ≡ H.meaning hall.old }
+    ensures read { IsTrue H.tells → AddsAll (slots_from (image_of (H.meaning hall.old).state (H.facts hall.old) unit) geometry tracks.start (tracks.end - tracks.start)) slots.old.items slots.new.items result }
+    ensures told { IsTrue H.tells → Same (H.meaning hall.old) (H.meaning hall.new) }
     ensures call { ReadCall (H.facts hall.old) (H.facts hall.new) result }
 {
     let Range { start, end } = tracks;
@@ -89,6 +90,7 @@ fn read_others<H: Hall>(
 }
 
 // Reads the tracks of the VTOC that begins at an address of the pack, one after another into `track`.
+#[tactic(auto, using(hall_core::proofs::MomentLemmas::same_then))]
 fn read_vtoc<H: Hall>(
     alloc: Global,
     hall: &mut H,
@@ -100,8 +102,8 @@ fn read_vtoc<H: Hall>(
     requires pack { IsPack (H.facts hall.old).units unit geometry }
     requires room { length track.old ≡ geometry.track_size }
     requires begins { is_inside geometry (address_of begin) ≡ true }
-    ensures read { let image = image_of (H.meaning hall.old) (H.facts hall.old) unit in IsTrue H.tells → Reads (λ slots. slots.items) (slots_within image geometry (vtoc_on image geometry (address_of begin))) result }
-    ensures told { IsTrue H.tells → H.meaning hall.new ≡ H.meaning hall.old }
+    ensures read { let image = image_of (H.meaning hall.old).state (H.facts hall.old) unit in IsTrue H.tells → Reads (λ slots. slots.items) (slots_within image geometry (vtoc_on image geometry (address_of begin))) result }
+    ensures told { IsTrue H.tells → Same (H.meaning hall.old) (H.meaning hall.new) }
     ensures call { ReadCall (H.facts hall.old) (H.facts hall.new) result }
 {
     let mut slots = Vec::new(alloc);
@@ -120,6 +122,7 @@ fn read_vtoc<H: Hall>(
 }
 
 // Reads the label and the VTOC of a pack, one track after another into `track`.
+#[tactic(auto, using(hall_core::proofs::MomentLemmas::same_then))]
 fn read_slots<H: Hall>(
     alloc: Global,
     hall: &mut H,
@@ -129,8 +132,8 @@ fn read_slots<H: Hall>(
 ) -> Result<Vec<Slot>, ReadErr>
     requires pack { IsPack (H.facts hall.old).units unit geometry }
     requires room { length track.old ≡ geometry.track_size }
-    ensures read { IsTrue H.tells → Reads (λ slots. slots.items) (slots_of (image_of (H.meaning hall.old) (H.facts hall.old) unit) geometry) result }
-    ensures told { IsTrue H.tells → H.meaning hall.new ≡ H.meaning hall.old }
+    ensures read { IsTrue H.tells → Reads (λ slots. slots.items) (slots_of (image_of (H.meaning hall.old).state (H.facts hall.old) unit) geometry) result }
+    ensures told { IsTrue H.tells → Same (H.meaning hall.old) (H.meaning hall.new) }
     ensures call { ReadCall (H.facts hall.old) (H.facts hall.new) result }
 {
     let begin = read_label(alloc, hall, unit, geometry, track)?;
@@ -143,10 +146,11 @@ fn read_slots<H: Hall>(
 /// The names of the data sets on a unit, in the order of the VTOC's slots.
 ///
 /// The header, the label's track and each track of the VTOC are read once, in this order.
+#[tactic(auto, using(hall_core::proofs::MomentLemmas::same_then))]
 pub fn read_names<H: Hall>(alloc: Global, hall: &mut H, unit: u8) -> Result<Vec<Name>, ReadErr>
     requires { unit < length (H.facts hall.old).units }
-    ensures read { IsTrue H.tells → Reads (λ names. names.items) (names_of (image_of (H.meaning hall.old) (H.facts hall.old) unit)) result }
-    ensures told { IsTrue H.tells → H.meaning hall.new ≡ H.meaning hall.old }
+    ensures read { IsTrue H.tells → Reads (λ names. names.items) (names_of (image_of (H.meaning hall.old).state (H.facts hall.old) unit)) result }
+    ensures told { IsTrue H.tells → Same (H.meaning hall.old) (H.meaning hall.new) }
     ensures call { ReadCall (H.facts hall.old) (H.facts hall.new) result }
 {
     let geometry = read_geometry(hall, unit)?;

@@ -7,7 +7,7 @@ mod packs;
 
 use crate::top::volman;
 use ckd_image::ImageErr;
-use hall_core::MemHall;
+use hall_core::{Call, MemCards, MemHall};
 use pack_spec::{MountErr, NamesErr, names};
 use packs::{A_B, A1, AB, BROKEN, SMALL, Slot, Z9, pack, padded};
 use std::alloc::{AllocError, Global};
@@ -68,7 +68,7 @@ fn hall_with(alloc: Global, image: &[u8], limits: Limits) -> Result<MemHall, All
     Ok(hall)
 }
 
-// The status that these words end with.
+// The status that these words end with, where the source of cards fails at its first read.
 fn status(alloc: Global, words: &[&str], hall: &mut MemHall) -> Result<u8, AllocError>
     requires { (facts_of hall.old).units ≡ [] }
 {
@@ -76,7 +76,10 @@ fn status(alloc: Global, words: &[&str], hall: &mut MemHall) -> Result<u8, Alloc
     for word in words {
         owned.push(String::from_str(alloc, word)?)?;
     }
-    Ok(volman(alloc, &owned, hall))
+    let mut fails = Vec::new(alloc);
+    fails.push(0)?;
+    let mut cards = MemCards::new(Vec::new(alloc), fails);
+    Ok(volman(alloc, &owned, &mut cards, hall))
 }
 
 #[test]
@@ -184,10 +187,33 @@ fn files_that_are_no_images_are_refused(rt: HostRuntime) -> Result<(), Fail> {
     Ok(())
 }
 
-// The calls are to attach, to read the header, the label's track and each track of the VTOC, and to
-// print.
+// The calls for a VTOC on the tracks 9 and 10, and on 9 to 13, of 4096 bytes each behind the header of
+// 512: to attach, to read the header, the label's track and each track of the VTOC, and to print. None
+// writes, and none makes anything durable.
+const TWO_TRACKS_READ: &[Call] = &[
+    Call::Attach,
+    Call::Read { unit: 0, at: 0 },
+    Call::Read { unit: 0, at: 512 },
+    Call::Read { unit: 0, at: 37376 },
+    Call::Read { unit: 0, at: 41472 },
+    Call::Print,
+];
+
+const FIVE_TRACKS_READ: &[Call] = &[
+    Call::Attach,
+    Call::Read { unit: 0, at: 0 },
+    Call::Read { unit: 0, at: 512 },
+    Call::Read { unit: 0, at: 37376 },
+    Call::Read { unit: 0, at: 41472 },
+    Call::Read { unit: 0, at: 45568 },
+    Call::Read { unit: 0, at: 49664 },
+    Call::Read { unit: 0, at: 53760 },
+    Call::Print,
+];
+
+// What fails is on the record too, and nothing is called behind it.
 #[test]
-fn each_track_is_read_once(rt: HostRuntime) -> Result<(), Fail> {
+fn each_track_is_read_once_and_nothing_is_written(rt: HostRuntime) -> Result<(), Fail> {
     let five_tracks: &[&[Slot]] = &[
         &[Slot::F5],
         &[Slot::F1(PAYROLL_MASTER)],
@@ -195,21 +221,23 @@ fn each_track_is_read_once(rt: HostRuntime) -> Result<(), Fail> {
         &[],
         &[Slot::F0, Slot::F1(SYS1_MACLIB)],
     ];
-    for (vtoc, last) in [(TWO_SETS, 5), (five_tracks, 8)] {
+    for (vtoc, calls) in [(TWO_SETS, TWO_TRACKS_READ), (five_tracks, FIVE_TRACKS_READ)] {
         let image = pack(rt.alloc(), vtoc)?;
-        for call in 0..last + 2 {
+        for failing in 0..calls.len() + 1 {
             let limits = Limits {
-                fail: Some(call),
+                fail: Some(failing as u64),
                 ..AMPLE
             };
             let mut hall = hall_with(rt.alloc(), &image, limits)?;
-            let (code, printed) = match call.cmp(&last) {
+            let (code, printed) = match (failing + 1).cmp(&calls.len()) {
                 Ordering::Less => (22, b"".as_slice()),
                 Ordering::Equal => (24, b"".as_slice()),
                 Ordering::Greater => (0, TWO_SETS_LISTING),
             };
             assert_eq!(rt; status(rt.alloc(), NAMES, &mut hall)?, code, "{limits:?}");
             assert_eq!(rt; hall.printed(), printed, "{limits:?}");
+            let made = (failing + 1).min(calls.len());
+            assert_eq!(rt; hall.calls(), &calls[..made], "{limits:?}");
         }
     }
     Ok(())

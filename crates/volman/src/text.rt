@@ -1,8 +1,8 @@
 //! The texts that the program prints.
 ghost use Rattle.std.specs.Prelude.{◌≡◌, ◌++◌, List, ℕ, IfOk, OnOk};
-ghost use Rattle.volman.specs.Answer.{words_line, unit_line, name_line, listing, trimmed};
+ghost use Rattle.volman.specs.Answer.{words_line, unit_line, name_line, listing};
 
-use ebcdic_names::to_ascii;
+use ebcdic_names::{to_ascii, without_blanks};
 use std::alloc::{AllocError, Global};
 
 /// Where the words are refused.
@@ -34,27 +34,13 @@ pub fn listing(alloc: Global, names: &[[u8; 44]]) -> Result<Vec<u8>, AllocError>
 }
 
 // Adds a name and the end of its line.
-#[tactic(auto, unfolding(crate::specs::Answer::name_line))]
+#[tactic(auto, unfolding(crate::specs::Answer::name_line, ebcdic_names::specs::Names::shown))]
 fn push_name(text: &mut Vec<u8>, name: &[u8]) -> Result<(), AllocError>
     ensures { OnOk result (text.new.items ≡ text.old.items ++ name_line name.now) }
 {
-    for byte in trimmed(name) {
+    for byte in without_blanks(name) {
         text.push(to_ascii(*byte))?;
     }
     text.push(b'\n')?;
     Ok(())
-}
-
-// A blank in EBCDIC.
-const BLANK: u8 = 0x40;
-
-// The name without the blanks behind it.
-fn trimmed(name: &[u8]) -> &[u8]
-    ensures { result.now ≡ trimmed name.now }
-{
-    let mut end = name.len();
-    while end > 0 && name[end - 1] == BLANK {
-        end -= 1;
-    }
-    &name[..end]
 }

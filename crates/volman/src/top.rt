@@ -2,9 +2,10 @@
 ghost use Rattle.std.specs.Prelude.{◌≡◌, ◌≤◌, ◌⊎◌, [], ◌++◌, List, ℕ, map, string_bytes, IsTrue, IsErrOf, OnOk, IfOk, IfErr, None};
 ghost use Rattle.hall_core.specs.Facts.{Rose};
 ghost use Rattle.hall_core.specs.Files.{file_of};
+ghost use Rattle.hall_core.specs.Moments.{Elapses, LeavesSame, Same};
 ghost use Rattle.pack_spec.specs.Names.{IsListing};
 ghost use Rattle.volman.specs.Answer.{IsAnswerOn, file_named, listing, unit_line};
-ghost use Rattle.volman.specs.Run.{Ends, PrintsFront, PrintsText, Later, IsCode, code_of};
+ghost use Rattle.volman.specs.Run.{Ends, PrintsFront, PrintsText, StopLeaves, Later, AttachesAtMost, AttachesNamed, IsCode, code_of};
 
 use crate::names::Name;
 use crate::pack::read_names;
@@ -12,7 +13,7 @@ use crate::status::Status;
 use crate::text::{WORDS_LINE, listing, unit_line};
 use crate::tracks::ReadErr;
 use crate::words::file_named;
-use hall_core::{Hall, HallErr};
+use hall_core::{Cards, Hall, HallErr};
 use std::alloc::Global;
 
 // What is to be printed, and the status once it is.
@@ -35,7 +36,7 @@ enum Failure {
 /// ends.
 ///
 /// The words are those of the command line, the program's name first. `names FILE` prints the names of
-/// the data sets on a pack, in the order of their EBCDIC bytes, a line each.
+/// the data sets on a pack, in the order of their EBCDIC bytes, a line each. It reads no cards.
 ///
 /// | status | where | printed |
 /// |---|---|---|
@@ -45,7 +46,7 @@ enum Failure {
 /// | 22 | the device failed | nothing more |
 /// | 24 | the printer failed | nothing more |
 /// | 25 | memory ran out | nothing more |
-pub fn volman<H: Hall>(alloc: Global, words: &[String], hall: &mut H) -> u8
+pub fn volman<C: Cards, H: Hall>(alloc: Global, words: &[String], cards: &mut C, hall: &mut H) -> u8
     requires { (H.facts hall.old).units ≡ [] }
 
     // With a status up to 21 it is the right one, and the right text was printed.
@@ -53,7 +54,12 @@ pub fn volman<H: Hall>(alloc: Global, words: &[String], hall: &mut H) -> u8
 
     // Whatever the status, nothing was printed, or a front of the right text; and the files stay.
     ensures front { IsTrue H.tells → PrintsFront (map string_bytes words.now) (H.meaning hall.old) (H.meaning hall.new) }
-    ensures files { IsTrue H.tells → (H.meaning hall.new).files ≡ (H.meaning hall.old).files }
+    ensures files { IsTrue H.tells → (H.meaning hall.new).state ≡ (H.meaning hall.old).state }
+
+    // A stop at any moment of the call leaves the files as one at its begin leaves them; and so does
+    // one after it.
+    ensures stops { IsTrue H.tells → Elapses (H.meaning hall.old) (H.meaning hall.new) (StopLeaves (map string_bytes words.now) (H.meaning hall.old)) }
+    ensures left { IsTrue H.tells → LeavesSame (H.meaning hall.old) (H.meaning hall.new) }
 
     // Words are refused where they are no others, over any hall.
     ensures words { result ≡ 20 → file_named (map string_bytes words.now) ≡ None }
@@ -64,6 +70,11 @@ pub fn volman<H: Hall>(alloc: Global, words: &[String], hall: &mut H) -> u8
     ensures print { result ≡ 24 → Rose (H.facts hall.old).print_faults (H.facts hall.new).print_faults }
     ensures later { Later (H.facts hall.old) (H.facts hall.new) }
     ensures status { IsCode result }
+
+    // It is the same hall, with at most the file that the words name; and no card was read.
+    ensures references { (H.facts hall.new).references ≡ (H.facts hall.old).references }
+    ensures units { AttachesNamed (map string_bytes words.now) (H.facts hall.old) (H.facts hall.new) }
+    ensures cards { cards.new ≡ cards.old }
 {
     let Some(file) = file_named(words) else {
         return end(hall, WORDS_LINE, Status::Words);
@@ -82,6 +93,8 @@ fn end<H: Hall>(hall: &mut H, text: &[u8], status: Status) -> u8
     ensures which { (result ≡ code_of status) ⊎ (result ≡ 24) }
     ensures print { result ≡ 24 → Rose (H.facts hall.old).print_faults (H.facts hall.new).print_faults }
     ensures later { Later (H.facts hall.old) (H.facts hall.new) }
+    ensures references { (H.facts hall.new).references ≡ (H.facts hall.old).references }
+    ensures units { (H.facts hall.new).units ≡ (H.facts hall.old).units }
 {
     let Ok(()) = hall.print(text) else {
         return Status::Print.code();
@@ -90,13 +103,16 @@ fn end<H: Hall>(hall: &mut H, text: &[u8], status: Status) -> u8
 }
 
 // What is to be printed for a file, after all that can be refused is read.
+#[tactic(auto, using(hall_core::proofs::MomentLemmas::same_then))]
 fn reply_for<H: Hall>(alloc: Global, hall: &mut H, file: &str) -> Result<Reply, Failure>
     requires { (H.facts hall.old).units ≡ [] }
-    ensures right { IsTrue H.tells → IfOk result (λ r. IsAnswerOn file.now (file_of (H.meaning hall.old).files file.now) (record { status = code_of r.status; text = r.text.items })) }
+    ensures right { IsTrue H.tells → IfOk result (λ r. IsAnswerOn file.now (file_of (H.meaning hall.old).state file.now) (record { status = code_of r.status; text = r.text.items })) }
     ensures which { IfOk result (λ r. (code_of r.status ≡ 0) ⊎ (code_of r.status ≡ 21)) }
     ensures device { IsErrOf result Failure.Device → Rose (H.facts hall.old).dev_faults (H.facts hall.new).dev_faults }
-    ensures told { IsTrue H.tells → H.meaning hall.new ≡ H.meaning hall.old }
+    ensures told { IsTrue H.tells → Same (H.meaning hall.old) (H.meaning hall.new) }
     ensures later { Later (H.facts hall.old) (H.facts hall.new) }
+    ensures references { (H.facts hall.new).references ≡ (H.facts hall.old).references }
+    ensures units { AttachesAtMost file.now (H.facts hall.old) (H.facts hall.new) }
 {
     let unit = match hall.attach(file) {
         Ok(unit) => unit,

@@ -5,6 +5,7 @@ ghost use Rattle.ckd_image.specs.Header.{HasGeometry, geometry_of};
 ghost use Rattle.hall_core.specs.Facts.{DeviceCall, unit_of};
 ghost use Rattle.pack_spec.specs.Label.{track_bytes};
 ghost use Rattle.hall_core.specs.Files.{image_of};
+ghost use Rattle.hall_core.specs.Moments.{Same};
 ghost use Rattle.volman.specs.Calls.{IsPack, ReadCall, Reads};
 
 use ckd_image::{Geometry, Header};
@@ -28,8 +29,8 @@ const HEADER_LEN: usize = 512;
 pub fn read_geometry<H: Hall>(hall: &mut H, unit: u8) -> Result<Geometry, ReadErr>
     requires { unit < length (H.facts hall.old).units }
     ensures pack { IfOk result (IsPack (H.facts hall.old).units unit) }
-    ensures read { let image = image_of (H.meaning hall.old) (H.facts hall.old) unit in IsTrue H.tells → Reads (λ g. g) (geometry_of (take 512 image) (length image)) result }
-    ensures told { IsTrue H.tells → H.meaning hall.new ≡ H.meaning hall.old }
+    ensures read { let image = image_of (H.meaning hall.old).state (H.facts hall.old) unit in IsTrue H.tells → Reads (λ g. g) (geometry_of (take 512 image) (length image)) result }
+    ensures told { IsTrue H.tells → Same (H.meaning hall.old) (H.meaning hall.new) }
     ensures call { ReadCall (H.facts hall.old) (H.facts hall.new) result }
 {
     let len = hall.size(unit);
@@ -57,8 +58,8 @@ pub fn read_track<H: Hall>(
     requires pack { IsPack (H.facts hall.old).units unit geometry }
     requires inside { track < geometry.cylinders * (row_of geometry.device).heads }
     requires room { length buf.old ≡ geometry.track_size }
-    ensures read { IsTrue H.tells → OnOk result (buf.new ≡ track_bytes (image_of (H.meaning hall.old) (H.facts hall.old) unit) geometry track) }
-    ensures told { IsTrue H.tells → H.meaning hall.new ≡ H.meaning hall.old }
+    ensures read { IsTrue H.tells → OnOk result (buf.new ≡ track_bytes (image_of (H.meaning hall.old).state (H.facts hall.old) unit) geometry track) }
+    ensures told { IsTrue H.tells → Same (H.meaning hall.old) (H.meaning hall.new) }
     ensures call { ReadCall (H.facts hall.old) (H.facts hall.new) result }
     ensures error { IfErr result (λ e. e ≡ ReadErr.Device) }
 {

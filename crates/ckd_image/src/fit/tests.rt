@@ -1,4 +1,4 @@
-use super::fits;
+use super::{fits, last_record_cost, record_cost};
 use crate::device::DiskType;
 
 #[test]
@@ -6,6 +6,42 @@ fn two_blocks_of_3521_bytes_fit_a_2314_track(rt: HostRuntime) {
     // Without keys: 3773 + 3521 of 7294, and 3774 + 3522.
     assert!(rt; fits(DiskType::D2314, &[(0, 3521)], 0, 3521));
     assert!(rt; !fits(DiskType::D2314, &[(0, 3522)], 0, 3522));
+}
+
+#[test]
+fn worked_costs(rt: HostRuntime) {
+    // A record's lengths, its cost before another record, and its cost as the last one.
+    let cases = [
+        (DiskType::D2314, 0, 3521, 3773, 3521),
+        (DiskType::D2314, 0, 3522, 3774, 3522),
+        (DiskType::D2314, 44, 96, 292, 185),
+        (DiskType::D2311, 44, 96, 227, 160),
+    ];
+    for (device, kl, dl, cost, last_cost) in cases {
+        assert_eq!(rt; record_cost(device, kl, dl), cost, "{device:?} {kl} {dl}");
+        assert_eq!(rt;
+            last_record_cost(device, kl, dl),
+            last_cost,
+            "{device:?} {kl} {dl}"
+        );
+    }
+}
+
+#[test]
+fn worked_sums(rt: HostRuntime) {
+    // The device, how many records of which lengths, and what they cost together.
+    let cases = [
+        (DiskType::D2314, 2, 0, 3521, 7294),
+        (DiskType::D2314, 2, 0, 3522, 7296),
+        (DiskType::D2314, 25, 44, 96, 7193),
+        (DiskType::D2311, 16, 44, 96, 3565),
+    ];
+    for (device, count, kl, dl, sum) in cases {
+        let cost = record_cost(device, kl, dl);
+        let last_cost = last_record_cost(device, kl, dl);
+        assert!(rt; 1 <= count && count <= 25 && cost < 10_000 && last_cost < 10_000);
+        assert_eq!(rt; (count - 1) * cost + last_cost, sum, "{device:?} {kl} {dl}");
+    }
 }
 
 #[test]

@@ -9,4 +9,4 @@ invariant-loop-c l =
     (l.place ≡ length l.yielded)
     × (l.level ≤ l.place)
     × (l.at ≤ 8)
-    × (rest_fault l.joined l.level l.at (length l.yielded) (drop (length l.yielded) (chars l.text)) ≡ level_fault l.joined (chars l.text))
+    × (rest_fault l.form l.level l.at l.place (drop l.place (chars l.text)) ≡ level_fault l.form (chars l.text))

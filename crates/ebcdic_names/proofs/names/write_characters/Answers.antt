@@ -10,5 +10,5 @@ loop-e-preserved g c = λ plain.
 
 pub returns : goal.returns
 returns g c = λ plain _.
-    let text = all_shown c.args.bytes.now c.without_blanks-e-items.result.now c.loop-e.e-index c.without_blanks-e-items.ensures (omega (arith, c.loop-e-test.false)) in
+    let text = all_shown c.args.bytes.now c.without_blanks-e-items.result.now c.loop-e.e-index c.without_blanks-e-items.ensures.name (omega (arith, c.loop-e-test.false)) in
     has_written_of_eq _ _ _ _ _ text (c.loop-e.invariant plain)

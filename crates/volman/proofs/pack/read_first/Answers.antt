@@ -10,7 +10,7 @@ use Rattle.volman.proofs.pack.read_first.Goals as goal
 
 pub returns-in_err-len-clause-read : goal.returns-in_err-len-clause-read
 returns-in_err-len-clause-read g c told =
-    let image = image_of (g.H.Hall.meaning c.args.hall.now) (g.H.Hall.facts c.args.hall.now) c.args.unit in
+    let image = image_of (g.H.Hall.meaning c.args.hall.now).state (g.H.Hall.facts c.args.hall.now) c.args.unit in
     let at = address_of c.args.begin in
     let bytes = c.in_ok-read_track.ensures.read told ∙ ap (track_bytes image c.args.geometry) c.track_at-first.ensures.track in
     let vtoc = vtoc_read image c.read_track.new.buf c.args.geometry at bytes in
@@ -20,7 +20,7 @@ returns-in_err-len-clause-read g c told =
 
 pub returns-in_err-push_track-clause-read : goal.returns-in_err-push_track-clause-read
 returns-in_err-push_track-clause-read g c told =
-    let image = image_of (g.H.Hall.meaning c.args.hall.now) (g.H.Hall.facts c.args.hall.now) c.args.unit in
+    let image = image_of (g.H.Hall.meaning c.args.hall.now).state (g.H.Hall.facts c.args.hall.now) c.args.unit in
     let at = address_of c.args.begin in
     let bytes = c.in_ok-read_track.ensures.read told ∙ ap (track_bytes image c.args.geometry) c.track_at-first.ensures.track in
     let vtoc = vtoc_read image c.read_track.new.buf c.args.geometry at bytes in
@@ -32,7 +32,7 @@ returns-in_err-push_track-clause-read g c told =
 
 pub returns-clause-read : goal.returns-clause-read
 returns-clause-read g c told =
-    let image = image_of (g.H.Hall.meaning c.args.hall.now) (g.H.Hall.facts c.args.hall.now) c.args.unit in
+    let image = image_of (g.H.Hall.meaning c.args.hall.now).state (g.H.Hall.facts c.args.hall.now) c.args.unit in
     let at = address_of c.args.begin in
     let bytes = c.in_ok-read_track.ensures.read told ∙ ap (track_bytes image c.args.geometry) c.track_at-first.ensures.track in
     let vtoc = vtoc_read image c.read_track.new.buf c.args.geometry at bytes in

@@ -11,14 +11,14 @@ use Rattle.volman.proofs.pack.read_names.Goals as goal
 
 pub returns-in_err-geometry-clause-read : goal.returns-in_err-geometry-clause-read
 returns-in_err-geometry-clause-read g c told =
-    let image = image_of (g.H.Hall.meaning c.args.hall.now) (g.H.Hall.facts c.args.hall.now) c.args.unit in
+    let image = image_of (g.H.Hall.meaning c.args.hall.now).state (g.H.Hall.facts c.args.hall.now) c.args.unit in
     let p = err_from_is_err_and c.from_residual.result c.from_residual.ensures.1 in
     reads_err _ (names_of image) _ c.in_err-geometry.field-0.0 (p.1 ∙ ap Err p.2) (λ refused. names_unread image ((c.in_err-geometry.ensures.read told).refused refused))
 
 pub returns-in_err-slots-clause-read : goal.returns-in_err-slots-clause-read
 returns-in_err-slots-clause-read g c told =
-    let image = image_of (g.H.Hall.meaning c.args.hall.now) (g.H.Hall.facts c.args.hall.now) c.args.unit in
-    let same = same_image (g.H.Hall.meaning c.read_geometry.new.hall) (g.H.Hall.meaning c.args.hall.now) (g.H.Hall.facts c.read_geometry.new.hall) (g.H.Hall.facts c.args.hall.now) c.args.unit (c.in_ok-geometry.ensures.told told) c.in_ok-geometry.ensures.call.units in
+    let image = image_of (g.H.Hall.meaning c.args.hall.now).state (g.H.Hall.facts c.args.hall.now) c.args.unit in
+    let same = same_image (g.H.Hall.meaning c.read_geometry.new.hall).state (g.H.Hall.meaning c.args.hall.now).state (g.H.Hall.facts c.read_geometry.new.hall) (g.H.Hall.facts c.args.hall.now) c.args.unit (c.in_ok-geometry.ensures.told told).state c.in_ok-geometry.ensures.call.units in
     let header = names_read image c.in_ok-geometry.geometry (c.in_ok-geometry.ensures.read told).found in
     let p = err_from_is_err_and c.from_residual-in_err-slots.result c.from_residual-in_err-slots.ensures.1 in
     reads_err _ (names_of image) _ c.in_err-slots.field-0.0 (p.1 ∙ ap Err p.2)
@@ -29,8 +29,8 @@ returns-in_err-slots-clause-read g c told =
 
 pub returns-clause-read : goal.returns-clause-read
 returns-clause-read g c told =
-    let image = image_of (g.H.Hall.meaning c.args.hall.now) (g.H.Hall.facts c.args.hall.now) c.args.unit in
-    let same = same_image (g.H.Hall.meaning c.read_geometry.new.hall) (g.H.Hall.meaning c.args.hall.now) (g.H.Hall.facts c.read_geometry.new.hall) (g.H.Hall.facts c.args.hall.now) c.args.unit (c.in_ok-geometry.ensures.told told) c.in_ok-geometry.ensures.call.units in
+    let image = image_of (g.H.Hall.meaning c.args.hall.now).state (g.H.Hall.facts c.args.hall.now) c.args.unit in
+    let same = same_image (g.H.Hall.meaning c.read_geometry.new.hall).state (g.H.Hall.meaning c.args.hall.now).state (g.H.Hall.facts c.read_geometry.new.hall) (g.H.Hall.facts c.args.hall.now) c.args.unit (c.in_ok-geometry.ensures.told told).state c.in_ok-geometry.ensures.call.units in
     let header = names_read image c.in_ok-geometry.geometry (c.in_ok-geometry.ensures.read told).found in
     let slots = ap (λ (i : List ℕ). slots_of i c.in_ok-geometry.geometry) (sym same) ∙ (c.in_ok-slots.ensures.read told).found in
     reads_same (names_of image) (sym (header ∙ ap names_from (slots ∙ ap (λ (l : List (List ℕ)). Ok l) (sym c.deref.ensures.value)))) c.names_in.ensures.read

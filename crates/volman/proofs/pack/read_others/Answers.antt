@@ -3,6 +3,7 @@ use Rattle.std.specs.Prelude.{Err}
 use Rattle.std.proofs.lemmas.Result.{err_from_is_err_and}
 use Rattle.pack_spec.specs.Label.{track_bytes}
 use Rattle.hall_core.specs.Files.{image_of}
+use Rattle.hall_core.proofs.MomentLemmas.{same_then}
 use Rattle.volman.proofs.Images.{same_image}
 use Rattle.volman.proofs.TrackMeaning.{slots_read}
 use Rattle.volman.proofs.TracksRead.{tracks_more, tracks_refused, tracks_all, adds_err}
@@ -11,8 +12,8 @@ use Rattle.volman.proofs.pack.read_others.Goals as goal
 pub returns-in_err-push_track-clause-read : goal.returns-in_err-push_track-clause-read
 returns-in_err-push_track-clause-read g c told =
     let l = c.loop-number in
-    let image = image_of (g.H.Hall.meaning c.args.hall.now) (g.H.Hall.facts c.args.hall.now) c.args.unit in
-    let same = same_image (g.H.Hall.meaning l.hall) (g.H.Hall.meaning c.args.hall.now) (g.H.Hall.facts l.hall) (g.H.Hall.facts c.args.hall.now) c.args.unit (l.invariant.told told) l.invariant.units in
+    let image = image_of (g.H.Hall.meaning c.args.hall.now).state (g.H.Hall.facts c.args.hall.now) c.args.unit in
+    let same = same_image (g.H.Hall.meaning l.hall).state (g.H.Hall.meaning c.args.hall.now).state (g.H.Hall.facts l.hall) (g.H.Hall.facts c.args.hall.now) c.args.unit (l.invariant.told told).state l.invariant.units in
     let bytes = c.in_ok-read_track.ensures.read told ∙ ap (λ (i : List ℕ). track_bytes i c.args.geometry l.number) same in
     let slots = slots_read image c.read_track.new.buf c.args.geometry l.number bytes in
     let p = err_from_is_err_and c.from_residual-in_err-push_track.result c.from_residual-in_err-push_track.ensures.1 in
@@ -22,14 +23,15 @@ returns-in_err-push_track-clause-read g c told =
 pub loop-number-preserved : goal.loop-number-preserved
 loop-number-preserved g c =
     let l = c.loop-number in
-    let image = image_of (g.H.Hall.meaning c.args.hall.now) (g.H.Hall.facts c.args.hall.now) c.args.unit in
+    let image = image_of (g.H.Hall.meaning c.args.hall.now).state (g.H.Hall.facts c.args.hall.now) c.args.unit in
     record {
       units = c.in_ok-read_track.ensures.call.units ∙ l.invariant.units;
+      references = c.in_ok-read_track.ensures.call.references ∙ l.invariant.references;
       prints = c.in_ok-read_track.ensures.call.prints ∙ l.invariant.prints;
       later = omega (arith, c.in_ok-read_track.ensures.call.later, l.invariant.later);
-      told = λ told. c.in_ok-read_track.ensures.told told ∙ l.invariant.told told;
+      told = λ told. same_then (l.invariant.told told) (c.in_ok-read_track.ensures.told told);
       done = λ told.
-          let same = same_image (g.H.Hall.meaning l.hall) (g.H.Hall.meaning c.args.hall.now) (g.H.Hall.facts l.hall) (g.H.Hall.facts c.args.hall.now) c.args.unit (l.invariant.told told) l.invariant.units in
+          let same = same_image (g.H.Hall.meaning l.hall).state (g.H.Hall.meaning c.args.hall.now).state (g.H.Hall.facts l.hall) (g.H.Hall.facts c.args.hall.now) c.args.unit (l.invariant.told told).state l.invariant.units in
           let bytes = c.in_ok-read_track.ensures.read told ∙ ap (λ (i : List ℕ). track_bytes i c.args.geometry l.number) same in
           let slots = slots_read image c.read_track.new.buf c.args.geometry l.number bytes in
           let added = c.in_ok-push_track.ensures.read.added in

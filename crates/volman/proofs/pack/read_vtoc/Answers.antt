@@ -12,9 +12,9 @@ use Rattle.volman.proofs.pack.read_vtoc.Goals as goal
 
 pub returns-in_err-read_others-clause-read : goal.returns-in_err-read_others-clause-read
 returns-in_err-read_others-clause-read g c told =
-    let image = image_of (g.H.Hall.meaning c.args.hall.now) (g.H.Hall.facts c.args.hall.now) c.args.unit in
+    let image = image_of (g.H.Hall.meaning c.args.hall.now).state (g.H.Hall.facts c.args.hall.now) c.args.unit in
     let at = address_of c.args.begin in
-    let same = same_image (g.H.Hall.meaning c.read_first.new.hall) (g.H.Hall.meaning c.args.hall.now) (g.H.Hall.facts c.read_first.new.hall) (g.H.Hall.facts c.args.hall.now) c.args.unit (c.in_ok-len.ensures.told told) c.in_ok-len.ensures.call.units in
+    let same = same_image (g.H.Hall.meaning c.read_first.new.hall).state (g.H.Hall.meaning c.args.hall.now).state (g.H.Hall.facts c.read_first.new.hall) (g.H.Hall.facts c.args.hall.now) c.args.unit (c.in_ok-len.ensures.told told).state c.in_ok-len.ensures.call.units in
     let found = (c.in_ok-len.ensures.read told).found in
     let p = err_from_is_err_and c.from_residual-in_err-read_others.result c.from_residual-in_err-read_others.ensures.1 in
     reads_err _ _ _ c.in_err-read_others.field-0.0 (p.1 ∙ ap Err p.2)
@@ -23,9 +23,9 @@ returns-in_err-read_others-clause-read g c told =
 
 pub returns-clause-read : goal.returns-clause-read
 returns-clause-read g c told =
-    let image = image_of (g.H.Hall.meaning c.args.hall.now) (g.H.Hall.facts c.args.hall.now) c.args.unit in
+    let image = image_of (g.H.Hall.meaning c.args.hall.now).state (g.H.Hall.facts c.args.hall.now) c.args.unit in
     let at = address_of c.args.begin in
-    let same = same_image (g.H.Hall.meaning c.read_first.new.hall) (g.H.Hall.meaning c.args.hall.now) (g.H.Hall.facts c.read_first.new.hall) (g.H.Hall.facts c.args.hall.now) c.args.unit (c.in_ok-len.ensures.told told) c.in_ok-len.ensures.call.units in
+    let same = same_image (g.H.Hall.meaning c.read_first.new.hall).state (g.H.Hall.meaning c.args.hall.now).state (g.H.Hall.facts c.read_first.new.hall) (g.H.Hall.facts c.args.hall.now) c.args.unit (c.in_ok-len.ensures.told told).state c.in_ok-len.ensures.call.units in
     let found = (c.in_ok-len.ensures.read told).found in
     let added = (c.in_ok-read_others.ensures.read told).added in
     record {

@@ -13,5 +13,5 @@ returns-in-Ok-clause-read g c told =
     let size : length c.read.new.buf ≡ c.args.geometry.track_size = c.read.auto.buf ∙ c.requires.room in
     let at : 512 + c.from.result * c.from-2.result ≡ 512 + c.args.track * c.args.geometry.track_size =
     ap (λ (n : ℕ). 512 + n * c.from-2.result) c.from.ensures ∙ ap (λ (n : ℕ). 512 + c.args.track * n) c.from-2.ensures in
-    part_read (image_of m f c.args.unit) c.read.new.buf (512 + c.from.result * c.from-2.result) (512 + c.args.track * c.args.geometry.track_size) c.args.geometry.track_size
-    (bytes_read m.files (unit_of f.units c.args.unit).name (512 + c.from.result * c.from-2.result) c.read.new.buf (c.in-Ok.ensures.bytes told)) size at
+    part_read (image_of m.state f c.args.unit) c.read.new.buf (512 + c.from.result * c.from-2.result) (512 + c.args.track * c.args.geometry.track_size) c.args.geometry.track_size
+    (bytes_read m.state (unit_of f.units c.args.unit).name (512 + c.from.result * c.from-2.result) c.read.new.buf (c.in-Ok.ensures.bytes told)) size at

@@ -1,55 +1,54 @@
-use Rattle.std.proofs.Common.{◌≡◌, ◌++◌, ◌∷◌, [], length, ap, sym, ◌∙◌, refl, subst, arith, rules, List, ℕ}
-use Rattle.std.proofs.lemmas.List.{length-map}
-use Rattle.hall_core.specs.Files.{file_of}
-use Rattle.hall_core.specs.Held.{files_of, file_at, units_at, AreFirst}
-use Rattle.hall_core.proofs.Units.{first_push, units_push}
+use Rattle.std.proofs.Common.{◌≡◌, ◌++◌, ◌∷◌, [], ap, sym, ◌∙◌, subst, List, ℕ, Some}
+use Rattle.hall_core.specs.Files.{File, file_of}
+use Rattle.hall_core.specs.Held.{files_of}
+use Rattle.hall_core.specs.Moments.{Same}
+use Rattle.hall_core.specs.History.{passed}
+use Rattle.hall_core.specs.Memory.{first_files, events_of, meaning_of}
+use Rattle.hall_core.proofs.CallLemmas.{moved, same_still, same_passed}
+use Rattle.hall_core.proofs.UnitLemmas.{there}
 use Rattle.hall_core.proofs.mem_hall.MemHallHall.attach.Goals as goal
-use Rattle.hall_core.proofs.mem_hall.MemHallHall.attach.Goals.{After-push}
+use Rattle.hall_core.proofs.mem_hall.MemHallHall.attach.Goals.{After-add_unit}
 
-pub returns-then-not-admits-clause-call : goal.returns-then-not-admits-clause-call
-returns-then-not-admits-clause-call c =
+pub returns-then-lacks_room-clause-told : goal.returns-then-lacks_room-clause-told
+returns-then-lacks_room-clause-told c = record { same = same_still (first_files c.args.self.now) (events_of c.args.self.now); there = tt; missing = λ e. absurd (cc (e, c.fault.ensures.error)) }
+
+pub returns-then-fails-clause-told : goal.returns-then-fails-clause-told
+returns-then-fails-clause-told c =
+    let old = c.args.self.now in
     record {
-      added = tt;
-      stays = rw (c.admits.ensures.files, c.admits.ensures.units) refl;
-      prints = c.admits.ensures.prints;
-      later = omega (arith, c.admits.ensures.devices, c.fault.ensures.later);
-      failed = λ _. omega (arith, c.admits.ensures.devices, c.fault.ensures.count);
-      memory = λ e. absurd (cc (e, c.fault.ensures.error));
+      same = moved (λ m. Same (meaning_of old) m) (first_files old) (first_files c.record_plain.new.self) (events_of old ++ passed ∷ []) (events_of c.record_plain.new.self)
+          c.record_plain.ensures.setup.first c.record_plain.ensures.noted.events (same_passed (first_files old) (events_of old));
+      there = tt;
+      missing = λ e. absurd (cc (e, c.fault-then-fails.ensures.error));
     }
 
-pushed : (c : After-push) → c.push.new.self.items ≡ c.admits.new.self.units.items ++ c.in-Some.place ∷ []
-pushed c = search rules
+pub returns-in_default-clause-told : goal.returns-in_default-clause-told
+returns-in_default-clause-told c =
+    let old = c.args.self.now in
+    let none = rw (c.deref.ensures.value, c.record_plain.ensures.files) at c.in_default.ensures in
+    record {
+      same = moved (λ m. Same (meaning_of old) m) (first_files old) (first_files c.record_plain.new.self) (events_of old ++ passed ∷ []) (events_of c.record_plain.new.self)
+          c.record_plain.ensures.setup.first c.record_plain.ensures.noted.events (same_passed (first_files old) (events_of old));
+      there = tt;
+      missing = λ e. ap (λ (l : List File). file_of l c.args.name.now) old.replay.present ∙ none;
+    }
 
-pub invariant_of-self-2-clause-first : goal.invariant_of-self-2-clause-first
-invariant_of-self-2-clause-first c =
-    let files = files_of c.admits.new.self.files.items in
-    subst (λ (places : List ℕ). AreFirst files places) (sym (pushed c))
-    (first_push files c.admits.new.self.units.items c.in-Some.place c.admits.new.self.first (rw c.deref.ensures.value at c.in-Some.ensures.0))
+found : (c : After-add_unit) → (image : List ℕ) × (file_of (meaning_of c.args.self.now).state c.args.name.now ≡ Some image)
+found c =
+    let old = c.args.self.now in
+    let place = rw (c.deref.ensures.value, c.record_plain.ensures.files) at c.in-Some.ensures in
+    let image = there (files_of old.files.items) c.in-Some.place c.args.name.now place.0 place.1 in
+    (image.0, subst (λ (l : List File). file_of l c.args.name.now ≡ Some image.0) (sym old.replay.present) image.1)
 
 pub returns-clause-told : goal.returns-clause-told
 returns-clause-told c =
-    let found = rw (c.deref.ensures.value, c.admits.ensures.files) at c.in-Some.ensures in
+    let old = c.args.self.now in
     record {
-      same = rw (c.admits.ensures.files, c.admits.ensures.printed) refl;
-      there = (_, ap (file_of (files_of c.args.self.now.files.items)) (sym found.1) ∙ found.0.1);
+      same = moved (λ m. Same (meaning_of old) m) (first_files old) (first_files c.add_unit.new.self) (events_of old ++ passed ∷ []) (events_of c.add_unit.new.self)
+          (c.add_unit.ensures.setup.first ∙ c.record_plain.ensures.setup.first) (c.add_unit.ensures.noted.events ∙ c.record_plain.ensures.noted.events) (same_passed (first_files old) (events_of old));
+      there = found c;
       missing = λ e. absurd (cc e);
     }
 
-pub returns-clause-call : goal.returns-clause-call
-returns-clause-call c =
-    let old = c.args.self.now in
-    let files = files_of old.files.items in
-    let file = file_at files c.in-Some.place in
-    let found = rw (c.deref.ensures.value, c.admits.ensures.files) at c.in-Some.ensures in
-    let places : c.push.new.self.items ≡ old.units.items ++ c.in-Some.place ∷ [] = rw c.admits.ensures.units at (pushed (goal.at.returns-clause-call c).After-push) in
-    let count : c.len-unit.result ≡ length old.units.items = omega (arith, rw c.admits.ensures.units at c.len-unit.ensures) in
-    let grown : units_at files c.push.new.self.items ≡ units_at files old.units.items ++ record { name = c.args.name.now; size = length file.bytes } ∷ [] =
-    ap (units_at files) places ∙ units_push files old.units.items c.in-Some.place ∙ ap (λ (name : List ℕ). units_at files old.units.items ++ record { name = name; size = length file.bytes } ∷ []) found.1 in
-    record {
-      added = (simp length-map count, (length file.bytes, rw c.admits.ensures.files grown));
-      stays = tt;
-      prints = c.admits.ensures.prints;
-      later = omega (arith, c.admits.ensures.devices);
-      failed = λ e. absurd (cc e);
-      memory = λ e. absurd (cc e);
-    }
+pub returns-clause-missing : goal.returns-clause-missing
+returns-clause-missing c fine none = let f = found (goal.at.returns-clause-missing c).After-add_unit in absurd (cc (f.1, none))

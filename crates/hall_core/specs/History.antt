@@ -1,0 +1,87 @@
+-- The disk model, in this project's profile: what calls did to a disk, and what a stop at each moment of them leaves.
+use Rattle.std.specs.Prelude.{◌≡◌, ℕ, ◌≤◌, Bool, true, false, List, [], ◌∷◌, ◌++◌, length, take, Option, Some, slice_get, if◌then◌else◌}
+use Rattle.hall_core.specs.Moments.{Meaning}
+use Rattle.hall_core.specs.Files.{File, written, IsPrefixOf}
+
+-- a write over the bytes of a file, from an offset on; and whether it was done, and so is read
+pub record Write : Type 0 where
+  pub name : List ℕ
+  pub at : ℕ
+  pub bytes : List ℕ
+  pub is_done : Bool
+
+-- what a call did: a write, a sync, a print of these bytes, or nothing that stays
+pub data Event : Type 0 where
+  wrote : Write → Event
+  synced : Event
+  printed : List ℕ → Event
+  passed : Event
+
+-- the files as of the last sync, as they are read, the writes since that sync, and the bytes printed
+pub record Disk : Type 0 where
+  pub stable : List File
+  pub files : List File
+  pub pending : List Write
+  pub text : List ℕ
+
+-- a disk that holds these files, before any call
+abbrev pub new_disk : List File → Disk
+new_disk files = record { stable = files; files = files; pending = []; text = [] }
+
+-- files over which a write was made
+abbrev pub with_write : List File → Write → List File
+with_write files w = written files w.name w.at w.bytes
+
+-- files over which these writes were made, one after another
+abbrev pub with_writes : List File → List Write → List File
+with_writes files [] = files
+with_writes files (w ∷ ws) = with_writes (with_write files w) ws
+
+-- the disk after an event
+abbrev pub after : Disk → Event → Disk
+after d (wrote w) = record d { files = if w.is_done then with_write d.files w else d.files; pending = d.pending ++ w ∷ [] }
+after d synced = record d { stable = d.files; pending = [] }
+after d (printed bytes) = record d { text = d.text ++ bytes }
+after d passed = d
+
+-- the disk after these events, one after another
+abbrev pub after_all : Disk → List Event → Disk
+after_all d [] = d
+after_all d (e ∷ es) = after_all (after d e) es
+
+-- the writes whose flag is true; a missing flag counts as false
+abbrev pub kept : List Bool → List Write → List Write
+kept [] ws = []
+kept (flag ∷ flags) [] = []
+kept (true ∷ flags) (w ∷ ws) = w ∷ kept flags ws
+kept (false ∷ flags) (w ∷ ws) = kept flags ws
+
+-- a stop leaves these files of a disk: the stable ones, with any of the pending writes in their order
+abbrev pub MayLeave : Disk → List File → Type 0
+MayLeave d j = (flags : List Bool) × (j ≡ with_writes d.stable (kept flags d.pending))
+
+-- the bytes that an event prints
+abbrev pub bytes_of_print : Option Event → List ℕ
+bytes_of_print (Some (printed bytes)) = bytes
+bytes_of_print _ = []
+
+-- a stop before the k-th event, counted from 0, or within it leaves these files and printed bytes of a disk that held those files at first
+pub record MayLeaveAt (first : List File) (events : List Event) (k : ℕ) (j : List File) (p : List ℕ) : Type 0 where
+  pub files : MayLeave (after_all (new_disk first) (take k events)) j
+  pub text : (q : List ℕ) × IsPrefixOf q (bytes_of_print (slice_get events k)) × (p ≡ (after_all (new_disk first) (take k events)).text ++ q)
+
+-- a stop at the k-th moment or later
+abbrev pub MayLeaveSince : List File → List Event → ℕ → List File → List ℕ → Type 0
+MayLeaveSince first events k j p = (m : ℕ) × (k ≤ m) × (m ≤ length events) × MayLeaveAt first events m j p
+
+-- what these events mean on a disk that held these files at first; its clock counts them
+abbrev pub meaning_after : List File → List Event → Meaning (List File)
+meaning_after first events =
+    let d = after_all (new_disk first) events in
+    record {
+      state = d.files;
+      printed = d.text;
+      left = MayLeave d;
+      clock = length events;
+      left_since = MayLeaveSince first events;
+    }

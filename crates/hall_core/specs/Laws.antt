@@ -1,0 +1,69 @@
+-- What the trait asks of every hall, for one in memory.
+use Rattle.std.specs.Prelude.{◌≡◌, ◌≢◌, ◌<◌, ◌≤◌, ℕ, List, [], ◌∷◌, length, refl, Bool, true, false, Some, slice_index_or as get_or}
+use Rattle.std.specs.Str.{bytes_eq}
+use Rattle.std.proofs.Common.{zero, suc, sym, ◌∙◌, ap, subst, arith}
+use Rattle.std.proofs.lemmas.Slice.Eq.{bytes_eq-Decides}
+use Rattle.std.proofs.lemmas.List.{get_or-map, length-map}
+use Rattle.hall_core.specs.Facts.{Attached, unit_of}
+use Rattle.hall_core.specs.Files.{File, AreWhole, file_of}
+use Rattle.hall_core.specs.Moments.{LeftNow}
+use Rattle.hall_core.specs.Held.{files_of, attached_as, shapes_of, units_at, IsFirst, AreFirst}
+use Rattle.hall_core.specs.HistoryLaws.{state_left_now, now_since, since_now}
+use Rattle.hall_core.specs.Memory.{first_files, events_of, meaning_of, facts_of}
+use Rattle.hall_core.specs.declared.mem_hall.MemHall.{MemHall}
+
+-- a name that isn't the one
+pub other_name : (a b : List ℕ) → a ≢ b → bytes_eq a b ≡ false
+other_name a b other = by_test (bytes_eq a b) refl
+  where
+    by_test : (t : Bool) → bytes_eq a b ≡ t → bytes_eq a b ≡ false
+    by_test true is = absurd (other ((bytes_eq-Decides a b).0 is))
+    by_test false is = is
+
+pub same_name : (a : List ℕ) → bytes_eq a a ≡ true
+same_name a = (bytes_eq-Decides a a).1 refl
+
+-- the files but the first
+pub tail_first : (f : File) (files : List File) (place : ℕ) → IsFirst (shapes_of (f ∷ files)) (suc place) → IsFirst (shapes_of files) place
+tail_first f files place first = record { inside = omega (arith, first.inside); before = λ k low. first.before (suc k) (omega arith) }
+
+-- the first file of a name is the one that is found
+pub file_at_first : (files : List File) (place : ℕ) (d : File) → IsFirst (shapes_of files) place → file_of files (unit_of (shapes_of files) place).name ≡ Some (get_or files place d).bytes
+file_at_first [] place d first = absurd (omega (arith, first.inside))
+file_at_first (f ∷ files) zero d first = rw (same_name f.name) refl
+file_at_first (f ∷ files) (suc place) d first = rw (other_name f.name _ (first.before 0 (omega arith))) (file_at_first files place d (tail_first f files place first))
+
+-- the size of a file at a place
+pub shape_at : (files : List File) (place : ℕ) (d : File) → place < length files → unit_of (shapes_of files) place ≡ attached_as (get_or files place d)
+shape_at files place d low = get_or-map attached_as files place d _ low
+
+-- each unit of files is a file, of the unit's size
+pub whole_at : (files : List File) (places : List ℕ) → AreFirst (shapes_of files) places → AreWhole files (units_at (shapes_of files) places)
+whole_at files places first k low =
+    let shapes = shapes_of files in
+    let inside : k < length places = omega (arith, low, length-map places (unit_of shapes)) in
+    let place = get_or places k 0 in
+    let is_first : IsFirst shapes place = first k inside in
+    let within : place < length files = omega (arith, is_first.inside, length-map files attached_as) in
+    let unit : unit_of (units_at shapes places) k ≡ unit_of shapes place = get_or-map (unit_of shapes) places k 0 _ inside in
+    let d : File = record { name = []; bytes = [] } in (
+      (get_or files place d).bytes,
+      ap (λ (u : Attached). file_of files u.name) unit ∙ file_at_first files place d is_first,
+      ap (λ (u : Attached). u.size) (sym (unit ∙ shape_at files place d within)),
+    )
+
+-- a stop may leave the files as they are read
+pub leaves_state : (hall : MemHall) → (meaning_of hall).left (meaning_of hall).state
+leaves_state hall = state_left_now (first_files hall) (events_of hall)
+
+-- what a stop leaves now, one since any earlier moment may have left
+pub counts_now : (hall : MemHall) (t : ℕ) (j : List File) → t ≤ (meaning_of hall).clock → (meaning_of hall).left j → (meaning_of hall).left_since t j (meaning_of hall).printed
+counts_now hall t j before left = now_since (first_files hall) (events_of hall) t j _ before left refl
+
+-- since this moment there is no other
+pub only_now : (hall : MemHall) (j : List File) (p : List ℕ) → (meaning_of hall).left_since (meaning_of hall).clock j p → LeftNow (meaning_of hall) j p
+only_now hall j p left = since_now (first_files hall) (events_of hall) j p left
+
+-- each unit is a file, of the unit's size
+pub whole_units : (hall : MemHall) → AreWhole (meaning_of hall).state (facts_of hall).units
+whole_units hall = subst (λ (l : List File). AreWhole l (facts_of hall).units) (sym hall.replay.present) (whole_at (files_of hall.files.items) hall.units.items hall.replay.firsts)

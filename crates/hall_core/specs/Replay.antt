@@ -1,0 +1,133 @@
+-- What the record of a hall in memory stands for: the events, over the units and the bytes that were written and printed.
+use Rattle.std.specs.Prelude.{◌≡◌, ℕ, ◌+◌, ◌<◌, ◌≤◌, Bool, true, false, List, [], ◌∷◌, ◌++◌, length, map, take, drop, slice_index_or, if◌then◌else◌}
+use Rattle.hall_core.specs.declared.mem_hall.step.Step.{Step}
+use Rattle.hall_core.specs.declared.mem_hall.step.Step.TheVariants.{Write, Sync, Print, Pass}
+use Rattle.hall_core.specs.Facts.{Attached, unit_of}
+use Rattle.hall_core.specs.Files.{File}
+use Rattle.hall_core.specs.History.{Event, wrote, synced, printed, passed, Write as Writing, Disk, new_disk, after_all, with_writes}
+use Rattle.hall_core.specs.Held.{shapes_of, units_at, AreFirst}
+
+-- so many bytes of a list, from a start on
+abbrev pub part : List ℕ → ℕ → ℕ → List ℕ
+part bytes start len = take len (drop start bytes)
+
+-- the event that a step stands for
+abbrev pub event_of : List Attached → List ℕ → List ℕ → Step → Event
+event_of units pool text (Write unit at start len is_done) = wrote (record { name = (unit_of units unit).name; at = at; bytes = part pool start len; is_done = is_done })
+event_of units pool text Sync = synced
+event_of units pool text (Print start len) = printed (part text start len)
+event_of units pool text Pass = passed
+
+-- the events of these steps
+abbrev pub events_at : List Attached → List ℕ → List ℕ → List Step → List Event
+events_at units pool text steps = map (event_of units pool text) steps
+
+-- the unit of a write
+abbrev pub unit_written : Step → ℕ
+unit_written (Write unit at start len is_done) = unit
+unit_written _ = 0
+
+-- how many units there must be for a step
+abbrev pub units_needed : Step → ℕ
+units_needed (Write unit at start len is_done) = unit + 1
+units_needed _ = 0
+
+-- how large the unit of a write must be
+abbrev pub size_needed : Step → ℕ
+size_needed (Write unit at start len is_done) = at + len
+size_needed _ = 0
+
+-- how many bytes must have been written for a step
+abbrev pub pool_needed : Step → ℕ
+pool_needed (Write unit at start len is_done) = start + len
+pool_needed _ = 0
+
+-- how many bytes must have been printed for a step
+abbrev pub text_needed : Step → ℕ
+text_needed (Print start len) = start + len
+text_needed _ = 0
+
+-- a step speaks of a unit that there is, of bytes in it, and of bytes that were written or printed
+pub record IsWithin (units : List Attached) (pool text : ℕ) (step : Step) : Type 0 where
+  pub unit : units_needed step ≤ length units
+  pub size : size_needed step ≤ (unit_of units (unit_written step)).size
+  pub from_pool : pool_needed step ≤ pool
+  pub from_text : text_needed step ≤ text
+
+-- each step does
+abbrev pub AreWithin : List Attached → ℕ → ℕ → List Step → Type 0
+AreWithin units pool text steps = (k : ℕ) → k < length steps → IsWithin units pool text (slice_index_or steps k Pass)
+
+-- a step speaks of a unit that there is, of bytes in it, and of bytes that were written
+pub record IsWritable (units : List Attached) (pool : ℕ) (step : Step) : Type 0 where
+  pub unit : units_needed step ≤ length units
+  pub size : size_needed step ≤ (unit_of units (unit_written step)).size
+  pub from_pool : pool_needed step ≤ pool
+
+-- each step does
+abbrev pub AreWritable : List Attached → ℕ → List Step → Type 0
+AreWritable units pool steps = (k : ℕ) → k < length steps → IsWritable units pool (slice_index_or steps k Pass)
+
+-- each step speaks of bytes that were printed
+abbrev pub ArePrinted : ℕ → List Step → Type 0
+ArePrinted text steps = (k : ℕ) → k < length steps → text_needed (slice_index_or steps k Pass) ≤ text
+
+-- The present files and the printed text are what the steps made of the first files.
+pub record IsReplay (first files : List File) (places : List ℕ) (steps : List Step) (pool text : List ℕ) : Type 0 where
+  pub shapes : shapes_of first ≡ shapes_of files
+  pub firsts : AreFirst (shapes_of files) places
+  pub within : AreWithin (units_at (shapes_of files) places) (length pool) (length text) steps
+  pub present : (after_all (new_disk first) (events_at (units_at (shapes_of files) places) pool text steps)).files ≡ files
+  pub printed : (after_all (new_disk first) (events_at (units_at (shapes_of files) places) pool text steps)).text ≡ text
+
+-- the writes among these steps
+abbrev pub writes_at : List Attached → List ℕ → List Step → List Writing
+writes_at units pool [] = []
+writes_at units pool (Write unit at start len is_done ∷ steps) = record { name = (unit_of units unit).name; at = at; bytes = part pool start len; is_done = is_done } ∷ writes_at units pool steps
+writes_at units pool (Sync ∷ steps) = writes_at units pool steps
+writes_at units pool (Print start len ∷ steps) = writes_at units pool steps
+writes_at units pool (Pass ∷ steps) = writes_at units pool steps
+
+-- a step is a write
+abbrev pub is_write : Step → Bool
+is_write (Write unit at start len is_done) = true
+is_write Sync = false
+is_write (Print start len) = false
+is_write Pass = false
+
+-- a step is a write that was done
+abbrev pub is_done_write : Step → Bool
+is_done_write (Write unit at start len is_done) = is_done
+is_done_write Sync = false
+is_done_write (Print start len) = false
+is_done_write Pass = false
+
+-- the writes that were done
+abbrev pub done_of : List Writing → List Writing
+done_of [] = []
+done_of (w ∷ ws) = if w.is_done then w ∷ done_of ws else done_of ws
+
+-- the bytes that these steps printed
+abbrev pub prints_at : List ℕ → List Step → List ℕ
+prints_at text [] = []
+prints_at text (Write unit at start len is_done ∷ steps) = prints_at text steps
+prints_at text (Sync ∷ steps) = prints_at text steps
+prints_at text (Print start len ∷ steps) = part text start len ++ prints_at text steps
+prints_at text (Pass ∷ steps) = prints_at text steps
+
+-- the disk that held these files, after these steps
+abbrev pub disk_after : List File → List Attached → List ℕ → List ℕ → List Step → Disk
+disk_after first units pool text steps = after_all (new_disk first) (events_at units pool text steps)
+
+-- the place from which on writes are pending behind the i-th step, where it was this place before it
+abbrev pub pending_place : Step → ℕ → ℕ → ℕ
+pending_place Sync i from = i + 1
+pending_place (Write unit at start len is_done) i from = from
+pending_place (Print start len) i from = from
+pending_place Pass i from = from
+
+-- of these steps the pending writes are those from the n-th step on; the done ones before it are durable
+pub record IsPendingFrom (steps : List Step) (n : ℕ) : Type 0 where
+  pub within : n ≤ length steps
+  pub pending : (first : List File) (units : List Attached) (pool text : List ℕ) → (disk_after first units pool text steps).pending ≡ writes_at units pool (drop n steps)
+  pub stable : (first : List File) (units : List Attached) (pool text : List ℕ) → (disk_after first units pool text steps).stable ≡ with_writes first (done_of (writes_at units pool (take n steps)))

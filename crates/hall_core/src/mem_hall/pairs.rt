@@ -1,0 +1,88 @@
+//! Files of a hall in memory: pairs of a name and bytes.
+ghost use Rattle.std.specs.Prelude.{◌≡◌, ◌+◌, ◌≤◌, length, take, drop, MatchOption, IfOk, None, if◌then◌else◌};
+ghost use Rattle.hall_core.specs.Facts.{unit_of};
+ghost use Rattle.hall_core.specs.Files.{file_of, patched, written};
+ghost use Rattle.hall_core.specs.Held.{file_of_pair, files_of, shapes_of, IsFirst};
+
+use std::alloc::{AllocError, Global};
+
+// The place of the first file of this name.
+pub(super) fn first_named(files: &[(String, Vec<u8>)], name: &str) -> Option<usize>
+    ensures { MatchOption result (file_of (files_of files.now) name.now ≡ None) (λ place. IsFirst (shapes_of (files_of files.now)) place × ((unit_of (shapes_of (files_of files.now)) place).name ≡ name.now)) }
+{
+    for (place, file) in files.iter().enumerate() {
+        if file.0.as_str() == name {
+            return Some(place);
+        }
+    }
+    None
+}
+
+// Fills the buffer with the bytes from an offset on.
+pub(super) fn copy_at(image: &[u8], at: usize, buf: &mut [u8])
+    requires { at + length buf.old ≤ length image.now }
+    ensures { buf.new ≡ take (length buf.new) (drop at image.now) }
+{
+    buf.copy_from_slice(&image[at..at + buf.len()]);
+}
+
+// Writes the bytes over those of an image, from an offset on.
+fn patch(image: &mut [u8], at: usize, bytes: &[u8])
+    requires { at + length bytes.now ≤ length image.old }
+    ensures { image.new ≡ patched image.old at bytes.now }
+{
+    image[at..at + bytes.len()].copy_from_slice(bytes);
+}
+
+// Writes the bytes over those of the file at a place, from an offset on.
+pub(super) fn patch_file(files: &mut Vec<(String, Vec<u8>)>, place: usize, at: usize, bytes: &[u8])
+    requires first { IsFirst (shapes_of (files_of files.old.items)) place }
+    requires inside { at + length bytes.now ≤ (unit_of (shapes_of (files_of files.old.items)) place).size }
+    ensures done { files_of files.new.items ≡ written (files_of files.old.items) (unit_of (shapes_of (files_of files.old.items)) place).name at bytes.now }
+    ensures shapes { shapes_of (files_of files.new.items) ≡ shapes_of (files_of files.old.items) }
+{
+    let file = &mut files[place];
+    patch(&mut file.1, at, bytes);
+}
+
+// Makes a write over the file at a place, where it is to be done.
+pub(super) fn write_file(
+    files: &mut Vec<(String, Vec<u8>)>,
+    place: usize,
+    at: usize,
+    bytes: &[u8],
+    is_done: bool,
+)
+    requires first { IsFirst (shapes_of (files_of files.old.items)) place }
+    requires inside { at + length bytes.now ≤ (unit_of (shapes_of (files_of files.old.items)) place).size }
+    ensures done { files_of files.new.items ≡ (if is_done then written (files_of files.old.items) (unit_of (shapes_of (files_of files.old.items)) place).name at bytes.now else files_of files.old.items) }
+    ensures shapes { shapes_of (files_of files.new.items) ≡ shapes_of (files_of files.old.items) }
+{
+    if is_done {
+        patch_file(files, place, at, bytes);
+    }
+}
+
+// A file again, in memory of its own.
+fn copy_pair(alloc: Global, file: &(String, Vec<u8>)) -> Result<(String, Vec<u8>), AllocError>
+    ensures { IfOk result (λ copy. file_of_pair copy ≡ file_of_pair file.now) }
+{
+    let name = String::from_str(alloc, file.0.as_str())?;
+    let bytes = file.1.as_slice().to_vec(alloc)?;
+    Ok((name, bytes))
+}
+
+// The files again, in memory of their own.
+pub(super) fn copy_of(
+    alloc: Global,
+    files: &[(String, Vec<u8>)],
+) -> Result<Vec<(String, Vec<u8>)>, AllocError>
+    ensures { IfOk result (λ copy. files_of copy.items ≡ files_of files.now) }
+{
+    let mut copy = Vec::new(alloc);
+    for file in files {
+        let pair = copy_pair(alloc, file)?;
+        copy.push(pair)?;
+    }
+    Ok(copy)
+}

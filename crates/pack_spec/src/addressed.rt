@@ -1,0 +1,75 @@
+//! The slots of a VTOC with the addresses of their records.
+ghost use Rattle.std.specs.Prelude.{◌≡◌, ℕ, ◌≤◌, ◌<◌, ◌+◌, ◌*◌, ◌++◌, List, [], length, vec_len, Some, Err, Ok, IfOk, OnOk, slice_get};
+ghost use Rattle.ckd_image.specs.Header.{HasGeometry};
+ghost use Rattle.pack_spec.specs.declared.MountErr.{MountErr};
+ghost use Rattle.pack_spec.specs.Slots.{addressed_from, record_address, slots_of_vtoc};
+ghost use Rattle.pack_spec.specs.Faults.{track_faults};
+ghost use Rattle.pack_spec.specs.Views.{run_of, tracks_of};
+
+use crate::slots::{Slot, slots_on};
+use crate::vtoc::Run;
+use crate::{MountErr, VolumeErr};
+use ckd_image::Geometry;
+use std::alloc::{AllocError, Global};
+
+/// A slot of a VTOC.
+#[derive(Clone, Copy, Debug, PartialEq, Eq)]
+pub struct VtocSlot {
+    /// The address CCHHR of its record: cylinder and head, two bytes each with the high one first, and record.
+    pub address: [u8; 5],
+    /// Its key, 44 bytes, and its data, 96.
+    pub bytes: [u8; 140],
+}
+
+// The slots on the tracks of a VTOC.
+pub(crate) fn slots_of_vtoc(
+    alloc: Global,
+    image: &[u8],
+    geometry: Geometry,
+    vtoc: Run,
+) -> Result<Vec<VtocSlot>, VolumeErr>
+    requires whole { HasGeometry (length image.now) geometry }
+    requires inside { vtoc.start + vtoc.len ≤ tracks_of geometry }
+    ensures slots { IfOk result (λ v. v.items ≡ slots_of_vtoc image.now geometry (run_of vtoc)) }
+    ensures unbroken { IfOk result (λ _. track_faults image.now geometry (run_of vtoc) ≡ []) }
+    ensures broken { (e : MountErr) → result ≡ Err (VolumeErr.Refused e) → slice_get (track_faults image.now geometry (run_of vtoc)) 0 ≡ Some e }
+    ensures few { IfOk result (λ v. vec_len v ≤ vtoc.len * 255) }
+{
+    let mut slots = Vec::new(alloc);
+    for track in vtoc.start..vtoc.start + vtoc.len {
+        let Some(found) = slots_on(alloc, image, geometry, track)? else {
+            return Err(VolumeErr::Refused(MountErr::VtocTrack { track }));
+        };
+        push_addressed(&mut slots, geometry, track, &found)?;
+    }
+    Ok(slots)
+}
+
+// Puts the slots of a track behind others.
+fn push_addressed(
+    slots: &mut Vec<VtocSlot>,
+    geometry: Geometry,
+    track: u16,
+    found: &[Slot],
+) -> Result<(), AllocError>
+    requires { length found.now ≤ 255 }
+    ensures { OnOk result (slots.new.items ≡ slots.old.items ++ addressed_from geometry track 1 found.now) }
+{
+    for (index, bytes) in found.iter().enumerate() {
+        slots.push(VtocSlot {
+            address: record_address(geometry, track, index as u8 + 1),
+            bytes: *bytes,
+        })?;
+    }
+    Ok(())
+}
+
+// The address CCHHR of a record on a track.
+fn record_address(geometry: Geometry, track: u16, number: u8) -> [u8; 5]
+    ensures { result ≡ record_address geometry track number }
+{
+    let heads = geometry.device.heads();
+    let [cc_high, cc_low] = (track / heads).to_be_bytes();
+    let [hh_high, hh_low] = (track % heads).to_be_bytes();
+    [cc_high, cc_low, hh_high, hh_low, number]
+}

@@ -1,0 +1,25 @@
+//! The abstract volume: what a disk pack of OS/360 holds, without a slot, a chain or a bit of it, and the words in
+//! which operations on it are asked for and answered.
+#![tactic(auto)]
+
+mod answers;
+mod catalogs;
+mod contents;
+mod lists;
+mod refusals;
+mod requests;
+
+pub use answers::{
+    BadTtr, CheckErr, Kind, MachErr, Mode, ReadErr, SetInfo, Stop, StoreErr, VolumeInfo, WorkErr,
+};
+pub use catalogs::{CatBody, CatNode, CatPath, Names, Nodes, VolRef, VolRefs};
+pub use contents::{
+    Attr, Block, Blocks, Body, DataSet, DataSets, Entries, Entry, Place, Run, Runs, Shelf, Volume,
+    Volumes,
+};
+pub use lists::{Listed, Text};
+pub use refusals::Refusal;
+pub use requests::{Op, Request, SpaceUnit};
+
+#[cfg(test)]
+mod tests;
