@@ -1,0 +1,5 @@
+pub mod Buffers
+pub mod Calls
+pub mod Reads
+pub mod Updates
+pub mod Written

@@ -1,0 +1,12 @@
+//! The records of a track, read in one read and written one at a time.
+#![tactic(auto)]
+
+mod buffer;
+mod error;
+mod places;
+
+pub use buffer::{TrackBuf, read_records, update};
+pub use error::TrackErr;
+
+#[cfg(test)]
+mod tests;
