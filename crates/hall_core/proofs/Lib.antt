@@ -5,6 +5,7 @@ mod HistoryLemmas
 mod RecordLemmas
 mod ReplayLemmas
 mod UnitLemmas
+pub mod EarlierLemmas
 pub mod MomentLemmas
 pub mod StageLemmas
 pub mod StepLemmas

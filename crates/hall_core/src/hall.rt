@@ -73,7 +73,7 @@ pub trait Hall {
 
     /// Writes the bytes over those of the unit, from the offset `at` on.
     ///
-    /// The write is pending until a sync is done, also after an error.
+    /// The write is pending until a sync is done. After an error it is pending too, or it was not begun.
     fn write(&mut self, unit: u8, at: u64, bytes: &[u8]) -> Result<(), HallErr>
         requires attached { unit < length (facts self.old).units }
         requires inside { at + length bytes.now ≤ (unit_of (facts self.old).units unit).size }

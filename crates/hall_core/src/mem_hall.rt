@@ -17,10 +17,12 @@ use std::alloc::{AllocError, Global};
 pub use step::Call;
 use step::Step;
 
-/// What a stop leaves of a hall in memory: its files, each a name and its bytes, and what was printed.
+/// What a stop leaves of a hall in memory.
 #[derive(Debug, Drop)]
 pub struct Left {
+    /// The files, each a name and its bytes, in the order in which they were given.
     pub files: Vec<(String, Vec<u8>)>,
+    /// All bytes printed before the moment of the stop.
     pub printed: Vec<u8>,
 }
 
@@ -147,13 +149,14 @@ impl MemHall {
     /// What a stop leaves at a moment, that is before the call of this number or at the beginning of
     /// it, where the i-th flag says whether the i-th write that is pending then is kept.
     ///
-    /// A missing flag counts as false. A moment past the last call is now.
+    /// A missing flag counts as false. A moment past the last call is now. Fails only for want of
+    /// memory.
     pub fn left_at(&self, moment: u64, keep: &[bool]) -> Result<Left, AllocError>
         ensures files { IfOk result (λ left. files_of left.files.items ≡ with_writes (disk_at self.now moment).stable (kept keep.now (disk_at self.now moment).pending)) }
         ensures text { IfOk result (λ left. left.printed.items ≡ (disk_at self.now moment).text) }
         ensures left { IfOk result (λ left. MayLeaveAt (first_files self.now) (events_of self.now) moment (files_of left.files.items) left.printed.items) }
         ensures since { IfOk result (λ left. moment ≤ (meaning_of self.now).clock → (meaning_of self.now).left_since moment (files_of left.files.items) left.printed.items) }
-        ensures every { IfOk result (λ left. (j : List File) → MayLeave (disk_at self.now moment) j → (flags : List Bool) × (keep.now ≡ flags → files_of left.files.items ≡ j)) }
+        ensures every { IfOk result (λ left. (j : List File) → MayLeave (disk_at self.now moment) j → (flags : List Bool) × (j ≡ with_writes (disk_at self.now moment).stable (kept flags (disk_at self.now moment).pending)) × (keep.now ≡ flags → files_of left.files.items ≡ j)) }
     {
         let end = self.steps.len().min(moment as usize);
         let steps = &self.steps[..end];

@@ -11,6 +11,7 @@ use crate::hall::{Hall, HallErr};
 #[derive(Clone, Copy, Debug, PartialEq, Eq)]
 pub struct Device;
 
+// For the `?` of `read`, `write` and `sync`, which have no other error; `attach` has.
 impl From<HallErr> for Device {
     fn from(_: HallErr) -> Self {
         Device

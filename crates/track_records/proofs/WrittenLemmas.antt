@@ -1,5 +1,5 @@
 -- What an image is on which the key and the data of one record of a track were written.
-use Rattle.std.proofs.Common.{◌≡◌, ◌<◌, ◌≤◌, ◌+◌, ◌-◌, ◌*◌, ◌/◌, ◌%◌, ℕ, List, ◌++◌, length, take, drop, Some, refl, sym, ◌∙◌, ap, ⊎_elim, arith, length-drop, length-append}
+use Rattle.std.proofs.Common.{subst, ◌≡◌, ◌<◌, ◌≤◌, ◌+◌, ◌-◌, ◌*◌, ◌/◌, ◌%◌, ℕ, List, ◌++◌, length, take, drop, refl, sym, ◌∙◌, ap, ⊎_elim, arith, length-drop, length-append}
 use Rattle.std.proofs.Math.Nat.{mul-le-mul_left, mul-le-mul_right}
 use Rattle.std.proofs.lemmas.Bool.{cases_lt}
 use Rattle.std.proofs.Math.Seq.{take-append-add}
@@ -8,12 +8,16 @@ use Rattle.ckd_image.specs.declared.header.Geometry.{Geometry}
 use Rattle.ckd_image.specs.Header.{HasGeometry}
 use Rattle.ckd_image.specs.Device.{row_of}
 use Rattle.ckd_image.specs.Reading.{records_of}
-use Rattle.hall_core.specs.Files.{patched}
+use Rattle.std.specs.Option.{option_map}
+use Rattle.hall_core.specs.Facts.{Facts, unit_of}
+use Rattle.hall_core.specs.Files.{File, AreWhole, image_of, patched, written}
+use Rattle.track_records.specs.Calls.{HasTrack}
+use Rattle.track_records.proofs.ImageLemmas.{unit_written}
 use Rattle.pack_spec.specs.Label.{heads_of, records_on, track_bytes}
 use Rattle.pack_spec.specs.Views.{tracks_of}
 use Rattle.track_records.specs.Buffers.{Buffer}
-use Rattle.track_records.specs.Updates.{offset_of, HasLengths}
-use Rattle.track_records.specs.Written.{place_of, StandsOn, IsUpdated}
+use Rattle.track_records.specs.Updates.{with_parts, offset_of, HasLengths}
+use Rattle.track_records.specs.Written.{place_of, StandsOn, IsUpdated, with_record}
 use Rattle.track_records.proofs.PatchLemmas.{take-patched, drop-patched, drop-patched_behind, length-patched}
 use Rattle.track_records.proofs.StandLemmas.{stand}
 use Rattle.track_records.proofs.UpdateLemmas.{track_written, written_inside}
@@ -73,7 +77,7 @@ updated b k key content image has low stands lengths =
     let held : List ℕ = take size (drop base image) in
     let whole : base + size ≤ length image = track_inside g (length image) b.track has low in
     let fits : length held ≡ size = length-take-le size (drop base image) (omega (arith, whole, length-drop base image)) in
-    let standing = stand (b.track / heads_of g) (b.track % heads_of g) (Some (length b.records)) held b.records stands in
+    let standing = stand (b.track / heads_of g) (b.track % heads_of g) stands.0 held b.records stands.1 in
     let inside = written_inside 1 k (drop 21 held) key content b.records standing.records_stand lengths in
     let within : o + length new ≤ size = omega (arith, inside, standing.front, fits, length-drop 21 held) in
     let place : place_of b k ≡ base + o = omega arith in
@@ -93,3 +97,15 @@ updated b k key content image has low stands lengths =
           (λ over. ap (take size) (behind image new (512 + track * size) (place_of b k) (omega (arith, within, track_behind size b.track track (omega (arith, over, other)))) at_end))
           (cases_lt track b.track);
     }
+
+-- the same of a unit, over files that were written
+pub unit_updated : (files files' : List File) (old new : Facts) (b : Buffer) (k : ℕ) (key content : List ℕ) → AreWhole files old.units → HasTrack old.units b.unit b.geometry b.track → HasLengths b.records k (length key) (length content) → new.units ≡ old.units
+    → files' ≡ written files (unit_of old.units b.unit).name (place_of b k) (key ++ content) → StandsOn (image_of files old b.unit) b → IsUpdated b k key content (image_of files old b.unit) (image_of files' new b.unit)
+unit_updated files files' old new b k key content whole has lengths units is stands =
+    let w = unit_written files files' old new b.unit (place_of b k) (key ++ content) whole has.attached units is in
+    let fits : HasGeometry (length (image_of files old b.unit)) b.geometry = subst (λ (n : ℕ). HasGeometry n b.geometry) (sym w.size) has.whole in
+    subst (IsUpdated b k key content (image_of files old b.unit)) (sym w.image) (updated b k key content (image_of files old b.unit) fits has.inside stands lengths)
+
+-- the buffer that was written holds the records of the track
+pub stands_written : (b : Buffer) (k : ℕ) (key content image updated : List ℕ) → IsUpdated b k key content image updated → StandsOn image b → StandsOn updated (with_record b k key content)
+stands_written b k key content image updated is stands = (stands.0, is.records stands.0 ∙ ap (option_map (with_parts k key content)) stands.1)

@@ -10,9 +10,13 @@ use Rattle.track_records.specs.Updates.{offset_of, with_parts}
 abbrev pub place_of : Buffer → ℕ → ℕ
 place_of b k = 512 + b.track * b.geometry.track_size + (21 + offset_of b.records k + 8)
 
--- the records that a buffer holds are those of its track of the image, up to the last of them
+-- the records that a buffer holds are those of its track of the image, to its end marker or up to one of them
 abbrev pub StandsOn : List ℕ → Buffer → Type 0
-StandsOn image b = records_on image b.geometry (Some (length b.records)) b.track ≡ Some b.records
+StandsOn image b = (upto : Option ℕ) × (records_on image b.geometry upto b.track ≡ Some b.records)
+
+-- the buffer of which the k-th record has this key and these data
+abbrev pub with_record : Buffer → ℕ → List ℕ → List ℕ → Buffer
+with_record b k key content = record b { records = with_parts k key content b.records }
 
 -- The k-th record of a track has this key and these data, and nothing else on the image is changed.
 pub record IsUpdated (b : Buffer) (k : ℕ) (key content image updated : List ℕ) : Type 0 where

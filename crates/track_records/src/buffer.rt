@@ -9,7 +9,7 @@ ghost use Rattle.track_records.specs.Buffers.{IsContentOf, IsPartOf};
 ghost use Rattle.track_records.specs.Calls.{HasTrack, TrackCall};
 ghost use Rattle.track_records.specs.Reads.{IsBroken};
 ghost use Rattle.track_records.specs.Updates.{HasLengths, offset_of, with_parts};
-ghost use Rattle.track_records.specs.Written.{place_of};
+ghost use Rattle.track_records.specs.Written.{place_of, IsUpdated, StandsOn};
 
 use crate::error::TrackErr;
 use crate::places::put_places;
@@ -52,7 +52,7 @@ impl Model for TrackBuf {
 }
 
 impl TrackBuf {
-    /// An empty buffer for the tracks of a pack of this geometry.
+    /// An empty buffer for the tracks of a pack of this geometry. Fails only for want of memory.
     pub fn new(alloc: Global, geometry: &Geometry) -> Result<TrackBuf, AllocError>
         ensures { IfOk result (λ b. b ≡ record { geometry = geometry.now; unit = 0; track = 0; records = [] }) }
     {
@@ -189,8 +189,8 @@ fn fill<H: Hall>(
 
 /// Writes this key and these data over those of Rr, which have the same lengths, in one write.
 ///
-/// The write is pending until a sync is done, also after an error. The buffer then holds the new key
-/// and data, whatever the answer is.
+/// The write is pending until a sync is done. After an error it is pending too, or it was not begun.
+/// The buffer then holds the new key and data, whatever the answer is.
 pub fn update<H: Hall>(
     hall: &mut H,
     buf: &mut TrackBuf,
@@ -202,6 +202,7 @@ pub fn update<H: Hall>(
     requires first { 1 ≤ r }
     requires there { HasLengths buf.old.records (r - 1) (length key.now) (length payload.now) }
     ensures told { IsTrue H.tells → AfterWrite (unit_of (H.facts hall.old).units buf.old.unit).name (place_of buf.old (r - 1)) (key.now ++ payload.now) (H.meaning hall.old) (H.meaning hall.new) result }
+    ensures record { let image = image_of (H.meaning hall.old).state (H.facts hall.old) buf.old.unit in IsTrue H.tells → OnOk result (StandsOn image buf.old → IsUpdated buf.old (r - 1) key.now payload.now image (image_of (H.meaning hall.new).state (H.facts hall.new) buf.old.unit) × StandsOn (image_of (H.meaning hall.new).state (H.facts hall.new) buf.old.unit) buf.new) }
     ensures buffer { buf.new ≡ record buf.old { records = with_parts (r - 1) key.now payload.now buf.old.records } }
     ensures call { DeviceCall (H.facts hall.old) (H.facts hall.new) result }
 {

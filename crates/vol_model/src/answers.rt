@@ -107,7 +107,7 @@ pub struct VolumeInfo {
     pub free_tracks: u32,
     /// The number of runs in which they lie, each as long as can be.
     pub free_runs: u32,
-    /// The number of VTOC slots that are free.
+    /// The number of the VTOC's slots, less those that its data sets and its free space need.
     pub free_slots: u32,
 }
 

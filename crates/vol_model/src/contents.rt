@@ -53,7 +53,7 @@ pub struct Attr {
     /// The system code, in EBCDIC.
     pub system: [u8; 13],
     /// DSORG, the organization: X'4000' sequential, X'2000' direct, X'0200' partitioned, X'8000' index
-    /// sequential; the lowest bit says that the set can't be moved.
+    /// sequential; with X'0100' the set can't be moved.
     pub dsorg: u16,
     /// RECFM, the record format: X'80' fixed, X'40' variable, X'C0' undefined; with X'10' blocked,
     /// X'08' standard or spanned, X'04' and X'02' control characters.
@@ -92,7 +92,7 @@ pub struct Entry {
 /// Entries in the order of the eight bytes of their names.
 pub type Entries = Listed<Entry>;
 
-/// The body of a data set, which its name and its DSORG without the lowest bit tell apart.
+/// The body of a data set, which its name and the first byte of its DSORG without X'01' tell apart.
 #[derive(Debug, PartialEq, Eq, Drop)]
 pub enum Body {
     /// A sequential set (PS) with its blocks.

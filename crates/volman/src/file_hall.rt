@@ -271,26 +271,35 @@ mod tests {
         Ok(())
     }
 
-    // The null device, opened for reading: it takes no write, and its data can't be made durable. So a
-    // sync fails where it is one of the units that may have been written, and only there.
+    // A file and the null device, which is opened for reading: it takes no write, and its data can't be
+    // made durable. So a sync fails where it is one of the units that may have been written, and only
+    // there.
     #[test]
     fn faults_leave_the_units_to_the_next_sync(rt: HostRuntime) -> Result<(), Fail> {
+        let name = "file_hall_syncs.tmp";
+        fs::write(&rt, name, "01234567")?;
         let mut hall = FileHall::new(rt.alloc(), &rt);
+        let file = hall.attach(name)?;
         hall.units.push(Unit {
             name: String::from_str(rt.alloc(), "/dev/null")?,
             file: File::open(&rt, "/dev/null")?,
             size: 8,
             is_written: false,
         })?;
+        assert_eq!(rt; (hall.size(file), hall.size(1)), (8, 8));
+        hall.write(file, 6, b"ab")?;
         hall.sync()?;
-        assert_eq!(rt; hall.write(0, 6, b"67"), Err(HallErr::Failed));
+        assert_eq!(rt; hall.write(1, 6, b"67"), Err(HallErr::Failed));
+        hall.write(file, 0, b"cd")?;
         for faults in 2..4 {
             assert_eq!(rt; hall.sync(), Err(HallErr::Failed));
             assert_eq!(rt; hall.dev_faults, faults);
+            assert!(rt; hall.units.iter().all(|unit| unit.is_written));
         }
         hall.set_synced();
         hall.sync()?;
         assert_eq!(rt; (hall.dev_faults, hall.print_faults), (3, 0));
+        fs::remove_file(&rt, name)?;
         Ok(())
     }
 }

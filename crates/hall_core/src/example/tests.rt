@@ -13,7 +13,7 @@ fn hall_that_fails(alloc: Global, fails: &[u64]) -> Result<MemHall, AllocError>
     ensures { IfOk result (λ hall. (facts_of hall).units ≡ []) }
 {
     let mut files = Vec::new(alloc);
-    files.push((String::from_str(alloc, "PACK")?, b"abcdef".to_vec(alloc)?))?;
+    files.push((String::from_str(alloc, "FILE")?, b"abcdef".to_vec(alloc)?))?;
     let mut hall = MemHall::new(alloc, files, fails.to_vec(alloc)?);
     hall.room(8, 16)?;
     Ok(hall)
@@ -23,7 +23,7 @@ fn hall_that_fails(alloc: Global, fails: &[u64]) -> Result<MemHall, AllocError>
 fn change<H: Hall>(hall: &mut H) -> Result<(), HallErr>
     requires { (H.facts hall.old).units ≡ [] }
 {
-    let unit = hall.attach("PACK")?;
+    let unit = hall.attach("FILE")?;
     hall.sync()?;
     if hall.size(unit) < 4 {
         return Err(HallErr::Missing);

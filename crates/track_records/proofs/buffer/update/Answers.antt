@@ -1,10 +1,12 @@
 use Rattle.std.proofs.Common.{◌≡◌, ◌+◌, ◌*◌, ◌-◌, ◌<◌, ◌≤◌, ◌++◌, arith, ap, subst, length, ℕ, sym, ◌∙◌}
 use Rattle.std.specs.Prelude.{slice_get}
 use Rattle.hall_core.specs.Facts.{unit_of}
+use Rattle.hall_core.specs.Files.{image_of}
 use Rattle.track_records.specs.Buffers.{Buffer, IsContentOf}
-use Rattle.track_records.specs.Written.{place_of}
+use Rattle.track_records.specs.Written.{place_of, StandsOn}
 use Rattle.track_records.proofs.UpdateLemmas.{lengths_there, content_written, length-with_parts}
 use Rattle.track_records.proofs.WriteLemmas.{write_done, write_failed, same_write, track_fits}
+use Rattle.track_records.proofs.WrittenLemmas.{unit_updated, stands_written}
 use Rattle.track_records.proofs.buffer.update.Given.{Over}
 use Rattle.track_records.proofs.buffer.update.Goals as goal
 use Rattle.track_records.proofs.buffer.update.Goals.{After-put-place, After-content}
@@ -52,3 +54,12 @@ returns-clause-told g c told =
     let w = (goal.at.returns-clause-told g c).After-content in
     write_done tt
     (same_write _ _ _ _ _ _ (ap (λ (u : ℕ). (unit_of (g.H.Hall.facts c.args.hall.now).units u).name) (unit_is g w)) (place_is g w) (content_is g w) (c.in_ok-write.ensures.told told))
+
+pub returns-clause-record : goal.returns-clause-record
+returns-clause-record g c told stands =
+    let w = (goal.at.returns-clause-record g c).After-content in
+    let write = same_write _ _ _ _ _ _ (ap (λ (u : ℕ). (unit_of (g.H.Hall.facts c.args.hall.now).units u).name) (unit_is g w)) (place_is g w) (content_is g w) (c.in_ok-write.ensures.told told) in
+    let b = c.args.buf.now in
+    let new = image_of (g.H.Hall.meaning c.write.new.self).state (g.H.Hall.facts c.write.new.self) b.unit in
+    let is = unit_updated _ _ (g.H.Hall.facts c.args.hall.now) (g.H.Hall.facts c.write.new.self) c.args.buf.now (c.args.r - 1) c.args.key.now c.args.payload.now (g.met.H.Hall.whole c.args.hall.now told) c.requires.track c.requires.there c.in_ok-write.ensures.call.units write.done stands in
+    (is, subst (StandsOn new) (sym w.put-place.ensures.buffer) (stands_written b (c.args.r - 1) c.args.key.now c.args.payload.now _ new is stands))

@@ -43,4 +43,4 @@ returns-clause-since c low = (c.args.moment, omega arith, low, left (goal.at.ret
 pub returns-clause-every : goal.returns-clause-every
 returns-clause-every c j (flags, is) =
     let d = disk_at c.args.self.now c.args.moment in
-    (flags, λ same. (made (goal.at.returns-clause-every c).In_ok-printed).files_are ∙ ap (λ (k : List Bool). with_writes d.stable (kept k d.pending)) same ∙ sym is)
+    (flags, is, λ same. (made (goal.at.returns-clause-every c).In_ok-printed).files_are ∙ ap (λ (k : List Bool). with_writes d.stable (kept k d.pending)) same ∙ sym is)
