@@ -7,8 +7,8 @@ ghost use Rattle.ckd_image.specs.Header.{HasGeometry, header_bytes, geometry_of,
 use crate::device::DiskType;
 use byteorder::{ByteOrder, LittleEndian};
 
-// The bytes of a header.
-const HEADER_LEN: u64 = 512;
+/// The bytes of the header of an image, which stands before the first track.
+pub const HEADER_LEN: usize = 512;
 
 // The first eight bytes of an image, and those of a compressed one.
 const MAGIC: &[u8; 8] = b"CKD_P370";
@@ -80,7 +80,7 @@ impl Header {
         ensures exact { result ≡ geometry_of bytes.now len }
         ensures whole { IfOk result (HasGeometry len) }
     {
-        if len < HEADER_LEN {
+        if len < HEADER_LEN as u64 {
             return Err(ImageErr::BadMagic);
         }
         if has_magic(bytes, COMPRESSED_MAGIC) {
@@ -107,7 +107,7 @@ impl Header {
     {
         let heads = four_bytes_of(u32::from(geometry.device.heads()));
         let track_size = four_bytes_of(geometry.track_size);
-        let mut bytes = [0; 512];
+        let mut bytes = [0; HEADER_LEN];
         bytes[..HEADS_AT].copy_from_slice(MAGIC);
         bytes[HEADS_AT..TRACK_SIZE_AT].copy_from_slice(&heads);
         bytes[TRACK_SIZE_AT..TYPE_AT].copy_from_slice(&track_size);
@@ -193,7 +193,7 @@ fn cylinders_of(device: DiskType, cylinder_size: u32, len: u64) -> Option<u16>
     ensures whole { IfSome result (λ n. (1 ≤ n) × (len ≡ 512 + n * cylinder_size)) }
 {
     let cylinder_size = u64::from(cylinder_size);
-    let tracks_len = len - HEADER_LEN;
+    let tracks_len = len - HEADER_LEN as u64;
     let most_len = u64::from(device.most_cylinders()) * cylinder_size;
     if tracks_len % cylinder_size == 0 && tracks_len >= cylinder_size && tracks_len <= most_len {
         Some((tracks_len / cylinder_size) as u16)

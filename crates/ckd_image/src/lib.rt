@@ -9,6 +9,6 @@ mod track;
 
 pub use device::DiskType;
 pub use fit::fits;
-pub use header::{Geometry, Header, ImageErr};
-pub use record::{RecordParts, record_at};
-pub use track::{BadCount, track_of};
+pub use header::{Geometry, HEADER_LEN, Header, ImageErr};
+pub use record::{COUNT_LEN, RecordParts, record_at};
+pub use track::{BadCount, FRONT_LEN, track_of};

@@ -13,7 +13,8 @@ pub struct RecordParts<'a> {
     pub data: &'a [u8],
 }
 
-const COUNT_LEN: usize = 8;
+/// The bytes of the count of a record, which stands before its key.
+pub const COUNT_LEN: usize = 8;
 
 const NUMBER_AT: usize = 4;
 
@@ -43,3 +44,6 @@ pub fn record_at(bytes: &[u8], number: u8) -> Option<(RecordParts<'_>, &[u8])>
     let data = &bytes[key_end..end];
     Some((RecordParts { key, data }, &bytes[end..]))
 }
+
+#[cfg(test)]
+mod tests;

@@ -5,13 +5,11 @@ ghost use Rattle.ckd_image.specs.Reading.{records_of, is_at_end, record_length, 
 ghost use Rattle.ckd_image.specs.Break.{break_of, marker_length, front_pattern, pattern_break, record_break, break_behind, break_to_end, break_up_to};
 ghost use Rattle.ckd_image.specs.Walk.{IsReadingOf};
 
+use crate::record::COUNT_LEN;
 use byteorder::{BigEndian, ByteOrder};
 
-// The home address and R0, in bytes.
-const FRONT_LEN: usize = 21;
-
-// The count of a record, in bytes.
-const COUNT_LEN: usize = 8;
+/// The bytes of the home address and R0 of a track, which stand before R1.
+pub const FRONT_LEN: usize = 21;
 
 // Where R, KL and DL stand in a count.
 const R_AT: usize = 4;

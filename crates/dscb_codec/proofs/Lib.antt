@@ -1,5 +1,5 @@
-mod Once
 pub mod Fields
+pub mod Once
 pub mod Parts
 pub mod Tables
 pub mod Unique

@@ -4,7 +4,11 @@ use Rattle.std.specs.Prelude.{◌==◌, count_by}
 use Rattle.std.proofs.lemmas.Bool.{eqb-true, cases_lt}
 use Rattle.std.proofs.lemmas.List.Sums.{sum_by-cons}
 use Rattle.std.proofs.lemmas.Bool.Decides.{nat_tests}
-use Rattle.dscb_codec.specs.Layout.{Field, covers, holds_byte}
+use Rattle.dscb_codec.specs.declared.F1.{F1}
+use Rattle.dscb_codec.specs.declared.F3.{F3}
+use Rattle.dscb_codec.specs.declared.F4.{F4}
+use Rattle.dscb_codec.specs.declared.F5.{F5}
+use Rattle.dscb_codec.specs.Layout.{Field, covers, holds_byte, f1_fields, f3_fields, f4_fields, f5_fields}
 use Rattle.dscb_codec.proofs.Tables.{both}
 
 in_order : (fields : List Field) (start end : ℕ) → covers start fields end ≡ true → start ≤ end
@@ -57,9 +61,20 @@ one_within k (f ∷ fields) start end covered low high =
       | inr more ↦ not_first k f fields (is_behind k f (omega (arith, at, more))) ∙ one_within k fields (start + f.len) end parts.1 more high
     ]
 
+-- each byte below 140 lies in exactly one of the fields, and no other byte in any
 pub once : (fields : List Field) (k : ℕ) → covers 0 fields 140 ≡ true → count_by (holds_byte k) fields ≡ cond (nat_lt k 140) 1 0
 once fields k covered =
     elim (cases_lt k 140) [
       | inl less ↦ one_within k fields 0 140 covered (omega arith) less ∙ (let e : 1 ≡ cond (nat_lt k 140) 1 0 = grind (arith, nat_tests) in e)
       | inr more ↦ none_behind k fields 0 140 covered more ∙ (let e : 0 ≡ cond (nat_lt k 140) 1 0 = grind (arith, nat_tests) in e)
     ]
+
+-- each byte below 140 lies in exactly one field of the table of each format
+pub each_byte_has_a_field : (k : ℕ) → k < 140 →
+    ((f : F1) → count_by (holds_byte k) (f1_fields f) ≡ 1)
+    × ((f : F3) → count_by (holds_byte k) (f3_fields f) ≡ 1)
+    × ((f : F4) → count_by (holds_byte k) (f4_fields f) ≡ 1)
+    × ((f : F5) → count_by (holds_byte k) (f5_fields f) ≡ 1)
+each_byte_has_a_field k below =
+    let one : (fields : List Field) → covers 0 fields 140 ≡ true → count_by (holds_byte k) fields ≡ 1 = λ fields covered. one_within k fields 0 140 covered (omega arith) below in
+    (λ f. one (f1_fields f) refl, λ f. one (f3_fields f) refl, λ f. one (f4_fields f) refl, λ f. one (f5_fields f) refl)

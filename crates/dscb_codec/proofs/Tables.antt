@@ -65,10 +65,10 @@ same_zeros (x ∷ xs) (y ∷ ys) wide zeros_xs zeros_ys =
     let first : x ≡ y = eqb-true x 0 in_xs.0 ∙ sym (eqb-true y 0 in_ys.0) in
     ap (λ (z : ℕ). z ∷ xs) first ∙ ap (λ (zs : List ℕ). y ∷ zs) rest
 
--- 140 bytes of one DSCB are the same
-pub same_bytes : (dscb : Dscb) (xs ys : List ℕ) → length xs ≡ 140 → length ys ≡ 140 → IsDscb dscb xs → IsDscb dscb ys → xs ≡ ys
-same_bytes formats.F0 xs ys wide_xs wide_ys in_xs in_ys = same_zeros xs ys (omega arith) in_xs in_ys
-same_bytes (formats.F1 f) xs ys wide_xs wide_ys in_xs in_ys = same_from (f1_fields f) 0 140 xs ys refl (omega arith) (omega arith) in_xs in_ys
-same_bytes (formats.F3 f) xs ys wide_xs wide_ys in_xs in_ys = same_from (f3_fields f) 0 140 xs ys refl (omega arith) (omega arith) in_xs in_ys
-same_bytes (formats.F4 f) xs ys wide_xs wide_ys in_xs in_ys = same_from (f4_fields f) 0 140 xs ys refl (omega arith) (omega arith) in_xs in_ys
-same_bytes (formats.F5 f) xs ys wide_xs wide_ys in_xs in_ys = same_from (f5_fields f) 0 140 xs ys refl (omega arith) (omega arith) in_xs in_ys
+-- a DSCB that was decoded encodes to the same bytes: no other 140 bytes are those of the DSCB
+pub decoded_encoded : (dscb : Dscb) (bytes encoded : List ℕ) → length bytes ≡ 140 → length encoded ≡ 140 → IsDscb dscb bytes → IsDscb dscb encoded → bytes ≡ encoded
+decoded_encoded formats.F0 xs ys wide_xs wide_ys in_xs in_ys = same_zeros xs ys (omega arith) in_xs in_ys
+decoded_encoded (formats.F1 f) xs ys wide_xs wide_ys in_xs in_ys = same_from (f1_fields f) 0 140 xs ys refl (omega arith) (omega arith) in_xs in_ys
+decoded_encoded (formats.F3 f) xs ys wide_xs wide_ys in_xs in_ys = same_from (f3_fields f) 0 140 xs ys refl (omega arith) (omega arith) in_xs in_ys
+decoded_encoded (formats.F4 f) xs ys wide_xs wide_ys in_xs in_ys = same_from (f4_fields f) 0 140 xs ys refl (omega arith) (omega arith) in_xs in_ys
+decoded_encoded (formats.F5 f) xs ys wide_xs wide_ys in_xs in_ys = same_from (f5_fields f) 0 140 xs ys refl (omega arith) (omega arith) in_xs in_ys

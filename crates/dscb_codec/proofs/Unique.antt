@@ -134,15 +134,15 @@ format_is (formats.F3 f) bytes is = byte_stands bytes 0xF3 is.1.1.0
 format_is (formats.F4 f) bytes is = byte_stands bytes 0xF4 is.1.0
 format_is (formats.F5 f) bytes is = byte_stands bytes 0xF5 is.1.1.0
 
--- bytes are those of one DSCB at most
-pub same_dscb : (bytes : List ℕ) (d e : Dscb) → FitsTypes d → FitsTypes e → IsDscb d bytes → IsDscb e bytes → d ≡ e
-same_dscb bytes formats.F0 formats.F0 fits_d fits_e is_d is_e = refl
-same_dscb bytes (formats.F1 f) (formats.F1 g) fits_d fits_e is_d is_e = ap formats.F1 (same_f1 bytes f g fits_d fits_e is_d is_e)
-same_dscb bytes (formats.F3 f) (formats.F3 g) fits_d fits_e is_d is_e = ap formats.F3 (same_f3 bytes f g fits_d fits_e is_d is_e)
-same_dscb bytes (formats.F4 f) (formats.F4 g) fits_d fits_e is_d is_e = ap formats.F4 (same_f4 bytes f g fits_d fits_e is_d is_e)
-same_dscb bytes (formats.F5 f) (formats.F5 g) fits_d fits_e is_d is_e = ap formats.F5 (same_f5 bytes f g fits_d fits_e is_d is_e)
-same_dscb bytes d e fits_d fits_e is_d is_e = absurd (omega (arith, format_is d bytes is_d, format_is e bytes is_e))
+-- a DSCB that was encoded decodes to the same: no bytes are those of two DSCBs
+pub encoded_decoded : (bytes : List ℕ) (dscb decoded : Dscb) → FitsTypes dscb → FitsTypes decoded → IsDscb dscb bytes → IsDscb decoded bytes → dscb ≡ decoded
+encoded_decoded bytes formats.F0 formats.F0 fits_d fits_e is_d is_e = refl
+encoded_decoded bytes (formats.F1 f) (formats.F1 g) fits_d fits_e is_d is_e = ap formats.F1 (same_f1 bytes f g fits_d fits_e is_d is_e)
+encoded_decoded bytes (formats.F3 f) (formats.F3 g) fits_d fits_e is_d is_e = ap formats.F3 (same_f3 bytes f g fits_d fits_e is_d is_e)
+encoded_decoded bytes (formats.F4 f) (formats.F4 g) fits_d fits_e is_d is_e = ap formats.F4 (same_f4 bytes f g fits_d fits_e is_d is_e)
+encoded_decoded bytes (formats.F5 f) (formats.F5 g) fits_d fits_e is_d is_e = ap formats.F5 (same_f5 bytes f g fits_d fits_e is_d is_e)
+encoded_decoded bytes d e fits_d fits_e is_d is_e = absurd (omega (arith, format_is d bytes is_d, format_is e bytes is_e))
 
 -- what is decoded is the one DSCB of the bytes
 pub only_dscb : (bytes : List ℕ) (d e : Dscb) → FitsTypes d → IsDscb d bytes → FitsTypes e → IsDscb e bytes → ◌≡◌ {A = Result Dscb DscbErr} (Ok d) (Ok e)
-only_dscb bytes d e fits_d is_d fits_e is_e = ap {B = Result Dscb DscbErr} Ok (same_dscb bytes d e fits_d fits_e is_d is_e)
+only_dscb bytes d e fits_d is_d fits_e is_e = ap {B = Result Dscb DscbErr} Ok (encoded_decoded bytes d e fits_d fits_e is_d is_e)

@@ -327,6 +327,7 @@ fn are_zeros(bytes: &[u8; 140]) -> bool
 /// DSCB.
 pub fn decode(bytes: &[u8; 140]) -> Result<Dscb, DscbErr>
     ensures fields { IfOk result (λ d. IsDscb d bytes.now) }
+    ensures types { IfOk result FitsTypes }
     ensures only { (dscb : Dscb) → FitsTypes dscb → IsDscb dscb bytes.now → result ≡ Ok dscb }
     ensures refusal { MatchResult result (λ _. refusal_of bytes.now ≡ None) (λ e. refusal_of bytes.now ≡ Some e) }
 {

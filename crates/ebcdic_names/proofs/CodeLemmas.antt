@@ -64,6 +64,10 @@ ebcdic_of-ascii_of e (k, within, is) =
     ∙ ap (λ (i : ℕ). Some (get_or code_page i 0)) at
     ∙ ap (λ (x : ℕ). Some x) zero
 
+-- each of the 95 printable characters has a byte, and the two ways of the code page undo one another
+pub code_page_law : ((c : ℕ) → 32 ≤ c → c < 127 → MatchOption (ebcdic_of c) ⊥ (λ e. ascii_of e ≡ c)) × ((e : ℕ) → Contains code_page e → ebcdic_of (ascii_of e) ≡ Some e)
+code_page_law = (ascii_of-ebcdic_of, ebcdic_of-ascii_of)
+
 -- a character of the code page is printable ASCII
 pub ascii_bound : (e : ℕ) → ascii_of e < 128
 unfolding ascii_of

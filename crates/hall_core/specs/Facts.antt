@@ -1,5 +1,5 @@
 -- What a hall always tells, in this project's profile: its units, which hall it is, and its counts of faults.
-use Rattle.std.specs.Prelude.{◌≡◌, ℕ, ◌+◌, ◌-◌, ◌^◌, ◌≤◌, min, List, [], ◌∷◌, ◌++◌, length, map, Contains, Result, Ok, OnErr, IfOk, IsErrOf, slice_index_or}
+use Rattle.std.specs.Prelude.{◌≡◌, ℕ, ◌+◌, ◌-◌, ◌^◌, ◌≤◌, min, List, [], ◌∷◌, ◌++◌, length, map, Contains, Result, OnOk, OnErr, IfOk, IsErrOf, slice_index_or}
 use Rattle.hall_core.specs.declared.hall.HallErr.{HallErr}
 use Rattle.hall_core.specs.declared.hall.HallErr.TheVariants.{Failed, Memory}
 
@@ -27,27 +27,32 @@ unit_of units unit = slice_index_or units unit (record { name = []; size = 0 })
 abbrev pub IsAttached : List Attached → List ℕ → Type 0
 IsAttached units name = Contains (map (λ (u : Attached). u.name) units) name
 
--- A device call: it fails only where its count rose, and the rest stays.
+-- A device call: its count stands still where it is done and rose where it failed, and the rest stays.
 pub record DeviceCall {T E : Type 0} (old new : Facts) (result : Result T E) : Type 0 where
   pub units : new.units ≡ old.units
   pub references : new.references ≡ old.references
   pub prints : new.print_faults ≡ old.print_faults
   pub later : old.dev_faults ≤ new.dev_faults
+  pub done : OnOk result (new.dev_faults ≡ old.dev_faults)
   pub failed : OnErr result (Rose old.dev_faults new.dev_faults)
 
--- a device call without an answer
-abbrev pub NotedCall : Facts → Facts → Type 0
-NotedCall old new = DeviceCall {T = Unit {0}} {E = Unit {0}} old new (Ok tt)
+-- A call without an answer, which may note a fault of the device: the rest stays.
+pub record NotedCall (old new : Facts) : Type 0 where
+  pub units : new.units ≡ old.units
+  pub references : new.references ≡ old.references
+  pub prints : new.print_faults ≡ old.print_faults
+  pub later : old.dev_faults ≤ new.dev_faults
 
--- A print: it fails only where its count rose, and the rest stays.
+-- A print: its count stands still where it is done and rose where it failed, and the rest stays.
 pub record PrintCall {T E : Type 0} (old new : Facts) (result : Result T E) : Type 0 where
   pub units : new.units ≡ old.units
   pub references : new.references ≡ old.references
   pub devices : new.dev_faults ≡ old.dev_faults
   pub later : old.print_faults ≤ new.print_faults
+  pub done : OnOk result (new.print_faults ≡ old.print_faults)
   pub failed : OnErr result (Rose old.print_faults new.print_faults)
 
--- An attachment: the file is the next unit, or the units stay; want of memory changes nothing.
+-- An attachment: the file is the next unit, or the units stay; the device count rose where the device failed, and else stands still; want of memory changes nothing.
 pub record AttachCall (name : List ℕ) (old new : Facts) (result : Result ℕ HallErr) : Type 0 where
   pub added : IfOk result (λ unit. (unit ≡ length old.units) × ((size : ℕ) × (new.units ≡ old.units ++ record { name = name; size = size } ∷ [])))
   pub stays : OnErr result (new.units ≡ old.units)
@@ -55,4 +60,5 @@ pub record AttachCall (name : List ℕ) (old new : Facts) (result : Result ℕ H
   pub prints : new.print_faults ≡ old.print_faults
   pub later : old.dev_faults ≤ new.dev_faults
   pub failed : IsErrOf result Failed → Rose old.dev_faults new.dev_faults
+  pub others : ¬ IsErrOf result Failed → new.dev_faults ≡ old.dev_faults
   pub memory : IsErrOf result Memory → new ≡ old

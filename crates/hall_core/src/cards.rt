@@ -1,5 +1,5 @@
 //! The trait of a source of cards, which standard input and a test fixture implement alike.
-ghost use Rattle.std.specs.Prelude.{◌≤◌, ◌<◌, ℕ, List, Bool, length, IsTrue, IfOk, OnErr};
+ghost use Rattle.std.specs.Prelude.{◌≡◌, ◌≤◌, ◌<◌, ℕ, List, Bool, length, IsTrue, IfOk, OnOk, OnErr};
 ghost use Rattle.hall_core.specs.Facts.{Rose};
 ghost use Rattle.hall_core.specs.Cards.{GivesNext};
 
@@ -24,12 +24,13 @@ pub trait Cards {
     /// Puts the next bytes to the front of the buffer and gives their number, which is 0 exactly at
     /// the end.
     ///
-    /// A fault comes only where the count of faults rose. The buffer may then hold anything, and so
-    /// may its bytes behind those that were given.
+    /// The count of faults rises where a fault comes, and only there. After a fault the buffer may hold
+    /// anything, and so may its bytes behind those that were given.
     fn read(&mut self, buf: &mut [u8]) -> Result<usize, ReadFault>
         requires { 0 < length buf.old }
         ensures within { IfOk result (λ n. n ≤ length buf.old) }
         ensures told { IsTrue tells → GivesNext (left self.old) (left self.new) buf.new result }
         ensures later { faults self.old ≤ faults self.new }
+        ensures done { OnOk result (faults self.new ≡ faults self.old) }
         ensures failed { OnErr result (Rose (faults self.old) (faults self.new)) };
 }

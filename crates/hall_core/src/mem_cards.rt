@@ -39,7 +39,7 @@ impl MemCards {
 }
 
 impl Cards for MemCards {
-    ghost use Rattle.std.specs.Prelude.{IfOk, OnErr, IsErr, Contains, ◌↔◌, true, ◌^◌};
+    ghost use Rattle.std.specs.Prelude.{IfOk, OnOk, OnErr, IsErr, Contains, ◌↔◌, true, ◌^◌};
     ghost use Rattle.hall_core.specs.Facts.{Rose};
     ghost use Rattle.hall_core.specs.Cards.{GivesNext};
     ghost use Rattle.hall_core.specs.MemoryCards.{bytes_left, failing_reads, number_of_reads, faults_counted, IsNextRead};
@@ -55,6 +55,7 @@ impl Cards for MemCards {
         ensures within { IfOk result (λ n. n ≤ length buf.old) }
         ensures told { GivesNext (bytes_left self.old) (bytes_left self.new) buf.new result }
         ensures later { faults_counted self.old ≤ faults_counted self.new }
+        ensures done { OnOk result (faults_counted self.new ≡ faults_counted self.old) }
         ensures failed { OnErr result (Rose (faults_counted self.old) (faults_counted self.new)) }
         ensures which { IsErr result ↔ Contains (failing_reads self.old) (number_of_reads self.old) }
         ensures most { IfOk result (λ n. n ≡ min (length buf.old) (length (bytes_left self.old))) }

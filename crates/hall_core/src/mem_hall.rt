@@ -12,7 +12,7 @@ mod step;
 use crate::hall::{Hall, HallErr, fault};
 use note::{append, note, plain_step};
 use pairs::{copy_at, copy_of, first_named, write_file};
-use replay::{apply_done, apply_kept, pending_from, text_printed};
+use replay::{apply_left, pending_from, text_printed};
 use std::alloc::{AllocError, Global};
 pub use step::Call;
 use step::Step;
@@ -162,8 +162,7 @@ impl MemHall {
         let steps = &self.steps[..end];
         let from = pending_from(steps);
         let mut files = copy_of(self.alloc, self.first_files())?;
-        apply_done(&mut files, &steps[..from], &self.units, &self.written);
-        apply_kept(&mut files, &steps[from..], &self.units, &self.written, keep);
+        apply_left(&mut files, steps, from, &self.units, &self.written, keep);
         let printed = text_printed(self.alloc, steps, &self.printed)?;
         Ok(Left { files, printed })
     }
@@ -236,10 +235,10 @@ impl MemHall {
         self.room_bytes -= bytes.len() as u64;
     }
 
-    // Makes a print, and puts it on the record.
-    fn record_print(&mut self, bytes: &[u8])
+    // Makes a print, and puts it on the record; of one that isn't cut a stop leaves all or nothing.
+    fn record_print(&mut self, bytes: &[u8], is_cut: bool)
         requires { HasRoom self.old (length bytes.now) }
-        ensures noted { Records (length bytes.now) Call.Print (printed bytes.now) self.old self.new }
+        ensures noted { Records (length bytes.now) Call.Print (printed bytes.now is_cut) self.old self.new }
         ensures setup { KeepsSetup self.old self.new }
         ensures facts { facts_of self.new ≡ facts_of self.old }
     {
@@ -247,6 +246,7 @@ impl MemHall {
         let step = Step::Print {
             start,
             len: bytes.len(),
+            is_cut,
         };
         note(&mut self.calls, &mut self.steps, Call::Print, step);
         self.room_calls -= 1;
@@ -383,7 +383,7 @@ impl Hall for MemHall {
         ensures told { AfterPrint bytes.now (meaning_of self.old) (meaning_of self.new) result }
         ensures call { PrintCall (facts_of self.old) (facts_of self.new) result }
         ensures error { IfErr result (λ e. e ≡ HallErr.Failed) }
-        ensures exact { IsExactCall (length bytes.now) Call.Print (if is_ok result then printed bytes.now else passed) self.old self.new result }
+        ensures exact { IsExactCall (length bytes.now) Call.Print (if is_ok result then printed bytes.now true else passed) self.old self.new result }
         ensures count { CountsFailure (facts_of self.old).print_faults (facts_of self.new).print_faults result }
         ensures nothing { OnErr result ((meaning_of self.new).printed ≡ (meaning_of self.old).printed) }
     {
@@ -394,7 +394,7 @@ impl Hall for MemHall {
             self.record_plain(bytes.len(), Call::Print, false);
             return Err(fault(&mut self.print_faults));
         }
-        self.record_print(bytes);
+        self.record_print(bytes, true); // as a real device may cut it
         Ok(())
     }
 

@@ -1,101 +1,78 @@
--- The data sets in slots that break no rule, in the order of their names.
-use Rattle.std.proofs.Common.{◌≡◌, ◌+◌, ◌<◌, ℕ, zero, suc, Bool, true, false, cond, not, eqb, ◌&&◌, List, [], ◌∷◌, ◌++◌, length, take, map, filter, get_or, Option, Some, None, refl, sym, ap, ◌∙◌, arith}
-use Rattle.std.proofs.Math.Dec.{eqb-suc-zero}
-use Rattle.std.proofs.lemmas.Bool.{eqb-true}
-use Rattle.std.proofs.lemmas.List.{map-append, take_more}
-use Rattle.std.proofs.lemmas.List.Elements.{filter-append}
-use Rattle.std.proofs.lemmas.List.Sums.{fold-append}
-use Rattle.std.specs.List.{fold, list_all, slice_get}
-use Rattle.ckd_image.specs.declared.header.Geometry.{Geometry}
-use Rattle.dscb_codec.specs.Layout.{format_byte, refusal_of}
+-- The data sets in the order of their names: the same, sorted, and those of one name in their old order.
+use Rattle.std.proofs.Common.{◌≡◌, ◌+◌, ℕ, Bool, true, false, cond, List, [], ◌∷◌, ◌++◌, length, map, refl, sym, ap, ◌∙◌}
+use Rattle.std.specs.Prelude.{◌==◌}
+use Rattle.std.specs.Ordering.{is_lt, nat_cmp}
+use Rattle.std.specs.Cmp.Lexicographic.{slice_cmp}
+use Rattle.std.specs.List.{count_by, filter, flat_map, range_with_len}
+use Rattle.std.proofs.lemmas.List.{length-map, map-append}
+use Rattle.std.proofs.lemmas.List.Sums.{sum_by-cons}
+use Rattle.std.proofs.lemmas.Cmp.{nat_list_cmp_total}
+use Rattle.std.proofs.lemmas.List.Sorted.{ranks_by}
+use Rattle.std.specs.Cmp.{IsStrictWeakOrder}
+use Rattle.std.specs.List.Sorted.{IsPermutation, IsSortedBy, IsStableBy}
 use Rattle.vol_model.specs.declared.contents.DataSet.{DataSet}
-use Rattle.pack_spec.specs.declared.MountErr.{MountErr}
-use Rattle.pack_spec.specs.declared.MountErr.TheVariants.{UnsupportedExtent, BadExtent, BadChain}
-use Rattle.pack_spec.specs.declared.addressed.VtocSlot.{VtocSlot}
-use Rattle.pack_spec.specs.Names.{fault_or, is_data_set, slot_fault}
-use Rattle.pack_spec.specs.Slots.{counted_extents, has_extents, is_extent, has_types, has_chain}
-use Rattle.pack_spec.specs.Faults.{dscb_fault, dscb_faults, extents_fault, front_faults, is_format_4, name_faults, slots_faults}
-use Rattle.pack_spec.specs.Volume.{data_set_of, data_sets_in, in_order, with_set}
-use Rattle.pack_spec.proofs.FirstFaults.{first_append-both, none_at}
+use Rattle.pack_spec.specs.Volume.{in_order, is_before, rank}
+use Rattle.pack_spec.proofs.Ranks.{ranked-permutation, ranked-sorted, ranked-stable, ranked-unique}
 
--- the data sets among some of the slots, in the order of their names
-abbrev pub sets_among : Geometry → List VtocSlot → List VtocSlot → List DataSet
-sets_among g slots some = fold with_set [] (map (λ s. data_set_of g slots s.bytes) (filter (λ s. is_data_set s.bytes) some))
+pub is_before-order : IsStrictWeakOrder is_before
+is_before-order = ranks_by nat_list_cmp_total (λ x. x.name.bytes)
 
-pub sets_among-all : (g : Geometry) (slots : List VtocSlot) → sets_among g slots slots ≡ in_order (data_sets_in g slots)
-unfolding in_order data_sets_in
-sets_among-all g slots = refl
+-- each data set as often as it stands
+pub in_order-permutation : (sets : List DataSet) → IsPermutation sets (in_order sets)
+unfolding in_order rank
+in_order-permutation = ranked-permutation is_before is_before-order
 
--- one more slot, with a data set or without
-sets_with : (g : Geometry) (slots some : List VtocSlot) (s : VtocSlot) (b : Bool) → is_data_set s.bytes ≡ b → sets_among g slots (some ++ s ∷ []) ≡ fold with_set (sets_among g slots some) (map (λ t. data_set_of g slots t.bytes) (cond b (s ∷ []) []))
-sets_with g slots some s b e =
-    let is_set : VtocSlot → Bool = λ t. is_data_set t.bytes in
-    let set_of : VtocSlot → DataSet = λ t. data_set_of g slots t.bytes in
-    ap (λ o. fold with_set [] (map set_of o)) (filter-append is_set some (s ∷ []))
-    ∙ ap (λ o. fold with_set [] o) (map-append set_of (filter is_set some) (filter is_set (s ∷ [])))
-    ∙ fold-append with_set [] (map set_of (filter is_set some)) (map set_of (filter is_set (s ∷ [])))
-    ∙ ap (λ c. fold with_set (sets_among g slots some) (map set_of (cond c (s ∷ []) []))) e
+-- no name stands before that of the data set in front of it
+pub in_order-sorted : (sets : List DataSet) → IsSortedBy is_before (in_order sets)
+unfolding in_order rank
+in_order-sorted = ranked-sorted is_before is_before-order
 
-pub sets_among-set : (g : Geometry) (slots some : List VtocSlot) (i : ℕ) (d s : VtocSlot) → i < length some → s ≡ get_or some i d → is_data_set s.bytes ≡ true → sets_among g slots (take (i + 1) some) ≡ with_set (sets_among g slots (take i some)) (data_set_of g slots s.bytes)
-sets_among-set g slots some i d s h is e =
-    ap (sets_among g slots) (take_more some i d h) ∙ ap (λ t. sets_among g slots (take i some ++ t ∷ [])) (sym is) ∙ sets_with g slots (take i some) s true e
+-- data sets of one name in the order in which they stand
+pub in_order-stable : (sets : List DataSet) → IsStableBy is_before sets (in_order sets)
+unfolding in_order rank
+in_order-stable = ranked-stable is_before is_before-order
 
-pub sets_among-other : (g : Geometry) (slots some : List VtocSlot) (i : ℕ) (d s : VtocSlot) → i < length some → s ≡ get_or some i d → is_data_set s.bytes ≡ false → sets_among g slots (take (i + 1) some) ≡ sets_among g slots (take i some)
-sets_among-other g slots some i d s h is e =
-    ap (sets_among g slots) (take_more some i d h) ∙ ap (λ t. sets_among g slots (take i some ++ t ∷ [])) (sym is) ∙ sets_with g slots (take i some) s false e
+-- there is no other such list
+pub in_order-unique : (sets sorted : List DataSet) → IsSortedBy is_before sorted → IsStableBy is_before sets sorted → sorted ≡ in_order sets
+unfolding in_order rank
+in_order-unique = ranked-unique is_before is_before-order
 
-fault_or-none : (o later : Option MountErr) → fault_or o later ≡ None → later ≡ None
-fault_or-none None later e = e
-fault_or-none (Some x) later e = cc
+module _ {X Y : Type 0} (f : X → Y) (p : X → Bool) (q : Y → Bool) where
+  kept_step : (x : X) (ys : List Y) (xs : List X) (b : Bool) → ys ≡ map f xs → cond b (f x ∷ ys) ys ≡ map f (cond b (x ∷ xs) xs)
+  kept_step x ys xs true same = ap (λ l. f x ∷ l) same
+  kept_step x ys xs false same = same
 
-behind_first : (b : Bool) (o : Option MountErr) → b ≡ false → cond b None o ≡ None → o ≡ None
-behind_first true o h e = cc
-behind_first false o h e = e
+  filter-map : ((x : X) → q (f x) ≡ p x) → (xs : List X) → filter q (map f xs) ≡ map f (filter p xs)
+  filter-map same [] = refl
+  filter-map same (x ∷ xs) = ap (λ b. cond b (f x ∷ filter q (map f xs)) (filter q (map f xs))) (same x) ∙ kept_step x (filter q (map f xs)) (filter p xs) (p x) (filter-map same xs)
 
-middle_holds : (a b c : Bool) (k : ℕ) → cond (not a) (Some (UnsupportedExtent k)) (cond (not b) (Some (BadExtent k)) (cond (not c) (Some (BadChain k)) None)) ≡ None → b ≡ true
-middle_holds true true c k e = refl
-middle_holds true false c k e = cc
-middle_holds false b c k e = cc
+count_by-map : {X Y : Type 0} (p : Y → Bool) (f : X → Y) (xs : List X) → count_by p (map f xs) ≡ count_by (λ x. p (f x)) xs
+count_by-map p f [] = refl
+count_by-map p f (x ∷ xs) =
+    sum_by-cons (λ y. cond (p y) 1 0) (f x) (map f xs) ∙ ap (λ (n : ℕ). cond (p (f x)) 1 0 + n) (count_by-map p f xs) ∙ sym (sum_by-cons (λ y. cond (p (f y)) 1 0) x xs)
 
-and-right : (a b : Bool) → (a && b) ≡ true → b ≡ true
-and-right true b e = e
-and-right false b e = cc
+-- one name stands before another
+abbrev is_lower : List ℕ → List ℕ → Bool
+is_lower a b = is_lt (slice_cmp nat_cmp a b)
 
-extents_fault-none : (g : Geometry) (slots : List VtocSlot) (k : ℕ) (set : List ℕ) → extents_fault g slots k set ≡ None → list_all (is_extent g) (counted_extents slots set) ≡ true
-unfolding extents_fault has_extents
-extents_fault-none g slots k set e =
-    and-right _ _ (middle_holds (has_types slots set) (has_extents g slots set) (has_chain slots (take k slots) set) k e)
+is_lower-order : IsStrictWeakOrder is_lower
+is_lower-order = ranks_by nat_list_cmp_total (λ x. x)
 
-dscb_fault-none : (g : Geometry) (slots : List VtocSlot) (k : ℕ) (s : VtocSlot) → 0 < k → is_data_set s.bytes ≡ true → dscb_fault g slots k s ≡ None → list_all (is_extent g) (counted_extents slots s.bytes) ≡ true
-unfolding dscb_fault
-dscb_fault-none g slots zero s h is e = absurd (omega arith)
-dscb_fault-none g slots (suc k) s h is e =
-    let set = s.bytes in
-    let behind = behind_first (eqb (suc k) 0) _ (eqb-suc-zero k) e in
-    let later = fault_or-none (slot_fault (suc k) (refusal_of set) (format_byte set)) (cond (is_data_set set) (extents_fault g slots (suc k) set) None) behind in
-    extents_fault-none g slots (suc k) set (sym (ap (λ b. cond b (extents_fault g slots (suc k) set) None) is) ∙ later)
+abbrev name_of : DataSet → List ℕ
+name_of x = x.name.bytes
 
-front-none : (b : Bool) (x : MountErr) (ys : List MountErr) → slice_get (cond b [] (x ∷ []) ++ ys) 0 ≡ None → b ≡ true
-front-none true x ys e = refl
-front-none false x ys e = cc
+named_at : (sets : List DataSet) (ks : List ℕ) → map name_of (flat_map (λ k. filter (λ x. rank sets x == k) sets) ks) ≡ flat_map (λ k. filter (λ n. count_by (λ m. is_lower m n) (map name_of sets) == k) (map name_of sets)) ks
+unfolding rank
+named_at sets [] = refl
+named_at sets (k ∷ ks) =
+    map-append name_of (filter (λ x. rank sets x == k) sets) (flat_map (λ j. filter (λ x. rank sets x == j) sets) ks)
+    ∙ ap (λ l. l ++ map name_of (flat_map (λ j. filter (λ x. rank sets x == j) sets) ks)) (sym (filter-map name_of (λ x. rank sets x == k) (λ n. count_by (λ m. is_lower m n) (map name_of sets) == k) (λ x. ap (λ (c : ℕ). c == k) (count_by-map (λ m. is_lower m (name_of x)) name_of sets)) sets))
+    ∙ ap (λ l. filter (λ n. count_by (λ m. is_lower m n) (map name_of sets) == k) (map name_of sets) ++ l) (named_at sets ks)
 
--- slot 0 is a format 4, so it has no data set
-first_is_format_4 : (slots : List VtocSlot) (d : VtocSlot) → slice_get (front_faults slots) 0 ≡ None → is_format_4 (get_or slots 0 d) ≡ true
-unfolding front_faults
-first_is_format_4 [] d e = cc
-first_is_format_4 (s ∷ slots) d e = front-none (is_format_4 s) _ _ e
-
-two_formats : (b : ℕ) → eqb b 0xF4 ≡ true → eqb b 0xF1 ≡ true → ⊥
-two_formats b e h = let four = eqb-true b 0xF4 e in let one = eqb-true b 0xF1 h in omega arith
-
--- the extents of each data set are good, where no slot breaks a rule
-pub extents_hold : (g : Geometry) (slots : List VtocSlot) (i : ℕ) (d s : VtocSlot) → slice_get (slots_faults g slots) 0 ≡ None → i < length slots → s ≡ get_or slots i d → is_data_set s.bytes ≡ true → list_all (is_extent g) (counted_extents slots s.bytes) ≡ true
-unfolding slots_faults dscb_faults
-extents_hold g slots zero d s e h same is =
-    let front = (first_append-both (front_faults slots) _ e).0 in
-    absurd (two_formats (format_byte s.bytes) (ap is_format_4 same ∙ first_is_format_4 slots d front) is)
-extents_hold g slots (suc i) d s e h same is =
-    let faults = (first_append-both (dscb_faults g slots) (name_faults slots) (first_append-both (front_faults slots) _ e).1).0 in
-    let none = none_at (λ p. dscb_fault g slots p.0 p.1) 0 slots (suc i) d faults h in
-    let zero_more : 0 + suc i ≡ suc i = omega arith in
-    dscb_fault-none g slots (suc i) s (omega arith) is (ap (λ t. dscb_fault g slots (suc i) t) same ∙ ap (λ k. dscb_fault g slots k (get_or slots (suc i) d)) (sym zero_more) ∙ none)
+-- the names of the data sets, sorted, are those of the data sets in order
+pub in_order-named : (sets : List DataSet) (listed : List (List ℕ)) → IsSortedBy is_lower listed → IsStableBy is_lower (map name_of sets) listed → listed ≡ map name_of (in_order sets)
+unfolding in_order
+in_order-named sets listed sorted stable =
+    ranked-unique is_lower is_lower-order (map name_of sets) listed sorted stable
+    ∙ ap (λ n. flat_map (λ k. filter (λ m. count_by (λ l. is_lower l m) (map name_of sets) == k) (map name_of sets)) (range_with_len 0 n)) (length-map sets name_of)
+    ∙ sym (named_at sets (range_with_len 0 (length sets)))

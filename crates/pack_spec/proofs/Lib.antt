@@ -3,8 +3,9 @@ pub mod Walks
 pub mod Labels
 pub mod SlotParts
 pub mod Extents
-pub mod Faults
 pub mod FirstFaults
 pub mod TrackSlots
+pub mod DataSets
+pub mod Ranks
 pub mod InOrder
 pub mod Volumes

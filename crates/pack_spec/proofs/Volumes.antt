@@ -1,16 +1,19 @@
 -- The volume of an image whose tracks, slots and data sets are found.
-use Rattle.std.proofs.Common.{◌≡◌, ℕ, List, [], ◌++◌, length, unwrap_or, Option, Some, None, Result, Ok, Err, refl, sym, ap, ◌∙◌}
+use Rattle.std.proofs.Common.{◌≡◌, ◌≢◌, ℕ, List, [], ◌++◌, length, unwrap_or, Option, Some, None, Result, Ok, Err, refl, sym, ap, subst, ◌∙◌}
 use Rattle.std.specs.List.{slice_get, slice_range}
 use Rattle.ckd_image.specs.declared.header.Geometry.{Geometry}
 use Rattle.ebcdic_names.specs.declared.names.Serial.{Serial}
 use Rattle.vol_model.specs.declared.contents.DataSet.{DataSet}
+use Rattle.vol_model.specs.declared.contents.Volume.{Volume}
 use Rattle.pack_spec.specs.declared.MountErr.{MountErr}
+use Rattle.pack_spec.specs.declared.MountErr.TheVariants.{Memory}
 use Rattle.pack_spec.specs.declared.addressed.VtocSlot.{VtocSlot}
 use Rattle.pack_spec.specs.Label.{label_of}
 use Rattle.pack_spec.specs.Vtoc.{Run}
 use Rattle.pack_spec.specs.Slots.{slots_of_vtoc}
 use Rattle.pack_spec.specs.Faults.{slots_faults, track_faults, vtoc_fault}
 use Rattle.pack_spec.specs.Volume.{data_sets_in, in_order, unless, volume_with, volume_within}
+use Rattle.pack_spec.specs.Views.{Answers}
 use Rattle.pack_spec.proofs.FirstFaults.{first_append-some}
 
 -- a track of the VTOC breaks the rules
@@ -50,3 +53,8 @@ within-volume image g vtoc v slots serial count sets is unbroken same fault name
     ∙ ap (λ o. unless o (volume_with g (unwrap_or (label_of image g) []) v (slots_of_vtoc image g v))) (vtoc_fault-slots image g v slots None unbroken same fault)
     ∙ ap (λ s. Ok (volume_with g (unwrap_or (label_of image g) []) v s)) (sym same)
     ∙ rw (named, counted, held) refl
+
+-- an error that is handed on
+pub answers_err : (meant : Result Volume MountErr) (result : Result Volume MountErr) (given e : MountErr) → result ≡ Err given → given ≡ e → (e ≢ Memory → meant ≡ Err e) → Answers (λ v. v) meant result
+answers_err meant result given e is same why =
+    subst (λ (r : Result Volume MountErr). Answers (λ v. v) meant r) (sym (is ∙ ap Err same)) why

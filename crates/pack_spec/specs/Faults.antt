@@ -9,7 +9,7 @@ use Rattle.pack_spec.specs.declared.MountErr.{MountErr}
 use Rattle.pack_spec.specs.declared.MountErr.TheVariants.{VtocTrack, NoFormat4, NoFormat5, UnsupportedExtent, BadExtent, BadChain, DuplicateName}
 use Rattle.pack_spec.specs.declared.addressed.VtocSlot.{VtocSlot}
 use Rattle.pack_spec.specs.Vtoc.{Run, slots_on}
-use Rattle.pack_spec.specs.Names.{fault_or, is_data_set, slot_fault}
+use Rattle.pack_spec.specs.Formats.{fault_or, is_data_set, slot_fault}
 use Rattle.pack_spec.specs.Slots.{slots_of_vtoc, tracks_in, has_types, has_extents, has_chain}
 
 -- a track breaks the grammar, or has a record that is no slot

@@ -1,6 +1,6 @@
 pub mod Label
 pub mod Vtoc
-pub mod Names
+pub mod Formats
 pub mod Slots
 pub mod Faults
 pub mod Volume

@@ -9,7 +9,7 @@ use Rattle.dscb_codec.specs.Layout.{format_byte}
 use Rattle.pack_spec.specs.declared.addressed.VtocSlot.{VtocSlot}
 use Rattle.pack_spec.specs.Label.{Address, address_at, heads_of, is_inside, track_of_address}
 use Rattle.pack_spec.specs.Vtoc.{Run, slots_on}
-use Rattle.pack_spec.specs.Names.{is_data_set}
+use Rattle.pack_spec.specs.Formats.{is_data_set}
 
 -- the tracks of a run
 abbrev pub tracks_in : Run → List ℕ

@@ -1,14 +1,11 @@
 -- What the program holds, as the definitions have it.
-use Rattle.std.specs.Prelude.{◌≡◌, ℕ, ◌*◌, Result, Ok, Err}
+use Rattle.std.specs.Prelude.{◌≡◌, ◌≢◌, ℕ, ◌*◌, Result, Ok, Err}
 use Rattle.ckd_image.specs.declared.header.Geometry.{Geometry}
 use Rattle.ckd_image.specs.Track.{Record}
 use Rattle.pack_spec.specs.declared.MountErr.{MountErr}
-use Rattle.pack_spec.specs.declared.NamesErr.{NamesErr}
-use Rattle.pack_spec.specs.declared.NamesErr.TheVariants.{Refused, Memory}
-use Rattle.pack_spec.specs.declared.VolumeErr.{VolumeErr}
-use Rattle.pack_spec.specs.declared.VolumeErr.TheVariants as volumes
+use Rattle.pack_spec.specs.declared.MountErr.TheVariants.{Memory}
 use Rattle.pack_spec.specs.declared.track.Record as held
-use Rattle.pack_spec.specs.declared.label.Address as places
+use Rattle.pack_spec.specs.declared.address.Address as places
 use Rattle.pack_spec.specs.declared.vtoc.Run as extents
 use Rattle.pack_spec.specs.Vtoc.{Run}
 use Rattle.pack_spec.specs.Label.{Address, heads_of}
@@ -30,12 +27,6 @@ abbrev pub tracks_of : Geometry → ℕ
 tracks_of g = g.cylinders * heads_of g
 
 -- this was found, or that rule is broken, as is meant; nothing is said where memory runs out
-abbrev pub Answers : {A X : Type 0} → (X → A) → Result A MountErr → Result X NamesErr → Type 0
+abbrev pub Answers : {A X : Type 0} → (X → A) → Result A MountErr → Result X MountErr → Type 0
 Answers view meant (Ok x) = meant ≡ Ok (view x)
-Answers view meant (Err (Refused e)) = meant ≡ Err e
-Answers view meant (Err Memory) = Unit {0}
-
--- why there is no volume, where the label or the VTOC isn't found
-abbrev pub volume_err_of : NamesErr → VolumeErr
-volume_err_of (Refused e) = volumes.Refused e
-volume_err_of Memory = volumes.Memory
+Answers view meant (Err e) = e ≢ Memory → meant ≡ Err e

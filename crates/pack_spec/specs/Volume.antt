@@ -1,5 +1,6 @@
 -- The volume that an image stands for.
-use Rattle.std.specs.Prelude.{ℕ, ◌+◌, ◌-◌, ◌==◌, ◌||◌, not, Bool, List, [], ◌∷◌, ◌++◌, length, map, filter, fold, take, bit_and, Option, Some, None, Result, Ok, Err, unwrap_or, slice_index, slice_range, if◌then◌else◌}
+use Rattle.std.specs.Prelude.{ℕ, ◌+◌, ◌-◌, ◌==◌, ◌||◌, Bool, List, [], ◌∷◌, length, map, filter, take, bit_and, Option, Some, None, Result, Ok, Err, unwrap_or, slice_index, slice_range, if◌then◌else◌}
+use Rattle.std.specs.List.{count_by, flat_map, range_with_len}
 use Rattle.std.specs.Ordering.{is_lt, nat_cmp}
 use Rattle.std.specs.Cmp.Lexicographic.{slice_cmp}
 use Rattle.std.specs.Int.{w16, w32, from_be_bytes}
@@ -16,7 +17,7 @@ use Rattle.pack_spec.specs.declared.MountErr.TheVariants.{Image}
 use Rattle.pack_spec.specs.declared.addressed.VtocSlot.{VtocSlot}
 use Rattle.pack_spec.specs.Label.{label_of, track_of_address}
 use Rattle.pack_spec.specs.Vtoc.{Run, vtoc_of}
-use Rattle.pack_spec.specs.Names.{is_data_set}
+use Rattle.pack_spec.specs.Formats.{is_data_set}
 use Rattle.pack_spec.specs.Slots.{counted_extents, lower_of, upper_of, slots_of_vtoc}
 use Rattle.pack_spec.specs.Faults.{vtoc_fault}
 
@@ -77,13 +78,13 @@ data_sets_in g slots = map (λ s. data_set_of g slots s.bytes) (filter (λ s. is
 abbrev pub is_before : DataSet → DataSet → Bool
 is_before a b = is_lt (slice_cmp nat_cmp a.name.bytes b.name.bytes)
 
--- one more data set, behind those whose names stand before its name
-unfoldable pub with_set : List DataSet → DataSet → List DataSet
-with_set sets x = filter (λ y. is_before y x) sets ++ (x ∷ filter (λ y. not (is_before y x)) sets)
+-- how many of these data sets have a name that stands before that of one
+unfoldable pub rank : List DataSet → DataSet → ℕ
+rank sets x = count_by (λ y. is_before y x) sets
 
--- the data sets in the order of the bytes of their names
+-- the data sets in the order of the bytes of their names: at each place those before which so many stand, equal names as they stand
 unfoldable pub in_order : List DataSet → List DataSet
-in_order sets = fold with_set [] sets
+in_order sets = flat_map (λ k. filter (λ x. rank sets x == k) sets) (range_with_len 0 (length sets))
 
 -- the volume with this label and these slots of its VTOC; the serial stands at byte 4 of the label's data
 unfoldable pub volume_with : Geometry → List ℕ → Run → List VtocSlot → Volume

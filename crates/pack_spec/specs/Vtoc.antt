@@ -1,6 +1,5 @@
 -- The VTOC of an image: its extent, and its slots (System Control Blocks GC28-6628).
 use Rattle.std.specs.Prelude.{ℕ, ◌+◌, ◌-◌, ◌==◌, ◌&&◌, nat_lt, nat_le, Bool, List, [], ◌∷◌, ◌++◌, length, map, Option, Some, None, Result, Ok, Err, option_and_then, if◌then◌else◌}
-use Rattle.std.proofs.Common.{zero, suc}
 use Rattle.std.specs.List.{list_all}
 use Rattle.ckd_image.specs.declared.header.Geometry.{Geometry}
 use Rattle.ckd_image.specs.Track.{Record}
@@ -62,23 +61,3 @@ slots_in records = if list_all is_slot records then Some (map slot_bytes records
 -- the slots on a track; nothing where it breaks the grammar, or has a record that is no slot
 unfoldable pub slots_on : List ℕ → Geometry → ℕ → Option (List (List ℕ))
 slots_on image g track = option_and_then slots_in (records_on image g None track)
-
--- the slots of a track and those behind them
-abbrev pub slots_and : ℕ → Option (List (List ℕ)) → Result (List (List ℕ)) MountErr → Result (List (List ℕ)) MountErr
-slots_and track None behind = Err (VtocTrack track)
-slots_and track (Some slots) (Ok behind) = Ok (slots ++ behind)
-slots_and track (Some slots) (Err e) = Err e
-
--- the slots on so many tracks, or the lowest that breaks the rules
-unfoldable pub slots_from : List ℕ → Geometry → ℕ → ℕ → Result (List (List ℕ)) MountErr
-slots_from image g track zero = Ok []
-slots_from image g track (suc n) = slots_and track (slots_on image g track) (slots_from image g (suc track) n)
-
--- the slots in an extent
-abbrev pub slots_within : List ℕ → Geometry → Result Run MountErr → Result (List (List ℕ)) MountErr
-slots_within image g (Err e) = Err e
-slots_within image g (Ok vtoc) = slots_from image g vtoc.start vtoc.len
-
--- the slots of the VTOC, or the first rule that is broken
-unfoldable pub slots_of : List ℕ → Geometry → Result (List (List ℕ)) MountErr
-slots_of image g = slots_within image g (vtoc_of image g)

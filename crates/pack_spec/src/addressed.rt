@@ -1,14 +1,13 @@
 //! The slots of a VTOC with the addresses of their records.
-ghost use Rattle.std.specs.Prelude.{◌≡◌, ℕ, ◌≤◌, ◌<◌, ◌+◌, ◌*◌, ◌++◌, List, [], length, vec_len, Some, Err, Ok, IfOk, OnOk, slice_get};
+ghost use Rattle.std.specs.Prelude.{◌≡◌, ◌≢◌, ◌≤◌, ◌+◌, ◌*◌, ◌++◌, [], length, vec_len, Some, IfOk, IfErr, OnOk, slice_get};
 ghost use Rattle.ckd_image.specs.Header.{HasGeometry};
-ghost use Rattle.pack_spec.specs.declared.MountErr.{MountErr};
 ghost use Rattle.pack_spec.specs.Slots.{addressed_from, record_address, slots_of_vtoc};
 ghost use Rattle.pack_spec.specs.Faults.{track_faults};
 ghost use Rattle.pack_spec.specs.Views.{run_of, tracks_of};
 
+use crate::MountErr;
 use crate::slots::{Slot, slots_on};
 use crate::vtoc::Run;
-use crate::{MountErr, VolumeErr};
 use ckd_image::Geometry;
 use std::alloc::{AllocError, Global};
 
@@ -27,18 +26,18 @@ pub(crate) fn slots_of_vtoc(
     image: &[u8],
     geometry: Geometry,
     vtoc: Run,
-) -> Result<Vec<VtocSlot>, VolumeErr>
+) -> Result<Vec<VtocSlot>, MountErr>
     requires whole { HasGeometry (length image.now) geometry }
     requires inside { vtoc.start + vtoc.len ≤ tracks_of geometry }
     ensures slots { IfOk result (λ v. v.items ≡ slots_of_vtoc image.now geometry (run_of vtoc)) }
     ensures unbroken { IfOk result (λ _. track_faults image.now geometry (run_of vtoc) ≡ []) }
-    ensures broken { (e : MountErr) → result ≡ Err (VolumeErr.Refused e) → slice_get (track_faults image.now geometry (run_of vtoc)) 0 ≡ Some e }
+    ensures broken { IfErr result (λ e. e ≢ MountErr.Memory → slice_get (track_faults image.now geometry (run_of vtoc)) 0 ≡ Some e) }
     ensures few { IfOk result (λ v. vec_len v ≤ vtoc.len * 255) }
 {
     let mut slots = Vec::new(alloc);
     for track in vtoc.start..vtoc.start + vtoc.len {
         let Some(found) = slots_on(alloc, image, geometry, track)? else {
-            return Err(VolumeErr::Refused(MountErr::VtocTrack { track }));
+            return Err(MountErr::VtocTrack { track });
         };
         push_addressed(&mut slots, geometry, track, &found)?;
     }
@@ -64,8 +63,8 @@ fn push_addressed(
     Ok(())
 }
 
-// The address CCHHR of a record on a track.
-fn record_address(geometry: Geometry, track: u16, number: u8) -> [u8; 5]
+/// The address CCHHR of a record on a track, which is counted from 0 over the volume.
+pub fn record_address(geometry: Geometry, track: u16, number: u8) -> [u8; 5]
     ensures { result ≡ record_address geometry track number }
 {
     let heads = geometry.device.heads();

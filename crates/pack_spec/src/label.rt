@@ -1,10 +1,9 @@
-//! Addresses, and the volume label.
-ghost use Rattle.std.specs.Prelude.{◌≡◌, ℕ, ◌≤◌, ◌<◌, ◌+◌, length, map, slice_range, IsTrue, IfOk, IfSome};
+//! The volume label.
+ghost use Rattle.std.specs.Prelude.{◌≡◌, length, map, IfOk, IfSome};
 ghost use Rattle.std.specs.Option.{option_copied};
-ghost use Rattle.std.specs.Int.{w16, from_be_bytes};
 ghost use Rattle.ckd_image.specs.Header.{HasGeometry};
-ghost use Rattle.pack_spec.specs.Label.{address_at, is_inside, track_of_address, is_keyed, label_in, label_of, are_label};
-ghost use Rattle.pack_spec.specs.Views.{address_of, record_of, tracks_of};
+ghost use Rattle.pack_spec.specs.Label.{is_keyed, label_in, label_of, are_label};
+ghost use Rattle.pack_spec.specs.Views.{record_of};
 
 use crate::track::{Record, records_on};
 use ckd_image::Geometry;
@@ -26,51 +25,6 @@ const LABEL_LEN: usize = 80;
 
 // The record of the label, behind the two of the initial program.
 const LABEL_RECORD: u8 = 3;
-
-// The address of a track.
-#[derive(Clone, Copy, Debug, PartialEq, Eq)]
-pub(crate) struct Address {
-    pub cylinder: u16,
-    pub head: u16,
-}
-
-impl Address {
-    // CCHH at an offset.
-    pub(crate) fn read(bytes: &[u8], at: usize) -> Address
-        requires { at + 4 ≤ length bytes.now }
-        ensures { address_of result ≡ address_at at bytes.now }
-    {
-        Address {
-            cylinder: halfword_at(bytes, at),
-            head: halfword_at(bytes, at + 2),
-        }
-    }
-
-    // Whether the image has the track.
-    pub(crate) fn is_inside(self, geometry: Geometry) -> bool
-        ensures { result ≡ is_inside geometry (address_of self) }
-    {
-        self.cylinder < geometry.cylinders && self.head < geometry.device.heads()
-    }
-
-    // The number of the track, counted from 0 over the volume.
-    pub(crate) fn track(self, geometry: Geometry) -> u16
-        requires whole { (len : ℕ) × HasGeometry len geometry }
-        requires inside { IsTrue (is_inside geometry (address_of self)) }
-        ensures exact { result ≡ track_of_address geometry (address_of self) }
-        ensures bound { result < tracks_of geometry }
-    {
-        self.cylinder * geometry.device.heads() + self.head
-    }
-}
-
-// The number in two bytes at an offset.
-pub(crate) fn halfword_at(bytes: &[u8], at: usize) -> u16
-    requires { at + 2 ≤ length bytes.now }
-    ensures { result ≡ from_be_bytes w16 (slice_range bytes.now at (at + 2)) }
-{
-    u16::from_be_bytes([bytes[at], bytes[at + 1]])
-}
 
 // The data of the volume label, which stands on cylinder 0, head 0.
 #[tactic(auto, unfolding(crate::specs::Label::label_of))]

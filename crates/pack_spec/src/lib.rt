@@ -1,16 +1,15 @@
 //! What the image of a pack stands for: definitions, and a plain program that follows them.
 #![tactic(auto)]
 
-ghost use Rattle.std.specs.Prelude.{◌≡◌, ◌≤◌, List, [], ℕ, Ok, Err, IfOk, length, slice_range, take, unwrap_or};
+ghost use Rattle.std.specs.Prelude.{◌≡◌, ◌≢◌, [], Err, IfOk, IfErr, length, slice_range, take, unwrap_or};
 ghost use Rattle.ckd_image.specs.Header.{HasGeometry, geometry_of};
 ghost use Rattle.pack_spec.specs.Label.{label_of};
 ghost use Rattle.pack_spec.specs.Vtoc.{vtoc_of};
-ghost use Rattle.pack_spec.specs.Names.{names_of, IsListing};
-ghost use Rattle.pack_spec.specs.Views.{volume_err_of};
+ghost use Rattle.pack_spec.specs.Views.{Answers};
 ghost use Rattle.pack_spec.specs.Volume.{volume_of, volume_within};
-ghost use Rattle.pack_spec.specs.declared.MountErr.{MountErr};
-ghost use Rattle.pack_spec.specs.declared.NamesErr.TheVariants.{Memory};
+ghost use Rattle.pack_spec.specs.declared.MountErr.TheVariants as mount;
 
+mod address;
 mod addressed;
 mod dscbs;
 mod label;
@@ -22,13 +21,12 @@ mod track;
 mod vtoc;
 
 use crate::addressed::slots_of_vtoc;
-use crate::dscbs::{names_in, slots_fault};
 use crate::label::label;
 use crate::rules::first_fault;
 use crate::sets::data_sets_in_order;
-use crate::slots::slots_of;
 use crate::vtoc::vtoc;
-pub use addressed::VtocSlot;
+pub use address::Address;
+pub use addressed::{VtocSlot, record_address};
 use ckd_image::{Geometry, Header, ImageErr};
 use ebcdic_names::Serial;
 use std::alloc::{AllocError, Global};
@@ -37,9 +35,11 @@ use vol_model::{DataSets, Run, Volume};
 // Where the serial stands in the data of the label.
 const SERIAL_AT: usize = 4;
 
-/// The first rule of mounting that an image breaks, in this order.
+/// Why a pack isn't mounted: the first rule that it breaks, in this order, or what kept it from being read.
 #[derive(Clone, Copy, Debug, PartialEq, Eq)]
 pub enum MountErr {
+    /// No file has the name.
+    NoFile,
     /// The header or the length of the image, which has the CKD layout of Hercules.
     Image(ImageErr),
     /// No volume label on cylinder 0, head 0: the track breaks the grammar up to its third record, or
@@ -100,106 +100,46 @@ pub enum MountErr {
         /// The lowest earlier slot of that name.
         other: u32,
     },
-}
-
-/// Why there are no names.
-#[derive(Clone, Copy, Debug, PartialEq, Eq)]
-pub enum NamesErr {
-    /// The image breaks a rule of mounting.
-    Refused(MountErr),
     /// Memory ran out, which says nothing of the image.
     Memory,
+    /// The device failed, and its count of faults rose; which says nothing of the image.
+    Device,
 }
 
-impl From<AllocError> for NamesErr {
-    ghost from_gives = { λ _ e. e ≡ Memory };
+impl From<AllocError> for MountErr {
+    ghost from_gives = { λ _ e. e ≡ mount.Memory };
 
-    fn from(_e: AllocError) -> NamesErr {
-        NamesErr::Memory
+    fn from(_e: AllocError) -> MountErr {
+        MountErr::Memory
     }
-}
-
-/// Why there is no volume.
-#[derive(Clone, Copy, Debug, PartialEq, Eq)]
-pub enum VolumeErr {
-    /// The image breaks a rule of mounting.
-    Refused(MountErr),
-    /// Memory ran out, which says nothing of the image.
-    Memory,
-}
-
-impl From<NamesErr> for VolumeErr {
-    ghost from_gives = { λ e given. given ≡ volume_err_of e };
-
-    fn from(e: NamesErr) -> VolumeErr {
-        match e {
-            NamesErr::Refused(fault) => VolumeErr::Refused(fault),
-            NamesErr::Memory => VolumeErr::Memory,
-        }
-    }
-}
-
-impl From<AllocError> for VolumeErr {
-    ghost use Rattle.pack_spec.specs.declared.VolumeErr.{VolumeErr};
-
-    ghost from_gives = { λ _ e. e ≡ VolumeErr.Memory };
-
-    fn from(_e: AllocError) -> VolumeErr {
-        VolumeErr::Memory
-    }
-}
-
-/// The names of the data sets on an image that lies in memory, in the order of their EBCDIC bytes,
-/// each as often as it stands.
-///
-/// A name is the key of a format 1 DSCB, 44 bytes of EBCDIC with blanks behind it (System Control
-/// Blocks GC28-6628). It is `Refused` with the first rule of mounting that the image breaks.
-///
-/// This is written for its plainness, and to compare faster readers with: it holds all records of a
-/// track and all slots of the VTOC in memory.
-#[tactic(auto, unfolding(crate::specs::Names::names_of))]
-pub fn names(alloc: Global, image: &[u8]) -> Result<Vec<[u8; 44]>, NamesErr>
-    ensures listed { IfOk result (λ listed. (found : List (List ℕ)) × (names_of image.now ≡ Ok found) × IsListing found listed.items) }
-    ensures refused { (e : MountErr) → result ≡ Err (NamesErr.Refused e) → names_of image.now ≡ Err e }
-{
-    let geometry = geometry_of(image).map_err(|e| NamesErr::Refused(MountErr::Image(e)))?;
-    let slots = slots_of(alloc, image, geometry)?;
-    if let Some(fault) = slots_fault(&slots) {
-        return Err(NamesErr::Refused(fault));
-    }
-    let mut names = names_in(alloc, &slots)?;
-    names.sort()?;
-    Ok(names)
 }
 
 /// The volume that an image which lies in memory stands for, without the content of its data sets: the
 /// body of each is `Other`, and there is no catalog.
 ///
-/// It is `Refused` with the first rule of mounting that the image breaks. This is written for its
+/// The error is the first rule of mounting that the image breaks, or `Memory`. This is written for its
 /// plainness, and to compare faster readers with: it holds all records of a track and all slots of the
 /// VTOC in memory, and goes over all slots for each of them.
 #[tactic(auto, unfolding(crate::specs::Volume::volume_of))]
-pub fn volume(alloc: Global, image: &[u8]) -> Result<Volume, VolumeErr>
-    ensures volume { IfOk result (λ volume. volume_of image.now ≡ Ok volume) }
-    ensures refused { (e : MountErr) → result ≡ Err (VolumeErr.Refused e) → volume_of image.now ≡ Err e }
+pub fn volume(alloc: Global, image: &[u8]) -> Result<Volume, MountErr>
+    ensures { Answers (λ volume. volume) (volume_of image.now) result }
 {
     match geometry_of(image) {
         Ok(geometry) => volume_on(alloc, image, geometry),
-        Err(fault) => Err(VolumeErr::Refused(MountErr::Image(fault))),
+        Err(fault) => Err(MountErr::Image(fault)),
     }
 }
 
 // The volume of an image with this geometry.
-fn volume_on(alloc: Global, image: &[u8], geometry: Geometry) -> Result<Volume, VolumeErr>
+fn volume_on(alloc: Global, image: &[u8], geometry: Geometry) -> Result<Volume, MountErr>
     requires { HasGeometry (length image.now) geometry }
-    ensures volume { IfOk result (λ volume. volume_within image.now geometry (vtoc_of image.now geometry) ≡ Ok volume) }
-    ensures refused { (e : MountErr) → result ≡ Err (VolumeErr.Refused e) → volume_within image.now geometry (vtoc_of image.now geometry) ≡ Err e }
+    ensures { Answers (λ volume. volume) (volume_within image.now geometry (vtoc_of image.now geometry)) result }
 {
     let serial = serial(alloc, image, geometry)?;
     let vtoc = vtoc(alloc, image, geometry)?;
     let slots = slots_of_vtoc(alloc, image, geometry, vtoc)?;
     if let Some(fault) = first_fault(alloc, geometry, &slots)? {
-        return Err(VolumeErr::Refused(fault));
+        return Err(fault);
     }
     let sets = data_sets_in_order(alloc, geometry, &slots)?;
     Ok(Volume {
@@ -217,13 +157,13 @@ fn volume_on(alloc: Global, image: &[u8], geometry: Geometry) -> Result<Volume, 
 
 // The serial in the volume label.
 #[tactic(auto, unfolding(crate::specs::Vtoc::vtoc_of, crate::specs::Vtoc::vtoc_at))]
-fn serial(alloc: Global, image: &[u8], geometry: Geometry) -> Result<Serial, VolumeErr>
+fn serial(alloc: Global, image: &[u8], geometry: Geometry) -> Result<Serial, MountErr>
     requires { HasGeometry (length image.now) geometry }
     ensures serial { IfOk result (λ serial. serial.bytes ≡ slice_range (unwrap_or (label_of image.now geometry) []) 4 10) }
-    ensures refused { (e : MountErr) → result ≡ Err (VolumeErr.Refused e) → vtoc_of image.now geometry ≡ Err e }
+    ensures refused { IfErr result (λ e. e ≢ MountErr.Memory → vtoc_of image.now geometry ≡ Err e) }
 {
     let Some(label) = label(alloc, image, geometry)? else {
-        return Err(VolumeErr::Refused(MountErr::NoLabel));
+        return Err(MountErr::NoLabel);
     };
     let mut bytes = [0; 6];
     bytes.copy_from_slice(&label[SERIAL_AT..SERIAL_AT + 6]);

@@ -5,11 +5,11 @@ ghost use Rattle.std.specs.Option.{option_copied};
 ghost use Rattle.std.specs.Str.{bytes_eq};
 ghost use Rattle.ckd_image.specs.Header.{HasGeometry};
 ghost use Rattle.dscb_codec.specs.Layout.{format_byte};
-ghost use Rattle.pack_spec.specs.Names.{is_data_set};
+ghost use Rattle.pack_spec.specs.Formats.{is_data_set};
 ghost use Rattle.pack_spec.specs.Slots.{counted_extents, extent_at, extent_count, first_extents, format_3_of, further_extents, has_chain, is_chained, is_counted_type, is_extent, is_field_type, is_shared, pointer_of};
 
+use crate::address::Address;
 use crate::addressed::VtocSlot;
-use crate::label::Address;
 use crate::slots::Slot;
 use ckd_image::Geometry;
 use std::alloc::{AllocError, Global};

@@ -1,13 +1,13 @@
 //! The data sets of a volume, from their DSCBs.
-ghost use Rattle.std.specs.Prelude.{◌≡◌, ℕ, ◌+◌, ◌≤◌, length, slice_get, slice_range, filter, map, not, true, None, IfOk};
+ghost use Rattle.std.specs.Prelude.{◌≡◌, ℕ, ◌+◌, ◌≤◌, length, slice_get, slice_range, map, true, None, IfOk};
 ghost use Rattle.std.specs.List.{list_all};
 ghost use Rattle.ckd_image.specs.Header.{HasGeometry};
 ghost use Rattle.pack_spec.specs.Slots.{counted_extents, is_extent};
 ghost use Rattle.pack_spec.specs.Faults.{slots_faults};
-ghost use Rattle.pack_spec.specs.Volume.{attr_of, data_set_of, data_sets_in, in_order, is_before, run_of_extent, secondary_of, with_set};
+ghost use Rattle.pack_spec.specs.Volume.{attr_of, data_set_of, data_sets_in, in_order, run_of_extent, secondary_of};
 
+use crate::address::{Address, halfword_at};
 use crate::addressed::VtocSlot;
-use crate::label::{Address, halfword_at};
 use crate::set_extents::{Extent, counted_extents, is_data_set};
 use crate::slots::Slot;
 use ckd_image::Geometry;
@@ -40,45 +40,28 @@ pub(crate) fn data_sets_in_order(
     requires good { slice_get (slots_faults geometry slots.now) 0 ≡ None }
     ensures { IfOk result (λ sets. sets.items ≡ in_order (data_sets_in geometry slots.now)) }
 {
-    let mut sets = Vec::new(alloc);
-    for slot in slots {
-        if is_data_set(&slot.bytes) {
-            let set = data_set(alloc, geometry, slots, &slot.bytes)?;
-            sets = with_set(alloc, sets, set)?;
-        }
-    }
+    let mut sets = data_sets_in(alloc, geometry, slots)?;
+    sets.sort_by_key(|set| set.name)?;
     Ok(sets)
 }
 
-// One more data set, behind those whose names stand before its name.
-#[tactic(auto, unfolding(crate::specs::Volume::with_set))]
-fn with_set(alloc: Global, sets: Vec<DataSet>, set: DataSet) -> Result<Vec<DataSet>, AllocError>
-    ensures { IfOk result (λ more. more.items ≡ with_set sets.items set) }
-{
-    let (mut earlier, mut later) = parted(alloc, sets, &set)?;
-    earlier.push(set)?;
-    earlier.append(&mut later)?;
-    Ok(earlier)
-}
-
-// The data sets whose names stand before that of one, and the others.
-fn parted(
+// The data sets in the order of the slots.
+fn data_sets_in(
     alloc: Global,
-    sets: Vec<DataSet>,
-    set: &DataSet,
-) -> Result<(Vec<DataSet>, Vec<DataSet>), AllocError>
-    ensures before { IfOk result (λ parts. parts.0.items ≡ filter (λ y. is_before y set.now) sets.items) }
-    ensures others { IfOk result (λ parts. parts.1.items ≡ filter (λ y. not (is_before y set.now)) sets.items) }
+    geometry: Geometry,
+    slots: &[VtocSlot],
+) -> Result<Vec<DataSet>, AllocError>
+    requires whole { (len : ℕ) × HasGeometry len geometry }
+    requires good { slice_get (slots_faults geometry slots.now) 0 ≡ None }
+    ensures { IfOk result (λ sets. sets.items ≡ data_sets_in geometry slots.now) }
 {
-    sets.into_iter()
-        .partition(alloc, |other| is_before(other, set))
-}
-
-// Whether the name of a data set stands before that of another.
-fn is_before(set: &DataSet, other: &DataSet) -> bool
-    ensures { result ≡ is_before set.now other.now }
-{
-    set.name.bytes.cmp(&other.name.bytes).is_lt()
+    let mut sets = Vec::new(alloc);
+    for slot in slots {
+        if is_data_set(&slot.bytes) {
+            sets.push(data_set(alloc, geometry, slots, &slot.bytes)?)?;
+        }
+    }
+    Ok(sets)
 }
 
 // The data set of a format 1.

@@ -1,13 +1,11 @@
-//! The slots of the VTOC.
-ghost use Rattle.std.specs.Prelude.{◌≡◌, ◌≤◌, ◌<◌, ◌+◌, ◌*◌, length, map, vec_len, Some, None, IfOk, if◌then◌else◌};
+//! The slots on a track of the VTOC.
+ghost use Rattle.std.specs.Prelude.{◌≡◌, ◌<◌, length, map, Some, None, IfOk, if◌then◌else◌};
 ghost use Rattle.std.specs.Option.{option_map};
 ghost use Rattle.ckd_image.specs.Header.{HasGeometry};
-ghost use Rattle.pack_spec.specs.Vtoc.{is_slot, slot_bytes, slots_in, slots_on, slots_from, slots_of};
-ghost use Rattle.pack_spec.specs.Views.{Answers, record_of, tracks_of};
+ghost use Rattle.pack_spec.specs.Vtoc.{is_slot, slot_bytes, slots_in, slots_on};
+ghost use Rattle.pack_spec.specs.Views.{record_of, tracks_of};
 
 use crate::track::{Record, records_on};
-use crate::vtoc::{Run, vtoc};
-use crate::{MountErr, NamesErr};
 use ckd_image::Geometry;
 use std::alloc::{AllocError, Global};
 
@@ -20,43 +18,6 @@ const SLOT_LEN: usize = 140;
 
 // The key and the data of a slot.
 pub(crate) type Slot = [u8; SLOT_LEN];
-
-// The slots of the VTOC.
-#[tactic(auto, unfolding(crate::specs::Vtoc::slots_of))]
-pub(crate) fn slots_of(
-    alloc: Global,
-    image: &[u8],
-    geometry: Geometry,
-) -> Result<Vec<Slot>, NamesErr>
-    requires { HasGeometry (length image.now) geometry }
-    ensures answer { Answers (λ v. v.items) (slots_of image.now geometry) result }
-    ensures few { IfOk result (λ v. vec_len v ≤ 257 * 255) }
-{
-    let vtoc = vtoc(alloc, image, geometry)?;
-    slots_within(alloc, image, geometry, vtoc)
-}
-
-// The slots on the tracks of an extent.
-fn slots_within(
-    alloc: Global,
-    image: &[u8],
-    geometry: Geometry,
-    vtoc: Run,
-) -> Result<Vec<Slot>, NamesErr>
-    requires whole { HasGeometry (length image.now) geometry }
-    requires inside { vtoc.start + vtoc.len ≤ tracks_of geometry }
-    ensures answer { Answers (λ v. v.items) (slots_from image.now geometry vtoc.start vtoc.len) result }
-    ensures few { IfOk result (λ v. vec_len v ≤ vtoc.len * 255) }
-{
-    let mut slots = Vec::new(alloc);
-    for track in vtoc.start..vtoc.start + vtoc.len {
-        let Some(found) = slots_on(alloc, image, geometry, track)? else {
-            return Err(NamesErr::Refused(MountErr::VtocTrack { track }));
-        };
-        slots.extend_from_slice(&found)?;
-    }
-    Ok(slots)
-}
 
 // The slots on a track; nothing where it breaks the grammar, or has a record that is no slot.
 #[tactic(auto, unfolding(crate::specs::Vtoc::slots_on))]

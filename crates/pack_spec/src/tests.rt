@@ -11,11 +11,9 @@ use packs::{REFUSED, image_of, slots_with};
 fn a_file_without_a_whole_header_is_no_image(rt: HostRuntime) {
     let mut cut = [0; 511];
     cut[..8].copy_from_slice(b"CKD_P370");
-    let expected = NamesErr::Refused(MountErr::Image(ImageErr::BadMagic));
-    assert_eq!(rt; names(rt.alloc(), &cut).err(), Some(expected));
-    assert_eq!(rt; names(rt.alloc(), b"").err(), Some(expected));
-    let expected = VolumeErr::Refused(MountErr::Image(ImageErr::BadMagic));
+    let expected = MountErr::Image(ImageErr::BadMagic);
     assert_eq!(rt; volume(rt.alloc(), &cut).err(), Some(expected));
+    assert_eq!(rt; volume(rt.alloc(), b"").err(), Some(expected));
 }
 
 // The extents of a data set.
@@ -65,10 +63,7 @@ fn each_rule_is_named_with_its_place(rt: HostRuntime) -> Result<(), Fail> {
     let alloc = rt.alloc();
     for (patches, expected) in &REFUSED {
         let image = image_of(alloc, &slots_with(patches))?;
-        assert_eq!(rt;
-            volume(alloc, &image).err(),
-            Some(VolumeErr::Refused(*expected))
-        );
+        assert_eq!(rt; volume(alloc, &image).err(), Some(*expected));
     }
     Ok(())
 }

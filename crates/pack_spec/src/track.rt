@@ -7,14 +7,8 @@ ghost use Rattle.ckd_image.specs.Reading.{is_at_end, is_front, is_record_at, fro
 ghost use Rattle.pack_spec.specs.Label.{track_bytes, records_on};
 ghost use Rattle.pack_spec.specs.Views.{record_of, tracks_of};
 
-use ckd_image::{Geometry, record_at};
+use ckd_image::{FRONT_LEN, Geometry, HEADER_LEN, record_at};
 use std::alloc::{AllocError, Global};
-
-// The header of an image, in bytes.
-const HEADER_LEN: usize = 512;
-
-// The home address and R0, in bytes.
-const FRONT_LEN: usize = 21;
 
 // Where CC and HH of the home address stand, and R, KL and DL of R0.
 const HOME_ADDRESS_AT: usize = 1;

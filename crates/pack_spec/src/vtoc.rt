@@ -5,10 +5,11 @@ ghost use Rattle.pack_spec.specs.Label.{is_inside, records_on};
 ghost use Rattle.pack_spec.specs.Vtoc.{first_slot, vtoc_by, vtoc_of};
 ghost use Rattle.pack_spec.specs.Views.{Answers, address_of, run_of, tracks_of};
 
-use crate::label::{Address, label};
+use crate::MountErr;
+use crate::address::Address;
+use crate::label::label;
 use crate::slots::{Slot, slot_of};
 use crate::track::records_on;
-use crate::{MountErr, NamesErr};
 use ckd_image::Geometry;
 use std::alloc::{AllocError, Global};
 
@@ -34,23 +35,23 @@ pub(crate) struct Run {
 
 // The extent of the VTOC to which the label leads.
 #[tactic(auto, unfolding(crate::specs::Vtoc::vtoc_of, crate::specs::Vtoc::vtoc_at))]
-pub(crate) fn vtoc(alloc: Global, image: &[u8], geometry: Geometry) -> Result<Run, NamesErr>
+pub(crate) fn vtoc(alloc: Global, image: &[u8], geometry: Geometry) -> Result<Run, MountErr>
     requires { HasGeometry (length image.now) geometry }
     ensures answer { Answers run_of (vtoc_of image.now geometry) result }
     ensures inside { IfOk result (λ vtoc. vtoc.start + vtoc.len ≤ tracks_of geometry) }
     ensures few { IfOk result (λ vtoc. vtoc.len ≤ 257) }
 {
     let Some(label) = label(alloc, image, geometry)? else {
-        return Err(NamesErr::Refused(MountErr::NoLabel));
+        return Err(MountErr::NoLabel);
     };
     let at = Address::read(label, VTOC_ADDRESS_AT);
     if !at.is_inside(geometry) {
-        return Err(NamesErr::Refused(MountErr::BadVtoc));
+        return Err(MountErr::BadVtoc);
     }
     let track = at.track(geometry);
     match first_slot(alloc, image, geometry, track)? {
         Some(slot) => extent_in(geometry, at, &slot),
-        None => Err(NamesErr::Refused(MountErr::VtocTrack { track })),
+        None => Err(MountErr::VtocTrack { track }),
     }
 }
 
@@ -75,7 +76,7 @@ fn first_slot(
 }
 
 // The extent of the VTOC in its first slot, which must begin at the address of the label.
-fn extent_in(geometry: Geometry, at: Address, slot: &Slot) -> Result<Run, NamesErr>
+fn extent_in(geometry: Geometry, at: Address, slot: &Slot) -> Result<Run, MountErr>
     requires { (len : ℕ) × HasGeometry len geometry }
     ensures answer { Answers run_of (vtoc_by geometry (address_of at) (Some slot.now)) result }
     ensures inside { IfOk result (λ vtoc. vtoc.start + vtoc.len ≤ tracks_of geometry) }
@@ -84,12 +85,12 @@ fn extent_in(geometry: Geometry, at: Address, slot: &Slot) -> Result<Run, NamesE
     let lower = Address::read(slot, LOWER_AT);
     let upper = Address::read(slot, UPPER_AT);
     if !lower.is_inside(geometry) || !upper.is_inside(geometry) || lower != at {
-        return Err(NamesErr::Refused(MountErr::BadVtoc));
+        return Err(MountErr::BadVtoc);
     }
     let start = lower.track(geometry);
     let last = upper.track(geometry);
     if last < start || last - start >= MOST_TRACKS {
-        return Err(NamesErr::Refused(MountErr::BadVtoc));
+        return Err(MountErr::BadVtoc);
     }
     Ok(Run {
         start,

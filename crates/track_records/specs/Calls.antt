@@ -13,10 +13,11 @@ pub record HasTrack (units : List Attached) (unit : ℕ) (g : Geometry) (track :
   pub whole : HasGeometry (unit_of units unit).size g
   pub inside : track < tracks_of g
 
--- A read of a track: units and prints stay, and a fault of the device is reported only where its count rose.
+-- A read of a track: units and prints stay, and the device count rose where a fault of the device is reported, and else stands still.
 pub record TrackCall {T : Type 0} (old new : Facts) (result : Result T TrackErr) : Type 0 where
   pub units : new.units ≡ old.units
   pub references : new.references ≡ old.references
   pub prints : new.print_faults ≡ old.print_faults
   pub later : old.dev_faults ≤ new.dev_faults
   pub device : IsErrOf result Device → Rose old.dev_faults new.dev_faults
+  pub others : ¬ IsErrOf result Device → new.dev_faults ≡ old.dev_faults

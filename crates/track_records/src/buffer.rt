@@ -13,16 +13,10 @@ ghost use Rattle.track_records.specs.Written.{place_of, IsUpdated, StandsOn};
 
 use crate::error::TrackErr;
 use crate::places::put_places;
-use ckd_image::{Geometry, RecordParts, record_at};
+use ckd_image::{COUNT_LEN, Geometry, HEADER_LEN, RecordParts, record_at};
 use hall_core::{Device, Hall, HallErr};
 use std::alloc::{AllocError, Global};
 use std::marker::Model;
-
-// The bytes of the header, which stands before the first track.
-const HEADER_LEN: u64 = 512;
-
-// The bytes of a record's count, which stands before its key.
-const COUNT_LEN: usize = 8;
 
 // The most records behind R0 of a track.
 const MOST_RECORDS: usize = 255;
@@ -72,6 +66,13 @@ impl TrackBuf {
         ensures { result ≡ length self.now.records }
     {
         self.places.len()
+    }
+
+    /// The track that the buffer is of, counted from 0 over the unit.
+    pub fn track(&self) -> u16
+        ensures { result ≡ self.now.track }
+    {
+        self.track
     }
 
     /// The key of Rr, at most 255 bytes.
@@ -183,7 +184,7 @@ fn fill<H: Hall>(
     ensures told { IsTrue H.tells → Same (H.meaning hall.old) (H.meaning hall.new) }
     ensures call { DeviceCall (H.facts hall.old) (H.facts hall.new) result }
 {
-    let at = HEADER_LEN + u64::from(track) * u64::from(geometry.track_size);
+    let at = HEADER_LEN as u64 + u64::from(track) * u64::from(geometry.track_size);
     hall.read(unit, at, bytes)
 }
 
@@ -207,7 +208,9 @@ pub fn update<H: Hall>(
     ensures call { DeviceCall (H.facts hall.old) (H.facts hall.new) result }
 {
     let place = buf.put(r, key, payload);
-    let at = HEADER_LEN + u64::from(buf.track) * u64::from(buf.geometry.track_size) + place as u64;
+    let at = HEADER_LEN as u64
+        + u64::from(buf.track) * u64::from(buf.geometry.track_size)
+        + place as u64;
     hall.write(buf.unit, at, buf.content(r))?;
     Ok(())
 }

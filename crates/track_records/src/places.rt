@@ -5,10 +5,7 @@ ghost use Rattle.track_records.specs.Buffers.{are_places, places_from, records_a
 ghost use Rattle.track_records.specs.Reads.{IsBrokenTrack};
 
 use crate::error::TrackErr;
-use ckd_image::{BadCount, record_at, track_of};
-
-// The bytes of the home address and R0, which stand before R1.
-const FRONT_LEN: usize = 21;
+use ckd_image::{BadCount, FRONT_LEN, record_at, track_of};
 
 // Puts the offsets of the records behind R0 of a track, up to the record R = `upto` or to the end
 // marker, into an empty vector that has room for them, and gives their number; puts none where the

@@ -144,6 +144,7 @@ fn tracks_are_read_once_and_as_far_as_asked(rt: HostRuntime) -> Result<(), Fail>
         };
         let read = read_records(&mut hall, unit, track, upto, &mut buf);
         assert_eq!(rt; read, want, "case {i}");
+        assert_eq!(rt; buf.track(), track, "case {i}");
         assert_eq!(rt; buf.len(), usize::from(want.unwrap_or(0)), "case {i}");
         assert_eq!(rt; hall.calls().len(), 2, "case {i}");
         for (r, key, payload) in RECORDS {

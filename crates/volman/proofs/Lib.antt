@@ -1,11 +1,3 @@
-mod Images
-mod TrackRecords
-mod SameRecords
-mod Extents
-mod Exits
-mod TrackMeaning
-mod TracksRead
-mod NameLemmas
-mod SlotsRead
+mod Listings
 mod Units
 mod Replies

@@ -1,6 +1,4 @@
 pub mod Answer
-pub mod Calls
 pub mod FileHall
-pub mod Views
-pub mod Slots
+pub mod Names
 pub mod Run

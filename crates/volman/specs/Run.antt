@@ -60,6 +60,11 @@ pub record Later (old new : Facts) : Type 0 where
   pub devices : old.dev_faults ≤ new.dev_faults
   pub prints : old.print_faults ≤ new.print_faults
 
+-- A count of faults stands still but where the status reports its fault.
+pub record CountsReported (status : ℕ) (old new : Facts) : Type 0 where
+  pub devices : status ≢ 22 → new.dev_faults ≡ old.dev_faults
+  pub prints : status ≢ 24 → new.print_faults ≡ old.print_faults
+
 -- The units that stood stay, and at most this file was attached behind them.
 abbrev pub AttachesAtMost : List ℕ → Facts → Facts → Type 0
 AttachesAtMost name old new = (new.units ≡ old.units) ⊎ ((size : ℕ) × (new.units ≡ old.units ++ record { name = name; size = size } ∷ []))

@@ -197,7 +197,11 @@ impl<R: Files<File = File> + Print> Hall for FileHall<'_, R> {
 }
 
 #[cfg(test)]
+mod closed;
+
+#[cfg(test)]
 mod tests {
+    use super::closed::Closed;
     use super::*;
     use std::fs;
     use std::test::Fail;
@@ -301,5 +305,14 @@ mod tests {
         assert_eq!(rt; (hall.dev_faults, hall.print_faults), (3, 0));
         fs::remove_file(&rt, name)?;
         Ok(())
+    }
+
+    #[test]
+    fn closed_output_is_a_print_fault(rt: HostRuntime) {
+        let mut hall = FileHall::new(rt.alloc(), &Closed);
+        for faults in 1..3 {
+            assert_eq!(rt; hall.print(b"printed\n"), Err(HallErr::Failed));
+            assert_eq!(rt; (hall.dev_faults, hall.print_faults), (0, faults));
+        }
     }
 }

@@ -2,17 +2,12 @@
 #![tactic(auto)]
 
 mod file_hall;
-mod label;
 mod names;
-mod pack;
-mod records;
+mod reason;
 mod status;
 mod std_cards;
 mod text;
 mod top;
-mod track_content;
-mod tracks;
-mod vtoc;
 mod words;
 
 use file_hall::FileHall;

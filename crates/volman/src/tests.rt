@@ -1,15 +1,16 @@
-//! The top call over a hall in memory, and the plain program beside it.
+//! The top call over a hall in memory.
 ghost use Rattle.std.specs.Prelude.{◌≡◌, IfOk, []};
 ghost use Rattle.hall_core.specs.Memory.{facts_of};
 
+mod broken;
 mod image;
 mod packs;
+mod scarce;
 
 use crate::top::volman;
-use ckd_image::ImageErr;
-use hall_core::{Call, MemCards, MemHall};
-use pack_spec::{MountErr, NamesErr, names};
-use packs::{A_B, A1, AB, BROKEN, SMALL, Slot, Z9, pack, padded};
+use hall_core::{Call, Hall, MemCards, MemHall};
+use packs::{A_B, AB, Slot, pack};
+use scarce::Scarce;
 use std::alloc::{AllocError, Global};
 use std::cmp::Ordering;
 use std::test::Fail;
@@ -19,7 +20,7 @@ const NAMES: &[&str] = &["volman", "names", "w.img"];
 
 const MISSING: &[&str] = &["volman", "names", "x.img"];
 
-const REFUSED: &[u8] = b"VOLMAN UNIT w.img REFUSED\n";
+const OTHER: &[&str] = &["volman"];
 
 const NO_FILE: &[u8] = b"VOLMAN UNIT x.img NO-FILE\n";
 
@@ -49,7 +50,7 @@ struct Limits {
 
 const AMPLE: Limits = Limits {
     fail: None,
-    calls: 64,
+    calls: 512,
     bytes: 4096,
 };
 
@@ -69,8 +70,8 @@ fn hall_with(alloc: Global, image: &[u8], limits: Limits) -> Result<MemHall, All
 }
 
 // The status that these words end with, where the source of cards fails at its first read.
-fn status(alloc: Global, words: &[&str], hall: &mut MemHall) -> Result<u8, AllocError>
-    requires { (facts_of hall.old).units ≡ [] }
+fn status<H: Hall>(alloc: Global, words: &[&str], hall: &mut H) -> Result<u8, AllocError>
+    requires { (H.facts hall.old).units ≡ [] }
 {
     let mut owned = Vec::new(alloc);
     for word in words {
@@ -82,33 +83,33 @@ fn status(alloc: Global, words: &[&str], hall: &mut MemHall) -> Result<u8, Alloc
     Ok(volman(alloc, &owned, &mut cards, hall))
 }
 
-#[test]
-fn plain_program_and_top_call_list_a_name_twice(rt: HostRuntime) -> Result<(), Fail> {
-    let image = pack(rt.alloc(), SMALL)?;
-    assert_eq!(rt; image.len(), 82432);
-    let listed = names(rt.alloc(), &image)?;
-    let expected = [padded(A_B), padded(AB), padded(AB), padded(A1), padded(Z9)];
-    assert_eq!(rt; listed.as_slice(), expected.as_slice());
-    let mut hall = hall_with(rt.alloc(), &image, AMPLE)?;
-    assert_eq!(rt; status(rt.alloc(), NAMES, &mut hall)?, 0);
-    assert_eq!(rt; hall.printed(), b"A.B\nAB\nAB\nA1\nZ9\n".as_slice());
-    Ok(())
-}
+// The words, the call that is to fail, whether memory runs out, and the status.
+type Case = (&'static [&'static str], Option<u64>, bool, u8);
 
+const CASES: [Case; 8] = [
+    (NAMES, None, false, 0),
+    (OTHER, None, false, 20),
+    (OTHER, None, true, 20),
+    (MISSING, None, false, 21),
+    (NAMES, Some(0), false, 22),
+    (NAMES, Some(5), false, 24),
+    (OTHER, Some(0), true, 24),
+    (NAMES, None, true, 25),
+];
+
+// With 25 nothing is called behind the attachment, and nothing printed.
 #[test]
-fn broken_packs_are_refused_and_stay(rt: HostRuntime) -> Result<(), Fail> {
-    for (patches, reason) in BROKEN {
-        let mut image = pack(rt.alloc(), SMALL)?;
-        for (at, byte) in patches {
-            assert!(rt; at < image.len());
-            image[at] = byte;
+fn each_status_is_reached(rt: HostRuntime) -> Result<(), Fail> {
+    let image = pack(rt.alloc(), TWO_SETS)?;
+    for (words, fail, is_full, code) in CASES {
+        let hall = hall_with(rt.alloc(), &image, Limits { fail, ..AMPLE })?;
+        let mut scarce = Scarce { hall, is_full };
+        let reached = status(rt.alloc(), words, &mut scarce)?;
+        assert_eq!(rt; reached, code, "{words:?} {fail:?} {is_full}");
+        if code == 25 {
+            assert!(rt; scarce.hall.calls().is_empty());
+            assert_eq!(rt; scarce.hall.printed(), b"".as_slice());
         }
-        let refused = names(rt.alloc(), &image).err();
-        assert_eq!(rt; refused, Some(NamesErr::Refused(reason)), "{patches:?}");
-        let mut hall = hall_with(rt.alloc(), &image, AMPLE)?;
-        assert_eq!(rt; status(rt.alloc(), NAMES, &mut hall)?, 21, "{patches:?}");
-        assert_eq!(rt; hall.printed(), REFUSED, "{patches:?}");
-        assert_eq!(rt; hall.image("w.img"), Some(image.as_slice()), "{patches:?}");
     }
     Ok(())
 }
@@ -118,6 +119,7 @@ fn sets_are_printed_in_the_order_of_their_ebcdic_bytes(rt: HostRuntime) -> Resul
     let no_sets: &[&[Slot]] = &[&[Slot::F5, Slot::F0]];
     // Names that begin alike, one of them without a blank.
     let fronts: &[&[Slot]] = &[&[
+        Slot::F5,
         Slot::F1(AB),
         Slot::F1(&[0xC1; 44]),
         Slot::F1(&[0xC1]),
@@ -125,6 +127,7 @@ fn sets_are_printed_in_the_order_of_their_ebcdic_bytes(rt: HostRuntime) -> Resul
     ]];
     // Bytes that stand for no character, a blank within a name, and a name of blanks.
     let others: &[&[Slot]] = &[&[
+        Slot::F5,
         Slot::F1(&[0xC1, 0xFF]),
         Slot::F1(&[0xC1, 0x40, 0xC2]),
         Slot::F1(&[0xC1, 0x00, 0xC2]),
@@ -163,26 +166,6 @@ fn other_words_are_refused(rt: HostRuntime) -> Result<(), Fail> {
         let mut hall = hall_with(rt.alloc(), b"", AMPLE)?;
         assert_eq!(rt; status(rt.alloc(), words, &mut hall)?, 20, "{words:?}");
         assert_eq!(rt; hall.printed(), b"VOLMAN WORDS\n".as_slice(), "{words:?}");
-    }
-    Ok(())
-}
-
-#[test]
-fn files_that_are_no_images_are_refused(rt: HostRuntime) -> Result<(), Fail> {
-    let mut compressed = [0; 512];
-    compressed[..8].copy_from_slice(b"CKD_C370");
-    let mut cut = [0; 511];
-    cut[..8].copy_from_slice(b"CKD_P370");
-    for (image, reason) in [
-        (compressed.as_slice(), ImageErr::Compressed),
-        (cut.as_slice(), ImageErr::BadMagic),
-        (b"".as_slice(), ImageErr::BadMagic),
-    ] {
-        let refused = names(rt.alloc(), image).err();
-        assert_eq!(rt; refused, Some(NamesErr::Refused(MountErr::Image(reason))));
-        let mut hall = hall_with(rt.alloc(), image, AMPLE)?;
-        assert_eq!(rt; status(rt.alloc(), NAMES, &mut hall)?, 21, "{reason:?}");
-        assert_eq!(rt; hall.printed(), REFUSED, "{reason:?}");
     }
     Ok(())
 }
@@ -247,7 +230,6 @@ fn each_track_is_read_once_and_nothing_is_written(rt: HostRuntime) -> Result<(),
 #[test]
 fn too_little_room_is_a_fault(rt: HostRuntime) -> Result<(), Fail> {
     let image = pack(rt.alloc(), TWO_SETS)?;
-    let other: &[&str] = &["volman"];
     for (words, calls, bytes, code, printed) in [
         (NAMES, 0, 32, 22, b"".as_slice()),
         (NAMES, 4, 32, 22, b"".as_slice()),
@@ -259,9 +241,9 @@ fn too_little_room_is_a_fault(rt: HostRuntime) -> Result<(), Fail> {
         (MISSING, 1, 31, 24, b"".as_slice()),
         (MISSING, 2, 30, 24, b"".as_slice()),
         (MISSING, 2, 31, 21, NO_FILE),
-        (other, 0, 13, 24, b"".as_slice()),
-        (other, 1, 12, 24, b"".as_slice()),
-        (other, 1, 13, 20, b"VOLMAN WORDS\n".as_slice()),
+        (OTHER, 0, 13, 24, b"".as_slice()),
+        (OTHER, 1, 12, 24, b"".as_slice()),
+        (OTHER, 1, 13, 20, b"VOLMAN WORDS\n".as_slice()),
     ] {
         let limits = Limits {
             fail: None,

@@ -2,21 +2,23 @@
 ghost use Rattle.std.specs.Prelude.{◌≡◌, ◌++◌, List, ℕ, IfOk, OnOk};
 ghost use Rattle.volman.specs.Answer.{words_line, unit_line, name_line, listing};
 
+use crate::reason::push_reason;
 use ebcdic_names::{to_ascii, without_blanks};
 use std::alloc::{AllocError, Global};
+use vtoc_index::MountErr;
 
 /// Where the words are refused.
 pub const WORDS_LINE: &[u8; 13] = b"VOLMAN WORDS\n";
 
 /// The line that says why a file is refused.
 #[tactic(auto, unfolding(crate::specs::Answer::unit_line))]
-pub fn unit_line(alloc: Global, file: &str, reason: &str) -> Result<Vec<u8>, AllocError>
-    ensures { IfOk result (λ line. line.items ≡ unit_line file.now reason.now) }
+pub fn unit_line(alloc: Global, file: &str, why: MountErr) -> Result<Vec<u8>, AllocError>
+    ensures { IfOk result (λ line. line.items ≡ unit_line file.now why) }
 {
     let mut line = Vec::from_slice(alloc, b"VOLMAN UNIT ")?;
     line.extend_from_slice(file.as_bytes())?;
     line.push(b' ')?;
-    line.extend_from_slice(reason.as_bytes())?;
+    push_reason(&mut line, why)?;
     line.push(b'\n')?;
     Ok(line)
 }

@@ -3,18 +3,19 @@ ghost use Rattle.std.specs.Prelude.{◌≡◌, ◌≤◌, ◌⊎◌, [], ◌++�
 ghost use Rattle.hall_core.specs.Facts.{Rose};
 ghost use Rattle.hall_core.specs.Files.{file_of};
 ghost use Rattle.hall_core.specs.Moments.{Elapses, LeavesSame, Same};
-ghost use Rattle.pack_spec.specs.Names.{IsListing};
+ghost use Rattle.volman.specs.declared.top.Failure.TheVariants as failure;
+ghost use Rattle.volman.specs.Names.{IsListing, names_in};
 ghost use Rattle.volman.specs.Answer.{IsAnswerOn, file_named, listing, unit_line};
-ghost use Rattle.volman.specs.Run.{Ends, PrintsFront, PrintsText, StopLeaves, Later, AttachesAtMost, AttachesNamed, IsCode, code_of};
+ghost use Rattle.volman.specs.Run.{Ends, PrintsFront, PrintsText, StopLeaves, CountsReported, Later, AttachesAtMost, AttachesNamed, IsCode, code_of};
 
-use crate::names::Name;
-use crate::pack::read_names;
+use crate::names::names_in;
 use crate::status::Status;
 use crate::text::{WORDS_LINE, listing, unit_line};
-use crate::tracks::ReadErr;
 use crate::words::file_named;
+use dscb_codec::Dscb;
 use hall_core::{Cards, Hall, HallErr};
-use std::alloc::Global;
+use std::alloc::{AllocError, Global};
+use vtoc_index::{MountErr, read_vtoc};
 
 // What is to be printed, and the status once it is.
 #[derive(Drop)]
@@ -32,6 +33,14 @@ enum Failure {
     Memory,
 }
 
+impl From<AllocError> for Failure {
+    ghost from_gives = { λ _ e. e ≡ failure.Memory };
+
+    fn from(_e: AllocError) -> Failure {
+        Failure::Memory
+    }
+}
+
 /// Does what the words ask for, over the files of a hall, and gives the status with which the program
 /// ends.
 ///
@@ -42,7 +51,7 @@ enum Failure {
 /// |---|---|---|
 /// | 0 | the pack is read | the names |
 /// | 20 | any other words | `VOLMAN WORDS` |
-/// | 21 | the file is missing, or refused | `VOLMAN UNIT file NO-FILE`, or `REFUSED` |
+/// | 21 | the file is missing, or refused | `VOLMAN UNIT file` and the reason |
 /// | 22 | the device failed | nothing more |
 /// | 24 | the printer failed | nothing more |
 /// | 25 | memory ran out | nothing more |
@@ -65,9 +74,11 @@ pub fn volman<C: Cards, H: Hall>(alloc: Global, words: &[String], cards: &mut C,
     ensures words { result ≡ 20 → file_named (map string_bytes words.now) ≡ None }
     ensures refused { file_named (map string_bytes words.now) ≡ None → (result ≡ 20) ⊎ (result ≡ 24) }
 
-    // A fault is reported only where its count rose in this call.
+    // A fault is reported only where its count rose in this call, and a count rose only where its fault
+    // is reported.
     ensures device { result ≡ 22 → Rose (H.facts hall.old).dev_faults (H.facts hall.new).dev_faults }
     ensures print { result ≡ 24 → Rose (H.facts hall.old).print_faults (H.facts hall.new).print_faults }
+    ensures reported { CountsReported result (H.facts hall.old) (H.facts hall.new) }
     ensures later { Later (H.facts hall.old) (H.facts hall.new) }
     ensures status { IsCode result }
 
@@ -92,7 +103,9 @@ fn end<H: Hall>(hall: &mut H, text: &[u8], status: Status) -> u8
     ensures told { IsTrue H.tells → PrintsText text.now (H.meaning hall.old) (H.meaning hall.new) result }
     ensures which { (result ≡ code_of status) ⊎ (result ≡ 24) }
     ensures print { result ≡ 24 → Rose (H.facts hall.old).print_faults (H.facts hall.new).print_faults }
+    ensures reported { CountsReported result (H.facts hall.old) (H.facts hall.new) }
     ensures later { Later (H.facts hall.old) (H.facts hall.new) }
+    ensures devices { (H.facts hall.new).dev_faults ≡ (H.facts hall.old).dev_faults }
     ensures references { (H.facts hall.new).references ≡ (H.facts hall.old).references }
     ensures units { (H.facts hall.new).units ≡ (H.facts hall.old).units }
 {
@@ -103,12 +116,14 @@ fn end<H: Hall>(hall: &mut H, text: &[u8], status: Status) -> u8
 }
 
 // What is to be printed for a file, after all that can be refused is read.
-#[tactic(auto, using(hall_core::proofs::MomentLemmas::same_then))]
+#[tactic(auto, using(hall_core::proofs::MomentLemmas::same_then, crate::proofs::Listings::listed_right))]
 fn reply_for<H: Hall>(alloc: Global, hall: &mut H, file: &str) -> Result<Reply, Failure>
     requires { (H.facts hall.old).units ≡ [] }
     ensures right { IsTrue H.tells → IfOk result (λ r. IsAnswerOn file.now (file_of (H.meaning hall.old).state file.now) (record { status = code_of r.status; text = r.text.items })) }
     ensures which { IfOk result (λ r. (code_of r.status ≡ 0) ⊎ (code_of r.status ≡ 21)) }
     ensures device { IsErrOf result Failure.Device → Rose (H.facts hall.old).dev_faults (H.facts hall.new).dev_faults }
+    ensures others { ¬ IsErrOf result Failure.Device → (H.facts hall.new).dev_faults ≡ (H.facts hall.old).dev_faults }
+    ensures prints { (H.facts hall.new).print_faults ≡ (H.facts hall.old).print_faults }
     ensures told { IsTrue H.tells → Same (H.meaning hall.old) (H.meaning hall.new) }
     ensures later { Later (H.facts hall.old) (H.facts hall.new) }
     ensures references { (H.facts hall.new).references ≡ (H.facts hall.old).references }
@@ -116,45 +131,40 @@ fn reply_for<H: Hall>(alloc: Global, hall: &mut H, file: &str) -> Result<Reply, 
 {
     let unit = match hall.attach(file) {
         Ok(unit) => unit,
-        Err(HallErr::Missing) => return refusal(alloc, file, "NO-FILE"),
+        Err(HallErr::Missing) => return refusal(alloc, file, MountErr::NoFile),
         Err(HallErr::Failed) => return Err(Failure::Device),
         Err(HallErr::Memory) => return Err(Failure::Memory),
     };
-    match read_names(alloc, hall, unit) {
-        Ok(names) => names_reply(alloc, names),
-        Err(ReadErr::Refused) => refusal(alloc, file, "REFUSED"),
-        Err(ReadErr::Device) => Err(Failure::Device),
-        Err(ReadErr::Memory) => Err(Failure::Memory),
+    match read_vtoc(alloc, hall, unit) {
+        Ok(vol) => names_reply(alloc, &vol.slots),
+        Err(MountErr::Device) => Err(Failure::Device),
+        Err(MountErr::Memory) => Err(Failure::Memory),
+        Err(why) => refusal(alloc, file, why),
     }
 }
 
 // The line that refuses a file.
-fn refusal(alloc: Global, file: &str, reason: &str) -> Result<Reply, Failure>
-    ensures line { IfOk result (λ r. (r.status ≡ Status.Unit) × (r.text.items ≡ unit_line file.now reason.now)) }
+fn refusal(alloc: Global, file: &str, why: MountErr) -> Result<Reply, Failure>
+    ensures line { IfOk result (λ r. (r.status ≡ Status.Unit) × (r.text.items ≡ unit_line file.now why)) }
     ensures error { IfErr result (λ e. e ≡ Failure.Memory) }
 {
-    match unit_line(alloc, file, reason) {
-        Ok(text) => Ok(Reply {
-            status: Status::Unit,
-            text,
-        }),
-        Err(_) => Err(Failure::Memory),
-    }
+    let text = unit_line(alloc, file, why)?;
+    Ok(Reply {
+        status: Status::Unit,
+        text,
+    })
 }
 
-// The names in their order, a line each.
-fn names_reply(alloc: Global, mut names: Vec<Name>) -> Result<Reply, Failure>
-    ensures listing { IfOk result (λ r. (r.status ≡ Status.Done) × ((listed : List (List ℕ)) × IsListing names.items listed × (r.text.items ≡ listing listed))) }
+// The names in DSCBs, in the order of their bytes, a line each.
+fn names_reply(alloc: Global, dscbs: &[Dscb]) -> Result<Reply, Failure>
+    ensures listing { IfOk result (λ r. (r.status ≡ Status.Done) × ((listed : List (List ℕ)) × IsListing (names_in dscbs.now) listed × (r.text.items ≡ listing listed))) }
     ensures error { IfErr result (λ e. e ≡ Failure.Memory) }
 {
-    let Ok(()) = names.sort() else {
-        return Err(Failure::Memory);
-    };
-    match listing(alloc, &names) {
-        Ok(text) => Ok(Reply {
-            status: Status::Done,
-            text,
-        }),
-        Err(_) => Err(Failure::Memory),
-    }
+    let mut names = names_in(alloc, dscbs)?;
+    names.sort()?;
+    let text = listing(alloc, &names)?;
+    Ok(Reply {
+        status: Status::Done,
+        text,
+    })
 }

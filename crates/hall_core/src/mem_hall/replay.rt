@@ -1,5 +1,5 @@
 //! What a stop leaves of a hall in memory, from the record of its calls.
-ghost use Rattle.std.specs.Prelude.{◌≡◌, ◌+◌, ◌<◌, ◌≤◌, ◌∷◌, ◌++◌, ◌^◌, [], ℕ, List, drop, false, length, if◌then◌else◌, IfOk, OnOk, slice_index_or};
+ghost use Rattle.std.specs.Prelude.{◌≡◌, ◌+◌, ◌<◌, ◌≤◌, ◌∷◌, ◌++◌, ◌^◌, [], ℕ, List, take, drop, false, length, if◌then◌else◌, IfOk, OnOk, slice_index_or};
 ghost use Rattle.hall_core.specs.History.{Write, with_writes, kept};
 ghost use Rattle.hall_core.specs.Held.{files_of, shapes_of, units_at, AreFirst};
 ghost use Rattle.hall_core.specs.Replay.{IsPendingFrom, IsWritable, AreWritable, ArePrinted, writes_at, done_of, prints_at, text_needed, is_write, is_done_write, pending_place};
@@ -82,12 +82,7 @@ fn redo(files: &mut Vec<(String, Vec<u8>)>, step: Step, units: &[usize], pool: &
 }
 
 // Makes the writes again that were done.
-pub(super) fn apply_done(
-    files: &mut Vec<(String, Vec<u8>)>,
-    steps: &[Step],
-    units: &[usize],
-    pool: &[u8],
-)
+fn apply_done(files: &mut Vec<(String, Vec<u8>)>, steps: &[Step], units: &[usize], pool: &[u8])
     requires places { AreFirst (shapes_of (files_of files.old.items)) units.now }
     requires within { AreWritable (units_at (shapes_of (files_of files.old.items)) units.now) (length pool.now) steps.now }
     ensures done { files_of files.new.items ≡ with_writes (files_of files.old.items) (done_of (writes_at (units_at (shapes_of (files_of files.old.items)) units.now) pool.now steps.now)) }
@@ -126,7 +121,7 @@ fn redo_flagged(
 }
 
 // Makes the writes again whose flag is true; a missing flag counts as false.
-pub(super) fn apply_kept(
+fn apply_kept(
     files: &mut Vec<(String, Vec<u8>)>,
     steps: &[Step],
     units: &[usize],
@@ -143,12 +138,31 @@ pub(super) fn apply_kept(
     }
 }
 
+// Makes the writes again that a stop leaves: those before a place that were done, and over them those
+// from it on whose flag is true.
+pub(super) fn apply_left(
+    files: &mut Vec<(String, Vec<u8>)>,
+    steps: &[Step],
+    from: usize,
+    units: &[usize],
+    pool: &[u8],
+    keep: &[bool],
+)
+    requires places { AreFirst (shapes_of (files_of files.old.items)) units.now }
+    requires within { AreWritable (units_at (shapes_of (files_of files.old.items)) units.now) (length pool.now) steps.now }
+    requires inside { from ≤ length steps.now }
+    ensures { let attached = units_at (shapes_of (files_of files.old.items)) units.now in files_of files.new.items ≡ with_writes (with_writes (files_of files.old.items) (done_of (writes_at attached pool.now (take from steps.now)))) (kept keep.now (writes_at attached pool.now (drop from steps.now))) }
+{
+    apply_done(files, &steps[..from], units, pool);
+    apply_kept(files, &steps[from..], units, pool, keep);
+}
+
 // Adds the bytes that a step printed.
 fn add_printed(out: &mut Vec<u8>, step: Step, text: &[u8]) -> Result<(), AllocError>
     requires { text_needed step ≤ length text.now }
     ensures { OnOk result (out.new.items ≡ out.old.items ++ prints_at text.now (step ∷ [])) }
 {
-    if let Step::Print { start, len } = step {
+    if let Step::Print { start, len, .. } = step {
         out.extend_from_slice(&text[start..start + len])?;
     }
     Ok(())

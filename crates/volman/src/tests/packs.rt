@@ -1,6 +1,5 @@
-//! Packs of two cylinders of a 2311 whose VTOC begins on cylinder 0, head 9, and what breaks one.
+//! Packs of two cylinders of a 2311 whose VTOC begins on cylinder 0, head 9.
 use super::image::{Track, header};
-use pack_spec::MountErr;
 use std::alloc::{AllocError, Global};
 
 // The tracks of two cylinders, ten a cylinder, and the first of the VTOC.
@@ -29,19 +28,27 @@ impl Slot {
         match self {
             Slot::F0 => [0; 44],
             Slot::F1(name) => padded(name),
-            Slot::F3 => [3; 44],
+            Slot::F3 => {
+                let mut key = [3; 44];
+                write_extents(&mut key[4..]);
+                key
+            }
             Slot::F5 => [5; 44],
         }
     }
 
     // The data.
     fn content(self) -> [u8; 96] {
-        content(match self {
-            Slot::F0 => 0,
-            Slot::F1(_) => 0xF1,
-            Slot::F3 => 0xF3,
-            Slot::F5 => 0xF5,
-        })
+        match self {
+            Slot::F0 => content(0),
+            Slot::F1(_) => content(0xF1),
+            Slot::F3 => {
+                let mut bytes = content(0xF3);
+                write_extents(&mut bytes[1..91]);
+                bytes
+            }
+            Slot::F5 => content(0xF5),
+        }
     }
 }
 
@@ -54,6 +61,16 @@ pub(crate) fn padded(name: &[u8]) -> [u8; 44] {
     bytes
 }
 
+// Fills bytes with extents of track 8 alone.
+fn write_extents(bytes: &mut [u8]) {
+    for (to, from) in bytes
+        .iter_mut()
+        .zip([1, 0, 0, 0, 0, 8, 0, 0, 0, 8].iter().cycle())
+    {
+        *to = *from;
+    }
+}
+
 // The 96 bytes of data of a slot of this format.
 fn content(format: u8) -> [u8; 96] {
     let mut bytes = [0; 96];
@@ -62,9 +79,9 @@ fn content(format: u8) -> [u8; 96] {
 }
 
 // That of slot 0: the extent of the VTOC ends with this track.
-fn vtoc_content(last: u8) -> [u8; 96] {
+fn vtoc_content(last: u16) -> [u8; 96] {
     let mut bytes = content(0xF4);
-    let (cylinder, head) = (last / HEADS, last % HEADS);
+    let (cylinder, head) = ((last / 10 % 256) as u8, (last % 10) as u8);
     bytes[61..71].copy_from_slice(&[1, 0, 0, 0, 0, VTOC_BEGIN, 0, cylinder, 0, head]);
     bytes
 }
@@ -96,7 +113,7 @@ fn write_track(track: &mut Track, number: u8, vtoc: &[&[Slot]]) -> Result<(), Al
         return Ok(());
     };
     if index == 0 {
-        let last = VTOC_BEGIN - 1 + (vtoc.len() % 12) as u8;
+        let last = u16::from(VTOC_BEGIN) - 1 + (vtoc.len() % 12) as u16;
         track.write(&[4; 44], &vtoc_content(last))?;
     }
     match vtoc.get(usize::from(index)) {
@@ -128,75 +145,89 @@ pub(crate) const A_B: &[u8] = &[0xC1, 0x4B, 0xC2];
 /// Z9.
 pub(crate) const Z9: &[u8] = &[0xE9, 0xF9];
 
-/// Slots 1 to 8 of the pack that is broken, with five data sets, two of them of one name.
-pub(crate) const SMALL: &[&[Slot]] = &[
+// Slots 1 to 7 of the small pack, with four data sets.
+const SMALL: &[&[Slot]] = &[
     &[Slot::F5, Slot::F1(A1), Slot::F1(AB)],
-    &[
-        Slot::F0,
-        Slot::F1(A_B),
-        Slot::F3,
-        Slot::F1(AB),
-        Slot::F1(Z9),
-    ],
+    &[Slot::F0, Slot::F1(A_B), Slot::F3, Slot::F1(Z9)],
 ];
 
-/// Two bytes to write at their offsets, and the rule of mounting that the small pack breaks then.
-///
-/// Track 0 begins at byte 512, its third record at 725. Tracks 9 and 10 begin at 37376 and 41472; a
-/// record of theirs has 148 bytes, the first of which stand 21 bytes behind the begin of the track.
-pub(crate) const BROKEN: [([(usize, u8); 2], MountErr); 22] = [
-    ([(541, 0), (541, 0)], MountErr::NoLabel),
-    ([(577, 0), (577, 0)], MountErr::NoLabel),
-    ([(733, 0), (733, 0)], MountErr::NoLabel),
-    ([(732, 79), (732, 79)], MountErr::NoLabel),
-    ([(740, 0), (740, 0)], MountErr::NoLabel),
-    ([(729, 4), (729, 4)], MountErr::NoLabel),
-    // The label's address is on head 10, and on cylinder 2.
-    ([(751, 10), (751, 10)], MountErr::BadVtoc),
-    ([(749, 2), (751, 0)], MountErr::BadVtoc),
-    // The upper address is on head 10, and below the lower.
-    ([(37519, 10), (37519, 10)], MountErr::BadVtoc),
-    ([(37517, 0), (37519, 8)], MountErr::BadVtoc),
-    // The lower address is another than the label's.
-    ([(37515, 8), (37515, 8)], MountErr::BadVtoc),
-    // A home address of another cylinder, a break behind the records, and keys of 43 bytes.
-    ([(41474, 0), (41474, 0)], MountErr::VtocTrack { track: 10 }),
-    ([(37989, 0), (37989, 0)], MountErr::VtocTrack { track: 9 }),
-    ([(37402, 43), (37404, 97)], MountErr::VtocTrack { track: 9 }),
-    (
-        [(41498, 43), (41500, 97)],
-        MountErr::VtocTrack { track: 10 },
-    ),
-    ([(37449, 0xF5), (37449, 0xF5)], MountErr::NoFormat4),
-    (
-        [(37449, 0xF5), (41474, 0)],
-        MountErr::VtocTrack { track: 10 },
-    ),
-    // Slots 2 and 5, the second of the other track.
-    (
-        [(37745, 0), (37745, 0)],
-        MountErr::BadDscb { slot: 2, byte: 0 },
-    ),
-    (
-        [(37745, 0xF4), (37745, 0xF4)],
-        MountErr::BadDscb {
-            slot: 2,
-            byte: 0xF4,
-        },
-    ),
-    ([(37745, 0xF7), (37449, 0)], MountErr::NoFormat4),
-    (
-        [(41693, 0xF2), (41693, 0xF2)],
-        MountErr::UnsupportedDscb {
-            slot: 5,
-            byte: 0xF2,
-        },
-    ),
-    (
-        [(41693, 0xF2), (37745, 0xF6)],
-        MountErr::UnsupportedDscb {
-            slot: 2,
-            byte: 0xF6,
-        },
-    ),
+/// A byte to write: at an offset of the image, or of a slot's 140 bytes.
+#[derive(Clone, Copy, Debug)]
+pub(crate) enum Patch {
+    /// The offset, and the byte.
+    Image(usize, u8),
+    /// The slot, counted from 0, the offset in it, and the byte.
+    Slot(usize, usize, u8),
+}
+
+// A1 has the extent of track 3. AB has those of track 4, of tracks 5 and 6, of track 7 and, in slot 6,
+// of track 8.
+const EXTENTS: &[Patch] = &[
+    Patch::Slot(2, 59, 1),
+    Patch::Slot(2, 105, 1),
+    Patch::Slot(2, 110, 3),
+    Patch::Slot(2, 114, 3),
+    Patch::Slot(3, 59, 4),
+    Patch::Slot(3, 105, 1),
+    Patch::Slot(3, 110, 4),
+    Patch::Slot(3, 114, 4),
+    Patch::Slot(3, 115, 0x81),
+    Patch::Slot(3, 120, 5),
+    Patch::Slot(3, 124, 6),
+    Patch::Slot(3, 125, 1),
+    Patch::Slot(3, 130, 7),
+    Patch::Slot(3, 134, 7),
+    Patch::Slot(3, 136, 1),
+    Patch::Slot(3, 139, 3),
 ];
+
+// Where a byte stands in the image of the small pack. Its VTOC begins with track 9 at byte 37376, on
+// which four slots stand, and track 10 at byte 41472; a record of 148 bytes has 8 before its slot, and
+// the first stands 21 bytes behind the begin of its track.
+fn place(patch: Patch) -> (usize, u8) {
+    match patch {
+        Patch::Image(at, byte) => (at, byte),
+        Patch::Slot(slot, at, byte) if slot < 4 => (37376 + 29 + 148 * (slot % 4) + at % 140, byte),
+        Patch::Slot(slot, at, byte) => (
+            41472 + 29 + 148 * (slot % 16).saturating_sub(4) + at % 140,
+            byte,
+        ),
+    }
+}
+
+// Writes bytes over those of an image.
+fn write_over(image: &mut [u8], patches: &[Patch]) {
+    for patch in patches {
+        let (at, byte) = place(*patch);
+        if let Some(to) = image.get_mut(at) {
+            *to = byte;
+        }
+    }
+}
+
+/// The small pack, with these bytes written over it. Its data sets are A.B, AB, A1 and Z9.
+pub(crate) fn small_pack(alloc: Global, patches: &[Patch]) -> Result<Vec<u8>, AllocError> {
+    let mut image = pack(alloc, SMALL)?;
+    write_over(&mut image, EXTENTS);
+    write_over(&mut image, patches);
+    Ok(image)
+}
+
+/// A pack of 28 cylinders whose VTOC has so many tracks, at most 271, and slot 0 alone.
+pub(crate) fn long_vtoc(alloc: Global, tracks: u16) -> Result<Vec<u8>, AllocError> {
+    let mut image = header(alloc)?;
+    let last = u16::from(VTOC_BEGIN) + tracks % 272;
+    let last = last.saturating_sub(1);
+    for number in 0..280u16 {
+        let (cylinder, head) = ((number / 10) as u8, (number % 10) as u8);
+        let mut track = Track::new(alloc, cylinder, head)?;
+        if number == 0 {
+            write_label(&mut track)?;
+        }
+        if number == u16::from(VTOC_BEGIN) {
+            track.write(&[4; 44], &vtoc_content(last))?;
+        }
+        track.end(&mut image)?;
+    }
+    Ok(image)
+}

@@ -13,11 +13,10 @@ loop-track-init c =
     rw c.new-slots.ensures.items (PassedTracks-none c.args.image.now c.args.geometry (run_of c.args.vtoc))
 
 pub returns-in_default-clause-broken : goal.returns-in_default-clause-broken
-returns-in_default-clause-broken c e same =
+returns-in_default-clause-broken c other =
     let image = c.args.image.now in
     let none : None ≡ slots_on image c.args.geometry c.loop-track.track = ap (option_map (λ v. v.items)) (sym c.in_default.is) ∙ c.in_ok-found.ensures in
-    let broken = PassedTracks-broken image c.args.geometry (run_of c.args.vtoc) c.loop-track.track c.loop-track.slots.items c.loop-track.invariant c.loop-track-test.true none in
-    cc
+    PassedTracks-broken image c.args.geometry (run_of c.args.vtoc) c.loop-track.track c.loop-track.slots.items c.loop-track.invariant c.loop-track-test.true none
 
 pub push_addressed-requires : goal.push_addressed-requires
 push_addressed-requires c =

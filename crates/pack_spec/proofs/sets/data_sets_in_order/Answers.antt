@@ -1,13 +1,14 @@
--- The extents of each data set are good, since no slot breaks a rule.
-use Rattle.std.proofs.Common.{refl, sym, ap, ◌∙◌}
-use Rattle.std.proofs.lemmas.List.{take_all}
-use Rattle.pack_spec.proofs.InOrder.{extents_hold, sets_among, sets_among-all}
+-- What the stable sort makes of the data sets is the one list in order.
+use Rattle.std.proofs.Common.{◌≡◌, ap, ◌∙◌, rules}
+use Rattle.std.proofs.lemmas.Fn.{always_returns_same}
+use Rattle.vol_model.specs.declared.contents.DataSet.{DataSet}
+use Rattle.ebcdic_names.specs.declared.names.Dsn.{Dsn}
+use Rattle.pack_spec.specs.Volume.{in_order}
+use Rattle.pack_spec.proofs.InOrder.{in_order-unique}
 use Rattle.pack_spec.proofs.sets.data_sets_in_order.Goals as goal
-
-pub data_set-requires-clause-inside : goal.data_set-requires-clause-inside
-data_set-requires-clause-inside c =
-    extents_hold c.args.geometry c.args.slots.now c.loop-slot.slot-index _ _ c.requires.good c.loop-slot-test.true refl (sym c.is_data_set.ensures ∙ c.if-is_data_set.true)
 
 pub returns : goal.returns
 returns c =
-    c.loop-slot.invariant ∙ ap (sets_among c.args.geometry c.args.slots.now) (take_all c.loop-slot.slot-index c.args.slots.now c.loop-slot-test.false) ∙ sets_among-all c.args.geometry c.args.slots.now
+    let name : DataSet → Dsn = λ x. x.name in
+    let by_name = always_returns_same _ (λ a r. r ≡ name a.0.now) _ (λ a r q k. search rules) in
+    in_order-unique _ _ (c.in_ok-sort_by_key.ensures.sorted name by_name) (c.in_ok-sort_by_key.ensures.stable name by_name) ∙ ap in_order c.in_ok-sets.ensures

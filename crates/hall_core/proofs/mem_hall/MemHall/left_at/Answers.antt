@@ -1,27 +1,18 @@
-use Rattle.std.proofs.Common.{◌≡◌, ◌∙◌, [], ◌-◌, refl, ap, sym, arith, take, drop, length, List, Bool}
-use Rattle.std.proofs.lemmas.List.{append-nil, take_all, length-drop}
+use Rattle.std.proofs.Common.{◌∙◌, [], refl, ap, sym, arith, List, Bool}
+use Rattle.std.proofs.lemmas.List.{append-nil}
 use Rattle.hall_core.specs.History.{with_writes, kept, MayLeaveAt}
-use Rattle.hall_core.specs.Held.{files_of, shapes_of, units_at}
-use Rattle.hall_core.specs.Replay.{writes_at}
-use Rattle.hall_core.specs.declared.mem_hall.step.Step.{Step}
+use Rattle.hall_core.specs.Held.{files_of}
 use Rattle.hall_core.specs.Memory.{first_files, events_of, disk_at}
 use Rattle.hall_core.proofs.ReplayLemmas.{IsRedone, left_made}
 use Rattle.hall_core.proofs.mem_hall.MemHall.left_at.Goals as goal
 use Rattle.hall_core.proofs.mem_hall.MemHall.left_at.Goals.{In_ok-printed}
 
-made : (c : In_ok-printed) → IsRedone (disk_at c.args.self.now c.args.moment) c.args.keep.now (files_of c.apply_kept.new.files.items) c.in_ok-printed.printed.items
+made : (c : In_ok-printed) → IsRedone (disk_at c.args.self.now c.args.moment) c.args.keep.now (files_of c.apply_left.new.files.items) c.in_ok-printed.printed.items
 made c =
-    let seen = take c.min-end.result c.deref.result.now in
-    let from = c.pending_from-from.result in
-    let done = files_of c.apply_done.new.files.items in
-    let kept_are : files_of c.apply_kept.new.files.items ≡ with_writes done (kept c.args.keep.now (writes_at (units_at (shapes_of done) c.deref-4.result.now) c.deref-5.result.now (take (length seen - from) (drop from seen)))) = c.apply_kept.ensures in
-    let rest : take (length seen - from) (drop from seen) ≡ drop from seen = take_all (length seen - from) (drop from seen) (omega (arith, length-drop from seen)) in
-    let kept_rest : files_of c.apply_kept.new.files.items ≡ with_writes done (kept c.args.keep.now (writes_at (units_at (shapes_of done) c.deref-4.result.now) c.deref-5.result.now (drop from seen))) =
-    kept_are ∙ ap (λ (l : List Step). with_writes done (kept c.args.keep.now (writes_at (units_at (shapes_of done) c.deref-4.result.now) c.deref-5.result.now l))) rest in
-    left_made c.args.self.now c.args.moment c.min-end.result c.pending_from-from.result c.args.keep.now (files_of c.apply_done.new.files.items) (files_of c.apply_kept.new.files.items) c.in_ok-printed.printed.items (omega arith)
-    c.deref.result.now c.deref-2.result.now c.deref-4.result.now c.deref-3.result.now c.deref-5.result.now c.deref-6.result.now (files_of c.in_ok-files.files.items)
-    c.deref.ensures.value c.deref-2.ensures.value c.deref-4.ensures.value c.deref-3.ensures.value c.deref-5.ensures.value c.deref-6.ensures.value (c.in_ok-files.ensures ∙ ap files_of c.first_files.ensures)
-    c.pending_from-from.ensures c.apply_done.ensures.done c.apply_done.ensures.shapes kept_rest c.in_ok-printed.ensures
+    left_made c.args.self.now c.args.moment c.min-end.result c.pending_from-from.result c.args.keep.now (files_of c.apply_left.new.files.items) c.in_ok-printed.printed.items (omega arith)
+    c.deref.result.now c.deref-2.result.now c.deref-3.result.now c.deref-4.result.now (files_of c.in_ok-files.files.items)
+    c.deref.ensures.value c.deref-2.ensures.value c.deref-3.ensures.value c.deref-4.ensures.value (c.in_ok-files.ensures ∙ ap files_of c.first_files.ensures)
+    c.pending_from-from.ensures c.apply_left.ensures c.in_ok-printed.ensures
 
 pub returns-clause-files : goal.returns-clause-files
 returns-clause-files c = (made (goal.at.returns-clause-files c).In_ok-printed).files_are
@@ -29,7 +20,7 @@ returns-clause-files c = (made (goal.at.returns-clause-files c).In_ok-printed).f
 pub returns-clause-text : goal.returns-clause-text
 returns-clause-text c = (made (goal.at.returns-clause-text c).In_ok-printed).text_is
 
-left : (c : In_ok-printed) → MayLeaveAt (first_files c.args.self.now) (events_of c.args.self.now) c.args.moment (files_of c.apply_kept.new.files.items) c.in_ok-printed.printed.items
+left : (c : In_ok-printed) → MayLeaveAt (first_files c.args.self.now) (events_of c.args.self.now) c.args.moment (files_of c.apply_left.new.files.items) c.in_ok-printed.printed.items
 left c =
     let m = made c in
     record { files = (c.args.keep.now, m.files_are); text = ([], (_, refl), m.text_is ∙ sym (append-nil (disk_at c.args.self.now c.args.moment).text)) }

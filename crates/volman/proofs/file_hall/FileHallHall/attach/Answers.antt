@@ -18,5 +18,6 @@ returns-clause-call g c =
       prints = refl;
       later = omega arith;
       failed = λ e. absurd (cc e);
+      others = λ _. refl;
       memory = λ e. absurd (cc e);
     }

@@ -1,0 +1,111 @@
+use Rattle.std.proofs.Common.{◌≡◌, refl, sym, ap, subst, ◌∙◌, arith, ℕ, List, length}
+use Rattle.std.specs.Prelude.{Err}
+use Rattle.std.proofs.lemmas.Result.{err_from_is_err_and}
+use Rattle.hall_core.specs.Files.{image_of}
+use Rattle.pack_spec.specs.Slots.{slots_of_vtoc}
+use Rattle.pack_spec.specs.Views.{address_of}
+use Rattle.track_records.specs.Buffers.{Buffer}
+use Rattle.track_records.specs.Written.{StandsOn}
+use Rattle.vtoc_index.specs.Contents.{AreRead}
+use Rattle.vtoc_index.specs.Index.{AreFirsts, run_of}
+use Rattle.vtoc_index.specs.Reading.{AreTracksRead, vtoc_on}
+use Rattle.vtoc_index.specs.declared.slots.ReadSlot.{ReadSlot}
+use Rattle.vtoc_index.proofs.CallsMade.{reason_at}
+use Rattle.vtoc_index.proofs.Images.{same_image}
+use Rattle.vtoc_index.proofs.Mounts.{label_reason, label_seen, mounted, outside_reason, slots_reason, vtoc_reason}
+use Rattle.vtoc_index.proofs.TracksRead.{AreRead-length, dscbs_many}
+use Rattle.vtoc_index.proofs.read.read_vtoc.Goals as goal
+
+pub returns-in_err-label-clause-refused : goal.returns-in_err-label-clause-refused
+returns-in_err-label-clause-refused g c told =
+    let geometry = c.in_ok-geometry.geometry in
+    let image = image_of (g.H.Hall.meaning c.args.hall.now).state (g.H.Hall.facts c.args.hall.now) c.args.unit in
+    let seen = image_of (g.H.Hall.meaning c.read_geometry.new.hall).state (g.H.Hall.facts c.read_geometry.new.hall) c.args.unit in
+    let same : seen ≡ image = same_image (g.H.Hall.meaning c.read_geometry.new.hall).state (g.H.Hall.meaning c.args.hall.now).state (g.H.Hall.facts c.read_geometry.new.hall) (g.H.Hall.facts c.args.hall.now) c.args.unit (c.in_ok-geometry.ensures.told told).state c.in_ok-geometry.ensures.call.units in
+    let alike : c.in_ok-buf.buf.geometry ≡ geometry = ap (λ (b : Buffer). b.geometry) c.in_ok-buf.ensures in
+    let p = err_from_is_err_and c.from_residual-in_err-label.result c.from_residual-in_err-label.ensures.1 in
+    reason_at image c.from_residual-in_err-label.result c.in_err-label.field-0.0 (p.1 ∙ ap Err p.2)
+    (label_reason image seen geometry c.in_ok-buf.buf.geometry c.in_err-label.field-0.0 same alike (c.in_ok-geometry.ensures.read told) (c.in_err-label.ensures.refused told))
+
+pub returns-then-not-is_inside-clause-refused : goal.returns-then-not-is_inside-clause-refused
+returns-then-not-is_inside-clause-refused g c told =
+    let geometry = c.in_ok-geometry.geometry in
+    let image = image_of (g.H.Hall.meaning c.args.hall.now).state (g.H.Hall.facts c.args.hall.now) c.args.unit in
+    let seen = image_of (g.H.Hall.meaning c.read_geometry.new.hall).state (g.H.Hall.facts c.read_geometry.new.hall) c.args.unit in
+    let same : seen ≡ image = same_image (g.H.Hall.meaning c.read_geometry.new.hall).state (g.H.Hall.meaning c.args.hall.now).state (g.H.Hall.facts c.read_geometry.new.hall) (g.H.Hall.facts c.args.hall.now) c.args.unit (c.in_ok-geometry.ensures.told told).state c.in_ok-geometry.ensures.call.units in
+    let alike : c.in_ok-buf.buf.geometry ≡ geometry = ap (λ (b : Buffer). b.geometry) c.in_ok-buf.ensures in
+    let label = label_seen image seen geometry c.in_ok-buf.buf.geometry c.in_ok-label.label same alike (c.in_ok-label.ensures.label told) in
+    outside_reason image geometry c.in_ok-label.label (c.in_ok-geometry.ensures.read told) label (sym c.if-not-is_inside.ensures)
+
+pub returns-in_err-vtoc-clause-refused : goal.returns-in_err-vtoc-clause-refused
+returns-in_err-vtoc-clause-refused g c told =
+    let geometry = c.in_ok-geometry.geometry in
+    let image = image_of (g.H.Hall.meaning c.args.hall.now).state (g.H.Hall.facts c.args.hall.now) c.args.unit in
+    let seen = image_of (g.H.Hall.meaning c.read_geometry.new.hall).state (g.H.Hall.facts c.read_geometry.new.hall) c.args.unit in
+    let same : seen ≡ image = same_image (g.H.Hall.meaning c.read_geometry.new.hall).state (g.H.Hall.meaning c.args.hall.now).state (g.H.Hall.facts c.read_geometry.new.hall) (g.H.Hall.facts c.args.hall.now) c.args.unit (c.in_ok-geometry.ensures.told told).state c.in_ok-geometry.ensures.call.units in
+    let alike : c.in_ok-buf.buf.geometry ≡ geometry = ap (λ (b : Buffer). b.geometry) c.in_ok-buf.ensures in
+    let label = label_seen image seen geometry c.in_ok-buf.buf.geometry c.in_ok-label.label same alike (c.in_ok-label.ensures.label told) in
+    let later = image_of (g.H.Hall.meaning c.read_label.new.hall).state (g.H.Hall.facts c.read_label.new.hall) c.args.unit in
+    let still : later ≡ image = same_image (g.H.Hall.meaning c.read_label.new.hall).state (g.H.Hall.meaning c.read_geometry.new.hall).state (g.H.Hall.facts c.read_label.new.hall) (g.H.Hall.facts c.read_geometry.new.hall) c.args.unit (c.in_ok-label.ensures.told told).state c.in_ok-label.ensures.call.units ∙ same in
+    let p = err_from_is_err_and c.from_residual-in_err-vtoc.result c.from_residual-in_err-vtoc.ensures.1 in
+    reason_at image c.from_residual-in_err-vtoc.result c.in_err-vtoc.field-0.0 (p.1 ∙ ap Err p.2)
+    (vtoc_reason image later geometry c.in_ok-label.label c.in_err-vtoc.field-0.0 still (c.in_ok-geometry.ensures.read told) label (sym c.if-not-is_inside.ensures) (c.in_err-vtoc.ensures.refused told))
+
+pub returns-in_err-slots-clause-refused : goal.returns-in_err-slots-clause-refused
+returns-in_err-slots-clause-refused g c told =
+    let geometry = c.in_ok-geometry.geometry in
+    let image = image_of (g.H.Hall.meaning c.args.hall.now).state (g.H.Hall.facts c.args.hall.now) c.args.unit in
+    let seen = image_of (g.H.Hall.meaning c.read_geometry.new.hall).state (g.H.Hall.facts c.read_geometry.new.hall) c.args.unit in
+    let same : seen ≡ image = same_image (g.H.Hall.meaning c.read_geometry.new.hall).state (g.H.Hall.meaning c.args.hall.now).state (g.H.Hall.facts c.read_geometry.new.hall) (g.H.Hall.facts c.args.hall.now) c.args.unit (c.in_ok-geometry.ensures.told told).state c.in_ok-geometry.ensures.call.units in
+    let alike : c.in_ok-buf.buf.geometry ≡ geometry = ap (λ (b : Buffer). b.geometry) c.in_ok-buf.ensures in
+    let label = label_seen image seen geometry c.in_ok-buf.buf.geometry c.in_ok-label.label same alike (c.in_ok-label.ensures.label told) in
+    let later = image_of (g.H.Hall.meaning c.read_label.new.hall).state (g.H.Hall.facts c.read_label.new.hall) c.args.unit in
+    let still : later ≡ image = same_image (g.H.Hall.meaning c.read_label.new.hall).state (g.H.Hall.meaning c.read_geometry.new.hall).state (g.H.Hall.facts c.read_label.new.hall) (g.H.Hall.facts c.read_geometry.new.hall) c.args.unit (c.in_ok-label.ensures.told told).state c.in_ok-label.ensures.call.units ∙ same in
+    let vtoc = c.in_ok-vtoc.vtoc in
+    let extent = ap (λ (i : List ℕ). vtoc_on i geometry (address_of c.in_ok-label.label.vtoc)) (sym still) ∙ c.in_ok-vtoc.ensures.extent told in
+    let read = subst (λ (i : List ℕ). AreTracksRead i geometry vtoc.start vtoc.len c.in_ok-vtoc.found) still (c.in_ok-vtoc.ensures.read told) in
+    let slots = subst (λ (l : List ReadSlot). AreRead l (slots_of_vtoc image geometry (run_of vtoc))) (sym c.deref.ensures.value) read.slots in
+    let p = err_from_is_err_and c.from_residual-in_err-slots.result c.from_residual-in_err-slots.ensures.1 in
+    reason_at image c.from_residual-in_err-slots.result c.in_err-slots.field-0.0 (p.1 ∙ ap Err p.2)
+    (slots_reason image geometry c.in_ok-label.label vtoc c.in_ok-vtoc.found c.in_err-slots.field-0.0 (c.in_ok-geometry.ensures.read told) label (sym c.if-not-is_inside.ensures) extent read
+    (c.in_err-slots.ensures.refused (slots_of_vtoc image geometry (run_of vtoc)) slots))
+
+pub returns-clause-mounted : goal.returns-clause-mounted
+returns-clause-mounted g c told =
+    let geometry = c.in_ok-geometry.geometry in
+    let image = image_of (g.H.Hall.meaning c.args.hall.now).state (g.H.Hall.facts c.args.hall.now) c.args.unit in
+    let seen = image_of (g.H.Hall.meaning c.read_geometry.new.hall).state (g.H.Hall.facts c.read_geometry.new.hall) c.args.unit in
+    let same : seen ≡ image = same_image (g.H.Hall.meaning c.read_geometry.new.hall).state (g.H.Hall.meaning c.args.hall.now).state (g.H.Hall.facts c.read_geometry.new.hall) (g.H.Hall.facts c.args.hall.now) c.args.unit (c.in_ok-geometry.ensures.told told).state c.in_ok-geometry.ensures.call.units in
+    let alike : c.in_ok-buf.buf.geometry ≡ geometry = ap (λ (b : Buffer). b.geometry) c.in_ok-buf.ensures in
+    let label = label_seen image seen geometry c.in_ok-buf.buf.geometry c.in_ok-label.label same alike (c.in_ok-label.ensures.label told) in
+    let later = image_of (g.H.Hall.meaning c.read_label.new.hall).state (g.H.Hall.facts c.read_label.new.hall) c.args.unit in
+    let still : later ≡ image = same_image (g.H.Hall.meaning c.read_label.new.hall).state (g.H.Hall.meaning c.read_geometry.new.hall).state (g.H.Hall.facts c.read_label.new.hall) (g.H.Hall.facts c.read_geometry.new.hall) c.args.unit (c.in_ok-label.ensures.told told).state c.in_ok-label.ensures.call.units ∙ same in
+    let vtoc = c.in_ok-vtoc.vtoc in
+    let extent = ap (λ (i : List ℕ). vtoc_on i geometry (address_of c.in_ok-label.label.vtoc)) (sym still) ∙ c.in_ok-vtoc.ensures.extent told in
+    let read = subst (λ (i : List ℕ). AreTracksRead i geometry vtoc.start vtoc.len c.in_ok-vtoc.found) still (c.in_ok-vtoc.ensures.read told) in
+    let slots = subst (λ (l : List ReadSlot). AreRead l (slots_of_vtoc image geometry (run_of vtoc))) (sym c.deref.ensures.value) read.slots in
+    let stands = subst (λ (i : List ℕ). StandsOn i c.read_slots.new.buf) still (c.in_ok-vtoc.ensures.stands told) in
+    mounted image c.in_ok-label.label _ c.in_ok-vtoc.found
+    (record { header = c.in_ok-geometry.ensures.read told; label = label; inside = sym c.if-not-is_inside.ensures; extent = extent; read = read })
+    refl refl stands (c.in_ok-slots.ensures.dscbs (slots_of_vtoc image geometry (run_of vtoc)) slots)
+
+-- as many slots are held as were read
+pub returns-clause-unit : goal.returns-clause-unit
+returns-clause-unit g c =
+    let extent = c.in_ok-vtoc.ensures.numbers.0 in
+    let numbers = c.in_ok-vtoc.ensures.numbers.1 in
+    let read = subst (λ (l : List ReadSlot). AreRead l numbers.read.0) (sym c.deref.ensures.value) numbers.read.1 in
+    let held = (c.in_ok-slots.ensures.dscbs numbers.read.0 read).0 in
+    let many : length c.in_ok-slots.slots.items ≡ length c.in_ok-vtoc.found.slots.items = dscbs_many c.in_ok-slots.slots.items numbers.read.0 held ∙ sym (AreRead-length c.in_ok-vtoc.found.slots.items numbers.read.0 numbers.read.1) in (
+      refl,
+      record {
+        attached = c.requires;
+        whole = c.in_ok-geometry.ensures.whole;
+        inside = extent.inside;
+        tracks = numbers.tracks;
+        few = extent.few;
+        most = omega (arith, many, numbers.few, extent.few);
+        firsts = subst (λ (n : ℕ). AreFirsts 0 c.in_ok-vtoc.found.firsts.items n) (sym many) numbers.firsts;
+        buffer = c.in_ok-vtoc.ensures.buffer;
+      },
+    )

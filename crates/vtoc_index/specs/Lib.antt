@@ -1,0 +1,6 @@
+pub mod Contents
+pub mod Rules
+pub mod Reading
+pub mod Index
+pub mod Puts
+pub mod Calls

@@ -1,0 +1,36 @@
+//! A data set's slot, found by its name.
+ghost use Rattle.std.specs.Prelude.{◌≡◌, ◌≤◌, List, length, position};
+ghost use Rattle.pack_spec.specs.Faults.{is_named};
+ghost use Rattle.pack_spec.specs.declared.addressed.VtocSlot.{VtocSlot};
+ghost use Rattle.vtoc_index.specs.Contents.{AreDscbs, is_set_named};
+
+use crate::vol::Vol;
+use dscb_codec::Dscb;
+use ebcdic_names::Dsn;
+
+/// The lowest slot that holds a format 1 of this name.
+pub fn find(vol: &Vol, name: &Dsn) -> Option<u32>
+    requires { length vol.now.slots.items ≤ 65535 }
+    ensures exact { result ≡ position (is_set_named name.now.bytes) vol.now.slots.items }
+    ensures image { (given : List VtocSlot) → AreDscbs vol.now.slots.items given → result ≡ position (is_named name.now.bytes) given }
+{
+    let slot = position_named(&vol.slots, name)?;
+    Some(slot as u32)
+}
+
+// The place of the first format 1 of this name.
+fn position_named(slots: &[Dscb], name: &Dsn) -> Option<usize>
+    ensures { result ≡ position (is_set_named name.now.bytes) slots.now }
+{
+    slots.iter().position(|dscb| is_set_named(dscb, name))
+}
+
+// Whether it is a format 1 of this name.
+fn is_set_named(dscb: &Dscb, name: &Dsn) -> bool
+    ensures { result ≡ is_set_named name.now.bytes dscb.now }
+{
+    match dscb {
+        Dscb::F1(set) => set.name == name.bytes,
+        _ => false,
+    }
+}

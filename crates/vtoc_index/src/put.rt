@@ -1,0 +1,146 @@
+//! One slot of a VTOC, written over.
+ghost use Rattle.std.specs.Prelude.{◌≡◌, ◌⊎◌, ◌<◌, ◌≤◌, ◌+◌, ◌-◌, [], length, filter, nat_le, slice_index, IsTrue, OnOk};
+ghost use Rattle.hall_core.specs.Facts.{DeviceCall, unit_of};
+ghost use Rattle.hall_core.specs.Files.{image_of};
+ghost use Rattle.hall_core.specs.Moments.{Same};
+ghost use Rattle.track_records.specs.Calls.{HasTrack};
+ghost use Rattle.track_records.specs.Updates.{HasLengths};
+ghost use Rattle.track_records.specs.Written.{StandsOn};
+ghost use Rattle.vtoc_index.specs.Index.{AreFirsts, IsIndexOf, IsOfUnit, slots_in_front, track_index};
+ghost use Rattle.vtoc_index.specs.Puts.{AfterPut, HasSlot, IsHeld, IsWith};
+
+use crate::slots::{DATA_LEN, KEY_LEN};
+use crate::vol::Vol;
+use dscb_codec::{Dscb, encode};
+use hall_core::{Device, Hall};
+use track_records::{TrackBuf, TrackErr, read_records, update};
+
+// Where a slot stands.
+#[derive(Clone, Copy)]
+struct Place {
+    // The track, counted from 0 over the unit.
+    track: u16,
+    // The R of its record there.
+    number: u8,
+}
+
+/// Changes one slot of the VTOC, in one write.
+///
+/// The write is pending until a sync is done; a stop leaves it whole or absent. After an error it is
+/// pending too, or it was not begun, and the index keeps the old DSCB. The index may then be that of no
+/// image any more, so no slot can be put by it.
+pub fn put_slot<H: Hall>(hall: &mut H, vol: &mut Vol, slot: u32, dscb: &Dscb) -> Result<(), Device>
+    requires unit { IsOfUnit (H.facts hall.old).units vol.old }
+    requires slot { slot < length vol.old.slots.items }
+    requires index { IsTrue H.tells → IsIndexOf (image_of (H.meaning hall.old).state (H.facts hall.old) vol.old.unit) vol.old }
+    ensures told { IsTrue H.tells → AfterPut (unit_of (H.facts hall.old).units vol.old.unit).name vol.old slot dscb.now vol.new (image_of (H.meaning hall.old).state (H.facts hall.old) vol.old.unit) (image_of (H.meaning hall.new).state (H.facts hall.new) vol.old.unit) (H.meaning hall.old) (H.meaning hall.new) result }
+    ensures index { IsWith slot dscb.now vol.old vol.new result }
+    ensures unit { IsOfUnit (H.facts hall.new).units vol.new }
+    ensures call { DeviceCall (H.facts hall.old) (H.facts hall.new) result }
+{
+    let place = place_of(vol, slot);
+    let bytes = encode(dscb);
+    hold(hall, vol.unit, place, &mut vol.buf)?;
+    let (key, payload) = bytes.split_at(KEY_LEN);
+    update(hall, &mut vol.buf, place.number, key, payload)?;
+    vol.slots[slot as usize] = *dscb;
+    Ok(())
+}
+
+// Where a slot stands.
+fn place_of(vol: &Vol, slot: u32) -> Place
+    requires firsts { AreFirsts 0 vol.now.firsts.items (length vol.now.slots.items) }
+    requires few { length vol.now.firsts.items ≤ 257 }
+    requires fits { vol.now.vtoc.start + length vol.now.firsts.items < 65536 }
+    requires slot { slot < length vol.now.slots.items }
+    ensures inside { track_index vol.now.firsts.items slot < length vol.now.firsts.items }
+    ensures track { result.track ≡ vol.now.vtoc.start + track_index vol.now.firsts.items slot }
+    ensures number { result.number ≡ slots_in_front vol.now.firsts.items slot + 1 }
+{
+    let index = index_of(vol, slot);
+    let front = slot - vol.firsts[index];
+    Place {
+        track: vol.vtoc.start + index as u16,
+        number: front as u8 + 1,
+    }
+}
+
+// Which track of the VTOC holds a slot, counted from 0.
+fn index_of(vol: &Vol, slot: u32) -> usize
+    requires firsts { AreFirsts 0 vol.now.firsts.items (length vol.now.slots.items) }
+    requires slot { slot < length vol.now.slots.items }
+    ensures exact { result ≡ track_index vol.now.firsts.items slot }
+    ensures inside { result < length vol.now.firsts.items }
+    ensures low { slice_index vol.now.firsts.items result ≤ slot }
+    ensures near { slot < slice_index vol.now.firsts.items result + 255 }
+{
+    passed(&vol.firsts, slot) - 1
+}
+
+// How many of these first slots don't stand behind a slot.
+fn passed(firsts: &[u32], slot: u32) -> usize
+    ensures { result ≡ length (filter (λ first. nat_le first slot) firsts.now) }
+{
+    firsts.iter().filter(|first| **first <= slot).count()
+}
+
+// Makes the buffer hold a record of its unit that is a slot; reads the track where it doesn't.
+fn hold<H: Hall>(hall: &mut H, unit: u8, place: Place, buf: &mut TrackBuf) -> Result<(), Device>
+    requires unit { buf.old.unit ≡ unit }
+    requires track { HasTrack (H.facts hall.old).units unit buf.old.geometry place.track }
+    requires first { 1 ≤ place.number }
+    requires there { IsTrue H.tells → HasSlot (image_of (H.meaning hall.old).state (H.facts hall.old) unit) buf.old.geometry place.track place.number }
+    requires held { IsTrue H.tells → IsHeld (image_of (H.meaning hall.old).state (H.facts hall.old) unit) buf.old }
+    ensures buffer { OnOk result (buf.new ≡ record buf.old { track = place.track; records = buf.new.records }) }
+    ensures kept { (buf.new.geometry ≡ buf.old.geometry) × (buf.new.unit ≡ buf.old.unit) }
+    ensures lengths { OnOk result (HasLengths buf.new.records (place.number - 1) 44 96) }
+    ensures stands { IsTrue H.tells → OnOk result (StandsOn (image_of (H.meaning hall.new).state (H.facts hall.new) unit) buf.new) }
+    ensures told { IsTrue H.tells → Same (H.meaning hall.old) (H.meaning hall.new) }
+    ensures call { DeviceCall (H.facts hall.old) (H.facts hall.new) result }
+{
+    fetch(hall, unit, place, buf)?;
+    if !holds_slot(buf, place.number) {
+        hall.differs(unit, place.track);
+        return Err(Device);
+    }
+    Ok(())
+}
+
+// Makes the buffer hold a record of its unit, where there is one; reads the track where it doesn't.
+fn fetch<H: Hall>(hall: &mut H, unit: u8, place: Place, buf: &mut TrackBuf) -> Result<(), Device>
+    requires unit { buf.old.unit ≡ unit }
+    requires track { HasTrack (H.facts hall.old).units unit buf.old.geometry place.track }
+    requires first { 1 ≤ place.number }
+    requires there { IsTrue H.tells → HasSlot (image_of (H.meaning hall.old).state (H.facts hall.old) unit) buf.old.geometry place.track place.number }
+    requires held { IsTrue H.tells → IsHeld (image_of (H.meaning hall.old).state (H.facts hall.old) unit) buf.old }
+    ensures buffer { buf.new ≡ record buf.old { track = place.track; records = buf.new.records } }
+    ensures stands { IsTrue H.tells → OnOk result ((place.number ≤ length buf.new.records) × StandsOn (image_of (H.meaning hall.old).state (H.facts hall.old) unit) buf.new) }
+    ensures told { IsTrue H.tells → Same (H.meaning hall.old) (H.meaning hall.new) }
+    ensures call { DeviceCall (H.facts hall.old) (H.facts hall.new) result }
+{
+    if buf.track() == place.track && usize::from(place.number) <= buf.len() {
+        return Ok(());
+    }
+    match read_records(hall, unit, place.track, Some(place.number), buf) {
+        Ok(_count) => Ok(()),
+        Err(TrackErr::BadCount { .. }) => {
+            hall.differs(unit, place.track);
+            Err(Device)
+        }
+        Err(TrackErr::Device) => Err(Device),
+    }
+}
+
+// Whether the buffer holds Rr, and that has the lengths of a slot.
+#[tactic(auto, using(crate::proofs::HeldLemmas::slot_tested, crate::proofs::HeldLemmas::slot_untested))]
+fn holds_slot(buf: &TrackBuf, r: u8) -> bool
+    requires { 1 ≤ r }
+    ensures slot { IsTrue result → HasLengths buf.now.records (r - 1) 44 96 }
+    ensures other { r ≤ length buf.now.records → HasLengths buf.now.records (r - 1) 44 96 → IsTrue result }
+{
+    if usize::from(r) > buf.len() {
+        return false;
+    }
+    let (key, payload) = (buf.key(r), buf.data(r));
+    key.len() == KEY_LEN && payload.len() == DATA_LEN
+}
