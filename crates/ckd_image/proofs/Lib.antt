@@ -10,3 +10,4 @@ pub mod GrammarBreak
 pub mod GrammarBegin
 pub mod GrammarFirstBreak
 pub mod Written
+pub mod GeometryLemmas

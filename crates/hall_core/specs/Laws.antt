@@ -6,7 +6,12 @@ use Rattle.std.proofs.lemmas.Slice.Eq.{bytes_eq-Decides}
 use Rattle.std.proofs.lemmas.List.{get_or-map, length-map}
 use Rattle.hall_core.specs.Facts.{Attached, unit_of}
 use Rattle.hall_core.specs.Files.{File, AreWhole, file_of}
-use Rattle.hall_core.specs.Moments.{LeftNow}
+use Rattle.hall_core.specs.Moments.{IsDurable, LeftNow}
+use Rattle.hall_core.specs.History.{Disk, Write, after_all, kept, new_disk, with_writes}
+use Rattle.hall_core.specs.Replay.{events_at, units_needed}
+use Rattle.hall_core.specs.declared.mem_hall.step.Step.{Step}
+use Rattle.hall_core.specs.declared.mem_hall.step.Step.TheVariants as steps
+use Rattle.hall_core.specs.declared.mem_hall.step.Step.TheVariants.{Sync, Print, Pass}
 use Rattle.hall_core.specs.Held.{files_of, attached_as, shapes_of, units_at, IsFirst, AreFirst}
 use Rattle.hall_core.specs.HistoryLaws.{state_left_now, now_since, since_now}
 use Rattle.hall_core.specs.Memory.{first_files, events_of, meaning_of, facts_of}
@@ -67,3 +72,30 @@ only_now hall j p left = since_now (first_files hall) (events_of hall) j p left
 -- each unit is a file, of the unit's size
 pub whole_units : (hall : MemHall) → AreWhole (meaning_of hall).state (facts_of hall).units
 whole_units hall = subst (λ (l : List File). AreWhole l (facts_of hall).units) (sym hall.replay.present) (whole_at (files_of hall.files.items) hall.units.items hall.replay.firsts)
+
+-- a disk that holds its files durably, of which no write is pending
+record IsSettled (d : Disk) : Type 0 where
+  none : d.pending ≡ []
+  same : d.stable ≡ d.files
+
+-- steps that write nothing leave it so
+settled_after : (units : List Attached) (pool text : List ℕ) (steps : List Step) (d : Disk) → ((k : ℕ) → k < length steps → units_needed (get_or steps k Pass) ≤ 0) → IsSettled d → IsSettled (after_all d (events_at units pool text steps))
+settled_after units pool text [] d none settled = settled
+settled_after units pool text (steps.Write unit at start len is_done ∷ steps) d none settled = absurd (let low = none 0 (omega arith) in omega (arith, low))
+settled_after units pool text (Sync ∷ steps) d none settled = settled_after units pool text steps _ (λ k low. none (suc k) (omega (arith, low))) (record { none = refl; same = refl })
+settled_after units pool text (Print start len is_cut ∷ steps) d none settled = settled_after units pool text steps _ (λ k low. none (suc k) (omega (arith, low))) (record { none = settled.none; same = settled.same })
+settled_after units pool text (Pass ∷ steps) d none settled = settled_after units pool text steps d (λ k low. none (suc k) (omega (arith, low))) settled
+
+-- of no writes none is kept
+none_kept : (flags : List Bool) → kept flags [] ≡ []
+none_kept [] = refl
+none_kept (flag ∷ flags) = refl
+
+-- without a unit no write is pending
+pub none_pending : (hall : MemHall) → (facts_of hall).units ≡ [] → IsDurable (meaning_of hall)
+none_pending hall none j left =
+    let units = (facts_of hall).units in
+    let each : (k : ℕ) → k < length hall.steps.items → units_needed (get_or hall.steps.items k Pass) ≤ 0 = λ k low. omega (arith, (hall.replay.within k low).unit, ap length none) in
+    let settled = settled_after units hall.written.items hall.printed.items hall.steps.items (new_disk (first_files hall)) each (record { none = refl; same = refl }) in
+    let d : Disk = after_all (new_disk (first_files hall)) (events_of hall) in
+    left.1 ∙ ap (λ (ws : List Write). with_writes d.stable (kept left.0 ws)) settled.none ∙ ap (with_writes d.stable) (none_kept left.0) ∙ settled.same

@@ -1,7 +1,7 @@
 //! The trait of the outside, which a device and a test fixture implement alike.
-ghost use Rattle.std.specs.Prelude.{◌≡◌, ◌+◌, ◌<◌, ◌≤◌, ◌∷◌, ℕ, List, Bool, length, IsTrue, IsFalse, OnOk, IfErr, ◌-◌, ◌^◌, min};
+ghost use Rattle.std.specs.Prelude.{◌≡◌, ◌+◌, ◌<◌, ◌≤◌, [], ◌∷◌, ℕ, List, Bool, length, IsTrue, IsFalse, OnOk, IfErr, ◌-◌, ◌^◌, min};
 ghost use Rattle.hall_core.specs.Facts.{Facts, unit_of, IsAttached, DeviceCall, NotedCall, PrintCall, AttachCall, Rose};
-ghost use Rattle.hall_core.specs.Moments.{Meaning, LeftNow, Same};
+ghost use Rattle.hall_core.specs.Moments.{Meaning, LeftNow, IsDurable, Same};
 ghost use Rattle.hall_core.specs.Files.{File, HasBytesAt, AreWhole, Attaches, AfterWrite, AfterSync, AfterPrint};
 
 /// Why a call failed.
@@ -120,6 +120,9 @@ pub trait Hall {
 
     /// Each unit is a file, of the unit's size.
     ghost whole: { (h : Self) → IsTrue tells → AreWhole (meaning h).state (facts h).units };
+
+    /// Writes are made to units alone: without a unit none is pending.
+    ghost none_pending: { (h : Self) → IsTrue tells → (facts h).units ≡ [] → IsDurable (meaning h) };
 }
 
 impl<H: Hall> Hall for &mut H {
@@ -136,6 +139,8 @@ impl<H: Hall> Hall for &mut H {
     ghost only_now = { λ h. H.only_now h.now };
 
     ghost whole = { λ h. H.whole h.now };
+
+    ghost none_pending = { λ h. H.none_pending h.now };
 
     fn attach(&mut self, name: &str) -> Result<u8, HallErr> {
         (**self).attach(name)

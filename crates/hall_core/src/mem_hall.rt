@@ -273,7 +273,7 @@ impl Hall for MemHall {
     ghost use Rattle.hall_core.specs.Moments.{Same};
     ghost use Rattle.hall_core.specs.History.{wrote, synced, printed, passed};
     ghost use Rattle.hall_core.specs.Memory.{first_files, events_of, meaning_of, facts_of, IsExactCall, CountsFailure};
-    ghost use Rattle.hall_core.specs.Laws.{leaves_state as state_left, counts_now as now_counted, only_now as none_since, whole_units};
+    ghost use Rattle.hall_core.specs.Laws.{leaves_state as state_left, counts_now as now_counted, only_now as none_since, whole_units, none_pending as none_settled};
 
     ghost tells = { true };
 
@@ -288,6 +288,8 @@ impl Hall for MemHall {
     ghost only_now = { λ hall j p left. none_since hall j p left };
 
     ghost whole = { λ hall told. whole_units hall };
+
+    ghost none_pending = { λ hall told none. none_settled hall none };
 
     fn attach(&mut self, name: &str) -> Result<u8, HallErr>
         requires few { length (facts_of self.old).units < 255 }

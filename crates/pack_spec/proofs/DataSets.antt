@@ -23,15 +23,15 @@ pub sets_among-all : (g : Geometry) (slots : List VtocSlot) → sets_among g slo
 unfolding data_sets_in
 sets_among-all g slots = refl
 
-fault_or-none : (o later : Option MountErr) → fault_or o later ≡ None → later ≡ None
+pub fault_or-none : (o later : Option MountErr) → fault_or o later ≡ None → later ≡ None
 fault_or-none None later e = e
 fault_or-none (Some x) later e = cc
 
-behind_first : (b : Bool) (o : Option MountErr) → b ≡ false → cond b None o ≡ None → o ≡ None
+pub behind_first : (b : Bool) (o : Option MountErr) → b ≡ false → cond b None o ≡ None → o ≡ None
 behind_first true o h e = cc
 behind_first false o h e = e
 
-middle_holds : (a b c : Bool) (k : ℕ) → cond (not a) (Some (UnsupportedExtent k)) (cond (not b) (Some (BadExtent k)) (cond (not c) (Some (BadChain k)) None)) ≡ None → b ≡ true
+pub middle_holds : (a b c : Bool) (k : ℕ) → cond (not a) (Some (UnsupportedExtent k)) (cond (not b) (Some (BadExtent k)) (cond (not c) (Some (BadChain k)) None)) ≡ None → b ≡ true
 middle_holds true true c k e = refl
 middle_holds true false c k e = cc
 middle_holds false b c k e = cc
@@ -59,12 +59,12 @@ front-none true x ys e = refl
 front-none false x ys e = cc
 
 -- slot 0 is a format 4, so it has no data set
-first_is_format_4 : (slots : List VtocSlot) (d : VtocSlot) → slice_get (front_faults slots) 0 ≡ None → is_format_4 (get_or slots 0 d) ≡ true
+pub first_is_format_4 : (slots : List VtocSlot) (d : VtocSlot) → slice_get (front_faults slots) 0 ≡ None → is_format_4 (get_or slots 0 d) ≡ true
 unfolding front_faults
 first_is_format_4 [] d e = cc
 first_is_format_4 (s ∷ slots) d e = front-none (is_format_4 s) _ _ e
 
-two_formats : (b : ℕ) → eqb b 0xF4 ≡ true → eqb b 0xF1 ≡ true → ⊥
+pub two_formats : (b : ℕ) → eqb b 0xF4 ≡ true → eqb b 0xF1 ≡ true → ⊥
 two_formats b e h = let four = eqb-true b 0xF4 e in let one = eqb-true b 0xF1 h in omega arith
 
 -- the extents of each data set are good, where no slot breaks a rule

@@ -11,7 +11,7 @@ use Rattle.pack_spec.specs.Label.{heads_of, track_bytes, records_on}
 use Rattle.pack_spec.specs.Vtoc.{is_slot, slot_bytes, slots_in, slots_on}
 
 -- a value that a test lets through
-taken : {A : Type 0} (b : Bool) (o : Option A) (x : A) → cond b o None ≡ Some x → o ≡ Some x
+pub taken : {A : Type 0} (b : Bool) (o : Option A) (x : A) → cond b o None ≡ Some x → o ≡ Some x
 taken true o x e = e
 taken false o x e = cc
 

@@ -17,7 +17,7 @@ pub first_append-both : {X : Type 0} (xs ys : List X) → slice_get (xs ++ ys) 0
 first_append-both [] ys e = (refl, e)
 first_append-both (z ∷ xs) ys e = cc
 
-cons_option-none : {Y : Type 0} (o : Option Y) (ys : List Y) → slice_get (cons_option o ys) 0 ≡ None → (o ≡ None) × (slice_get ys 0 ≡ None)
+pub cons_option-none : {Y : Type 0} (o : Option Y) (ys : List Y) → slice_get (cons_option o ys) 0 ≡ None → (o ≡ None) × (slice_get ys 0 ≡ None)
 cons_option-none None ys e = (refl, e)
 cons_option-none (Some y) ys e = cc
 

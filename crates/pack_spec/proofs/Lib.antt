@@ -6,6 +6,7 @@ pub mod Extents
 pub mod FirstFaults
 pub mod TrackSlots
 pub mod DataSets
-pub mod Ranks
-pub mod InOrder
 pub mod Volumes
+mod SetNames
+pub mod Quantities
+pub mod Lawful

@@ -12,7 +12,8 @@ use Rattle.pack_spec.specs.Label.{label_of}
 use Rattle.pack_spec.specs.Vtoc.{Run}
 use Rattle.pack_spec.specs.Slots.{slots_of_vtoc}
 use Rattle.pack_spec.specs.Faults.{slots_faults, track_faults, vtoc_fault}
-use Rattle.pack_spec.specs.Volume.{data_sets_in, in_order, unless, volume_with, volume_within}
+use Rattle.pack_spec.specs.Volume.{data_sets_in, unless, volume_with, volume_within}
+use Rattle.vol_model.specs.Order.{in_order}
 use Rattle.pack_spec.specs.Views.{Answers}
 use Rattle.pack_spec.proofs.FirstFaults.{first_append-some}
 

@@ -1,4 +1,4 @@
--- The rules of mounting that the tracks and slots of a VTOC break.
+-- The rules of mounting that the tracks and slots of a VTOC break, by the DSCBs of System Control Blocks, GC28-6628, and this project's profile.
 use Rattle.std.specs.Prelude.{ℕ, ◌==◌, ◌||◌, ◌&&◌, not, Bool, false, List, [], ◌∷◌, ◌++◌, take, position, slice_get, is_none, Option, Some, None, if◌then◌else◌}
 use Rattle.std.specs.List.{enumerate_from, filter_map}
 use Rattle.std.specs.Option.{option_map, option_map_or}

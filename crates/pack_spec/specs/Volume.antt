@@ -1,8 +1,5 @@
--- The volume that an image stands for.
-use Rattle.std.specs.Prelude.{ℕ, ◌+◌, ◌-◌, ◌==◌, ◌||◌, Bool, List, [], ◌∷◌, length, map, filter, take, bit_and, Option, Some, None, Result, Ok, Err, unwrap_or, slice_index, slice_range, if◌then◌else◌}
-use Rattle.std.specs.List.{count_by, flat_map, range_with_len}
-use Rattle.std.specs.Ordering.{is_lt, nat_cmp}
-use Rattle.std.specs.Cmp.Lexicographic.{slice_cmp}
+-- The volume that an image stands for, by the label and the DSCBs of System Control Blocks, GC28-6628.
+use Rattle.std.specs.Prelude.{ℕ, ◌+◌, ◌-◌, ◌==◌, ◌||◌, List, [], ◌∷◌, length, map, filter, take, bit_and, Option, Some, None, Result, Ok, Err, unwrap_or, slice_index, slice_range, if◌then◌else◌}
 use Rattle.std.specs.Int.{w16, w32, from_be_bytes}
 use Rattle.ckd_image.specs.declared.header.Geometry.{Geometry}
 use Rattle.ckd_image.specs.declared.header.ImageErr.{ImageErr}
@@ -12,6 +9,7 @@ use Rattle.vol_model.specs.declared.contents.Body.TheVariants.{Other}
 use Rattle.vol_model.specs.declared.contents.DataSet.{DataSet}
 use Rattle.vol_model.specs.declared.contents.Volume.{Volume}
 use Rattle.vol_model.specs.declared.contents.Run as tracks
+use Rattle.vol_model.specs.Order.{in_order}
 use Rattle.pack_spec.specs.declared.MountErr.{MountErr}
 use Rattle.pack_spec.specs.declared.MountErr.TheVariants.{Image}
 use Rattle.pack_spec.specs.declared.addressed.VtocSlot.{VtocSlot}
@@ -73,18 +71,6 @@ data_set_of g slots set = record {
 -- the data sets in slots, in the order of these
 unfoldable pub data_sets_in : Geometry → List VtocSlot → List DataSet
 data_sets_in g slots = map (λ s. data_set_of g slots s.bytes) (filter (λ s. is_data_set s.bytes) slots)
-
--- the name of one data set stands before that of another, by its bytes
-abbrev pub is_before : DataSet → DataSet → Bool
-is_before a b = is_lt (slice_cmp nat_cmp a.name.bytes b.name.bytes)
-
--- how many of these data sets have a name that stands before that of one
-unfoldable pub rank : List DataSet → DataSet → ℕ
-rank sets x = count_by (λ y. is_before y x) sets
-
--- the data sets in the order of the bytes of their names: at each place those before which so many stand, equal names as they stand
-unfoldable pub in_order : List DataSet → List DataSet
-in_order sets = flat_map (λ k. filter (λ x. rank sets x == k) sets) (range_with_len 0 (length sets))
 
 -- the volume with this label and these slots of its VTOC; the serial stands at byte 4 of the label's data
 unfoldable pub volume_with : Geometry → List ℕ → Run → List VtocSlot → Volume

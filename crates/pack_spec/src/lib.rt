@@ -36,6 +36,8 @@ use vol_model::{DataSets, Run, Volume};
 const SERIAL_AT: usize = 4;
 
 /// Why a pack isn't mounted: the first rule that it breaks, in this order, or what kept it from being read.
+///
+/// The rules from `BadDscb` to `BadChain` are judged slot by slot: all of them on one slot before any on the next.
 #[derive(Clone, Copy, Debug, PartialEq, Eq)]
 pub enum MountErr {
     /// No file has the name.

@@ -4,7 +4,8 @@ ghost use Rattle.std.specs.List.{list_all};
 ghost use Rattle.ckd_image.specs.Header.{HasGeometry};
 ghost use Rattle.pack_spec.specs.Slots.{counted_extents, is_extent};
 ghost use Rattle.pack_spec.specs.Faults.{slots_faults};
-ghost use Rattle.pack_spec.specs.Volume.{attr_of, data_set_of, data_sets_in, in_order, run_of_extent, secondary_of};
+ghost use Rattle.pack_spec.specs.Volume.{attr_of, data_set_of, data_sets_in, run_of_extent, secondary_of};
+ghost use Rattle.vol_model.specs.Order.{in_order};
 
 use crate::address::{Address, halfword_at};
 use crate::addressed::VtocSlot;

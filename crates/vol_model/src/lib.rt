@@ -6,6 +6,7 @@ mod answers;
 mod catalogs;
 mod contents;
 mod lists;
+mod machine;
 mod refusals;
 mod requests;
 
@@ -18,8 +19,9 @@ pub use contents::{
     Volumes,
 };
 pub use lists::{Listed, Text};
+pub use machine::Machine;
 pub use refusals::Refusal;
-pub use requests::{Op, Request, SpaceUnit};
+pub use requests::{Op, Request, SpaceUnit, is_catalog};
 
 #[cfg(test)]
 mod tests;

@@ -1,4 +1,6 @@
 //! Why an operation is refused.
+ghost use Rattle.std.specs.Prelude.{◌≡◌};
+ghost use Rattle.vol_model.specs.Words.{refusal_words};
 
 /// The first reason, in this order, for which an operation can't be done; by this project's profile.
 #[derive(Clone, Copy, Debug, PartialEq, Eq)]
@@ -50,4 +52,32 @@ pub enum Refusal {
         /// The blocks that would be needed.
         blocks: u32,
     },
+}
+
+impl Refusal {
+    /// The words for it in a listing: its name in capitals with hyphens, without its numbers.
+    #[tactic(auto, unfolding(crate::specs::Words::refusal_words))]
+    pub fn words(self) -> &'static str
+        ensures { result.now ≡ refusal_words self }
+    {
+        match self {
+            Refusal::NoVolume => "NO-VOLUME",
+            Refusal::NoSet => "NO-SET",
+            Refusal::SetExists => "SET-EXISTS",
+            Refusal::WrongKind => "WRONG-KIND",
+            Refusal::Unreadable(_) => "UNREADABLE",
+            Refusal::NoSpace { .. } => "NO-SPACE",
+            Refusal::ExtentsFull => "EXTENTS-FULL",
+            Refusal::VtocFull { .. } => "VTOC-FULL",
+            Refusal::NoRoom => "NO-ROOM",
+            Refusal::NoMember => "NO-MEMBER",
+            Refusal::MemberExists => "MEMBER-EXISTS",
+            Refusal::DirFull { .. } => "DIR-FULL",
+            Refusal::NoCatalog => "NO-CATALOG",
+            Refusal::NoNode => "NO-NODE",
+            Refusal::NodeExists => "NODE-EXISTS",
+            Refusal::NotEmpty => "NOT-EMPTY",
+            Refusal::CatalogFull { .. } => "CATALOG-FULL",
+        }
+    }
 }

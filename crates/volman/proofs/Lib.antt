@@ -1,3 +1,8 @@
 mod Listings
+mod Machines
 mod Units
-mod Replies
+mod Tasks
+mod Works
+mod WordLemmas
+mod DeckLemmas
+mod Answering

@@ -1,6 +1,8 @@
 -- The names in the index of a VTOC, sorted, are those of the volume's data sets.
 use Rattle.std.proofs.Common.{◌≡◌, ℕ, Bool, true, false, cond, List, [], ◌∷◌, take, map, Some, None, refl, sym, ap, subst, ◌∙◌}
-use Rattle.std.specs.Prelude.{◌==◌}
+use Rattle.std.specs.Prelude.{◌==◌, Result, Ok}
+use Rattle.pack_spec.specs.declared.MountErr.{MountErr}
+use Rattle.vol_model.specs.declared.contents.Volume.{Volume}
 use Rattle.std.specs.Ordering.{is_lt, nat_cmp}
 use Rattle.std.specs.Cmp.Lexicographic.{slice_cmp}
 use Rattle.std.specs.List.{cons_option, filter}
@@ -12,14 +14,14 @@ use Rattle.dscb_codec.specs.Layout.{IsDscb}
 use Rattle.pack_spec.specs.declared.addressed.VtocSlot.{VtocSlot}
 use Rattle.pack_spec.specs.Formats.{is_data_set}
 use Rattle.pack_spec.specs.Slots.{slots_of_vtoc}
-use Rattle.pack_spec.specs.Volume.{data_set_of, data_sets_in, in_order, volume_of, volume_with}
-use Rattle.pack_spec.proofs.InOrder.{in_order-named}
+use Rattle.pack_spec.specs.Volume.{data_set_of, data_sets_in, volume_of, volume_with}
+use Rattle.vol_model.specs.Order.{in_order}
+use Rattle.vol_model.proofs.InOrder.{in_order-named}
 use Rattle.vol_model.specs.declared.contents.DataSet.{DataSet}
 use Rattle.vtoc_index.specs.declared.vol.Vol.{Vol}
 use Rattle.vtoc_index.specs.Contents.{AreDscbs}
 use Rattle.vtoc_index.specs.Index.{IsMounted, run_of}
 use Rattle.vtoc_index.proofs.SetFields.{format_byte-is, name-is}
-use Rattle.volman.specs.Answer.{Answer, IsAnswerFor, listing}
 use Rattle.volman.specs.Names.{IsListing, names_in, names_of, set_name}
 
 -- the name in a slot, if it is a data set's
@@ -51,11 +53,14 @@ named g all (s ∷ slots) (d ∷ ds) are =
     ∙ ap (λ l. cons_option (set_name d) l) (named g all slots ds are.1)
 
 -- the names of the volume that an image stands for, by the index of its VTOC
-pub listed_right : (file image : List ℕ) (v : Vol) (listed : List (List ℕ)) (a : Answer) → IsMounted image v → IsListing (names_in v.slots.items) listed → a.status ≡ 0 → a.text ≡ listing listed → IsAnswerFor file (volume_of image) a
+pub listed_right : (image : List ℕ) (v : Vol) (volume : Volume) (listed : List (List ℕ)) → IsMounted image v → volume_of image ≡ Ok volume → IsListing (names_in v.slots.items) listed → listed ≡ names_of volume.sets
 unfolding volume_with data_sets_in
-listed_right file image v listed a mounted lists zero text =
+listed_right image v volume listed mounted stands lists =
     let g = v.geometry in
     let slots = slots_of_vtoc image g (run_of v.vtoc) in
     let given : names_of (data_sets_in g slots) ≡ names_in v.slots.items = named g slots slots v.slots.items mounted.index.slots in
     let same : listed ≡ names_of (in_order (data_sets_in g slots)) = in_order-named (data_sets_in g slots) listed lists.sorted (subst (λ (l : List (List ℕ)). IsStableBy (λ x y. is_lt (slice_cmp nat_cmp x y)) l listed) (sym given) lists.same) in
-    subst (λ r. IsAnswerFor file r a) (sym mounted.volume) (zero, text ∙ ap listing same)
+    same ∙ ap names_of (meant (sym mounted.volume ∙ stands))
+  where
+    meant : {a : Volume} → ◌≡◌ {A = Result Volume MountErr} (Ok a) (Ok volume) → a.sets ≡ volume.sets
+    meant is = cc

@@ -144,6 +144,8 @@ impl<R: Files<File = File> + Print> Hall for FileHall<'_, R> {
 
     ghost whole = { λ _ told. absurd (false≢true told) };
 
+    ghost none_pending = { λ _ told. absurd (false≢true told) };
+
     fn attach(&mut self, name: &str) -> Result<u8, HallErr> {
         let name_copy = String::from_str(self.alloc, name).map_err(|_| HallErr::Memory)?;
         self.units.reserve(1).map_err(|_| HallErr::Memory)?;

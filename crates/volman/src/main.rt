@@ -1,14 +1,20 @@
-//! The volume manager: `volman names FILE` prints the names of the data sets on a pack.
+//! The volume manager: `volman names FILE` prints the names of the data sets on a pack, and
+//! `volman run --date yyddd FILE` does a RENAME statement on it.
 #![tactic(auto)]
 
+mod deck;
 mod file_hall;
+mod machine;
+mod mount;
 mod names;
 mod reason;
+mod statement;
 mod status;
 mod std_cards;
 mod text;
 mod top;
 mod words;
+mod work;
 
 use file_hall::FileHall;
 use status::Status;

@@ -1,6 +1,6 @@
 //! Why a pack isn't mounted, in words.
 ghost use Rattle.std.specs.Prelude.{◌≡◌, ◌++◌, ◌∷◌, [], OnOk};
-ghost use Rattle.volman.specs.Answer.{image_reason, number_text, reason_of, with_numbers};
+ghost use Rattle.volman.specs.Lines.{image_reason, number_text, reason_of, with_numbers};
 
 use ckd_image::ImageErr;
 use itoa::Buffer;
@@ -10,7 +10,7 @@ use vtoc_index::MountErr;
 /// Adds the reason: the name of its variant in capitals with hyphens, and its numbers in decimal.
 ///
 /// A header that is refused has its own reason.
-#[tactic(auto, unfolding(crate::specs::Answer::reason_of))]
+#[tactic(auto, unfolding(crate::specs::Lines::reason_of))]
 pub fn push_reason(text: &mut Vec<u8>, why: MountErr) -> Result<(), AllocError>
     ensures { OnOk result (text.new.items ≡ text.old.items ++ reason_of why) }
 {
@@ -34,7 +34,7 @@ pub fn push_reason(text: &mut Vec<u8>, why: MountErr) -> Result<(), AllocError>
 }
 
 // Adds the reason for which a header is refused.
-#[tactic(auto, unfolding(crate::specs::Answer::image_reason))]
+#[tactic(auto, unfolding(crate::specs::Lines::image_reason))]
 fn push_image_reason(text: &mut Vec<u8>, why: ImageErr) -> Result<(), AllocError>
     ensures { OnOk result (text.new.items ≡ text.old.items ++ image_reason why) }
 {

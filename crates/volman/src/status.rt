@@ -13,10 +13,14 @@ pub enum Status {
     Unit = 21,
     /// The device failed.
     Device = 22,
+    /// The cards couldn't be read.
+    Cards = 23,
     /// The printer failed.
     Print = 24,
     /// Memory ran out.
     Memory = 25,
+    /// The deck is refused.
+    Deck = 26,
 }
 
 impl Status {

@@ -4,8 +4,13 @@ ghost use Rattle.hall_core.specs.Memory.{facts_of};
 
 mod broken;
 mod image;
+mod machines;
 mod packs;
+mod run;
 mod scarce;
+mod stops;
+mod words_and_decks;
+mod work_pack;
 
 use crate::top::volman;
 use hall_core::{Call, Hall, MemCards, MemHall};

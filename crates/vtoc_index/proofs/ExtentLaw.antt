@@ -208,7 +208,7 @@ extent_put image put v slot bytes index low size is extent keeps = ⊎_elim same
         (ap (records_on put g (Some 1)) (sym here) ∙ wrote.records (Some 1) ∙ ap (option_map (with_parts (front_of v slot) key content)) there)
 
 -- an image of this header, extent and slots, which break no rule, stands for the volume of its label and slots
-volume_is : (image : List ℕ) (g : Geometry) (vtoc : Run) → geometry_of (take 512 image) (length image) ≡ Ok g → vtoc_of image g ≡ Ok vtoc → track_faults image g vtoc ≡ [] → slots_faults g (slots_of_vtoc image g vtoc) ≡ [] → volume_of image ≡ Ok (volume_with g (unwrap_or (label_of image g) []) vtoc (slots_of_vtoc image g vtoc))
+pub volume_is : (image : List ℕ) (g : Geometry) (vtoc : Run) → geometry_of (take 512 image) (length image) ≡ Ok g → vtoc_of image g ≡ Ok vtoc → track_faults image g vtoc ≡ [] → slots_faults g (slots_of_vtoc image g vtoc) ≡ [] → volume_of image ≡ Ok (volume_with g (unwrap_or (label_of image g) []) vtoc (slots_of_vtoc image g vtoc))
 unfolding volume_of vtoc_fault
 volume_is image g vtoc header extent tracks slots =
     let meant = volume_with g (unwrap_or (label_of image g) []) vtoc (slots_of_vtoc image g vtoc) in

@@ -44,7 +44,7 @@ record_room : (r : ℕ) (bytes : List ℕ) → is_record_at r bytes ≡ true →
 record_room r bytes is = leb-true 8 (length bytes) (and_parts (nat_le 8 (length bytes)) _ (and_parts (nat_le 8 (length bytes) && (slice_index bytes 4 == r)) _ is).0).0
 
 -- at the end marker, or at a record
-way : (b c : Bool) (m : Option (List Record)) (xs : List Record) → cond b (Some []) (cond c m None) ≡ Some xs → ((b ≡ true) × (xs ≡ [])) ⊎ ((b ≡ false) × (c ≡ true) × (m ≡ Some xs))
+pub way : (b c : Bool) (m : Option (List Record)) (xs : List Record) → cond b (Some []) (cond c m None) ≡ Some xs → ((b ≡ true) × (xs ≡ [])) ⊎ ((b ≡ false) × (c ≡ true) × (m ≡ Some xs))
 way true c m xs is = inl (refl, cc)
 way false true m xs is = inr (refl, refl, is)
 way false false m xs is = cc
@@ -57,7 +57,7 @@ mapped : (x : Record) (m : Option (List Record)) (y : Record) (ys : List Record)
 mapped x None y ys is = cc
 mapped x (Some l) y ys is = cc
 
-room : (left r : ℕ) (bytes : List ℕ) (xs : List Record) → records_to_end left r bytes ≡ Some xs → 8 ≤ length bytes
+pub room : (left r : ℕ) (bytes : List ℕ) (xs : List Record) → records_to_end left r bytes ≡ Some xs → 8 ≤ length bytes
 unfolding records_to_end
 room zero r bytes xs is = marker_room bytes (at_marker (is_at_end bytes) xs is).0
 room (suc left) r bytes xs is = ⊎_elim (λ at_end. marker_room bytes at_end.0) (λ at. record_room r bytes at.1) (way (is_at_end bytes) (is_record_at r bytes) _ xs is)
@@ -89,7 +89,7 @@ up_to (suc left) (suc m) r bytes (x ∷ xs) is low = ⊎_elim (λ at_end. absurd
           ),
         )
 
-front_taken : (b : Bool) (m : Option (List Record)) (xs : List Record) → cond b m None ≡ Some xs → (b ≡ true) × (m ≡ Some xs)
+pub front_taken : (b : Bool) (m : Option (List Record)) (xs : List Record) → cond b m None ≡ Some xs → (b ≡ true) × (m ≡ Some xs)
 front_taken true m xs is = (refl, is)
 front_taken false m xs is = cc
 

@@ -19,8 +19,9 @@ pub mod NameLemmas
 pub mod Firsts
 pub mod TrackPut
 pub mod HeldLemmas
-pub mod GeometryLemmas
 pub mod VtocPut
 pub mod BegunLemmas
 pub mod PutLaw
 pub mod ExtentLaw
+pub mod LawfulVolumes
+pub mod KeptLemmas

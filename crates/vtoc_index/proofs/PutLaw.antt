@@ -31,7 +31,7 @@ use Rattle.vtoc_index.specs.declared.vol.Vol.{Vol}
 use Rattle.vtoc_index.specs.Contents.{AreDscbs, with_bytes}
 use Rattle.vtoc_index.specs.Index.{IsIndexOf, IsPut, place_of_slot, run_of, slots_in_front, track_index}
 use Rattle.vtoc_index.specs.Puts.{HasSlot, IsHeld, IsReplaced}
-use Rattle.vtoc_index.proofs.GeometryLemmas.{has_geometry}
+use Rattle.ckd_image.proofs.GeometryLemmas.{has_geometry}
 use Rattle.vtoc_index.proofs.HeldLemmas.{held_slot}
 use Rattle.vtoc_index.proofs.NameLemmas.{same_length}
 use Rattle.vtoc_index.proofs.TrackPut.{TrackPut, length-with_bytes, same_offset, slot_offset, slot_records, slot_there, slots_found, track_put}

@@ -3,4 +3,5 @@ pub mod Rules
 pub mod Reading
 pub mod Index
 pub mod Puts
+pub mod Kept
 pub mod Calls

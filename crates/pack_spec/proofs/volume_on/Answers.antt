@@ -3,7 +3,8 @@ use Rattle.std.proofs.Common.{sym, ap, ◌∙◌, arith}
 use Rattle.std.proofs.lemmas.Result.{err_from_is_err_and}
 use Rattle.std.specs.List.{slice_get}
 use Rattle.pack_spec.specs.Faults.{slots_faults}
-use Rattle.pack_spec.specs.Volume.{data_sets_in, in_order}
+use Rattle.pack_spec.specs.Volume.{data_sets_in}
+use Rattle.vol_model.specs.Order.{in_order}
 use Rattle.pack_spec.specs.Vtoc.{vtoc_of}
 use Rattle.pack_spec.specs.Views.{run_of}
 use Rattle.pack_spec.proofs.Volumes.{answers_err, within-track, within-slot, within-volume}

@@ -152,8 +152,8 @@ fn a_vtoc_has_at_most_257_tracks(rt: HostRuntime) -> Result<(), Fail> {
     Ok(())
 }
 
-// The first bytes of a file of this length with the header of a 2314 pack of 200 cylinders.
-fn headed(alloc: Global, magic: &[u8; 8], len: usize) -> Result<Vec<u8>, AllocError> {
+/// The first bytes of a file of this length with the header of a 2314 pack of 200 cylinders.
+pub(crate) fn headed(alloc: Global, magic: &[u8; 8], len: usize) -> Result<Vec<u8>, AllocError> {
     let geometry = Geometry {
         device: DiskType::D2314,
         cylinders: 200,

@@ -26,6 +26,8 @@ impl<H: Hall> Hall for Scarce<H> {
 
     ghost whole = { λ h. H.whole h.hall };
 
+    ghost none_pending = { λ h. H.none_pending h.hall };
+
     fn attach(&mut self, name: &str) -> Result<u8, HallErr> {
         if self.is_full {
             return Err(HallErr::Memory);

@@ -3,8 +3,8 @@ use Rattle.std.proofs.Common.{◌≡◌, ap, ◌∙◌, rules}
 use Rattle.std.proofs.lemmas.Fn.{always_returns_same}
 use Rattle.vol_model.specs.declared.contents.DataSet.{DataSet}
 use Rattle.ebcdic_names.specs.declared.names.Dsn.{Dsn}
-use Rattle.pack_spec.specs.Volume.{in_order}
-use Rattle.pack_spec.proofs.InOrder.{in_order-unique}
+use Rattle.vol_model.specs.Order.{in_order}
+use Rattle.vol_model.proofs.InOrder.{in_order-unique}
 use Rattle.pack_spec.proofs.sets.data_sets_in_order.Goals as goal
 
 pub returns : goal.returns

@@ -1,6 +1,6 @@
 use Rattle.std.proofs.Common.{◌≡◌, ◌++◌, take}
 use Rattle.std.specs.List.{flat_map}
-use Rattle.volman.specs.Answer.{number_text}
+use Rattle.volman.specs.Lines.{number_text}
 use Rattle.volman.proofs.reason.push_words.Given as goal
 
 abbrev pub invariant-loop-number : goal.invariant-loop-number

@@ -1,6 +1,6 @@
 use Rattle.std.proofs.Common.{◌≡◌, take}
 use Rattle.std.specs.List.{flat_map}
-use Rattle.volman.specs.Answer.{name_line}
+use Rattle.volman.specs.Lines.{name_line}
 use Rattle.volman.proofs.text.listing.Given as goal
 
 abbrev pub invariant-loop-name : goal.invariant-loop-name

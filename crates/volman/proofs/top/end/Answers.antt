@@ -1,4 +1,4 @@
-use Rattle.volman.proofs.Replies.{text_printed}
+use Rattle.volman.proofs.Tasks.{text_printed}
 use Rattle.volman.proofs.top.end.Goals as goal
 
 pub returns-in_default-clause-told : goal.returns-in_default-clause-told

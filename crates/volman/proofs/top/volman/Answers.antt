@@ -1,37 +1,43 @@
-use Rattle.std.proofs.Common.{◌≡◌, ℕ, List, refl, sym, ⊎_elim, arith}
-use Rattle.std.specs.Prelude.{map, string_bytes}
+use Rattle.std.proofs.Common.{◌≡◌, ◌∙◌, refl, sym, ap, subst, Err, Some, arith}
+use Rattle.std.specs.Prelude.{map, string_bytes, Option}
 use Rattle.hall_core.proofs.MomentLemmas.{same_none}
-use Rattle.volman.specs.Answer.{words_line}
-use Rattle.volman.specs.Run.{code_of}
-use Rattle.volman.proofs.Replies.{words_end, words_printed, reply_printed}
+use Rattle.volman.specs.Action.{request_in}
+use Rattle.volman.specs.Lines.{deck_line, words_line}
+use Rattle.volman.specs.Run.{AttachesAsked}
+use Rattle.volman.specs.Words.{Request}
+use Rattle.volman.proofs.Tasks.{text_said}
+use Rattle.volman.proofs.Works.{answered_deck, answered_form, answered_names, answered_nothing, answered_words, not_final}
 use Rattle.volman.proofs.top.volman.Goals as goal
 
-pub returns-in_default-clause-ends : goal.returns-in_default-clause-ends
+pub returns-in-None-clause-headline : goal.returns-in-None-clause-headline
 unfolding words_line
-returns-in_default-clause-ends g c told low =
-    let is : c.end.result ≡ 20 = ⊎_elim (λ done. done) (λ failed. absurd (omega arith)) c.end.ensures.which in
-    words_end _ _ _ _ c.end.result (c.end.ensures.told told) (sym c.in_default.ensures) refl is
+returns-in-None-clause-headline g c told =
+    answered_words _ g.C.Cards.tells (g.C.Cards.left c.args.cards.now) c.end.result (sym c.in-None.ensures) (text_said 20 c.end.result (same_none _ (g.met.H.Hall.counts_now c.args.hall.now)) (c.end.ensures.told told) c.end.ensures.which)
 
-pub returns-in_default-clause-front : goal.returns-in_default-clause-front
-unfolding words_line
-returns-in_default-clause-front g c told =
-    let words : List (List ℕ) = map (λ s. string_bytes s) c.args.words.now in
-    (words_printed words _ c.end.result (same_none _ (g.met.H.Hall.counts_now c.args.hall.now)) (c.end.ensures.told told) (sym c.in_default.ensures) refl).front
+pub returns-in-Some-Names-clause-headline : goal.returns-in-Some-Names-clause-headline
+returns-in-Some-Names-clause-headline g c told =
+    let asked = sym c.in-Some-Names.ensures ∙ ap (λ a. Some (request_in a)) c.in-Some-Names.field-0-is in
+    answered_names _ c.in-Some-Names.file.now g.C.Cards.tells (g.C.Cards.left c.args.cards.now) c.names.result asked (c.names.ensures.does told)
 
-pub returns-in_default-clause-stops : goal.returns-in_default-clause-stops
-unfolding words_line
-returns-in_default-clause-stops g c told =
-    let words : List (List ℕ) = map (λ s. string_bytes s) c.args.words.now in
-    (words_printed words _ c.end.result (same_none _ (g.met.H.Hall.counts_now c.args.hall.now)) (c.end.ensures.told told) (sym c.in_default.ensures) refl).stops
+pub returns-in-Ok-clause-headline : goal.returns-in-Ok-clause-headline
+returns-in-Ok-clause-headline g c told =
+    let asked = sym c.in-Some-Run.ensures ∙ ap (λ a. Some (request_in a)) c.in-Some-Run.field-0-is in
+    answered_deck _ c.in-Some-Run.file.now c.in-Ok.statement g.C.Cards.tells (g.C.Cards.left c.args.cards.now) c.run.result asked (λ tells. (c.in-Ok.ensures.deck tells).0) (c.run.ensures.does told)
 
-pub returns-in-Ok-clause-front : goal.returns-in-Ok-clause-front
-returns-in-Ok-clause-front g c told =
-    let words : List (List ℕ) = map (λ s. string_bytes s) c.args.words.now in
-    let r = c.in-Ok.reply in
-    (reply_printed words c.in-Some.file.now c.deref.result.now c.end-in-Ok.result (record { status = code_of r.status; text = r.text.items }) (c.in-Ok.ensures.told told) (c.end-in-Ok.ensures.told told) (sym c.in-Some.ensures) (c.in-Ok.ensures.right told) c.deref.ensures.value).front
+pub returns-in-Ok-clause-units : goal.returns-in-Ok-clause-units
+returns-in-Ok-clause-units g c =
+    let asked = sym c.in-Some-Run.ensures ∙ ap (λ a. Some (request_in a)) c.in-Some-Run.field-0-is in
+    subst (λ (r : Option Request). AttachesAsked r (g.H.Hall.facts c.args.hall.now) (g.H.Hall.facts c.run.new.hall)) (sym asked) c.run.ensures.call.units
 
-pub returns-in-Ok-clause-stops : goal.returns-in-Ok-clause-stops
-returns-in-Ok-clause-stops g c told =
-    let words : List (List ℕ) = map (λ s. string_bytes s) c.args.words.now in
-    let r = c.in-Ok.reply in
-    (reply_printed words c.in-Some.file.now c.deref.result.now c.end-in-Ok.result (record { status = code_of r.status; text = r.text.items }) (c.in-Ok.ensures.told told) (c.end-in-Ok.ensures.told told) (sym c.in-Some.ensures) (c.in-Ok.ensures.right told) c.deref.ensures.value).stops
+pub returns-in-Err-Form-clause-headline : goal.returns-in-Err-Form-clause-headline
+unfolding deck_line
+returns-in-Err-Form-clause-headline g c told =
+    let asked = sym c.in-Some-Run.ensures ∙ ap (λ a. Some (request_in a)) c.in-Some-Run.field-0-is in
+    answered_form _ c.in-Some-Run.file.now g.C.Cards.tells (g.C.Cards.left c.args.cards.now) c.end-in-Err-Form.result asked (λ tells. c.read_deck.ensures.form tells (c.in-Err-Form.is ∙ ap Err c.in-Err-Form.field-0-is))
+    (text_said 26 c.end-in-Err-Form.result (same_none _ (g.met.H.Hall.counts_now c.args.hall.now)) (c.end-in-Err-Form.ensures.told told) c.end-in-Err-Form.ensures.which)
+
+pub returns-in-Err-Read-clause-headline : goal.returns-in-Err-Read-clause-headline
+returns-in-Err-Read-clause-headline g c told =
+    let hall = c.args.hall.now in
+    answered_nothing _ g.C.Cards.tells (g.C.Cards.left c.args.cards.now) c.code.result (g.met.H.Hall.none_pending hall told c.requires) (g.met.H.Hall.only_now hall) (same_none _ (g.met.H.Hall.counts_now hall))
+    (not_final c.code.result 23 c.code.ensures (omega arith) (omega arith))

@@ -1,0 +1,9 @@
+pub mod ChangedLists
+pub mod FoundSets
+pub mod Operating
+pub mod Refusals
+pub mod RenamedImages
+pub mod RenamedSets
+pub mod RenamedSlots
+pub mod Renaming
+pub mod Writes

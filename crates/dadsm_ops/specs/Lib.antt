@@ -1,0 +1,3 @@
+pub mod Naming
+pub mod Operations
+pub mod Through

@@ -1,0 +1,10 @@
+//! The operations on the data sets of a volume, each in the order of writes that a stop leaves undone or done.
+#![tactic(auto)]
+
+mod naming;
+mod through;
+
+pub use naming::rename;
+
+#[cfg(test)]
+mod tests;

@@ -1,0 +1,75 @@
+//! Another name for a data set.
+ghost use Rattle.std.specs.Prelude.{◌≡◌, ◌≤◌, ℕ, List, length, IsTrue, IfOk, IfErr, IsErrOf, Ok, Err};
+ghost use Rattle.hall_core.specs.Facts.{unit_of};
+ghost use Rattle.hall_core.specs.Files.{image_of};
+ghost use Rattle.hall_core.specs.Moments.{IsDurable};
+ghost use Rattle.pack_spec.specs.Volume.{volume_of};
+ghost use Rattle.vol_model.specs.Shelf.{rename_on};
+ghost use Rattle.vol_model.specs.declared.contents.Volume.{Volume};
+ghost use Rattle.vtoc_index.specs.Index.{IsMounted, IsOfUnit};
+ghost use Rattle.dadsm_ops.specs.Naming.{IsToRename, under_name};
+ghost use Rattle.dadsm_ops.specs.Operations.{Operates, StoreCall};
+
+use crate::through::put_through;
+use dscb_codec::{Dscb, F1};
+use ebcdic_names::Dsn;
+use hall_core::{Device, Hall};
+use vol_model::{Refusal, StoreErr, is_catalog};
+use vtoc_index::{Vol, find};
+
+/// Gives a data set of the volume another name.
+///
+/// It is one write of the set's format 1 DSCB, which decides the operation, and a sync: a stop leaves
+/// the set under the one name or the other. It is refused, in this order, where the volume has no set
+/// of the old name (`NoSet`), where it has one of the new name (`SetExists`), and where either name is
+/// SYSCTLG (`WrongKind`); then nothing is written. It takes no memory. After `Device` the index may be
+/// that of no image any more.
+pub fn rename<H: Hall>(hall: &mut H, vol: &mut Vol, old: &Dsn, new: &Dsn) -> Result<(), StoreErr>
+    requires unit { IsOfUnit (H.facts hall.old).units vol.old }
+    requires mounted { IsTrue H.tells → IsMounted (image_of (H.meaning hall.old).state (H.facts hall.old) vol.old.unit) vol.old }
+    requires durable { IsTrue H.tells → IsDurable (H.meaning hall.old) }
+    ensures told { IsTrue H.tells → Operates (unit_of (H.facts hall.old).units vol.old.unit).name (rename_on old.now new.now) vol.new (H.meaning hall.old) (H.meaning hall.new) result }
+    ensures unit { IsOfUnit (H.facts hall.new).units vol.new }
+    ensures index { vol.new ≡ record vol.old { slots = vol.new.slots; buf = vol.new.buf } }
+    ensures refused { (r : Refusal) → IsErrOf result (StoreErr.Refused r) → (hall.new ≡ hall.old) × (vol.new ≡ vol.old) }
+    ensures memory { IsErrOf result StoreErr.Memory → ⊥ }
+    ensures call { StoreCall (H.facts hall.old) (H.facts hall.new) result }
+{
+    let slot = slot_to_rename(vol, old, new).map_err(StoreErr::Refused)?;
+    let dscb = under_name(&vol.slots[slot as usize], new);
+    match put_through(hall, vol, slot, &dscb) {
+        Ok(()) => Ok(()),
+        Err(Device) => Err(StoreErr::Device),
+    }
+}
+
+// The slot of the set that has the old name, or the first reason why it can't get the new one.
+#[tactic(auto, using(crate::proofs::Refusals::refused_no_set, crate::proofs::Refusals::refused_set_exists, crate::proofs::Refusals::refused_old_catalog, crate::proofs::Refusals::refused_new_catalog))]
+fn slot_to_rename(vol: &Vol, old: &Dsn, new: &Dsn) -> Result<u32, Refusal>
+    requires { length vol.now.slots.items ≤ 65535 }
+    ensures found { IfOk result (IsToRename vol.now.slots.items old.now.bytes new.now.bytes) }
+    ensures refused { IfErr result (λ r. (image : List ℕ) (volume : Volume) → IsMounted image vol.now → volume_of image ≡ Ok volume → rename_on old.now new.now volume ≡ Err r) }
+{
+    let Some(slot) = find(vol, old) else {
+        return Err(Refusal::NoSet);
+    };
+    if find(vol, new).is_some() {
+        return Err(Refusal::SetExists);
+    }
+    if is_catalog(old) || is_catalog(new) {
+        return Err(Refusal::WrongKind);
+    }
+    Ok(slot)
+}
+
+// The DSCB, under this name where it is a format 1.
+fn under_name(dscb: &Dscb, name: &Dsn) -> Dscb
+    ensures exact { result ≡ under_name name.now.bytes dscb.now }
+    ensures long { length name.now.bytes ≡ 44 }
+{
+    let name = name.bytes;
+    match dscb {
+        Dscb::F1(set) => Dscb::F1(F1 { name, ..*set }),
+        other => *other,
+    }
+}

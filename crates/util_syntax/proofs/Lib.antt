@@ -1,0 +1,5 @@
+mod Blanks
+mod Grammar
+mod NameChars
+mod Parts
+pub mod StatementLemmas

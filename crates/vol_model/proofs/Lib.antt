@@ -1,0 +1,4 @@
+pub mod Ranks
+pub mod InOrder
+pub mod Steps
+pub mod Stops

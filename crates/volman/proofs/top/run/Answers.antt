@@ -1,0 +1,16 @@
+use Rattle.std.proofs.Common.{◌≡◌, sym, subst}
+use Rattle.hall_core.proofs.MomentLemmas.{same_none}
+use Rattle.hall_core.specs.Moments.{Same}
+use Rattle.volman.specs.Task.{statement_task}
+use Rattle.volman.proofs.Works.{nothing_stated, refused_file}
+use Rattle.volman.proofs.top.run.Goals as goal
+
+pub returns-in-Err-clause-does : goal.returns-in-Err-clause-does
+returns-in-Err-clause-does g c told =
+    let M = g.H.Hall.meaning in
+    let mid = M c.mount.new.hall in
+    let hall = c.args.hall.now in
+    refused_file c.args.file.now (statement_task c.args.file.now c.args.statement.now) c.in-Err.why c.refuse.result (c.in-Err.ensures.refused told) (c.mount.ensures.told told) (c.refuse.ensures.does told)
+    (λ quiet. subst (λ h. Same mid (M h)) (sym (c.refuse.ensures.silent quiet)) (same_none mid (g.met.H.Hall.counts_now c.mount.new.hall)))
+    c.refuse.ensures.device c.refuse.ensures.memory
+    (nothing_stated c.args.file.now c.args.statement.now c.refuse.result (g.met.H.Hall.none_pending hall told c.requires) (g.met.H.Hall.only_now hall))

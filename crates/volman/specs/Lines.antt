@@ -1,0 +1,69 @@
+-- The lines that the program prints.
+use Rattle.std.specs.Prelude.{ℕ, List, [], ◌∷◌, ◌++◌, codes}
+use Rattle.std.specs.Fmt.{decimal}
+use Rattle.std.specs.List.{flat_map}
+use Rattle.ebcdic_names.specs.Names.{shown}
+use Rattle.ckd_image.specs.declared.header.ImageErr.{ImageErr}
+use Rattle.ckd_image.specs.declared.header.ImageErr.TheVariants as image
+use Rattle.pack_spec.specs.declared.MountErr.{MountErr}
+use Rattle.pack_spec.specs.declared.MountErr.TheVariants as mount
+
+-- a line of text
+abbrev pub line : List ℕ → List ℕ
+line text = text ++ 10 ∷ []
+
+-- where the words are refused
+unfoldable pub words_line : List ℕ
+words_line = line (codes "VOLMAN WORDS")
+
+-- where the deck is refused
+unfoldable pub deck_line : List ℕ
+deck_line = line (codes "VOLMAN DECK FORM")
+
+-- a number in decimal, behind a blank
+abbrev pub number_text : ℕ → List ℕ
+number_text n = 32 ∷ decimal n
+
+-- a word, and numbers behind it
+abbrev pub with_numbers : List ℕ → List ℕ → List ℕ
+with_numbers word numbers = word ++ flat_map number_text numbers
+
+-- why a header is refused: the variant's name in capitals with hyphens, and its number
+unfoldable pub image_reason : ImageErr → List ℕ
+image_reason image.Compressed = with_numbers (codes "COMPRESSED") []
+image_reason image.BadMagic = with_numbers (codes "BAD-MAGIC") []
+image_reason (image.BadType code) = with_numbers (codes "BAD-TYPE") (code ∷ [])
+image_reason (image.BadHeads heads) = with_numbers (codes "BAD-HEADS") (heads ∷ [])
+image_reason (image.BadTrackSize size) = with_numbers (codes "BAD-TRACK-SIZE") (size ∷ [])
+image_reason image.MultiFile = with_numbers (codes "MULTI-FILE") []
+image_reason (image.BadLength len) = with_numbers (codes "BAD-LENGTH") (len ∷ [])
+
+-- why a pack isn't mounted: the variant's name in capitals with hyphens, and its numbers; for a header, those of its own reason
+unfoldable pub reason_of : MountErr → List ℕ
+reason_of mount.NoFile = with_numbers (codes "NO-FILE") []
+reason_of (mount.Image e) = image_reason e
+reason_of mount.NoLabel = with_numbers (codes "NO-LABEL") []
+reason_of mount.BadVtoc = with_numbers (codes "BAD-VTOC") []
+reason_of (mount.VtocTrack track) = with_numbers (codes "VTOC-TRACK") (track ∷ [])
+reason_of mount.NoFormat4 = with_numbers (codes "NO-FORMAT4") []
+reason_of mount.NoFormat5 = with_numbers (codes "NO-FORMAT5") []
+reason_of (mount.BadDscb slot byte) = with_numbers (codes "BAD-DSCB") (slot ∷ byte ∷ [])
+reason_of (mount.UnsupportedDscb slot byte) = with_numbers (codes "UNSUPPORTED-DSCB") (slot ∷ byte ∷ [])
+reason_of (mount.UnsupportedExtent slot) = with_numbers (codes "UNSUPPORTED-EXTENT") (slot ∷ [])
+reason_of (mount.BadExtent slot) = with_numbers (codes "BAD-EXTENT") (slot ∷ [])
+reason_of (mount.BadChain slot) = with_numbers (codes "BAD-CHAIN") (slot ∷ [])
+reason_of (mount.DuplicateName slot other) = with_numbers (codes "DUPLICATE-NAME") (slot ∷ other ∷ [])
+reason_of mount.Memory = with_numbers (codes "MEMORY") []
+reason_of mount.Device = with_numbers (codes "DEVICE") []
+
+-- where a file is refused
+unfoldable pub unit_line : List ℕ → MountErr → List ℕ
+unit_line file why = line (codes "VOLMAN UNIT " ++ file ++ codes " " ++ reason_of why)
+
+-- a name on a line of its own, in ASCII and without the blanks behind it
+unfoldable pub name_line : List ℕ → List ℕ
+name_line name = line (shown name)
+
+-- the names, a line each
+unfoldable pub names_listing : List (List ℕ) → List ℕ
+names_listing names = flat_map name_line names

@@ -1,0 +1,66 @@
+//! A statement on a pack that is mounted.
+ghost use Rattle.std.specs.Prelude.{◌≡◌, ◌≤◌, ◌⊎◌, [], ◌∷◌, IsTrue, OnOk, Ok};
+ghost use Rattle.hall_core.specs.Facts.{Rose, unit_of};
+ghost use Rattle.hall_core.specs.Files.{image_of};
+ghost use Rattle.hall_core.specs.Moments.{IsDurable};
+ghost use Rattle.vol_model.specs.declared.contents.Volume.{Volume};
+ghost use Rattle.pack_spec.specs.Volume.{volume_of};
+ghost use Rattle.vtoc_index.specs.Index.{IsMounted, IsOfUnit};
+ghost use Rattle.volman.specs.Machine.{shelf_with};
+ghost use Rattle.volman.specs.Run.{CountsReported, Later, Synced, WorksOn};
+ghost use Rattle.volman.specs.Statement.{item_of};
+
+use crate::machine::PackMachine;
+use crate::statement::run_rename;
+use crate::status::Status;
+use hall_core::Hall;
+use std::alloc::Global;
+use util_syntax::Rename;
+use vol_model::Stop;
+use vtoc_index::Vol;
+
+/// Does a statement on a pack that is mounted on a hall, makes all writes durable, and gives the status and
+/// the hall: the condition code, or the status of a fault.
+pub fn run_statement<H: Hall>(alloc: Global, statement: &Rename, vol: Vol, hall: H) -> (u8, H)
+    requires unit { IsOfUnit (H.facts hall).units vol }
+    requires mounted { IsTrue H.tells → IsMounted (image_of (H.meaning hall).state (H.facts hall) vol.unit) vol }
+    requires durable { IsTrue H.tells → IsDurable (H.meaning hall) }
+    ensures does { IsTrue H.tells → (volume : Volume) → volume_of (image_of (H.meaning hall).state (H.facts hall) vol.unit) ≡ Ok volume → WorksOn (unit_of (H.facts hall).units vol.unit).name volume (item_of (shelf_with volume) statement.now ∷ []) (H.meaning hall) (H.meaning result.1) result.0 }
+    ensures status { (result.0 ≤ 16) ⊎ ((result.0 ≡ 22) ⊎ ((result.0 ≡ 24) ⊎ (result.0 ≡ 25))) }
+    ensures device { result.0 ≡ 22 → Rose (H.facts hall).dev_faults (H.facts result.1).dev_faults }
+    ensures print { result.0 ≡ 24 → Rose (H.facts hall).print_faults (H.facts result.1).print_faults }
+    ensures reported { CountsReported result.0 (H.facts hall) (H.facts result.1) }
+    ensures later { Later (H.facts hall) (H.facts result.1) }
+    ensures units { (H.facts result.1).units ≡ (H.facts hall).units }
+    ensures references { (H.facts result.1).references ≡ (H.facts hall).references }
+{
+    let mut machine = PackMachine::open(hall, vol);
+    let volume = machine.number_of(&statement.serial);
+    let ran = run_rename(alloc, &mut machine, volume, statement);
+    let mut hall = machine.close();
+    let status = match ran {
+        Ok(code) => finish(&mut hall, code),
+        Err(Stop::Device) => Status::Device.code(),
+        Err(Stop::Print) => Status::Print.code(),
+        Err(Stop::Memory) => Status::Memory.code(),
+    };
+    (status, hall)
+}
+
+// Makes all writes durable, and gives the status: this code, or that of a device fault.
+fn finish<H: Hall>(hall: &mut H, code: u8) -> u8
+    requires { code ≤ 16 }
+    ensures told { IsTrue H.tells → Synced (H.meaning hall.old) (H.meaning hall.new) }
+    ensures status { (result ≡ code) ⊎ (result ≡ 22) }
+    ensures device { result ≡ 22 → Rose (H.facts hall.old).dev_faults (H.facts hall.new).dev_faults }
+    ensures reported { CountsReported result (H.facts hall.old) (H.facts hall.new) }
+    ensures later { Later (H.facts hall.old) (H.facts hall.new) }
+    ensures prints { (H.facts hall.new).print_faults ≡ (H.facts hall.old).print_faults }
+    ensures units { (H.facts hall.new).units ≡ (H.facts hall.old).units }
+    ensures references { (H.facts hall.new).references ≡ (H.facts hall.old).references }
+{
+    let Ok(()) = hall.sync() else {
+        return Status::Device.code();
+    };
+    code
+}
