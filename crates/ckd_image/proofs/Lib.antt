@@ -1,3 +1,4 @@
+mod Cases
 pub mod Counts
 pub mod Front
 pub mod Patterns

@@ -1,4 +1,4 @@
--- Where the reading of a track stops: the offset of the first byte that no track has there, part by part.
+-- Where the reading of a track stops, part by part: steps of the program. What a track's reader promises is `BreaksAt` in Track, which names none of them.
 use Rattle.std.specs.Prelude.{ℕ, ◌+◌, ◌==◌, ◌||◌, nat_lt, nat_le, not, max, Bool, true, false, List, [], ◌∷◌, ◌++◌, length, take, drop, map, replicate, take_while, Option, Some, None, slice_index, if◌then◌else◌}
 use Rattle.std.proofs.Common.{zero, suc}
 use Rattle.std.specs.Option.{option_map}
@@ -22,7 +22,7 @@ pattern_break (p ∷ ps) [] = Some 0
 pattern_break (None ∷ ps) (b ∷ bytes) = option_map suc (pattern_break ps bytes)
 pattern_break (Some x ∷ ps) (b ∷ bytes) = if b == x then option_map suc (pattern_break ps bytes) else Some 0
 
--- where Rr breaks, which stands at the front and isn't an end marker; it might be the begin of one where a track may end here
+-- where the bytes at the front, which are no end marker, stop being those of an Rr; if the track may end there, X'FF' may also be the begin of a marker, and the break is the first byte that fits neither
 abbrev pub record_break : Bool → ℕ → List ℕ → Option ℕ
 record_break ends r bytes =
     if nat_lt (length bytes) 5 then Some (length bytes)
@@ -41,7 +41,7 @@ break_to_end (suc left) r bytes =
     if is_at_end bytes then None
     else break_or_after (record_break true r bytes) (record_length bytes) (break_to_end left (suc r) (drop (record_length bytes) bytes))
 
--- where so many records from Rr on break, and the eight bytes behind them
+-- where so many records from Rr on break, and the eight bytes behind them; of an end marker in the place of Rr the count may have CC and HH, and that of R255 also R, KL and the first byte of DL
 unfoldable pub break_up_to : ℕ → ℕ → List ℕ → Option ℕ
 break_up_to zero r bytes = if nat_le 8 (length bytes) then None else Some (length bytes)
 break_up_to (suc left) r bytes =

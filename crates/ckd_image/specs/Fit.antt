@@ -1,4 +1,4 @@
--- What records cost on a track, and whether they fit it: the track capacity formula of the device.
+-- What records cost on a track, and whether they fit it: the track capacity formula of the device, rounded as in this project's profile.
 use Rattle.std.specs.Prelude.{ℕ, ◌+◌, ◌-◌, ◌*◌, ◌/◌, ◌==◌, ◌≡◌, nat_le, Bool, true, false, List, replicate, sum_by, if◌then◌else◌}
 use Rattle.ckd_image.specs.declared.device.DiskType.{DiskType}
 use Rattle.ckd_image.specs.Device.{row_of}
@@ -7,11 +7,11 @@ use Rattle.ckd_image.specs.Device.{row_of}
 abbrev pub saved : DiskType → ℕ → ℕ
 saved device kl = if kl == 0 then (row_of device).key_overhead else 0
 
--- the bytes that a record which isn't the last costs
+-- what a record with another behind it costs, in bytes of the track capacity
 abbrev pub record_cost : DiskType → ℕ → ℕ → ℕ
 record_cost device kl dl = (row_of device).overhead + (kl + dl) * (row_of device).tolerance / 512 - saved device kl
 
--- the bytes that the last record costs
+-- what the last record costs: its overhead and its bytes, without the tolerance
 abbrev pub last_record_cost : DiskType → ℕ → ℕ → ℕ
 last_record_cost device kl dl = (row_of device).last_overhead + kl + dl - saved device kl
 

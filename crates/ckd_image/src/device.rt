@@ -70,7 +70,7 @@ impl DiskType {
         }
     }
 
-    /// The number of cylinders of a pack without its alternate cylinders.
+    /// The number of cylinders of a pack without its alternate cylinders, in this project's profile.
     pub fn primary_cylinders(self) -> u16
         ensures { result ≡ (row_of self).primary_cylinders }
     {
@@ -80,8 +80,10 @@ impl DiskType {
         }
     }
 
-    /// The bytes of a track that its records behind R0 share, each at its cost, as format 4 DSCBs have
-    /// it (System Control Blocks, GC28-6628).
+    /// The bytes of a track that its records behind R0 share, each at its cost.
+    ///
+    /// This and the numbers up to the tolerance stand in fields of a format 4 DSCB (System Control Blocks,
+    /// GC28-6628); their values are those of this project's profile.
     pub fn track_capacity(self) -> u16
         ensures { result ≡ (row_of self).track_capacity }
     {
@@ -93,7 +95,7 @@ impl DiskType {
     }
 
     /// The bytes that a record with a key costs beside its key and data where it isn't the last of its
-    /// track: I of a format 4 DSCB (System Control Blocks, GC28-6628).
+    /// track: I of a format 4 DSCB.
     pub fn overhead(self) -> u16
         ensures { result ≡ (row_of self).overhead }
     {
@@ -139,7 +141,7 @@ impl DiskType {
         }
     }
 
-    /// The number of DSCBs, with keys of 44 bytes and data of 96, on a track of a VTOC.
+    /// The number of DSCBs, with keys of 44 bytes and data of 96, on a track of a VTOC: the most that fit.
     pub fn dscbs_per_track(self) -> u8
         ensures table { result ≡ (row_of self).dscbs_per_track }
         ensures most { IsMost self 44 96 result }
@@ -152,7 +154,7 @@ impl DiskType {
     }
 
     /// The number of blocks, with keys of 8 bytes and data of 256, on a track of a partitioned data
-    /// set's directory.
+    /// set's directory: the most that fit.
     pub fn directory_blocks_per_track(self) -> u8
         ensures table { result ≡ (row_of self).directory_blocks_per_track }
         ensures most { IsMost self 8 256 result }
@@ -186,7 +188,7 @@ impl DiskType {
         }
     }
 
-    /// The device's name on a card and in a listing, four digits.
+    /// The device's name on a card and in a listing, which is its number, four digits.
     pub fn device_word(self) -> &'static str
         ensures { result.now ≡ (row_of self).device_word }
     {

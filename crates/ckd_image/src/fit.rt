@@ -11,10 +11,11 @@ const TOLERANCE_UNIT: u32 = 512;
 /// Whether a record with a key of `kl` bytes and data of `dl` fits a track of the device as the last
 /// one, behind `earlier` ones of these key and data lengths.
 ///
-/// The rule is that of the device's format 4 DSCB (System Control Blocks, GC28-6628): each earlier
-/// record takes the overhead and, for its bytes, the tolerance; the last one takes an overhead of its
-/// own and its bytes. A record without a key takes the key overhead less. The sum may not pass the
-/// capacity of a track, from which R0 takes nothing. The record that ends a file has lengths of 0.
+/// The numbers are in fields of the device's format 4 DSCB (System Control Blocks, GC28-6628); their use
+/// and the rounding are this project's profile. Each earlier record takes the overhead and, for its
+/// bytes, the tolerance; the last one takes an overhead of its own and its bytes. A record without a
+/// key takes the key overhead less. The sum may not pass the capacity of a track, from which R0 takes
+/// nothing. The record that ends a file has lengths of 0.
 pub fn fits(device: DiskType, earlier: &[(u8, u16)], kl: u8, dl: u16) -> bool
     ensures { result ≡ fits device earlier.now kl dl }
 {

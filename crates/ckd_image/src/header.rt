@@ -40,9 +40,10 @@ const MOST_TRACK_SIZE: u32 = 65536;
 pub struct Geometry {
     /// The device.
     pub device: DiskType,
-    /// The number of cylinders, at least 1.
+    /// The number of cylinders, from 1 to the device's most.
     pub cylinders: u16,
-    /// The bytes that a track takes in the image, a multiple of 512.
+    /// The bytes that a track takes in the image: a multiple of 512, at most 65,536, and with room for the
+    /// largest R1 and the 37 bytes around it.
     pub track_size: u32,
 }
 
@@ -55,13 +56,15 @@ pub enum ImageErr {
     BadMagic,
     /// A device that isn't known, with its type byte.
     BadType(u8),
-    /// Heads other than the device's.
+    /// The number of heads, where the device has another.
     BadHeads(u32),
-    /// A track size that no track of the device has.
+    /// The track size in bytes, where it is no multiple of 512, leaves no room for the device's largest R1
+    /// and the 37 bytes around it, or is above 65,536.
     BadTrackSize(u32),
-    /// One of several files of an image.
+    /// One of several files of an image: the file sequence is above 1, or the high cylinder not 0.
     MultiFile,
-    /// A file, of so many bytes, that doesn't end with a whole cylinder, or has none or too many.
+    /// A file, of so many bytes, that doesn't end with a whole cylinder, has none, or has more than the
+    /// device's most.
     BadLength(u64),
 }
 
@@ -74,7 +77,7 @@ impl Header {
     /// The layout is that of a Hercules CKD image: `CKD_P370` at byte 0, the heads at 8 and the
     /// track size at 12, four bytes each, the type byte at 16, the file sequence at 17 and the high
     /// cylinder at 18, two bytes; numbers have their low byte first, and the other bytes aren't judged.
-    /// A file shorter than 512 bytes is `BadMagic`, whatever `bytes` hold.
+    /// With a `len` below 512 the answer is `BadMagic`, and `bytes` don't count.
     #[tactic(auto, unfolding(crate::specs::Header::geometry_of))]
     pub fn read(bytes: &[u8; 512], len: u64) -> Result<Geometry, ImageErr>
         ensures exact { result ≡ geometry_of bytes.now len }

@@ -24,7 +24,7 @@ const DATA_LENGTH_AT: usize = 6;
 
 /// The record R = `number` at the front of these bytes of a track, and the bytes behind it.
 ///
-/// `None` where no such record stands there whole.
+/// `None` where no such record stands there whole. An end marker isn't looked for: it reads as a count of R255.
 pub fn record_at(bytes: &[u8], number: u8) -> Option<(RecordParts<'_>, &[u8])>
     ensures none { IfNone result (is_record_at number bytes.now ≡ false) }
     ensures stands { IfSome result (λ _. is_record_at number bytes.now ≡ true) }

@@ -32,9 +32,9 @@ pub struct BadCount {
 /// The number of records behind R0 of a track: up to the record R = `upto`, or to the end marker.
 ///
 /// The layout is that of a Hercules CKD image: the home address, R0 without a key and with eight bytes
-/// of data, then R1, R2 and so on, each behind its count, R rising by one, and eight X'FF'. What stands
-/// behind the end marker isn't judged, nor are the first byte, the cylinder and head of counts, keys
-/// and data. Up to R = `upto` no end marker is needed, but at least eight bytes behind that record.
+/// of data, then R1, R2 and so on, each behind its count, R rising by one, and eight X'FF'. Free are the
+/// first byte, the cylinder and head of each count, keys, data, and all bytes behind the end marker. Up
+/// to R = `upto` no end marker is needed, but at least eight bytes behind that record.
 pub fn track_of(bytes: &[u8], cylinder: u16, head: u16, upto: Option<u8>) -> Result<u8, BadCount>
     // The records that are read are those by which the bytes follow the grammar, and no others are.
     ensures reads { IfOk result (λ n. (records : List Record) × (records_of cylinder head upto bytes.now ≡ Some records) × Follows cylinder head upto records bytes.now × (n ≡ length records)) }
@@ -177,8 +177,9 @@ fn records_up_to(bytes: &[u8], last: u8) -> Result<u8, usize>
     }
 }
 
-// The length in bytes of Rr, which stands at the front and isn't an end marker, or the offset at
-// which it breaks; where a track may end here, it might be the begin of an end marker.
+// The length in bytes of Rr at the front, where no end marker stands, or the offset at which the bytes
+// stop being those of an Rr. Where the track may end there, X'FF' may also be the begin of a marker, and
+// the offset is that of the first byte that fits neither.
 fn record_len(bytes: &[u8], r: u8, may_end: bool) -> Result<usize, usize>
     ensures whole { IfOk result (λ n. (record_break may_end r bytes.now ≡ None) × (is_record_at r bytes.now ≡ true) × (n ≡ record_length bytes.now) × (n ≤ length bytes.now)) }
     ensures broken { IfErr result (λ at. (record_break may_end r bytes.now ≡ Some at) × (is_record_at r bytes.now ≡ false)) }

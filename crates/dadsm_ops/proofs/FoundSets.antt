@@ -19,7 +19,7 @@ use Rattle.pack_spec.specs.Vtoc.{Run, is_slot, slot_bytes, slots_on}
 use Rattle.pack_spec.specs.Slots.{addressed_from, slots_at, slots_of_vtoc, tracks_in}
 use Rattle.vtoc_index.specs.Contents.{AreDscbs, is_set_named}
 use Rattle.vtoc_index.proofs.TrackPut.{slot_lengths, slot_records}
-use Rattle.dadsm_ops.proofs.RenamedSlots.{named_bytes}
+use Rattle.dadsm_ops.specs.Naming.{named_bytes}
 
 -- The slot in which a data set stands, and its format 1.
 pub record FoundSet (name : List ℕ) (items : List Dscb) (slot : ℕ) : Type 0 where

@@ -1,3 +1,4 @@
+pub mod Cases
 pub mod ChangedLists
 pub mod FoundSets
 pub mod Operating

@@ -46,6 +46,10 @@ module _ (name : List ℕ) (operation : Volume → Result Volume Refusal) (v v' 
           (subst (λ (all : List File). ChangesVtoc name v'.geometry v'.vtoc old.state all) (sym is) (indexed name v v' old.state files same leads.changes), printed),
         )) which)
 
+    -- the step isn't refused
+    not_refused : {P : Type 0} (r : Refusal) → operation volume ≡ Err r → P
+    not_refused r refused = let never = sym leads.step ∙ refused in absurd (cc never)
+
     -- it is done
     pub operates : {T X Y : Type 0} {x : X} (answer : T) → StepTo {T = X} {E = Y} (λ all. all) files old new (Ok x) → IsMounted (image_named new.state name) v' → Operates name operation v' old new (Ok answer)
     operates answer step mounted = record {
@@ -59,10 +63,12 @@ module _ (name : List ℕ) (operation : Volume → Result Volume Refusal) (v v' 
         durable = step.done.1;
         changes = subst (λ (all : List File). ChangesVtoc name v'.geometry v'.vtoc old.state all) (sym step.done.0) (indexed name v v' old.state files same leads.changes);
       };
+      idle = λ r refused. not_refused r refused;
       printed = step.printed;
       moments = stopped step;
+      memory = λ other. absurd (let wrong = other in cc);
     }
 
     -- the device failed
     pub operates_not : {T X Y : Type 0} {result : Result X Y} → StepTo (λ all. all) files old new result → Operates {T = T} name operation v' old new (Err Device)
-    operates_not step = record { volume = volume; before = before; answer = tt; printed = step.printed; moments = stopped step }
+    operates_not step = record { volume = volume; before = before; answer = tt; idle = λ r refused. not_refused r refused; printed = step.printed; moments = stopped step; memory = λ other. absurd (let wrong = other in cc) }

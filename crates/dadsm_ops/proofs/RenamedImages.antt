@@ -26,16 +26,17 @@ use Rattle.vol_model.specs.Shelf.{has_set, is_catalog, rename_on, rename_refusal
 use Rattle.vtoc_index.specs.declared.vol.Vol.{Vol}
 use Rattle.vtoc_index.specs.Contents.{with_bytes}
 use Rattle.vtoc_index.specs.Index.{IsIndexOf, IsMounted, IsPut, run_of}
-use Rattle.vtoc_index.specs.Puts.{IsHeld, IsReplaced, KeepsExtent}
-use Rattle.vtoc_index.proofs.ExtentLaw.{mounted_put}
+use Rattle.vtoc_index.specs.Puts.{IsHeld, IsReplaced}
+use Rattle.vtoc_index.proofs.ExtentLaw.{KeepsExtent, mounted_put}
 use Rattle.vtoc_index.proofs.FaultWalks.{no_slot}
 use Rattle.vtoc_index.proofs.NameLemmas.{same_length}
 use Rattle.vtoc_index.proofs.PutLaw.{slot_found}
+use Rattle.dadsm_ops.specs.Naming.{named_bytes}
 use Rattle.dadsm_ops.specs.Operations.{DiffersInVtoc}
 use Rattle.dadsm_ops.proofs.ChangedLists.{any_first, none_passes}
 use Rattle.dadsm_ops.proofs.FoundSets.{bytes_renamed, dscb_at, slot_wide}
 use Rattle.dadsm_ops.proofs.RenamedSets.{has_set_found, volume_renamed}
-use Rattle.dadsm_ops.proofs.RenamedSlots.{faults_alike, named_behind, named_bytes, named_once, put_is_renaming, range_behind, renamed_slot}
+use Rattle.dadsm_ops.proofs.RenamedSlots.{faults_alike, named_behind, named_once, put_is_renaming, range_behind, renamed_slot}
 
 -- the slots of the VTOC of an image, by an index
 abbrev pub slots_on_image : List ℕ → Vol → List VtocSlot
@@ -84,6 +85,28 @@ no_name_faults : (g : Geometry) (slots : List VtocSlot) → slots_faults g slots
 unfolding slots_faults
 no_name_faults g slots lawful = (no_faults (dscb_faults g slots) (name_faults slots) (no_faults (front_faults slots) (dscb_faults g slots ++ name_faults slots) lawful).1).1
 
+-- The slot that is put, and that its bytes are those that stand there, under the new name.
+pub record IsNamed (image : List ℕ) (v : Vol) (old new : List ℕ) (slot : ℕ) (bytes : List ℕ) : Type 0 where
+  pub held : VtocSlot
+  pub low : slot < length (slots_on_image image v)
+  pub there : slice_get (slots_on_image image v) slot ≡ Some held
+  pub named : is_named old held ≡ true
+  pub written : bytes ≡ named_bytes new held.bytes
+
+pub is_named_anew : (image : List ℕ) (v : Vol) (old new : Dsn) (slot : ℕ) (f : F1) (bytes : List ℕ) → CanRename image v old new slot f → length bytes ≡ 140 → IsDscb (formats.F1 (record f { name = new.bytes })) bytes → IsNamed image v old.bytes new.bytes slot bytes
+is_named_anew image v old new slot f bytes can size dscb =
+    let slots : List VtocSlot = slots_on_image image v in
+    let at = position-Some (is_named old.bytes) slots slot no_slot can.found in
+    let s : VtocSlot = get_or slots slot no_slot in
+    let here : slice_get slots slot ≡ Some s = slice_get-get_or slots slot no_slot at.0 in
+    record {
+      held = s;
+      low = at.0;
+      there = here;
+      named = at.1;
+      written = bytes_renamed f new.bytes s.bytes bytes (slot_wide image v.geometry (run_of v.vtoc) slot s here) size (dscb_at v.slots.items slots slot (formats.F1 f) s can.mounted.index.slots can.set here) dscb;
+    }
+
 -- What the bytes that are put make of the slots.
 record IsRenaming (image : List ℕ) (v : Vol) (old new : List ℕ) (slot : ℕ) (bytes : List ℕ) : Type 0 where
   low : slot < length v.slots.items
@@ -95,25 +118,19 @@ record IsRenaming (image : List ℕ) (v : Vol) (old new : List ℕ) (slot : ℕ)
 is_renaming : (image : List ℕ) (v : Vol) (old new : Dsn) (slot : ℕ) (f : F1) (bytes : List ℕ) → CanRename image v old new slot f → length bytes ≡ 140 → IsDscb (formats.F1 (record f { name = new.bytes })) bytes → IsRenaming image v old.bytes new.bytes slot bytes
 is_renaming image v old new slot f bytes can size dscb =
     let slots : List VtocSlot = slots_on_image image v in
-    let index = can.mounted.index in
-    let at = position-Some (is_named old.bytes) slots slot no_slot can.found in
-    let s : VtocSlot = get_or slots slot no_slot in
-    let here : slice_get slots slot ≡ Some s = slice_get-get_or slots slot no_slot at.0 in
-    let written : bytes ≡ named_bytes new.bytes s.bytes =
-    bytes_renamed f new.bytes s.bytes bytes (slot_wide image v.geometry (run_of v.vtoc) slot s here) size (dscb_at v.slots.items slots slot (formats.F1 f) s index.slots can.set here) dscb in
+    let of = is_named_anew image v old new slot f bytes can size dscb in
     let once = named_once old.bytes slots slot (no_name_faults v.geometry slots can.mounted.lawful) can.found in
-    let is : with_bytes slot bytes slots ≡ map (renamed_slot old.bytes new.bytes) slots = put_is_renaming old.bytes new.bytes can.long slot slots s bytes here at.1 written once in
+    let is : with_bytes slot bytes slots ≡ map (renamed_slot old.bytes new.bytes) slots = put_is_renaming old.bytes new.bytes can.long slot slots of.held bytes of.there of.named of.written once in
     record {
-      low = omega (arith, at.0, same_length v.slots.items slots index.slots);
+      low = omega (arith, of.low, same_length v.slots.items slots can.mounted.index.slots);
       slots = is;
       lawful = ap (slots_faults v.geometry) is ∙ faults_alike old.bytes new.bytes can.long v.geometry slots (none_passes (is_named new.bytes) slots can.absent) ∙ can.mounted.lawful;
-      keeps = λ none t first. by_first t (sym here ∙ ap (slice_get slots) none ∙ first) written;
+      keeps = λ none t first. by_first of.held t (sym of.there ∙ ap (slice_get slots) none ∙ first) of.written;
       apart = any_first (is_named new.bytes) slots ∙ ap is_some can.absent;
     }
   where
-    by_first : (t : VtocSlot) → Some (get_or (slots_on_image image v) slot no_slot) ≡ Some t → bytes ≡ named_bytes new.bytes (get_or (slots_on_image image v) slot no_slot).bytes → slice_range bytes 105 115 ≡ slice_range t.bytes 105 115
-    by_first t first written =
-        let s : VtocSlot = get_or (slots_on_image image v) slot no_slot in
+    by_first : (s t : VtocSlot) → Some s ≡ Some t → bytes ≡ named_bytes new.bytes s.bytes → slice_range bytes 105 115 ≡ slice_range t.bytes 105 115
+    by_first s t first written =
         let same : s ≡ t = cc in
         ap (λ (l : List ℕ). slice_range l 105 115) written ∙ range_behind (named_bytes new.bytes s.bytes) s.bytes (named_behind old.bytes new.bytes can.long s.bytes) 61 10 ∙ ap (λ (x : VtocSlot). slice_range x.bytes 105 115) same
 

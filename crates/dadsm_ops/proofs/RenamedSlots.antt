@@ -20,11 +20,8 @@ use Rattle.pack_spec.specs.Faults.{dscb_fault, dscb_faults, extents_fault, front
 use Rattle.pack_spec.proofs.FirstFaults.{none_at}
 use Rattle.vtoc_index.specs.Contents.{with_bytes}
 use Rattle.vtoc_index.proofs.SetFields.{is_zeros-false}
+use Rattle.dadsm_ops.specs.Naming.{named_bytes}
 use Rattle.dadsm_ops.proofs.ChangedLists.{fails_at, filter_map-map, find-map, list_any-map, none_passes, position-map, slice_get-map}
-
--- the bytes of a DSCB, under another name
-abbrev pub named_bytes : List ℕ → List ℕ → List ℕ
-named_bytes new bytes = new ++ drop 44 bytes
 
 -- a slot, under the new name where it is a format 1 of the old one
 abbrev pub renamed_slot : List ℕ → List ℕ → VtocSlot → VtocSlot

@@ -56,6 +56,7 @@ module _ (units : List Attached) (unit : ℕ) (v v' : Vol) (slot : ℕ) (d : Dsc
   -- the files with that slot
   have_slot : (bytes : List ℕ) → IsPut v slot bytes (image_named old.state name) (patched (image_named old.state name) (place_of_slot v slot) bytes) → HaveSlot name v slot bytes old.state (written old.state name (place_of_slot v slot) bytes)
   have_slot bytes is = record {
+    files = refl;
     others = λ other apart. other_file old.state name other (place_of_slot v slot) bytes apart;
     image = subst (λ (i : List ℕ). IsPut v slot bytes (image_named old.state name) i) (sym (image_written old.state units unit (place_of_slot v slot) bytes whole low)) is;
   }

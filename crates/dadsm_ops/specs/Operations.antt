@@ -1,9 +1,9 @@
 -- What an operation on one volume leaves, done or failed, and what a stop in it leaves, in this project's profile.
 use Rattle.std.specs.Prelude.{◌≡◌, ◌≢◌, ◌⊎◌, ℕ, ◌+◌, ◌≤◌, ◌<◌, List, [], length, take, Result, Ok, Err, IsErrOf, unwrap_or}
 use Rattle.ckd_image.specs.declared.header.Geometry.{Geometry}
-use Rattle.hall_core.specs.Facts.{Facts, Rose}
+use Rattle.hall_core.specs.Facts.{Facts, ReportedCall}
 use Rattle.hall_core.specs.Files.{File, file_of}
-use Rattle.hall_core.specs.Moments.{Meaning, IsDurable, Elapses}
+use Rattle.hall_core.specs.Moments.{Meaning, IsDurable, Elapses, Same}
 use Rattle.pack_spec.specs.Label.{track_bytes}
 use Rattle.pack_spec.specs.Volume.{volume_of}
 use Rattle.vol_model.specs.declared.answers.StoreErr.{StoreErr}
@@ -22,13 +22,13 @@ image_named files name = unwrap_or (file_of files name) []
 abbrev pub IsIn : Run → ℕ → Type 0
 IsIn run track = (run.start ≤ track) × (track < run.start + run.len)
 
--- Two images differ in the tracks of the VTOC alone.
+-- Two images differ in the tracks of the VTOC alone. Length, header and tracks are all of an image that holds its cylinders whole; in another the bytes behind its last track aren't judged.
 pub record DiffersInVtoc (g : Geometry) (vtoc : Run) (before after : List ℕ) : Type 0 where
   pub size : length after ≡ length before
   pub header : take 512 after ≡ take 512 before
   pub tracks : (track : ℕ) → ¬ IsIn vtoc track → track_bytes after g track ≡ track_bytes before g track
 
--- Files differ in the image of this name alone, and that in the tracks of its VTOC.
+-- Files differ in the image of this name alone, and that in the tracks of its VTOC. A name stands for the first file that has it.
 pub record ChangesVtoc (name : List ℕ) (g : Geometry) (vtoc : Run) (before after : List File) : Type 0 where
   pub others : (other : List ℕ) → other ≢ name → file_of after other ≡ file_of before other
   pub image : DiffersInVtoc g vtoc (image_named before name) (image_named after name)
@@ -53,19 +53,16 @@ StoreAnswers name stepped v before new (Err (Refused r)) = stepped ≡ Err r
 StoreAnswers name stepped v before new (Err Memory) = Unit {0}
 StoreAnswers name stepped v before new (Err Device) = Unit {0}
 
--- An operation on the volume of an image, whose index becomes this: it answers by the step of the volume, and a stop in it leaves an image that stands for the volume before or after it, and differs in its VTOC alone. Nothing is printed.
+-- An operation on the volume of an image, whose index becomes this: it answers by the step of the volume; where that is refused nothing changes but the time; and a stop in it leaves an image that stands for the volume before or after it, and differs in its VTOC alone. Nothing is printed. Where memory is wanting nothing changes either.
 pub record Operates {T : Type 0} (name : List ℕ) (operation : Volume → Result Volume Refusal) (v : Vol) (old new : Meaning (List File)) (result : Result T StoreErr) : Type 0 where
   pub volume : Volume
   pub before : volume_of (image_named old.state name) ≡ Ok volume
   pub answer : StoreAnswers name (operation volume) v old.state new result
+  pub idle : (r : Refusal) → operation volume ≡ Err r → Same old new
   pub printed : new.printed ≡ old.printed
   pub moments : Elapses old new (λ files p. IsBeforeOrAfter volume (operation volume) (image_named files name) × (ChangesVtoc name v.geometry v.vtoc old.state files × (p ≡ old.printed)))
+  pub memory : IsErrOf result Memory → Same old new
 
--- Calls of a device by an operation: the count rose where a fault of the device is reported, and else stands still; the rest stays.
-pub record StoreCall {T : Type 0} (old new : Facts) (result : Result T StoreErr) : Type 0 where
-  pub units : new.units ≡ old.units
-  pub references : new.references ≡ old.references
-  pub prints : new.print_faults ≡ old.print_faults
-  pub later : old.dev_faults ≤ new.dev_faults
-  pub device : IsErrOf result Device → Rose old.dev_faults new.dev_faults
-  pub others : ¬ IsErrOf result Device → new.dev_faults ≡ old.dev_faults
+-- calls of a device by an operation, which answers a fault of it as one
+abbrev pub StoreCall : {T : Type 0} → Facts → Facts → Result T StoreErr → Type 0
+StoreCall old new result = ReportedCall (IsErrOf result Device) old new

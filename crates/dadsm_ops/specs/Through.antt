@@ -2,15 +2,16 @@
 use Rattle.std.specs.Prelude.{◌≡◌, ◌≢◌, ℕ, List, length, Result, OnOk}
 use Rattle.dscb_codec.specs.declared.Dscb.{Dscb}
 use Rattle.dscb_codec.specs.Layout.{IsDscb}
-use Rattle.hall_core.specs.Files.{File, file_of}
+use Rattle.hall_core.specs.Files.{File, file_of, written}
 use Rattle.hall_core.specs.Moments.{Meaning}
 use Rattle.hall_core.specs.Steps.{StepTo}
-use Rattle.vtoc_index.specs.Index.{IsIndexOf, IsPut}
+use Rattle.vtoc_index.specs.Index.{IsIndexOf, IsPut, place_of_slot}
 use Rattle.vtoc_index.specs.declared.vol.Vol.{Vol}
 use Rattle.dadsm_ops.specs.Operations.{image_named}
 
--- Files differ in the image of this name alone, and that in one slot of its VTOC, which has these bytes.
+-- Files differ in the image of this name alone, and that in one slot of its VTOC, which has these bytes: they stand at the slot's place, and each other byte of all files is as before.
 pub record HaveSlot (name : List ℕ) (v : Vol) (slot : ℕ) (bytes : List ℕ) (before after : List File) : Type 0 where
+  pub files : after ≡ written before name (place_of_slot v slot) bytes
   pub others : (other : List ℕ) → other ≢ name → file_of after other ≡ file_of before other
   pub image : IsPut v slot bytes (image_named before name) (image_named after name)
 

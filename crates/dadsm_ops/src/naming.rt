@@ -1,5 +1,5 @@
 //! Another name for a data set.
-ghost use Rattle.std.specs.Prelude.{◌≡◌, ◌≤◌, ℕ, List, length, IsTrue, IfOk, IfErr, IsErrOf, Ok, Err};
+ghost use Rattle.std.specs.Prelude.{◌≡◌, ◌≤◌, ℕ, List, length, IsTrue, IfOk, IfErr, IsErrOf, OnOk, Some, Ok, Err};
 ghost use Rattle.hall_core.specs.Facts.{unit_of};
 ghost use Rattle.hall_core.specs.Files.{image_of};
 ghost use Rattle.hall_core.specs.Moments.{IsDurable};
@@ -7,7 +7,7 @@ ghost use Rattle.pack_spec.specs.Volume.{volume_of};
 ghost use Rattle.vol_model.specs.Shelf.{rename_on};
 ghost use Rattle.vol_model.specs.declared.contents.Volume.{Volume};
 ghost use Rattle.vtoc_index.specs.Index.{IsMounted, IsOfUnit};
-ghost use Rattle.dadsm_ops.specs.Naming.{IsToRename, under_name};
+ghost use Rattle.dadsm_ops.specs.Naming.{IsToRename, RenamesEntry, WritesName, refusal_answered, refusal_in, under_name};
 ghost use Rattle.dadsm_ops.specs.Operations.{Operates, StoreCall};
 
 use crate::through::put_through;
@@ -19,19 +19,27 @@ use vtoc_index::{Vol, find};
 
 /// Gives a data set of the volume another name.
 ///
-/// It is one write of the set's format 1 DSCB, which decides the operation, and a sync: a stop leaves
-/// the set under the one name or the other. It is refused, in this order, where the volume has no set
-/// of the old name (`NoSet`), where it has one of the new name (`SetExists`), and where either name is
-/// SYSCTLG (`WrongKind`); then nothing is written. It takes no memory. After `Device` the index may be
-/// that of no image any more.
+/// The index is that of the image of its unit, and no write is pending. The set's format 1 DSCB is written
+/// with the new name as its key and its other 96 bytes as they were (System Control Blocks GC28-6628),
+/// which decides the operation, and made durable: a stop leaves each byte of all files as it was, or
+/// the set under the new name and else each byte. It takes one write and one sync, and at most one read.
+///
+/// It is refused, in this order, where the volume has no set of the old name (`NoSet`), where it has one
+/// of the new name (`SetExists`), and where either name is SYSCTLG (`WrongKind`); then nothing is called,
+/// and the index is as before. It takes no memory, so `Memory` never comes. `Device` comes only where
+/// the count of its faults rose. The index is that of the new image after `Ok`, and may be that of no
+/// image after `Device`.
 pub fn rename<H: Hall>(hall: &mut H, vol: &mut Vol, old: &Dsn, new: &Dsn) -> Result<(), StoreErr>
     requires unit { IsOfUnit (H.facts hall.old).units vol.old }
     requires mounted { IsTrue H.tells → IsMounted (image_of (H.meaning hall.old).state (H.facts hall.old) vol.old.unit) vol.old }
     requires durable { IsTrue H.tells → IsDurable (H.meaning hall.old) }
     ensures told { IsTrue H.tells → Operates (unit_of (H.facts hall.old).units vol.old.unit).name (rename_on old.now new.now) vol.new (H.meaning hall.old) (H.meaning hall.new) result }
+    ensures written { IsTrue H.tells → WritesName (unit_of (H.facts hall.old).units vol.old.unit).name vol.old old.now.bytes new.now.bytes (H.meaning hall.old) (H.meaning hall.new) result }
     ensures unit { IsOfUnit (H.facts hall.new).units vol.new }
     ensures index { vol.new ≡ record vol.old { slots = vol.new.slots; buf = vol.new.buf } }
+    ensures entry { OnOk result (RenamesEntry old.now.bytes new.now.bytes vol.old.slots.items vol.new.slots.items) }
     ensures refused { (r : Refusal) → IsErrOf result (StoreErr.Refused r) → (hall.new ≡ hall.old) × (vol.new ≡ vol.old) }
+    ensures reason { refusal_answered result ≡ refusal_in vol.old.slots.items old.now.bytes new.now.bytes }
     ensures memory { IsErrOf result StoreErr.Memory → ⊥ }
     ensures call { StoreCall (H.facts hall.old) (H.facts hall.new) result }
 {
@@ -48,6 +56,7 @@ pub fn rename<H: Hall>(hall: &mut H, vol: &mut Vol, old: &Dsn, new: &Dsn) -> Res
 fn slot_to_rename(vol: &Vol, old: &Dsn, new: &Dsn) -> Result<u32, Refusal>
     requires { length vol.now.slots.items ≤ 65535 }
     ensures found { IfOk result (IsToRename vol.now.slots.items old.now.bytes new.now.bytes) }
+    ensures reason { IfErr result (λ r. refusal_in vol.now.slots.items old.now.bytes new.now.bytes ≡ Some r) }
     ensures refused { IfErr result (λ r. (image : List ℕ) (volume : Volume) → IsMounted image vol.now → volume_of image ≡ Ok volume → rename_on old.now new.now volume ≡ Err r) }
 {
     let Some(slot) = find(vol, old) else {

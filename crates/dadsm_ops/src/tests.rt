@@ -73,11 +73,12 @@ fn put_name(image: &mut [u8], at: usize, name: &Name) {
     }
 }
 
-// A hall with the pack alone, in which one call fails.
+// A hall with another file and the pack, in which one call fails. The other file has the same bytes.
 fn hall_with(alloc: Global, names: &[Name; 3], fails: usize) -> Result<MemHall, AllocError>
     ensures { IfOk result (λ hall. (facts_of hall).units ≡ []) }
 {
     let mut files = Vec::new(alloc);
+    files.push((String::from_str(alloc, "OTHER")?, image_of(alloc, names)?))?;
     files.push((String::from_str(alloc, "PACK")?, image_of(alloc, names)?))?;
     let mut hall = MemHall::new(alloc, files, [fails as u64].to_vec(alloc)?);
     hall.room(16, 1024)?;
@@ -138,6 +139,7 @@ fn name_is_changed_by_one_write_and_a_sync(rt: HostRuntime) -> Result<(), Fail> 
         calls.truncate(fails.saturating_add(1));
         assert_eq!(rt; hall.calls(), calls.as_slice(), "case {i}");
         let mut image = image_of(rt.alloc(), &names)?;
+        assert_eq!(rt; hall.image("OTHER"), Some(image.as_slice()), "case {i}");
         if write < fails {
             put_name(&mut image, at, &to.bytes);
         }
@@ -172,6 +174,8 @@ fn first_reason_refuses_a_name_before_any_call(rt: HostRuntime) -> Result<(), Fa
         let answer = mount_and_rename(rt.alloc(), &mut hall, &from, &to);
         assert_eq!(rt; answer, Ok(Err(StoreErr::Refused(refusal))), "case {i}");
         assert_eq!(rt; hall.calls(), mounting().as_slice(), "case {i}");
+        let image = image_of(rt.alloc(), &names)?;
+        assert_eq!(rt; hall.image("PACK"), Some(image.as_slice()), "case {i}");
     }
     Ok(())
 }

@@ -1,3 +1,4 @@
+mod Cases
 pub mod Fields
 pub mod Once
 pub mod Parts

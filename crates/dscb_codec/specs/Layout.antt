@@ -153,7 +153,7 @@ AreBelow bound numbers = AllByRecursion (λ number. number < bound) numbers
 abbrev pub AreRows : ℕ → ℕ → List (List ℕ) → Type 0
 AreRows n k rows = (length rows ≡ k) × AllByRecursion (λ row. length row ≡ n) rows
 
--- the numbers and the rows of a DSCB are of their types
+-- what the bytes of a DSCB don't fix: its numbers and its rows are of their types
 abbrev pub FitsTypes : Dscb → Type 0
 FitsTypes formats.F0 = Unit {0}
 FitsTypes (formats.F1 f) = AreBelow (2 ^ 16) (f.volseq ∷ f.dsorg ∷ f.blksize ∷ f.lrecl ∷ f.rkp ∷ f.balance ∷ []) × AreBelow (2 ^ 32) (f.scalo ∷ []) × AreRows 10 3 f.runs

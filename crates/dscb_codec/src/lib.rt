@@ -42,7 +42,7 @@ pub struct F1 {
     pub created: [u8; 3],
     /// The expiration date, in the form of the creation date; zeros are none.
     pub expires: [u8; 3],
-    /// The number of extents on this volume.
+    /// The number of extents on this volume, those in a format 3 among them; not judged here.
     pub extents: u8,
     /// The bytes used in the last directory block of a partitioned set.
     pub dir_used: u8,
@@ -52,9 +52,11 @@ pub struct F1 {
     pub system: [u8; 13],
     /// Reserved.
     pub res75: [u8; 7],
-    /// DSORG, the organization: X'4000' sequential, X'2000' direct, X'0200' partitioned, X'8000' index sequential.
+    /// DSORG, the organization: X'4000' sequential, X'2000' direct, X'0200' partitioned, X'8000' index
+    /// sequential, with X'0100' for a set that can't be moved.
     pub dsorg: u16,
-    /// RECFM, the record format: X'80' fixed, X'40' variable, X'C0' undefined, with X'10' blocked and others.
+    /// RECFM, the record format: X'80' fixed, X'40' variable, X'C0' undefined, with X'10' blocked, X'08'
+    /// standard or spanned, X'04' and X'02' control characters.
     pub recfm: u8,
     /// OPTCD, the option codes.
     pub optcd: u8,
@@ -68,17 +70,19 @@ pub struct F1 {
     pub rkp: u16,
     /// The data set indicators.
     pub indicators: u8,
-    /// SCALO, the flags of the space request in the top byte and the secondary quantity in the other three.
+    /// SCALO: flags of the space request in the top byte, X'C0' for cylinders, X'80' for tracks, with X'08'
+    /// for contiguous space, and the secondary quantity in these units in the other three.
     pub scalo: u32,
-    /// LSTAR, the last block's TTR: its relative track in two bytes and its record.
+    /// LSTAR, the last block's TTR: its track within the set, from 0, in two bytes, and its record; zeros are
+    /// none.
     pub lstar: [u8; 3],
-    /// TRBAL, the bytes left on the track of the last block.
+    /// TRBAL, the bytes of the track capacity that are left on the track of the last block.
     pub balance: u16,
     /// Reserved.
     pub res103: [u8; 2],
     /// The first three extents: each a type byte, a sequence byte, and the lower and the upper CCHH, both inclusive.
     pub runs: [[u8; 10]; 3],
-    /// The address CCHHR of the set's format 3 DSCB, or zeros.
+    /// The address CCHHR of the set's format 3 DSCB, which counts where there are more than three extents.
     pub pointer: [u8; 5],
 }
 
@@ -116,7 +120,7 @@ pub struct F4 {
     pub res60: [u8; 2],
     /// The device size: two bytes of cylinders, then two of tracks per cylinder.
     pub size: u32,
-    /// The track capacity in bytes.
+    /// The track capacity in bytes; this and the other numbers of the device aren't judged.
     pub capacity: u16,
     /// I, the overhead in bytes of a record with a key that is not the last on its track.
     pub i: u8,
@@ -124,7 +128,7 @@ pub struct F4 {
     pub l: u8,
     /// K, the bytes that a record without a key saves.
     pub k: u8,
-    /// The device flag.
+    /// The flag of the device.
     pub flag: u8,
     /// The tolerance factor, over 512, by which a record's length is multiplied.
     pub tolerance: u16,
@@ -145,7 +149,8 @@ pub struct F4 {
 pub struct F5 {
     /// The first four bytes of the key, X'05050505'; not judged.
     pub id: u32,
-    /// The eight entries of the key: each a relative track, whole cylinders (two bytes each) and further tracks (one).
+    /// The eight entries of the key: each a relative track, whole cylinders (two bytes each) and further
+    /// tracks (one); zeros are none.
     pub front: [[u8; 5]; 8],
     /// The eighteen entries behind the format byte.
     pub back: [[u8; 5]; 18],
@@ -173,7 +178,7 @@ pub enum Dscb {
 pub enum DscbErr {
     /// Format 2 or 6, of index sequential sets and of split cylinders.
     Unsupported(u8),
-    /// Any other format byte, or zero where not all bytes are zero.
+    /// Another format byte than X'F1' to X'F6'; also zero, unless all 140 bytes are.
     BadFormat(u8),
 }
 
@@ -358,26 +363,27 @@ fn word_bytes(number: u32) -> [u8; 4]
     number.to_be_bytes()
 }
 
-// Writes bytes behind those that stand already, and says where they end.
-fn put(out: &mut [u8], at: usize, bytes: &[u8]) -> usize
-    requires { at + length bytes.now ≤ length out.old }
-    ensures bytes { take result out.new ≡ take at out.old ++ bytes.now }
-    ensures end { result ≡ at + length bytes.now }
+// Copies a part to its place and gives the offset behind it. Nothing is said of the bytes from there on: parts
+// are copied from front to back, so these are still to come.
+fn copy_part(out: &mut [u8], from: usize, part: &[u8]) -> usize
+    requires { from + length part.now ≤ length out.old }
+    ensures front { take result out.new ≡ take from out.old ++ part.now }
+    ensures behind { result ≡ from + length part.now }
     ensures inside { result ≤ length out.old }
 {
-    let end = at + bytes.len();
-    out[at..end].copy_from_slice(bytes);
-    end
+    let behind = from + part.len();
+    out[from..behind].copy_from_slice(part);
+    behind
 }
 
-// Writes a row behind those that stand already, and says where it ends.
-fn put_row<const N: usize>(out: &mut [u8], at: usize, row: &[u8; N]) -> usize
-    requires { at + N ≤ length out.old }
-    ensures bytes { take result out.new ≡ take at out.old ++ row.now }
-    ensures end { result ≡ at + N }
+// The same of a row, whose length its type gives.
+fn copy_row<const N: usize>(out: &mut [u8], from: usize, row: &[u8; N]) -> usize
+    requires { from + N ≤ length out.old }
+    ensures front { take result out.new ≡ take from out.old ++ row.now }
+    ensures behind { result ≡ from + N }
     ensures wide { length row.now ≡ N }
 {
-    put(out, at, row)
+    copy_part(out, from, row)
 }
 
 // The bytes of a field of rows.
@@ -389,7 +395,7 @@ fn flat<const N: usize, const M: usize, const T: usize>(rows: &[[u8; N]; M]) -> 
     let mut out = [0; T];
     let mut at = 0;
     for row in rows {
-        at = put_row(&mut out, at, row);
+        at = copy_row(&mut out, at, row);
     }
     out
 }
@@ -402,7 +408,7 @@ fn joined(parts: &[&[u8]]) -> [u8; 140]
     let mut out = [0; 140];
     let mut at = 0;
     for part in parts {
-        at = put(&mut out, at, part);
+        at = copy_part(&mut out, at, part);
     }
     out
 }
@@ -483,8 +489,8 @@ fn f5_bytes(f: &F5) -> [u8; 140]
 
 /// The 140 bytes of a slot's key and data that a DSCB has.
 ///
-/// The reserved bytes are fields too. By `only` no other bytes are those of the DSCB, so encoding
-/// what was decoded gives the same bytes.
+/// The reserved bytes are fields too. By `only` no other bytes are those of the DSCB, so of a DSCB that
+/// was decoded these are the bytes that it came from.
 pub fn encode(dscb: &Dscb) -> [u8; 140]
     ensures fields { IsDscb dscb.now result }
     ensures types { FitsTypes dscb.now }

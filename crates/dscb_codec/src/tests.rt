@@ -185,6 +185,9 @@ fn zeros_are_free_and_other_format_bytes_are_refused(rt: HostRuntime) {
         (0xF0, DscbErr::BadFormat(0xF0)),
         (0xF7, DscbErr::BadFormat(0xF7)),
         (0x01, DscbErr::BadFormat(0x01)),
+        // The low half of the byte is a format's.
+        (0x03, DscbErr::BadFormat(0x03)),
+        (0xC3, DscbErr::BadFormat(0xC3)),
         (0x40, DscbErr::BadFormat(0x40)),
     ] {
         let mut bytes = [0; 140];
@@ -196,4 +199,23 @@ fn zeros_are_free_and_other_format_bytes_are_refused(rt: HostRuntime) {
         bytes[at] = 1;
         assert_eq!(rt; decode(&bytes), Err(DscbErr::BadFormat(0)), "byte {at}");
     }
+}
+
+#[test]
+fn fields_are_not_judged(rt: HostRuntime) {
+    // Without the other bytes of the key, and with more extents than a data set has.
+    for format in [0xF1, 0xF3, 0xF4, 0xF5] {
+        let mut bytes = [0; 140];
+        bytes[44] = format;
+        let Ok(found) = decode(&bytes) else {
+            panic!(&rt; "format byte {format} is refused")
+        };
+        assert_eq!(rt; encode(&found), bytes, "format byte {format}");
+    }
+    let mut bytes = bytes_of(&rt, FORMAT_1_TEXT);
+    bytes[59] = 0xFF;
+    let Ok(Dscb::F1(found)) = decode(&bytes) else {
+        panic!(&rt; "255 extents are refused")
+    };
+    assert_eq!(rt; found.extents, 255);
 }

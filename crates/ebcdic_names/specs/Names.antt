@@ -1,4 +1,4 @@
--- Data set names, names of one level and volume serials, as lists of characters.
+-- Data set names, names of one level and volume serials, as lists of characters (Utilities GC28-6586; the faults and their order are this project's profile).
 use Rattle.std.specs.Prelude.{ℕ, ◌+◌, ◌-◌, ◌==◌, Bool, false, ◌&&◌, ◌||◌, nat_lt, nat_le, if◌then◌else◌, List, [], ◌∷◌, ◌++◌, length, map, replicate, slice_get, unwrap_or, Option, Some, None, Result, Ok, Err}
 use Rattle.std.specs.List.{list_all}
 use Rattle.ebcdic_names.specs.CodePage.{ascii_of, ebcdic_of}
@@ -86,7 +86,7 @@ serial_fault cs =
     else (if nat_lt 6 (length cs) then Some TooLong
     else slice_get (serial_faults 0 cs) 0)
 
--- the EBCDIC byte of a character, and a blank where it has none
+-- the EBCDIC byte of a character; a blank fills in where it has none, which no character of a name comes to
 unfoldable pub byte_of : ℕ → ℕ
 byte_of c = unwrap_or (ebcdic_of c) 0x40
 

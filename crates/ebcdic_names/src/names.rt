@@ -19,7 +19,8 @@ enum NameForm {
     OneLevel,
 }
 
-/// Why a text is no name. Levels and characters are counted from 0.
+/// Why a text is no name. Levels and characters are numbered from 0, and what is counted are characters,
+/// not bytes: code points, where the text isn't ASCII.
 #[derive(Clone, Copy, Debug, PartialEq, Eq, Drop)]
 pub enum NameErr {
     /// The text is empty.
@@ -32,15 +33,16 @@ pub enum NameErr {
     BadChar(u8),
 }
 
-/// A data set name in EBCDIC, with blanks behind it. Names are ordered by their bytes.
+/// A data set name in EBCDIC. One that `read` gives is a name with blanks behind it; one from a pack has
+/// the bytes that stand there. Names are ordered by their bytes.
 #[derive(Clone, Copy, Debug, PartialEq, Eq, PartialOrd, Ord)]
 pub struct Dsn {
     /// The 44 bytes, as the key of a format 1 DSCB has them (System Control Blocks, GC28-6628).
     pub bytes: [u8; 44],
 }
 
-/// A name of up to eight characters in EBCDIC, as of a member, with blanks behind it. Names are
-/// ordered by their bytes.
+/// A name of up to eight characters in EBCDIC, as of a member. One that `read` gives is a name with blanks
+/// behind it; one from a pack has the bytes that stand there. Names are ordered by their bytes.
 #[derive(Clone, Copy, Debug, PartialEq, Eq, PartialOrd, Ord)]
 pub struct Name8 {
     /// The eight bytes, as an entry of a partitioned set's directory has them (System Control
@@ -48,7 +50,8 @@ pub struct Name8 {
     pub bytes: [u8; 8],
 }
 
-/// A volume serial in EBCDIC, with blanks behind it. Serials are ordered by their bytes.
+/// A volume serial in EBCDIC. One that `read` gives is a serial with blanks behind it; one from a pack has
+/// the bytes that stand there. Serials are ordered by their bytes.
 #[derive(Clone, Copy, Debug, PartialEq, Eq, PartialOrd, Ord)]
 pub struct Serial {
     /// The six bytes, as the volume label has them (System Control Blocks, GC28-6628).
@@ -58,10 +61,11 @@ pub struct Serial {
 impl Dsn {
     /// The data set name of a text, as Utilities GC28-6586 has it: levels joined by periods.
     ///
-    /// A level begins with a capital letter, `@`, `#` or `$`, goes on with these, digits and `-`,
-    /// and has one to eight characters. `Empty` and `TooLong` (above 44 characters) are judged
-    /// first; else the first fault from the left is answered, and a ninth character of a level is
-    /// `BadLevel` before it is `BadChar`.
+    /// A level is one to eight capital letters, digits, `@`, `#`, `$` and `-`, and neither a digit nor
+    /// `-` can be its first. A text of no character is `Empty` and one of more than 44 `TooLong`,
+    /// whatever they are. Of other faults the leftmost is answered: `BadLevel` at the end of an empty
+    /// level and at the ninth character of one, even if that isn't allowed, and `BadChar` at any other
+    /// character that isn't.
     pub fn read(text: &str) -> Result<Dsn, NameErr>
         ensures { result ≡ dsn_of (chars text.now) }
     {
@@ -77,10 +81,9 @@ impl Dsn {
 impl Name8 {
     /// The name of a text of one level without `-`, as Utilities GC28-6586 has it.
     ///
-    /// It has one to eight characters, the first a capital letter, `@`, `#` or `$`, the others
-    /// digits too. It is judged as the level of a data set name: `Empty` comes first, `TooLong`
-    /// comes above 44 characters, 9 to 44 characters are `BadLevel(0)` unless one of the first eight
-    /// isn't allowed, and a period is `BadChar`.
+    /// It is one to eight capital letters, digits, `@`, `#` and `$`, and a digit can't be its first. It is
+    /// judged as a data set name of one level: a ninth character is `BadLevel(0)`, unless one before it
+    /// isn't allowed, and only a text of more than 44 is `TooLong`. A period is `BadChar`, as `-` is.
     pub fn read(text: &str) -> Result<Name8, NameErr>
         ensures { result ≡ name8_of (chars text.now) }
     {
@@ -266,7 +269,7 @@ fn encode<const N: usize>(text: &str) -> [u8; N]
     bytes
 }
 
-// The EBCDIC byte of a character, and a blank where it has none.
+// The EBCDIC byte of a character. Each character of a name has one; the blank for the others only fills in.
 fn byte_of(c: char) -> u8
     ensures { result ≡ byte_of c }
 {

@@ -39,7 +39,7 @@ fn whole_code_page(rt: HostRuntime) {
 }
 
 // Data set names that are refused, each with its error.
-const BAD_DSNS: [(&str, NameErr); 19] = [
+const BAD_DSNS: [(&str, NameErr); 33] = [
     ("", NameErr::Empty),
     (
         "A2345678.A2345678.A2345678.A2345678.A23456789",
@@ -65,6 +65,35 @@ const BAD_DSNS: [(&str, NameErr); 19] = [
     ("A B", NameErr::BadChar(1)),
     ("Aé.é", NameErr::BadChar(1)),
     ("A.?..", NameErr::BadChar(2)),
+    // A period that isn't a ninth character of the level, but its end.
+    ("A2345678.", NameErr::BadLevel(1)),
+    // The last level that can be empty, behind 44 characters.
+    (
+        "A.B.C.D.E.F.G.H.I.J.K.L.M.N.O.P.Q.R.S.T.U.V.",
+        NameErr::BadLevel(22),
+    ),
+    // The last character that can be bad.
+    (
+        "A2345678.A2345678.A2345678.A2345678.A234567?",
+        NameErr::BadChar(43),
+    ),
+    // 31 and 44 characters, in more bytes.
+    ("Aéééééééééééééééééééééééééééééé", NameErr::BadChar(1)),
+    (
+        "éééééééééééééééééééééééééééééééééééééééééééé",
+        NameErr::BadChar(0),
+    ),
+    // The neighbours of what is allowed.
+    ("A[", NameErr::BadChar(1)),
+    ("A/", NameErr::BadChar(1)),
+    ("A:", NameErr::BadChar(1)),
+    ("A?", NameErr::BadChar(1)),
+    ("A%", NameErr::BadChar(1)),
+    ("A,", NameErr::BadChar(1)),
+    ("Ab", NameErr::BadChar(1)),
+    // A hyphen can't be first, and a blank isn't dropped.
+    ("-", NameErr::BadChar(0)),
+    ("SYS1 ", NameErr::BadChar(4)),
 ];
 
 #[test]
@@ -80,6 +109,10 @@ fn bad_names(rt: HostRuntime) {
         ("A.B", NameErr::BadChar(1)),
         (".", NameErr::BadChar(0)),
         ("9A", NameErr::BadChar(0)),
+        ("A/", NameErr::BadChar(1)),
+        ("A23?56789", NameErr::BadChar(3)),
+        ("Aéééééééééééééééééééééééééééééé", NameErr::BadChar(1)),
+        ("MEMBER ", NameErr::BadChar(6)),
         (
             "A2345678901234567890123456789012345678901234",
             NameErr::BadLevel(0),
@@ -94,6 +127,11 @@ fn bad_names(rt: HostRuntime) {
     for (text, error) in [
         ("", NameErr::Empty),
         ("1234567", NameErr::TooLong),
+        ("?234567", NameErr::TooLong),
+        ("12345é", NameErr::BadChar(5)),
+        ("-A", NameErr::BadChar(0)),
+        ("A:", NameErr::BadChar(1)),
+        ("A[", NameErr::BadChar(1)),
         ("AB-1", NameErr::BadChar(2)),
         ("ab", NameErr::BadChar(0)),
         ("éA", NameErr::BadChar(0)),
@@ -110,13 +148,16 @@ fn good_names(rt: HostRuntime) -> Result<(), Fail> {
         "SYS1.LINKLIB",
         "A",
         "@#$A-1.$",
+        "A-",
+        "A-.Z0-9",
+        "A.B.C.D.E.F.G.H.I.J.K.L.M.N.O.P.Q.R.S.T.U.V",
         "A2345678.A2345678.A2345678.A2345678.A2345678",
     ] {
         let name = Dsn::read(text).ok().ok_or("a data set name")?;
         let shown = name.to_string(alloc)?;
         assert_eq!(rt; shown.as_str(), text);
     }
-    for text in ["IEFBR14", "A", "$@#45678"] {
+    for text in ["IEFBR14", "A", "Z0", "$@#45678"] {
         let name = Name8::read(text).ok().ok_or("a name")?;
         let shown = name.to_string(alloc)?;
         assert_eq!(rt; shown.as_str(), text);

@@ -1,5 +1,6 @@
 mod CallLemmas
 mod CardLemmas
+mod Cases
 mod CountLemmas
 mod HistoryLemmas
 mod RecordLemmas

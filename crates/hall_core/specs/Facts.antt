@@ -1,4 +1,4 @@
--- What a hall always tells, in this project's profile: its units, which hall it is, and its counts of faults.
+-- What a hall always tells, in this project's profile: its units, the references that lead to it, and how many faults it had.
 use Rattle.std.specs.Prelude.{◌≡◌, ℕ, ◌+◌, ◌-◌, ◌^◌, ◌≤◌, min, List, [], ◌∷◌, ◌++◌, length, map, Contains, Result, OnOk, OnErr, IfOk, IsErrOf, slice_index_or}
 use Rattle.hall_core.specs.declared.hall.HallErr.{HallErr}
 use Rattle.hall_core.specs.declared.hall.HallErr.TheVariants.{Failed, Memory}
@@ -35,6 +35,15 @@ pub record DeviceCall {T E : Type 0} (old new : Facts) (result : Result T E) : T
   pub later : old.dev_faults ≤ new.dev_faults
   pub done : OnOk result (new.dev_faults ≡ old.dev_faults)
   pub failed : OnErr result (Rose old.dev_faults new.dev_faults)
+
+-- Calls by which a fault of the device is reported or isn't: the device count rose where one is, and else stands still; the rest stays.
+pub record ReportedCall (reported : Type 0) (old new : Facts) : Type 0 where
+  pub units : new.units ≡ old.units
+  pub references : new.references ≡ old.references
+  pub prints : new.print_faults ≡ old.print_faults
+  pub later : old.dev_faults ≤ new.dev_faults
+  pub device : reported → Rose old.dev_faults new.dev_faults
+  pub others : ¬ reported → new.dev_faults ≡ old.dev_faults
 
 -- A call without an answer, which may note a fault of the device: the rest stays.
 pub record NotedCall (old new : Facts) : Type 0 where

@@ -2,7 +2,7 @@
 use Rattle.std.specs.Prelude.{◌≡◌, ◌⊎◌, ◌↔◌, ℕ, ◌+◌, ◌<◌, List, [], ◌∷◌, ◌++◌, length, take, drop, Option, Some, None, Result, OnOk, OnErr, IsErr, IsErrOf, if◌then◌else◌, unwrap_or}
 use Rattle.std.specs.Str.{bytes_eq}
 use Rattle.hall_core.specs.declared.hall.HallErr.{HallErr}
-use Rattle.hall_core.specs.declared.hall.HallErr.TheVariants.{Missing}
+use Rattle.hall_core.specs.declared.hall.HallErr.TheVariants.{Missing, Memory}
 use Rattle.hall_core.specs.Facts.{Attached, Facts, unit_of}
 use Rattle.hall_core.specs.Moments.{Meaning, LeftNow, IsDurable, LeavesSame, ElapsesExactly, Same}
 
@@ -41,11 +41,12 @@ AreWhole files units = (k : ℕ) → k < length units → (image : List ℕ) × 
 abbrev pub IsPrefixOf : List ℕ → List ℕ → Type 0
 IsPrefixOf xs ys = (rest : List ℕ) × (xs ++ rest ≡ ys)
 
--- An attachment changes nothing that is told; it is done only where the file is there, and reported missing only where it isn't.
+-- An attachment changes nothing that is told but the time; it is done only where the file is there, and reported missing only where it isn't. Where it wants memory no time goes by either.
 pub record Attaches (name : List ℕ) (old new : Meaning (List File)) (result : Result ℕ HallErr) : Type 0 where
   pub same : Same old new
   pub there : OnOk result ((image : List ℕ) × (file_of old.state name ≡ Some image))
   pub missing : IsErrOf result Missing → file_of old.state name ≡ None
+  pub memory : IsErrOf result Memory → new.clock ≡ old.clock
 
 -- a stop leaves what one left before, without this write or with it
 abbrev pub IsPending : List ℕ → ℕ → List ℕ → Meaning (List File) → Meaning (List File) → Type 0

@@ -56,7 +56,7 @@ kept (flag ∷ flags) [] = []
 kept (true ∷ flags) (w ∷ ws) = w ∷ kept flags ws
 kept (false ∷ flags) (w ∷ ws) = kept flags ws
 
--- a stop leaves these files of a disk: the stable ones, with any of the pending writes in their order
+-- a stop leaves these files of a disk: the stable ones, over which pending writes were made, whichever are kept, in their order
 abbrev pub MayLeave : Disk → List File → Type 0
 MayLeave d j = (flags : List Bool) × (j ≡ with_writes d.stable (kept flags d.pending))
 

@@ -35,7 +35,7 @@ disk_at hall moment = after_all (new_disk (first_files hall)) (take moment (even
 abbrev pub calls_of : MemHall → List Call
 calls_of hall = hall.calls.items
 
--- the numbers of the calls that are to fail
+-- at which numbers its calls fail
 abbrev pub failing_calls : MemHall → List ℕ
 failing_calls hall = hall.fails.items
 

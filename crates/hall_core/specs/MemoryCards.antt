@@ -6,7 +6,7 @@ use Rattle.hall_core.specs.declared.mem_cards.MemCards.{MemCards}
 abbrev pub bytes_left : MemCards → List ℕ
 bytes_left cards = drop cards.given cards.bytes.items
 
--- the numbers of the calls that are to fail
+-- at which numbers its calls fail
 abbrev pub failing_reads : MemCards → List ℕ
 failing_reads cards = cards.fails.items
 

@@ -1,4 +1,4 @@
--- What is known of a thing that a stop may catch at any moment, in this project's profile: a disk, or a layer above one.
+-- A disk, or a layer above one, that may be stopped at each moment: what is known of it, in this project's profile.
 use Rattle.std.specs.Prelude.{◌≡◌, ◌⊎◌, ◌↔◌, ℕ, ◌≤◌, List}
 
 -- Its state, and all that it printed; what a stop now may leave of the state; the time; and what a stop at some moment since a time may have left of both.
@@ -13,7 +13,7 @@ pub record Meaning (X : Type 0) : Type 1 where
 abbrev pub LeftNow : {X : Type 0} → Meaning X → X → List ℕ → Type 0
 LeftNow m x p = m.left x × (p ≡ m.printed)
 
--- a stop now leaves the state, and nothing else
+-- nothing but the state is left by a stop now
 abbrev pub IsDurable : {X : Type 0} → Meaning X → Type 0
 IsDurable {X} m = (x : X) → m.left x → x ≡ m.state
 
@@ -26,7 +26,7 @@ pub record ElapsesExactly {X : Type 0} (old new : Meaning X) (P : X → List ℕ
   pub later : old.clock ≤ new.clock
   pub since : (t : ℕ) (x : X) (p : List ℕ) → t ≤ old.clock → new.left_since t x p ↔ (old.left_since t x p ⊎ P x p)
 
--- Time goes on: what a stop since an earlier moment leaves was left before or has P, and what was left before stays.
+-- Time goes on: to what stops since an earlier moment left nothing comes but what has P, and none of it is lost.
 pub record Elapses {X : Type 0} (old new : Meaning X) (P : X → List ℕ → Type 0) : Type 0 where
   pub later : old.clock ≤ new.clock
   pub moments : (t : ℕ) (x : X) (p : List ℕ) → t ≤ old.clock → new.left_since t x p → old.left_since t x p ⊎ P x p

@@ -21,7 +21,7 @@ Leaves {X} m P = (x : X) → m.left x → P x m.printed
 abbrev pub IsBeforeOrAfter : {Y : Type 0} → Y → Y → List ℕ → Y → List ℕ → Type 0
 IsBeforeOrAfter before after text y p = ((y ≡ before) ⊎ (y ≡ after)) × (p ≡ text)
 
--- One step, which a stop leaves undone or done: at Ok the state is seen as `after`, and is durable.
+-- One step: a stop in it leaves what is seen as the state before or as `after`; once it is done that is `after`, durably.
 pub record StepTo {X Y T E : Type 0} (f : X → Y) (after : Y) (old new : Meaning X) (result : Result T E) : Type 0 where
   pub done : OnOk result ((f new.state ≡ after) × IsDurable new)
   pub printed : new.printed ≡ old.printed

@@ -22,10 +22,11 @@ pub trait Cards {
     ghost faults: { Self → ℕ };
 
     /// Puts the next bytes to the front of the buffer and gives their number, which is 0 exactly at
-    /// the end.
+    /// the end. It may be less than what fits, also before the end.
     ///
-    /// The count of faults rises where a fault comes, and only there. After a fault the buffer may hold
-    /// anything, and so may its bytes behind those that were given.
+    /// The count of faults rises where a fault comes, and only there, and what is to come is then as
+    /// before. After a fault the buffer may hold anything, and so may its bytes behind those that were
+    /// given.
     fn read(&mut self, buf: &mut [u8]) -> Result<usize, ReadFault>
         requires { 0 < length buf.old }
         ensures within { IfOk result (λ n. n ≤ length buf.old) }

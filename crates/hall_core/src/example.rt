@@ -20,7 +20,8 @@ pub struct Edit<'a> {
 /// Writes twice to a unit, the second time once the first is durable, and prints a line once both are.
 ///
 /// Whatever is seen of the files, a stop at any moment leaves them as before, with the first write or
-/// with both; and a byte of the line stands only with both.
+/// with both; and a byte of the line stands only with both. No other write may be pending. The error is
+/// `Failed`, and the count of device faults or that of print faults rose.
 pub fn write_twice_and_print<H: Hall>(
     hall: &mut H,
     unit: u8,

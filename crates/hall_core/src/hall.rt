@@ -9,14 +9,15 @@ ghost use Rattle.hall_core.specs.Files.{File, HasBytesAt, AreWhole, Attaches, Af
 pub enum HallErr {
     /// No file has the name.
     Missing,
-    /// The device, or the printer, failed. Its count of faults rose.
+    /// The device failed, or in a print the printer, and its count of faults rose.
     Failed,
-    /// Memory ran out, and nothing changed.
+    /// Memory ran out, and nothing changed. Only an attachment answers so.
     Memory,
 }
 
-/// Counts a fault of a device or a printer, unless the count stands at its type's end, and answers
-/// `Failed`, as a call that failed does.
+/// Counts a fault of a device or a printer, and answers `Failed`, as a call that failed does.
+///
+/// The count grows by one, and at 2^64 - 1 it stands still.
 pub fn fault(count: &mut u64) -> HallErr
     ensures error { result ≡ HallErr.Failed }
     ensures count { count.new ≡ min (count.old + 1) (2 ^ 64 - 1) }
@@ -26,7 +27,7 @@ pub fn fault(count: &mut u64) -> HallErr
     HallErr::Failed
 }
 
-/// Files that are attached as units, numbered from 0, and a place to print on.
+/// Files that are attached as units, numbered from 0 in their order, and a place to print on.
 ///
 /// Writes are pending until a sync is done. A stop leaves the files as of the last sync that was done,
 /// with any of the writes since then, in their order; each such write is whole or absent. Of a print
@@ -36,19 +37,20 @@ pub fn fault(count: &mut u64) -> HallErr
 /// A real device can't tell what it holds; clauses on content hold where `tells` is true. What
 /// `facts` tells is always known.
 pub trait Hall {
-    /// Whether the hall tells what it holds.
+    /// Whether its content is told.
     ghost tells: { Bool };
 
     /// What it holds, where it tells: the files as they are read, and what a stop leaves of them.
     ghost meaning: { Self → Meaning (List File) };
 
-    /// Its units, which hall it is, and its counts of faults.
+    /// Its units, the references that lead to it, and its counts of faults.
     ghost facts: { Self → Facts };
 
-    /// Attaches a file as the next unit.
+    /// Attaches a file as the next unit, and gives the number of the unit.
     ///
-    /// `Missing` comes only where no file has the name, `Failed` only where the count of device
-    /// faults rose, and `Memory` leaves all as it was.
+    /// A unit keeps the size that its file has now. Of the errors, `Missing` says that there is no
+    /// such file, and `Failed` that the count of device faults rose; after `Memory` all is as it was.
+    /// No error adds a unit.
     fn attach(&mut self, name: &str) -> Result<u8, HallErr>
         requires few { length (facts self.old).units < 255 }
         requires once { ¬ IsAttached (facts self.old).units name.now }
@@ -60,9 +62,9 @@ pub trait Hall {
         requires { unit < length (facts self.now).units }
         ensures { result ≡ (unit_of (facts self.now).units unit).size };
 
-    /// Fills the buffer with the unit's bytes from the offset `at` on.
+    /// Fills the buffer with the unit's bytes from the offset `at` on, which counts them from 0.
     ///
-    /// After an error the buffer may hold anything.
+    /// The error is `Failed`, and the count of device faults rose. The buffer may then hold anything.
     fn read(&mut self, unit: u8, at: u64, buf: &mut [u8]) -> Result<(), HallErr>
         requires attached { unit < length (facts self.old).units }
         requires inside { at + length buf.old ≤ (unit_of (facts self.old).units unit).size }
@@ -71,9 +73,10 @@ pub trait Hall {
         ensures call { DeviceCall (facts self.old) (facts self.new) result }
         ensures error { IfErr result (λ e. e ≡ HallErr.Failed) };
 
-    /// Writes the bytes over those of the unit, from the offset `at` on.
+    /// Writes the bytes over those of the unit, from the offset `at` on, which counts them from 0.
     ///
-    /// The write is pending until a sync is done. After an error it is pending too, or it was not begun.
+    /// The write is pending until a sync is done. The error is `Failed`, and the count of device faults
+    /// rose; the write is then pending too, or it was not begun.
     fn write(&mut self, unit: u8, at: u64, bytes: &[u8]) -> Result<(), HallErr>
         requires attached { unit < length (facts self.old).units }
         requires inside { at + length bytes.now ≤ (unit_of (facts self.old).units unit).size }
@@ -83,15 +86,15 @@ pub trait Hall {
 
     /// Makes the writes to all units durable.
     ///
-    /// After an error they are pending as before.
+    /// The error is `Failed`, and the count of device faults rose. The writes are then pending as before.
     fn sync(&mut self) -> Result<(), HallErr>
         ensures told { IsTrue tells → AfterSync (meaning self.old) (meaning self.new) result }
         ensures call { DeviceCall (facts self.old) (facts self.new) result }
         ensures error { IfErr result (λ e. e ≡ HallErr.Failed) };
 
-    /// Prints the bytes.
+    /// Prints the bytes, whatever they are.
     ///
-    /// After an error a prefix of them is printed.
+    /// The error is `Failed`, and the count of print faults rose. A prefix of the bytes is then printed.
     fn print(&mut self, bytes: &[u8]) -> Result<(), HallErr>
         ensures told { IsTrue tells → AfterPrint bytes.now (meaning self.old) (meaning self.new) result }
         ensures call { PrintCall (facts self.old) (facts self.new) result }
@@ -99,8 +102,9 @@ pub trait Hall {
 
     /// Notes that a track of a unit isn't as it was read before, or can't be as it is read.
     ///
-    /// A hall that tells what it holds never comes to that, and nothing changes; for any other it is
-    /// a fault of the device. The track is counted from 0 over the unit.
+    /// A hall that tells its content never comes to that, and nothing changes; for any other it is
+    /// a fault of the device, counted though nothing is answered. The track is counted from 0 over the
+    /// unit.
     fn differs(&mut self, unit: u8, track: u16)
         requires { unit < length (facts self.old).units }
         ensures rose { IsFalse tells → Rose (facts self.old).dev_faults (facts self.new).dev_faults }
@@ -115,7 +119,7 @@ pub trait Hall {
     /// What a stop leaves now, one since any earlier moment may have left.
     ghost counts_now: { (h : Self) (t : ℕ) (j : List File) → t ≤ (meaning h).clock → (meaning h).left j → (meaning h).left_since t j (meaning h).printed };
 
-    /// Since this moment there is no other.
+    /// What a stop leaves that comes no earlier than now, one leaves now.
     ghost only_now: { (h : Self) (j : List File) (p : List ℕ) → (meaning h).left_since (meaning h).clock j p → LeftNow (meaning h) j p };
 
     /// Each unit is a file, of the unit's size.

@@ -20,8 +20,8 @@ pub struct MemCards {
 impl MemCards {
     ghost use Rattle.hall_core.specs.MemoryCards.{bytes_left, failing_reads, number_of_reads, faults_counted};
 
-    /// A source that gives these bytes. `fails` are the numbers of the calls that are to fail, counted
-    /// from 0.
+    /// A source that gives these bytes. Its calls are numbered from 0, and those with a number in
+    /// `fails` fail.
     pub fn new(bytes: Vec<u8>, fails: Vec<u64>) -> MemCards
         ensures left { bytes_left result ≡ bytes.items }
         ensures failing { failing_reads result ≡ fails.items }

@@ -22,16 +22,16 @@ use step::Step;
 pub struct Left {
     /// The files, each a name and its bytes, in the order in which they were given.
     pub files: Vec<(String, Vec<u8>)>,
-    /// All bytes printed before the moment of the stop.
+    /// All bytes printed before the moment of the stop; of a print that begins then, none.
     pub printed: Vec<u8>,
 }
 
 /// A hall in memory, which tells what it holds and fails where it is told to.
 ///
-/// It keeps the record of its calls of `attach`, `read`, `write`, `sync` and `print`. Each uses one
-/// of the calls that there is room for, and of the bytes as many as the name that it attaches or the
-/// slice that it writes or prints has. A call for which there is too little room answers `Failed`,
-/// raises its count of faults and does nothing else. None takes memory, so none answers `Memory`.
+/// It keeps the record of its calls of `attach`, `read`, `write`, `sync` and `print`. Each uses up room
+/// for one call, and for the bytes that are attached as a name, written or printed. A call for which
+/// there is too little room answers `Failed`, raises its count of faults and does nothing else. None
+/// takes memory, so none answers `Memory`.
 ///
 /// A write that fails leaves what is read as it was, and is pending; a sync that fails leaves the
 /// pending writes; a print that fails prints nothing.
@@ -65,14 +65,15 @@ impl MemHall {
     ghost use Rattle.hall_core.specs.Facts.{unit_of};
     ghost use Rattle.hall_core.specs.Files.{File, file_of, written};
     ghost use Rattle.hall_core.specs.Held.{shapes_of, IsFirst};
-    ghost use Rattle.hall_core.specs.History.{Event, wrote, synced, printed, passed, Disk, new_disk, after_all, with_writes, kept, MayLeave, MayLeaveAt};
+    ghost use Rattle.hall_core.specs.History.{Event, wrote, synced, printed, passed, Disk, new_disk, after_all, with_writes, kept, MayLeaveAt};
+    ghost use Rattle.hall_core.specs.Moments.{LeftNow};
     ghost use Rattle.hall_core.specs.Replay.{event_of};
     ghost use Rattle.hall_core.specs.Memory.{first_files, events_of, meaning_of, facts_of, calls_of, failing_calls, number_of_calls, calls_left, bytes_left, LacksRoom, HasRoom, NextCallFails, KeepsRoom, KeepsSetup, KeepsAllButRoom, KeepsRecord, Records, disk_at};
 
     /// A hall that holds these files, each a name and its bytes, and has room for nothing.
     ///
-    /// Of files of one name the first counts. `fails` are the numbers of the calls that are to
-    /// fail: calls that find room are numbered from 0.
+    /// Of files of one name the first counts. The calls that find room are numbered from 0, and those
+    /// with a number in `fails` fail.
     pub fn new(alloc: Global, files: Vec<(String, Vec<u8>)>, fails: Vec<u64>) -> MemHall
         ensures first { first_files result ≡ files_of files.items }
         ensures events { events_of result ≡ [] }
@@ -101,7 +102,8 @@ impl MemHall {
 
     /// Makes room for so many further calls and bytes, beside the room that is left.
     ///
-    /// An error comes where memory runs out, also where the room would be above 2^64 - 1.
+    /// An error comes where memory runs out, also where the room would be above 2^64 - 1. The room is
+    /// then as it was.
     pub fn room(&mut self, calls: u64, bytes: u64) -> Result<(), AllocError>
         ensures calls { OnOk result (calls_left self.new ≡ calls_left self.old + calls) }
         ensures bytes { OnOk result (bytes_left self.new ≡ bytes_left self.old + bytes) }
@@ -146,17 +148,17 @@ impl MemHall {
         self.printed.as_slice()
     }
 
-    /// What a stop leaves at a moment, that is before the call of this number or at the beginning of
-    /// it, where the i-th flag says whether the i-th write that is pending then is kept.
+    /// What a stop leaves at a moment: before the call of this number, counted from 0. The i-th flag
+    /// says whether the i-th write that is pending then is kept; a write without a flag isn't.
     ///
-    /// A missing flag counts as false. A moment past the last call is now. Fails only for want of
+    /// From the number behind the last call on it is what a stop leaves now. Fails only for want of
     /// memory.
     pub fn left_at(&self, moment: u64, keep: &[bool]) -> Result<Left, AllocError>
         ensures files { IfOk result (λ left. files_of left.files.items ≡ with_writes (disk_at self.now moment).stable (kept keep.now (disk_at self.now moment).pending)) }
         ensures text { IfOk result (λ left. left.printed.items ≡ (disk_at self.now moment).text) }
         ensures left { IfOk result (λ left. MayLeaveAt (first_files self.now) (events_of self.now) moment (files_of left.files.items) left.printed.items) }
         ensures since { IfOk result (λ left. moment ≤ (meaning_of self.now).clock → (meaning_of self.now).left_since moment (files_of left.files.items) left.printed.items) }
-        ensures every { IfOk result (λ left. (j : List File) → MayLeave (disk_at self.now moment) j → (flags : List Bool) × (j ≡ with_writes (disk_at self.now moment).stable (kept flags (disk_at self.now moment).pending)) × (keep.now ≡ flags → files_of left.files.items ≡ j)) }
+        ensures now { (meaning_of self.now).clock ≤ moment → IfOk result (λ left. LeftNow (meaning_of self.now) (files_of left.files.items) left.printed.items) }
     {
         let end = self.steps.len().min(moment as usize);
         let steps = &self.steps[..end];

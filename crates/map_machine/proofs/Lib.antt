@@ -1,3 +1,4 @@
 mod OrderLemmas
+mod PastCases
 mod PastLemmas
 mod RenameLemmas

@@ -13,7 +13,7 @@ pub record Moment : Type 0 where
   pub shelf : Shelf
   pub text : List ℕ
 
--- the moment before something was done, by the one behind it: the data set has its old name again, and what was printed is gone
+-- The moment before something was done, by the one behind it: the data set has its old name again, and what was printed is gone. A rename back that is refused would leave the shelf; of a rename that was done it never is.
 abbrev pub before : Done → Moment → Moment
 before (Renamed v old new) m = record m { shelf = behind m.shelf (step m.shelf (Rename v new old)) }
 before (Printed n) m = record m { text = take n m.text }

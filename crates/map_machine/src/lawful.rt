@@ -8,8 +8,8 @@ use ckd_image::Geometry;
 use vol_model::{DataSet, Run, Shelf, Volume};
 
 /// Whether a shelf is lawful, as a machine needs it: at most 256 volumes, each with as many cylinders as its device
-/// may have, at most 65,535 slots, and data sets in the order of their names, none of which stands twice, with at most
-/// 16 extents on the pack and a secondary quantity below 2^24.
+/// may have, at most 65,535 slots, and data sets whose names ascend, with at most 16 extents on the pack and a secondary
+/// quantity below 2^24.
 pub fn is_lawful(shelf: &Shelf) -> bool
     ensures { IsTrue result ↔ IsLawful shelf.now }
 {
@@ -36,7 +36,7 @@ fn is_lawful_volume(volume: &Volume) -> bool
         && are_lawful_sets(geometry, sets)
 }
 
-// Whether data sets stand in the order of their names, none of which stands twice.
+// Whether the names of data sets ascend, each before those behind it.
 fn are_ascending(sets: &[DataSet]) -> bool
     ensures { IsTrue result ↔ IsAscending sets.now }
 {

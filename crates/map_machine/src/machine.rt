@@ -10,6 +10,9 @@ use std::alloc::Global;
 use vol_model::{MachErr, Machine, Op, Shelf};
 
 /// A machine over a shelf in memory.
+///
+/// It promises nothing besides what every machine does. It knows what it held between its calls and nothing else, so a
+/// stop in a print leaves all of the bytes or none, where another machine may leave a part of them.
 #[derive(Debug, Drop)]
 pub struct MapMachine {
     alloc: Global,
@@ -20,17 +23,18 @@ pub struct MapMachine {
 }
 
 impl MapMachine {
-    ghost use Rattle.std.specs.Prelude.{[], IsErrOf};
+    ghost use Rattle.std.specs.Prelude.{[], true, IsErrOf};
     ghost use Rattle.vol_model.specs.Calls.{Applies};
     ghost use Rattle.vol_model.specs.declared.requests.Op.TheVariants.{Rename};
     ghost use Rattle.map_machine.specs.Held.{meaning_of, status_of};
 
-    /// A machine that holds this lawful shelf and printed nothing.
+    /// A machine that holds this lawful shelf and printed nothing; it is sound, and no fault is counted.
     pub fn new(alloc: Global, shelf: Shelf) -> MapMachine
         requires lawful { IsLawful shelf }
         ensures shelf { (meaning_of result).state ≡ shelf }
         ensures printed { (meaning_of result).printed ≡ [] }
         ensures clock { (meaning_of result).clock ≡ 0 }
+        ensures status { status_of result ≡ record { is_sound = true; base = []; dev_faults = 0; print_faults = 0 } }
     {
         MapMachine {
             alloc,
@@ -91,6 +95,8 @@ impl Machine for MapMachine {
     ghost status = { λ machine. status_of machine };
 
     ghost promise = { λ machine t files. Unit {0} };
+
+    ghost stays = { λ machine t files. Unit {0} };
 
     ghost lawful = { λ machine told sound. machine.lawful };
 

@@ -10,9 +10,10 @@ use vol_model::{
     Attr, Body, DataSet, DataSets, MachErr, Machine, Op, Refusal, Run, Runs, Shelf, Volume, Volumes,
 };
 
-// What a volume of a 2311 pack is made with.
+// What a volume is made with.
 #[derive(Clone, Copy)]
 struct Plan {
+    device: DiskType,
     cylinders: u16,
     slots: u32,
     extent: Run,
@@ -22,6 +23,7 @@ struct Plan {
 
 // A lawful one.
 const PLAN: Plan = Plan {
+    device: DiskType::D2311,
     cylinders: 203,
     slots: 65_535,
     extent: Run {
@@ -32,8 +34,8 @@ const PLAN: Plan = Plan {
     secondary: 0xFF_FFFF,
 };
 
-// A data set of this name.
-fn data_set(alloc: Global, plan: &Plan, name: &str) -> Result<DataSet, Fail> {
+// A data set of this name, on tracks from this one on.
+fn data_set(alloc: Global, plan: &Plan, name: &str, start: u16) -> Result<DataSet, Fail> {
     let attr = Attr {
         volseq: 1,
         created: [74, 0, 123],
@@ -52,7 +54,10 @@ fn data_set(alloc: Global, plan: &Plan, name: &str) -> Result<DataSet, Fail> {
     };
     let mut extents = Runs::new(alloc);
     for _ in 0..plan.extents {
-        extents.push(plan.extent)?;
+        extents.push(Run {
+            start,
+            len: plan.extent.len,
+        })?;
     }
     Ok(DataSet {
         name: Dsn::read(name)?,
@@ -62,16 +67,16 @@ fn data_set(alloc: Global, plan: &Plan, name: &str) -> Result<DataSet, Fail> {
     })
 }
 
-// A volume with data sets of these names.
-fn volume(alloc: Global, plan: &Plan, names: &[&str]) -> Result<Volume, Fail> {
+// A volume with data sets of these names, on tracks from these on.
+fn volume(alloc: Global, plan: &Plan, names: &[(&str, u16)]) -> Result<Volume, Fail> {
     let mut sets = DataSets::new(alloc);
-    for name in names {
-        sets.push(data_set(alloc, plan, name)?)?;
+    for (name, start) in names {
+        sets.push(data_set(alloc, plan, name, *start)?)?;
     }
     Ok(Volume {
         serial: Serial { bytes: [0xF1; 6] },
         geometry: Geometry {
-            device: DiskType::D2311,
+            device: plan.device,
             cylinders: plan.cylinders,
             track_size: 4096,
         },
@@ -88,9 +93,15 @@ fn shelf(alloc: Global) -> Result<Shelf, Fail> {
     volumes.push(volume(
         alloc,
         &PLAN,
-        &["#PAY", "A.ONE", "B.TWO", "C.THREE", "SYSCTLG"],
+        &[
+            ("#PAY", 10),
+            ("A.ONE", 20),
+            ("B.TWO", 30),
+            ("C.THREE", 40),
+            ("SYSCTLG", 50),
+        ],
     )?)?;
-    volumes.push(volume(alloc, &PLAN, &["A.ONE"])?)?;
+    volumes.push(volume(alloc, &PLAN, &[("A.ONE", 60)])?)?;
     Ok(Shelf { volumes })
 }
 
@@ -103,37 +114,116 @@ fn rename(v: u8, old: &str, new: &str) -> Result<Op, Fail> {
     })
 }
 
-// Whether the data sets of a volume have these names, in this order.
-fn has_names(shelf: &Shelf, v: usize, names: &str) -> Result<bool, Fail> {
+// Whether the data sets of a volume have these names, in this order, and each the tracks from this one on.
+fn has_sets(shelf: &Shelf, v: usize, wanted: &[(&str, u16)]) -> Result<bool, Fail> {
     let Some(volume) = shelf.volumes.get(v) else {
         return Ok(false);
     };
     let sets = volume.sets.as_slice();
-    for (set, name) in sets.iter().zip(names.split(' ')) {
-        if set.name != Dsn::read(name)? {
+    for (set, (name, start)) in sets.iter().zip(wanted) {
+        let first = set.extents.get(0).map(|run| run.start);
+        if set.name != Dsn::read(name)? || first != Some(*start) {
             return Ok(false);
         }
     }
-    Ok(sets.len() == names.split(' ').count())
+    Ok(sets.len() == wanted.len())
 }
+
+// Renames, and the data sets behind each: a set goes to the front, to a place between two others, and to the end.
+const RENAMES: [(&str, &str, [(&str, u16); 5]); 5] = [
+    (
+        "A.ONE",
+        "K.ONE",
+        [
+            ("#PAY", 10),
+            ("B.TWO", 30),
+            ("C.THREE", 40),
+            ("K.ONE", 20),
+            ("SYSCTLG", 50),
+        ],
+    ),
+    (
+        "C.THREE",
+        "$C",
+        [
+            ("$C", 40),
+            ("#PAY", 10),
+            ("B.TWO", 30),
+            ("K.ONE", 20),
+            ("SYSCTLG", 50),
+        ],
+    ),
+    (
+        "K.ONE",
+        "B.TW1",
+        [
+            ("$C", 40),
+            ("#PAY", 10),
+            ("B.TWO", 30),
+            ("B.TW1", 20),
+            ("SYSCTLG", 50),
+        ],
+    ),
+    (
+        "#PAY",
+        "SYSCTLG1",
+        [
+            ("$C", 40),
+            ("B.TWO", 30),
+            ("B.TW1", 20),
+            ("SYSCTLG", 50),
+            ("SYSCTLG1", 10),
+        ],
+    ),
+    (
+        "$C",
+        "A.ONE",
+        [
+            ("A.ONE", 40),
+            ("B.TWO", 30),
+            ("B.TW1", 20),
+            ("SYSCTLG", 50),
+            ("SYSCTLG1", 10),
+        ],
+    ),
+];
 
 #[test]
 fn a_renamed_set_stands_in_the_order_of_the_names(rt: HostRuntime) -> Result<(), Fail> {
     let first = shelf(rt.alloc())?;
     assert!(rt; is_lawful(&first));
     let mut machine = MapMachine::new(rt.alloc(), first);
-    let renames = [
-        ("A.ONE", "K.ONE", "#PAY B.TWO C.THREE K.ONE SYSCTLG"),
-        ("C.THREE", "$C", "$C #PAY B.TWO K.ONE SYSCTLG"),
-        ("K.ONE", "B.TW1", "$C #PAY B.TWO B.TW1 SYSCTLG"),
-        ("#PAY", "SYSCTLG1", "$C B.TWO B.TW1 SYSCTLG SYSCTLG1"),
-        ("$C", "A.ONE", "A.ONE B.TWO B.TW1 SYSCTLG SYSCTLG1"),
-    ];
-    for (old, new, names) in renames {
+    for (old, new, sets) in RENAMES {
         machine.apply(&rename(0, old, new)?)?;
-        assert!(rt; has_names(machine.shelf(), 0, names)?, "{old} as {new}");
-        assert!(rt; has_names(machine.shelf(), 1, "A.ONE")?, "{old} as {new}");
+        assert!(rt; has_sets(machine.shelf(), 0, &sets)?, "{old} as {new}");
+        let other = has_sets(machine.shelf(), 1, &[("A.ONE", 60)])?;
+        assert!(rt; other, "{old} as {new}");
     }
+    Ok(())
+}
+
+#[test]
+fn a_rename_on_the_second_volume_leaves_the_first(rt: HostRuntime) -> Result<(), Fail> {
+    let first = shelf(rt.alloc())?;
+    assert!(rt; is_lawful(&first));
+    let mut machine = MapMachine::new(rt.alloc(), first);
+    machine.apply(&rename(1, "A.ONE", "D.ONE")?)?;
+    assert!(rt; has_sets(machine.shelf(), 1, &[("D.ONE", 60)])?);
+    let before = shelf(rt.alloc())?;
+    assert_eq!(rt; machine.shelf().volumes.get(0), before.volumes.get(0));
+    Ok(())
+}
+
+#[test]
+fn a_shelf_without_volumes_has_none_to_rename_on(rt: HostRuntime) -> Result<(), Fail> {
+    let first = Shelf {
+        volumes: Volumes::new(rt.alloc()),
+    };
+    assert!(rt; is_lawful(&first));
+    let mut machine = MapMachine::new(rt.alloc(), first);
+    let answer = machine.apply(&rename(0, "A.ONE", "D.ONE")?);
+    assert_eq!(rt; answer, Err(MachErr::Refused(Refusal::NoVolume)));
+    assert_eq!(rt; machine.shelf().volumes.len(), 0);
     Ok(())
 }
 
@@ -194,12 +284,14 @@ fn what_is_printed_stands_behind_what_was(rt: HostRuntime) -> Result<(), Fail> {
 // A shelf of one volume with data sets of two names.
 fn planned(alloc: Global, plan: &Plan, names: [&str; 2]) -> Result<Shelf, Fail> {
     let mut volumes = Volumes::new(alloc);
-    volumes.push(volume(alloc, plan, &names)?)?;
+    let start = plan.extent.start;
+    let sets = names.map(|name| (name, start));
+    volumes.push(volume(alloc, plan, &sets)?)?;
     Ok(Shelf { volumes })
 }
 
-// Plans of a volume, and whether that is lawful.
-const PLANS: [(Plan, bool); 11] = [
+// Plans of a volume, and whether that is lawful: the bounds of the 2311, then tracks and cylinders of other devices.
+const PLANS: [(Plan, bool); 17] = [
     (PLAN, true),
     (
         Plan {
@@ -275,6 +367,60 @@ const PLANS: [(Plan, bool); 11] = [
         Plan {
             cylinders: 0,
             extents: 0,
+            ..PLAN
+        },
+        false,
+    ),
+    (
+        Plan {
+            device: DiskType::D3330,
+            cylinders: 1,
+            extent: Run { start: 0, len: 19 },
+            ..PLAN
+        },
+        true,
+    ),
+    (
+        Plan {
+            device: DiskType::D3330,
+            cylinders: 1,
+            extent: Run { start: 0, len: 20 },
+            ..PLAN
+        },
+        false,
+    ),
+    (
+        Plan {
+            device: DiskType::D3330,
+            cylinders: 411,
+            extent: Run { start: 0, len: 19 },
+            ..PLAN
+        },
+        true,
+    ),
+    (
+        Plan {
+            device: DiskType::D3330,
+            cylinders: 412,
+            extent: Run { start: 0, len: 19 },
+            ..PLAN
+        },
+        false,
+    ),
+    (
+        Plan {
+            device: DiskType::D2314,
+            cylinders: 1,
+            extent: Run { start: 0, len: 20 },
+            ..PLAN
+        },
+        true,
+    ),
+    (
+        Plan {
+            device: DiskType::D2314,
+            cylinders: 1,
+            extent: Run { start: 0, len: 21 },
             ..PLAN
         },
         false,

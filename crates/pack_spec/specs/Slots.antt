@@ -89,13 +89,13 @@ is_field_type extent = (type_of extent == 0x00) || is_counted_type extent
 unfoldable pub has_types : List VtocSlot → List ℕ → Bool
 has_types slots set = list_all is_field_type (first_extents set) && list_all is_counted_type (counted_extents slots set)
 
--- an extent lies in the image and doesn't end before it begins
+-- the first track of an extent and its last are tracks of the image, in this order or the same
 abbrev pub is_extent : Geometry → List ℕ → Bool
 is_extent g extent =
     is_inside g (lower_of extent) && is_inside g (upper_of extent)
     && nat_le (track_of_address g (lower_of extent)) (track_of_address g (upper_of extent))
 
--- a format 1 counts at most 16 extents, and each of these is one
+-- a format 1 counts at most 16 extents, each a run of tracks of the image
 unfoldable pub has_extents : Geometry → List VtocSlot → List ℕ → Bool
 has_extents g slots set = nat_le (extent_count set) 16 && list_all (is_extent g) (counted_extents slots set)
 

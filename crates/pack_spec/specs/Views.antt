@@ -6,7 +6,7 @@ use Rattle.pack_spec.specs.declared.MountErr.{MountErr}
 use Rattle.pack_spec.specs.declared.MountErr.TheVariants.{Memory}
 use Rattle.pack_spec.specs.declared.track.Record as held
 use Rattle.pack_spec.specs.declared.address.Address as places
-use Rattle.pack_spec.specs.declared.vtoc.Run as extents
+use Rattle.vol_model.specs.declared.contents.Run as tracks
 use Rattle.pack_spec.specs.Vtoc.{Run}
 use Rattle.pack_spec.specs.Label.{Address, heads_of}
 
@@ -19,7 +19,7 @@ abbrev pub address_of : places.Address → Address
 address_of a = record { cylinder = a.cylinder; head = a.head }
 
 -- tracks in a row
-abbrev pub run_of : extents.Run → Run
+abbrev pub run_of : tracks.Run → Run
 run_of x = record { start = x.start; len = x.len }
 
 -- the tracks of an image

@@ -17,7 +17,7 @@ pub struct Address {
 }
 
 impl Address {
-    /// The address that stands at an offset of some bytes.
+    /// The address that stands at an offset of some bytes: CC and then HH, two bytes each, the high one first.
     pub fn read(bytes: &[u8], at: usize) -> Address
         requires { at + 4 ≤ length bytes.now }
         ensures { address_of result ≡ address_at at bytes.now }
@@ -35,7 +35,7 @@ impl Address {
         self.cylinder < geometry.cylinders && self.head < geometry.device.heads()
     }
 
-    /// The number of the track, counted from 0 over the volume.
+    /// The number of the track, which is one of the image, counted from 0 over the volume.
     pub fn track(self, geometry: Geometry) -> u16
         requires whole { (len : ℕ) × HasGeometry len geometry }
         requires inside { IsTrue (is_inside geometry (address_of self)) }

@@ -6,10 +6,11 @@ ghost use Rattle.pack_spec.specs.Faults.{track_faults};
 ghost use Rattle.pack_spec.specs.Views.{run_of, tracks_of};
 
 use crate::MountErr;
-use crate::slots::{Slot, slots_on};
-use crate::vtoc::Run;
+use crate::layout::Slot;
+use crate::slots::slots_on;
 use ckd_image::Geometry;
 use std::alloc::{AllocError, Global};
+use vol_model::Run;
 
 /// A slot of a VTOC.
 #[derive(Clone, Copy, Debug, PartialEq, Eq)]
@@ -63,7 +64,8 @@ fn push_addressed(
     Ok(())
 }
 
-/// The address CCHHR of a record on a track, which is counted from 0 over the volume.
+/// The address CCHHR of a record, R 1 to 255, on a track, which is counted from 0 over the volume: CC and HH,
+/// two bytes each with the high one first, and R.
 pub fn record_address(geometry: Geometry, track: u16, number: u8) -> [u8; 5]
     ensures { result ≡ record_address geometry track number }
 {

@@ -4,11 +4,8 @@ ghost use Rattle.dscb_codec.specs.Layout.{format_byte, refusal_of};
 ghost use Rattle.pack_spec.specs.Formats.{slot_fault};
 
 use crate::MountErr;
-use crate::slots::Slot;
+use crate::layout::{FORMAT_4, Slot};
 use dscb_codec::{Dscb, DscbErr, decode};
-
-// The format byte of format 4.
-const FORMAT_4: u8 = 0xF4;
 
 // The rule that a slot behind slot 0 breaks.
 pub(crate) fn slot_fault(number: u32, slot: &Slot) -> Option<MountErr>

@@ -5,26 +5,10 @@ ghost use Rattle.ckd_image.specs.Header.{HasGeometry};
 ghost use Rattle.pack_spec.specs.Label.{is_keyed, label_in, label_of, are_label};
 ghost use Rattle.pack_spec.specs.Views.{record_of};
 
+use crate::layout::{IPL1, IPL1_LEN, IPL2, IPL2_LEN, LABEL_LEN, LABEL_RECORD, VOL1};
 use crate::track::{Record, records_on};
 use ckd_image::Geometry;
 use std::alloc::{AllocError, Global};
-
-// The keys of the first three records of a pack, in EBCDIC; the label's data begins with its key.
-const IPL1: &[u8] = &[0xC9, 0xD7, 0xD3, 0xF1];
-
-const IPL2: &[u8] = &[0xC9, 0xD7, 0xD3, 0xF2];
-
-const VOL1: &[u8] = &[0xE5, 0xD6, 0xD3, 0xF1];
-
-// The bytes of data of these records.
-const IPL1_LEN: usize = 24;
-
-const IPL2_LEN: usize = 144;
-
-const LABEL_LEN: usize = 80;
-
-// The record of the label, behind the two of the initial program.
-const LABEL_RECORD: u8 = 3;
 
 // The data of the volume label, which stands on cylinder 0, head 0.
 #[tactic(auto, unfolding(crate::specs::Label::label_of))]

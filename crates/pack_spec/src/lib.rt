@@ -13,6 +13,7 @@ mod address;
 mod addressed;
 mod dscbs;
 mod label;
+pub mod layout;
 mod rules;
 mod set_extents;
 mod sets;
@@ -22,6 +23,7 @@ mod vtoc;
 
 use crate::addressed::slots_of_vtoc;
 use crate::label::label;
+use crate::layout::SERIAL_AT;
 use crate::rules::first_fault;
 use crate::sets::data_sets_in_order;
 use crate::vtoc::vtoc;
@@ -30,29 +32,29 @@ pub use addressed::{VtocSlot, record_address};
 use ckd_image::{Geometry, Header, ImageErr};
 use ebcdic_names::Serial;
 use std::alloc::{AllocError, Global};
-use vol_model::{DataSets, Run, Volume};
-
-// Where the serial stands in the data of the label.
-const SERIAL_AT: usize = 4;
+use vol_model::{DataSets, Volume};
+pub use vtoc::vtoc_extent;
 
 /// Why a pack isn't mounted: the first rule that it breaks, in this order, or what kept it from being read.
 ///
-/// The rules from `BadDscb` to `BadChain` are judged slot by slot: all of them on one slot before any on the next.
+/// The first slot of the VTOC's first track is read before `BadVtoc` is judged by it, so `VtocTrack` comes
+/// first where it can't be. The rules from `BadDscb` to `BadChain` are judged slot by slot: all of them on
+/// one slot before any on the next. Label and DSCBs follow System Control Blocks, GC28-6628; the rules and
+/// their order are this project's profile.
 #[derive(Clone, Copy, Debug, PartialEq, Eq)]
 pub enum MountErr {
     /// No file has the name.
     NoFile,
     /// The header or the length of the image, which has the CKD layout of Hercules.
     Image(ImageErr),
-    /// No volume label on cylinder 0, head 0: the track breaks the grammar up to its third record, or
-    /// its first three records haven't the keys IPL1, IPL2 and VOL1 and 24, 144 and 80 bytes of data,
-    /// or the data of the third doesn't begin with VOL1 (System Control Blocks GC28-6628).
+    /// Track 0 has no volume label: up to R3 it is to follow the grammar, with the keys IPL1, IPL2 and VOL1
+    /// and 24, 144 and 80 bytes of data, the last of which begin with VOL1.
     NoLabel,
-    /// The VTOC's address in the label lies outside the image; or its extent in the first slot there
-    /// lies outside the image, ends before it begins, begins elsewhere, or has more than 257 tracks.
+    /// The label's address of the VTOC is none of the image; or the extent in the first slot there isn't
+    /// one of 1 to 257 tracks of the image that has its first track at that address.
     BadVtoc,
     /// A track of the VTOC breaks the grammar, or has a record that is no slot: a slot has a key of 44
-    /// bytes and 96 bytes of data.
+    /// bytes and 96 bytes of data. Or the track at the label's address has no record to be its first slot.
     VtocTrack {
         /// The track, counted from 0 over the volume; the lowest where there are several.
         track: u16,
@@ -77,29 +79,29 @@ pub enum MountErr {
         /// Its format byte.
         byte: u8,
     },
-    /// An extent of a data set has a type that isn't supported: one of the three in its format 1 has
-    /// another than X'00', X'01' and X'81', or one that is counted another than X'01' and X'81'.
+    /// A data set has an extent of a type that isn't supported. Each that it counts is of type X'01' or
+    /// X'81', and so is each other field for one in its format 1, or empty, X'00'.
     UnsupportedExtent {
         /// The slot of its format 1, counted from 0 over the VTOC, below 65,535.
         slot: u32,
     },
-    /// A data set counts more than 16 extents, or one that is counted leaves the image or ends before it
-    /// begins.
+    /// A data set counts 17 extents or more, or one that isn't a run of tracks of the image: both its first
+    /// and its last track are, and they may be the same, but not in the wrong order.
     BadExtent {
         /// The slot of its format 1, counted from 0 over the VTOC, below 65,535.
         slot: u32,
     },
-    /// A data set counts more than three extents, and its pointer leads to no format 3, or to one to
-    /// which a data set of a lower slot leads.
+    /// A data set whose format 1 doesn't hold all its extents has no format 3 of its own: where two lead to
+    /// one, it is that of the lower slot.
     BadChain {
         /// The slot of its format 1, counted from 0 over the VTOC, below 65,535.
         slot: u32,
     },
-    /// The name of a data set stands in an earlier slot.
+    /// Two data sets have one name.
     DuplicateName {
-        /// The lowest slot, counted from 0 over the VTOC, whose name does.
+        /// The lowest slot, counted from 0 over the VTOC, that has the name of one before it.
         slot: u32,
-        /// The lowest earlier slot of that name.
+        /// The lowest slot of that name.
         other: u32,
     },
     /// Memory ran out, which says nothing of the image.
@@ -119,9 +121,11 @@ impl From<AllocError> for MountErr {
 /// The volume that an image which lies in memory stands for, without the content of its data sets: the
 /// body of each is `Other`, and there is no catalog.
 ///
-/// The error is the first rule of mounting that the image breaks, or `Memory`. This is written for its
-/// plainness, and to compare faster readers with: it holds all records of a track and all slots of the
-/// VTOC in memory, and goes over all slots for each of them.
+/// The error is the first rule of mounting that the image breaks, or `Memory`. Label and DSCBs follow System
+/// Control Blocks, GC28-6628, the rules and their order this project's profile.
+///
+/// This is written for its plainness, and to compare faster readers with: it holds all records of a track
+/// and all slots of the VTOC in memory, and goes over all slots for each of them.
 #[tactic(auto, unfolding(crate::specs::Volume::volume_of))]
 pub fn volume(alloc: Global, image: &[u8]) -> Result<Volume, MountErr>
     ensures { Answers (λ volume. volume) (volume_of image.now) result }
@@ -147,10 +151,7 @@ fn volume_on(alloc: Global, image: &[u8], geometry: Geometry) -> Result<Volume, 
     Ok(Volume {
         serial,
         geometry,
-        vtoc: Run {
-            start: vtoc.start,
-            len: vtoc.len,
-        },
+        vtoc,
         slots: slots.len() as u32,
         sets: DataSets::from_vec(sets),
         catalog: None,

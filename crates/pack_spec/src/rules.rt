@@ -7,19 +7,10 @@ ghost use Rattle.pack_spec.specs.Faults.{dscb_fault, dscb_faults, extents_fault,
 use crate::MountErr;
 use crate::addressed::VtocSlot;
 use crate::dscbs::slot_fault;
+use crate::layout::{FORMAT_4, FORMAT_5, FORMAT_AT, KEY_LEN, Slot};
 use crate::set_extents::{counted_extents, has_chain, has_extents, has_types, is_data_set};
-use crate::slots::Slot;
 use ckd_image::Geometry;
 use std::alloc::{AllocError, Global};
-
-const FORMAT_AT: usize = 44;
-
-const FORMAT_4: u8 = 0xF4;
-
-const FORMAT_5: u8 = 0xF5;
-
-// The bytes of a data set's name, the key of its format 1.
-const NAME_LEN: usize = 44;
 
 // The first rule that the slots break.
 pub(crate) fn first_fault(
@@ -172,7 +163,7 @@ fn name_fault(slots: &[VtocSlot], number: usize, slot: &VtocSlot) -> Option<Moun
     if !is_data_set(&slot.bytes) {
         return None;
     }
-    let other = bearer(&slots[..number], &slot.bytes[..NAME_LEN])?;
+    let other = bearer(&slots[..number], &slot.bytes[..KEY_LEN])?;
     Some(MountErr::DuplicateName {
         slot: number as u32,
         other: other as u32,
@@ -187,9 +178,9 @@ fn bearer(slots: &[VtocSlot], name: &[u8]) -> Option<usize>
     slots.iter().position(|slot| is_named(name, slot))
 }
 
-// Whether a slot is the format 1 of a data set of this name.
+// Whether a slot is the format 1 of a data set of this name, its key.
 fn is_named(name: &[u8], slot: &VtocSlot) -> bool
     ensures { result ≡ is_named name.now slot.now }
 {
-    is_data_set(&slot.bytes) && &slot.bytes[..NAME_LEN] == name
+    is_data_set(&slot.bytes) && &slot.bytes[..KEY_LEN] == name
 }

@@ -10,16 +10,12 @@ ghost use Rattle.pack_spec.specs.Slots.{counted_extents, extent_at, extent_count
 
 use crate::address::Address;
 use crate::addressed::VtocSlot;
-use crate::slots::Slot;
+use crate::layout::{
+    CYLINDER_EXTENT, DATA_EXTENT, Extent, FORMAT_1, FORMAT_3, FORMAT_AT, LOWER_AT, MOST_EXTENTS,
+    NO_EXTENT, OWN_EXTENTS, Slot, TYPE_AT, UPPER_AT,
+};
 use ckd_image::Geometry;
 use std::alloc::{AllocError, Global};
-
-// The format byte, and those of formats 1 and 3.
-const FORMAT_AT: usize = 44;
-
-const FORMAT_1: u8 = 0xF1;
-
-const FORMAT_3: u8 = 0xF3;
 
 // Where a format 1 has the number of its extents and the pointer to its format 3.
 const COUNT_AT: usize = 59;
@@ -27,28 +23,6 @@ const COUNT_AT: usize = 59;
 const POINTER_AT: usize = 135;
 
 const POINTER_END: usize = 140;
-
-// The extents that a format 1 holds, and the most of a data set.
-const FIRST: u8 = 3;
-
-const MOST: u8 = 16;
-
-// Where an extent has its type and the addresses of its first and its last track.
-const TYPE_AT: usize = 0;
-
-const LOWER_AT: usize = 2;
-
-const UPPER_AT: usize = 6;
-
-// The types of an extent: none, data, and data on cylinder boundaries.
-const NO_EXTENT: u8 = 0x00;
-
-const DATA: u8 = 0x01;
-
-const CYLINDERS: u8 = 0x81;
-
-// An extent as a DSCB has it: type, sequence, and the addresses CCHH of its first track and its last.
-pub(crate) type Extent = [u8; 10];
 
 // Whether a slot is the format 1 of a data set.
 pub(crate) fn is_data_set(slot: &Slot) -> bool
@@ -75,7 +49,7 @@ pub(crate) fn counted_extents(
     Ok(extents)
 }
 
-// Whether each extent in a format 1, and each that it counts, has a type that is read.
+// Whether the types of all extents in a format 1, and of all that it counts, are ones that are read.
 pub(crate) fn has_types(set: &Slot, counted: &[Extent]) -> bool
     ensures { result ≡ (list_all is_field_type (first_extents set.now) && list_all is_counted_type counted.now) }
 {
@@ -96,15 +70,15 @@ fn are_counted(extents: &[Extent]) -> bool
     extents.iter().all(is_counted_type)
 }
 
-// Whether a format 1 counts at most 16 extents, and each of these is one.
+// Whether a format 1 counts at most 16 extents, each a run of tracks of the image.
 pub(crate) fn has_extents(geometry: Geometry, set: &Slot, counted: &[Extent]) -> bool
     requires { (len : ℕ) × HasGeometry len geometry }
     ensures { result ≡ (nat_le (extent_count set.now) 16 && list_all (is_extent geometry) counted.now) }
 {
-    set[COUNT_AT] <= MOST && are_extents(geometry, counted)
+    set[COUNT_AT] <= MOST_EXTENTS && are_extents(geometry, counted)
 }
 
-// Whether each of these lies in the image and doesn't end before it begins.
+// Whether each of these is a run of tracks of the image.
 fn are_extents(geometry: Geometry, extents: &[Extent]) -> bool
     requires { (len : ℕ) × HasGeometry len geometry }
     ensures { result ≡ list_all (is_extent geometry) extents.now }
@@ -112,7 +86,7 @@ fn are_extents(geometry: Geometry, extents: &[Extent]) -> bool
     extents.iter().all(|extent| is_extent(geometry, extent))
 }
 
-// Whether a format 1 whose pointer counts leads to a format 3, to which no data set in a lower slot leads.
+// Whether a format 1 has a format 3 of its own, where it needs one.
 #[tactic(auto, unfolding(crate::specs::Slots::has_chain))]
 pub(crate) fn has_chain(slots: &[VtocSlot], lower: &[VtocSlot], set: &Slot) -> bool
     ensures { result ≡ has_chain slots.now lower.now set.now }
@@ -120,7 +94,7 @@ pub(crate) fn has_chain(slots: &[VtocSlot], lower: &[VtocSlot], set: &Slot) -> b
     !is_chained(set) || format_3_of(slots, set).is_some() && !is_shared(lower, set)
 }
 
-// Whether an extent lies in the image and doesn't end before it begins.
+// Whether an extent is a run of tracks of the image.
 fn is_extent(geometry: Geometry, extent: &Extent) -> bool
     requires { (len : ℕ) × HasGeometry len geometry }
     ensures { result ≡ is_extent geometry extent.now }
@@ -136,7 +110,7 @@ fn is_extent(geometry: Geometry, extent: &Extent) -> bool
 fn is_counted_type(extent: &Extent) -> bool
     ensures { result ≡ is_counted_type extent.now }
 {
-    extent[TYPE_AT] == DATA || extent[TYPE_AT] == CYLINDERS
+    extent[TYPE_AT] == DATA_EXTENT || extent[TYPE_AT] == CYLINDER_EXTENT
 }
 
 // Whether a field for an extent has one, or none.
@@ -150,7 +124,7 @@ fn is_field_type(extent: &Extent) -> bool
 fn is_chained(set: &Slot) -> bool
     ensures { result ≡ is_chained set.now }
 {
-    set[COUNT_AT] > FIRST
+    set[COUNT_AT] > OWN_EXTENTS
 }
 
 // The format 3 to which the pointer of a format 1 leads, where that counts.

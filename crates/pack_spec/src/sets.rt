@@ -9,17 +9,12 @@ ghost use Rattle.vol_model.specs.Order.{in_order};
 
 use crate::address::{Address, halfword_at};
 use crate::addressed::VtocSlot;
-use crate::set_extents::{Extent, counted_extents, is_data_set};
-use crate::slots::Slot;
+use crate::layout::{Extent, LOWER_AT, Slot, UPPER_AT};
+use crate::set_extents::{counted_extents, is_data_set};
 use ckd_image::Geometry;
 use ebcdic_names::Dsn;
 use std::alloc::{AllocError, Global};
 use vol_model::{Attr, Body, DataSet, Run, Runs};
-
-// Where an extent has the addresses of its first and its last track.
-const LOWER_AT: usize = 2;
-
-const UPPER_AT: usize = 6;
 
 // Where a format 1 has the flags of the space request, and the quantity behind them.
 const SPACE_FLAGS_AT: usize = 94;

@@ -5,19 +5,10 @@ ghost use Rattle.ckd_image.specs.Header.{HasGeometry};
 ghost use Rattle.pack_spec.specs.Vtoc.{is_slot, slot_bytes, slots_in, slots_on};
 ghost use Rattle.pack_spec.specs.Views.{record_of, tracks_of};
 
+use crate::layout::{DATA_LEN, KEY_LEN, SLOT_LEN, Slot};
 use crate::track::{Record, records_on};
 use ckd_image::Geometry;
 use std::alloc::{AllocError, Global};
-
-// The bytes of a slot: its key, and its data.
-const KEY_LEN: usize = 44;
-
-const DATA_LEN: usize = 96;
-
-const SLOT_LEN: usize = 140;
-
-// The key and the data of a slot.
-pub(crate) type Slot = [u8; SLOT_LEN];
 
 // The slots on a track; nothing where it breaks the grammar, or has a record that is no slot.
 #[tactic(auto, unfolding(crate::specs::Vtoc::slots_on))]

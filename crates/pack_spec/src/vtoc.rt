@@ -1,37 +1,25 @@
 //! The extent of the VTOC.
-ghost use Rattle.std.specs.Prelude.{◌≡◌, ℕ, ◌≤◌, ◌<◌, ◌+◌, length, Some, IsTrue, IfOk, option_and_then};
+ghost use Rattle.std.specs.Prelude.{◌≡◌, ℕ, ◌≤◌, ◌<◌, ◌+◌, length, Some, Ok, Err, IfOk, IfSome, IfNone, option_and_then};
 ghost use Rattle.ckd_image.specs.Header.{HasGeometry};
-ghost use Rattle.pack_spec.specs.Label.{is_inside, records_on};
+ghost use Rattle.pack_spec.specs.Label.{records_on, track_of_address};
 ghost use Rattle.pack_spec.specs.Vtoc.{first_slot, vtoc_by, vtoc_of};
 ghost use Rattle.pack_spec.specs.Views.{Answers, address_of, run_of, tracks_of};
 
 use crate::MountErr;
 use crate::address::Address;
 use crate::label::label;
-use crate::slots::{Slot, slot_of};
+use crate::layout::{LOWER_AT, Slot, UPPER_AT, VTOC_ADDRESS_AT};
+use crate::slots::slot_of;
 use crate::track::records_on;
 use ckd_image::Geometry;
 use std::alloc::{AllocError, Global};
+use vol_model::Run;
 
-// Where the VTOC's address stands in the data of the label.
-const VTOC_ADDRESS_AT: usize = 11;
-
-// Where the lower and the upper address of the VTOC's extent stand in its first slot.
-const LOWER_AT: usize = 107;
-
-const UPPER_AT: usize = 111;
+// Where the extent of the VTOC stands in its first slot.
+const EXTENT_AT: usize = 105;
 
 // The most tracks of a VTOC.
 const MOST_TRACKS: u16 = 257;
-
-// Tracks in a row.
-#[derive(Clone, Copy)]
-pub(crate) struct Run {
-    // The first, counted from 0 over the volume.
-    pub start: u16,
-    // How many.
-    pub len: u16,
-}
 
 // The extent of the VTOC to which the label leads.
 #[tactic(auto, unfolding(crate::specs::Vtoc::vtoc_of, crate::specs::Vtoc::vtoc_at))]
@@ -50,7 +38,10 @@ pub(crate) fn vtoc(alloc: Global, image: &[u8], geometry: Geometry) -> Result<Ru
     }
     let track = at.track(geometry);
     match first_slot(alloc, image, geometry, track)? {
-        Some(slot) => extent_in(geometry, at, &slot),
+        Some(slot) => match vtoc_extent(geometry, at, &slot) {
+            Some(vtoc) => Ok(vtoc),
+            None => Err(MountErr::BadVtoc),
+        },
         None => Err(MountErr::VtocTrack { track }),
     }
 }
@@ -75,24 +66,29 @@ fn first_slot(
     }
 }
 
-// The extent of the VTOC in its first slot, which must begin at the address of the label.
-fn extent_in(geometry: Geometry, at: Address, slot: &Slot) -> Result<Run, MountErr>
+/// The extent of the VTOC in its first slot, where that is one of 1 to 257 tracks of the image that has its
+/// first track at the address in the label.
+///
+/// Neither its type and its sequence nor the format of the slot is judged.
+pub fn vtoc_extent(geometry: Geometry, at: Address, slot: &Slot) -> Option<Run>
     requires { (len : ℕ) × HasGeometry len geometry }
-    ensures answer { Answers run_of (vtoc_by geometry (address_of at) (Some slot.now)) result }
-    ensures inside { IfOk result (λ vtoc. vtoc.start + vtoc.len ≤ tracks_of geometry) }
-    ensures few { IfOk result (λ vtoc. vtoc.len ≤ 257) }
+    ensures good { IfSome result (λ vtoc. vtoc_by geometry (address_of at) (Some slot.now) ≡ Ok (run_of vtoc)) }
+    ensures bad { IfNone result (vtoc_by geometry (address_of at) (Some slot.now) ≡ Err MountErr.BadVtoc) }
+    ensures begins { IfSome result (λ vtoc. vtoc.start ≡ track_of_address geometry (address_of at)) }
+    ensures inside { IfSome result (λ vtoc. vtoc.start + vtoc.len ≤ tracks_of geometry) }
+    ensures few { IfSome result (λ vtoc. (1 ≤ vtoc.len) × (vtoc.len ≤ 257)) }
 {
-    let lower = Address::read(slot, LOWER_AT);
-    let upper = Address::read(slot, UPPER_AT);
+    let lower = Address::read(slot, EXTENT_AT + LOWER_AT);
+    let upper = Address::read(slot, EXTENT_AT + UPPER_AT);
     if !lower.is_inside(geometry) || !upper.is_inside(geometry) || lower != at {
-        return Err(MountErr::BadVtoc);
+        return None;
     }
     let start = lower.track(geometry);
     let last = upper.track(geometry);
     if last < start || last - start >= MOST_TRACKS {
-        return Err(MountErr::BadVtoc);
+        return None;
     }
-    Ok(Run {
+    Some(Run {
         start,
         len: last - start + 1,
     })

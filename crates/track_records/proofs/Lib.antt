@@ -1,3 +1,4 @@
+mod Cases
 pub mod ImageLemmas
 mod PlaceLemmas
 pub mod PatchLemmas

@@ -1,8 +1,8 @@
--- What reads and writes of tracks leave of a hall.
-use Rattle.std.specs.Prelude.{◌≡◌, ℕ, ◌≤◌, ◌<◌, List, length, Result, IsErrOf}
+-- What reads and writes of tracks leave of a hall, in this project's profile.
+use Rattle.std.specs.Prelude.{ℕ, ◌<◌, List, length, Result, IsErrOf}
 use Rattle.ckd_image.specs.declared.header.Geometry.{Geometry}
 use Rattle.ckd_image.specs.Header.{HasGeometry}
-use Rattle.hall_core.specs.Facts.{Facts, Attached, Rose, unit_of}
+use Rattle.hall_core.specs.Facts.{Facts, Attached, ReportedCall, unit_of}
 use Rattle.pack_spec.specs.Views.{tracks_of}
 use Rattle.track_records.specs.declared.error.TrackErr.{TrackErr}
 use Rattle.track_records.specs.declared.error.TrackErr.TheVariants.{Device}
@@ -13,11 +13,6 @@ pub record HasTrack (units : List Attached) (unit : ℕ) (g : Geometry) (track :
   pub whole : HasGeometry (unit_of units unit).size g
   pub inside : track < tracks_of g
 
--- A read of a track: units and prints stay, and the device count rose where a fault of the device is reported, and else stands still.
-pub record TrackCall {T : Type 0} (old new : Facts) (result : Result T TrackErr) : Type 0 where
-  pub units : new.units ≡ old.units
-  pub references : new.references ≡ old.references
-  pub prints : new.print_faults ≡ old.print_faults
-  pub later : old.dev_faults ≤ new.dev_faults
-  pub device : IsErrOf result Device → Rose old.dev_faults new.dev_faults
-  pub others : ¬ IsErrOf result Device → new.dev_faults ≡ old.dev_faults
+-- a read of a track, which answers a fault of the device as one
+abbrev pub TrackCall : {T : Type 0} → Facts → Facts → Result T TrackErr → Type 0
+TrackCall old new result = ReportedCall (IsErrOf result Device) old new

@@ -1,4 +1,4 @@
--- What a read of a track that breaks the grammar answers.
+-- What a read of a track that breaks the grammar of a Hercules image answers.
 use Rattle.std.specs.Prelude.{◌≡◌, ℕ, ◌/◌, ◌%◌, List, Option, None}
 use Rattle.ckd_image.specs.declared.header.Geometry.{Geometry}
 use Rattle.ckd_image.specs.Reading.{records_of}

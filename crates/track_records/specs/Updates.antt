@@ -1,4 +1,4 @@
--- Records of a track, and one of them with another key and other data of the same lengths.
+-- Records of a track, and one of them with another key and other data of the same lengths, in this project's profile.
 use Rattle.std.specs.Prelude.{◌≡◌, ℕ, ◌+◌, List, [], ◌∷◌, length, drop, true}
 use Rattle.std.proofs.Common.{zero, suc}
 use Rattle.ckd_image.specs.Track.{Record}
@@ -26,7 +26,7 @@ HasLengths [] k key_length data_length = ⊥
 HasLengths (x ∷ xs) zero key_length data_length = (key_length ≡ length x.key) × (data_length ≡ length x.data)
 HasLengths (x ∷ xs) (suc k) key_length data_length = HasLengths xs k key_length data_length
 
--- these records stand one after another from the front on, the first of them as Rr
+-- for lemmas: these records stand one after another from the front on, the first of them as Rr
 abbrev pub StandFrom : ℕ → List ℕ → List Record → Type 0
 StandFrom r bytes [] = Unit {0}
 StandFrom r bytes (x ∷ xs) = (is_record_at r bytes ≡ true) × ((x ≡ front_record bytes) × StandFrom (suc r) (drop (record_length bytes) bytes) xs)

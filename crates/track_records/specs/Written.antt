@@ -1,4 +1,4 @@
--- What a write of one record does to an image.
+-- What a write of one record does to an image, in this project's profile.
 use Rattle.std.specs.Prelude.{◌≡◌, ◌≢◌, ℕ, ◌+◌, ◌*◌, List, ◌++◌, length, take, Option, Some}
 use Rattle.std.specs.Option.{option_map}
 use Rattle.hall_core.specs.Files.{patched}
@@ -14,7 +14,7 @@ place_of b k = 512 + b.track * b.geometry.track_size + (21 + offset_of b.records
 abbrev pub StandsOn : List ℕ → Buffer → Type 0
 StandsOn image b = (upto : Option ℕ) × (records_on image b.geometry upto b.track ≡ Some b.records)
 
--- the buffer of which the k-th record has this key and these data
+-- for lemmas: the buffer of which the k-th record has this key and these data
 abbrev pub with_record : Buffer → ℕ → List ℕ → List ℕ → Buffer
 with_record b k key content = record b { records = with_parts k key content b.records }
 

@@ -23,8 +23,8 @@ const MOST_RECORDS: usize = 255;
 
 /// The records of one track, as they were read or written last.
 ///
-/// A buffer is made for the tracks of one pack and takes all of its memory then. Records are counted
-/// by their R, from 1.
+/// A buffer is made for the tracks of packs of one geometry and takes all of its memory then. Records
+/// are counted by their R, from 1 to 255.
 #[derive(Debug, Drop)]
 pub struct TrackBuf {
     geometry: Geometry,
@@ -46,7 +46,7 @@ impl Model for TrackBuf {
 }
 
 impl TrackBuf {
-    /// An empty buffer for the tracks of a pack of this geometry. Fails only for want of memory.
+    /// A buffer without records for the tracks of a pack of this geometry. Fails only for want of memory.
     pub fn new(alloc: Global, geometry: &Geometry) -> Result<TrackBuf, AllocError>
         ensures { IfOk result (λ b. b ≡ record { geometry = geometry.now; unit = 0; track = 0; records = [] }) }
     {
@@ -84,7 +84,7 @@ impl TrackBuf {
         self.parts(r).key
     }
 
-    /// The data of Rr.
+    /// The data of Rr, at most 65,535 bytes.
     pub fn data(&self, r: u8) -> &[u8]
         requires first { 1 ≤ r }
         requires last { r ≤ length self.now.records }
@@ -134,8 +134,12 @@ impl TrackBuf {
 /// Reads the records behind R0 of a track into the buffer, up to the record R = `upto` or to the end
 /// marker, and gives their number.
 ///
-/// The track is counted from 0 over the unit. It is read in one read. After an error the buffer holds
-/// no record.
+/// The track is counted from 0 over the unit. It is read in one read, and follows the grammar of
+/// `track_of` in `ckd_image`, that of a Hercules image.
+///
+/// `BadCount` names the byte at which the track breaks that grammar, before R = `upto` is whole or
+/// before the end marker; so it does where the record that is asked for isn't there. `Device` comes only
+/// where the read failed and the count of device faults rose. After an error the buffer holds no record.
 pub fn read_records<H: Hall>(
     hall: &mut H,
     unit: u8,
@@ -190,8 +194,9 @@ fn fill<H: Hall>(
 
 /// Writes this key and these data over those of Rr, which have the same lengths, in one write.
 ///
-/// The write is pending until a sync is done. After an error it is pending too, or it was not begun.
-/// The buffer then holds the new key and data, whatever the answer is.
+/// The write is pending until a sync is done. The error comes only where the count of device faults
+/// rose; the write is then pending too, or it was not begun. The buffer holds the new key and data
+/// whatever the answer is, so that after an error its track is to be read again.
 pub fn update<H: Hall>(
     hall: &mut H,
     buf: &mut TrackBuf,

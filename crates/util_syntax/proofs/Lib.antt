@@ -1,4 +1,5 @@
 mod Blanks
+mod Cases
 mod Grammar
 mod NameChars
 mod Parts

@@ -55,7 +55,7 @@ rename_of_operands (set ∷ volume ∷ name ∷ []) =
     rename_if (name_behind (codes " RENAME DSNAME=") set) (volume_serial volume) (name_behind (codes "NEWNAME=") name)
 rename_of_operands _ = None
 
--- the statement on a card of at most 80 columns
+-- the statement on a card of at most 80 columns, of which 72 to 80 are read as the others
 unfoldable pub rename_of : List ℕ → Option Rename
 rename_of card = if nat_lt 80 (length card) then None else rename_of_operands (operands_of (text_of card))
 

@@ -14,8 +14,10 @@ const ZEROS: [u8; 5] = [b'0'; 5];
 /// The line that answers a statement: the number of its card, its operation, the data set that it names, and `OK` or
 /// the words of the refusal, with a line feed behind them.
 ///
-/// The number has five digits, with zeros in front, and more only where it needs them. The name is in ASCII, without the
-/// blanks behind it. All parts are parted by one blank, as this project's profile has it.
+/// The card counts from 1. Its number has five digits, with zeros in front, and more only where it needs them. The
+/// operation is a word in ASCII, without blanks. The name is put in ASCII, without the blanks behind it, and the words
+/// of a refusal have no numbers. All parts are parted by one blank, as this project's profile has it. The one error is
+/// want of memory.
 #[tactic(auto, unfolding(crate::specs::Lines::result_line))]
 pub fn result_line(
     alloc: Global,

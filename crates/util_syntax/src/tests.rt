@@ -15,10 +15,10 @@ struct Case {
 
 const GOOD: [Case; 6] = [
     Case {
-        card: b" RENAME DSNAME=A.B,VOL=2314=WORK01,NEWNAME=A.C",
-        old: "A.B",
-        serial: "WORK01",
-        new: "A.C",
+        card: b" RENAME DSNAME=J.K,VOL=2314=PACK07,NEWNAME=J.M",
+        old: "J.K",
+        serial: "PACK07",
+        new: "J.M",
     },
     Case {
         card: b" RENAME DSNAME=SYS1.MACLIB,VOL=2311=1,NEWNAME=@#$A-1.$",
@@ -73,18 +73,18 @@ fn good_cards(rt: HostRuntime) -> Result<(), Fail> {
 #[test]
 fn names_in_ebcdic_and_blanks_behind_the_statement(rt: HostRuntime) {
     let mut old = [0x40; 44];
-    old[..3].copy_from_slice(&[0xC1, 0x4B, 0xC2]);
+    old[..3].copy_from_slice(&[0xD1, 0x4B, 0xD2]);
     let mut new = [0x40; 44];
-    new[..3].copy_from_slice(&[0xC1, 0x4B, 0xC3]);
+    new[..3].copy_from_slice(&[0xD1, 0x4B, 0xD4]);
     let statement = Rename {
         old: Dsn { bytes: old },
         serial: Serial {
-            bytes: [0xE6, 0xD6, 0xD9, 0xD2, 0xF0, 0xF1],
+            bytes: [0xD7, 0xC1, 0xC3, 0xD2, 0xF0, 0xF7],
         },
         new: Dsn { bytes: new },
     };
     let mut columns = [b' '; 81];
-    columns[..46].copy_from_slice(b" RENAME DSNAME=A.B,VOL=2314=WORK01,NEWNAME=A.C");
+    columns[..46].copy_from_slice(b" RENAME DSNAME=J.K,VOL=2314=PACK07,NEWNAME=J.M");
     for length in 46..81 {
         assert_eq!(rt;
             rename_of(&columns[..length]),
@@ -98,64 +98,63 @@ fn names_in_ebcdic_and_blanks_behind_the_statement(rt: HostRuntime) {
 
 // Cards that are refused, each with what is wrong.
 #[rattlefmt::skip]
-const REFUSED: [(&str, &[u8]); 57] = [
+const REFUSED: [(&str, &[u8]); 56] = [
     ("empty", b""),
     ("a blank alone", b" "),
-    ("no blank first", b"RENAME DSNAME=A.B,VOL=2314=WORK01,NEWNAME=A.C"),
-    ("two blanks first", b"  RENAME DSNAME=A.B,VOL=2314=WORK01,NEWNAME=A.C"),
-    ("a name in column 1", b"NAME RENAME DSNAME=A.B,VOL=2314=WORK01,NEWNAME=A.C"),
-    ("two blanks behind the operation", b" RENAME  DSNAME=A.B,VOL=2314=WORK01,NEWNAME=A.C"),
-    ("no blank behind the operation", b" RENAMEDSNAME=A.B,VOL=2314=WORK01,NEWNAME=A.C"),
-    ("another operation", b" SCRATCH DSNAME=A.B,VOL=2314=WORK01,NEWNAME=A.C"),
+    ("no blank first", b"RENAME DSNAME=J.K,VOL=2314=PACK07,NEWNAME=J.M"),
+    ("two blanks first", b"  RENAME DSNAME=J.K,VOL=2314=PACK07,NEWNAME=J.M"),
+    ("a name in column 1", b"NAME RENAME DSNAME=J.K,VOL=2314=PACK07,NEWNAME=J.M"),
+    ("two blanks behind the operation", b" RENAME  DSNAME=J.K,VOL=2314=PACK07,NEWNAME=J.M"),
+    ("no blank behind the operation", b" RENAMEDSNAME=J.K,VOL=2314=PACK07,NEWNAME=J.M"),
+    ("another operation", b" SCRATCH DSNAME=J.K,VOL=2314=PACK07,NEWNAME=J.M"),
     ("the operation alone", b" RENAME"),
-    ("the operation in lower case", b" rename DSNAME=A.B,VOL=2314=WORK01,NEWNAME=A.C"),
-    ("a keyword in lower case", b" RENAME DSNAME=A.B,vol=2314=WORK01,NEWNAME=A.C"),
-    ("a name in lower case", b" RENAME DSNAME=A.b,VOL=2314=WORK01,NEWNAME=A.C"),
-    ("a new name in lower case", b" RENAME DSNAME=A.B,VOL=2314=WORK01,NEWNAME=a.C"),
-    ("a serial in lower case", b" RENAME DSNAME=A.B,VOL=2314=work01,NEWNAME=A.C"),
-    ("the volume first", b" RENAME VOL=2314=WORK01,DSNAME=A.B,NEWNAME=A.C"),
-    ("the volume last", b" RENAME DSNAME=A.B,NEWNAME=A.C,VOL=2314=WORK01"),
-    ("the new name first", b" RENAME NEWNAME=A.C,VOL=2314=WORK01,DSNAME=A.B"),
-    ("no data set", b" RENAME VOL=2314=WORK01,NEWNAME=A.C"),
-    ("no volume", b" RENAME DSNAME=A.B,NEWNAME=A.C"),
-    ("no new name", b" RENAME DSNAME=A.B,VOL=2314=WORK01"),
-    ("an operand twice", b" RENAME DSNAME=A.B,VOL=2314=WORK01,NEWNAME=A.C,NEWNAME=A.C"),
-    ("a member", b" RENAME DSNAME=A.B,VOL=2314=WORK01,NEWNAME=A,MEMBER=B"),
-    ("a device that isn't read", b" RENAME DSNAME=A.B,VOL=3350=WORK01,NEWNAME=A.C"),
-    ("a device that isn't known", b" RENAME DSNAME=A.B,VOL=DISK=WORK01,NEWNAME=A.C"),
-    ("a device cut off", b" RENAME DSNAME=A.B,VOL=231=WORK01,NEWNAME=A.C"),
-    ("a device with a digit more", b" RENAME DSNAME=A.B,VOL=23141=WORK01,NEWNAME=A.C"),
-    ("an empty device", b" RENAME DSNAME=A.B,VOL==WORK01,NEWNAME=A.C"),
-    ("no device", b" RENAME DSNAME=A.B,VOL=WORK01,NEWNAME=A.C"),
-    ("a device alone", b" RENAME DSNAME=A.B,VOL=2314,NEWNAME=A.C"),
-    ("an empty serial", b" RENAME DSNAME=A.B,VOL=2314=,NEWNAME=A.C"),
-    ("a serial of seven characters", b" RENAME DSNAME=A.B,VOL=2314=WORK012,NEWNAME=A.C"),
-    ("a hyphen in a serial", b" RENAME DSNAME=A.B,VOL=2314=WORK-1,NEWNAME=A.C"),
-    ("an equals sign in a serial", b" RENAME DSNAME=A.B,VOL=2314=WORK=1,NEWNAME=A.C"),
-    ("an empty name", b" RENAME DSNAME=,VOL=2314=WORK01,NEWNAME=A.C"),
-    ("an empty new name", b" RENAME DSNAME=A.B,VOL=2314=WORK01,NEWNAME="),
-    ("a name of 45 characters", b" RENAME DSNAME=O,VOL=2314=1,NEWNAME=A2345678.B2345678.C2345678.D2345678.E23.E2345"),
-    ("a level of nine characters", b" RENAME DSNAME=A23456789,VOL=2314=WORK01,NEWNAME=A.C"),
-    ("an equals sign in a name", b" RENAME DSNAME=A=B,VOL=2314=WORK01,NEWNAME=A.C"),
-    ("an equals sign in a new name", b" RENAME DSNAME=A.B,VOL=2314=WORK01,NEWNAME=A=C"),
-    ("a name in parentheses", b" RENAME DSNAME=A.B,VOL=2314=WORK01,NEWNAME=(A.C)"),
-    ("text behind blanks", b" RENAME DSNAME=A.B,VOL=2314=WORK01,NEWNAME=A.C  TEXT"),
-    ("a comma at the end", b" RENAME DSNAME=A.B,VOL=2314=WORK01,NEWNAME=A.C,"),
-    ("a comma behind blanks", b" RENAME DSNAME=A.B,VOL=2314=WORK01,NEWNAME=A.C ,"),
-    ("two commas", b" RENAME DSNAME=A.B,,VOL=2314=WORK01,NEWNAME=A.C"),
-    ("a comma for an equals sign", b" RENAME DSNAME=A.B,VOL=2314,WORK01,NEWNAME=A.C"),
-    ("a blank behind a comma", b" RENAME DSNAME=A.B, VOL=2314=WORK01,NEWNAME=A.C"),
-    ("a blank before a comma", b" RENAME DSNAME=A.B ,VOL=2314=WORK01,NEWNAME=A.C"),
-    ("a blank in a name", b" RENAME DSNAME=A B,VOL=2314=WORK01,NEWNAME=A.C"),
-    ("a tab first", b"\tRENAME DSNAME=A.B,VOL=2314=WORK01,NEWNAME=A.C"),
-    ("a tab behind the operation", b" RENAME\tDSNAME=A.B,VOL=2314=WORK01,NEWNAME=A.C"),
-    ("a tab at the end", b" RENAME DSNAME=A.B,VOL=2314=WORK01,NEWNAME=A.C\t"),
-    ("a carriage return at the end", b" RENAME DSNAME=A.B,VOL=2314=WORK01,NEWNAME=A.C\r"),
-    ("a line feed at the end", b" RENAME DSNAME=A.B,VOL=2314=WORK01,NEWNAME=A.C\n"),
-    ("a zero byte at the end", b" RENAME DSNAME=A.B,VOL=2314=WORK01,NEWNAME=A.C\0"),
-    ("a byte outside ASCII", b" RENAME DSNAME=A.B,VOL=2314=WORK01,NEWNAME=A.C\xC3"),
-    ("a letter outside ASCII in a name", b" RENAME DSNAME=A.B,VOL=2314=WORK01,NEWNAME=A.\xC3\x89"),
-    ("a blank outside ASCII at the end", b" RENAME DSNAME=A.B,VOL=2314=WORK01,NEWNAME=A.C\xC2\xA0"),
+    ("the operation in lower case", b" rename DSNAME=J.K,VOL=2314=PACK07,NEWNAME=J.M"),
+    ("a keyword in lower case", b" RENAME DSNAME=J.K,vol=2314=PACK07,NEWNAME=J.M"),
+    ("a name in lower case", b" RENAME DSNAME=J.k,VOL=2314=PACK07,NEWNAME=J.M"),
+    ("a new name in lower case", b" RENAME DSNAME=J.K,VOL=2314=PACK07,NEWNAME=j.M"),
+    ("a serial in lower case", b" RENAME DSNAME=J.K,VOL=2314=pack07,NEWNAME=J.M"),
+    ("the volume first", b" RENAME VOL=2314=PACK07,DSNAME=J.K,NEWNAME=J.M"),
+    ("the volume last", b" RENAME DSNAME=J.K,NEWNAME=J.M,VOL=2314=PACK07"),
+    ("the new name first", b" RENAME NEWNAME=J.M,VOL=2314=PACK07,DSNAME=J.K"),
+    ("no data set", b" RENAME VOL=2314=PACK07,NEWNAME=J.M"),
+    ("no volume", b" RENAME DSNAME=J.K,NEWNAME=J.M"),
+    ("no new name", b" RENAME DSNAME=J.K,VOL=2314=PACK07"),
+    ("an operand twice", b" RENAME DSNAME=J.K,VOL=2314=PACK07,NEWNAME=J.M,NEWNAME=J.M"),
+    ("a member", b" RENAME DSNAME=J.K,VOL=2314=PACK07,NEWNAME=J,MEMBER=K"),
+    ("a device that isn't read", b" RENAME DSNAME=J.K,VOL=3350=PACK07,NEWNAME=J.M"),
+    ("a device that isn't known", b" RENAME DSNAME=J.K,VOL=DISK=PACK07,NEWNAME=J.M"),
+    ("a device cut off", b" RENAME DSNAME=J.K,VOL=231=PACK07,NEWNAME=J.M"),
+    ("a device with a digit more", b" RENAME DSNAME=J.K,VOL=23141=PACK07,NEWNAME=J.M"),
+    ("an empty device", b" RENAME DSNAME=J.K,VOL==PACK07,NEWNAME=J.M"),
+    ("no device", b" RENAME DSNAME=J.K,VOL=PACK07,NEWNAME=J.M"),
+    ("a device alone", b" RENAME DSNAME=J.K,VOL=2314,NEWNAME=J.M"),
+    ("an empty serial", b" RENAME DSNAME=J.K,VOL=2314=,NEWNAME=J.M"),
+    ("a serial of seven characters", b" RENAME DSNAME=J.K,VOL=2314=PACK072,NEWNAME=J.M"),
+    ("a hyphen in a serial", b" RENAME DSNAME=J.K,VOL=2314=PACK-7,NEWNAME=J.M"),
+    ("an equals sign in a serial", b" RENAME DSNAME=J.K,VOL=2314=PACK=7,NEWNAME=J.M"),
+    ("an empty name", b" RENAME DSNAME=,VOL=2314=PACK07,NEWNAME=J.M"),
+    ("an empty new name", b" RENAME DSNAME=J.K,VOL=2314=PACK07,NEWNAME="),
+    ("a level of nine characters", b" RENAME DSNAME=A23456789,VOL=2314=PACK07,NEWNAME=J.M"),
+    ("an equals sign in a name", b" RENAME DSNAME=J=K,VOL=2314=PACK07,NEWNAME=J.M"),
+    ("an equals sign in a new name", b" RENAME DSNAME=J.K,VOL=2314=PACK07,NEWNAME=J=M"),
+    ("a name in parentheses", b" RENAME DSNAME=J.K,VOL=2314=PACK07,NEWNAME=(J.M)"),
+    ("text behind blanks", b" RENAME DSNAME=J.K,VOL=2314=PACK07,NEWNAME=J.M  TEXT"),
+    ("a comma at the end", b" RENAME DSNAME=J.K,VOL=2314=PACK07,NEWNAME=J.M,"),
+    ("a comma behind blanks", b" RENAME DSNAME=J.K,VOL=2314=PACK07,NEWNAME=J.M ,"),
+    ("two commas", b" RENAME DSNAME=J.K,,VOL=2314=PACK07,NEWNAME=J.M"),
+    ("a comma for an equals sign", b" RENAME DSNAME=J.K,VOL=2314,PACK07,NEWNAME=J.M"),
+    ("a blank behind a comma", b" RENAME DSNAME=J.K, VOL=2314=PACK07,NEWNAME=J.M"),
+    ("a blank before a comma", b" RENAME DSNAME=J.K ,VOL=2314=PACK07,NEWNAME=J.M"),
+    ("a blank in a name", b" RENAME DSNAME=J K,VOL=2314=PACK07,NEWNAME=J.M"),
+    ("a tab first", b"\tRENAME DSNAME=J.K,VOL=2314=PACK07,NEWNAME=J.M"),
+    ("a tab behind the operation", b" RENAME\tDSNAME=J.K,VOL=2314=PACK07,NEWNAME=J.M"),
+    ("a tab at the end", b" RENAME DSNAME=J.K,VOL=2314=PACK07,NEWNAME=J.M\t"),
+    ("a carriage return at the end", b" RENAME DSNAME=J.K,VOL=2314=PACK07,NEWNAME=J.M\r"),
+    ("a line feed at the end", b" RENAME DSNAME=J.K,VOL=2314=PACK07,NEWNAME=J.M\n"),
+    ("a zero byte at the end", b" RENAME DSNAME=J.K,VOL=2314=PACK07,NEWNAME=J.M\0"),
+    ("a byte outside ASCII", b" RENAME DSNAME=J.K,VOL=2314=PACK07,NEWNAME=J.M\xC3"),
+    ("a letter outside ASCII in a name", b" RENAME DSNAME=J.K,VOL=2314=PACK07,NEWNAME=J.\xC3\x89"),
+    ("a blank outside ASCII at the end", b" RENAME DSNAME=J.K,VOL=2314=PACK07,NEWNAME=J.M\xC2\xA0"),
 ];
 
 #[test]
@@ -165,40 +164,68 @@ fn refused_cards(rt: HostRuntime) {
     }
 }
 
+// The card of a statement, its operation, the name and the outcome, and the line that answers it.
+type Answered = (
+    u32,
+    &'static str,
+    &'static str,
+    Result<(), Refusal>,
+    &'static str,
+);
+
+const ANSWERED: [Answered; 8] = [
+    (1, "RENAME", "J.K", Ok(()), "00001 RENAME J.K OK\n"),
+    (
+        23,
+        "SCRATCH",
+        "J.K",
+        Err(Refusal::NoSet),
+        "00023 SCRATCH J.K NO-SET\n",
+    ),
+    (
+        306,
+        "RENAME",
+        "TEST.CARDS",
+        Err(Refusal::SetExists),
+        "00306 RENAME TEST.CARDS SET-EXISTS\n",
+    ),
+    (
+        10000,
+        "RENAME",
+        "A2345678.B2345678.C2345678.D2345678.E2345678",
+        Ok(()),
+        "10000 RENAME A2345678.B2345678.C2345678.D2345678.E2345678 OK\n",
+    ),
+    (
+        99999,
+        "RENAME",
+        "J",
+        Err(Refusal::VtocFull { slots: 3 }),
+        "99999 RENAME J VTOC-FULL\n",
+    ),
+    (100000, "RENAME", "J", Ok(()), "100000 RENAME J OK\n"),
+    (
+        u32::MAX,
+        "RENAME",
+        "J",
+        Err(Refusal::Unreadable(7)),
+        "4294967295 RENAME J UNREADABLE\n",
+    ),
+    (
+        0,
+        "RENAME",
+        "@#$A-1.$",
+        Ok(()),
+        "00000 RENAME @#$A-1.$ OK\n",
+    ),
+];
+
 #[test]
 fn lines_that_answer_statements(rt: HostRuntime) -> Result<(), Fail> {
     let alloc = rt.alloc();
-    for (card, name, outcome, line) in [
-        (1, "A.B", Ok(()), "00001 RENAME A.B OK\n"),
-        (
-            4,
-            "A.B",
-            Err(Refusal::SetExists),
-            "00004 RENAME A.B SET-EXISTS\n",
-        ),
-        (
-            12,
-            "SYS1.MACLIB",
-            Err(Refusal::SetExists),
-            "00012 RENAME SYS1.MACLIB SET-EXISTS\n",
-        ),
-        (
-            99999,
-            "A",
-            Err(Refusal::VtocFull { slots: 3 }),
-            "99999 RENAME A VTOC-FULL\n",
-        ),
-        (100000, "A", Ok(()), "100000 RENAME A OK\n"),
-        (
-            u32::MAX,
-            "A",
-            Err(Refusal::Unreadable(7)),
-            "4294967295 RENAME A UNREADABLE\n",
-        ),
-        (0, "@#$A-1.$", Ok(()), "00000 RENAME @#$A-1.$ OK\n"),
-    ] {
+    for (card, operation, name, outcome, line) in ANSWERED {
         let object = Dsn::read(name).ok().ok_or("a data set name")?;
-        let text = result_line(alloc, card, "RENAME", &object, outcome)?;
+        let text = result_line(alloc, card, operation, &object, outcome)?;
         assert_eq!(rt; text.as_slice(), line.as_bytes());
     }
     Ok(())

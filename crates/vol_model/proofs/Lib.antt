@@ -2,3 +2,5 @@ pub mod Ranks
 pub mod InOrder
 pub mod Steps
 pub mod Stops
+mod EventCases
+mod ShelfCases

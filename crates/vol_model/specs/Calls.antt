@@ -1,8 +1,8 @@
 -- What the calls of a machine leave, in this project's profile.
-use Rattle.std.specs.Prelude.{◌≡◌, ◌⊎◌, ℕ, ◌≤◌, Bool, true, List, ◌++◌, Result, Ok, Err, OnOk, IsErrOf, IsTrue}
+use Rattle.std.specs.Prelude.{◌≡◌, ◌⊎◌, ℕ, ◌≤◌, Bool, true, false, List, ◌++◌, Result, Ok, Err, OnOk, IsErrOf, IsTrue}
 use Rattle.hall_core.specs.Facts.{Rose}
 use Rattle.hall_core.specs.Files.{File, IsPrefixOf}
-use Rattle.hall_core.specs.Moments.{Meaning, Elapses}
+use Rattle.hall_core.specs.Moments.{Meaning, Elapses, Same}
 use Rattle.vol_model.specs.declared.answers.MachErr.{MachErr}
 use Rattle.vol_model.specs.declared.answers.MachErr.TheVariants.{Refused, Memory, Device, Print}
 use Rattle.vol_model.specs.declared.contents.Shelf.{Shelf}
@@ -17,16 +17,16 @@ pub record Status : Type 0 where
   pub dev_faults : ℕ
   pub print_faults : ℕ
 
--- after each answer but a fault the machine is sound
-abbrev pub StaysSound : {T : Type 0} → Result T MachErr → Bool → Type 0
-StaysSound (Err Device) sound = Unit {0}
-StaysSound (Err Print) sound = Unit {0}
-StaysSound _ sound = sound ≡ true
+-- after a fault a machine isn't sound, and after each other answer it is
+abbrev pub sound_after : {T : Type 0} → Result T MachErr → Bool
+sound_after (Err Device) = false
+sound_after (Err Print) = false
+sound_after _ = true
 
--- A call of a machine: its base stays; it stays sound but at a fault; each count rose where its fault is reported, and else stands still.
+-- A call of a machine: its base stays; it is sound then but after a fault; each count rose where its fault is reported, and else stands still.
 pub record MachineCall {T : Type 0} (old new : Status) (result : Result T MachErr) : Type 0 where
   pub base : new.base ≡ old.base
-  pub sound : StaysSound result new.is_sound
+  pub sound : new.is_sound ≡ sound_after result
   pub devices : old.dev_faults ≤ new.dev_faults
   pub prints : old.print_faults ≤ new.print_faults
   pub device : IsErrOf result Device → Rose old.dev_faults new.dev_faults
@@ -42,20 +42,25 @@ Answers (Err Memory) stepped old new = new ≡ old
 Answers (Err Device) stepped old new = Unit {0}
 Answers (Err Print) stepped old new = ⊥
 
--- An operation: it is done where the shelf has a step for it, and refused where that is; a stop leaves the shelf before or after it, and the printed bytes as they were.
+-- nothing is to be done, or nothing was: the step is refused, or memory ran out
+abbrev pub IsIdle : {T : Type 0} → Result Shelf Refusal → Result T MachErr → Type 0
+IsIdle stepped result = ((r : Refusal) × (stepped ≡ Err r)) ⊎ IsErrOf result Memory
+
+-- An operation: it is done where the shelf has a step for it, and refused where that is, and then, or where memory ran out, nothing changes but the time. A stop leaves the shelf before or after it, and the printed bytes as they were.
 pub record Applies {T : Type 0} (op : Op) (old new : Meaning Shelf) (result : Result T MachErr) : Type 0 where
   pub answer : Answers result (step old.state op) old.state new.state
+  pub idle : IsIdle (step old.state op) result → Same old new
   pub printed : new.printed ≡ old.printed
   pub moments : Elapses old new (λ shelf p. ((shelf ≡ old.state) ⊎ (step old.state op ≡ Ok shelf)) × (p ≡ old.printed))
 
--- A print: the shelf stays, and the bytes are printed, or a prefix of them where the print failed, or none where memory ran out. Of printed bytes it is said where the machine tells them.
+-- A print: the shelf stays, and the bytes are printed, or a prefix of them where the print failed; where memory ran out nothing changes but the time. Whatever the answer is, a prefix of them is printed, which `failed` says. Of printed bytes it is said where the machine tells them.
 pub record Prints {T : Type 0} (tells : Bool) (bytes : List ℕ) (old new : Meaning Shelf) (result : Result T MachErr) : Type 0 where
   pub shelf : new.state ≡ old.state
   pub done : OnOk result (IsTrue tells → new.printed ≡ old.printed ++ bytes)
-  pub memory : IsErrOf result Memory → new.printed ≡ old.printed
+  pub memory : IsErrOf result Memory → Same old new
   pub failed : (q : List ℕ) × IsPrefixOf q bytes × (IsTrue tells → new.printed ≡ old.printed ++ q)
   pub moments : Elapses old new (λ shelf p. (shelf ≡ old.state) × ((q : List ℕ) × IsPrefixOf q bytes × (IsTrue tells → p ≡ old.printed ++ q)))
 
--- what was promised of each stop since an earlier moment is promised still
+-- promises on stops, each since a moment up to this one, hold on
 abbrev pub Keeps : ℕ → (ℕ → List File → Type 0) → (ℕ → List File → Type 0) → Type 0
 Keeps clock old new = (t : ℕ) (files : List File) → t ≤ clock → old t files → new t files

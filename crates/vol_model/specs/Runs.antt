@@ -1,5 +1,5 @@
 -- What a run of events on any machine leaves, in this project's profile.
-use Rattle.std.specs.Prelude.{◌≡◌, ℕ, ◌≤◌, Bool, true, List, ◌++◌, Result, OnOk, IsErrOf, IsTrue}
+use Rattle.std.specs.Prelude.{◌≡◌, ℕ, ◌≤◌, Bool, true, false, List, ◌++◌, Result, Err, OnOk, IsErrOf, IsTrue}
 use Rattle.hall_core.specs.Facts.{Rose}
 use Rattle.hall_core.specs.Moments.{Meaning, Elapses}
 use Rattle.vol_model.specs.declared.answers.Stop.{Stop}
@@ -8,16 +8,22 @@ use Rattle.vol_model.specs.declared.contents.Shelf.{Shelf}
 use Rattle.vol_model.specs.Calls.{Status}
 use Rattle.vol_model.specs.Events.{Event, StopsIn, listing, shelf_behind}
 
--- These events were done, unless the run ended early; a stop at any moment leaves some of them done, in order. Of printed bytes it is said where the machine tells them.
+-- The events of a run, all of them done unless an error ended it, and what a stop in it leaves: the shelf and the text of one in these events. Of printed bytes it is said where the machine tells them.
 pub record Runs {T E : Type 0} (tells : Bool) (es : List Event) (old new : Meaning Shelf) (result : Result T E) : Type 0 where
   pub shelf : OnOk result (new.state ≡ shelf_behind old.state es)
   pub printed : OnOk result (IsTrue tells → new.printed ≡ old.printed ++ listing es)
   pub moments : Elapses old new (λ shelf p. (q : List ℕ) × (IsTrue tells → p ≡ old.printed ++ q) × StopsIn old.state es shelf q)
 
--- A run on a machine: its base stays; it stays sound where the run comes to its end; each count rose where its fault ended the run, and else stands still.
+-- after a fault that ended a run its machine isn't sound, and else it is
+abbrev pub sound_behind : {T : Type 0} → Result T Stop → Bool
+sound_behind (Err Device) = false
+sound_behind (Err Print) = false
+sound_behind _ = true
+
+-- A run on a machine: its base stays; it is sound then but after a fault; each count rose where its fault ended the run, and else stands still.
 pub record RunCall {T : Type 0} (old new : Status) (result : Result T Stop) : Type 0 where
   pub base : new.base ≡ old.base
-  pub sound : OnOk result (new.is_sound ≡ true)
+  pub sound : new.is_sound ≡ sound_behind result
   pub devices : old.dev_faults ≤ new.dev_faults
   pub prints : old.print_faults ≤ new.print_faults
   pub device : IsErrOf result Device → Rose old.dev_faults new.dev_faults

@@ -1,5 +1,8 @@
 //! The abstract volume: what a disk pack of OS/360 holds, without a slot, a chain or a bit of it, and the words in
 //! which operations on it are asked for and answered.
+//!
+//! Some types stand here for calls to come, and nothing uses them yet: `ReadErr`, `CheckErr`, `WorkErr`, `BadTtr`, `Mode`,
+//! `Kind`, `VolumeInfo`, `SetInfo`, `SpaceUnit` and `Request`.
 #![tactic(auto)]
 
 mod answers;

@@ -4,8 +4,8 @@ ghost use Rattle.std.specs.Prelude.{◌≡◌, ◌≤◌, ℕ, List, Bool, IsTru
 ghost use Rattle.hall_core.specs.Files.{File};
 ghost use Rattle.hall_core.specs.Moments.{Meaning, LeftNow, IsDurable};
 ghost use Rattle.vol_model.specs.declared.contents.Shelf.{Shelf};
-ghost use Rattle.vol_model.specs.Calls.{Status, MachineCall, Applies, Prints, Keeps};
-ghost use Rattle.vol_model.specs.Shelf.{IsLawful};
+ghost use Rattle.vol_model.specs.Calls.{Status, MachineCall, Applies, IsIdle, Prints, Keeps};
+ghost use Rattle.vol_model.specs.Shelf.{IsLawful, step};
 
 use crate::answers::MachErr;
 use crate::refusals::Refusal;
@@ -18,7 +18,8 @@ use crate::requests::Op;
 /// sound any more, and takes no further call but `is_sound`.
 ///
 /// Clauses on the shelf hold where `tells` is true, and those on printed bytes where `tells_prints` is too. What
-/// `status` tells is always known.
+/// `status` tells is always known. Two laws, `counts_now` and `only_now`, ask for no `tells`: a machine that tells
+/// nothing has some meaning all the same, and gives one that meets them.
 pub trait Machine {
     /// Whether the machine tells its shelf.
     ghost tells: { Bool };
@@ -35,6 +36,9 @@ pub trait Machine {
     /// What it promises besides of every stop since a moment, by the files on which it stood then.
     ghost promise: { Self → ℕ → List File → Type 0 };
 
+    /// That every stop since a moment leaves just these files, on which it stood then.
+    ghost stays: { Self → ℕ → List File → Type 0 };
+
     /// Whether no fault has come so far.
     fn is_sound(&self) -> bool
         ensures { result ≡ (status self.now).is_sound };
@@ -46,6 +50,7 @@ pub trait Machine {
         requires sound { IsTrue (status self.old).is_sound }
         ensures shelf { IsTrue tells → Applies op.now (meaning self.old) (meaning self.new) result }
         ensures promise { IsTrue tells → Keeps (meaning self.old).clock (promise self.old) (promise self.new) }
+        ensures stays { IsTrue tells → IsIdle (step (meaning self.old).state op.now) result → Keeps (meaning self.old).clock (stays self.old) (stays self.new) }
         ensures call { MachineCall (status self.old) (status self.new) result }
         ensures print { IsErrOf result MachErr.Print → ⊥ };
 
@@ -56,6 +61,7 @@ pub trait Machine {
         requires sound { IsTrue (status self.old).is_sound }
         ensures shelf { IsTrue tells → Prints tells_prints bytes.now (meaning self.old) (meaning self.new) result }
         ensures promise { IsTrue tells → Keeps (meaning self.old).clock (promise self.old) (promise self.new) }
+        ensures stays { IsTrue tells → Keeps (meaning self.old).clock (stays self.old) (stays self.new) }
         ensures call { MachineCall (status self.old) (status self.new) result }
         ensures refused { (r : Refusal) → IsErrOf result (MachErr.Refused r) → ⊥ };
 
@@ -65,12 +71,12 @@ pub trait Machine {
     /// A stop of a sound machine leaves its shelf: nothing is pending.
     ghost durable: { (m : Self) → IsTrue tells → IsTrue (status m).is_sound → IsDurable (meaning m) };
 
-    /// A stop may leave the shelf as it is.
+    /// A stop now may leave the shelf as it is.
     ghost leaves_state: { (m : Self) → IsTrue tells → (meaning m).left (meaning m).state };
 
-    /// What a stop leaves now, one since any earlier moment may have left.
+    /// One since any earlier moment may have left that too, as the printed bytes are now.
     ghost counts_now: { (m : Self) (t : ℕ) (shelf : Shelf) → t ≤ (meaning m).clock → (meaning m).left shelf → (meaning m).left_since t shelf (meaning m).printed };
 
-    /// Since this moment there is no other.
+    /// A stop since now leaves what one leaves now, and nothing else.
     ghost only_now: { (m : Self) (shelf : Shelf) (p : List ℕ) → (meaning m).left_since (meaning m).clock shelf p → LeftNow (meaning m) shelf p };
 }

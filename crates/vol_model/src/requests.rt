@@ -32,9 +32,9 @@ pub enum SpaceUnit {
 pub struct Request {
     /// The unit of both quantities.
     pub unit: SpaceUnit,
-    /// The quantity that a new data set is given.
+    /// The quantity that a new data set is given; it may be 0.
     pub primary: u32,
-    /// The quantity that each extension gives it, below 2^24.
+    /// The quantity that each extension gives it, below 2^24; 0 for none.
     pub secondary: u32,
     /// Whether the primary quantity must lie in one run.
     pub contig: bool,
@@ -44,6 +44,8 @@ pub struct Request {
 #[derive(Clone, Copy, Debug, PartialEq, Eq)]
 pub enum Op {
     /// Gives a data set another name; neither may be SYSCTLG.
+    ///
+    /// It is refused as `NoVolume`, `NoSet`, `SetExists` or `WrongKind`, the first that holds.
     Rename {
         /// The volume's number on the shelf, from 0.
         v: u8,

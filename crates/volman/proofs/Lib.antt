@@ -6,3 +6,4 @@ mod Works
 mod WordLemmas
 mod DeckLemmas
 mod Answering
+mod Cases

@@ -1,5 +1,5 @@
 -- An operation on the volume of one image as an operation of the machine over it, and what the machine keeps.
-use Rattle.std.proofs.Common.{◌≡◌, ◌≢◌, ⊎_elim, inl, inr, ℕ, zero, suc, ◌+◌, ◌≤◌, List, [], ◌∷◌, ◌++◌, refl, sym, ◌∙◌, ap, subst, arith}
+use Rattle.std.proofs.Common.{◌≡◌, ◌≢◌, ⊎_elim, inl, inr, ℕ, zero, suc, List, [], ◌∷◌, ◌++◌, refl, sym, ◌∙◌, ap, subst, arith}
 use Rattle.std.specs.Option.{option_map}
 use Rattle.std.specs.Str.{bytes_eq}
 use Rattle.std.specs.Prelude.{◌⊎◌, Bool, true, false, cond, slice_range, unwrap_or, Option, Some, None, IsErrOf, IsTrue, Result, Ok, Err}
@@ -7,19 +7,19 @@ use Rattle.ckd_image.specs.Device.{row_of}
 use Rattle.ckd_image.specs.declared.device.DiskType.{DiskType}
 use Rattle.ckd_image.specs.declared.device.DiskType.TheVariants.{D2311, D2314, D3330}
 use Rattle.ckd_image.specs.declared.header.Geometry.{Geometry}
-use Rattle.dadsm_ops.specs.Operations.{ChangesVtoc, DiffersInVtoc, IsBeforeOrAfter, Operates, StoreAnswers, image_named}
+use Rattle.dadsm_ops.specs.Operations.{ChangesVtoc, Operates, StoreAnswers, image_named}
 use Rattle.ebcdic_names.specs.declared.names.Dsn.{Dsn}
 use Rattle.hall_core.specs.Facts.{Attached, Facts, unit_of}
 use Rattle.hall_core.specs.Files.{AfterPrint, File, IsPrefixOf}
-use Rattle.hall_core.specs.Moments.{Elapses, IsDurable, Meaning}
+use Rattle.hall_core.specs.Moments.{Elapses, IsDurable, Meaning, Same}
 use Rattle.hall_core.specs.Steps.{seen}
-use Rattle.hall_core.proofs.MomentLemmas.{CountsNow, elapses_none, elapses_seen, elapses_weaker}
+use Rattle.hall_core.proofs.MomentLemmas.{CountsNow, counts_now_seen, elapses_none, elapses_seen, elapses_weaker, same_none, same_seen}
 use Rattle.hall_core.proofs.StepLemmas.{elapses_print}
 use Rattle.pack_spec.specs.declared.MountErr.{MountErr}
 use Rattle.pack_spec.specs.Label.{label_of}
 use Rattle.pack_spec.specs.Slots.{slots_of_vtoc}
 use Rattle.pack_spec.specs.Volume.{volume_of, volume_with}
-use Rattle.vol_model.specs.Calls.{Applies, Keeps, Prints}
+use Rattle.vol_model.specs.Calls.{Applies, IsIdle, Keeps, Prints}
 use Rattle.vol_model.specs.Shelf.{number_of, rename_on, step, with_volume}
 use Rattle.vol_model.specs.declared.answers.MachErr.{MachErr}
 use Rattle.vol_model.specs.declared.answers.MachErr.TheVariants as mach
@@ -36,7 +36,7 @@ use Rattle.vtoc_index.specs.declared.vol.Vol.{Vol}
 use Rattle.vtoc_index.specs.Index.{IsMounted, run_of}
 use Rattle.vtoc_index.specs.Kept.{IsKept}
 use Rattle.vtoc_index.proofs.KeptLemmas.{kept_of}
-use Rattle.volman.specs.Machine.{ChangesOnlyVtoc, base_of, numbers_of, shelf_in, shelf_named, shelf_with, texts_of}
+use Rattle.volman.specs.Machine.{ChangesOnlyVtoc, LeavesJust, base_of, numbers_of, shelf_in, shelf_named, shelf_with, texts_of}
 
 -- the files of a step, and then those of another
 changes_then : {name : List ℕ} {g : Geometry} {vtoc : Run} {a b c : List File} → ChangesVtoc name g vtoc a b → ChangesVtoc name g vtoc b c → ChangesVtoc name g vtoc a c
@@ -60,6 +60,16 @@ unfolding step
 not_there volume zero old new other = absurd (other refl)
 not_there volume (suc v) old new other = refl
 
+-- what stops left stays where nothing but the time changes
+pub just_same : {m m' : Meaning (List File)} → CountsNow m → Same m m' → Keeps m.clock (LeavesJust m) (LeavesJust m')
+just_same {m} counts same t files early was j p left =
+    ⊎_elim (λ before. was j p before) (λ now. was j m.printed (counts t j early now.0)) ((same.time.since t j p early).0 left)
+
+-- and after a print
+pub just_printed : {T E : Type 0} {bytes : List ℕ} {m m' : Meaning (List File)} {r : Result T E} → CountsNow m → AfterPrint bytes m m' r → Keeps m.clock (LeavesJust m) (LeavesJust m')
+just_printed {m = m} counts print t files early was j p left =
+    ⊎_elim (λ before. was j p before) (λ now. was j m.printed (counts t j early now.0)) ((print.time.since t j p early).0 left)
+
 module _ {name : List ℕ} {m m' : Meaning (List File)} {v : Vol} (old new : Dsn) where
   -- what stops leave of an operation, by the shelf
   moments : {T : Type 0} {r : Result T StoreErr} → Operates name (rename_on old new) v m m' r
@@ -73,6 +83,27 @@ module _ {name : List ℕ} {m m' : Meaning (List File)} {v : Vol} (old new : Dsn
         stop.1.1,
       )))
 
+  -- where the step of the shelf is refused, so was that of the volume
+  idle : {T : Type 0} {r : Result T StoreErr} → Operates name (rename_on old new) v m m' r → (why : Refusal) → step (shelf_named name m.state) (Rename 0 old new) ≡ Err why → Same m m'
+  idle run why refused = by_step (rename_on old new run.volume) refl
+    where
+      by_step : (s : Result Volume Refusal) → rename_on old new run.volume ≡ s → Same m m'
+      by_step (Err r) is = run.idle r is
+      by_step (Ok after) is =
+          let never = sym (ap (λ (s : Shelf). step s (Rename 0 old new)) (ap shelf_in run.before) ∙ step_of run.volume old new (Ok after) is) ∙ refused in
+          absurd (cc never)
+
+  -- so where an operation is refused, nothing but the time changed
+  idle_seen : {T A : Type 0} {r : Result T StoreErr} (answer : Result A MachErr) → ¬ IsErrOf answer mach.Memory → Operates name (rename_on old new) v m m' r → IsIdle (step (shelf_named name m.state) (Rename 0 old new)) answer → Same (seen (shelf_named name) m) (seen (shelf_named name) m')
+  idle_seen answer ample run = ⊎_elim (λ refused. same_seen (shelf_named name) (idle run refused.0 refused.1)) (λ short. absurd (ample short))
+
+  -- and what stops left stays
+  pub stays_idle : {T A : Type 0} {r : Result T StoreErr} (n : ℕ) (answer : Result A MachErr) → n ≡ 0 → ¬ IsErrOf answer mach.Memory → CountsNow m → Operates name (rename_on old new) v m m' r → IsIdle (step (shelf_named name m.state) (Rename n old new)) answer
+      → Keeps m.clock (LeavesJust m) (LeavesJust m')
+  stays_idle n answer is ample counts run = ⊎_elim
+      (λ refused. just_same counts (idle run refused.0 (ap (λ (k : ℕ). step (shelf_named name m.state) (Rename k old new)) (sym is) ∙ refused.1)))
+      (λ short. absurd (ample short))
+
   -- it is done
   pub applies_done : {T E : Type 0} (x : T) (y : E) → Operates name (rename_on old new) v m m' (Ok x) → Applies (Rename 0 old new) (seen (shelf_named name) m) (seen (shelf_named name) m') (Ok y)
   applies_done x y run = record {
@@ -80,27 +111,30 @@ module _ {name : List ℕ} {m m' : Meaning (List File)} {v : Vol} (old new : Dsn
         ap (λ (s : Shelf). step s (Rename 0 old new)) (ap shelf_in run.before)
         ∙ step_of run.volume old new (Ok run.answer.after) run.answer.step
         ∙ ap (λ (r : Result Volume _). Ok (shelf_in r)) (sym run.answer.stands);
+    idle = idle_seen (Ok y) (λ short. cc) run;
     printed = run.printed;
     moments = moments run;
   }
 
   -- the device failed
   pub applies_fault : {T E : Type 0} {r : Result T StoreErr} → Operates name (rename_on old new) v m m' r → Applies {T = E} (Rename 0 old new) (seen (shelf_named name) m) (seen (shelf_named name) m') (Err mach.Device)
-  applies_fault run = record { answer = tt; printed = run.printed; moments = moments run }
+  applies_fault run = record { answer = tt; idle = idle_seen (Err mach.Device) (λ short. let wrong = short in cc) run; printed = run.printed; moments = moments run }
 
   -- it is refused, and nothing was changed
   pub applies_refused : {T E : Type 0} {result : Result T StoreErr} (r : Refusal) → result ≡ Err (store.Refused r) → m'.state ≡ m.state → Operates name (rename_on old new) v m m' result → Applies {T = E} (Rename 0 old new) (seen (shelf_named name) m) (seen (shelf_named name) m') (Err (mach.Refused r))
   applies_refused r is same run = record {
     answer = (ap (λ (s : Shelf). step s (Rename 0 old new)) (ap shelf_in run.before) ∙ step_of run.volume old new (Err r) (subst (λ x. StoreAnswers name (rename_on old new run.volume) v m.state m' x) is run.answer), ap (shelf_named name) same);
+    idle = idle_seen (Err (mach.Refused r)) (λ short. let wrong = short in cc) run;
     printed = run.printed;
     moments = moments run;
   }
 
 -- there is no such volume
-pub applies_elsewhere : {E : Type 0} (name : List ℕ) (m : Meaning (List File)) (volume : Volume) (v : ℕ) (old new : Dsn) → volume_of (image_named m.state name) ≡ Ok volume → v ≢ 0
+pub applies_elsewhere : {E : Type 0} (name : List ℕ) (m : Meaning (List File)) (volume : Volume) (v : ℕ) (old new : Dsn) → CountsNow m → volume_of (image_named m.state name) ≡ Ok volume → v ≢ 0
     → Applies {T = E} (Rename v old new) (seen (shelf_named name) m) (seen (shelf_named name) m) (Err (mach.Refused NoVolume))
-applies_elsewhere name m volume v old new stands other = record {
+applies_elsewhere name m volume v old new counts stands other = record {
   answer = (ap (λ (s : Shelf). step s (Rename v old new)) (ap shelf_in stands) ∙ not_there volume v old new other, refl);
+  idle = λ idle. same_none (seen (shelf_named name) m) (counts_now_seen (shelf_named name) m counts);
   printed = refl;
   moments = elapses_none _ _;
 }

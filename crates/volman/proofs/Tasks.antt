@@ -1,12 +1,10 @@
 -- Tasks that are done, left undone, or stopped.
-use Rattle.std.proofs.Common.{◌≡◌, ◌≢◌, ⊎_elim, inl, inr, ℕ, ◌≤◌, ◌++◌, List, [], ◌∷◌, length, refl, sym, ◌∙◌, ap, subst, arith, append_assoc}
-use Rattle.std.specs.Prelude.{◌⊎◌, Option, Some, None, Result, Ok, Err}
+use Rattle.std.proofs.Common.{◌≡◌, ◌≢◌, ⊎_elim, inl, inr, ℕ, ◌≤◌, ◌++◌, List, [], refl, sym, ◌∙◌, ap, arith, append_assoc}
+use Rattle.std.specs.Prelude.{◌⊎◌, Result}
 use Rattle.std.proofs.lemmas.List.{append-nil, append_cancel_left}
-use Rattle.hall_core.specs.Files.{AfterPrint, File, IsPrefixOf, file_of}
-use Rattle.hall_core.specs.Moments.{Elapses, IsDurable, LeftNow, Meaning, Same}
-use Rattle.hall_core.proofs.MomentLemmas.{OnlyNow}
-use Rattle.pack_spec.specs.declared.MountErr.{MountErr}
-use Rattle.volman.specs.Run.{AddsPrefix, Does, IsEnd, IsFinal, KeepsFiles, PrintsText}
+use Rattle.hall_core.specs.Files.{AfterPrint, File, IsPrefixOf}
+use Rattle.hall_core.specs.Moments.{IsDurable, Meaning, Same}
+use Rattle.volman.specs.Run.{AddsPrefix, Does, IsFinal, KeepsFiles, LeavesFiles, PrintsText}
 use Rattle.volman.specs.Task.{Says}
 
 -- a text between one and the same with more behind it
@@ -73,15 +71,31 @@ fault_ends : (result : ℕ) → result ≡ 24 → IsFinal result → ⊥
 fault_ends result is final = ⊎_elim (λ (low : result ≤ 21). omega (arith, is, low)) (λ (deck : result ≡ 26). omega (arith, is, deck)) final
 
 -- a text is printed after calls that change nothing
-pub text_said : {text : List ℕ} {old mid new : Meaning (List File)} (code result : ℕ) → Same old mid → PrintsText text mid new result → (result ≡ code) ⊎ (result ≡ 24) → Does (Says code text) old new result
-text_said {text} {old} {mid} {new} code result same prints which = record {
+pub text_said : {text : List ℕ} {old mid new : Meaning (List File)} (code result : ℕ) → code ≢ 25 → Same old mid → PrintsText text mid new result → (result ≡ code) ⊎ (result ≡ 24) → Does (Says code text) old new result
+text_said {text} {old} {mid} {new} code result ample same prints which = record {
   ends = λ final. ⊎_elim
       (λ (is : result ≡ code). (is, prints.done (λ (failed : result ≡ 24). fault_ends result failed final) ∙ ap (λ (l : List ℕ). l ++ text) same.printed))
       (λ (failed : result ≡ 24). absurd (fault_ends result failed final))
       which;
+  silent = λ (short : result ≡ 25). ⊎_elim (λ (is : result ≡ code). absurd (ample (sym is ∙ short))) (λ (failed : result ≡ 24). absurd (omega (arith, failed, short))) which;
   stops = kept_then same prints.files;
 }
 
 -- nothing was said
 pub nothing_said : (text : List ℕ) {old new : Meaning (List File)} (code result : ℕ) → Same old new → ¬ IsFinal result → Does (Says code text) old new result
-nothing_said text code result same other = record { ends = λ final. absurd (other final); stops = files_kept text same }
+nothing_said text code result same other = record { ends = λ final. absurd (other final); silent = λ short. same.printed; stops = files_kept text same }
+
+-- the files stay through calls that change nothing and others that keep them
+pub files_then : {old mid : Meaning (List File)} (new : Meaning (List File)) → Same old mid → LeavesFiles mid new → LeavesFiles old new
+files_then new same stay = (stay.0 ∙ same.state, λ j. (λ left. (same.left j).0 ((stay.1 j).0 left), λ left. (stay.1 j).1 ((same.left j).1 left)))
+
+pub files_same : {old new : Meaning (List File)} → Same old new → LeavesFiles old new
+files_same same = (same.state, same.left)
+
+-- through a print
+pub files_printed : {text : List ℕ} {old new : Meaning (List File)} {result : ℕ} → PrintsText text old new result → LeavesFiles old new
+files_printed prints = (prints.files.files, prints.files.left)
+
+-- what was durable stays so
+pub durable_left : (old new : Meaning (List File)) → LeavesFiles old new → IsDurable old → IsDurable new
+durable_left old new stay durable j left = durable j ((stay.1 j).0 left) ∙ sym stay.0

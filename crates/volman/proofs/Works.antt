@@ -1,12 +1,12 @@
 -- Items on the shelf of one pack, from the machine's words to those of the files.
-use Rattle.std.proofs.Common.{◌≡◌, ◌≢◌, ⊎_elim, inl, inr, ℕ, zero, suc, ◌+◌, ◌<◌, ◌≤◌, ◌++◌, max, Bool, true, List, [], ◌∷◌, length, refl, sym, ◌∙◌, ap, subst, arith, length-append}
-use Rattle.std.specs.Prelude.{◌⊎◌, IsTrue, Option, Some, None, Result, Ok, Err, OnOk, codes, take, unwrap_or}
+use Rattle.std.proofs.Common.{◌≡◌, ◌≢◌, ⊎_elim, inl, inr, ℕ, ◌<◌, ◌≤◌, ◌++◌, Bool, List, [], ◌∷◌, length, refl, sym, ◌∙◌, ap, subst, arith, length-append}
+use Rattle.std.specs.Prelude.{◌⊎◌, IsTrue, Option, Some, None, Result, Ok, Err, codes, map, take, unwrap_or}
 use Rattle.std.specs.List.{AllByRecursion}
 use Rattle.std.proofs.lemmas.List.{append-nil, length-set}
 use Rattle.ckd_image.specs.declared.header.Geometry.{Geometry}
 use Rattle.dadsm_ops.specs.Operations.{ChangesVtoc, image_named}
 use Rattle.hall_core.specs.Files.{File, file_of}
-use Rattle.hall_core.specs.Moments.{Elapses, IsDurable, LeftNow, Meaning, Same}
+use Rattle.hall_core.specs.Moments.{IsDurable, Meaning, Same}
 use Rattle.hall_core.specs.Steps.{seen}
 use Rattle.hall_core.proofs.MomentLemmas.{CountsNow, OnlyNow, same_then}
 use Rattle.pack_spec.specs.declared.MountErr.{MountErr}
@@ -16,7 +16,7 @@ use Rattle.ebcdic_names.specs.Names.{shown}
 use Rattle.util_syntax.specs.declared.statement.Rename.{Rename}
 use Rattle.util_syntax.specs.Lines.{card_number, next_word, outcome_words, result_line}
 use Rattle.vol_model.specs.Calls.{Keeps}
-use Rattle.vol_model.specs.Events.{Event, Item, StopsIn, after_operations, behind, code_of, events_in, events_of, listing, operations_of, shelf_after, shelf_behind}
+use Rattle.vol_model.specs.Events.{Event, Do, Say, Item, StopsIn, after_operations, behind, code_of, events_in, events_of, listing, operations_of, shelf_behind}
 use Rattle.vol_model.specs.Runs.{Runs}
 use Rattle.vol_model.specs.Shelf.{number_of, step}
 use Rattle.vol_model.specs.declared.contents.Run.{Run}
@@ -30,8 +30,8 @@ use Rattle.vol_model.proofs.Steps.{renames_of}
 use Rattle.vol_model.proofs.Stops.{HaveLines, have_items, stands, stops_start}
 use Rattle.vtoc_index.specs.declared.vol.Vol.{Vol}
 use Rattle.vtoc_index.specs.Index.{IsMounted}
-use Rattle.volman.specs.Machine.{ChangesOnlyVtoc, shelf_in, shelf_named, shelf_with}
-use Rattle.volman.specs.Run.{Does, Headline, HasWorked, IsCalmSince, IsFinal, KeepsShelf, StandsFor, StopStands, Synced, WorksOn}
+use Rattle.volman.specs.Machine.{ChangesOnlyVtoc, LeavesJust, shelf_in, shelf_named, shelf_with}
+use Rattle.volman.specs.Run.{Does, Headline, HasWorked, IsCalmSince, IsFinal, StandsFor, StopStands, Synced, WorksOn}
 use Rattle.volman.specs.Statement.{answer_line, item_by, item_of, item_on, operation_on}
 use Rattle.volman.specs.Deck.{deck_of}
 use Rattle.volman.specs.Lines.{deck_line, unit_line, words_line}
@@ -39,7 +39,7 @@ use Rattle.volman.specs.Mount.{IsPackIn, RefusesFile}
 use Rattle.volman.specs.Task.{Says, Task, Works, names_task, statement_task, task_for, task_of, task_on}
 use Rattle.volman.specs.Words.{Names, Request, Run as Running}
 use Rattle.volman.proofs.Machines.{same_plan}
-use Rattle.volman.proofs.Tasks.{kept_then, nothing_said}
+use Rattle.volman.proofs.Tasks.{durable_left, kept_then, nothing_said}
 
 -- ---- one volume
 
@@ -73,6 +73,14 @@ single item = append-nil (events_in item)
 single_code : (item : Item) → code_of (item ∷ []) ≡ item.code
 single_code item = omega arith
 
+-- where its events have no operation, it has none
+none_in : (item : Item) → operations_of (events_in item) ≡ [] → item.operations ≡ []
+none_in item none = by_list item.operations none
+  where
+    by_list : (ops : List Op) → operations_of (map Do ops ++ map Say item.lines) ≡ [] → ops ≡ []
+    by_list [] is = refl
+    by_list (op ∷ ops) is = absurd (cc is)
+
 -- ---- files that are as before
 
 unchanged : (name : List ℕ) (g : Geometry) (vtoc : Run) (before after : List File) → after ≡ before → ChangesVtoc name g vtoc before after
@@ -101,6 +109,7 @@ stopped_before file volume items old files printed stands_at have same text = re
   text = text ∙ sym (append-nil old.printed);
   place = stands (shelf_with volume) (events_of items) (shelf_with volume) [] have (stops_start (shelf_with volume) (events_of items));
   changes = unchanged file volume.geometry volume.vtoc old.state files same;
+  idle = λ none. same;
 }
 
 -- items of which none was begun
@@ -108,14 +117,18 @@ pub nothing_worked : (file : List ℕ) (volume : Volume) (items : List Item) {ol
     → Does (Works file volume items) old new status
 nothing_worked file volume items {old} status stands_at have durable only same other = record {
   ends = λ final. absurd (other final);
-  stops = λ files printed left.
-      let is = ⊎_elim (λ before. only files printed before) (λ now. now) ((same.time.since old.clock files printed (omega arith)).0 left) in
-      stopped_before file volume items old files printed stands_at have (durable files is.0) is.1;
+  silent = λ short. same.printed;
+  stops = record {
+    later = same.time.later;
+    stops = λ files printed left.
+        let is = ⊎_elim (λ before. only files printed before) (λ now. now) ((same.time.since old.clock files printed (omega arith)).0 left) in
+        stopped_before file volume items old files printed stands_at have (durable files is.0) is.1;
+  };
 }
 
 -- items after calls that change nothing
-pub worked_then : (file : List ℕ) (volume : Volume) (items : List Item) {old mid new : Meaning (List File)} (status : ℕ) → IsDurable old → OnlyNow old → Same old mid → WorksOn file volume items mid new status → Does (Works file volume items) old new status
-worked_then file volume items {old} {mid} {new} status durable only same works = record {
+pub worked_then : (file : List ℕ) (volume : Volume) (items : List Item) {old mid new : Meaning (List File)} (status : ℕ) → IsDurable old → OnlyNow old → Same old mid → (status ≡ 25 → new.printed ≡ mid.printed) → WorksOn file volume items mid new status → Does (Works file volume items) old new status
+worked_then file volume items {old} {mid} {new} status durable only same silent works = record {
   ends = λ final.
       let done = works.ends final in
       record {
@@ -125,16 +138,21 @@ worked_then file volume items {old} {mid} {new} status durable only same works =
         durable = done.durable;
         changes = subst (λ (all : List File). ChangesVtoc file volume.geometry volume.vtoc all new.state) same.state done.changes;
       };
-  stops = λ files printed left.
-      let stop = works.stops old.clock same.time.later (calm_then old.clock same (omega arith) (calm_now old only durable) durable) files printed left in
-      record {
-        shelf = stop.shelf;
-        stands = stop.stands;
-        front = stop.front;
-        text = stop.text ∙ ap (λ (l : List ℕ). l ++ stop.front) same.printed;
-        place = stop.place;
-        changes = subst (λ (all : List File). ChangesVtoc file volume.geometry volume.vtoc all files) same.state stop.changes;
-      };
+  silent = λ short. silent short ∙ same.printed;
+  stops = record {
+    later = omega (arith, same.time.later, works.later);
+    stops = λ files printed left.
+        let stop = works.stops old.clock same.time.later (calm_then old.clock same (omega arith) (calm_now old only durable) durable) files printed left in
+        record {
+          shelf = stop.shelf;
+          stands = stop.stands;
+          front = stop.front;
+          text = stop.text ∙ ap (λ (l : List ℕ). l ++ stop.front) same.printed;
+          place = stop.place;
+          changes = subst (λ (all : List File). ChangesVtoc file volume.geometry volume.vtoc all files) same.state stop.changes;
+          idle = λ none. stop.idle none ∙ same.state;
+        };
+  };
 }
 
 -- ---- the machine
@@ -143,7 +161,8 @@ module _ (name name' : List ℕ) (m m' : Meaning (List File)) (v v' : Vol) (volu
     (mounted : IsMounted (image_named m.state name) v) (stands_at : volume_of (image_named m.state name) ≡ Ok volume)
     (same_name : name' ≡ name) (same_geometry : v'.geometry ≡ v.geometry) (same_vtoc : v'.vtoc ≡ v.vtoc)
     (have : HaveLines (events_of (item ∷ [])))
-    (promise : Keeps m.clock (ChangesOnlyVtoc name v.geometry v.vtoc m) (ChangesOnlyVtoc name' v'.geometry v'.vtoc m')) where
+    (promise : Keeps m.clock (ChangesOnlyVtoc name v.geometry v.vtoc m) (ChangesOnlyVtoc name' v'.geometry v'.vtoc m'))
+    (stays : item.operations ≡ [] → Keeps m.clock (LeavesJust m) (LeavesJust m')) where
   here : shelf_named name m.state ≡ shelf_with volume
   here = ap shelf_in stands_at
 
@@ -155,6 +174,11 @@ module _ (name name' : List ℕ) (m m' : Meaning (List File)) (v v' : Vol) (volu
       subst (λ (n : List ℕ). ChangesVtoc n volume.geometry volume.vtoc m.state files) same_name
       (subst (λ (g : Geometry). ChangesVtoc name' g volume.vtoc m.state files) (same_geometry ∙ plan.0)
       (subst (λ (run : Run). ChangesVtoc name' v'.geometry run m.state files) (same_vtoc ∙ plan.1) made))
+
+  -- nothing was, where there is no operation
+  untouched : (t : ℕ) → t ≤ m.clock → IsCalmSince m t → (files : List File) (printed : List ℕ) → m'.left_since t files printed → operations_of (events_of (item ∷ [])) ≡ [] → files ≡ m.state
+  untouched t early calm files printed left none =
+      stays (none_in item (ap operations_of (sym (single item)) ∙ none)) t m.state early (λ j p was. (calm j p was).0) files printed left
 
   -- where a stop stands, by the machine's shelf
   stopped : (t : ℕ) → t ≤ m.clock → IsCalmSince m t → (files : List File) (printed q : List ℕ) → m'.left_since t files printed → printed ≡ m.printed ++ q → StopsIn (shelf_with volume) (events_of (item ∷ [])) (shelf_named name files) q
@@ -169,6 +193,7 @@ module _ (name name' : List ℕ) (m m' : Meaning (List File)) (v v' : Vol) (volu
         text = text;
         place = place;
         changes = changed t early calm files printed left;
+        idle = untouched t early calm files printed left;
       }
 
   -- a stop since a moment
@@ -204,7 +229,7 @@ module _ (name name' : List ℕ) (m m' : Meaning (List File)) (v v' : Vol) (volu
       }
 
 -- a sync at the end
-pub stops_synced : {name : List ℕ} {volume : Volume} {items : List Item} {m m' m'' : Meaning (List File)} → CountsNow m' → m.clock ≤ m'.clock → Synced m' m''
+pub stops_synced : {name : List ℕ} {volume : Volume} {items : List Item} {m m' m'' : Meaning (List File)} {status : ℕ} → CountsNow m' → m.clock ≤ m'.clock → Synced m' m'' status
     → ((t : ℕ) → t ≤ m.clock → IsCalmSince m t → (files : List File) (printed : List ℕ) → m'.left_since t files printed → StopStands name volume items m files printed)
     → (t : ℕ) → t ≤ m.clock → IsCalmSince m t → (files : List File) (printed : List ℕ) → m''.left_since t files printed → StopStands name volume items m files printed
 stops_synced {m' = m'} counts later synced worked t early calm files printed left =
@@ -212,12 +237,12 @@ stops_synced {m' = m'} counts later synced worked t early calm files printed lef
     (λ now. worked t early calm files printed (subst (λ (p : List ℕ). m'.left_since t files p) (sym now.1) (counts t files (omega (arith, early, later)) now.0)))
     (synced.moments.moments t files printed (omega (arith, early, later)) left)
 
-pub worked_synced : {name : List ℕ} {volume : Volume} {items : List Item} {m m' m'' : Meaning (List File)} {code : ℕ} → Synced m' m'' → HasWorked name volume items m m' code → HasWorked name volume items m m'' code
-worked_synced {name} {volume} {items} {m} synced done = record {
+pub worked_synced : {name : List ℕ} {volume : Volume} {items : List Item} {m m' m'' : Meaning (List File)} {code status : ℕ} → Synced m' m'' status → status ≢ 22 → HasWorked name volume items m m' code → HasWorked name volume items m m'' code
+worked_synced {name} {volume} {items} {m} synced ends done = record {
   code = done.code;
   printed = synced.printed ∙ done.printed;
   shelf = subst (λ (all : List File). StandsFor name all (shelf_behind (shelf_with volume) (events_of items))) (sym synced.state) done.shelf;
-  durable = synced.durable done.durable;
+  durable = synced.durable ends;
   changes = subst (λ (all : List File). ChangesVtoc name volume.geometry volume.vtoc m.state all) (sym synced.state) done.changes;
 }
 
@@ -226,17 +251,22 @@ pub not_final : (status fault : ℕ) → status ≡ fault → 21 < fault → fau
 not_final status fault is low high final = ⊎_elim (λ (few : status ≤ 21). omega (arith, is, low, few)) (λ (deck : status ≡ 26). omega (arith, is, high, deck)) final
 
 -- a run of an item that a fault ended
-pub works_failed : {name : List ℕ} {volume : Volume} {items : List Item} {m m' : Meaning (List File)} (status fault : ℕ) → status ≡ fault → 21 < fault → fault < 26
+pub works_failed : {name : List ℕ} {volume : Volume} {items : List Item} {m m' : Meaning (List File)} (status fault : ℕ) → status ≡ fault → 21 < fault → fault < 26 → m.clock ≤ m'.clock
     → ((t : ℕ) → t ≤ m.clock → IsCalmSince m t → (files : List File) (printed : List ℕ) → m'.left_since t files printed → StopStands name volume items m files printed) → WorksOn name volume items m m' status
-works_failed status fault is low high stops = record { ends = λ final. absurd (not_final status fault is low high final); stops = stops }
+works_failed status fault is low high later stops = record {
+  ends = λ final. absurd (not_final status fault is low high final);
+  later = later;
+  stops = stops;
+}
 
 -- a run of an item that came to its end, and then a sync, done or failed
-pub works_finished : {name : List ℕ} {volume : Volume} {items : List Item} {m m' m'' : Meaning (List File)} (status code : ℕ) → (status ≡ code) ⊎ (status ≡ 22) → CountsNow m' → m.clock ≤ m'.clock → Synced m' m'' → HasWorked name volume items m m' code
+pub works_finished : {name : List ℕ} {volume : Volume} {items : List Item} {m m' m'' : Meaning (List File)} (status code : ℕ) → (status ≡ code) ⊎ (status ≡ 22) → code ≤ 16 → CountsNow m' → m.clock ≤ m'.clock → Synced m' m'' status → HasWorked name volume items m m' code
     → ((t : ℕ) → t ≤ m.clock → IsCalmSince m t → (files : List File) (printed : List ℕ) → m'.left_since t files printed → StopStands name volume items m files printed) → WorksOn name volume items m m'' status
-works_finished {name} {volume} {items} {m} {m'} {m''} status code which counts later synced done stops = record {
+works_finished {name} {volume} {items} {m} {m'} {m''} status code which small counts later synced done stops = record {
   ends = λ final. ⊎_elim
-      (λ (is : status ≡ code). subst (λ (n : ℕ). HasWorked name volume items m m'' n) (sym is) (worked_synced synced done))
+      (λ (is : status ≡ code). subst (λ (n : ℕ). HasWorked name volume items m m'' n) (sym is) (worked_synced synced (λ (failed : status ≡ 22). omega (arith, is, failed, small)) done))
       (λ (failed : status ≡ 22). absurd (not_final status 22 failed (omega arith) (omega arith) final)) which;
+  later = omega (arith, later, synced.moments.later);
   stops = stops_synced counts later synced stops;
 }
 
@@ -275,6 +305,15 @@ by_file file task (Some image) {old} {new} status same other does = by_volume (v
 -- no names were printed
 pub nothing_named : (file : List ℕ) {old new : Meaning (List File)} (status : ℕ) → Same old new → ¬ IsFinal status → Does (task_on file names_task (file_of old.state file)) old new status
 nothing_named file {old} status same other = by_file file names_task (file_of old.state file) status same other (λ image volume there is. nothing_said _ 0 status same other)
+
+-- behind a condition code, or where the file is refused, no write is pending
+pub stated_durable : (file : List ℕ) (s : Rename) (found : Option (List ℕ)) {old new : Meaning (List File)} (status : ℕ) → IsDurable old → Does (task_on file (statement_task file s) found) old new status → IsFinal status → IsDurable new
+stated_durable file s None {old} {new} status durable does final = durable_left old new (does.stops.files, does.stops.left) durable
+stated_durable file s (Some image) {old} {new} status durable does final = by_volume (volume_of image) does
+  where
+    by_volume : (r : Result Volume MountErr) → Does (task_for file (statement_task file s) r) old new status → IsDurable new
+    by_volume (Ok volume) done = (done.ends final).durable
+    by_volume (Err e) done = durable_left old new (done.stops.files, done.stops.left) durable
 
 -- no statement was begun
 pub nothing_stated : (file : List ℕ) (s : Rename) {old new : Meaning (List File)} (status : ℕ) → IsDurable old → OnlyNow old → Same old new → ¬ IsFinal status → Does (task_on file (statement_task file s) (file_of old.state file)) old new status
@@ -345,6 +384,7 @@ silent_or_not (mount.DuplicateName slot other) = inr (λ is. cc, λ is. cc)
 said_then : {code : ℕ} {text : List ℕ} {old mid new : Meaning (List File)} {status : ℕ} → Same old mid → Does (Says code text) mid new status → Does (Says code text) old new status
 said_then {code} {text} {old} {mid} {new} same does = record {
   ends = λ final. let end = does.ends final in (end.0, end.1 ∙ ap (λ (l : List ℕ). l ++ text) same.printed);
+  silent = λ short. does.silent short ∙ same.printed;
   stops = kept_then same does.stops;
 }
 

@@ -28,7 +28,7 @@ number_text n = 32 ∷ decimal n
 abbrev pub with_numbers : List ℕ → List ℕ → List ℕ
 with_numbers word numbers = word ++ flat_map number_text numbers
 
--- why a header is refused: the variant's name in capitals with hyphens, and its number
+-- why a header is refused: a word for its cause, and the number that it has
 unfoldable pub image_reason : ImageErr → List ℕ
 image_reason image.Compressed = with_numbers (codes "COMPRESSED") []
 image_reason image.BadMagic = with_numbers (codes "BAD-MAGIC") []
@@ -38,7 +38,7 @@ image_reason (image.BadTrackSize size) = with_numbers (codes "BAD-TRACK-SIZE") (
 image_reason image.MultiFile = with_numbers (codes "MULTI-FILE") []
 image_reason (image.BadLength len) = with_numbers (codes "BAD-LENGTH") (len ∷ [])
 
--- why a pack isn't mounted: the variant's name in capitals with hyphens, and its numbers; for a header, those of its own reason
+-- why a pack isn't mounted: a word for its cause, and the numbers that it has; for a header, its own reason
 unfoldable pub reason_of : MountErr → List ℕ
 reason_of mount.NoFile = with_numbers (codes "NO-FILE") []
 reason_of (mount.Image e) = image_reason e

@@ -1,5 +1,5 @@
 -- The shelf that the machine over one image holds, and what it promises besides.
-use Rattle.std.specs.Prelude.{ℕ, Bool, List, [], ◌∷◌, Result, Ok, Err}
+use Rattle.std.specs.Prelude.{◌≡◌, ℕ, Bool, List, [], ◌∷◌, Result, Ok, Err}
 use Rattle.std.proofs.Common.{subst, sym}
 use Rattle.ckd_image.specs.Device.{row_of}
 use Rattle.ckd_image.specs.declared.header.Geometry.{Geometry}
@@ -53,6 +53,10 @@ status_of is_sound facts v = record { is_sound = is_sound; base = base_of facts 
 -- since that moment every stop leaves files that differ from these in the VTOC of one image alone
 abbrev pub ChangesOnlyVtoc : List ℕ → Geometry → Run → Meaning (List File) → ℕ → List File → Type 0
 ChangesOnlyVtoc name g vtoc m t files = (j : List File) (p : List ℕ) → m.left_since t j p → ChangesVtoc name g vtoc files j
+
+-- since that moment every stop leaves just these files
+abbrev pub LeavesJust : Meaning (List File) → ℕ → List File → Type 0
+LeavesJust m t files = (j : List File) (p : List ℕ) → m.left_since t j p → j ≡ files
 
 -- the shelf of a mounted image is lawful
 pub lawful_in : (image : List ℕ) (v : Vol) → IsKept image v → IsLawful (shelf_in (volume_of image))

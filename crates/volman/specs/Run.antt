@@ -9,7 +9,7 @@ use Rattle.util_syntax.specs.declared.statement.Rename.{Rename}
 use Rattle.vol_model.specs.declared.contents.Shelf.{Shelf}
 use Rattle.vol_model.specs.declared.contents.Volume.{Volume}
 use Rattle.vol_model.specs.Events as events
-use Rattle.vol_model.specs.Events.{Item, StandsIn, events_of, listing, shelf_behind}
+use Rattle.vol_model.specs.Events.{Item, StandsIn, events_of, listing, operations_of, shelf_behind}
 use Rattle.volman.specs.Deck.{deck_of}
 use Rattle.volman.specs.Machine.{shelf_with}
 use Rattle.volman.specs.Task.{Task, Says, Works, task_of}
@@ -57,7 +57,7 @@ abbrev pub IsEnd : Task → Meaning (List File) → Meaning (List File) → ℕ 
 IsEnd (Says code text) old new status = (status ≡ code) × (new.printed ≡ old.printed ++ text)
 IsEnd (Works file volume items) old new status = HasWorked file volume items old new status
 
--- What a stop leaves of a run of items: behind what was printed a prefix of their lines; an image that stands for the shelf after some of their operations, all that are reported and none that can't have begun; and nothing changed but tracks of its VTOC.
+-- What a stop leaves of a run of items: behind what was printed a prefix of their lines; an image that stands for the shelf after some of their operations, all that are reported and none that can't have begun; and nothing changed but tracks of its VTOC, and nothing at all where there is no operation.
 pub record StopStands (file : List ℕ) (volume : Volume) (items : List Item) (old : Meaning (List File)) (files : List File) (printed : List ℕ) : Type 0 where
   pub shelf : Shelf
   pub stands : StandsFor file files shelf
@@ -65,6 +65,7 @@ pub record StopStands (file : List ℕ) (volume : Volume) (items : List Item) (o
   pub text : printed ≡ old.printed ++ front
   pub place : StandsIn (shelf_with volume) (events_of items) shelf front
   pub changes : ChangesVtoc file volume.geometry volume.vtoc old.state files
+  pub idle : operations_of (events_of items) ≡ [] → files ≡ old.state
 
 -- A text was printed, or a prefix of it, and nothing was written: the files stay, and a stop leaves them as before.
 pub record KeepsFiles (text : List ℕ) (old new : Meaning (List File)) : Type 0 where
@@ -73,18 +74,20 @@ pub record KeepsFiles (text : List ℕ) (old new : Meaning (List File)) : Type 0
   pub printed : AddsPrefix text old.printed new.printed
   pub moments : Elapses old new (λ files p. old.left files × AddsPrefix text old.printed p)
 
--- whatever a stop since the begin left is what one in these items may leave
-abbrev pub KeepsShelf : List ℕ → Volume → List Item → Meaning (List File) → Meaning (List File) → Type 0
-KeepsShelf file volume items old new = (files : List File) (printed : List ℕ) → new.left_since old.clock files printed → StopStands file volume items old files printed
+-- Time goes on, and whatever a stop since the begin left is what one in these items may leave.
+pub record KeepsShelf (file : List ℕ) (volume : Volume) (items : List Item) (old new : Meaning (List File)) : Type 0 where
+  pub later : old.clock ≤ new.clock
+  pub stops : (files : List File) (printed : List ℕ) → new.left_since old.clock files printed → StopStands file volume items old files printed
 
 -- whatever the status, a stop at any moment leaves what the task allows
 abbrev pub IsSafe : Task → Meaning (List File) → Meaning (List File) → Type 0
 IsSafe (Says code text) old new = KeepsFiles text old new
 IsSafe (Works file volume items) old new = KeepsShelf file volume items old new
 
--- A task is done where the status says so, and is safe whatever the status is.
+-- A task is done where the status says so, and is safe whatever the status is; where memory ran out nothing was printed.
 pub record Does (task : Task) (old new : Meaning (List File)) (status : ℕ) : Type 0 where
   pub ends : IsFinal status → IsEnd task old new status
+  pub silent : status ≡ 25 → new.printed ≡ old.printed
   pub stops : IsSafe task old new
 
 -- What the program promises, with the deck that the cards held at its begin, or, where these don't tell, with some deck.
@@ -105,13 +108,14 @@ IsCalmSince m t = (files : List File) (printed : List ℕ) → m.left_since t fi
 -- Items on the shelf of a pack that was mounted: they are done where the status says so; and if a stop since a moment left nothing else than was there, then one since that moment leaves what one in the items may leave.
 pub record WorksOn (file : List ℕ) (volume : Volume) (items : List Item) (old new : Meaning (List File)) (status : ℕ) : Type 0 where
   pub ends : IsFinal status → HasWorked file volume items old new status
+  pub later : old.clock ≤ new.clock
   pub stops : (t : ℕ) → t ≤ old.clock → IsCalmSince old t → (files : List File) (printed : List ℕ) → new.left_since t files printed → StopStands file volume items old files printed
 
--- Calls that make what is read durable, done or failed, and change nothing else.
-pub record Synced (old new : Meaning (List File)) : Type 0 where
+-- A sync, done or failed: what is read stays, and is durable but where the status is that of a device fault.
+pub record Synced (old new : Meaning (List File)) (status : ℕ) : Type 0 where
   pub state : new.state ≡ old.state
   pub printed : new.printed ≡ old.printed
-  pub durable : IsDurable old → IsDurable new
+  pub durable : status ≢ 22 → IsDurable new
   pub moments : Elapses old new (LeftNow old)
 
 -- no count of faults fell
@@ -147,3 +151,15 @@ pub record OnFile (file : List ℕ) (old new : Facts) (status : ℕ) : Type 0 wh
   pub later : Later old new
   pub references : new.references ≡ old.references
   pub units : AttachesAtMost file old new
+
+-- the files stay, and a stop leaves them as before
+abbrev pub LeavesFiles : Meaning (List File) → Meaning (List File) → Type 0
+LeavesFiles old new = (new.state ≡ old.state) × LeavesSame old new
+
+-- a status with which nothing was begun: the words, the file or the deck is refused, or the cards couldn't be read
+abbrev pub IsUnbegun : ℕ → Type 0
+IsUnbegun n = ((20 ≤ n) × (n ≤ 21)) ⊎ ((n ≡ 23) ⊎ (n ≡ 26))
+
+-- a status with which no file was asked for
+abbrev pub IsUnasked : ℕ → Type 0
+IsUnasked n = (n ≡ 20) ⊎ ((n ≡ 23) ⊎ (n ≡ 26))

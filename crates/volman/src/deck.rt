@@ -16,7 +16,7 @@ const MOST: usize = 83;
 /// Why there is no statement.
 #[derive(Clone, Copy, Debug, PartialEq, Eq)]
 pub enum DeckErr {
-    /// The deck isn't one RENAME statement of at most 80 columns on one line.
+    /// The deck isn't one RENAME statement on one card.
     Form,
     /// The cards couldn't be read, and their count of faults rose.
     Read,
@@ -30,7 +30,7 @@ impl From<ReadFault> for DeckErr {
     }
 }
 
-/// Reads the deck: one line of at most 80 columns, which is a RENAME statement.
+/// Reads the deck: a RENAME statement on one card, which is a line of up to 80 columns.
 ///
 /// The line ends with a line feed, or a carriage return and a line feed, or where the cards end. A deck of
 /// 83 bytes or more is refused with `Form` after 83 bytes, and takes no more cards. It takes no memory.

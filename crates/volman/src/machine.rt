@@ -6,10 +6,10 @@ ghost use Rattle.hall_core.specs.Files.{image_of};
 ghost use Rattle.hall_core.specs.Moments.{IsDurable};
 ghost use Rattle.hall_core.specs.Steps.{seen};
 ghost use Rattle.hall_core.proofs.MomentLemmas.{durable_seen, counts_now_seen, only_now_seen};
-ghost use Rattle.vol_model.specs.Shelf.{number_of};
+ghost use Rattle.vol_model.specs.Shelf.{number_of, step};
 ghost use Rattle.vtoc_index.specs.Index.{IsMounted, IsOfUnit};
 ghost use Rattle.vtoc_index.specs.Kept.{IsKept, kept_props};
-ghost use Rattle.volman.specs.Machine.{ChangesOnlyVtoc, lawful_in, shelf_named, status_of};
+ghost use Rattle.volman.specs.Machine.{ChangesOnlyVtoc, LeavesJust, lawful_in, shelf_named, status_of};
 
 use dadsm_ops::rename;
 use ebcdic_names::{Dsn, Serial};
@@ -54,7 +54,8 @@ impl<H: Hall> PackMachine<H> {
         self.hall
     }
 
-    /// The number of the volume with this serial, if it is on the shelf.
+    /// The number of the volume with this serial, if it is on the shelf of a sound machine: 0, since there is
+    /// but one.
     pub fn number_of(&self, serial: &Serial) -> Option<u8>
         requires { self.now.is_sound ≡ true }
         ensures { IsTrue H.tells → result ≡ number_of (shelf_named (unit_of (H.facts self.now.hall).units self.now.vol.unit).name (H.meaning self.now.hall).state) serial.now.bytes }
@@ -69,13 +70,14 @@ impl<H: Hall> PackMachine<H> {
 
 impl<H: Hall> PackMachine<H> {
     ghost use Rattle.std.specs.Prelude.{IsErrOf};
-    ghost use Rattle.vol_model.specs.Calls.{Applies, Keeps, MachineCall};
+    ghost use Rattle.vol_model.specs.Calls.{Applies, IsIdle, Keeps, MachineCall};
 
     // Gives a data set of the volume of this number another name.
     fn rename(&mut self, v: u8, old: &Dsn, new: &Dsn) -> Result<(), MachErr>
         requires sound { IsTrue self.old.is_sound }
         ensures shelf { IsTrue H.tells → Applies (Op.Rename v old.now new.now) (seen (shelf_named (unit_of (H.facts self.old.hall).units self.old.vol.unit).name) (H.meaning self.old.hall)) (seen (shelf_named (unit_of (H.facts self.new.hall).units self.new.vol.unit).name) (H.meaning self.new.hall)) result }
         ensures promise { IsTrue H.tells → Keeps (H.meaning self.old.hall).clock (ChangesOnlyVtoc (unit_of (H.facts self.old.hall).units self.old.vol.unit).name self.old.vol.geometry self.old.vol.vtoc (H.meaning self.old.hall)) (ChangesOnlyVtoc (unit_of (H.facts self.new.hall).units self.new.vol.unit).name self.new.vol.geometry self.new.vol.vtoc (H.meaning self.new.hall)) }
+        ensures stays { IsTrue H.tells → IsIdle (step (shelf_named (unit_of (H.facts self.old.hall).units self.old.vol.unit).name (H.meaning self.old.hall).state) (Op.Rename v old.now new.now)) result → Keeps (H.meaning self.old.hall).clock (LeavesJust (H.meaning self.old.hall)) (LeavesJust (H.meaning self.new.hall)) }
         ensures call { MachineCall (status_of self.old.is_sound (H.facts self.old.hall) self.old.vol) (status_of self.new.is_sound (H.facts self.new.hall) self.new.vol) result }
         ensures print { IsErrOf result MachErr.Print → ⊥ }
     {
@@ -104,6 +106,8 @@ impl<H: Hall> Machine for PackMachine<H> {
     ghost status = { λ m. status_of m.is_sound (H.facts m.hall) m.vol };
 
     ghost promise = { λ m t files. ChangesOnlyVtoc (unit_of (H.facts m.hall).units m.vol.unit).name m.vol.geometry m.vol.vtoc (H.meaning m.hall) t files };
+
+    ghost stays = { λ m t files. LeavesJust (H.meaning m.hall) t files };
 
     ghost lawful = { λ m told sound. lawful_in _ _ (m.kept sound told) };
 

@@ -13,7 +13,8 @@ use vtoc_index::{MountErr, Vol, read_vtoc};
 /// Attaches a file, and reads the index of the pack in it.
 ///
 /// `NoFile` comes where the file is missing, `Device` where the device failed, and `Memory` where memory
-/// ran out; any other error is the first rule of mounting that the image breaks.
+/// ran out; any other error is the first rule of mounting that the image breaks. Nothing but the time
+/// changes, also behind an error, but that the file may be attached then.
 #[tactic(auto, using(hall_core::proofs::MomentLemmas::same_then))]
 pub fn mount<H: Hall>(alloc: Global, hall: &mut H, file: &str) -> Result<Vol, MountErr>
     requires { (H.facts hall.old).units ≡ [] }

@@ -7,7 +7,7 @@ use itoa::Buffer;
 use std::alloc::AllocError;
 use vtoc_index::MountErr;
 
-/// Adds the reason: the name of its variant in capitals with hyphens, and its numbers in decimal.
+/// Adds the reason: the word for its cause, as `BAD-CHAIN` for `BadChain`, and its numbers in decimal.
 ///
 /// A header that is refused has its own reason.
 #[tactic(auto, unfolding(crate::specs::Lines::reason_of))]

@@ -1,5 +1,5 @@
 //! A RENAME statement on any machine.
-ghost use Rattle.std.specs.Prelude.{◌≡◌, ◌≤◌, [], ◌∷◌, map, IsTrue, IfOk};
+ghost use Rattle.std.specs.Prelude.{◌≡◌, ◌≤◌, [], ◌∷◌, map, IsErrOf, IsTrue, IfOk};
 ghost use Rattle.vol_model.specs.Calls.{Keeps};
 ghost use Rattle.vol_model.specs.Events.{Do, Say, events_in};
 ghost use Rattle.vol_model.specs.Runs.{Runs, RunCall};
@@ -28,7 +28,9 @@ pub fn run_rename<M: Machine>(
     ensures runs { IsTrue M.tells → Runs M.tells_prints (events_in (item_of (M.meaning machine.old).state statement.now)) (M.meaning machine.old) (M.meaning machine.new) result }
     ensures code { IsTrue M.tells → IfOk result (λ code. code ≡ (item_of (M.meaning machine.old).state statement.now).code) }
     ensures small { IfOk result (λ code. code ≤ 16) }
+    ensures silent { IsTrue M.tells → IsErrOf result Stop.Memory → (M.meaning machine.new).printed ≡ (M.meaning machine.old).printed }
     ensures promise { IsTrue M.tells → Keeps (M.meaning machine.old).clock (M.promise machine.old) (M.promise machine.new) }
+    ensures stays { IsTrue M.tells → (item_of (M.meaning machine.old).state statement.now).operations ≡ [] → Keeps (M.meaning machine.old).clock (M.stays machine.old) (M.stays machine.new) }
     ensures call { RunCall (M.status machine.old) (M.status machine.new) result }
 {
     let outcome = rename(machine, volume, statement)?;
@@ -49,7 +51,9 @@ fn rename<M: Machine>(
     ensures runs { IsTrue M.tells → Runs M.tells_prints (map Do (item_on (M.meaning machine.old).state statement.now volume).operations) (M.meaning machine.old) (M.meaning machine.new) result }
     ensures lines { IsTrue M.tells → IfOk result (λ outcome. (item_on (M.meaning machine.old).state statement.now volume).lines ≡ answer_line statement.now outcome ∷ []) }
     ensures code { IsTrue M.tells → IfOk result (λ outcome. (item_on (M.meaning machine.old).state statement.now volume).code ≡ code_for outcome) }
+    ensures printed { IsTrue M.tells → (M.meaning machine.new).printed ≡ (M.meaning machine.old).printed }
     ensures promise { IsTrue M.tells → Keeps (M.meaning machine.old).clock (M.promise machine.old) (M.promise machine.new) }
+    ensures stays { IsTrue M.tells → (item_on (M.meaning machine.old).state statement.now volume).operations ≡ [] → Keeps (M.meaning machine.old).clock (M.stays machine.old) (M.stays machine.new) }
     ensures call { RunCall (M.status machine.old) (M.status machine.new) result }
 {
     let Some(v) = volume else {
@@ -73,7 +77,9 @@ fn rename<M: Machine>(
 fn say<M: Machine>(machine: &mut M, line: &[u8]) -> Result<(), Stop>
     requires sound { IsTrue (M.status machine.old).is_sound }
     ensures runs { IsTrue M.tells → Runs M.tells_prints (Say line.now ∷ []) (M.meaning machine.old) (M.meaning machine.new) result }
+    ensures silent { IsTrue M.tells → IsErrOf result Stop.Memory → (M.meaning machine.new).printed ≡ (M.meaning machine.old).printed }
     ensures promise { IsTrue M.tells → Keeps (M.meaning machine.old).clock (M.promise machine.old) (M.promise machine.new) }
+    ensures stays { IsTrue M.tells → Keeps (M.meaning machine.old).clock (M.stays machine.old) (M.stays machine.new) }
     ensures call { RunCall (M.status machine.old) (M.status machine.new) result }
 {
     match machine.print(line) {

@@ -5,7 +5,7 @@ ghost use Rattle.volman.specs.Run.{code_of};
 /// How the program ends.
 #[derive(Clone, Copy, Debug, PartialEq, Eq)]
 pub enum Status {
-    /// What was asked for was done.
+    /// The names were printed. A deck ends with its condition code, 0 or 8.
     Done = 0,
     /// The words are refused.
     Words = 20,

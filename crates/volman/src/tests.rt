@@ -18,6 +18,7 @@ use packs::{A_B, AB, Slot, pack};
 use scarce::Scarce;
 use std::alloc::{AllocError, Global};
 use std::cmp::Ordering;
+use std::process::Abort;
 use std::test::Fail;
 
 // The words that ask for the names of the file that the hall holds, and of one that it doesn't hold.
@@ -91,7 +92,7 @@ fn status<H: Hall>(alloc: Global, words: &[&str], hall: &mut H) -> Result<u8, Al
 // The words, the call that is to fail, whether memory runs out, and the status.
 type Case = (&'static [&'static str], Option<u64>, bool, u8);
 
-const CASES: [Case; 8] = [
+const CASES: &[Case] = &[
     (NAMES, None, false, 0),
     (OTHER, None, false, 20),
     (OTHER, None, true, 20),
@@ -102,20 +103,40 @@ const CASES: [Case; 8] = [
     (NAMES, None, true, 25),
 ];
 
-// With 25 nothing is called behind the attachment, and nothing printed.
+// The words end with the status. With 25 nothing is called behind the attachment, and nothing printed.
+fn assert_reached(rt: &impl Abort, alloc: Global, image: &[u8], case: Case) -> Result<(), Fail> {
+    let (words, fail, is_full, code) = case;
+    let hall = hall_with(alloc, image, Limits { fail, ..AMPLE })?;
+    let mut scarce = Scarce { hall, is_full };
+    let reached = status(alloc, words, &mut scarce)?;
+    assert_eq!(rt; reached, code, "{words:?} {fail:?} {is_full}");
+    if code == 25 {
+        assert!(rt; scarce.hall.calls().is_empty());
+        assert_eq!(rt; scarce.hall.printed(), b"".as_slice());
+    }
+    Ok(())
+}
+
 #[test]
 fn each_status_is_reached(rt: HostRuntime) -> Result<(), Fail> {
     let image = pack(rt.alloc(), TWO_SETS)?;
-    for (words, fail, is_full, code) in CASES {
-        let hall = hall_with(rt.alloc(), &image, Limits { fail, ..AMPLE })?;
-        let mut scarce = Scarce { hall, is_full };
-        let reached = status(rt.alloc(), words, &mut scarce)?;
-        assert_eq!(rt; reached, code, "{words:?} {fail:?} {is_full}");
-        if code == 25 {
-            assert!(rt; scarce.hall.calls().is_empty());
-            assert_eq!(rt; scarce.hall.printed(), b"".as_slice());
-        }
+    for case in CASES {
+        assert_reached(&rt, rt.alloc(), &image, *case)?;
     }
+    Ok(())
+}
+
+// The names on the pack with these slots are printed in this order.
+fn assert_listed(
+    rt: &impl Abort,
+    alloc: Global,
+    vtoc: &[&[Slot]],
+    listing: &[u8],
+) -> Result<(), Fail> {
+    let image = pack(alloc, vtoc)?;
+    let mut hall = hall_with(alloc, &image, AMPLE)?;
+    assert_eq!(rt; status(alloc, NAMES, &mut hall)?, 0, "{listing:?}");
+    assert_eq!(rt; hall.printed(), listing);
     Ok(())
 }
 
@@ -147,11 +168,22 @@ fn sets_are_printed_in_the_order_of_their_ebcdic_bytes(rt: HostRuntime) -> Resul
         ),
         (others, b"\nA.B\nA B\nA.\n".as_slice()),
     ] {
-        let image = pack(rt.alloc(), vtoc)?;
-        let mut hall = hall_with(rt.alloc(), &image, AMPLE)?;
-        assert_eq!(rt; status(rt.alloc(), NAMES, &mut hall)?, 0, "{listing:?}");
-        assert_eq!(rt; hall.printed(), listing);
+        assert_listed(&rt, rt.alloc(), vtoc, listing)?;
     }
+    Ok(())
+}
+
+/// These words are refused by one print, whatever the file w.img holds, and no card is read.
+pub(crate) fn assert_words_refused(
+    rt: &impl Abort,
+    alloc: Global,
+    words: &[&str],
+    image: &[u8],
+) -> Result<(), Fail> {
+    let mut hall = hall_with(alloc, image, AMPLE)?;
+    assert_eq!(rt; status(alloc, words, &mut hall)?, 20, "{words:?}");
+    assert_eq!(rt; hall.printed(), b"VOLMAN WORDS\n".as_slice(), "{words:?}");
+    assert_eq!(rt; hall.calls(), [Call::Print].as_slice(), "{words:?}");
     Ok(())
 }
 
@@ -168,9 +200,7 @@ fn other_words_are_refused(rt: HostRuntime) -> Result<(), Fail> {
         &["volman", "NAMES", "w.img"],
     ];
     for words in cases {
-        let mut hall = hall_with(rt.alloc(), b"", AMPLE)?;
-        assert_eq!(rt; status(rt.alloc(), words, &mut hall)?, 20, "{words:?}");
-        assert_eq!(rt; hall.printed(), b"VOLMAN WORDS\n".as_slice(), "{words:?}");
+        assert_words_refused(&rt, rt.alloc(), words, b"")?;
     }
     Ok(())
 }
@@ -199,7 +229,35 @@ const FIVE_TRACKS_READ: &[Call] = &[
     Call::Print,
 ];
 
-// What fails is on the record too, and nothing is called behind it.
+// These are the calls where all are done, and their front part where one fails, that one included.
+fn assert_calls(
+    rt: &impl Abort,
+    alloc: Global,
+    image: &[u8],
+    failing: usize,
+    calls: &[Call],
+) -> Result<(), Fail> {
+    let limits = Limits {
+        fail: Some(failing as u64),
+        ..AMPLE
+    };
+    let mut hall = hall_with(alloc, image, limits)?;
+    let behind = failing.saturating_add(1);
+    let (code, printed) = match behind.cmp(&calls.len()) {
+        Ordering::Less => (22, b"".as_slice()),
+        Ordering::Equal => (24, b"".as_slice()),
+        Ordering::Greater => (0, TWO_SETS_LISTING),
+    };
+    assert_eq!(rt; status(alloc, NAMES, &mut hall)?, code, "{limits:?}");
+    assert_eq!(rt; hall.printed(), printed, "{limits:?}");
+    assert_eq!(rt;
+        hall.calls(),
+        &calls[..behind.min(calls.len())],
+        "{limits:?}"
+    );
+    Ok(())
+}
+
 #[test]
 fn each_track_is_read_once_and_nothing_is_written(rt: HostRuntime) -> Result<(), Fail> {
     let five_tracks: &[&[Slot]] = &[
@@ -212,22 +270,27 @@ fn each_track_is_read_once_and_nothing_is_written(rt: HostRuntime) -> Result<(),
     for (vtoc, calls) in [(TWO_SETS, TWO_TRACKS_READ), (five_tracks, FIVE_TRACKS_READ)] {
         let image = pack(rt.alloc(), vtoc)?;
         for failing in 0..calls.len() + 1 {
-            let limits = Limits {
-                fail: Some(failing as u64),
-                ..AMPLE
-            };
-            let mut hall = hall_with(rt.alloc(), &image, limits)?;
-            let (code, printed) = match (failing + 1).cmp(&calls.len()) {
-                Ordering::Less => (22, b"".as_slice()),
-                Ordering::Equal => (24, b"".as_slice()),
-                Ordering::Greater => (0, TWO_SETS_LISTING),
-            };
-            assert_eq!(rt; status(rt.alloc(), NAMES, &mut hall)?, code, "{limits:?}");
-            assert_eq!(rt; hall.printed(), printed, "{limits:?}");
-            let made = (failing + 1).min(calls.len());
-            assert_eq!(rt; hall.calls(), &calls[..made], "{limits:?}");
+            assert_calls(&rt, rt.alloc(), &image, failing, calls)?;
         }
     }
+    Ok(())
+}
+
+// The words, the room for calls and bytes, the status, and what is printed.
+type Room = (&'static [&'static str], u64, u64, u8, &'static [u8]);
+
+// With so much room the words end so.
+fn assert_room(rt: &impl Abort, alloc: Global, image: &[u8], case: Room) -> Result<(), Fail> {
+    let (words, calls, bytes, code, printed) = case;
+    let limits = Limits {
+        fail: None,
+        calls,
+        bytes,
+    };
+    let mut hall = hall_with(alloc, image, limits)?;
+    let reached = status(alloc, words, &mut hall)?;
+    assert_eq!(rt; reached, code, "{words:?} {limits:?}");
+    assert_eq!(rt; hall.printed(), printed, "{words:?} {limits:?}");
     Ok(())
 }
 
@@ -235,7 +298,7 @@ fn each_track_is_read_once_and_nothing_is_written(rt: HostRuntime) -> Result<(),
 #[test]
 fn too_little_room_is_a_fault(rt: HostRuntime) -> Result<(), Fail> {
     let image = pack(rt.alloc(), TWO_SETS)?;
-    for (words, calls, bytes, code, printed) in [
+    for case in [
         (NAMES, 0, 32, 22, b"".as_slice()),
         (NAMES, 4, 32, 22, b"".as_slice()),
         (NAMES, 5, 32, 24, b"".as_slice()),
@@ -250,18 +313,7 @@ fn too_little_room_is_a_fault(rt: HostRuntime) -> Result<(), Fail> {
         (OTHER, 1, 12, 24, b"".as_slice()),
         (OTHER, 1, 13, 20, b"VOLMAN WORDS\n".as_slice()),
     ] {
-        let limits = Limits {
-            fail: None,
-            calls,
-            bytes,
-        };
-        let mut hall = hall_with(rt.alloc(), &image, limits)?;
-        assert_eq!(rt;
-            status(rt.alloc(), words, &mut hall)?,
-            code,
-            "{words:?} {limits:?}"
-        );
-        assert_eq!(rt; hall.printed(), printed, "{words:?} {limits:?}");
+        assert_room(&rt, rt.alloc(), &image, case)?;
     }
     Ok(())
 }

@@ -5,7 +5,8 @@ ghost use Rattle.hall_core.specs.Files.{file_of};
 ghost use Rattle.volman.specs.Deck.{deck_of};
 ghost use Rattle.volman.specs.Lines.{names_listing, unit_line};
 ghost use Rattle.volman.specs.Names.{IsListing, names_in};
-ghost use Rattle.volman.specs.Run.{AttachesAsked, CountsReported, Does, Headline, IsStatus, Later, OnFile, PrintsText, code_of};
+ghost use Rattle.hall_core.specs.Moments.{IsDurable};
+ghost use Rattle.volman.specs.Run.{AttachesAsked, CountsReported, Does, Headline, IsFinal, IsStatus, IsUnasked, IsUnbegun, Later, LeavesFiles, OnFile, PrintsText, code_of};
 ghost use Rattle.volman.specs.Task.{Says, names_task, statement_task, task_on};
 ghost use Rattle.volman.specs.Words.{Run, request_of};
 
@@ -50,8 +51,14 @@ pub fn volman<C: Cards, H: Hall>(alloc: Global, words: &[String], cards: &mut C,
     // that can't have begun; and nothing at all is changed where no statement is to be done.
     ensures headline { IsTrue H.tells → Headline (request_of (map string_bytes words.now)) C.tells (C.left cards.old) (H.meaning hall.old) (H.meaning hall.new) result }
 
-    // The cards were read to their end where a statement was done or refused; and where none is asked
-    // for, no card was read.
+    // Where nothing was begun the files stay; a fault while names are read prints nothing; and behind all
+    // but a fault of the device or of the printer no write is pending.
+    ensures untouched { IsTrue H.tells → IsUnbegun result → LeavesFiles (H.meaning hall.old) (H.meaning hall.new) }
+    ensures silent { IsTrue H.tells → ((file : List ℕ) → request_of (map string_bytes words.now) ≢ Some (Run file)) → (result ≡ 22) ⊎ (result ≡ 25) → (H.meaning hall.new).printed ≡ (H.meaning hall.old).printed }
+    ensures durable { IsTrue H.tells → IsFinal result ⊎ ((result ≡ 23) ⊎ (result ≡ 25)) → IsDurable (H.meaning hall.new) }
+
+    // No card is left where a statement was done or refused; and where no statement is asked for, no
+    // card was read.
     ensures deck { IsTrue C.tells → (file : List ℕ) → request_of (map string_bytes words.now) ≡ Some (Run file) → result ≤ 16 → C.left cards.new ≡ [] }
     ensures cards { ((file : List ℕ) → request_of (map string_bytes words.now) ≢ Some (Run file)) → cards.new ≡ cards.old }
 
@@ -60,6 +67,7 @@ pub fn volman<C: Cards, H: Hall>(alloc: Global, words: &[String], cards: &mut C,
     ensures words { result ≡ 20 → request_of (map string_bytes words.now) ≡ None }
     ensures refused { request_of (map string_bytes words.now) ≡ None → (result ≡ 20) ⊎ (result ≡ 24) }
     ensures form { result ≡ 26 → IsTrue C.tells → deck_of (C.left cards.old) ≡ None }
+    ensures formless { IsTrue C.tells → (file : List ℕ) → request_of (map string_bytes words.now) ≡ Some (Run file) → deck_of (C.left cards.old) ≡ None → (result ≡ 26) ⊎ ((result ≡ 23) ⊎ (result ≡ 24)) }
     ensures asked { result ≡ 26 → (file : List ℕ) × (request_of (map string_bytes words.now) ≡ Some (Run file)) }
     ensures device { result ≡ 22 → Rose (H.facts hall.old).dev_faults (H.facts hall.new).dev_faults }
     ensures print { result ≡ 24 → Rose (H.facts hall.old).print_faults (H.facts hall.new).print_faults }
@@ -76,6 +84,11 @@ pub fn volman<C: Cards, H: Hall>(alloc: Global, words: &[String], cards: &mut C,
     // It is the same hall, with at most the file that the words name.
     ensures references { (H.facts hall.new).references ≡ (H.facts hall.old).references }
     ensures units { AttachesAsked (request_of (map string_bytes words.now)) (H.facts hall.old) (H.facts hall.new) }
+
+    // The words come first, then the deck, then the file: none is attached where the words or the deck
+    // are refused, or the cards couldn't be read.
+    ensures unasked { IsUnasked result → (H.facts hall.new).units ≡ (H.facts hall.old).units }
+    ensures refused_deck { IsTrue C.tells → (file : List ℕ) → request_of (map string_bytes words.now) ≡ Some (Run file) → deck_of (C.left cards.old) ≡ None → (H.facts hall.new).units ≡ (H.facts hall.old).units }
 {
     match action_of(words) {
         None => end(hall, WORDS_LINE, Status::Words),
@@ -110,6 +123,8 @@ fn end<H: Hall>(hall: &mut H, text: &[u8], status: Status) -> u8
 fn names<H: Hall>(alloc: Global, hall: &mut H, file: &str) -> u8
     requires { (H.facts hall.old).units ≡ [] }
     ensures does { IsTrue H.tells → Does (task_on file.now names_task (file_of (H.meaning hall.old).state file.now)) (H.meaning hall.old) (H.meaning hall.new) result }
+    ensures files { IsTrue H.tells → LeavesFiles (H.meaning hall.old) (H.meaning hall.new) }
+    ensures silent { IsTrue H.tells → (result ≡ 22) ⊎ (result ≡ 25) → (H.meaning hall.new).printed ≡ (H.meaning hall.old).printed }
     ensures call { OnFile file.now (H.facts hall.old) (H.facts hall.new) result }
 {
     match mount(alloc, hall, file) {
@@ -125,6 +140,8 @@ fn names<H: Hall>(alloc: Global, hall: &mut H, file: &str) -> u8
 fn run<H: Hall>(alloc: Global, hall: &mut H, file: &str, statement: &Rename) -> u8
     requires { (H.facts hall.old).units ≡ [] }
     ensures does { IsTrue H.tells → Does (task_on file.now (statement_task file.now statement.now) (file_of (H.meaning hall.old).state file.now)) (H.meaning hall.old) (H.meaning hall.new) result }
+    ensures refused { IsTrue H.tells → result ≡ 21 → LeavesFiles (H.meaning hall.old) (H.meaning hall.new) }
+    ensures durable { IsTrue H.tells → result ≡ 25 → IsDurable (H.meaning hall.new) }
     ensures call { OnFile file.now (H.facts hall.old) (H.facts hall.new) result }
 {
     match mount(alloc, hall, file) {
@@ -140,6 +157,8 @@ fn run<H: Hall>(alloc: Global, hall: &mut H, file: &str, statement: &Rename) -> 
 fn refuse<H: Hall>(alloc: Global, hall: &mut H, file: &str, why: MountErr) -> u8
     ensures does { IsTrue H.tells → why ≢ MountErr.Memory → why ≢ MountErr.Device → Does (Says 21 (unit_line file.now why)) (H.meaning hall.old) (H.meaning hall.new) result }
     ensures silent { (why ≡ MountErr.Memory) ⊎ (why ≡ MountErr.Device) → hall.new ≡ hall.old }
+    ensures files { IsTrue H.tells → LeavesFiles (H.meaning hall.old) (H.meaning hall.new) }
+    ensures faults { (result ≡ 22) ⊎ (result ≡ 25) → hall.new ≡ hall.old }
     ensures device { why ≡ MountErr.Device → result ≡ 22 }
     ensures memory { why ≡ MountErr.Memory → result ≡ 25 }
     ensures which { why ≢ MountErr.Device → (result ≡ 21) ⊎ ((result ≡ 24) ⊎ (result ≡ 25)) }

@@ -20,12 +20,18 @@ use vol_model::Stop;
 use vtoc_index::Vol;
 
 /// Does a statement on a pack that is mounted on a hall, makes all writes durable, and gives the status and
-/// the hall: the condition code, or the status of a fault.
+/// the hall: the condition code, 0 or 8, or the status of a fault of the device, 22, of the printer, 24, or
+/// of want of memory, 25.
+///
+/// No write is pending before. Behind a fault the hall is one that a stop may leave; behind want of memory
+/// the statement may be done, and nothing was printed.
 pub fn run_statement<H: Hall>(alloc: Global, statement: &Rename, vol: Vol, hall: H) -> (u8, H)
     requires unit { IsOfUnit (H.facts hall).units vol }
     requires mounted { IsTrue H.tells → IsMounted (image_of (H.meaning hall).state (H.facts hall) vol.unit) vol }
     requires durable { IsTrue H.tells → IsDurable (H.meaning hall) }
     ensures does { IsTrue H.tells → (volume : Volume) → volume_of (image_of (H.meaning hall).state (H.facts hall) vol.unit) ≡ Ok volume → WorksOn (unit_of (H.facts hall).units vol.unit).name volume (item_of (shelf_with volume) statement.now ∷ []) (H.meaning hall) (H.meaning result.1) result.0 }
+    ensures durable { IsTrue H.tells → result.0 ≡ 25 → IsDurable (H.meaning result.1) }
+    ensures silent { IsTrue H.tells → result.0 ≡ 25 → (H.meaning result.1).printed ≡ (H.meaning hall).printed }
     ensures status { (result.0 ≤ 16) ⊎ ((result.0 ≡ 22) ⊎ ((result.0 ≡ 24) ⊎ (result.0 ≡ 25))) }
     ensures device { result.0 ≡ 22 → Rose (H.facts hall).dev_faults (H.facts result.1).dev_faults }
     ensures print { result.0 ≡ 24 → Rose (H.facts hall).print_faults (H.facts result.1).print_faults }
@@ -50,7 +56,7 @@ pub fn run_statement<H: Hall>(alloc: Global, statement: &Rename, vol: Vol, hall:
 // Makes all writes durable, and gives the status: this code, or that of a device fault.
 fn finish<H: Hall>(hall: &mut H, code: u8) -> u8
     requires { code ≤ 16 }
-    ensures told { IsTrue H.tells → Synced (H.meaning hall.old) (H.meaning hall.new) }
+    ensures told { IsTrue H.tells → Synced (H.meaning hall.old) (H.meaning hall.new) result }
     ensures status { (result ≡ code) ⊎ (result ≡ 22) }
     ensures device { result ≡ 22 → Rose (H.facts hall.old).dev_faults (H.facts hall.new).dev_faults }
     ensures reported { CountsReported result (H.facts hall.old) (H.facts hall.new) }

@@ -27,10 +27,14 @@ use Rattle.track_records.proofs.StandLemmas.{stand}
 use Rattle.vtoc_index.specs.declared.vol.Vol.{Vol}
 use Rattle.vtoc_index.specs.Contents.{AreDscbs, with_bytes}
 use Rattle.vtoc_index.specs.Index.{IsIndexOf, IsMounted, IsPut, run_of, slots_before, track_index}
-use Rattle.vtoc_index.specs.Puts.{IsHeld, IsReplaced, KeepsExtent}
+use Rattle.vtoc_index.specs.Puts.{IsHeld, IsReplaced}
 use Rattle.vtoc_index.proofs.PutLaw.{Found, buffer_of, front_of, index_put, same_records, slot_found, slot_written, some_label, track_of}
 use Rattle.vtoc_index.proofs.TrackPut.{slots_at-some, slots_by}
 use Rattle.vtoc_index.proofs.VtocPut.{before_none, same_or_apart}
+
+-- bytes for slot 0 have the extent, ten bytes at 105, that stands in it
+abbrev pub KeepsExtent : ℕ → List ℕ → List VtocSlot → Type 0
+KeepsExtent slot bytes slots = slot ≡ 0 → (s : VtocSlot) → slice_get slots 0 ≡ Some s → slice_range bytes 105 115 ≡ slice_range s.bytes 105 115
 
 -- the same ten bytes hold the same addresses
 same_part : (i j : ℕ) (xs ys : List ℕ) → j ≤ 10 → slice_range xs 105 115 ≡ slice_range ys 105 115 → slice_range (drop 105 xs) i j ≡ slice_range (drop 105 ys) i j

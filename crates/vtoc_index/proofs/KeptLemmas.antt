@@ -1,12 +1,11 @@
 -- An index as a fact with one proof at most, there and back.
-use Rattle.std.proofs.Common.{◌≡◌, ◌≢◌, ⊎_elim, inl, inr, ◌<◌, ◌≤◌, ◌+◌, ◌/◌, ◌%◌, ℕ, zero, suc, Bool, true, false, cond, List, [], ◌∷◌, length, drop, Option, Some, None, refl, sym, ◌∙◌, ap, subst, arith}
-use Rattle.std.specs.Prelude.{◌⊎◌, nat_le, unwrap_or, Ok, take}
+use Rattle.std.proofs.Common.{◌≡◌, ◌≢◌, ⊎_elim, inl, inr, ◌/◌, ◌%◌, ℕ, zero, suc, Bool, true, false, cond, List, [], ◌∷◌, length, drop, Option, Some, None, refl, sym, ◌∙◌, ap, subst}
+use Rattle.std.specs.Prelude.{◌⊎◌, nat_le}
 use Rattle.std.specs.Option.{option_map}
 use Rattle.std.proofs.lemmas.Bool.{le-leb}
-use Rattle.ckd_image.specs.declared.header.Geometry.{Geometry}
 use Rattle.ckd_image.specs.Track.{Record}
 use Rattle.ckd_image.specs.Reading.{front_record, is_at_end, is_front, is_record_at, record_length, records_behind, records_of, records_to_end, records_up_to}
-use Rattle.pack_spec.specs.Label.{heads_of, label_of, records_on, track_bytes}
+use Rattle.pack_spec.specs.Label.{heads_of, records_on, track_bytes}
 use Rattle.track_records.specs.Buffers.{Buffer}
 use Rattle.track_records.specs.Written.{StandsOn}
 use Rattle.vtoc_index.specs.declared.vol.Vol.{Vol}

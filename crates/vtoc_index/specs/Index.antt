@@ -11,17 +11,13 @@ use Rattle.pack_spec.specs.Vtoc.{Run, vtoc_of}
 use Rattle.pack_spec.specs.Slots.{slots_of_vtoc}
 use Rattle.pack_spec.specs.Faults.{track_faults, slots_faults}
 use Rattle.pack_spec.specs.Views.{tracks_of}
+pub use Rattle.pack_spec.specs.Views.{run_of}
 use Rattle.pack_spec.specs.Volume.{volume_of, volume_with}
 use Rattle.pack_spec.specs.declared.MountErr.{MountErr}
 use Rattle.pack_spec.specs.declared.MountErr.TheVariants.{Memory, Device}
 use Rattle.track_records.specs.Written.{StandsOn}
-use Rattle.vol_model.specs.declared.contents.Run as tracks
 use Rattle.vtoc_index.specs.declared.vol.Vol.{Vol}
 use Rattle.vtoc_index.specs.Contents.{AreDscbs, with_bytes}
-
--- tracks in a row
-abbrev pub run_of : tracks.Run → Run
-run_of x = record { start = x.start; len = x.len }
 
 -- the serial in the label
 abbrev pub serial_on : List ℕ → Geometry → Option (List ℕ)

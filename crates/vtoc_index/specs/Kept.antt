@@ -1,5 +1,5 @@
 -- That an index is that of a mounted image, as a fact with one proof at most, for a ghost field of what keeps the two together.
-use Rattle.std.specs.Prelude.{◌≡◌, ◌≢◌, ℕ, ◌+◌, ◌≤◌, List, [], ◌∷◌, length, take, Some, None, Ok, unwrap_or}
+use Rattle.std.specs.Prelude.{◌≡◌, ◌≢◌, ℕ, ◌+◌, ◌≤◌, List, [], ◌∷◌, length, take, Some, Ok}
 use Rattle.std.specs.Coded.{×_prop, Unit-prop, le_prop}
 use Rattle.std.proofs.Common.{sym, ◌∙◌, arith}
 use mathlib.Core.HLevel.{Σ_prop_path}
@@ -8,7 +8,7 @@ use Rattle.ckd_image.specs.Header.{geometry_of}
 use Rattle.dscb_codec.specs.declared.Dscb.{Dscb}
 use Rattle.dscb_codec.specs.declared.Dscb.TheVariants as formats
 use Rattle.dscb_codec.specs.Layout.{IsDscb}
-use Rattle.pack_spec.specs.Label.{label_of, records_on}
+use Rattle.pack_spec.specs.Label.{records_on}
 use Rattle.pack_spec.specs.Vtoc.{vtoc_of}
 use Rattle.pack_spec.specs.Slots.{slots_of_vtoc}
 use Rattle.pack_spec.specs.Faults.{track_faults, slots_faults}
@@ -17,7 +17,7 @@ use Rattle.vtoc_index.specs.declared.vol.Vol.{Vol}
 use Rattle.vtoc_index.specs.Contents.{AreDscbs}
 use Rattle.vtoc_index.specs.Index.{AreFirsts, firsts_of, run_of, serial_on}
 
--- The image stands for a volume, this is the index of its VTOC, and a buffer that isn't empty holds the first of the records that stand on its track.
+-- This is the index of the VTOC of an image that breaks no rule, and a buffer that isn't empty holds the first of the records that stand on its track. Such an image stands for a volume, by `mounted_of`.
 pub record IsKept (image : List ℕ) (v : Vol) : Type 0 where
   pub header : geometry_of (take 512 image) (length image) ≡ Ok v.geometry
   pub serial : serial_on image v.geometry ≡ Some v.serial.bytes

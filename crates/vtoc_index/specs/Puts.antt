@@ -1,11 +1,10 @@
 -- What a write of one slot of a VTOC leaves of the image and of the index, in this project's profile.
-use Rattle.std.specs.Prelude.{◌≡◌, ◌⊎◌, ℕ, ◌≤◌, List, [], length, Some, Result, OnOk, OnErr, slice_get, slice_range, slice_set}
+use Rattle.std.specs.Prelude.{◌≡◌, ◌⊎◌, ℕ, ◌≤◌, List, [], length, Some, Result, OnOk, OnErr, slice_set}
 use Rattle.dscb_codec.specs.declared.Dscb.{Dscb}
 use Rattle.dscb_codec.specs.Layout.{IsDscb}
 use Rattle.ckd_image.specs.declared.header.Geometry.{Geometry}
 use Rattle.hall_core.specs.Files.{File, AfterWrite, patched}
 use Rattle.hall_core.specs.Moments.{Meaning}
-use Rattle.pack_spec.specs.declared.addressed.VtocSlot.{VtocSlot}
 use Rattle.pack_spec.specs.Vtoc.{slots_on}
 use Rattle.track_records.specs.Buffers.{Buffer}
 use Rattle.track_records.specs.Written.{StandsOn}
@@ -48,7 +47,3 @@ pub record AfterPut {T E : Type 0} (name : List ℕ) (v : Vol) (slot : ℕ) (d :
   pub write : AfterWrite name (place_of_slot v slot) bytes old new result
   pub kept : IsPut v slot bytes image (patched image (place_of_slot v slot) bytes)
   pub done : OnOk result (IsPut v slot bytes image put × IsIndexOf put v')
-
--- bytes for slot 0 have the extent, ten bytes at 105, that stands in it
-abbrev pub KeepsExtent : ℕ → List ℕ → List VtocSlot → Type 0
-KeepsExtent slot bytes slots = slot ≡ 0 → (s : VtocSlot) → slice_get slots 0 ≡ Some s → slice_range bytes 105 115 ≡ slice_range s.bytes 105 115

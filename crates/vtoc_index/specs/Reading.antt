@@ -1,4 +1,4 @@
--- What the reading of a VTOC finds of it, a step at a time (System Control Blocks GC28-6628).
+-- What the reading of a VTOC finds of it, a step at a time (System Control Blocks GC28-6628); what is promised of the whole stands in `Index`.
 use Rattle.std.specs.Prelude.{◌≡◌, ◌≢◌, ℕ, ◌+◌, ◌*◌, ◌≤◌, List, [], ◌++◌, length, Option, Some, None, Result, Err, option_and_then, slice_get, slice_range, unwrap_or, if◌then◌else◌}
 use Rattle.ckd_image.specs.declared.header.Geometry.{Geometry}
 use Rattle.ckd_image.specs.Track.{Record}

@@ -1,4 +1,4 @@
--- What a slot as it was read holds, and the extents that a format 1 counts there (System Control Blocks GC28-6628).
+-- What a slot as it was read holds, and the extents that a format 1 counts there (System Control Blocks GC28-6628). These are steps of the reading: what is promised of it cites the definitions over bytes, in `pack_spec`.
 use Rattle.std.specs.Prelude.{◌≡◌, ℕ, ◌&&◌, ◌||◌, nat_lt, Bool, true, false, List, [], ◌++◌, take, find, not, is_some, Option, Some, None, Result, Ok, Err, if◌then◌else◌}
 use Rattle.std.specs.List.{list_any}
 use Rattle.std.specs.Option.{option_map_or}

@@ -7,19 +7,11 @@ ghost use Rattle.pack_spec.specs.Vtoc.{first_slot, vtoc_by};
 ghost use Rattle.vtoc_index.specs.Index.{run_of};
 ghost use Rattle.vtoc_index.specs.Reading.{IsExtent, slot_of};
 
-use crate::slots::{DATA_LEN, KEY_LEN, SLOT_LEN, Slot};
 use ckd_image::Geometry;
-use pack_spec::{Address, MountErr};
+use pack_spec::layout::{DATA_LEN, KEY_LEN, SLOT_LEN, Slot};
+use pack_spec::{Address, MountErr, vtoc_extent};
 use track_records::TrackBuf;
 use vol_model::Run;
-
-// Where the addresses of the first and the last track stand in the slot that describes the VTOC.
-const LOWER_AT: usize = 107;
-
-const UPPER_AT: usize = 111;
-
-// The most tracks of a VTOC.
-const MOST_TRACKS: u16 = 257;
 
 // The extent of the VTOC that begins at an address of the label, where the buffer holds the first slot there.
 pub(crate) fn extent_held(buf: &TrackBuf, geometry: Geometry, at: Address) -> Result<Run, MountErr>
@@ -29,9 +21,13 @@ pub(crate) fn extent_held(buf: &TrackBuf, geometry: Geometry, at: Address) -> Re
     ensures refused { IfErr result (λ e. vtoc_by geometry (address_of at) (first_slot (take 1 buf.now.records)) ≡ Err e) }
     ensures extent { IfOk result (IsExtent geometry (address_of at)) }
     ensures device { IsErrOf result MountErr.Device → ⊥ }
+    ensures file { IsErrOf result MountErr.NoFile → ⊥ }
 {
     match first_slot(buf) {
-        Some(slot) => extent_in(geometry, at, &slot),
+        Some(slot) => match vtoc_extent(geometry, at, &slot) {
+            Some(vtoc) => Ok(vtoc),
+            None => Err(MountErr::BadVtoc),
+        },
         None => Err(MountErr::VtocTrack {
             track: at.track(geometry),
         }),
@@ -71,28 +67,4 @@ fn join(bytes: &mut [u8], front: &[u8], back: &[u8])
 {
     bytes[..front.len()].copy_from_slice(front);
     bytes[front.len()..].copy_from_slice(back);
-}
-
-// The extent of the VTOC in its first slot, which must begin at the address of the label.
-fn extent_in(geometry: Geometry, at: Address, slot: &Slot) -> Result<Run, MountErr>
-    requires whole { (len : ℕ) × HasGeometry len geometry }
-    ensures found { IfOk result (λ vtoc. vtoc_by geometry (address_of at) (Some slot.now) ≡ Ok (run_of vtoc)) }
-    ensures refused { IfErr result (λ e. vtoc_by geometry (address_of at) (Some slot.now) ≡ Err e) }
-    ensures extent { IfOk result (IsExtent geometry (address_of at)) }
-    ensures device { IsErrOf result MountErr.Device → ⊥ }
-{
-    let lower = Address::read(slot, LOWER_AT);
-    let upper = Address::read(slot, UPPER_AT);
-    if !lower.is_inside(geometry) || !upper.is_inside(geometry) || lower != at {
-        return Err(MountErr::BadVtoc);
-    }
-    let start = lower.track(geometry);
-    let last = upper.track(geometry);
-    if last < start || last - start >= MOST_TRACKS {
-        return Err(MountErr::BadVtoc);
-    }
-    Ok(Run {
-        start,
-        len: last - start + 1,
-    })
 }

@@ -15,29 +15,14 @@ use crate::slots::ReadSlot;
 use ckd_image::Geometry;
 use dscb_codec::{Dscb, F1};
 use pack_spec::Address;
+use pack_spec::layout::{
+    self, CYLINDER_EXTENT, DATA_EXTENT, LOWER_AT, MOST_EXTENTS, NO_EXTENT, OWN_EXTENTS, TYPE_AT,
+    UPPER_AT,
+};
 use std::alloc::{AllocError, Global};
 
-// The extents that a format 1 holds, and the most of a data set.
-const FIRST: u8 = 3;
-
-const MOST: u8 = 16;
-
-// Where an extent has its type and the addresses of its first and its last track.
-const TYPE_AT: usize = 0;
-
-const LOWER_AT: usize = 2;
-
-const UPPER_AT: usize = 6;
-
-// The types of an extent: none, data, and data on cylinder boundaries.
-const NO_EXTENT: u8 = 0x00;
-
-const DATA: u8 = 0x01;
-
-const CYLINDERS: u8 = 0x81;
-
-// An extent as a DSCB has it: type, sequence, and the addresses CCHH of its first track and its last.
-type Row = [u8; 10];
+// The bytes of an extent in a DSCB.
+type Row = layout::Extent;
 
 // An extent, or a field for one that has none.
 #[derive(Clone, Copy)]
@@ -75,6 +60,7 @@ pub(crate) fn extents_fault(
     requires inside { number < length slots.now }
     ensures first { (given : List VtocSlot) (bytes : List ℕ) → AreRead slots.now given → HasExtentsOf set.now bytes → IfOk result (λ fault. fault ≡ extents_fault geometry given number bytes) }
     ensures device { IfOk result (λ fault. fault ≢ Some MountErr.Device) }
+    ensures file { IfOk result (λ fault. fault ≢ Some MountErr.NoFile) }
 {
     let counted = counted_rows(alloc, slots, set)?;
     let slot = number as u32;
@@ -114,7 +100,7 @@ fn push_further(rows: &mut Vec<Row>, slot: &ReadSlot) -> Result<(), AllocError>
     Ok(())
 }
 
-// Whether each extent in a format 1, and each that it counts, has a type that is read.
+// Whether the types of all extents in a format 1, and of all that it counts, are ones that are read.
 fn has_types(set: &F1, counted: &[Row]) -> bool
     ensures { result ≡ (list_all is_field_type set.now.runs && list_all is_counted_type counted.now) }
 {
@@ -139,25 +125,28 @@ fn are_counted(rows: &[Row]) -> bool
 fn is_field_type(row: &Row) -> bool
     ensures { result ≡ is_field_type row.now }
 {
-    matches!(Extent::read(row).kind, NO_EXTENT | DATA | CYLINDERS)
+    matches!(
+        Extent::read(row).kind,
+        NO_EXTENT | DATA_EXTENT | CYLINDER_EXTENT
+    )
 }
 
 // Whether an extent has a type that is read.
 fn is_counted_type(row: &Row) -> bool
     ensures { result ≡ is_counted_type row.now }
 {
-    matches!(Extent::read(row).kind, DATA | CYLINDERS)
+    matches!(Extent::read(row).kind, DATA_EXTENT | CYLINDER_EXTENT)
 }
 
-// Whether a format 1 counts at most 16 extents, and each of these is one.
+// Whether a format 1 counts at most 16 extents, each a run of tracks of the image.
 fn has_extents(geometry: Geometry, set: &F1, counted: &[Row]) -> bool
     requires { (len : ℕ) × HasGeometry len geometry }
     ensures { result ≡ (nat_le set.now.extents 16 && list_all (is_extent geometry) counted.now) }
 {
-    set.extents <= MOST && are_extents(geometry, counted)
+    set.extents <= MOST_EXTENTS && are_extents(geometry, counted)
 }
 
-// Whether each of these lies in the image and doesn't end before it begins.
+// Whether each of these is a run of tracks of the image.
 fn are_extents(geometry: Geometry, rows: &[Row]) -> bool
     requires { (len : ℕ) × HasGeometry len geometry }
     ensures { result ≡ list_all (is_extent geometry) rows.now }
@@ -165,7 +154,7 @@ fn are_extents(geometry: Geometry, rows: &[Row]) -> bool
     rows.iter().all(|row| is_extent(geometry, row))
 }
 
-// Whether an extent lies in the image and doesn't end before it begins.
+// Whether an extent is a run of tracks of the image.
 fn is_extent(geometry: Geometry, row: &Row) -> bool
     requires { (len : ℕ) × HasGeometry len geometry }
     ensures { result ≡ is_extent geometry row.now }
@@ -176,7 +165,7 @@ fn is_extent(geometry: Geometry, row: &Row) -> bool
         && extent.lower.track(geometry) <= extent.upper.track(geometry)
 }
 
-// Whether a format 1 whose pointer counts leads to a format 3, to which none in a lower slot leads.
+// Whether a format 1 has a format 3 of its own, where it needs one.
 fn has_own_chain(slots: &[ReadSlot], lower: &[ReadSlot], set: &F1) -> bool
     ensures { result ≡ has_own_chain slots.now lower.now set.now }
 {
@@ -187,7 +176,7 @@ fn has_own_chain(slots: &[ReadSlot], lower: &[ReadSlot], set: &F1) -> bool
 fn is_chained(set: &F1) -> bool
     ensures { result ≡ is_chained_set set.now }
 {
-    set.extents > FIRST
+    set.extents > OWN_EXTENTS
 }
 
 // The slot of the format 3 to which the pointer of a format 1 leads, where that counts.

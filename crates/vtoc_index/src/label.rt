@@ -1,5 +1,5 @@
 //! The volume label.
-ghost use Rattle.std.specs.Prelude.{◌≡◌, ◌<◌, ◌≤◌, ◌-◌, length, IsTrue, IfOk, IfErr, IfSome, slice_range, None};
+ghost use Rattle.std.specs.Prelude.{◌≡◌, ◌<◌, ◌≤◌, ◌-◌, length, IsTrue, IfOk, IfErr, IfSome, IsErrOf, slice_range, None};
 ghost use Rattle.std.specs.Option.{option_copied};
 ghost use Rattle.ckd_image.specs.Header.{HasGeometry};
 ghost use Rattle.hall_core.specs.Facts.{unit_of};
@@ -14,32 +14,14 @@ ghost use Rattle.vtoc_index.specs.Reading.{IsLabel, Refuses, record_number};
 
 use ebcdic_names::Serial;
 use hall_core::Hall;
+use pack_spec::layout::{
+    IPL1, IPL1_LEN, IPL2, IPL2_LEN, LABEL_LEN, LABEL_RECORD, SERIAL_AT, VOL1, VTOC_ADDRESS_AT,
+};
 use pack_spec::{Address, MountErr};
 use track_records::{TrackBuf, TrackErr, read_records};
 
-// The track of the label, and its record there, behind the two of the initial program.
+// The track of the label.
 const LABEL_TRACK: u16 = 0;
-
-const LABEL_RECORD: u8 = 3;
-
-// The keys of the first three records of a pack, in EBCDIC; the label's data begin with its key.
-const IPL1: &[u8] = &[0xC9, 0xD7, 0xD3, 0xF1];
-
-const IPL2: &[u8] = &[0xC9, 0xD7, 0xD3, 0xF2];
-
-const VOL1: &[u8] = &[0xE5, 0xD6, 0xD3, 0xF1];
-
-// The bytes of data of these records.
-const IPL1_LEN: usize = 24;
-
-const IPL2_LEN: usize = 144;
-
-const LABEL_LEN: usize = 80;
-
-// Where the serial and the address of the VTOC stand in the data of the label.
-const SERIAL_AT: usize = 4;
-
-const VTOC_AT: usize = 11;
 
 // What the label says of the volume.
 #[derive(Clone, Copy)]
@@ -63,6 +45,7 @@ pub(crate) fn read_label<H: Hall>(
     ensures geometry { buf.new.geometry ≡ buf.old.geometry }
     ensures told { IsTrue H.tells → Same (H.meaning hall.old) (H.meaning hall.new) }
     ensures call { MountCall (H.facts hall.old) (H.facts hall.new) result }
+    ensures file { IsErrOf result MountErr.NoFile → ⊥ }
 {
     match read_records(hall, unit, LABEL_TRACK, Some(LABEL_RECORD), buf) {
         Ok(_) => label_held(buf),
@@ -147,6 +130,6 @@ fn label_of(label: &[u8]) -> Label
     bytes.copy_from_slice(&label[SERIAL_AT..SERIAL_AT + 6]);
     Label {
         serial: Serial { bytes },
-        vtoc: Address::read(label, VTOC_AT),
+        vtoc: Address::read(label, VTOC_ADDRESS_AT),
     }
 }

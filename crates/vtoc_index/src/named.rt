@@ -8,7 +8,8 @@ use crate::vol::Vol;
 use dscb_codec::Dscb;
 use ebcdic_names::Dsn;
 
-/// The lowest slot that holds a format 1 of this name.
+/// The lowest slot, counted from 0 over the tracks of the VTOC, that holds a format 1 of this name, compared
+/// in all its 44 bytes; `None` where there is none.
 pub fn find(vol: &Vol, name: &Dsn) -> Option<u32>
     requires { length vol.now.slots.items ≤ 65535 }
     ensures exact { result ≡ position (is_set_named name.now.bytes) vol.now.slots.items }

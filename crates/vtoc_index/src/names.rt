@@ -19,6 +19,7 @@ pub(crate) fn name_fault(alloc: Global, slots: &[ReadSlot]) -> Result<Option<Mou
     requires { length slots.now ≤ 65535 }
     ensures first { (given : List VtocSlot) → AreRead slots.now given → IfOk result (λ fault. fault ≡ slice_get (name_faults given) 0) }
     ensures device { IfOk result (λ fault. fault ≢ Some MountErr.Device) }
+    ensures file { IfOk result (λ fault. fault ≢ Some MountErr.NoFile) }
 {
     let mut lowest = BTreeMap::new(alloc);
     for (index, slot) in slots.iter().enumerate() {

@@ -1,5 +1,5 @@
 //! One slot of a VTOC, written over.
-ghost use Rattle.std.specs.Prelude.{◌≡◌, ◌⊎◌, ◌<◌, ◌≤◌, ◌+◌, ◌-◌, [], length, filter, nat_le, slice_index, IsTrue, OnOk};
+ghost use Rattle.std.specs.Prelude.{◌≡◌, ◌⊎◌, ◌<◌, ◌≤◌, ◌+◌, ◌-◌, [], length, filter, nat_le, slice_index, IsOk, IsTrue, OnOk};
 ghost use Rattle.hall_core.specs.Facts.{DeviceCall, unit_of};
 ghost use Rattle.hall_core.specs.Files.{image_of};
 ghost use Rattle.hall_core.specs.Moments.{Same};
@@ -9,10 +9,10 @@ ghost use Rattle.track_records.specs.Written.{StandsOn};
 ghost use Rattle.vtoc_index.specs.Index.{AreFirsts, IsIndexOf, IsOfUnit, slots_in_front, track_index};
 ghost use Rattle.vtoc_index.specs.Puts.{AfterPut, HasSlot, IsHeld, IsWith};
 
-use crate::slots::{DATA_LEN, KEY_LEN};
 use crate::vol::Vol;
 use dscb_codec::{Dscb, encode};
 use hall_core::{Device, Hall};
+use pack_spec::layout::{DATA_LEN, KEY_LEN};
 use track_records::{TrackBuf, TrackErr, read_records, update};
 
 // Where a slot stands.
@@ -24,11 +24,14 @@ struct Place {
     number: u8,
 }
 
-/// Changes one slot of the VTOC, in one write.
+/// Changes one slot of the VTOC, counted from 0 over its tracks, in one write of its 140 bytes.
 ///
-/// The write is pending until a sync is done; a stop leaves it whole or absent. After an error it is
-/// pending too, or it was not begun, and the index keeps the old DSCB. The index may then be that of no
-/// image any more, so no slot can be put by it.
+/// The write is pending until a sync is done; a stop leaves it whole or absent. `Device` comes where the
+/// track can't be read, or no slot is found there any more, with nothing written; or where the write fails,
+/// which is pending then or was not begun. Then the index keeps the old DSCB, its buffer may have the new
+/// one, and it may be the index of no image any more, so no slot can be put by it.
+///
+/// The bytes follow System Control Blocks, GC28-6628; that one write holds them is this project's profile.
 pub fn put_slot<H: Hall>(hall: &mut H, vol: &mut Vol, slot: u32, dscb: &Dscb) -> Result<(), Device>
     requires unit { IsOfUnit (H.facts hall.old).units vol.old }
     requires slot { slot < length vol.old.slots.items }
@@ -106,7 +109,8 @@ fn hold<H: Hall>(hall: &mut H, unit: u8, place: Place, buf: &mut TrackBuf) -> Re
     Ok(())
 }
 
-// Makes the buffer hold a record of its unit, where there is one; reads the track where it doesn't.
+// Makes the buffer hold a record of its unit, where there is one; reads the track where it doesn't, and only
+// there.
 fn fetch<H: Hall>(hall: &mut H, unit: u8, place: Place, buf: &mut TrackBuf) -> Result<(), Device>
     requires unit { buf.old.unit ≡ unit }
     requires track { HasTrack (H.facts hall.old).units unit buf.old.geometry place.track }
@@ -114,6 +118,7 @@ fn fetch<H: Hall>(hall: &mut H, unit: u8, place: Place, buf: &mut TrackBuf) -> R
     requires there { IsTrue H.tells → HasSlot (image_of (H.meaning hall.old).state (H.facts hall.old) unit) buf.old.geometry place.track place.number }
     requires held { IsTrue H.tells → IsHeld (image_of (H.meaning hall.old).state (H.facts hall.old) unit) buf.old }
     ensures buffer { buf.new ≡ record buf.old { track = place.track; records = buf.new.records } }
+    ensures again { buf.old.track ≡ place.track → place.number ≤ length buf.old.records → IsOk result × (buf.new ≡ buf.old) }
     ensures stands { IsTrue H.tells → OnOk result ((place.number ≤ length buf.new.records) × StandsOn (image_of (H.meaning hall.old).state (H.facts hall.old) unit) buf.new) }
     ensures told { IsTrue H.tells → Same (H.meaning hall.old) (H.meaning hall.new) }
     ensures call { DeviceCall (H.facts hall.old) (H.facts hall.new) result }

@@ -1,5 +1,5 @@
 //! The index of a VTOC, read with one read a track.
-ghost use Rattle.std.specs.Prelude.{◌≡◌, ℕ, ◌≤◌, ◌<◌, ◌+◌, ◌⊎◌, length, IsTrue, IfOk, IfErr, OnOk, OnErr, IsErrOf, Some, None, Ok, Err};
+ghost use Rattle.std.specs.Prelude.{◌≡◌, ◌≢◌, ℕ, ◌≤◌, ◌<◌, ◌+◌, ◌⊎◌, length, IsTrue, IfOk, IfErr, OnOk, OnErr, IsErrOf, Some, None, Ok, Err};
 ghost use Rattle.ckd_image.specs.Header.{HasGeometry};
 ghost use Rattle.hall_core.specs.Facts.{unit_of};
 ghost use Rattle.hall_core.specs.Files.{image_of};
@@ -34,13 +34,17 @@ const FIRST_SLOT: u8 = 1;
 ///
 /// It is answered where the pack mounts, else the first rule of mounting that is broken: by the header,
 /// the label, the extent of the VTOC, its tracks in order, the formats of slots 0 and 1, then each slot
-/// by itself, the lowest first, and then the names. `NoFile` never comes where the hall tells what it holds. `Memory` and
-/// `Device` say nothing of the pack, and `Device` comes only where the count of device faults rose.
+/// by itself, the lowest first, and then the names. `NoFile` never comes: a missing file is found where it is
+/// attached. `Memory` and `Device` say nothing of the pack, and `Device` comes only where the count of device
+/// faults rose.
 ///
 /// On a pack that mounts, the header, the label's track and each track of the VTOC, which are counted
 /// from 0 over the volume, are read once, in this order; one that breaks a rule is read up to that.
 /// Where the first track of the VTOC breaks the grammar, it is read again for its first slot. All
 /// memory of the index is taken here.
+///
+/// Label and DSCBs follow System Control Blocks, GC28-6628; the rules and their order are this project's
+/// profile.
 #[tactic(auto, using(hall_core::proofs::MomentLemmas::same_then))]
 pub fn read_vtoc<H: Hall>(alloc: Global, hall: &mut H, unit: u8) -> Result<Vol, MountErr>
     requires { unit < length (H.facts hall.old).units }
@@ -49,6 +53,7 @@ pub fn read_vtoc<H: Hall>(alloc: Global, hall: &mut H, unit: u8) -> Result<Vol, 
     ensures unit { IfOk result (λ vol. (vol.unit ≡ unit) × IsOfUnit (H.facts hall.old).units vol) }
     ensures told { IsTrue H.tells → Same (H.meaning hall.old) (H.meaning hall.new) }
     ensures call { MountCall (H.facts hall.old) (H.facts hall.new) result }
+    ensures file { IsErrOf result MountErr.NoFile → ⊥ }
 {
     let geometry = read_geometry(hall, unit)?;
     let mut buf = TrackBuf::new(alloc, &geometry)?;
@@ -91,6 +96,7 @@ fn read_slots<H: Hall>(
     ensures buffer { OnOk result ((buf.new.geometry ≡ geometry) × (buf.new.unit ≡ unit)) }
     ensures told { IsTrue H.tells → Same (H.meaning hall.old) (H.meaning hall.new) }
     ensures call { MountCall (H.facts hall.old) (H.facts hall.new) result }
+    ensures file { IsErrOf result MountErr.NoFile → ⊥ }
 {
     let (vtoc, count) = read_first(hall, unit, geometry, at, buf)?;
     let mut found = ReadSlots::new(alloc);
@@ -118,6 +124,7 @@ fn read_first<H: Hall>(
     ensures buffer { IfOk result (λ p. (buf.new.geometry ≡ geometry) × ((buf.new.unit ≡ unit) × (buf.new.track ≡ p.0.start))) }
     ensures told { IsTrue H.tells → Same (H.meaning hall.old) (H.meaning hall.new) }
     ensures call { MountCall (H.facts hall.old) (H.facts hall.new) result }
+    ensures file { IsErrOf result MountErr.NoFile → ⊥ }
 {
     match read_records(hall, unit, at.track(geometry), None, buf) {
         Ok(count) => match extent_held(buf, geometry, at) {
@@ -146,6 +153,7 @@ fn why_broken<H: Hall>(
     ensures refused { let image = image_of (H.meaning hall.old).state (H.facts hall.old) unit in IsTrue H.tells → records_on image geometry None (track_of_address geometry (address_of at)) ≡ None → Refuses (volume_within image geometry (vtoc_on image geometry (address_of at))) result }
     ensures told { IsTrue H.tells → Same (H.meaning hall.old) (H.meaning hall.new) }
     ensures call { MountCall {T = Unit {0}} (H.facts hall.old) (H.facts hall.new) (Err result) }
+    ensures file { result ≢ MountErr.NoFile }
 {
     let track = at.track(geometry);
     match read_records(hall, unit, track, Some(FIRST_SLOT), buf) {
@@ -180,6 +188,7 @@ fn read_others<H: Hall>(
     ensures buffer { (buf.new.geometry ≡ geometry) × (buf.new.unit ≡ unit) }
     ensures told { IsTrue H.tells → Same (H.meaning hall.old) (H.meaning hall.new) }
     ensures call { MountCall (H.facts hall.old) (H.facts hall.new) result }
+    ensures file { IsErrOf result MountErr.NoFile → ⊥ }
 {
     for track in vtoc.start + 1..vtoc.start + vtoc.len {
         let count = read_track(hall, unit, track, buf)?;
@@ -202,6 +211,7 @@ fn read_track<H: Hall>(
     ensures refused { IsTrue H.tells → IfErr result (λ e. (e ≡ MountErr.Device) ⊎ ((e ≡ MountErr.VtocTrack track) × (slots_on (image_of (H.meaning hall.old).state (H.facts hall.old) unit) buf.old.geometry track ≡ None))) }
     ensures told { IsTrue H.tells → Same (H.meaning hall.old) (H.meaning hall.new) }
     ensures call { MountCall (H.facts hall.old) (H.facts hall.new) result }
+    ensures file { IsErrOf result MountErr.NoFile → ⊥ }
 {
     match read_records(hall, unit, track, None, buf) {
         Ok(count) => Ok(count),

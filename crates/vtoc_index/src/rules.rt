@@ -16,10 +16,8 @@ use crate::names::name_fault;
 use crate::slots::ReadSlot;
 use ckd_image::Geometry;
 use dscb_codec::{Dscb, DscbErr};
+use pack_spec::layout::FORMAT_4;
 use std::alloc::{AllocError, Global};
-
-// The format byte of a format 4.
-const FORMAT_4: u8 = 0xF4;
 
 /// The DSCBs in slots that break no rule.
 ///
@@ -35,6 +33,7 @@ pub(crate) fn dscbs_in(
     ensures dscbs { (given : List VtocSlot) → AreRead slots.now given → IfOk result (λ found. AreDscbs found.items given × (slots_faults geometry given ≡ [])) }
     ensures refused { (given : List VtocSlot) → AreRead slots.now given → IfErr result (λ e. (e ≡ MountErr.Memory) ⊎ (slice_get (slots_faults geometry given) 0 ≡ Some e)) }
     ensures device { IsErrOf result MountErr.Device → ⊥ }
+    ensures file { IsErrOf result MountErr.NoFile → ⊥ }
 {
     if let Some(fault) = first_fault(alloc, geometry, slots)? {
         return Err(fault);
@@ -52,6 +51,7 @@ fn first_fault(
     requires few { length slots.now ≤ 65535 }
     ensures first { (given : List VtocSlot) → AreRead slots.now given → IfOk result (λ fault. fault ≡ slice_get (slots_faults geometry given) 0) }
     ensures device { IfOk result (λ fault. fault ≢ Some MountErr.Device) }
+    ensures file { IfOk result (λ fault. fault ≢ Some MountErr.NoFile) }
 {
     if let Some(fault) = front_fault(slots) {
         return Ok(Some(fault));
@@ -66,6 +66,7 @@ fn first_fault(
 fn front_fault(slots: &[ReadSlot]) -> Option<MountErr>
     ensures first { (given : List VtocSlot) → AreRead slots.now given → result ≡ slice_get (front_faults given) 0 }
     ensures device { result ≢ Some MountErr.Device }
+    ensures file { result ≢ Some MountErr.NoFile }
 {
     if !begins_with_format_4(slots) {
         return Some(MountErr::NoFormat4);
@@ -114,6 +115,7 @@ fn first_dscb_fault(
     requires few { length slots.now ≤ 65535 }
     ensures first { (given : List VtocSlot) → AreRead slots.now given → IfOk result (λ fault. fault ≡ slice_get (dscb_faults geometry given) 0) }
     ensures device { IfOk result (λ fault. fault ≢ Some MountErr.Device) }
+    ensures file { IfOk result (λ fault. fault ≢ Some MountErr.NoFile) }
 {
     for (index, slot) in slots.iter().enumerate() {
         if let Some(fault) = dscb_fault(alloc, geometry, slots, index, slot)? {
@@ -136,6 +138,7 @@ fn dscb_fault(
     requires inside { number < length slots.now }
     ensures first { (given : List VtocSlot) (s : VtocSlot) → AreRead slots.now given → IsRead slot.now s → IfOk result (λ fault. fault ≡ dscb_fault geometry given number s) }
     ensures device { IfOk result (λ fault. fault ≢ Some MountErr.Device) }
+    ensures file { IfOk result (λ fault. fault ≢ Some MountErr.NoFile) }
 {
     if number == 0 {
         return Ok(None);
@@ -161,6 +164,7 @@ fn later_fault(
     requires behind { 0 < number }
     ensures first { (given : List VtocSlot) (s : VtocSlot) → AreRead slots.now given → IsContent (Ok dscb.now) s.bytes → IfOk result (λ fault. fault ≡ dscb_fault geometry given number s) }
     ensures device { IfOk result (λ fault. fault ≢ Some MountErr.Device) }
+    ensures file { IfOk result (λ fault. fault ≢ Some MountErr.NoFile) }
 {
     match dscb {
         Dscb::F1(set) => extents_fault(alloc, geometry, slots, number, set),
@@ -177,6 +181,7 @@ fn refused(number: usize, refusal: DscbErr) -> MountErr
     requires { number < 65535 }
     ensures exact { (format : ℕ) → slot_fault number (Some refusal) format ≡ Some result }
     ensures device { result ≢ MountErr.Device }
+    ensures file { result ≢ MountErr.NoFile }
 {
     let slot = number as u32;
     match refusal {

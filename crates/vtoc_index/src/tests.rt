@@ -13,7 +13,10 @@ use vol_model::Run;
 
 mod packs;
 
-use packs::{FRONT_LEN, HEADER_LEN, Patch, SERIAL, SLOT_LEN, TRACK_LEN, image_of, name, set};
+use packs::{
+    FRONT_LEN, HEADER_LEN, Patch, SERIAL, SLOT_LEN, TRACK_LEN, image_of, image_with_gaps, name,
+    set, vtoc,
+};
 
 // A number that no call has.
 const NONE: u64 = 99;
@@ -37,8 +40,15 @@ const fn read_at(at: usize) -> Call {
 fn hall_with(alloc: Global, patches: &[Patch], fails: u64) -> Result<MemHall, AllocError>
     ensures { IfOk result (λ hall. (facts_of hall).units ≡ []) }
 {
+    hall_over(alloc, image_of(alloc, patches)?, fails)
+}
+
+// A hall with a pack of this image alone, in which one call fails.
+fn hall_over(alloc: Global, image: Vec<u8>, fails: u64) -> Result<MemHall, AllocError>
+    ensures { IfOk result (λ hall. (facts_of hall).units ≡ []) }
+{
     let mut files = Vec::new(alloc);
-    files.push((String::from_str(alloc, "PACK")?, image_of(alloc, patches)?))?;
+    files.push((String::from_str(alloc, "PACK")?, image))?;
     let mut hall = MemHall::new(alloc, files, [fails].to_vec(alloc)?);
     hall.room(16, 1024)?;
     Ok(hall)
@@ -48,23 +58,24 @@ fn hall_with(alloc: Global, patches: &[Patch], fails: u64) -> Result<MemHall, Al
 fn mount<H: Hall>(alloc: Global, hall: &mut H) -> Result<Vol, MountErr>
     requires { (H.facts hall.old).units ≡ [] }
 {
+    // No rule of mounting is named, since none is judged yet.
     let Ok(unit) = hall.attach("PACK") else {
-        return Err(MountErr::NoFile);
+        return Err(MountErr::Memory);
     };
     read_vtoc(alloc, hall, unit)
 }
 
 // The slot of the name of one letter.
 fn slot_of(vol: &Vol, letter: u8) -> Option<u32> {
+    slot_named(vol, name(letter))
+}
+
+// The slot of a name.
+fn slot_named(vol: &Vol, bytes: [u8; 44]) -> Option<u32> {
     if vol.slots.len() > 65535 {
         return None;
     }
-    find(
-        vol,
-        &Dsn {
-            bytes: name(letter),
-        },
-    )
+    find(vol, &Dsn { bytes })
 }
 
 #[test]
@@ -88,6 +99,12 @@ fn each_track_is_read_once(rt: HostRuntime) -> Result<(), Fail> {
         (0xC4, None),
     ] {
         assert_eq!(rt; slot_of(&vol, letter), slot);
+    }
+    // The keys of slot 0 and of free slots are no names; A and a last letter are another name than A.
+    let mut other = name(0xC1);
+    other[43] = 0xC1;
+    for key in [[4; 44], [0; 44], other] {
+        assert_eq!(rt; slot_named(&vol, key), None);
     }
     let calls = [
         Call::Attach,
@@ -147,26 +164,96 @@ fn what_breaks_a_pack_is_named(rt: HostRuntime) -> Result<(), Fail> {
     Ok(())
 }
 
-// Reads the index and puts this DSCB into a slot, if there is one of this number; what that answers,
-// the index then, and the one that is read again.
+// Reads the index and puts this DSCB into a slot; what that answers, the index then, and the one that is
+// read again.
 fn change<H: Hall>(
     alloc: Global,
     hall: &mut H,
     slot: u32,
     dscb: &Dscb,
-) -> Result<(Result<(), Device>, Vol, Vol), MountErr>
+) -> Result<(Result<(), Device>, Vol, Result<Vol, MountErr>), MountErr>
     requires { (H.facts hall.old).units ≡ [] }
 {
     let Ok(unit) = hall.attach("PACK") else {
-        return Err(MountErr::NoFile);
+        return Err(MountErr::Memory);
     };
     let mut vol = read_vtoc(alloc, hall, unit)?;
     if slot as usize >= vol.slots.len() {
-        return Err(MountErr::NoFormat4);
+        return Err(MountErr::Memory);
     }
     let put = put_slot(hall, &mut vol, slot, dscb);
-    let again = read_vtoc(alloc, hall, unit)?;
+    let again = read_vtoc(alloc, hall, unit);
     Ok((put, vol, again))
+}
+
+#[test]
+fn a_name_that_is_put_twice_is_found_in_its_lowest_slot(rt: HostRuntime) -> Result<(), Fail> {
+    let alloc = rt.alloc();
+    let dscb = decode(&set(0xC1, 5)).unwrap_or(Dscb::F0);
+    let mut hall = hall_with(alloc, &[], NONE)?;
+    let (put, vol, again) = change(alloc, &mut hall, 5, &dscb)?;
+    assert_eq!(rt; put, Ok(()));
+    assert_eq!(rt; slot_of(&vol, 0xC1), Some(2));
+    let twice = MountErr::DuplicateName { slot: 5, other: 2 };
+    assert_eq!(rt; again.err(), Some(twice));
+    Ok(())
+}
+
+#[test]
+fn slot_0_is_put_and_read_again(rt: HostRuntime) -> Result<(), Fail> {
+    let alloc = rt.alloc();
+    let dscb = decode(&vtoc(1, 2, 9)).unwrap_or(Dscb::F0);
+    let mut hall = hall_with(alloc, &[], NONE)?;
+    let (put, vol, again) = change(alloc, &mut hall, 0, &dscb)?;
+    let again = again?;
+    let expected = image_of(alloc, &[(FIRST_AT + FRONT_LEN + 8 + 51, 9)])?;
+    assert_eq!(rt; put, Ok(()));
+    assert_eq!(rt; hall.image("PACK"), Some(expected.as_slice()));
+    assert_eq!(rt; vol.slots.as_slice(), again.slots.as_slice());
+    Ok(())
+}
+
+// Where the first record begins on track 3 of the pack with gaps.
+const THIRD_AT: usize = SECOND_AT + TRACK_LEN + FRONT_LEN;
+
+// The slots of that pack that are put, and where their bytes stand: the last of track 1, and those of
+// track 3.
+const BESIDE_GAPS: [(u32, usize); 3] = [
+    (2, FIRST_AT + FRONT_LEN + 2 * SLOT_LEN + 8),
+    (3, THIRD_AT + 8),
+    (4, THIRD_AT + SLOT_LEN + 8),
+];
+
+#[test]
+fn tracks_without_slots_are_passed_over(rt: HostRuntime) -> Result<(), Fail> {
+    let alloc = rt.alloc();
+    let mut hall = hall_over(alloc, image_with_gaps(alloc)?, NONE)?;
+    let vol = mount(alloc, &mut hall)?;
+    assert_eq!(rt; vol.vtoc, Run { start: 1, len: 4 });
+    assert_eq!(rt; vol.slots.len(), 5);
+    assert_eq!(rt; vol.firsts.as_slice(), [0u32, 3, 3, 5].as_slice());
+    assert_eq!(rt; slot_of(&vol, 0xC1), Some(2));
+    assert_eq!(rt; slot_of(&vol, 0xC2), Some(4));
+    let bytes = set(0xC4, 7);
+    let dscb = decode(&bytes).unwrap_or(Dscb::F0);
+    for (slot, at) in BESIDE_GAPS {
+        let mut expected = image_with_gaps(alloc)?;
+        for (to, from) in expected.iter_mut().skip(at).zip(&bytes) {
+            *to = *from;
+        }
+        let mut hall = hall_over(alloc, image_with_gaps(alloc)?, NONE)?;
+        let (put, vol, again) = change(alloc, &mut hall, slot, &dscb)?;
+        let again = again?;
+        assert_eq!(rt; put, Ok(()), "slot {slot}");
+        assert_eq!(rt;
+            hall.image("PACK"),
+            Some(expected.as_slice()),
+            "slot {slot}"
+        );
+        assert_eq!(rt; vol.slots.as_slice(), again.slots.as_slice(), "slot {slot}");
+        assert_eq!(rt; slot_of(&again, 0xC4), Some(slot), "slot {slot}");
+    }
+    Ok(())
 }
 
 // A slot, its old name and the track that it has, where it stands, the call that fails, what is
@@ -192,6 +279,7 @@ fn slot_is_put_in_one_write(rt: HostRuntime) -> Result<(), Fail> {
         let dscb = decode(&set(0xC4, track)).unwrap_or(Dscb::F0);
         let mut hall = hall_with(rt.alloc(), &[], fails)?;
         let (put, vol, again) = change(rt.alloc(), &mut hall, slot, &dscb)?;
+        let again = again?;
         assert_eq!(rt; put, want, "case {i}");
         assert_eq!(rt; vol.slots.as_slice(), again.slots.as_slice(), "case {i}");
         let (there, gone, after) = match want {

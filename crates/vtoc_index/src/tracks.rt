@@ -6,9 +6,10 @@ ghost use Rattle.vtoc_index.specs.Contents.{IsRead};
 ghost use Rattle.vtoc_index.specs.Reading.{Adds};
 
 use crate::extent::slot_held;
-use crate::slots::{ReadSlot, Slot};
+use crate::slots::ReadSlot;
 use ckd_image::Geometry;
 use dscb_codec::decode;
+use pack_spec::layout::Slot;
 use pack_spec::{MountErr, record_address};
 use std::alloc::Global;
 use track_records::TrackBuf;

@@ -7,7 +7,8 @@ use vol_model::Run;
 
 /// The index of a volume's VTOC: what its label and its slots say.
 ///
-/// Slots are counted from 0 over the tracks of the VTOC, at most 65,535 of them.
+/// Slots are counted from 0 over the tracks of the VTOC, at most 65,535 of them. Label and DSCBs follow
+/// System Control Blocks, GC28-6628.
 #[derive(Debug, Drop)]
 pub struct Vol {
     /// The unit on which the volume is mounted.

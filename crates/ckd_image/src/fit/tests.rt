@@ -16,6 +16,9 @@ fn worked_costs(rt: HostRuntime) {
         (DiskType::D2314, 0, 3522, 3774, 3522),
         (DiskType::D2314, 44, 96, 292, 185),
         (DiskType::D2311, 44, 96, 227, 160),
+        (DiskType::D2311, 0, 1740, 1885, 1740),
+        (DiskType::D3330, 0, 6447, 6582, 6582),
+        (DiskType::D3330, 8, 256, 455, 455),
     ];
     for (device, kl, dl, cost, last_cost) in cases {
         assert_eq!(rt; record_cost(device, kl, dl), cost, "{device:?} {kl} {dl}");
@@ -35,11 +38,12 @@ fn worked_sums(rt: HostRuntime) {
         (DiskType::D2314, 2, 0, 3522, 7296),
         (DiskType::D2314, 25, 44, 96, 7193),
         (DiskType::D2311, 16, 44, 96, 3565),
+        (DiskType::D3330, 39, 44, 96, 12909),
     ];
     for (device, count, kl, dl, sum) in cases {
         let cost = record_cost(device, kl, dl);
         let last_cost = last_record_cost(device, kl, dl);
-        assert!(rt; 1 <= count && count <= 25 && cost < 10_000 && last_cost < 10_000);
+        assert!(rt; 1 <= count && count <= 39 && cost < 10_000 && last_cost < 10_000);
         assert_eq!(rt; (count - 1) * cost + last_cost, sum, "{device:?} {kl} {dl}");
     }
 }
@@ -64,8 +68,7 @@ fn fits_one_record_up_to_the_capacity(rt: HostRuntime) {
 
 #[test]
 fn fits_as_many_as_the_table_says(rt: HostRuntime) {
-    // On a 2314 24 DSCBs cost 292 each and the 25th 185, 7193 in all; on a 2311 15 cost 227 each and
-    // the 16th 160, 3565 in all.
+    // The DSCBs that fit a track, and its directory blocks; one more of either doesn't.
     let dscbs = [(44, 96); 39];
     let blocks = [(8, 256); 28];
     let cases = [

@@ -32,13 +32,17 @@ fn reads_tracks(rt: HostRuntime) {
         ((0, 0), 54, Some(2), Ok(2)),
         ((0, 0), 29, Some(0), Ok(0)),
         ((38, 1), 56, Some(1), Ok(1)),
-        // The first byte, the cylinder of a count, and a byte of R0's data aren't judged.
+        // The first byte, the cylinder and head of a count, and a byte of R0's data aren't judged.
         ((0, 9), 56, None, Ok(2)),
+        ((6, 9), 56, None, Ok(2)),
+        ((8, 9), 56, None, Ok(2)),
         ((22, 9), 56, None, Ok(2)),
+        ((24, 9), 56, None, Ok(2)),
         ((20, 9), 56, None, Ok(2)),
         // The home address and R0.
         ((1, 1), 56, None, broken_at(1)),
         ((2, 9), 56, None, broken_at(2)),
+        ((3, 1), 56, None, broken_at(3)),
         ((4, 2), 56, Some(0), broken_at(4)),
         ((9, 1), 56, None, broken_at(9)),
         ((10, 1), 56, None, broken_at(10)),
@@ -82,6 +86,8 @@ fn finds_where_records_break(rt: HostRuntime) {
         ((50, 0), 56, None, 50),
         ((52, 0), 56, None, 52),
         ((0, 0), 56, Some(3), 50),
+        // Where R3 is asked for, six X'FF' and a zero are no end marker that is broken.
+        ((52, 0), 56, Some(3), 50),
     ];
     for ((at, byte), len, upto, want) in cases {
         assert!(rt; at < 56 && len <= 56);
@@ -89,6 +95,17 @@ fn finds_where_records_break(rt: HostRuntime) {
         let answer = track_of(&bytes[..len], 2, 3, upto);
         assert_eq!(rt; answer, broken_at(want), "{byte} at {at}, of {len} bytes");
     }
+}
+
+#[test]
+fn end_marker_in_data_is_data(rt: HostRuntime) {
+    // R1 without a key, with eight X'FF', and the end marker.
+    let mut bytes = [0xFF; 45];
+    bytes[..21].copy_from_slice(&TRACK[..21]);
+    bytes[21..29].copy_from_slice(&[0, 2, 0, 3, 1, 0, 0, 8]);
+    assert_eq!(rt; track_of(&bytes, 2, 3, None), Ok(1));
+    assert_eq!(rt; track_of(&bytes, 2, 3, Some(1)), Ok(1));
+    assert_eq!(rt; track_of(&bytes[..37], 2, 3, None), broken_at(37));
 }
 
 // The front of TRACK, the records R1 to R255 without key and data, and eight X'FF'.

@@ -5,8 +5,8 @@ use Rattle.dscb_codec.proofs.Fields.{rows_by_index}
 use Rattle.dscb_codec.proofs.Parts.{split_at, placed, written, concat-map}
 use Rattle.dscb_codec.proofs.flat.Goals as goal
 
-pub put_row-at-requires : goal.put_row-at-requires
-put_row-at-requires g c =
+pub copy_row-at-requires : goal.copy_row-at-requires
+copy_row-at-requires g c =
     let below : c.loop-row.row-index + 1 ≤ g.row.M = omega arith in
     let fits : g.row.N * (c.loop-row.row-index + 1) ≤ g.row.N * g.row.M = mul-le-mul_left g.row.N below in
     omega arith
@@ -17,8 +17,8 @@ loop-row-preserved g c =
     record {
       wide = omega arith;
       end = omega arith;
-      widths = below_more _ _ c.loop-row.invariant.widths c.put_row-at.ensures.wide;
-      whole = placed (take c.loop-row.at c.loop-row.out) _ _ _ _ c.put_row-at.ensures.bytes next;
+      widths = below_more _ _ c.loop-row.invariant.widths c.copy_row-at.ensures.wide;
+      whole = placed (take c.loop-row.at c.loop-row.out) _ _ _ _ c.copy_row-at.ensures.front next;
     }
 
 pub returns-clause-bytes : goal.returns-clause-bytes

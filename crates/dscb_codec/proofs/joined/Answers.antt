@@ -10,8 +10,8 @@ bytes_of part = part.now
 abbrev nothing : Bor (List ℕ)
 nothing = record { ref_ptr = (0, 0); now = [] }
 
-pub put-at-requires : goal.put-at-requires
-put-at-requires c =
+pub copy_part-at-requires : goal.copy_part-at-requires
+copy_part-at-requires c =
     let parts : List (Bor (List ℕ)) = c.args.parts.now in
     let next = split_at bytes_of parts c.loop-part.part-index nothing (take c.loop-part.at c.loop-part.out) c.loop-part-test.true c.loop-part.invariant.whole in
     omega (arith, c.requires, room c.loop-part.out (get_or parts c.loop-part.part-index nothing).now (concat (map bytes_of (drop (c.loop-part.part-index + 1) parts))) (concat (map bytes_of parts)) c.loop-part.at (omega arith) next)
@@ -22,7 +22,7 @@ loop-part-preserved c =
     record {
       wide = omega arith;
       fits = omega arith;
-      whole = placed (take c.loop-part.at c.loop-part.out) _ _ _ _ c.put-at.ensures.bytes next;
+      whole = placed (take c.loop-part.at c.loop-part.out) _ _ _ _ c.copy_part-at.ensures.front next;
     }
 
 pub returns : goal.returns

@@ -1,21 +1,59 @@
-//! A pack of two cylinders of a 2311 whose VTOC lies on tracks 1 and 2, and what breaks it.
+//! A pack of two cylinders of a 2311 whose VTOC lies on tracks 1 and 2, and one of a 2314.
 ghost use Rattle.std.specs.Prelude.{◌≤◌};
 
-use crate::MountErr;
 use std::alloc::{AllocError, Global};
 
-// The bytes of a track in the image, its heads, and the tracks.
-const TRACK_LEN: usize = 4096;
-
+// The heads of a 2311.
 const HEADS: u8 = 10;
 
-const TRACKS: u8 = 20;
+/// A device: its type byte, its heads, and the bytes of a track in an image.
+#[derive(Clone, Copy)]
+pub(crate) struct Disk {
+    kind: u8,
+    heads: u8,
+    track_len: u16,
+}
+
+const D2311: Disk = Disk {
+    kind: 0x11,
+    heads: HEADS,
+    track_len: 4096,
+};
+
+const D2314: Disk = Disk {
+    kind: 0x14,
+    heads: 20,
+    track_len: 7680,
+};
+
+/// What stands on a pack of two cylinders: the records on track 0, and the slots on the tracks of the VTOC
+/// from its first address on.
+#[derive(Clone, Copy)]
+pub(crate) struct Pack<'a> {
+    disk: Disk,
+    front: &'a [Front],
+    vtoc: [u8; 4],
+    tracks: &'a [&'a [Slot]],
+}
 
 /// The key and the data of a slot.
 pub(crate) type Slot = [u8; 140];
 
 /// A byte to write: the number of a slot, the offset in it, and the byte.
 pub(crate) type Patch = (usize, usize, u8);
+
+/// One of the records on track 0: its key, and its bytes of data.
+pub(crate) type Front = (&'static [u8], usize);
+
+/// The keys of the records of the initial program, and that of the label, in EBCDIC.
+pub(crate) const IPL1: &[u8] = &[0xC9, 0xD7, 0xD3, 0xF1];
+
+pub(crate) const IPL2: &[u8] = &[0xC9, 0xD7, 0xD3, 0xF2];
+
+pub(crate) const VOL1: &[u8] = &[0xE5, 0xD6, 0xD3, 0xF1];
+
+/// The records on track 0 of a pack.
+pub(crate) const FRONT: [Front; 3] = [(IPL1, 24), (IPL2, 144), (VOL1, 80)];
 
 // An extent of this type from one track to another.
 fn extent(kind: u8, first: u8, last: u8) -> [u8; 10] {
@@ -135,14 +173,34 @@ fn push_record(
     image.extend_from_slice(content)
 }
 
-// Puts the records of the initial program and the label ABC123 there, which leads to track 1.
-fn push_label(image: &mut Vec<u8>, address: [u8; 4]) -> Result<(), AllocError> {
-    let mut label = [0x40; 80];
-    label[..10].copy_from_slice(&[0xE5, 0xD6, 0xD3, 0xF1, 0xC1, 0xC2, 0xC3, 0xF1, 0xF2, 0xF3]);
-    label[11..16].copy_from_slice(&[0, 0, 0, 1, 1]);
-    push_record(image, address, 1, &[0xC9, 0xD7, 0xD3, 0xF1], &[0; 24])?;
-    push_record(image, address, 2, &[0xC9, 0xD7, 0xD3, 0xF2], &[0; 144])?;
-    push_record(image, address, 3, &[0xE5, 0xD6, 0xD3, 0xF1], &label)
+// The data of the label ABC123, which leads to this address, and bytes behind them.
+fn label_data(vtoc: [u8; 4]) -> [u8; 96] {
+    let mut label = [0x40; 96];
+    label[..4].copy_from_slice(VOL1);
+    label[4..10].copy_from_slice(&[0xC1, 0xC2, 0xC3, 0xF1, 0xF2, 0xF3]);
+    label[11..15].copy_from_slice(&vtoc);
+    label[15] = 1;
+    label
+}
+
+// Puts the records of the initial program and the label there, with these keys and lengths.
+fn push_label(
+    image: &mut Vec<u8>,
+    address: [u8; 4],
+    front: &[Front],
+    vtoc: [u8; 4],
+) -> Result<(), AllocError> {
+    let label = label_data(vtoc);
+    let mut number = 0u8;
+    for (key, len) in front {
+        number = number.wrapping_add(1);
+        if number < 3 {
+            push_record(image, address, number, key, &[0; 160][..(*len).min(160)])?;
+        } else {
+            push_record(image, address, number, key, &label[..(*len).min(96)])?;
+        }
+    }
+    Ok(())
 }
 
 // Puts slots there, R1 first.
@@ -155,149 +213,78 @@ fn push_slots(image: &mut Vec<u8>, address: [u8; 4], slots: &[Slot]) -> Result<(
     Ok(())
 }
 
-// The header of an image of a 2311.
-fn header(alloc: Global) -> Result<Vec<u8>, AllocError> {
+// The header of the image of a pack.
+fn header(alloc: Global, disk: Disk) -> Result<Vec<u8>, AllocError> {
     let mut image = Vec::new(alloc);
+    let [low, high] = disk.track_len.to_le_bytes();
     image.extend_from_slice(b"CKD_P370")?;
-    image.extend_from_slice(&[10, 0, 0, 0, 0x00, 0x10, 0, 0, 0x11, 0, 0, 0])?;
+    image.extend_from_slice(&[disk.heads, 0, 0, 0, low, high, 0, 0, disk.kind, 0, 0, 0])?;
     image.resize(512, 0)?;
+    Ok(image)
+}
+
+// Puts the track of this address there, and zeros behind it.
+fn push_track(image: &mut Vec<u8>, address: [u8; 4], pack: &Pack) -> Result<(), AllocError> {
+    let end = image.len().saturating_add(usize::from(pack.disk.track_len));
+    begin_track(image, address)?;
+    if address == [0; 4] {
+        push_label(image, address, pack.front, pack.vtoc)?;
+    }
+    if address[1] == pack.vtoc[1]
+        && let Some(index) = address[3].checked_sub(pack.vtoc[3])
+        && let Some(slots) = pack.tracks.get(usize::from(index))
+    {
+        push_slots(image, address, slots)?;
+    }
+    image.extend_from_slice(&[0xFF; 8])?;
+    image.resize(end, 0)
+}
+
+// The image of a pack.
+fn image_with(alloc: Global, pack: &Pack) -> Result<Vec<u8>, AllocError> {
+    let mut image = header(alloc, pack.disk)?;
+    for head in 0..pack.disk.heads {
+        push_track(&mut image, [0, 0, 0, head], pack)?;
+    }
+    for head in 0..pack.disk.heads {
+        push_track(&mut image, [0, 1, 0, head], pack)?;
+    }
     Ok(image)
 }
 
 /// The image of the pack with these slots.
 pub(crate) fn image_of(alloc: Global, slots: &[Slot; 7]) -> Result<Vec<u8>, AllocError> {
-    let mut image = header(alloc)?;
-    for number in 0..TRACKS {
-        let address = [0, number / HEADS, 0, number % HEADS];
-        let end = image.len().saturating_add(TRACK_LEN);
-        begin_track(&mut image, address)?;
-        match number {
-            0 => push_label(&mut image, address)?,
-            1 => push_slots(&mut image, address, &slots[..4])?,
-            2 => push_slots(&mut image, address, &slots[4..])?,
-            _ => {}
-        }
-        image.extend_from_slice(&[0xFF; 8])?;
-        image.resize(end, 0)?;
-    }
-    Ok(image)
+    image_behind(alloc, &FRONT, slots)
 }
 
-/// Bytes that break the pack, and the rule that is named; most break a later rule too.
-pub(crate) const REFUSED: [(&[Patch], MountErr); 27] = [
-    // Slot 1 is of format 1, or neither of format 5 nor of zeros.
-    (&[(1, 44, 0xF1), (2, 105, 0x40)], MountErr::NoFormat5),
-    (&[(1, 44, 0), (1, 139, 1)], MountErr::NoFormat5),
-    (&[(0, 44, 0xF5), (1, 44, 0xF1)], MountErr::NoFormat4),
-    (
-        &[(4, 44, 0xC7), (6, 44, 0xC7)],
-        MountErr::BadDscb {
-            slot: 4,
-            byte: 0xC7,
-        },
-    ),
-    (&[(4, 139, 1)], MountErr::BadDscb { slot: 4, byte: 0 }),
-    (
-        &[(4, 44, 0xF4)],
-        MountErr::BadDscb {
-            slot: 4,
-            byte: 0xF4,
-        },
-    ),
-    (
-        &[(4, 44, 0xF2), (3, 0, 0xC2)],
-        MountErr::UnsupportedDscb {
-            slot: 4,
-            byte: 0xF2,
-        },
-    ),
-    (
-        &[(6, 44, 0xF6), (3, 0, 0xC2)],
-        MountErr::UnsupportedDscb {
-            slot: 6,
-            byte: 0xF6,
-        },
-    ),
-    // A counted extent, one that isn't counted, a counted field without one, and one in the format 3.
-    (
-        &[(2, 105, 0x40), (2, 114, 2)],
-        MountErr::UnsupportedExtent { slot: 2 },
-    ),
-    (
-        &[(2, 125, 0x40), (3, 59, 17)],
-        MountErr::UnsupportedExtent { slot: 2 },
-    ),
-    (
-        &[(2, 105, 0x00), (4, 44, 0xC7)],
-        MountErr::UnsupportedExtent { slot: 2 },
-    ),
-    (
-        &[(5, 4, 0x40), (5, 13, 5)],
-        MountErr::UnsupportedExtent { slot: 3 },
-    ),
-    (
-        &[(3, 59, 17), (5, 125, 0x02)],
-        MountErr::UnsupportedExtent { slot: 3 },
-    ),
-    // Seventeen extents; one that ends before it begins, leaves the cylinders, or the heads.
-    (&[(3, 59, 17), (3, 139, 3)], MountErr::BadExtent { slot: 3 }),
-    (
-        &[(3, 59, 17), (4, 44, 0xC7)],
-        MountErr::BadExtent { slot: 3 },
-    ),
-    (&[(2, 114, 2), (3, 59, 17)], MountErr::BadExtent { slot: 2 }),
-    (
-        &[(2, 112, 2), (3, 0, 0xC2)],
-        MountErr::BadExtent { slot: 2 },
-    ),
-    (
-        &[(2, 114, 10), (3, 0, 0xC2)],
-        MountErr::BadExtent { slot: 2 },
-    ),
-    (&[(5, 13, 5), (3, 0, 0xC2)], MountErr::BadExtent { slot: 3 }),
-    // The pointer leads to a format 5, to no record, and to no track of the VTOC.
-    (
-        &[(5, 44, 0xF5), (3, 0, 0xC2)],
-        MountErr::BadChain { slot: 3 },
-    ),
-    (
-        &[(3, 139, 9), (4, 44, 0xC7)],
-        MountErr::BadChain { slot: 3 },
-    ),
-    (&[(3, 136, 2), (3, 0, 0xC2)], MountErr::BadChain { slot: 3 }),
-    // B counts four extents too, and leads to the format 3 of A; the higher slot is named.
-    (
-        &[
-            (2, 59, 4),
-            (2, 115, 1),
-            (2, 125, 1),
-            (2, 138, 2),
-            (2, 139, 2),
-        ],
-        MountErr::BadChain { slot: 3 },
-    ),
-    (
-        &[
-            (2, 59, 4),
-            (2, 115, 1),
-            (2, 125, 1),
-            (2, 138, 2),
-            (2, 139, 2),
-            (5, 4, 0x40),
-        ],
-        MountErr::UnsupportedExtent { slot: 2 },
-    ),
-    (
-        &[(2, 59, 4), (2, 115, 1), (2, 125, 1), (3, 105, 0x40)],
-        MountErr::BadChain { slot: 2 },
-    ),
-    // A name that stands twice, and three times.
-    (
-        &[(3, 0, 0xC2)],
-        MountErr::DuplicateName { slot: 3, other: 2 },
-    ),
-    (
-        &[(4, 44, 0xF1), (4, 0, 0xC2), (6, 44, 0xF1), (6, 0, 0xC2)],
-        MountErr::DuplicateName { slot: 4, other: 2 },
-    ),
-];
+/// The image of the pack with these records on track 0, and these slots.
+pub(crate) fn image_behind(
+    alloc: Global,
+    front: &[Front],
+    slots: &[Slot; 7],
+) -> Result<Vec<u8>, AllocError> {
+    let pack = Pack {
+        disk: D2311,
+        front,
+        vtoc: [0, 0, 0, 1],
+        tracks: &[&slots[..4], &slots[4..]],
+    };
+    image_with(alloc, &pack)
+}
+
+/// The image of a 2314 pack. Its VTOC is the track of cylinder 1, head 5, and its data set has the last
+/// track of cylinder 0 and the first of cylinder 1.
+pub(crate) fn image_of_2314(alloc: Global) -> Result<Vec<u8>, AllocError> {
+    let mut vtoc = slot_of_format(0xF4);
+    write_at(&mut vtoc, 105, &[1, 0, 0, 1, 0, 5, 0, 1, 0, 5]);
+    let mut set = slot_of_format(0xF1);
+    set[59] = 1;
+    write_at(&mut set, 105, &[1, 0, 0, 0, 0, 19, 0, 1, 0, 0]);
+    let pack = Pack {
+        disk: D2314,
+        front: &FRONT,
+        vtoc: [0, 1, 0, 5],
+        tracks: &[&[vtoc, slot_of_format(0xF5), set]],
+    };
+    image_with(alloc, &pack)
+}

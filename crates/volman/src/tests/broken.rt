@@ -48,7 +48,7 @@ fn assert_refused(rt: &impl Abort, alloc: Global, image: &[u8], reason: &str) ->
 //
 // Track 0 begins at byte 512, its records at 533, 569 and 725; the first track of the VTOC at 37376,
 // its first record at 37397, its end marker at 37989; the second at 41472, its first record at 41493.
-const BROKEN: [(&[Patch], &str); 41] = [
+const BROKEN: &[(&[Patch], &str)] = &[
     // The three keys, the length and the text of the label, and its R.
     (&[Image(541, 0), Image(37989, 0)], "NO-LABEL"),
     (&[Image(577, 0), Image(751, 10)], "NO-LABEL"),

@@ -86,7 +86,7 @@ type Case = (
     &'static str,
 );
 
-const CASES: [Case; 10] = [
+const CASES: &[Case] = &[
     (
         PLAIN,
         &[(" RENAME DSNAME=A.B,VOL=2311=WORK01,NEWNAME=A.D", 0)],

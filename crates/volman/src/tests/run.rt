@@ -3,10 +3,10 @@ use super::broken::headed;
 use super::image::{Track, header};
 use super::packs::{A_B, Patch, Slot, long_vtoc, pack, padded, small_pack};
 use super::work_pack::{
-    CATALOGED, CATALOGED_NAMES, PLAIN, PLAIN_NAMES, REFUSED, RUN, RUNS, assert_names, put, run,
-    work_pack,
+    CATALOGED, CATALOGED_NAMES, DeckRun, PLAIN, PLAIN_NAMES, REFUSED, RUN, RUNS, assert_names, put,
+    run, work_pack,
 };
-use super::{AMPLE, hall_with, status};
+use super::{AMPLE, assert_words_refused, hall_with};
 use hall_core::Call;
 use std::alloc::{AllocError, Global};
 use std::process::Abort;
@@ -37,7 +37,7 @@ type Good = (
 );
 
 // Slot 3 stands 148 bytes behind slot 2, at 37849.
-const GOOD: [Good; 6] = [
+const GOOD: &[Good] = &[
     (
         CATALOGED,
         " RENAME DSNAME=A.B,VOL=2311=WORK01,NEWNAME=A.D\n",
@@ -88,18 +88,23 @@ const GOOD: [Good; 6] = [
     ),
 ];
 
-// Nothing else in the image is changed than the 44 bytes of the name. The pack is of a 2311.
+// The run is done, and nothing else in the image is changed than the 44 bytes of the name.
+fn assert_renamed(rt: &impl Abort, alloc: Global, case: Good) -> Result<(), Fail> {
+    let (vtoc, deck, line, at, name, names) = case;
+    let mut image = work_pack(alloc, vtoc)?;
+    let mut hall = hall_with(alloc, &image, AMPLE)?;
+    assert_eq!(rt; run(alloc, RUN, deck, &[], &mut hall)?, 0, "{deck}");
+    assert_eq!(rt; hall.printed(), line.as_bytes(), "{deck}");
+    put(&mut image, at, &padded(name));
+    assert_eq!(rt; hall.image("w.img"), Some(image.as_slice()), "{deck}");
+    assert_names(rt, alloc, &image, names)
+}
+
+// The pack is of a 2311.
 #[test]
 fn a_rename_changes_the_name_alone_whatever_device_is_named(rt: HostRuntime) -> Result<(), Fail> {
-    let alloc = rt.alloc();
-    for (vtoc, deck, line, at, name, names) in GOOD {
-        let mut image = work_pack(alloc, vtoc)?;
-        let mut hall = hall_with(alloc, &image, AMPLE)?;
-        assert_eq!(rt; run(alloc, RUN, deck, &[], &mut hall)?, 0, "{deck}");
-        assert_eq!(rt; hall.printed(), line.as_bytes(), "{deck}");
-        put(&mut image, at, &padded(name));
-        assert_eq!(rt; hall.image("w.img"), Some(image.as_slice()), "{deck}");
-        assert_names(&rt, alloc, &image, names)?;
+    for case in GOOD {
+        assert_renamed(&rt, rt.alloc(), *case)?;
     }
     Ok(())
 }
@@ -112,7 +117,7 @@ type Refused = (
     &'static str,
 );
 
-const REFUSALS: [Refused; 18] = [
+const REFUSALS: &[Refused] = &[
     // One reason alone: the volume, the set, the new name, and either name SYSCTLG.
     (
         PLAIN,
@@ -227,18 +232,40 @@ const REFUSALS: [Refused; 18] = [
     ),
 ];
 
+// The run ends with 8, and nothing is written.
+fn assert_refused(
+    rt: &impl Abort,
+    alloc: Global,
+    image: &[u8],
+    deck: &str,
+    line: &str,
+) -> Result<(), Fail> {
+    let mut hall = hall_with(alloc, image, AMPLE)?;
+    assert_eq!(rt; run(alloc, RUN, deck, &[], &mut hall)?, 8, "{deck}");
+    assert_eq!(rt; hall.printed(), line.as_bytes(), "{deck}");
+    let calls: &[Call] = REFUSED;
+    assert_eq!(rt; hall.calls(), calls, "{deck}");
+    assert_eq!(rt; hall.image("w.img"), Some(image), "{deck}");
+    Ok(())
+}
+
 #[test]
 fn a_refusal_is_the_first_of_its_reasons_and_writes_nothing(rt: HostRuntime) -> Result<(), Fail> {
-    let alloc = rt.alloc();
     for (vtoc, names, deck, line) in REFUSALS {
-        let image = work_pack(alloc, vtoc)?;
-        let mut hall = hall_with(alloc, &image, AMPLE)?;
-        assert_eq!(rt; run(alloc, RUN, deck, &[], &mut hall)?, 8, "{deck}");
-        assert_eq!(rt; hall.printed(), line.as_bytes(), "{deck}");
-        assert_eq!(rt; hall.calls(), REFUSED, "{deck}");
-        assert_eq!(rt; hall.image("w.img"), Some(image.as_slice()), "{deck}");
-        assert_names(&rt, alloc, &image, names)?;
+        let image = work_pack(rt.alloc(), vtoc)?;
+        assert_refused(&rt, rt.alloc(), &image, deck, line)?;
+        assert_names(&rt, rt.alloc(), &image, names)?;
     }
+    Ok(())
+}
+
+// The run makes these calls, and prints its line.
+fn assert_called(rt: &impl Abort, alloc: Global, image: &[u8], case: &DeckRun) -> Result<(), Fail> {
+    let deck = case.deck;
+    let mut hall = hall_with(alloc, image, AMPLE)?;
+    assert_eq!(rt; run(alloc, RUN, deck, &[], &mut hall)?, case.code, "{deck}");
+    assert_eq!(rt; hall.calls(), case.calls, "{deck}");
+    assert_eq!(rt; hall.printed(), case.line.as_bytes(), "{deck}");
     Ok(())
 }
 
@@ -246,14 +273,9 @@ fn a_refusal_is_the_first_of_its_reasons_and_writes_nothing(rt: HostRuntime) -> 
 fn a_rename_is_one_write_of_the_slot_and_a_sync_before_its_line(
     rt: HostRuntime,
 ) -> Result<(), Fail> {
-    let alloc = rt.alloc();
-    let image = work_pack(alloc, CATALOGED)?;
+    let image = work_pack(rt.alloc(), CATALOGED)?;
     for case in RUNS {
-        let deck = case.deck;
-        let mut hall = hall_with(alloc, &image, AMPLE)?;
-        assert_eq!(rt; run(alloc, RUN, deck, &[], &mut hall)?, case.code, "{deck}");
-        assert_eq!(rt; hall.calls(), case.calls, "{deck}");
-        assert_eq!(rt; hall.printed(), case.line.as_bytes(), "{deck}");
+        assert_called(&rt, rt.alloc(), &image, case)?;
     }
     Ok(())
 }
@@ -278,26 +300,34 @@ fn pack_of_2314(alloc: Global, slots: &[Slot]) -> Result<Vec<u8>, AllocError> {
     Ok(image)
 }
 
+// A run of this deck on the pack of a 2314.
+//
 // The VTOC is on track 9, which begins at 512 + 9 * 7680 = 69632; slot 2 is 325 bytes behind that.
+fn assert_renamed_on_2314(rt: &impl Abort, alloc: Global, deck: &str) -> Result<(), Fail> {
+    let slots: &[Slot] = &[Slot::F5, Slot::F1(A_B), Slot::F0];
+    let mut image = pack_of_2314(alloc, slots)?;
+    let mut hall = hall_with(alloc, &image, AMPLE)?;
+    assert_eq!(rt; run(alloc, RUN, deck, &[], &mut hall)?, 0, "{deck}");
+    assert_eq!(rt; hall.printed(), b"00001 RENAME A.B OK\n".as_slice());
+    put(&mut image, 69957, &padded(A_D));
+    assert_eq!(rt; hall.image("w.img"), Some(image.as_slice()), "{deck}");
+    assert_names(rt, alloc, &image, "A.D\n")
+}
+
 #[test]
 fn another_device_than_that_of_the_pack_may_be_named(rt: HostRuntime) -> Result<(), Fail> {
-    let alloc = rt.alloc();
-    let slots: &[Slot] = &[Slot::F5, Slot::F1(A_B), Slot::F0];
-    for device in ["2311", "2314", "3330"] {
-        let mut image = pack_of_2314(alloc, slots)?;
-        let mut hall = hall_with(alloc, &image, AMPLE)?;
-        let deck = format!(in alloc; " RENAME DSNAME=A.B,VOL={device}=WORK01,NEWNAME=A.D\n")?;
-        assert_eq!(rt; run(alloc, RUN, &deck, &[], &mut hall)?, 0, "{device}");
-        assert_eq!(rt; hall.printed(), b"00001 RENAME A.B OK\n".as_slice());
-        put(&mut image, 69957, &padded(A_D));
-        assert_eq!(rt; hall.image("w.img"), Some(image.as_slice()), "{device}");
-        assert_names(&rt, alloc, &image, "A.D\n")?;
+    for deck in [
+        " RENAME DSNAME=A.B,VOL=2311=WORK01,NEWNAME=A.D\n",
+        " RENAME DSNAME=A.B,VOL=2314=WORK01,NEWNAME=A.D\n",
+        " RENAME DSNAME=A.B,VOL=3330=WORK01,NEWNAME=A.D\n",
+    ] {
+        assert_renamed_on_2314(&rt, rt.alloc(), deck)?;
     }
     Ok(())
 }
 
 // Decks that aren't one RENAME statement of at most 80 columns.
-const DECKS: [&str; 24] = [
+const DECKS: &[&str] = &[
     "",
     "\n",
     "\r\n",
@@ -329,27 +359,31 @@ const DECKS: [&str; 24] = [
     " RENAME DSNAME=A.B,VOL=2314=WORK01,NEWNAME=A.D\n\n",
 ];
 
+// The deck is refused by one print, and no file is attached.
+fn assert_no_deck(
+    rt: &impl Abort,
+    alloc: Global,
+    words: &[&str],
+    deck: &str,
+    image: &[u8],
+) -> Result<(), Fail> {
+    let mut hall = hall_with(alloc, image, AMPLE)?;
+    assert_eq!(rt; run(alloc, words, deck, &[], &mut hall)?, 26, "{deck:?}");
+    let line = b"VOLMAN DECK FORM\n".as_slice();
+    assert_eq!(rt; hall.printed(), line, "{deck:?}");
+    assert_eq!(rt; hall.calls(), [Call::Print].as_slice(), "{deck:?}");
+    assert_eq!(rt; hall.image("w.img"), Some(image), "{deck:?}");
+    Ok(())
+}
+
 // A file that is missing, or that holds no pack, isn't asked for either.
 #[test]
 fn a_deck_that_is_refused_attaches_no_file(rt: HostRuntime) -> Result<(), Fail> {
-    let alloc = rt.alloc();
-    let pack = work_pack(alloc, PLAIN)?;
+    let pack = work_pack(rt.alloc(), PLAIN)?;
     for deck in DECKS {
-        for (words, image) in [
-            (RUN, pack.as_slice()),
-            (RUN, b"".as_slice()),
-            (MISSING, b""),
-        ] {
-            let mut hall = hall_with(alloc, image, AMPLE)?;
-            assert_eq!(rt; run(alloc, words, deck, &[], &mut hall)?, 26, "{deck:?}");
-            assert_eq!(rt;
-                hall.printed(),
-                b"VOLMAN DECK FORM\n".as_slice(),
-                "{deck:?}"
-            );
-            assert_eq!(rt; hall.calls(), [Call::Print].as_slice(), "{deck:?}");
-            assert_eq!(rt; hall.image("w.img"), Some(image), "{deck:?}");
-        }
+        assert_no_deck(&rt, rt.alloc(), RUN, deck, &pack)?;
+        assert_no_deck(&rt, rt.alloc(), RUN, deck, b"")?;
+        assert_no_deck(&rt, rt.alloc(), MISSING, deck, b"")?;
     }
     Ok(())
 }
@@ -357,8 +391,7 @@ fn a_deck_that_is_refused_attaches_no_file(rt: HostRuntime) -> Result<(), Fail> 
 // The cards aren't read either: their first read would fail.
 #[test]
 fn words_that_are_refused_attach_no_file(rt: HostRuntime) -> Result<(), Fail> {
-    let alloc = rt.alloc();
-    let image = work_pack(alloc, PLAIN)?;
+    let image = work_pack(rt.alloc(), PLAIN)?;
     let cases: [&[&str]; 5] = [
         &["volman", "run", "w.img"],
         &["volman", "run", "--date", "74000", "w.img"],
@@ -367,10 +400,7 @@ fn words_that_are_refused_attach_no_file(rt: HostRuntime) -> Result<(), Fail> {
         &["volman", "run", "--date", "74123", "w.img", "w.img"],
     ];
     for words in cases {
-        let mut hall = hall_with(alloc, &image, AMPLE)?;
-        assert_eq!(rt; status(alloc, words, &mut hall)?, 20, "{words:?}");
-        assert_eq!(rt; hall.printed(), b"VOLMAN WORDS\n".as_slice(), "{words:?}");
-        assert_eq!(rt; hall.calls(), [Call::Print].as_slice(), "{words:?}");
+        assert_words_refused(&rt, rt.alloc(), words, &image)?;
     }
     Ok(())
 }

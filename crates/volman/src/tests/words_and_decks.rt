@@ -6,11 +6,12 @@ use crate::words::{Action, action_of};
 use ebcdic_names::{Dsn, Serial};
 use hall_core::{Cards, MemCards, ReadFault};
 use std::alloc::{AllocError, Global};
+use std::process::Abort;
 use std::test::Fail;
 use util_syntax::Rename;
 
 // Words in which one that isn't the date is wrong, or in another place.
-const REFUSED: [&[&str]; 24] = [
+const REFUSED: &[&[&str]] = &[
     &[],
     &["volman"],
     &["volman", "run"],
@@ -38,7 +39,7 @@ const REFUSED: [&[&str]; 24] = [
 ];
 
 // Dates, and whether they are taken.
-const DATES: [(&str, bool); 26] = [
+const DATES: &[(&str, bool)] = &[
     ("74123", true),
     ("00001", true),
     ("99366", true),
@@ -88,7 +89,7 @@ fn words_ask_for_names_or_a_run_or_are_refused(rt: HostRuntime) -> Result<(), Fa
         assert!(rt; asks_for(alloc, words, None)?, "{words:?}");
     }
     for (date, is_taken) in DATES {
-        let action = if is_taken { run } else { None };
+        let action = if *is_taken { run } else { None };
         let words = ["volman", "run", "--date", date, "w.img"];
         assert!(rt; asks_for(alloc, &words, action)?, "{date}");
     }
@@ -119,7 +120,7 @@ type Deck = (
     usize,
 );
 
-const DECKS: [Deck; 24] = [
+const DECKS: &[Deck] = &[
     (CARD, "\n", Some(NAMES), 0),
     (CARD, "\r\n", Some(NAMES), 0),
     (CARD, "", Some(NAMES), 0),
@@ -192,48 +193,56 @@ fn left(cards: &mut impl Cards) -> Option<usize> {
     cards.read(&mut [0; 64]).ok()
 }
 
+// What is read of a deck, and how much it leaves.
+fn assert_deck(rt: &impl Abort, alloc: Global, deck: Deck) -> Result<(), Fail> {
+    let (card, end, names, behind) = deck;
+    let answer = match names {
+        Some(names) => statement(names).ok_or(DeckErr::Read),
+        None => Err(DeckErr::Form),
+    };
+    let mut whole = cards(alloc, &[card, end], &[])?;
+    assert_eq!(rt; read_deck(&mut whole), answer, "{card:?} {end:?}");
+    assert_eq!(rt; left(&mut whole), Some(behind), "{card:?} {end:?}");
+    let mut single = Single {
+        cards: cards(alloc, &[card, end], &[])?,
+    };
+    assert_eq!(rt; read_deck(&mut single), answer, "{card:?} {end:?}");
+    assert_eq!(rt; left(&mut single.cards), Some(behind), "{card:?} {end:?}");
+    Ok(())
+}
+
 #[test]
 fn a_deck_is_one_statement_on_one_line(rt: HostRuntime) -> Result<(), Fail> {
-    let alloc = rt.alloc();
-    for (card, end, names, behind) in DECKS {
-        let answer = match names {
-            Some(names) => statement(names).ok_or(DeckErr::Read),
-            None => Err(DeckErr::Form),
-        };
-        let mut whole = cards(alloc, &[card, end], &[])?;
-        assert_eq!(rt; read_deck(&mut whole), answer, "{card:?} {end:?}");
-        assert_eq!(rt; left(&mut whole), Some(behind), "{card:?} {end:?}");
-        let mut single = Single {
-            cards: cards(alloc, &[card, end], &[])?,
-        };
-        assert_eq!(rt; read_deck(&mut single), answer, "{card:?} {end:?}");
-        assert_eq!(rt; left(&mut single.cards), Some(behind), "{card:?} {end:?}");
+    for deck in DECKS {
+        assert_deck(&rt, rt.alloc(), *deck)?;
     }
     Ok(())
 }
 
+// What is read of a good deck where the read of this number fails: a fault if it is one of so many reads.
+fn deck_read(failing: u64, reads: u64) -> Result<Rename, DeckErr> {
+    if failing < reads {
+        Err(DeckErr::Read)
+    } else {
+        statement(NAMES).ok_or(DeckErr::Form)
+    }
+}
+
 // A deck of 48 bytes takes two reads, or one for each byte and one for the end.
+fn assert_read(rt: &impl Abort, alloc: Global, failing: u64) -> Result<(), Fail> {
+    let mut whole = cards(alloc, &[CARD, "\r\n"], &[failing])?;
+    assert_eq!(rt; read_deck(&mut whole), deck_read(failing, 2), "{failing}");
+    let mut single = Single {
+        cards: cards(alloc, &[CARD, "\r\n"], &[failing])?,
+    };
+    assert_eq!(rt; read_deck(&mut single), deck_read(failing, 49), "{failing}");
+    Ok(())
+}
+
 #[test]
 fn a_read_that_fails_is_no_deck_that_is_refused(rt: HostRuntime) -> Result<(), Fail> {
-    let alloc = rt.alloc();
-    let answer = statement(NAMES).ok_or(DeckErr::Form);
     for failing in 0..50 {
-        let mut whole = cards(alloc, &[CARD, "\r\n"], &[failing])?;
-        let read = if failing < 2 {
-            Err(DeckErr::Read)
-        } else {
-            answer
-        };
-        assert_eq!(rt; read_deck(&mut whole), read, "{failing}");
-        let mut single = Single {
-            cards: cards(alloc, &[CARD, "\r\n"], &[failing])?,
-        };
-        let read = if failing < 49 {
-            Err(DeckErr::Read)
-        } else {
-            answer
-        };
-        assert_eq!(rt; read_deck(&mut single), read, "{failing}");
+        assert_read(&rt, rt.alloc(), failing)?;
     }
     Ok(())
 }

@@ -110,7 +110,7 @@ pub(crate) struct DeckRun {
 /// count take 29 bytes before the first slot, and a slot with its count takes 148. So slot 2, the third of
 /// the first track, stands at 37376 + 29 + 2 * 148 = 37701, and slot 6, the third of the second track, at
 /// 41472 + 29 + 2 * 148 = 41797. The second track is the last that is read when the pack is mounted.
-pub(crate) const RUNS: [DeckRun; 3] = [
+pub(crate) const RUNS: &[DeckRun] = &[
     DeckRun {
         deck: " RENAME DSNAME=A.B,VOL=2311=WORK01,NEWNAME=A.D\n",
         calls: &[

@@ -16,14 +16,14 @@ const PACK: Geometry = Geometry {
 };
 
 // An extent of tracks 3 to 5, one that ends before it begins, one of a head that the device lacks,
-// and one of split cylinders.
+// and one of user labels.
 const GOOD: [u8; 10] = [0x01, 0, 0, 0, 0, 3, 0, 0, 0, 5];
 
 const BACKWARDS: [u8; 10] = [0x01, 0, 0, 1, 0, 0, 0, 0, 0, 9];
 
 const OUTSIDE: [u8; 10] = [0x81, 0, 0, 0, 0, 3, 0, 1, 0, 10];
 
-const SPLIT: [u8; 10] = [0x40, 0, 0, 0, 0, 3, 0, 0, 0, 5];
+const USER_LABELS: [u8; 10] = [0x40, 0, 0, 0, 0, 3, 0, 0, 0, 5];
 
 const NONE: [u8; 10] = [0; 10];
 
@@ -183,7 +183,13 @@ fn slots_are_judged_in_their_order(rt: HostRuntime) {
         byte: 0xF4,
     };
     assert_eq!(rt; found_in(alloc, &format_4).err(), Some(expected));
-    let indexed = [vtoc(), space(), FREE, INDEXED, set(0xC1, 1, [SPLIT; 3], 0)];
+    let indexed = [
+        vtoc(),
+        space(),
+        FREE,
+        INDEXED,
+        set(0xC1, 1, [USER_LABELS; 3], 0),
+    ];
     let expected = MountErr::UnsupportedDscb {
         slot: 3,
         byte: 0xF2,
@@ -193,7 +199,7 @@ fn slots_are_judged_in_their_order(rt: HostRuntime) {
         vtoc(),
         FREE,
         chained_set(0xC1, 4, 9),
-        set(0xC2, 1, [SPLIT; 3], 0),
+        set(0xC2, 1, [USER_LABELS; 3], 0),
     ];
     let expected = MountErr::BadChain { slot: 2 };
     assert_eq!(rt; found_in(alloc, &chain_first).err(), Some(expected));
@@ -205,9 +211,9 @@ fn types_go_before_places_and_these_before_chains(rt: HostRuntime) {
     let unsupported = Some(MountErr::UnsupportedExtent { slot: 2 });
     let bad = Some(MountErr::BadExtent { slot: 2 });
     for (extents, runs, expected) in &[
-        (1, [BACKWARDS, NONE, SPLIT], unsupported),
+        (1, [BACKWARDS, NONE, USER_LABELS], unsupported),
         (2, [OUTSIDE, NONE, NONE], unsupported),
-        (4, [OUTSIDE, SPLIT, GOOD], unsupported),
+        (4, [OUTSIDE, USER_LABELS, GOOD], unsupported),
         (1, [BACKWARDS, NONE, NONE], bad),
         (2, [GOOD, OUTSIDE, NONE], bad),
         (4, [GOOD, GOOD, OUTSIDE], bad),
@@ -228,8 +234,8 @@ fn sixteen_extents_are_taken_and_seventeen_not(rt: HostRuntime) {
     let bad = Some(MountErr::BadExtent { slot: 2 });
     for (extents, last, expected) in &[
         (16, GOOD, None),
-        (15, SPLIT, None),
-        (16, SPLIT, unsupported),
+        (15, USER_LABELS, None),
+        (16, USER_LABELS, unsupported),
         (16, NONE, unsupported),
         (16, BACKWARDS, bad),
         (17, GOOD, bad),

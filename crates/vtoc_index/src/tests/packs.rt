@@ -1,4 +1,4 @@
-//! A pack of two cylinders of a 2311, ABC123, whose VTOC lies on tracks 1 and 2.
+//! A pack of two cylinders of a 2311, ABC123, whose VTOC begins on track 1.
 use std::alloc::{AllocError, Global};
 
 /// The bytes of the header of the image.
@@ -34,6 +34,16 @@ pub(crate) fn name(letter: u8) -> [u8; 44] {
     let mut name = [0x40; 44];
     name[0] = letter;
     name
+}
+
+/// The format 4 of a VTOC on these tracks of cylinder 0, with so many free slots.
+pub(crate) fn vtoc(first: u8, last: u8, free: u8) -> Slot {
+    let mut slot = slot(0xF4, first, last);
+    for byte in slot.iter_mut().take(44) {
+        *byte = 4;
+    }
+    slot[51] = free;
+    slot
 }
 
 // A slot of this format with an extent from one track of cylinder 0 to another.
@@ -110,30 +120,40 @@ fn header(alloc: Global) -> Result<Vec<u8>, AllocError> {
     Ok(image)
 }
 
-/// The image of the pack with these bytes written over it; A and B stand in slots 2 and 3 on track 1,
-/// and C in slot 5, the second on track 2.
-pub(crate) fn image_of(alloc: Global, patches: &[Patch]) -> Result<Vec<u8>, AllocError> {
-    let front = [
-        slot(0xF4, 1, 2),
-        slot(0xF5, 0, 0),
-        set(0xC1, 3),
-        set(0xC2, 4),
-    ];
-    let back = [FREE, set(0xC3, 5), FREE];
+// The image of the pack with these slots on the tracks of its VTOC, from track 1 on.
+fn image_with(alloc: Global, vtoc: &[&[Slot]]) -> Result<Vec<u8>, AllocError> {
     let mut image = header(alloc)?;
     for number in 0..TRACKS {
         let address = [0, number / HEADS, 0, number % HEADS];
         let end = image.len().saturating_add(TRACK_LEN);
         begin_track(&mut image, address)?;
-        match number {
-            0 => push_label(&mut image, address)?,
-            1 => push_slots(&mut image, address, &front)?,
-            2 => push_slots(&mut image, address, &back)?,
-            _ => {}
+        match number.checked_sub(1) {
+            None => push_label(&mut image, address)?,
+            Some(index) => {
+                if let Some(slots) = vtoc.get(usize::from(index)) {
+                    push_slots(&mut image, address, slots)?;
+                }
+            }
         }
         image.extend_from_slice(&[0xFF; 8])?;
         image.resize(end, 0)?;
     }
+    Ok(image)
+}
+
+/// The image of a pack whose VTOC has four tracks: A stands in slot 2, the last on track 1, and B in slot
+/// 4, the second on track 3. Tracks 2 and 4 have no slots.
+pub(crate) fn image_with_gaps(alloc: Global) -> Result<Vec<u8>, AllocError> {
+    let front = [vtoc(1, 4, 0), slot(0xF5, 0, 0), set(0xC1, 5)];
+    image_with(alloc, &[&front, &[], &[FREE, set(0xC2, 6)], &[]])
+}
+
+/// The image of the pack with these bytes written over it; A and B stand in slots 2 and 3 on track 1,
+/// and C in slot 5, the second on track 2.
+pub(crate) fn image_of(alloc: Global, patches: &[Patch]) -> Result<Vec<u8>, AllocError> {
+    let front = [vtoc(1, 2, 0), slot(0xF5, 0, 0), set(0xC1, 3), set(0xC2, 4)];
+    let back = [FREE, set(0xC3, 5), FREE];
+    let mut image = image_with(alloc, &[&front, &back])?;
     for (at, byte) in patches {
         if let Some(place) = image.get_mut(*at) {
             *place = *byte;

@@ -10,7 +10,7 @@ use Rattle.hall_core.proofs.mem_hall.MemHallHall.attach.Goals as goal
 use Rattle.hall_core.proofs.mem_hall.MemHallHall.attach.Goals.{After-add_unit}
 
 pub returns-then-lacks_room-clause-told : goal.returns-then-lacks_room-clause-told
-returns-then-lacks_room-clause-told c = record { same = same_still (first_files c.args.self.now) (events_of c.args.self.now); there = tt; missing = λ e. absurd (cc (e, c.fault.ensures.error)) }
+returns-then-lacks_room-clause-told c = record { same = same_still (first_files c.args.self.now) (events_of c.args.self.now); there = tt; missing = λ e. absurd (cc (e, c.fault.ensures.error)); memory = λ e. absurd (cc (e, c.fault.ensures.error)) }
 
 pub returns-then-fails-clause-told : goal.returns-then-fails-clause-told
 returns-then-fails-clause-told c =
@@ -20,6 +20,7 @@ returns-then-fails-clause-told c =
           c.record_plain.ensures.setup.first c.record_plain.ensures.noted.events (same_passed (first_files old) (events_of old));
       there = tt;
       missing = λ e. absurd (cc (e, c.fault-then-fails.ensures.error));
+      memory = λ e. absurd (cc (e, c.fault-then-fails.ensures.error));
     }
 
 pub returns-in_default-clause-told : goal.returns-in_default-clause-told
@@ -31,6 +32,7 @@ returns-in_default-clause-told c =
           c.record_plain.ensures.setup.first c.record_plain.ensures.noted.events (same_passed (first_files old) (events_of old));
       there = tt;
       missing = λ e. ap (λ (l : List File). file_of l c.args.name.now) old.replay.present ∙ none;
+      memory = λ e. absurd (cc e);
     }
 
 found : (c : After-add_unit) → (image : List ℕ) × (file_of (meaning_of c.args.self.now).state c.args.name.now ≡ Some image)
@@ -48,6 +50,7 @@ returns-clause-told c =
           (c.add_unit.ensures.setup.first ∙ c.record_plain.ensures.setup.first) (c.add_unit.ensures.noted.events ∙ c.record_plain.ensures.noted.events) (same_passed (first_files old) (events_of old));
       there = found c;
       missing = λ e. absurd (cc e);
+      memory = λ e. absurd (cc e);
     }
 
 pub returns-clause-missing : goal.returns-clause-missing

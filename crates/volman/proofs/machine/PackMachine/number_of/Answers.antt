@@ -1,4 +1,4 @@
-use Rattle.std.proofs.Common.{sym, ◌∙◌}
+use Rattle.std.proofs.Common.{sym}
 use Rattle.vtoc_index.proofs.KeptLemmas.{mounted_of}
 use Rattle.volman.proofs.Machines.{number_is}
 use Rattle.volman.proofs.machine.PackMachine.number_of.Goals as goal

@@ -1,5 +1,5 @@
 use Rattle.std.proofs.Common.{ap, ◌∙◌, Err}
-use Rattle.volman.proofs.Machines.{applies_zero, applies_done, applies_elsewhere, applies_fault, applies_refused, keeps_promise, kept_at, promises_at}
+use Rattle.volman.proofs.Machines.{applies_zero, applies_done, applies_elsewhere, applies_fault, applies_refused, keeps_promise, kept_at, promises_at, stays_idle}
 use Rattle.vtoc_index.proofs.KeptLemmas.{mounted_of}
 use Rattle.volman.proofs.machine.PackMachine.rename.Goals as goal
 
@@ -8,7 +8,7 @@ rename-requires-clause-mounted g c told = mounted_of _ _ (c.args.self.now.kept c
 
 pub returns-then-v-ne0-clause-shelf : goal.returns-then-v-ne0-clause-shelf
 returns-then-v-ne0-clause-shelf g c told =
-    applies_elsewhere _ _ _ c.args.v c.args.old.now c.args.new.now (mounted_of _ _ (c.args.self.now.kept c.requires.sound told)).volume c.if-v-ne0.true
+    applies_elsewhere _ _ _ c.args.v c.args.old.now c.args.new.now (g.met.H.Hall.counts_now c.args.self.now.hall) (mounted_of _ _ (c.args.self.now.kept c.requires.sound told)).volume c.if-v-ne0.true
 
 pub invariant_of-self : goal.invariant_of-self
 invariant_of-self g c = record {
@@ -37,3 +37,15 @@ returns-in-Err-Device-clause-shelf g c told =
 pub returns-in-Err-Device-clause-promise : goal.returns-in-Err-Device-clause-promise
 returns-in-Err-Device-clause-promise g c told =
     promises_at _ _ c.args.self.now.vol c.rename.new.vol c.rename.ensures.call.units c.rename.ensures.index (g.H.Hall.meaning c.args.self.now.hall) (g.H.Hall.meaning c.rename.new.hall) (keeps_promise (g.met.H.Hall.counts_now c.args.self.now.hall) (g.met.H.Hall.leaves_state c.args.self.now.hall) (c.rename.ensures.told told))
+
+pub returns-in-Ok-clause-stays : goal.returns-in-Ok-clause-stays
+returns-in-Ok-clause-stays g c told =
+    stays_idle c.args.old.now c.args.new.now c.args.v _ c.if-v-ne0.false (λ short. cc) (g.met.H.Hall.counts_now c.args.self.now.hall) (c.rename.ensures.told told)
+
+pub returns-in-Err-Refused-clause-stays : goal.returns-in-Err-Refused-clause-stays
+returns-in-Err-Refused-clause-stays g c told =
+    stays_idle c.args.old.now c.args.new.now c.args.v _ c.if-v-ne0.false (λ short. let wrong = short in cc) (g.met.H.Hall.counts_now c.args.self.now.hall) (c.rename.ensures.told told)
+
+pub returns-in-Err-Device-clause-stays : goal.returns-in-Err-Device-clause-stays
+returns-in-Err-Device-clause-stays g c told =
+    stays_idle c.args.old.now c.args.new.now c.args.v _ c.if-v-ne0.false (λ short. let wrong = short in cc) (g.met.H.Hall.counts_now c.args.self.now.hall) (c.rename.ensures.told told)
