@@ -11,4 +11,5 @@ pub mod GrammarBreak
 pub mod GrammarBegin
 pub mod GrammarFirstBreak
 pub mod Written
+pub mod WrittenTracks
 pub mod GeometryLemmas

@@ -68,7 +68,7 @@ pub enum ImageErr {
     BadLength(u64),
 }
 
-/// The header of an image, 512 bytes.
+/// Reads and makes the 512 bytes in front of an image.
 pub struct Header;
 
 impl Header {

@@ -1,4 +1,7 @@
 //! Images of disk packs in the CKD layout of Hercules: devices, header, tracks, and what fits a track.
+//!
+//! Some of it stands here for calls to come, and tests alone use it yet: `fits`, `Header::write`, and of `DiskType` what it
+//! says besides heads, cylinders and track sizes.
 #![tactic(auto)]
 
 mod device;
@@ -6,9 +9,11 @@ mod fit;
 mod header;
 mod record;
 mod track;
+mod writing;
 
 pub use device::DiskType;
 pub use fit::fits;
 pub use header::{Geometry, HEADER_LEN, Header, ImageErr};
 pub use record::{COUNT_LEN, RecordParts, record_at};
 pub use track::{BadCount, FRONT_LEN, track_of};
+pub use writing::{push_end, push_front, push_record};

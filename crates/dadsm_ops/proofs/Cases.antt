@@ -1,6 +1,6 @@
 -- The definitions of `specs/`, at the edges where a near-miss reading would differ.
-use Rattle.std.proofs.Common.{◌≡◌, ◌*◌, ◌≤◌, ⊎_elim, ℕ, zero, suc, List, [], ◌∷◌, ◌++◌, length, take, drop, codes, get_or, replicate, Some, None, refl, sym, ap, ◌∙◌, arith}
-use Rattle.std.specs.Prelude.{Ok, Err}
+use Rattle.std.proofs.Common.{◌≡◌, ◌*◌, ◌≤◌, ⊎_elim, ℕ, zero, suc, List, [], ◌∷◌, ◌++◌, length, take, drop, codes, get_or, replicate, Option, Some, None, refl, sym, ap, subst, ◌∙◌, arith}
+use Rattle.std.specs.Prelude.{Ok, Err, slice_get, slice_set}
 use Rattle.std.proofs.lemmas.List.{drop-drop, drop_all, drop_at, length-append, take_at}
 use Rattle.ckd_image.specs.declared.device.DiskType.TheVariants.{D2311}
 use Rattle.ckd_image.specs.declared.header.Geometry.{Geometry}
@@ -18,8 +18,8 @@ use Rattle.vol_model.specs.declared.contents.Run.{Run}
 use Rattle.vol_model.specs.declared.contents.Volume.{Volume}
 use Rattle.vol_model.specs.declared.refusals.Refusal.{Refusal}
 use Rattle.vol_model.specs.declared.refusals.Refusal.TheVariants.{NoSet, SetExists, WrongKind}
-use Rattle.dadsm_ops.specs.Naming.{IsToRename, named_bytes, refusal_answered, refusal_in, under_name}
-use Rattle.dadsm_ops.specs.Operations.{ChangesVtoc, DiffersInVtoc, IsBeforeOrAfter, IsIn, image_named}
+use Rattle.dadsm_ops.specs.Naming.{IsToRename, RenamesEntry, named_bytes, refusal_answered, refusal_in, under_name}
+use Rattle.dadsm_ops.specs.Operations.{ChangesVtoc, DiffersInVtoc, StandsForEither, IsIn, image_named}
 
 -- tracks 1 and 2
 vtoc : Run
@@ -133,7 +133,7 @@ unfolding last_byte
 header_stays g run differs = let wrong : 1 ≡ 0 = ap (λ (bytes : List ℕ). get_or bytes 511 0) differs.header in omega (arith, wrong)
 
 -- Where the step is refused, the image stands for the volume before.
-refused_step_leaves_the_volume : (volume : Volume) (r : Refusal) (image : List ℕ) → IsBeforeOrAfter volume (Err r) image → volume_of image ≡ Ok volume
+refused_step_leaves_the_volume : (volume : Volume) (r : Refusal) (image : List ℕ) → StandsForEither volume (Err r) image → volume_of image ≡ Ok volume
 refused_step_leaves_the_volume volume r image stands = ⊎_elim (λ before. before) (λ after. let wrong = after.1 in absurd (cc)) stands
 
 -- names of 44 bytes
@@ -183,6 +183,52 @@ module _ (f : F1) where
   catalog_is_named_last : (g : F4) → (refusal_in (slots g) a catalog_name ≡ Some WrongKind) × (refusal_in (named catalog_name ∷ []) catalog_name a ≡ Some WrongKind) × (refusal_in (slots g) a c ≡ None)
   unfolding slots named a b c
   catalog_is_named_last g = (refl, refl, refl)
+
+  -- The set has the new name, in its slot.
+  entry_is_renamed : (g : F4) → RenamesEntry a c (slots g) (formats.F4 g ∷ formats.F0 ∷ named b ∷ named c ∷ [])
+  unfolding slots named a b c
+  entry_is_renamed g = record { slot = 3; found = record { found = refl; absent = refl; others = refl }; dscb = named a; held = refl; slots = refl }
+
+  renamed_entry : (g : F4) (after : List Dscb) → RenamesEntry a c (slots g) after → after ≡ formats.F4 g ∷ formats.F0 ∷ named b ∷ named c ∷ []
+  unfolding slots named a b c
+  renamed_entry g after renames =
+      let found : Some 3 ≡ Some renames.slot = renames.found.found in
+      let slot : 3 ≡ renames.slot = cc in
+      let held : Some (named a) ≡ Some renames.dscb = subst (λ (k : ℕ). slice_get (slots g) k ≡ Some renames.dscb) (sym slot) renames.held in
+      let dscb : named a ≡ renames.dscb = cc in
+      renames.slots ∙ ap (λ (k : ℕ). slice_set (slots g) k (under_name c renames.dscb)) (sym slot) ∙ ap (λ (d : Dscb). slice_set (slots g) 3 (under_name c d)) (sym dscb)
+
+  -- the first letter of the name in a slot, or 0 where the slot has no set
+  letter : List Dscb → ℕ → ℕ
+  letter all slot = of (get_or all slot formats.F0)
+    where
+      of : Dscb → ℕ
+      of (formats.F1 set) = get_or set.name 0 0
+      of d = 0
+
+  -- Nor has another slot the old name, or the new one, or does the set keep its old one.
+  old_name_is_gone : (g : F4) → (¬ RenamesEntry a c (slots g) (formats.F4 g ∷ named c ∷ named b ∷ named a ∷ [])) × (¬ RenamesEntry a c (slots g) (slots g))
+  unfolding slots named a b c letter
+  old_name_is_gone g = (
+    λ renames. let wrong : 0xC1 ≡ 0xC3 = ap (λ (all : List Dscb). letter all 3) (renamed_entry g (formats.F4 g ∷ named c ∷ named b ∷ named a ∷ []) renames) in omega (arith, wrong),
+    λ renames. let wrong : 0xC1 ≡ 0xC3 = ap (λ (all : List Dscb). letter all 3) (renamed_entry g (slots g) renames) in omega (arith, wrong),
+  )
+
+  second_slot_stays : (g : F4) → (¬ RenamesEntry a c (slots g) (formats.F4 g ∷ formats.F0 ∷ named c ∷ named c ∷ [])) × (¬ RenamesEntry a c (slots g) (formats.F4 g ∷ named a ∷ named b ∷ named c ∷ []))
+  unfolding slots named a b c letter
+  second_slot_stays g = (
+    λ renames. let wrong : 0xC3 ≡ 0xC2 = ap (λ (all : List Dscb). letter all 2) (renamed_entry g (formats.F4 g ∷ formats.F0 ∷ named c ∷ named c ∷ []) renames) in omega (arith, wrong),
+    λ renames. let wrong : 0xC1 ≡ 0 = ap (λ (all : List Dscb). letter all 1) (renamed_entry g (formats.F4 g ∷ named a ∷ named b ∷ named c ∷ []) renames) in omega (arith, wrong),
+  )
+
+  -- A slot more is none of the VTOC's, and a name that is taken isn't given.
+  no_slot_comes : (g : F4) → ¬ RenamesEntry a c (slots g) (formats.F4 g ∷ formats.F0 ∷ named b ∷ named c ∷ named a ∷ [])
+  unfolding slots named a b c
+  no_slot_comes g renames = let wrong : 5 ≡ 4 = ap length (renamed_entry g (formats.F4 g ∷ formats.F0 ∷ named b ∷ named c ∷ named a ∷ []) renames) in omega (arith, wrong)
+
+  taken_name_is_not_given : (g : F4) (after : List Dscb) → ¬ RenamesEntry a b (slots g) after
+  unfolding slots named a b
+  taken_name_is_not_given g after renames = let taken : ◌≡◌ {A = Option ℕ} (Some 2) None = renames.found.absent in absurd (cc)
 
 -- Want of memory and a fault of the device are no refusals.
 refusals_alone_are_refusals : (refusal_answered {T = ℕ} (Err (Refused NoSet)) ≡ Some NoSet) × (refusal_answered {T = ℕ} (Err Memory) ≡ None) × (refusal_answered {T = ℕ} (Err Device) ≡ None) × (refusal_answered {T = ℕ} (Ok 1) ≡ None)

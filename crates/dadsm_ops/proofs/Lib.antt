@@ -2,9 +2,13 @@ pub mod Cases
 pub mod ChangedLists
 pub mod FoundSets
 pub mod Operating
+pub mod OperationCases
 pub mod Refusals
+pub mod RenameChains
 pub mod RenamedImages
 pub mod RenamedSets
 pub mod RenamedSlots
 pub mod Renaming
+pub mod SmallFiles
+pub mod WriteCases
 pub mod Writes

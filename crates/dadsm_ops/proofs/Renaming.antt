@@ -1,5 +1,5 @@
 -- A set under its new name, put and made durable: what the operation on the volume is then.
-use Rattle.std.proofs.Common.{◌≡◌, ℕ, List, length, Some, refl, sym, ap, subst, ◌∙◌, get_or}
+use Rattle.std.proofs.Common.{◌≡◌, ◌⊎◌, ⊎_elim, inl, inr, ℕ, List, length, Some, refl, sym, ap, subst, ◌∙◌, get_or}
 use Rattle.std.specs.Prelude.{Result, Ok, Err, slice_get, slice_set}
 use Rattle.std.proofs.lemmas.Option.{get_or_from_slice_get}
 use Rattle.dscb_codec.specs.declared.Dscb.{Dscb}
@@ -40,6 +40,10 @@ renames_entry old new items items' slot x d found read is put =
       held = set.set ∙ ap Some (sym (read ∙ get_or_from_slice_get items slot (formats.F1 set.f) x set.set));
       slots = put ∙ ap (slice_set items slot) is;
     }
+
+-- the same, where the slots may be as before
+pub may_rename_entry : (old new : List ℕ) (items items' : List Dscb) (slot : ℕ) (x d : Dscb) → IsToRename items old new slot → x ≡ get_or items slot x → d ≡ under_name new x → (items' ≡ items) ⊎ (items' ≡ slice_set items slot d) → (items' ≡ items) ⊎ RenamesEntry old new items items'
+may_rename_entry old new items items' slot x d found read is which = ⊎_elim (λ same. inl same) (λ put. inr (renames_entry old new items items' slot x d found read is put)) which
 
 module _ (name : List ℕ) (v v' : Vol) (old new : Dsn) (slot : ℕ) (x d : Dscb) (m n : Meaning (List File))
     (mounted : IsMounted (image_named m.state name) v) (found : IsToRename v.slots.items old.bytes new.bytes slot) (long : length new.bytes ≡ 44)

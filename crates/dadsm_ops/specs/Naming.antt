@@ -1,5 +1,5 @@
 -- What gives a data set another name, in the slots of a VTOC (System Control Blocks GC28-6628).
-use Rattle.std.specs.Prelude.{◌≡◌, ℕ, ◌||◌, false, if◌then◌else◌, List, ◌++◌, drop, position, slice_get, Option, Some, None, is_none, is_some, slice_set, Result, Ok, Err}
+use Rattle.std.specs.Prelude.{◌≡◌, ℕ, ◌||◌, false, if◌then◌else◌, List, [], ◌∷◌, ◌++◌, drop, position, slice_get, Option, Some, None, is_none, is_some, slice_set, Result, Ok, Err}
 use Rattle.dscb_codec.specs.declared.Dscb.{Dscb}
 use Rattle.dscb_codec.specs.declared.Dscb.TheVariants.{F1}
 use Rattle.hall_core.specs.Files.{File}
@@ -13,7 +13,7 @@ use Rattle.vol_model.specs.declared.answers.StoreErr.TheVariants.{Refused, Memor
 use Rattle.vol_model.specs.declared.refusals.Refusal.{Refusal}
 use Rattle.vol_model.specs.declared.refusals.Refusal.TheVariants.{NoSet, SetExists, WrongKind}
 use Rattle.vtoc_index.specs.Contents.{is_set_named}
-use Rattle.vtoc_index.specs.Index.{run_of}
+use Rattle.vtoc_index.specs.Index.{IsMounted, run_of}
 use Rattle.vtoc_index.specs.declared.vol.Vol.{Vol}
 use Rattle.dadsm_ops.specs.Operations.{image_named}
 use Rattle.dadsm_ops.specs.Through.{HaveSlot}
@@ -75,3 +75,22 @@ WritesName {T} file v from to old new (Ok x) = PutsName {T = T} {E = StoreErr} f
 WritesName file v from to old new (Err (Refused r)) = Unit {0}
 WritesName file v from to old new (Err Memory) = Unit {0}
 WritesName {T} file v from to old new (Err Device) = PutsName {T = T} {E = StoreErr} file v from to old new (Err Device)
+
+-- A data set of an image was given another name: by the index of the image its slot is under the new one, and each other byte of all files is as before.
+pub record RenamesSet (file : List ℕ) (before after : List File) : Type 0 where
+  pub index : Vol
+  pub mounted : IsMounted (image_named before file) index
+  pub old : List ℕ
+  pub new : List ℕ
+  pub slot : ℕ
+  pub found : IsToRename index.slots.items old new slot
+  pub named : HaveName file index slot new before after
+
+-- data sets of an image were, one after another, and each step left these files
+abbrev pub RenamesThrough : List ℕ → List File → List (List File) → List File → Type 0
+RenamesThrough file before [] after = after ≡ before
+RenamesThrough file before (next ∷ others) after = RenamesSet file before next × RenamesThrough file next others after
+
+-- data sets of an image were given other names, one after another, or none was: each other byte of all files is as before
+abbrev pub RenamesSets : List ℕ → List File → List File → Type 0
+RenamesSets file before after = (steps : List (List File)) × RenamesThrough file before steps after

@@ -34,8 +34,8 @@ pub record ChangesVtoc (name : List ℕ) (g : Geometry) (vtoc : Run) (before aft
   pub image : DiffersInVtoc g vtoc (image_named before name) (image_named after name)
 
 -- the image stands for the volume before an operation, or for the one after it
-abbrev pub IsBeforeOrAfter : Volume → Result Volume Refusal → List ℕ → Type 0
-IsBeforeOrAfter volume stepped image = (volume_of image ≡ Ok volume) ⊎ ((after : Volume) × (stepped ≡ Ok after) × (volume_of image ≡ Ok after))
+abbrev pub StandsForEither : Volume → Result Volume Refusal → List ℕ → Type 0
+StandsForEither volume stepped image = (volume_of image ≡ Ok volume) ⊎ ((after : Volume) × (stepped ≡ Ok after) × (volume_of image ≡ Ok after))
 
 -- Where an operation is done, the image stands durably for the volume after it, and the index is the image's.
 pub record IsDone (name : List ℕ) (stepped : Result Volume Refusal) (v : Vol) (before : List File) (new : Meaning (List File)) : Type 0 where
@@ -60,7 +60,7 @@ pub record Operates {T : Type 0} (name : List ℕ) (operation : Volume → Resul
   pub answer : StoreAnswers name (operation volume) v old.state new result
   pub idle : (r : Refusal) → operation volume ≡ Err r → Same old new
   pub printed : new.printed ≡ old.printed
-  pub moments : Elapses old new (λ files p. IsBeforeOrAfter volume (operation volume) (image_named files name) × (ChangesVtoc name v.geometry v.vtoc old.state files × (p ≡ old.printed)))
+  pub moments : Elapses old new (λ files p. StandsForEither volume (operation volume) (image_named files name) × (ChangesVtoc name v.geometry v.vtoc old.state files × (p ≡ old.printed)))
   pub memory : IsErrOf result Memory → Same old new
 
 -- calls of a device by an operation, which answers a fault of it as one

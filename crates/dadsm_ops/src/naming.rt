@@ -1,5 +1,5 @@
 //! Another name for a data set.
-ghost use Rattle.std.specs.Prelude.{◌≡◌, ◌≤◌, ℕ, List, length, IsTrue, IfOk, IfErr, IsErrOf, OnOk, Some, Ok, Err};
+ghost use Rattle.std.specs.Prelude.{◌≡◌, ◌⊎◌, ◌≤◌, ℕ, List, length, IsTrue, IfOk, IfErr, IsErrOf, OnOk, Some, Ok, Err};
 ghost use Rattle.hall_core.specs.Facts.{unit_of};
 ghost use Rattle.hall_core.specs.Files.{image_of};
 ghost use Rattle.hall_core.specs.Moments.{IsDurable};
@@ -27,8 +27,8 @@ use vtoc_index::{Vol, find};
 /// It is refused, in this order, where the volume has no set of the old name (`NoSet`), where it has one
 /// of the new name (`SetExists`), and where either name is SYSCTLG (`WrongKind`); then nothing is called,
 /// and the index is as before. It takes no memory, so `Memory` never comes. `Device` comes only where
-/// the count of its faults rose. The index is that of the new image after `Ok`, and may be that of no
-/// image after `Device`.
+/// the count of its faults rose. The index is that of the new image after `Ok`. After `Device` it may be that
+/// of no image, and has the slots as before or with the set under the new name.
 pub fn rename<H: Hall>(hall: &mut H, vol: &mut Vol, old: &Dsn, new: &Dsn) -> Result<(), StoreErr>
     requires unit { IsOfUnit (H.facts hall.old).units vol.old }
     requires mounted { IsTrue H.tells → IsMounted (image_of (H.meaning hall.old).state (H.facts hall.old) vol.old.unit) vol.old }
@@ -38,6 +38,7 @@ pub fn rename<H: Hall>(hall: &mut H, vol: &mut Vol, old: &Dsn, new: &Dsn) -> Res
     ensures unit { IsOfUnit (H.facts hall.new).units vol.new }
     ensures index { vol.new ≡ record vol.old { slots = vol.new.slots; buf = vol.new.buf } }
     ensures entry { OnOk result (RenamesEntry old.now.bytes new.now.bytes vol.old.slots.items vol.new.slots.items) }
+    ensures slots { (vol.new.slots.items ≡ vol.old.slots.items) ⊎ RenamesEntry old.now.bytes new.now.bytes vol.old.slots.items vol.new.slots.items }
     ensures refused { (r : Refusal) → IsErrOf result (StoreErr.Refused r) → (hall.new ≡ hall.old) × (vol.new ≡ vol.old) }
     ensures reason { refusal_answered result ≡ refusal_in vol.old.slots.items old.now.bytes new.now.bytes }
     ensures memory { IsErrOf result StoreErr.Memory → ⊥ }

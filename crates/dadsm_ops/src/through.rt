@@ -1,5 +1,5 @@
 //! One slot of a VTOC, written and made durable.
-ghost use Rattle.std.specs.Prelude.{◌≡◌, ◌<◌, length, IsTrue, OnOk};
+ghost use Rattle.std.specs.Prelude.{◌≡◌, ◌⊎◌, ◌<◌, length, slice_set, IsTrue, OnOk};
 ghost use Rattle.hall_core.specs.Facts.{DeviceCall, unit_of};
 ghost use Rattle.hall_core.specs.Files.{AfterSync, image_of};
 ghost use Rattle.hall_core.specs.Moments.{IsDurable};
@@ -12,7 +12,7 @@ use hall_core::{Device, Hall};
 use vtoc_index::{Vol, put_slot};
 
 // Puts a DSCB into a slot by one write, and makes it durable. After an error the write is pending, done,
-// or not begun, and the index may be that of no image any more.
+// or not begun, and the index, with the slot as it was or with the DSCB, may be that of no image any more.
 pub(crate) fn put_through<H: Hall>(
     hall: &mut H,
     vol: &mut Vol,
@@ -25,6 +25,7 @@ pub(crate) fn put_through<H: Hall>(
     requires durable { IsTrue H.tells → IsDurable (H.meaning hall.old) }
     ensures told { IsTrue H.tells → PutsThrough (unit_of (H.facts hall.old).units vol.old.unit).name vol.old slot dscb.now vol.new (H.meaning hall.old) (H.meaning hall.new) result }
     ensures index { OnOk result (IsReplaced slot dscb.now vol.old vol.new) }
+    ensures slots { (vol.new.slots.items ≡ vol.old.slots.items) ⊎ (vol.new.slots.items ≡ slice_set vol.old.slots.items slot dscb.now) }
     ensures others { vol.new ≡ record vol.old { slots = vol.new.slots; buf = vol.new.buf } }
     ensures unit { IsOfUnit (H.facts hall.new).units vol.new }
     ensures call { DeviceCall (H.facts hall.old) (H.facts hall.new) result }

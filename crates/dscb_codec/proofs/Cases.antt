@@ -1,8 +1,10 @@
 -- Definitions computed where a reading that is nearly right gives another answer.
 use Rattle.std.specs.Prelude.{ℕ, ◌≡◌, ◌-◌, ◌^◌, true, false, List, [], ◌∷◌, ◌++◌, Some, None, replicate, length}
 use Rattle.std.proofs.Common.{refl, arith}
+use Rattle.dscb_codec.specs.declared.Dscb.{Dscb}
+use Rattle.dscb_codec.specs.declared.Dscb.TheVariants as formats
 use Rattle.dscb_codec.specs.declared.DscbErr.TheVariants.{Unsupported, BadFormat}
-use Rattle.dscb_codec.specs.Layout.{AreBelow, AreRows, Stands, byte, covers, field, half, holds_byte, refusal_of, word}
+use Rattle.dscb_codec.specs.Layout.{AreBelow, AreRows, FitsTypes, HasFields, IsDscb, Stands, byte, covers, field, half, holds_byte, refusal_of, word}
 
 -- 140 bytes of zeros, but for those at 44 and behind it
 abbrev from_44 : List ℕ → List ℕ
@@ -59,3 +61,25 @@ uneven_rows are = omega (arith, are.1.0)
 -- the bound itself isn't below it
 numbers : AreBelow (2 ^ 16) (65535 ∷ 0 ∷ []) × (AreBelow (2 ^ 16) (0 ∷ 65536 ∷ []) → ⊥)
 numbers = ((omega arith, (omega arith, tt)), λ below. omega (arith, below.1.0))
+
+-- the DSCBs of zeros, of a field too few, and of a field with another value
+dscbs :
+    IsDscb formats.F0 (replicate 140 0)
+    × (¬ IsDscb formats.F0 (replicate 139 0 ++ (1 ∷ [])))
+    × HasFields (1 ∷ 2 ∷ []) (byte 0 1 ∷ byte 1 2 ∷ [])
+    × (¬ HasFields (1 ∷ 2 ∷ []) (byte 0 1 ∷ byte 1 3 ∷ []))
+    × (¬ HasFields (1 ∷ []) (byte 0 1 ∷ half 0 1 ∷ []))
+dscbs = (refl, λ is. cc, (refl, (refl, tt)), λ has. let second = has.1.0 in cc, λ has. let second = has.1.0 in cc)
+
+-- a format 5 with this id and so many rows in front
+free_space : ℕ → ℕ → Dscb
+free_space id rows = formats.F5 (record { id = id; front = replicate rows (replicate 5 0); back = replicate 18 (replicate 5 0); pointer = replicate 5 0 })
+
+-- its id is of four bytes, and its rows are eight and eighteen
+types : FitsTypes (free_space (2 ^ 32 - 1) 8) × (¬ FitsTypes (free_space (2 ^ 32) 8)) × (¬ FitsTypes (free_space 0 7)) × FitsTypes formats.F0
+unfolding free_space
+types =
+    (((omega arith, tt), (refl, (refl, (refl, (refl, (refl, (refl, (refl, (refl, (refl, tt))))))))), eighteen), λ fits. omega (arith, fits.0.0), λ fits. omega (arith, fits.1.0), tt)
+  where
+    eighteen : AreRows 5 18 (replicate 18 (replicate 5 0))
+    eighteen = (refl, (refl, (refl, (refl, (refl, (refl, (refl, (refl, (refl, (refl, (refl, (refl, (refl, (refl, (refl, (refl, (refl, (refl, (refl, tt)))))))))))))))))))

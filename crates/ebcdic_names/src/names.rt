@@ -1,6 +1,6 @@
-// Data set names, names of one level and volume serials.
+//! Data set names, names of one level and volume serials.
 
-ghost use Rattle.std.specs.Prelude.{◌≡◌, ◌≢◌, ◌≤◌, ◌==◌, ◌-◌, ◌++◌, ◌∷◌, [], ℕ, List, chars, length, replicate, reverse, slice_get, take_while, Some};
+ghost use Rattle.std.specs.Prelude.{◌≡◌, ◌≢◌, ◌≤◌, ◌==◌, ◌-◌, ◌++◌, ◌∷◌, [], ℕ, List, chars, length, replicate, reverse, slice_get, take_while, IsOk, Some};
 ghost use Rattle.std.specs.Fmt.{DisplaysOnOk};
 ghost use Rattle.ebcdic_names.specs.Names.{begins_level, byte_of, char_faults, continues_level, dsn_of, ends_level, is_digit, level_allows, level_fault, name8_of, name_fault, padded, serial_allows, serial_fault, serial_faults, serial_of, shown, without_blanks};
 
@@ -249,6 +249,7 @@ fn begins_level(c: char) -> bool
     'A' <= c && c <= 'Z' || c == '@' || c == '#' || c == '$'
 }
 
+// A decimal digit.
 fn is_digit(c: char) -> bool
     ensures { result ≡ is_digit c }
 {
@@ -303,9 +304,10 @@ impl fmt::Display for Serial {
     }
 }
 
-// Writes the characters of a name without the blanks behind them.
+// Writes the characters of a name without the blanks behind them. Where there are none, that can't fail.
 fn write_characters<W: fmt::Write>(bytes: &[u8], f: &mut fmt::Formatter<W>) -> fmt::Result
-    ensures { DisplaysOnOk W.write_str_gives f.old result (Some (shown bytes.now)) f.new }
+    ensures writes { DisplaysOnOk W.write_str_gives f.old result (Some (shown bytes.now)) f.new }
+    ensures blank { shown bytes.now ≡ [] → IsOk result }
 {
     for e in without_blanks(bytes) {
         f.write_char(char::from(to_ascii(*e)))?;

@@ -1,10 +1,12 @@
--- Definitions on cases at which near readings of them give something else.
-use Rattle.std.proofs.Common.{◌≡◌, ◌≢◌, ◌<◌, ◌-◌, ◌^◌, ℕ, zero, suc, List, [], ◌∷◌, ◌++◌, ◌∙◌, get_or, refl, ap, arith, lit<, lit≤, true, false, Some, None}
-use Rattle.hall_core.specs.Facts.{Attached, Rose, unit_of}
-use Rattle.hall_core.specs.Files.{File, patched, written}
-use Rattle.hall_core.specs.Held.{IsFirst}
-use Rattle.hall_core.specs.History.{Write, Event, wrote, synced, printed, MayLeaveAt, MayLeaveSince, bytes_of_print, with_write, with_writes}
-use Rattle.hall_core.specs.HistoryLaws.{nothing_kept, since_now}
+-- Units, their counts, files and what is in memory of them, on cases at which near readings of their definitions give something else. Where a comment says what isn't so, a case refuses it.
+use Rattle.std.proofs.Common.{◌≡◌, ◌≢◌, ◌<◌, ◌-◌, ◌^◌, ℕ, zero, suc, List, [], ◌∷◌, ◌++◌, length, take, drop, get_or, refl, sym, ◌∙◌, ap, arith, lit<, lit≤, Some, None}
+use Rattle.std.specs.Prelude.{Option, Ok, Err, String, Vec, string_bytes, unwrap_or}
+use Rattle.std.specs.declared.alloc.Global.{Global}
+use Rattle.hall_core.specs.declared.hall.HallErr.TheVariants.{Missing, Failed, Memory}
+use Rattle.hall_core.specs.Facts.{Attached, Facts, Rose, unit_of, IsAttached, DeviceCall, ReportedCall, NotedCall, PrintCall, AttachCall}
+use Rattle.hall_core.specs.Files.{File, file_of, image_of, HasBytesAt, patched, written, AreWhole, IsPrefixOf}
+use Rattle.hall_core.specs.Held.{files_of, first_pairs, shapes_of, units_at, IsFirst, AreFirst}
+use Rattle.hall_core.specs.Memory.{CountsFailure}
 
 -- a count that rises isn't as before, unless it stands at its type's end
 rose_by_one : Rose 3 4
@@ -28,91 +30,305 @@ stands_at_the_end = lit≤ tt
 stood_before_the_end : ¬ Rose (2 ^ 64 - 2) (2 ^ 64 - 2)
 stood_before_the_end rose = absurd (omega arith)
 
+-- in memory it grows by just one, and only where the call failed
+counts_one : CountsFailure {T = Unit {0}} 3 4 (Err Failed)
+counts_one = record { failed = λ is. refl; others = λ not. absurd (not refl) }
+
+counts_two : ¬ CountsFailure {T = Unit {0}} 3 5 (Err Failed)
+counts_two counts = let now : 5 ≡ 4 = counts.failed refl in absurd (omega (arith, now))
+
+counts_at_the_end : CountsFailure {T = Unit {0}} (2 ^ 64 - 1) (2 ^ 64 - 1) (Err Failed)
+counts_at_the_end = record { failed = λ is. refl; others = λ not. absurd (not refl) }
+
+counts_a_missing_file : ¬ CountsFailure {T = Unit {0}} 3 4 (Err Missing)
+counts_a_missing_file counts = let now : 4 ≡ 3 = counts.others (λ is. absurd (cc is)) in absurd (omega (arith, now))
+
+counts_none : CountsFailure {T = Unit {0}} 3 3 (Ok tt)
+counts_none = record { failed = λ is. absurd (cc is); others = λ not. refl }
+
 abbrev unit_named : ℕ → Attached
 unit_named n = record { name = n ∷ []; size = n }
 
--- of two files with one name the first counts
 abbrev three : List Attached
 three = unit_named 1 ∷ unit_named 2 ∷ unit_named 1 ∷ []
 
+-- units are numbered from 0; one that isn't there has no name and no bytes
+unit_at_0 : unit_of three 0 ≡ unit_named 1
+unit_at_0 = refl
+
+unit_at_1 : unit_of three 1 ≡ unit_named 2
+unit_at_1 = refl
+
+unit_past_the_end : unit_of three 3 ≡ record { name = []; size = 0 }
+unit_past_the_end = refl
+
+-- of two files with one name the first counts
 first_is : IsFirst three 0
 first_is = record { inside = lit< tt; before = λ k low. absurd (omega arith) }
 
+second_before : (k : ℕ) → k < 1 → (unit_of three k).name ≢ (unit_of three 1).name
+second_before zero low same = let head : 1 ≡ 2 = ap (λ (l : List ℕ). get_or l 0 0) same in absurd (omega (arith, head))
+second_before (suc k) low same = absurd (omega arith)
+
 second_is : IsFirst three 1
-second_is = record { inside = lit< tt; before = before }
-  where
-    before : (k : ℕ) → k < 1 → (unit_of three k).name ≢ (unit_of three 1).name
-    before zero low same = let head : 1 ≡ 2 = ap (λ (l : List ℕ). get_or l 0 0) same in absurd (omega (arith, head))
-    before (suc k) low same = absurd (omega arith)
+second_is = record { inside = lit< tt; before = second_before }
 
 third_is_none : ¬ IsFirst three 2
 third_is_none first = first.before 0 (lit< tt) refl
 
--- a unit that isn't there has no name and no bytes
-unit_past_the_end : unit_of three 3 ≡ record { name = []; size = 0 }
-unit_past_the_end = refl
+past_the_end_is_none : ¬ IsFirst three 3
+past_the_end_is_none first = absurd (omega (arith, first.inside))
 
--- a print may be cut, and a failed one or another call prints nothing
-cut_print : bytes_of_print (Some (printed (97 ∷ 98 ∷ []) true)) ≡ 97 ∷ 98 ∷ []
-cut_print = refl
+-- in any order, and none of them may be a second one
+are_first : AreFirst three (1 ∷ 0 ∷ [])
+are_first zero low = second_is
+are_first (suc zero) low = first_is
+are_first (suc (suc k)) low = absurd (omega arith)
 
-whole_print : bytes_of_print (Some (printed (97 ∷ 98 ∷ []) false)) ≡ []
-whole_print = refl
+last_is_no_first : ¬ AreFirst three (1 ∷ 2 ∷ [])
+last_is_no_first first = third_is_none (first 1 (lit< tt))
 
-other_call : bytes_of_print (Some synced) ≡ []
-other_call = refl
+-- a file is attached where a unit has just its name, the first one or the last
+abbrev two : List Attached
+two = unit_named 1 ∷ unit_named 2 ∷ []
 
-no_call : bytes_of_print None ≡ []
-no_call = refl
+first_attached : IsAttached two (1 ∷ [])
+first_attached = (0, lit< tt, refl)
 
+last_attached : IsAttached two (2 ∷ [])
+last_attached = (1, lit< tt, refl)
+
+neither_attached : (name : List ℕ) → 1 ∷ [] ≢ name → 2 ∷ [] ≢ name → ¬ IsAttached two name
+neither_attached name first last (zero, low, is) = first is
+neither_attached name first last (suc zero, low, is) = last is
+neither_attached name first last (suc (suc k), low, is) = absurd (omega arith)
+
+other_attached : ¬ IsAttached two (3 ∷ [])
+other_attached = neither_attached (3 ∷ []) (λ is. absurd (cc is)) (λ is. absurd (cc is))
+
+longer_attached : ¬ IsAttached two (1 ∷ 2 ∷ [])
+longer_attached = neither_attached (1 ∷ 2 ∷ []) (λ is. absurd (cc is)) (λ is. absurd (cc is))
+
+shorter_attached : ¬ IsAttached two []
+shorter_attached = neither_attached [] (λ is. absurd (cc is)) (λ is. absurd (cc is))
+
+none_attached : ¬ IsAttached [] []
+none_attached (k, low, is) = absurd (omega arith)
+
+-- calls of a device, of a printer, and those that report or note a fault
+abbrev counted : ℕ → ℕ → Facts
+counted dev print = record { units = two; references = 7 ∷ []; dev_faults = dev; print_faults = print }
+
+device_done : DeviceCall {T = Unit {0}} {E = Unit {0}} (counted 3 5) (counted 3 5) (Ok tt)
+device_done = record { units = refl; references = refl; prints = refl; later = lit≤ tt; done = refl; failed = tt }
+
+device_failed : DeviceCall {T = Unit {0}} {E = Unit {0}} (counted 3 5) (counted 4 5) (Err tt)
+device_failed = record { units = refl; references = refl; prints = refl; later = lit≤ tt; done = tt; failed = lit≤ tt }
+
+device_failed_at_the_end : DeviceCall {T = Unit {0}} {E = Unit {0}} (counted (2 ^ 64 - 1) 5) (counted (2 ^ 64 - 1) 5) (Err tt)
+device_failed_at_the_end = record { units = refl; references = refl; prints = refl; later = lit≤ tt; done = tt; failed = lit≤ tt }
+
+device_failed_uncounted : ¬ DeviceCall {T = Unit {0}} {E = Unit {0}} (counted 3 5) (counted 3 5) (Err tt)
+device_failed_uncounted call = let rose : Rose 3 3 = call.failed in stood_still rose
+
+device_counted_though_done : ¬ DeviceCall {T = Unit {0}} {E = Unit {0}} (counted 3 5) (counted 4 5) (Ok tt)
+device_counted_though_done call = let same : 4 ≡ 3 = call.done in absurd (omega (arith, same))
+
+device_counted_at_both : ¬ DeviceCall {T = Unit {0}} {E = Unit {0}} (counted 3 5) (counted 4 6) (Err tt)
+device_counted_at_both call = let same : 6 ≡ 5 = call.prints in absurd (omega (arith, same))
+
+print_failed : PrintCall {T = Unit {0}} {E = Unit {0}} (counted 3 5) (counted 3 6) (Err tt)
+print_failed = record { units = refl; references = refl; devices = refl; later = lit≤ tt; done = tt; failed = lit≤ tt }
+
+print_counted_at_the_device : ¬ PrintCall {T = Unit {0}} {E = Unit {0}} (counted 3 5) (counted 4 5) (Err tt)
+print_counted_at_the_device call = let same : 4 ≡ 3 = call.devices in absurd (omega (arith, same))
+
+print_counted_though_done : ¬ PrintCall {T = Unit {0}} {E = Unit {0}} (counted 3 5) (counted 3 6) (Ok tt)
+print_counted_though_done call = let same : 6 ≡ 5 = call.done in absurd (omega (arith, same))
+
+reported : ReportedCall (Unit {0}) (counted 3 5) (counted 4 5)
+reported = record { units = refl; references = refl; prints = refl; later = lit≤ tt; device = λ is. lit≤ tt; others = λ not. absurd (not tt) }
+
+reported_uncounted : ¬ ReportedCall (Unit {0}) (counted 3 5) (counted 3 5)
+reported_uncounted call = stood_still (call.device tt)
+
+unreported_counted : ¬ ReportedCall ⊥ (counted 3 5) (counted 4 5)
+unreported_counted call = let same : 4 ≡ 3 = call.others (λ is. is) in absurd (omega (arith, same))
+
+noted : NotedCall (counted 3 5) (counted 4 5)
+noted = record { units = refl; references = refl; prints = refl; later = lit≤ tt }
+
+noted_falls : ¬ NotedCall (counted 3 5) (counted 2 5)
+noted_falls call = absurd (omega (arith, call.later))
+
+-- an attachment: the next unit is numbered by how many there were, and stands behind them
+abbrev counted_three : ℕ → ℕ → Facts
+counted_three dev print = record { units = two ++ unit_named 9 ∷ []; references = 7 ∷ []; dev_faults = dev; print_faults = print }
+
+attach_done : AttachCall (9 ∷ []) (counted 3 5) (counted_three 3 5) (Ok 2)
+attach_done = record {
+  added = (refl, (9, refl));
+  stays = tt;
+  references = refl;
+  prints = refl;
+  later = lit≤ tt;
+  failed = λ is. absurd (cc is);
+  others = λ not. refl;
+  memory = λ is. absurd (cc is);
+}
+
+attach_numbered_from_1 : ¬ AttachCall (9 ∷ []) (counted 3 5) (counted_three 3 5) (Ok 3)
+attach_numbered_from_1 call = let is : 3 ≡ 2 = call.added.0 in absurd (omega (arith, is))
+
+attach_names_another : ¬ AttachCall (8 ∷ []) (counted 3 5) (counted_three 3 5) (Ok 2)
+attach_names_another call = let head : 9 ≡ 8 = ap (λ (units : List Attached). get_or (unit_of units 2).name 0 0) call.added.1.1 in absurd (omega (arith, head))
+
+attach_adds_though_missing : ¬ AttachCall (9 ∷ []) (counted 3 5) (counted_three 3 5) (Err Missing)
+attach_adds_though_missing call = let size : 3 ≡ 2 = ap length call.stays in absurd (omega (arith, size))
+
+attach_missing : AttachCall (9 ∷ []) (counted 3 5) (counted 3 5) (Err Missing)
+attach_missing = record { added = tt; stays = refl; references = refl; prints = refl; later = lit≤ tt; failed = λ is. absurd (cc is); others = λ not. refl; memory = λ is. absurd (cc is) }
+
+attach_counts_a_missing_file : ¬ AttachCall (9 ∷ []) (counted 3 5) (counted 4 5) (Err Missing)
+attach_counts_a_missing_file call = let same : 4 ≡ 3 = call.others (λ is. absurd (cc is)) in absurd (omega (arith, same))
+
+attach_fails_uncounted : ¬ AttachCall (9 ∷ []) (counted 3 5) (counted 3 5) (Err Failed)
+attach_fails_uncounted call = stood_still (call.failed refl)
+
+attach_counts_want_of_memory : ¬ AttachCall (9 ∷ []) (counted 3 5) (counted 4 5) (Err Memory)
+attach_counts_want_of_memory call = let same : 4 ≡ 3 = ap (λ (facts : Facts). facts.dev_faults) (call.memory refl) in absurd (omega (arith, same))
+
+-- three files, of which two have one name
 abbrev files : List File
-files = record { name = 65 ∷ []; bytes = 1 ∷ 2 ∷ [] } ∷ []
+files = record { name = 1 ∷ []; bytes = 11 ∷ 12 ∷ 13 ∷ [] } ∷ record { name = 2 ∷ []; bytes = [] } ∷ record { name = 1 ∷ []; bytes = 21 ∷ [] } ∷ []
 
-abbrev prints : List Event
-prints = printed (97 ∷ 98 ∷ []) true ∷ []
+first_of_the_name : file_of files (1 ∷ []) ≡ Some (11 ∷ 12 ∷ 13 ∷ [])
+first_of_the_name = refl
 
--- a stop in a print leaves each prefix of it, and nothing else
-nothing_printed : MayLeaveAt files prints 0 files []
-nothing_printed = record { files = ([], refl); text = ([], (97 ∷ 98 ∷ [], refl), refl) }
+empty_is_there : file_of files (2 ∷ []) ≡ Some []
+empty_is_there = refl
 
-one_printed : MayLeaveAt files prints 0 files (97 ∷ [])
-one_printed = record { files = ([], refl); text = (97 ∷ [], (98 ∷ [], refl), refl) }
+longer_is_missing : file_of files (1 ∷ 2 ∷ []) ≡ None
+longer_is_missing = refl
 
-both_printed : MayLeaveAt files prints 0 files (97 ∷ 98 ∷ [])
-both_printed = record { files = ([], refl); text = (97 ∷ 98 ∷ [], ([], refl), refl) }
+shorter_is_missing : file_of files [] ≡ None
+shorter_is_missing = refl
 
-second_alone : ¬ MayLeaveAt files prints 0 files (98 ∷ [])
-second_alone left =
-    let (q, (rest, whole), is) = left.text in
-    let head : 98 ≡ 97 = ap (λ (l : List ℕ). get_or l 0 0) (ap (λ (l : List ℕ). l ++ rest) is ∙ whole) in
-    absurd (omega (arith, head))
+-- the image is that of the unit's name, and not the file at its place
+image_of_the_name : image_of files (record { units = unit_named 2 ∷ unit_named 1 ∷ []; references = []; dev_faults = 0; print_faults = 0 }) 1 ≡ 11 ∷ 12 ∷ 13 ∷ []
+image_of_the_name = refl
 
--- a write and then a sync
-abbrev nine : Write
-nine = record { name = 65 ∷ []; at = 1; bytes = 9 ∷ []; is_done = true }
+image_of_none : image_of files (counted 0 0) 2 ≡ []
+image_of_none = refl
 
-abbrev syncs : List Event
-syncs = wrote nine ∷ synced ∷ []
+-- bytes from an offset on: all, the last, and none
+has_all : HasBytesAt files (1 ∷ []) 0 (11 ∷ 12 ∷ 13 ∷ [])
+has_all = (_, refl, refl)
 
-abbrev changed : List File
-changed = record { name = 65 ∷ []; bytes = 1 ∷ 9 ∷ [] } ∷ []
+has_last : HasBytesAt files (1 ∷ []) 2 (13 ∷ [])
+has_last = (_, refl, refl)
 
-changed_is : with_write files nine ≡ changed
+has_none_at_the_end : HasBytesAt files (1 ∷ []) 3 []
+has_none_at_the_end = (_, refl, refl)
+
+bytes_there : (at : ℕ) (bytes : List ℕ) → HasBytesAt files (1 ∷ []) at bytes → bytes ≡ take (length bytes) (drop at (11 ∷ 12 ∷ 13 ∷ []))
+bytes_there at bytes (image, is, read) = read ∙ ap (λ (l : List ℕ). take (length bytes) (drop at l)) (sym (ap (λ (o : Option (List ℕ)). unwrap_or o []) is))
+
+-- not from the offset before, nor the one behind
+has_from_before : ¬ HasBytesAt files (1 ∷ []) 0 (12 ∷ 13 ∷ [])
+has_from_before has = let head : 12 ≡ 11 = ap (λ (l : List ℕ). get_or l 0 0) (bytes_there 0 (12 ∷ 13 ∷ []) has) in absurd (omega (arith, head))
+
+has_from_behind : ¬ HasBytesAt files (1 ∷ []) 2 (12 ∷ [])
+has_from_behind has = let head : 12 ≡ 13 = ap (λ (l : List ℕ). get_or l 0 0) (bytes_there 2 (12 ∷ []) has) in absurd (omega (arith, head))
+
+-- not more than the file has, whatever it is
+has_too_many : (byte : ℕ) → ¬ HasBytesAt files (1 ∷ []) 2 (13 ∷ byte ∷ [])
+has_too_many byte has = let size : 2 ≡ 1 = ap length (bytes_there 2 (13 ∷ byte ∷ []) has) in absurd (omega (arith, size))
+
+-- not the bytes of the second file of the name
+has_of_the_second : ¬ HasBytesAt files (1 ∷ []) 0 (21 ∷ [])
+has_of_the_second has = let head : 21 ≡ 11 = ap (λ (l : List ℕ). get_or l 0 0) (bytes_there 0 (21 ∷ []) has) in absurd (omega (arith, head))
+
+-- a file that isn't there has not even none
+has_of_none : ¬ HasBytesAt files (3 ∷ []) 0 []
+has_of_none (image, is, read) = absurd (cc is)
+
+-- bytes over others, at both ends and between; the size stays
+patched_first : patched (1 ∷ 2 ∷ 3 ∷ []) 0 (9 ∷ []) ≡ 9 ∷ 2 ∷ 3 ∷ []
+unfolding patched
+patched_first = refl
+
+patched_between : patched (1 ∷ 2 ∷ 3 ∷ 4 ∷ []) 1 (9 ∷ 8 ∷ []) ≡ 1 ∷ 9 ∷ 8 ∷ 4 ∷ []
+unfolding patched
+patched_between = refl
+
+patched_last : patched (1 ∷ 2 ∷ 3 ∷ []) 2 (9 ∷ []) ≡ 1 ∷ 2 ∷ 9 ∷ []
+unfolding patched
+patched_last = refl
+
+patched_by_none : patched (1 ∷ 2 ∷ 3 ∷ []) 1 [] ≡ 1 ∷ 2 ∷ 3 ∷ []
+unfolding patched
+patched_by_none = refl
+
+-- the first file of the name is written over, and no other
+written_at_1 : written files (1 ∷ []) 1 (9 ∷ []) ≡ record { name = 1 ∷ []; bytes = 11 ∷ 9 ∷ 13 ∷ [] } ∷ record { name = 2 ∷ []; bytes = [] } ∷ record { name = 1 ∷ []; bytes = 21 ∷ [] } ∷ []
 unfolding written patched
-changed_is = refl
+written_at_1 = refl
 
--- a stop since the beginning leaves the write out or keeps it
-left_out : MayLeaveSince files syncs 0 files []
-left_out = (0, lit≤ tt, lit≤ tt, record { files = ([], refl); text = ([], ([], refl), refl) })
+written_to_none : written files (3 ∷ []) 0 (9 ∷ []) ≡ files
+unfolding written patched
+written_to_none = refl
 
-left_in : MayLeaveSince files syncs 0 (with_write files nine) []
-left_in = (1, lit≤ tt, lit≤ tt, record { files = (true ∷ [], refl); text = ([], ([], refl), refl) })
+-- each unit is a file of its size: not one more or less, not that of another file of its name, and not one that is missing
+abbrev unit_of_size : ℕ → ℕ → List Attached
+unit_of_size n size = record { name = n ∷ []; size = size } ∷ []
 
--- since the sync, the last moment, it keeps it
-kept_behind : MayLeaveSince files syncs 2 (with_write files nine) []
-kept_behind = (2, lit≤ tt, lit≤ tt, record { files = ([], refl); text = ([], ([], refl), refl) })
+whole : AreWhole files (unit_of_size 1 3)
+whole zero low = (11 ∷ 12 ∷ 13 ∷ [], refl, refl)
+whole (suc k) low = absurd (omega arith)
 
-always_kept : (j : List File) (p : List ℕ) → MayLeaveSince files syncs 2 j p → j ≡ with_write files nine
-always_kept j p left =
-    let now = since_now files syncs j p left in
-    now.0.1 ∙ ap (with_writes (with_write files nine)) (nothing_kept now.0.0)
+no_units : AreWhole files []
+no_units k low = absurd (omega arith)
+
+size_of_whole : (size : ℕ) → AreWhole files (unit_of_size 1 size) → 3 ≡ size
+size_of_whole size whole = let unit = whole 0 (lit< tt) in ap (λ (o : Option (List ℕ)). length (unwrap_or o [])) unit.1 ∙ unit.2
+
+smaller_unit : ¬ AreWhole files (unit_of_size 1 2)
+smaller_unit whole = let size = size_of_whole 2 whole in absurd (omega (arith, size))
+
+larger_unit : ¬ AreWhole files (unit_of_size 1 4)
+larger_unit whole = let size = size_of_whole 4 whole in absurd (omega (arith, size))
+
+unit_of_the_second : ¬ AreWhole files (unit_of_size 1 1)
+unit_of_the_second whole = let size = size_of_whole 1 whole in absurd (omega (arith, size))
+
+missing_unit : ¬ AreWhole files (unit_of_size 3 0)
+missing_unit whole = absurd (cc ((whole 0 (lit< tt)).1))
+
+-- prefixes: none of the bytes, some and all; not more, nor from behind the first
+none_begins : IsPrefixOf [] (1 ∷ 2 ∷ [])
+none_begins = (1 ∷ 2 ∷ [], refl)
+
+all_begins : IsPrefixOf (1 ∷ 2 ∷ []) (1 ∷ 2 ∷ [])
+all_begins = ([], refl)
+
+more_begins : ¬ IsPrefixOf (1 ∷ 2 ∷ 3 ∷ []) (1 ∷ 2 ∷ [])
+more_begins (rest, is) = absurd (cc is)
+
+second_begins : ¬ IsPrefixOf (2 ∷ []) (1 ∷ 2 ∷ [])
+second_begins (rest, is) = let head : 2 ≡ 1 = ap (λ (l : List ℕ). get_or l 0 0) is in absurd (omega (arith, head))
+
+-- a unit has the name of the file at its place, and its size in bytes
+shapes : units_at (shapes_of files) (2 ∷ 1 ∷ []) ≡ record { name = 1 ∷ []; size = 1 } ∷ record { name = 2 ∷ []; size = 0 } ∷ []
+shapes = refl
+
+-- the copy counts where there is one, and the present files where there is none
+module _ (a b : String Global) (x y : Vec ℕ Global) (copy : Vec (String Global × Vec ℕ Global) Global) where
+  in_their_order : files_of ((a, x) ∷ (b, y) ∷ []) ≡ record { name = string_bytes a; bytes = x.items } ∷ record { name = string_bytes b; bytes = y.items } ∷ []
+  in_their_order = refl
+
+  not_copied : first_pairs None ((a, x) ∷ []) ≡ (a, x) ∷ []
+  not_copied = refl
+
+  copied : first_pairs (Some copy) ((a, x) ∷ []) ≡ copy.items
+  copied = refl

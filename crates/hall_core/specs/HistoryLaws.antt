@@ -88,7 +88,7 @@ state_written d name at bytes false (flags, is) =
 pub state_after : (d : Disk) (e : Event) → MayLeave d d.files → MayLeave (after d e) (after d e).files
 state_after d (wrote w) left = state_written d w.name w.at w.bytes w.is_done left
 state_after d synced left = ([], refl)
-state_after d (printed bytes is_cut) left = left
+state_after d (printed bytes) left = left
 state_after d passed left = left
 
 pub state_left : (d : Disk) (es : List Event) → MayLeave d d.files → MayLeave (after_all d es) (after_all d es).files

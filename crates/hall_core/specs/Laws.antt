@@ -83,7 +83,7 @@ settled_after : (units : List Attached) (pool text : List ℕ) (steps : List Ste
 settled_after units pool text [] d none settled = settled
 settled_after units pool text (steps.Write unit at start len is_done ∷ steps) d none settled = absurd (let low = none 0 (omega arith) in omega (arith, low))
 settled_after units pool text (Sync ∷ steps) d none settled = settled_after units pool text steps _ (λ k low. none (suc k) (omega (arith, low))) (record { none = refl; same = refl })
-settled_after units pool text (Print start len is_cut ∷ steps) d none settled = settled_after units pool text steps _ (λ k low. none (suc k) (omega (arith, low))) (record { none = settled.none; same = settled.same })
+settled_after units pool text (Print start len ∷ steps) d none settled = settled_after units pool text steps _ (λ k low. none (suc k) (omega (arith, low))) (record { none = settled.none; same = settled.same })
 settled_after units pool text (Pass ∷ steps) d none settled = settled_after units pool text steps d (λ k low. none (suc k) (omega (arith, low))) settled
 
 -- of no writes none is kept

@@ -78,26 +78,27 @@ impl Cards for MemCards {
 #[cfg(test)]
 mod tests {
     use super::*;
+    use std::process::Abort;
     use std::test::Fail;
+
+    // What reads of three bytes answer, and the buffer behind each, where those numbered 1 and 4 fail.
+    const READS: &[(Result<usize, ReadFault>, &[u8; 3])] = &[
+        (Ok(3), b"HEL"),
+        (Err(ReadFault), b"HEL"),
+        (Ok(2), b"LOL"),
+        (Ok(0), b"LOL"),
+        (Err(ReadFault), b"LOL"),
+        (Ok(0), b"LOL"),
+    ];
 
     #[test]
     fn gives_the_next_bytes_and_fails_in_turn(rt: HostRuntime) -> Result<(), Fail> {
         let alloc = rt.alloc();
         let mut cards = MemCards::new(b"HELLO".to_vec(alloc)?, [1, 4].to_vec(alloc)?);
         let mut buf = *b"...";
-        for (call, (answer, bytes)) in [
-            (Ok(3), b"HEL"),
-            (Err(ReadFault), b"HEL"),
-            (Ok(2), b"LOL"),
-            (Ok(0), b"LOL"),
-            (Err(ReadFault), b"LOL"),
-            (Ok(0), b"LOL"),
-        ]
-        .into_iter()
-        .enumerate()
-        {
-            assert_eq!(rt; cards.read(&mut buf), answer, "call {call}");
-            assert_eq!(rt; buf.as_slice(), bytes.as_slice(), "call {call}");
+        for (call, (answer, bytes)) in READS.iter().enumerate() {
+            assert_eq!(rt; cards.read(&mut buf), *answer, "call {call}");
+            assert_eq!(rt; &buf, *bytes, "call {call}");
         }
         assert_eq!(rt; cards.faults, 2);
         Ok(())

@@ -237,10 +237,10 @@ impl MemHall {
         self.room_bytes -= bytes.len() as u64;
     }
 
-    // Makes a print, and puts it on the record; of one that isn't cut a stop leaves all or nothing.
-    fn record_print(&mut self, bytes: &[u8], is_cut: bool)
+    // Makes a print, and puts it on the record.
+    fn record_print(&mut self, bytes: &[u8])
         requires { HasRoom self.old (length bytes.now) }
-        ensures noted { Records (length bytes.now) Call.Print (printed bytes.now is_cut) self.old self.new }
+        ensures noted { Records (length bytes.now) Call.Print (printed bytes.now) self.old self.new }
         ensures setup { KeepsSetup self.old self.new }
         ensures facts { facts_of self.new ≡ facts_of self.old }
     {
@@ -248,7 +248,6 @@ impl MemHall {
         let step = Step::Print {
             start,
             len: bytes.len(),
-            is_cut,
         };
         note(&mut self.calls, &mut self.steps, Call::Print, step);
         self.room_calls -= 1;
@@ -387,7 +386,7 @@ impl Hall for MemHall {
         ensures told { AfterPrint bytes.now (meaning_of self.old) (meaning_of self.new) result }
         ensures call { PrintCall (facts_of self.old) (facts_of self.new) result }
         ensures error { IfErr result (λ e. e ≡ HallErr.Failed) }
-        ensures exact { IsExactCall (length bytes.now) Call.Print (if is_ok result then printed bytes.now true else passed) self.old self.new result }
+        ensures exact { IsExactCall (length bytes.now) Call.Print (if is_ok result then printed bytes.now else passed) self.old self.new result }
         ensures count { CountsFailure (facts_of self.old).print_faults (facts_of self.new).print_faults result }
         ensures nothing { OnErr result ((meaning_of self.new).printed ≡ (meaning_of self.old).printed) }
     {
@@ -398,7 +397,7 @@ impl Hall for MemHall {
             self.record_plain(bytes.len(), Call::Print, false);
             return Err(fault(&mut self.print_faults));
         }
-        self.record_print(bytes, true); // as a real device may cut it
+        self.record_print(bytes);
         Ok(())
     }
 

@@ -36,3 +36,6 @@ pub fn write_through<H: Hall>(hall: &mut H, unit: u8, at: u64, bytes: &[u8]) -> 
     hall.sync()?;
     Ok(())
 }
+
+#[cfg(test)]
+mod tests;

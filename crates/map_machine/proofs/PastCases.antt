@@ -1,5 +1,5 @@
 -- What a machine held at each moment, computed by the definitions of Past.antt. Each comment names a wrong definition that the case tells from the right one.
-use Rattle.std.proofs.Common.{◌≡◌, ℕ, List, [], ◌∷◌, refl, ap, ◌∙◌}
+use Rattle.std.proofs.Common.{◌≡◌, ◌≤◌, ℕ, zero, suc, List, [], ◌∷◌, refl, sym, ap, ◌∙◌, arith, lit≤}
 use Rattle.std.specs.Prelude.{Ok}
 use Rattle.ebcdic_names.specs.declared.names.Dsn.{Dsn}
 use Rattle.map_machine.specs.declared.past.Done.{Done}
@@ -19,19 +19,19 @@ held shelf text = record { shelf = shelf; text = text }
 first_bytes_are_kept : (s : Shelf) → before (Printed 2) (held s (65 ∷ 66 ∷ 67 ∷ [])) ≡ held s (65 ∷ 66 ∷ [])
 first_bytes_are_kept s = refl
 
--- a set named a became b, a byte was printed, and b became c
-module _ (s1 s2 s3 : Shelf) (a b c : Dsn) (lawful : IsLawful s1) (first : step s1 (Rename 0 a b) ≡ Ok s2) (second : step s2 (Rename 0 b c) ≡ Ok s3) where
+-- a set named a became b, a byte was printed, and b became c; on volumes of any two numbers
+module _ (s1 s2 s3 : Shelf) (v w : ℕ) (a b c : Dsn) (lawful : IsLawful s1) (first : step s1 (Rename v a b) ≡ Ok s2) (second : step s2 (Rename w b c) ≡ Ok s3) where
   abbrev log : List Done
-  log = Renamed 0 a b ∷ Printed 0 ∷ Renamed 0 b c ∷ []
+  log = Renamed v a b ∷ Printed 0 ∷ Renamed w b c ∷ []
 
   abbrev now : Moment
   now = held s3 (88 ∷ [])
 
-  back : step s3 (Rename 0 c b) ≡ Ok s2
-  back = undone s2 s3 0 b c (step_lawful s1 s2 (Rename 0 a b) lawful first) second
+  back : step s3 (Rename w c b) ≡ Ok s2
+  back = undone s2 s3 w b c (step_lawful s1 s2 (Rename v a b) lawful first) second
 
-  further_back : step s2 (Rename 0 b a) ≡ Ok s1
-  further_back = undone s1 s2 0 a b lawful first
+  further_back : step s2 (Rename v b a) ≡ Ok s1
+  further_back = undone s1 s2 v a b lawful first
 
   -- a moment past the last thing done is the present one
   at_9 : moment_at log now 9 ≡ now
@@ -50,8 +50,42 @@ module _ (s1 s2 s3 : Shelf) (a b c : Dsn) (lawful : IsLawful s1) (first : step s
 
   -- from the last thing done to the first: from the first to the last, the rename back to a would be refused at s3
   at_0 : moment_at log now 0 ≡ held s1 []
-  at_0 = ap (λ r. held (behind (behind s3 r) (step (behind s3 r) (Rename 0 b a))) []) back ∙ ap (λ r. held (behind s2 r) []) further_back
+  at_0 = ap (λ r. held (behind (behind s3 r) (step (behind s3 r) (Rename v b a))) []) back ∙ ap (λ r. held (behind s2 r) []) further_back
 
   -- the time is the number of things done
   three_moments_on : (meaning_after log now).clock ≡ 3
   three_moments_on = refl
+
+  -- a stop now leaves what is held, and nothing that was
+  now_alone : (shelf : Shelf) → (meaning_after log now).left shelf → shelf ≡ s3
+  now_alone shelf left = left
+
+  -- since a moment one leaves what was held then, not only what came later
+  since_the_print : (meaning_after log now).left_since 1 s2 []
+  since_the_print = (1, lit≤ tt, lit≤ tt, ap (λ (m : Moment). m.shelf) at_1, ap (λ (m : Moment). m.text) at_1)
+
+  -- and what is held now
+  since_now : (meaning_after log now).left_since 3 s3 (88 ∷ [])
+  since_now = (3, lit≤ tt, lit≤ tt, refl, refl)
+
+  -- but nothing earlier: since the print the byte is there
+  not_before_the_print : (shelf : Shelf) (text : List ℕ) → (meaning_after log now).left_since 2 shelf text → text ≡ 88 ∷ []
+  not_before_the_print shelf text (k, low, high, is, said) = sym said ∙ printed_by k low high
+    where
+      printed_by : (k : ℕ) → 2 ≤ k → k ≤ 3 → (moment_at log now k).text ≡ 88 ∷ []
+      printed_by zero low high = absurd (omega arith)
+      printed_by (suc zero) low high = absurd (omega arith)
+      printed_by (suc (suc zero)) low high = refl
+      printed_by (suc (suc (suc zero))) low high = refl
+      printed_by (suc (suc (suc (suc k)))) low high = absurd (omega arith)
+
+  -- the shelf and the text are of one moment: with nothing printed it isn't the present shelf
+  of_one_moment : (shelf : Shelf) → (meaning_after log now).left_since 1 shelf [] → shelf ≡ s2
+  of_one_moment shelf (k, low, high, is, said) = sym is ∙ shelf_by k low high said
+    where
+      shelf_by : (k : ℕ) → 1 ≤ k → k ≤ 3 → (moment_at log now k).text ≡ [] → (moment_at log now k).shelf ≡ s2
+      shelf_by zero low high said = absurd (omega arith)
+      shelf_by (suc zero) low high said = ap (λ (m : Moment). m.shelf) at_1
+      shelf_by (suc (suc zero)) low high said = absurd (cc said)
+      shelf_by (suc (suc (suc zero))) low high said = absurd (cc said)
+      shelf_by (suc (suc (suc (suc k)))) low high said = absurd (omega arith)

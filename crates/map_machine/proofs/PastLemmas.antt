@@ -88,6 +88,6 @@ print_prints log log' now bytes text n is size noted =
       shelf = refl;
       done = λ told. is;
       memory = λ e. cc;
-      failed = (bytes, whole, λ told. is);
+      prefix = (bytes, whole, λ told. is);
       moments = subst (λ l. Elapses (meaning_after log now) (meaning_after l later) P) (sym noted) (elapses-more log (Printed n) now later back P (refl, (bytes, whole, λ told. is)));
     }

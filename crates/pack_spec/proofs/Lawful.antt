@@ -29,7 +29,7 @@ use Rattle.pack_spec.specs.Slots.{addressed_from, counted_extents, extent_count,
 use Rattle.pack_spec.specs.Faults.{dscb_fault, dscb_faults, extents_fault, front_faults, name_faults, slots_faults, track_faults, vtoc_fault}
 use Rattle.pack_spec.specs.Volume.{attr_of, data_set_of, data_sets_in, run_of_extent, secondary_of, unless, volume_of, volume_on, volume_with, volume_within}
 use Rattle.pack_spec.proofs.DataSets.{behind_first, fault_or-none, first_is_format_4, middle_holds, sets_among-all, two_formats}
-use Rattle.pack_spec.proofs.Extents.{length-slots_on}
+use Rattle.pack_spec.proofs.SlotCounts.{length-slots_on}
 use Rattle.pack_spec.proofs.FirstFaults.{cons_option-none, first_append-both}
 use Rattle.pack_spec.proofs.Quantities.{AreBytes, HasShortQuantity, short_on_image}
 use Rattle.pack_spec.proofs.SetNames.{all_sets, names_apart}

@@ -1,8 +1,8 @@
+mod Cases
 pub mod Bounds
 pub mod Walks
 pub mod Labels
 pub mod SlotParts
-pub mod Extents
 pub mod FirstFaults
 pub mod TrackSlots
 pub mod DataSets
@@ -10,3 +10,5 @@ pub mod Volumes
 mod SetNames
 pub mod Quantities
 pub mod Lawful
+pub mod WrittenTracks
+pub mod SlotCounts

@@ -17,7 +17,7 @@ use Rattle.pack_spec.specs.Label.{heads_of, track_bytes, records_on}
 use Rattle.pack_spec.specs.Vtoc.{Run, is_slot, slot_bytes, slots_in, slots_on}
 use Rattle.pack_spec.specs.Slots.{addressed_from, slots_at, slots_of_vtoc, tracks_in}
 use Rattle.pack_spec.specs.Volume.{secondary_of, space_flags}
-use Rattle.pack_spec.proofs.Extents.{taken}
+use Rattle.pack_spec.proofs.SlotCounts.{taken}
 use Rattle.pack_spec.proofs.SetNames.{each_weaker}
 
 -- a data set's secondary quantity has three bytes

@@ -5,8 +5,4 @@ pub mod Slots
 pub mod Faults
 pub mod Volume
 pub mod Views
-pub use Rattle.ckd_image.specs.Header
-pub use Rattle.ckd_image.specs.Device
-pub use Rattle.ckd_image.specs.Track
-pub use Rattle.ckd_image.specs.Reading
-pub use Rattle.dscb_codec.specs.Layout
+pub mod Written

@@ -20,7 +20,7 @@ is_slot x = (length x.key == 44) && (length x.data == 96)
 abbrev pub slot_bytes : Record → List ℕ
 slot_bytes x = x.key ++ x.data
 
--- the bytes of the first slot of a track
+-- the bytes of the first slot of a track, where R1 alone was read and is one
 abbrev pub first_slot : List Record → Option (List ℕ)
 first_slot (x ∷ []) = if is_slot x then Some (slot_bytes x) else None
 first_slot _ = None
@@ -54,7 +54,7 @@ vtoc_at image g (Some label) =
 unfoldable pub vtoc_of : List ℕ → Geometry → Result Run MountErr
 vtoc_of image g = vtoc_at image g (label_of image g)
 
--- the slots that are these records
+-- the slots that these records are; nothing where one is none
 abbrev pub slots_in : List Record → Option (List (List ℕ))
 slots_in records = if list_all is_slot records then Some (map slot_bytes records) else None
 

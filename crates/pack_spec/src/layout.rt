@@ -1,5 +1,5 @@
-//! Where labels, slots and extents have what is read of them, and the bytes that they are known by, from
-//! System Control Blocks, GC28-6628.
+//! Where labels, slots and extents have what both readers of packs take from their bytes, and the bytes that they are
+//! known by, from System Control Blocks, GC28-6628.
 
 /// The key of R1 on the label's track, IPL1 in EBCDIC.
 pub const IPL1: &[u8] = &[0xC9, 0xD7, 0xD3, 0xF1];

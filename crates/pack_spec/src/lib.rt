@@ -20,6 +20,7 @@ mod sets;
 mod slots;
 mod track;
 mod vtoc;
+mod written;
 
 use crate::addressed::slots_of_vtoc;
 use crate::label::label;
@@ -34,6 +35,7 @@ use ebcdic_names::Serial;
 use std::alloc::{AllocError, Global};
 use vol_model::{DataSets, Volume};
 pub use vtoc::vtoc_extent;
+pub use written::{label_data, label_track, slots_track};
 
 /// Why a pack isn't mounted: the first rule that it breaks, in this order, or what kept it from being read.
 ///

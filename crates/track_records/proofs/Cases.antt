@@ -1,12 +1,19 @@
 -- Definitions on cases at which near readings of them give something else.
-use Rattle.std.proofs.Common.{◌≡◌, ℕ, List, [], ◌∷◌, ◌++◌, Some, drop, refl, arith, true, false}
-use Rattle.std.specs.Prelude.{replicate}
-use Rattle.ckd_image.specs.declared.device.DiskType.TheVariants.{D2314}
+use Rattle.std.proofs.Common.{◌≡◌, ◌+◌, ℕ, List, [], ◌∷◌, ◌++◌, Option, Some, None, drop, refl, sym, ◌∙◌, arith, true, false}
+use Rattle.std.specs.Prelude.{Ok, Err, replicate}
+use Rattle.ckd_image.specs.declared.device.DiskType.TheVariants.{D2311, D2314}
+use Rattle.ckd_image.specs.declared.header.Geometry.{Geometry}
+use Rattle.ckd_image.specs.Reading.{is_front, records_of}
 use Rattle.ckd_image.specs.Track.{Record}
+use Rattle.hall_core.specs.Facts.{Attached, Facts}
+use Rattle.pack_spec.specs.Label.{records_on, track_bytes}
 use Rattle.pack_spec.specs.Views.{tracks_of}
 use Rattle.track_records.specs.Buffers.{Buffer, records_at, are_places, places_from, IsPartOf, IsContentOf}
+use Rattle.track_records.specs.Calls.{HasTrack, TrackCall}
+use Rattle.track_records.specs.Reads.{IsBroken}
+use Rattle.track_records.specs.declared.error.TrackErr.TheVariants.{BadCount, Device}
 use Rattle.track_records.specs.Updates.{length_of, offset_of, with_parts, HasLengths, StandFrom}
-use Rattle.track_records.specs.Written.{place_of}
+use Rattle.track_records.specs.Written.{IsUpdated, StandsOn, place_of, with_record}
 
 -- records of three lengths: one with key and data, one without a key, one without data
 abbrev first : Record
@@ -82,3 +89,46 @@ part_of = (refl, refl)
 
 content_of : IsContentOf (Some first) (65 ∷ 66 ∷ 97 ∷ 98 ∷ 99 ∷ [])
 content_of = refl
+
+-- the same buffer, of which the second record has other parts
+buffer_changed : with_record buffer 1 (1 ∷ []) (2 ∷ []) ≡ record buffer { records = first ∷ record second { key = 1 ∷ []; «data» = 2 ∷ [] } ∷ third ∷ [] }
+buffer_changed = refl
+
+-- a pack of a 2311 of one cylinder, attached alone
+abbrev small : Geometry
+small = record { device = D2311; cylinders = 1; track_size = 4096 }
+
+abbrev units : List Attached
+units = record { name = 80 ∷ []; size = 41472 } ∷ []
+
+-- the last track of ten is there, and neither the eleventh, nor another unit, nor a unit of another size
+has_track : HasTrack units 0 small 9
+has_track = record { attached = omega arith; whole = record { cylinders = omega arith; most = omega arith; track_size = refl; whole = refl }; inside = omega arith }
+
+has_none : (¬ HasTrack units 0 small 10) × (¬ HasTrack units 1 small 0) × (¬ HasTrack (record { name = 80 ∷ []; size = 41473 } ∷ []) 0 small 0)
+has_none = (λ has. omega (arith, has.inside), λ has. omega (arith, has.attached), λ has. let whole = has.whole.whole in omega (arith, whole))
+
+-- a read that is done, or finds the grammar broken, leaves the count of faults, and one that fails raises it
+called : (facts : Facts) → TrackCall {T = ℕ} facts facts (Ok 1) × TrackCall {T = ℕ} facts facts (Err (BadCount 1)) × (¬ TrackCall {T = ℕ} facts (record facts { dev_faults = facts.dev_faults + 1 }) (Err (BadCount 1)))
+called facts = (
+  record { units = refl; references = refl; prints = refl; later = omega arith; device = λ is. cc; others = λ no. refl },
+  record { units = refl; references = refl; prints = refl; later = omega arith; device = λ is. cc; others = λ no. refl },
+  λ call. let still = call.others (λ is. cc) in absurd (omega (arith, still)),
+)
+
+failed : (facts : Facts) → facts.dev_faults ≡ 3 → ¬ TrackCall {T = ℕ} facts facts (Err Device)
+failed facts is call = let rose = call.device refl in absurd (omega (arith, is, rose))
+
+-- on an image without tracks no records stand
+nothing_read : (upto : Option ℕ) → records_on [] small upto 0 ≡ None
+unfolding records_on track_bytes records_of is_front
+nothing_read upto = refl
+
+-- not even none; and it breaks the grammar at the first byte, of which a fault of the device says nothing
+nothing_stands : (¬ StandsOn [] (record { geometry = small; unit = 0; track = 0; records = [] })) × IsBroken [] small None 0 Device × (¬ IsBroken [] small None 0 (BadCount 1))
+unfolding track_bytes
+nothing_stands = (λ stands. let some = sym (nothing_read stands.0) ∙ stands.1 in cc, tt, λ broken. omega (arith, broken.1.inside))
+
+-- a write of a record keeps the image's length and its header
+not_updated : (image : List ℕ) → (¬ IsUpdated buffer 0 (65 ∷ 66 ∷ []) (97 ∷ 98 ∷ 99 ∷ []) image (0 ∷ image)) × (¬ IsUpdated buffer 0 (65 ∷ 66 ∷ []) (97 ∷ 98 ∷ 99 ∷ []) (0 ∷ image) (1 ∷ image))
+not_updated image = (λ is. omega (arith, is.size), λ is. let header = is.header in cc)

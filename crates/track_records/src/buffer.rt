@@ -13,7 +13,7 @@ ghost use Rattle.track_records.specs.Written.{place_of, IsUpdated, StandsOn};
 
 use crate::error::TrackErr;
 use crate::places::put_places;
-use ckd_image::{COUNT_LEN, Geometry, HEADER_LEN, RecordParts, record_at};
+use ckd_image::{BadCount, COUNT_LEN, Geometry, HEADER_LEN, RecordParts, record_at};
 use hall_core::{Device, Hall, HallErr};
 use std::alloc::{AllocError, Global};
 use std::marker::Model;
@@ -164,13 +164,16 @@ pub fn read_records<H: Hall>(
         return Err(TrackErr::Device);
     };
     let heads = u16::from(geometry.device.heads());
-    put_places(
+    match put_places(
         &buf.bytes,
         track / heads,
         track % heads,
         upto,
         &mut buf.places,
-    )
+    ) {
+        Ok(count) => Ok(count),
+        Err(BadCount { at }) => Err(TrackErr::BadCount { at }),
+    }
 }
 
 // Fills a vector of a track's length with the bytes of a track; one read.

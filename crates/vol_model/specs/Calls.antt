@@ -10,7 +10,7 @@ use Rattle.vol_model.specs.declared.refusals.Refusal.{Refusal}
 use Rattle.vol_model.specs.declared.requests.Op.{Op}
 use Rattle.vol_model.specs.Shelf.{step}
 
--- What a machine always tells: whether it is sound, what it stands on, as texts and numbers, a number as a list of it alone, and its counts of faults.
+-- What a machine always tells: whether it is sound; what it stands on, as lists of numbers that each machine chooses; and its counts of faults.
 pub record Status : Type 0 where
   pub is_sound : Bool
   pub base : List (List ℕ)
@@ -53,12 +53,12 @@ pub record Applies {T : Type 0} (op : Op) (old new : Meaning Shelf) (result : Re
   pub printed : new.printed ≡ old.printed
   pub moments : Elapses old new (λ shelf p. ((shelf ≡ old.state) ⊎ (step old.state op ≡ Ok shelf)) × (p ≡ old.printed))
 
--- A print: the shelf stays, and the bytes are printed, or a prefix of them where the print failed; where memory ran out nothing changes but the time. Whatever the answer is, a prefix of them is printed, which `failed` says. Of printed bytes it is said where the machine tells them.
+-- A print: the shelf stays. Whatever the answer is, a prefix of the bytes is printed, all of them where the print is done; where memory ran out nothing changes but the time. Of printed bytes it is said where the machine tells them.
 pub record Prints {T : Type 0} (tells : Bool) (bytes : List ℕ) (old new : Meaning Shelf) (result : Result T MachErr) : Type 0 where
   pub shelf : new.state ≡ old.state
   pub done : OnOk result (IsTrue tells → new.printed ≡ old.printed ++ bytes)
   pub memory : IsErrOf result Memory → Same old new
-  pub failed : (q : List ℕ) × IsPrefixOf q bytes × (IsTrue tells → new.printed ≡ old.printed ++ q)
+  pub prefix : (q : List ℕ) × IsPrefixOf q bytes × (IsTrue tells → new.printed ≡ old.printed ++ q)
   pub moments : Elapses old new (λ shelf p. (shelf ≡ old.state) × ((q : List ℕ) × IsPrefixOf q bytes × (IsTrue tells → p ≡ old.printed ++ q)))
 
 -- promises on stops, each since a moment up to this one, hold on

@@ -12,27 +12,27 @@ use Rattle.vol_model.specs.Calls.{Applies, IsIdle}
 use Rattle.vol_model.specs.Events.{Event, Do, Say, Item, StopsIn, behind, events_in}
 use Rattle.vol_model.specs.Runs.{Runs}
 use Rattle.vol_model.specs.Shelf.{number_of, step}
-use Rattle.vol_model.proofs.Stops.{HasRun, since_first, since_second, run_then}
+use Rattle.vol_model.proofs.Stops.{EventsAreDone, left_in_earlier_events, left_in_later_events, events_are_done_in_turn}
 use Rattle.volman.specs.Statement.{item_by, item_of, item_on, operation_on}
 
 -- a run that comes to its end
-has_run : {T E : Type 0} {tells : Bool} {es : List Event} {old new : Meaning Shelf} {x : T} → Runs {T = T} {E = E} tells es old new (Ok x) → HasRun tells es old new
+has_run : {T E : Type 0} {tells : Bool} {es : List Event} {old new : Meaning Shelf} {x : T} → Runs {T = T} {E = E} tells es old new (Ok x) → EventsAreDone tells es old new
 has_run run = record { state = run.shelf; printed = run.printed; moments = run.moments }
 
 -- a run that ends in the earlier events
 stopped : {T E T' E' : Type 0} {tells : Bool} {es : List Event} (fs : List Event) {old new : Meaning Shelf} {r : Result T E} (r' : Result T' E') → IsErr r' → Runs tells es old new r → Runs tells (es ++ fs) old new r'
 stopped fs (Ok x) failed run = let no : ⊥ = cc in absurd no
-stopped {es = es} fs (Err e) failed run = record { shelf = tt; printed = tt; moments = since_first es fs run.moments }
+stopped {es = es} fs (Err e) failed run = record { shelf = tt; printed = tt; moments = left_in_earlier_events es fs run.moments }
 
 -- one that ends in the later events
 stopped_later : {T E T' E' T'' E'' : Type 0} {tells : Bool} {es : List Event} (fs : List Event) {old mid new : Meaning Shelf} {x : T} {r : Result T' E'} (r' : Result T'' E'') → IsErr r' → Runs {T = T} {E = E} tells es old mid (Ok x) → Runs tells fs mid new r → Runs tells (es ++ fs) old new r'
 stopped_later fs (Ok y) failed first second = let no : ⊥ = cc in absurd no
-stopped_later fs (Err e) failed first second = record { shelf = tt; printed = tt; moments = since_second fs (has_run first) second.moments }
+stopped_later fs (Err e) failed first second = record { shelf = tt; printed = tt; moments = left_in_later_events fs (has_run first) second.moments }
 
 -- one after another
 both : {T E T' E' T'' E'' : Type 0} {tells : Bool} {es fs : List Event} {old mid new : Meaning Shelf} {x : T} {y : T'} (z : T'') → Runs {T = T} {E = E} tells es old mid (Ok x) → Runs {T = T'} {E = E'} tells fs mid new (Ok y) → Runs {T = T''} {E = E''} tells (es ++ fs) old new (Ok z)
 both z first second =
-    let run = run_then (has_run first) (has_run second) in
+    let run = events_are_done_in_turn (has_run first) (has_run second) in
     record { shelf = run.state; printed = run.printed; moments = run.moments }
 
 -- the item of a statement whose volume was found

@@ -39,6 +39,9 @@ begun_none = (inl (omega arith, omega arith), (inl (omega arith, omega arith), (
 begun_some : (n : ℕ) → (n ≤ 16) ⊎ ((n ≡ 22) ⊎ ((n ≡ 24) ⊎ (n ≡ 25))) → ¬ IsUnbegun n
 begun_some n which is = ⊎_elim (λ few. omega (arith, which, few.0, few.1)) (λ more. omega (arith, which, more)) is
 
+asked_none : IsUnasked 20 × (IsUnasked 23 × IsUnasked 26)
+asked_none = (inl refl, (inr (inl refl), inr (inr refl)))
+
 asked_some : IsUnasked 21 → ⊥
 asked_some is = ⊎_elim (λ (words : 21 ≡ 20). omega (arith, words)) (λ more. omega (arith, more)) is
 

@@ -6,4 +6,16 @@ mod Works
 mod WordLemmas
 mod DeckLemmas
 mod Answering
+mod Reported
+mod Promised
 mod Cases
+mod StatementCases
+mod CasePacks
+mod MomentCases
+mod PrintCases
+mod StopCases
+mod WorkCases
+mod CountCases
+mod TaskCases
+mod WordCases
+mod HallCases

@@ -7,6 +7,7 @@ use Rattle.ckd_image.specs.Device.{row_of}
 use Rattle.ckd_image.specs.declared.device.DiskType.{DiskType}
 use Rattle.ckd_image.specs.declared.device.DiskType.TheVariants.{D2311, D2314, D3330}
 use Rattle.ckd_image.specs.declared.header.Geometry.{Geometry}
+use Rattle.dadsm_ops.specs.Naming.{PutsName, RenamesSets, RenamesThrough, WritesName}
 use Rattle.dadsm_ops.specs.Operations.{ChangesVtoc, Operates, StoreAnswers, image_named}
 use Rattle.ebcdic_names.specs.declared.names.Dsn.{Dsn}
 use Rattle.hall_core.specs.Facts.{Attached, Facts, unit_of}
@@ -36,11 +37,11 @@ use Rattle.vtoc_index.specs.declared.vol.Vol.{Vol}
 use Rattle.vtoc_index.specs.Index.{IsMounted, run_of}
 use Rattle.vtoc_index.specs.Kept.{IsKept}
 use Rattle.vtoc_index.proofs.KeptLemmas.{kept_of}
-use Rattle.volman.specs.Machine.{ChangesOnlyVtoc, LeavesJust, base_of, numbers_of, shelf_in, shelf_named, shelf_with, texts_of}
+use Rattle.volman.specs.Machine.{ChangesNames, ChangesOnlyNames, LeavesJust, base_of, numbers_of, shelf_in, shelf_named, shelf_with, texts_of}
 
 -- the files of a step, and then those of another
-changes_then : {name : List ℕ} {g : Geometry} {vtoc : Run} {a b c : List File} → ChangesVtoc name g vtoc a b → ChangesVtoc name g vtoc b c → ChangesVtoc name g vtoc a c
-changes_then first second = record {
+tracks_then : {name : List ℕ} {g : Geometry} {vtoc : Run} {a b c : List File} → ChangesVtoc name g vtoc a b → ChangesVtoc name g vtoc b c → ChangesVtoc name g vtoc a c
+tracks_then first second = record {
   others = λ other apart. second.others other apart ∙ first.others other apart;
   image = record {
     size = second.image.size ∙ first.image.size;
@@ -48,6 +49,13 @@ changes_then first second = record {
     tracks = λ track out. second.image.tracks track out ∙ first.image.tracks track out;
   };
 }
+
+renames_then : {name : List ℕ} (a : List File) (steps : List (List File)) {b c : List File} → RenamesThrough name a steps b → RenamesSets name b c → RenamesSets name a c
+renames_then {name} a [] {c = c} first second = subst (λ (files : List File). RenamesSets name files c) first second
+renames_then a (next ∷ steps) first second = let rest = renames_then next steps first.1 second in (next ∷ rest.0, (first.0, rest.1))
+
+changes_then : {name : List ℕ} {g : Geometry} {vtoc : Run} {a b c : List File} → ChangesNames name g vtoc a b → ChangesNames name g vtoc b c → ChangesNames name g vtoc a c
+changes_then {a = a} first second = record { tracks = tracks_then first.tracks second.tracks; renames = renames_then a first.renames.0 first.renames.1 second.renames }
 
 -- a step of the volume is one of the shelf
 step_of : (volume : Volume) (old new : Dsn) (r : Result Volume Refusal) → rename_on old new volume ≡ r → step (shelf_with volume) (Rename 0 old new) ≡ with_volume (shelf_with volume) 0 r
@@ -139,15 +147,30 @@ applies_elsewhere name m volume v old new counts stands other = record {
   moments = elapses_none _ _;
 }
 
+-- files before a data set is put under its new name, or then
+renamed_or_not : {T E : Type 0} {name : List ℕ} {v : Vol} {from to : List ℕ} {m m' : Meaning (List File)} {r : Result T E} (files : List File) → IsMounted (image_named m.state name) v → (puts : PutsName name v from to m m' r) → (files ≡ m.state) ⊎ (files ≡ puts.after) → RenamesSets name m.state files
+renamed_or_not {name = name} {v = v} {from = from} {to = to} {m = m} files mounted puts =
+    ⊎_elim (λ before. ([], before))
+    (λ after. (puts.after ∷ [], (record { index = v; mounted = mounted; old = from; new = to; slot = puts.slot; found = puts.found; named = puts.named }, after)))
+
+-- where the device failed, a data set was put so far
+pub puts_failed : {T : Type 0} {name : List ℕ} {v : Vol} {from to : List ℕ} {m m' : Meaning (List File)} (e : StoreErr) → e ≡ store.Device → WritesName {T = T} name v from to m m' (Err e) → PutsName {T = T} {E = StoreErr} name v from to m m' (Err store.Device)
+puts_failed {T = T} {name = name} {v = v} {from = from} {to = to} {m = m} {m' = m'} e is = subst (λ (x : StoreErr). WritesName {T = T} name v from to m m' (Err x)) is
+
 -- what was promised of stops is promised after an operation
-pub keeps_promise : {T : Type 0} {name : List ℕ} {m m' : Meaning (List File)} {v : Vol} {operation : Volume → Result Volume Refusal} {r : Result T StoreErr} → CountsNow m → m.left m.state → Operates name operation v m m' r
-    → Keeps m.clock (ChangesOnlyVtoc name v.geometry v.vtoc m) (ChangesOnlyVtoc name v.geometry v.vtoc m')
-keeps_promise {m = m} counts left run t files early was j p stop =
-    ⊎_elim (λ before. was j p before) (λ now. changes_then (was m.state m.printed (counts t m.state early left)) now.1.0) (run.moments.moments t j p early stop)
+pub keeps_promise : {T T' E : Type 0} {name : List ℕ} {m m' : Meaning (List File)} {v v' : Vol} {operation : Volume → Result Volume Refusal} {from to : List ℕ} {r : Result T StoreErr} {r' : Result T' E} → CountsNow m → m.left m.state → IsMounted (image_named m.state name) v → PutsName name v from to m m' r' → Operates name operation v' m m' r
+    → Keeps m.clock (ChangesOnlyNames name v'.geometry v'.vtoc m) (ChangesOnlyNames name v'.geometry v'.vtoc m')
+keeps_promise {m = m} counts left mounted puts run t files early was j p stop =
+    let at_begin = was m.state m.printed (counts t m.state early left) in
+    ⊎_elim (λ before. was j p before)
+    (λ now. ⊎_elim (λ before. was j p before)
+    (λ named. changes_then at_begin (record { tracks = now.1.0; renames = renamed_or_not j mounted puts named.0 }))
+    (puts.step.moments.moments t j p early stop))
+    (run.moments.moments t j p early stop)
 
 -- and after a print
 pub keeps_printed : {T E : Type 0} {name bytes : List ℕ} {m m' : Meaning (List File)} {g : Geometry} {vtoc : Run} {r : Result T E} → CountsNow m → AfterPrint bytes m m' r
-    → Keeps m.clock (ChangesOnlyVtoc name g vtoc m) (ChangesOnlyVtoc name g vtoc m')
+    → Keeps m.clock (ChangesOnlyNames name g vtoc m) (ChangesOnlyNames name g vtoc m')
 keeps_printed {m = m} counts print t files early was j p stop =
     ⊎_elim (λ before. was j p before) (λ now. was j m.printed (counts t j early now.0)) ((print.time.since t j p early).0 stop)
 
@@ -170,7 +193,7 @@ module _ (name : List ℕ) {bytes : List ℕ} {m m' : Meaning (List File)} (tell
     shelf = ap (shelf_named name) print.state;
     done = λ _. print.done;
     memory = λ other. no_error other;
-    failed = (print.prefix.0, print.prefix.1, λ _. print.prefix.2);
+    prefix = (print.prefix.0, print.prefix.1, λ _. print.prefix.2);
     moments = print_moments print;
   }
 
@@ -180,7 +203,7 @@ module _ (name : List ℕ) {bytes : List ℕ} {m m' : Meaning (List File)} (tell
     shelf = ap (shelf_named name) print.state;
     done = tt;
     memory = λ other. no_memory other;
-    failed = (print.prefix.0, print.prefix.1, λ _. print.prefix.2);
+    prefix = (print.prefix.0, print.prefix.1, λ _. print.prefix.2);
     moments = print_moments print;
   }
 
@@ -200,23 +223,23 @@ module _ (units units' : List Attached) (v v' : Vol) (same_units : units' ≡ un
   applies_zero n old new m m' {r = r} is run = subst (λ (k : ℕ). Applies (Rename k old new) (seen (shelf_named (unit_of units v.unit).name) m) (seen (shelf_named (unit_of units' v'.unit).name) m') r) (sym is) (applies_at m m' run)
 
   -- and promises the same
-  pub promises_at : {clock : ℕ} (m m' : Meaning (List File)) → Keeps clock (ChangesOnlyVtoc (unit_of units v.unit).name v'.geometry v'.vtoc m) (ChangesOnlyVtoc (unit_of units v.unit).name v'.geometry v'.vtoc m')
-      → Keeps clock (ChangesOnlyVtoc (unit_of units v.unit).name v.geometry v.vtoc m) (ChangesOnlyVtoc (unit_of units' v'.unit).name v'.geometry v'.vtoc m')
+  pub promises_at : {clock : ℕ} (m m' : Meaning (List File)) → Keeps clock (ChangesOnlyNames (unit_of units v.unit).name v'.geometry v'.vtoc m) (ChangesOnlyNames (unit_of units v.unit).name v'.geometry v'.vtoc m')
+      → Keeps clock (ChangesOnlyNames (unit_of units v.unit).name v.geometry v.vtoc m) (ChangesOnlyNames (unit_of units' v'.unit).name v'.geometry v'.vtoc m')
   promises_at m m' keeps t files early was =
       let g : v.geometry ≡ v'.geometry = sym (ap (λ (w : Vol). w.geometry) same_index) in
       let vtoc : v.vtoc ≡ v'.vtoc = sym (ap (λ (w : Vol). w.vtoc) same_index) in
       let name = (unit_of units v.unit).name in
-      subst (λ (n : List ℕ). ChangesOnlyVtoc n v'.geometry v'.vtoc m' t files) (sym same_name)
-      (keeps t files early (subst (λ (x : Geometry). ChangesOnlyVtoc name x v'.vtoc m t files) g (subst (λ (x : Run). ChangesOnlyVtoc name v.geometry x m t files) vtoc was)))
+      subst (λ (n : List ℕ). ChangesOnlyNames n v'.geometry v'.vtoc m' t files) (sym same_name)
+      (keeps t files early (subst (λ (x : Geometry). ChangesOnlyNames name x v'.vtoc m t files) g (subst (λ (x : Run). ChangesOnlyNames name v.geometry x m t files) vtoc was)))
 
   -- the index is kept
   pub kept_at : (files : List File) → IsMounted (image_named files (unit_of units v.unit).name) v' → IsKept (image_named files (unit_of units' v'.unit).name) v'
   kept_at files mounted = kept_of _ _ (subst (λ (n : List ℕ). IsMounted (image_named files n) v') (sym same_name) mounted)
 
 -- a print keeps the units
-pub printed_at : (units units' : List Attached) (unit : ℕ) → units' ≡ units → {clock : ℕ} {g : Geometry} {vtoc : Run} (m m' : Meaning (List File)) → Keeps clock (ChangesOnlyVtoc (unit_of units unit).name g vtoc m) (ChangesOnlyVtoc (unit_of units unit).name g vtoc m')
-    → Keeps clock (ChangesOnlyVtoc (unit_of units unit).name g vtoc m) (ChangesOnlyVtoc (unit_of units' unit).name g vtoc m')
-printed_at units units' unit same {clock} {g} {vtoc} m m' keeps = subst (λ (us : List Attached). Keeps clock (ChangesOnlyVtoc (unit_of units unit).name g vtoc m) (ChangesOnlyVtoc (unit_of us unit).name g vtoc m')) (sym same) keeps
+pub printed_at : (units units' : List Attached) (unit : ℕ) → units' ≡ units → {clock : ℕ} {g : Geometry} {vtoc : Run} (m m' : Meaning (List File)) → Keeps clock (ChangesOnlyNames (unit_of units unit).name g vtoc m) (ChangesOnlyNames (unit_of units unit).name g vtoc m')
+    → Keeps clock (ChangesOnlyNames (unit_of units unit).name g vtoc m) (ChangesOnlyNames (unit_of units' unit).name g vtoc m')
+printed_at units units' unit same {clock} {g} {vtoc} m m' keeps = subst (λ (us : List Attached). Keeps clock (ChangesOnlyNames (unit_of units unit).name g vtoc m) (ChangesOnlyNames (unit_of us unit).name g vtoc m')) (sym same) keeps
 
 pub prints_at : {T : Type 0} (units units' : List Attached) (unit : ℕ) → units' ≡ units → {tells : Bool} {bytes : List ℕ} (m m' : Meaning (List File)) {r : Result T MachErr} → Prints tells bytes (seen (shelf_named (unit_of units unit).name) m) (seen (shelf_named (unit_of units unit).name) m') r
     → Prints tells bytes (seen (shelf_named (unit_of units unit).name) m) (seen (shelf_named (unit_of units' unit).name) m') r

@@ -4,7 +4,7 @@ use Rattle.std.specs.Prelude.{◌⊎◌, IsTrue, Option, Some, None, Result, Ok,
 use Rattle.std.specs.List.{AllByRecursion}
 use Rattle.std.proofs.lemmas.List.{append-nil, length-set}
 use Rattle.ckd_image.specs.declared.header.Geometry.{Geometry}
-use Rattle.dadsm_ops.specs.Operations.{ChangesVtoc, image_named}
+use Rattle.dadsm_ops.specs.Operations.{image_named}
 use Rattle.hall_core.specs.Files.{File, file_of}
 use Rattle.hall_core.specs.Moments.{IsDurable, Meaning, Same}
 use Rattle.hall_core.specs.Steps.{seen}
@@ -27,10 +27,10 @@ use Rattle.vol_model.specs.declared.refusals.Refusal.TheVariants.{NoVolume}
 use Rattle.vol_model.specs.declared.requests.Op.{Op}
 use Rattle.vol_model.specs.declared.requests.Op.TheVariants as operations
 use Rattle.vol_model.proofs.Steps.{renames_of}
-use Rattle.vol_model.proofs.Stops.{HaveLines, have_items, stands, stops_start}
+use Rattle.vol_model.proofs.Stops.{HasNoEmptyLine, no_empty_line_in_items, stop_is_between, stop_before_first_event}
 use Rattle.vtoc_index.specs.declared.vol.Vol.{Vol}
 use Rattle.vtoc_index.specs.Index.{IsMounted}
-use Rattle.volman.specs.Machine.{ChangesOnlyVtoc, LeavesJust, shelf_in, shelf_named, shelf_with}
+use Rattle.volman.specs.Machine.{ChangesNames, ChangesOnlyNames, LeavesJust, shelf_in, shelf_named, shelf_with}
 use Rattle.volman.specs.Run.{Does, Headline, HasWorked, IsCalmSince, IsFinal, StandsFor, StopStands, Synced, WorksOn}
 use Rattle.volman.specs.Statement.{answer_line, item_by, item_of, item_on, operation_on}
 use Rattle.volman.specs.Deck.{deck_of}
@@ -83,10 +83,14 @@ none_in item none = by_list item.operations none
 
 -- ---- files that are as before
 
-unchanged : (name : List ℕ) (g : Geometry) (vtoc : Run) (before after : List File) → after ≡ before → ChangesVtoc name g vtoc before after
+unchanged : (name : List ℕ) (g : Geometry) (vtoc : Run) (before after : List File) → after ≡ before → ChangesNames name g vtoc before after
 unchanged name g vtoc before after same =
-    let none : ChangesVtoc name g vtoc before before = record { others = λ other apart. refl; image = record { size = refl; header = refl; tracks = λ track outside. refl } } in
-    subst (λ (files : List File). ChangesVtoc name g vtoc before files) (sym same) none
+    let none : ChangesNames name g vtoc before before = record {
+      tracks = record { others = λ other apart. refl; image = record { size = refl; header = refl; tracks = λ track outside. refl } };
+      renames = ([], refl);
+    }
+    in
+    subst (λ (files : List File). ChangesNames name g vtoc before files) (sym same) none
 
 -- since now a stop left what is there
 pub calm_now : (m : Meaning (List File)) → OnlyNow m → IsDurable m → IsCalmSince m m.clock
@@ -100,20 +104,20 @@ calm_then t same early calm durable files printed left =
     ((same.time.since t files printed early).0 left)
 
 -- a stop before anything was done
-stopped_before : (file : List ℕ) (volume : Volume) (items : List Item) (old : Meaning (List File)) (files : List File) (printed : List ℕ) → volume_of (image_named old.state file) ≡ Ok volume → HaveLines (events_of items)
+stopped_before : (file : List ℕ) (volume : Volume) (items : List Item) (old : Meaning (List File)) (files : List File) (printed : List ℕ) → volume_of (image_named old.state file) ≡ Ok volume → HasNoEmptyLine (events_of items)
     → files ≡ old.state → printed ≡ old.printed → StopStands file volume items old files printed
 stopped_before file volume items old files printed stands_at have same text = record {
   shelf = shelf_with volume;
   stands = (volume, ap (λ (all : List File). volume_of (image_named all file)) same ∙ stands_at, refl);
   front = [];
   text = text ∙ sym (append-nil old.printed);
-  place = stands (shelf_with volume) (events_of items) (shelf_with volume) [] have (stops_start (shelf_with volume) (events_of items));
+  place = stop_is_between (shelf_with volume) (events_of items) (shelf_with volume) [] have (stop_before_first_event (shelf_with volume) (events_of items));
   changes = unchanged file volume.geometry volume.vtoc old.state files same;
   idle = λ none. same;
 }
 
 -- items of which none was begun
-pub nothing_worked : (file : List ℕ) (volume : Volume) (items : List Item) {old new : Meaning (List File)} (status : ℕ) → volume_of (image_named old.state file) ≡ Ok volume → HaveLines (events_of items) → IsDurable old → OnlyNow old → Same old new → ¬ IsFinal status
+pub nothing_worked : (file : List ℕ) (volume : Volume) (items : List Item) {old new : Meaning (List File)} (status : ℕ) → volume_of (image_named old.state file) ≡ Ok volume → HasNoEmptyLine (events_of items) → IsDurable old → OnlyNow old → Same old new → ¬ IsFinal status
     → Does (Works file volume items) old new status
 nothing_worked file volume items {old} status stands_at have durable only same other = record {
   ends = λ final. absurd (other final);
@@ -136,7 +140,7 @@ worked_then file volume items {old} {mid} {new} status durable only same silent 
         printed = done.printed ∙ ap (λ (l : List ℕ). l ++ listing (events_of items)) same.printed;
         shelf = done.shelf;
         durable = done.durable;
-        changes = subst (λ (all : List File). ChangesVtoc file volume.geometry volume.vtoc all new.state) same.state done.changes;
+        changes = subst (λ (all : List File). ChangesNames file volume.geometry volume.vtoc all new.state) same.state done.changes;
       };
   silent = λ short. silent short ∙ same.printed;
   stops = record {
@@ -149,7 +153,7 @@ worked_then file volume items {old} {mid} {new} status durable only same silent 
           front = stop.front;
           text = stop.text ∙ ap (λ (l : List ℕ). l ++ stop.front) same.printed;
           place = stop.place;
-          changes = subst (λ (all : List File). ChangesVtoc file volume.geometry volume.vtoc all files) same.state stop.changes;
+          changes = subst (λ (all : List File). ChangesNames file volume.geometry volume.vtoc all files) same.state stop.changes;
           idle = λ none. stop.idle none ∙ same.state;
         };
   };
@@ -160,20 +164,20 @@ worked_then file volume items {old} {mid} {new} status durable only same silent 
 module _ (name name' : List ℕ) (m m' : Meaning (List File)) (v v' : Vol) (volume : Volume) (item : Item)
     (mounted : IsMounted (image_named m.state name) v) (stands_at : volume_of (image_named m.state name) ≡ Ok volume)
     (same_name : name' ≡ name) (same_geometry : v'.geometry ≡ v.geometry) (same_vtoc : v'.vtoc ≡ v.vtoc)
-    (have : HaveLines (events_of (item ∷ [])))
-    (promise : Keeps m.clock (ChangesOnlyVtoc name v.geometry v.vtoc m) (ChangesOnlyVtoc name' v'.geometry v'.vtoc m'))
+    (have : HasNoEmptyLine (events_of (item ∷ [])))
+    (promise : Keeps m.clock (ChangesOnlyNames name v.geometry v.vtoc m) (ChangesOnlyNames name' v'.geometry v'.vtoc m'))
     (stays : item.operations ≡ [] → Keeps m.clock (LeavesJust m) (LeavesJust m')) where
   here : shelf_named name m.state ≡ shelf_with volume
   here = ap shelf_in stands_at
 
-  -- the VTOC alone was changed
-  changed : (t : ℕ) → t ≤ m.clock → IsCalmSince m t → (files : List File) (printed : List ℕ) → m'.left_since t files printed → ChangesVtoc name volume.geometry volume.vtoc m.state files
+  -- names of data sets alone were changed
+  changed : (t : ℕ) → t ≤ m.clock → IsCalmSince m t → (files : List File) (printed : List ℕ) → m'.left_since t files printed → ChangesNames name volume.geometry volume.vtoc m.state files
   changed t early calm files printed left =
       let plan = same_plan (image_named m.state name) v volume mounted stands_at in
       let made = promise t m.state early (λ j p was. unchanged name v.geometry v.vtoc m.state j (calm j p was).0) files printed left in
-      subst (λ (n : List ℕ). ChangesVtoc n volume.geometry volume.vtoc m.state files) same_name
-      (subst (λ (g : Geometry). ChangesVtoc name' g volume.vtoc m.state files) (same_geometry ∙ plan.0)
-      (subst (λ (run : Run). ChangesVtoc name' v'.geometry run m.state files) (same_vtoc ∙ plan.1) made))
+      subst (λ (n : List ℕ). ChangesNames n volume.geometry volume.vtoc m.state files) same_name
+      (subst (λ (g : Geometry). ChangesNames name' g volume.vtoc m.state files) (same_geometry ∙ plan.0)
+      (subst (λ (run : Run). ChangesNames name' v'.geometry run m.state files) (same_vtoc ∙ plan.1) made))
 
   -- nothing was, where there is no operation
   untouched : (t : ℕ) → t ≤ m.clock → IsCalmSince m t → (files : List File) (printed : List ℕ) → m'.left_since t files printed → operations_of (events_of (item ∷ [])) ≡ [] → files ≡ m.state
@@ -184,7 +188,7 @@ module _ (name name' : List ℕ) (m m' : Meaning (List File)) (v v' : Vol) (volu
   stopped : (t : ℕ) → t ≤ m.clock → IsCalmSince m t → (files : List File) (printed q : List ℕ) → m'.left_since t files printed → printed ≡ m.printed ++ q → StopsIn (shelf_with volume) (events_of (item ∷ [])) (shelf_named name files) q
       → StopStands name volume (item ∷ []) m files printed
   stopped t early calm files printed q left text stop =
-      let place = stands (shelf_with volume) (events_of (item ∷ [])) (shelf_named name files) q have stop in
+      let place = stop_is_between (shelf_with volume) (events_of (item ∷ [])) (shelf_named name files) q have stop in
       let one = ap (λ (s : Shelf). length s.volumes) place.state ∙ volumes_stay (take place.count (operations_of (events_of (item ∷ [])))) (shelf_with volume) in
       record {
         shelf = shelf_named name files;
@@ -206,7 +210,7 @@ module _ (name name' : List ℕ) (m m' : Meaning (List File)) (v v' : Vol) (volu
       let was = calm before.0 printed before.1 in
       let as_then : shelf_named name files ≡ shelf_with volume = sym seen_as ∙ sym before.2 ∙ ap (shelf_named name) was.0 ∙ here in
       stopped t early calm files printed [] left (was.1 ∙ sym (append-nil m.printed))
-      (subst (λ (s : Shelf). StopsIn (shelf_with volume) (events_of (item ∷ [])) s []) (sym as_then) (stops_start (shelf_with volume) (events_of (item ∷ [])))))
+      (subst (λ (s : Shelf). StopsIn (shelf_with volume) (events_of (item ∷ [])) s []) (sym as_then) (stop_before_first_event (shelf_with volume) (events_of (item ∷ [])))))
       (λ stop. stopped t early calm files printed stop.0 left (stop.1 told)
       (subst (λ (es : List Event). StopsIn (shelf_with volume) es (shelf_named name files) stop.0) (sym (single item))
       (subst (λ (s : Shelf). StopsIn s (events_in item) (shelf_named name files) stop.0) here
@@ -243,7 +247,7 @@ worked_synced {name} {volume} {items} {m} synced ends done = record {
   printed = synced.printed ∙ done.printed;
   shelf = subst (λ (all : List File). StandsFor name all (shelf_behind (shelf_with volume) (events_of items))) (sym synced.state) done.shelf;
   durable = synced.durable ends;
-  changes = subst (λ (all : List File). ChangesVtoc name volume.geometry volume.vtoc m.state all) (sym synced.state) done.changes;
+  changes = subst (λ (all : List File). ChangesNames name volume.geometry volume.vtoc m.state all) (sym synced.state) done.changes;
 }
 
 -- the outcome of items is a status with which the program ends, and no fault
@@ -286,9 +290,9 @@ lines_on : (shelf : Shelf) (s : Rename) (v : Option ℕ) → AllByRecursion (λ 
 lines_on shelf s None = (answer_long s (Err NoVolume), tt)
 lines_on shelf s (Some v) = lines_by s (operation_on s v) (step shelf (operation_on s v))
 
-pub have_line : (shelf : Shelf) (s : Rename) → HaveLines (events_of (item_of shelf s ∷ []))
+pub have_line : (shelf : Shelf) (s : Rename) → HasNoEmptyLine (events_of (item_of shelf s ∷ []))
 unfolding item_of
-have_line shelf s = have_items (item_of shelf s ∷ []) (lines_on shelf s (number_of shelf s.serial.bytes), tt)
+have_line shelf s = no_empty_line_in_items (item_of shelf s ∷ []) (lines_on shelf s (number_of shelf s.serial.bytes), tt)
 
 -- ---- tasks on a file
 

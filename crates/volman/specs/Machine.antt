@@ -3,6 +3,7 @@ use Rattle.std.specs.Prelude.{◌≡◌, ℕ, Bool, List, [], ◌∷◌, Result,
 use Rattle.std.proofs.Common.{subst, sym}
 use Rattle.ckd_image.specs.Device.{row_of}
 use Rattle.ckd_image.specs.declared.header.Geometry.{Geometry}
+use Rattle.dadsm_ops.specs.Naming.{RenamesSets}
 use Rattle.dadsm_ops.specs.Operations.{ChangesVtoc, image_named}
 use Rattle.hall_core.specs.Facts.{Attached, Facts}
 use Rattle.hall_core.specs.Files.{File}
@@ -50,9 +51,14 @@ base_of facts v = facts.references ∷ numbers_of v.geometry ∷ (v.vtoc.start �
 abbrev pub status_of : Bool → Facts → Vol → Status
 status_of is_sound facts v = record { is_sound = is_sound; base = base_of facts v; dev_faults = facts.dev_faults; print_faults = facts.print_faults }
 
--- since that moment every stop leaves files that differ from these in the VTOC of one image alone
-abbrev pub ChangesOnlyVtoc : List ℕ → Geometry → Run → Meaning (List File) → ℕ → List File → Type 0
-ChangesOnlyVtoc name g vtoc m t files = (j : List File) (p : List ℕ) → m.left_since t j p → ChangesVtoc name g vtoc files j
+-- Files differ in the image of this name alone, and that in the tracks of its VTOC, and there in the names of data sets: each other byte is as before.
+pub record ChangesNames (name : List ℕ) (g : Geometry) (vtoc : Run) (before after : List File) : Type 0 where
+  pub tracks : ChangesVtoc name g vtoc before after
+  pub renames : RenamesSets name before after
+
+-- since that moment every stop leaves files that differ from these in the names of data sets of one image alone
+abbrev pub ChangesOnlyNames : List ℕ → Geometry → Run → Meaning (List File) → ℕ → List File → Type 0
+ChangesOnlyNames name g vtoc m t files = (j : List File) (p : List ℕ) → m.left_since t j p → ChangesNames name g vtoc files j
 
 -- since that moment every stop leaves just these files
 abbrev pub LeavesJust : Meaning (List File) → ℕ → List File → Type 0

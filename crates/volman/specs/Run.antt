@@ -1,6 +1,6 @@
 -- What a run of the program leaves.
 use Rattle.std.specs.Prelude.{◌≡◌, ◌≢◌, ◌⊎◌, ℕ, ◌≤◌, Bool, List, [], ◌∷◌, ◌++◌, Option, Some, None, Ok, IsTrue}
-use Rattle.dadsm_ops.specs.Operations.{ChangesVtoc, image_named}
+use Rattle.dadsm_ops.specs.Operations.{image_named}
 use Rattle.hall_core.specs.Facts.{Facts, Rose}
 use Rattle.hall_core.specs.Files.{File, IsPrefixOf}
 use Rattle.hall_core.specs.Moments.{Meaning, IsDurable, LeavesSame, LeftNow, Elapses}
@@ -11,7 +11,7 @@ use Rattle.vol_model.specs.declared.contents.Volume.{Volume}
 use Rattle.vol_model.specs.Events as events
 use Rattle.vol_model.specs.Events.{Item, StandsIn, events_of, listing, operations_of, shelf_behind}
 use Rattle.volman.specs.Deck.{deck_of}
-use Rattle.volman.specs.Machine.{shelf_with}
+use Rattle.volman.specs.Machine.{ChangesNames, shelf_with}
 use Rattle.volman.specs.Task.{Task, Says, Works, task_of}
 use Rattle.volman.specs.Words.{Request, Names, Run}
 use Rattle.volman.specs.declared.status.Status.{Status}
@@ -44,27 +44,27 @@ AddsPrefix text old new = (q : List ℕ) × IsPrefixOf q text × (new ≡ old ++
 abbrev pub StandsFor : List ℕ → List File → Shelf → Type 0
 StandsFor file files shelf = (volume : Volume) × (volume_of (image_named files file) ≡ Ok volume) × (shelf ≡ shelf_with volume)
 
--- All items were done: the status is their highest condition code, their lines were printed, the image stands durably for the shelf after all their operations, and nothing but tracks of its VTOC was changed.
+-- All items were done: the status is their highest condition code, their lines were printed, the image stands durably for the shelf after all their operations, and nothing but names of data sets in its VTOC was changed.
 pub record HasWorked (file : List ℕ) (volume : Volume) (items : List Item) (old new : Meaning (List File)) (status : ℕ) : Type 0 where
   pub code : status ≡ events.code_of items
   pub printed : new.printed ≡ old.printed ++ listing (events_of items)
   pub shelf : StandsFor file new.state (shelf_behind (shelf_with volume) (events_of items))
   pub durable : IsDurable new
-  pub changes : ChangesVtoc file volume.geometry volume.vtoc old.state new.state
+  pub changes : ChangesNames file volume.geometry volume.vtoc old.state new.state
 
 -- the task was done, and this is its status
 abbrev pub IsEnd : Task → Meaning (List File) → Meaning (List File) → ℕ → Type 0
 IsEnd (Says code text) old new status = (status ≡ code) × (new.printed ≡ old.printed ++ text)
 IsEnd (Works file volume items) old new status = HasWorked file volume items old new status
 
--- What a stop leaves of a run of items: behind what was printed a prefix of their lines; an image that stands for the shelf after some of their operations, all that are reported and none that can't have begun; and nothing changed but tracks of its VTOC, and nothing at all where there is no operation.
+-- What a stop leaves of a run of items: behind what was printed a prefix of their lines; an image that stands for the shelf after some of their operations, all that are reported and none that can't have begun; and nothing changed but names of data sets in its VTOC, and nothing at all where there is no operation.
 pub record StopStands (file : List ℕ) (volume : Volume) (items : List Item) (old : Meaning (List File)) (files : List File) (printed : List ℕ) : Type 0 where
   pub shelf : Shelf
   pub stands : StandsFor file files shelf
   pub front : List ℕ
   pub text : printed ≡ old.printed ++ front
   pub place : StandsIn (shelf_with volume) (events_of items) shelf front
-  pub changes : ChangesVtoc file volume.geometry volume.vtoc old.state files
+  pub changes : ChangesNames file volume.geometry volume.vtoc old.state files
   pub idle : operations_of (events_of items) ≡ [] → files ≡ old.state
 
 -- A text was printed, or a prefix of it, and nothing was written: the files stay, and a stop leaves them as before.
@@ -75,14 +75,14 @@ pub record KeepsFiles (text : List ℕ) (old new : Meaning (List File)) : Type 0
   pub moments : Elapses old new (λ files p. old.left files × AddsPrefix text old.printed p)
 
 -- Time goes on, and whatever a stop since the begin left is what one in these items may leave.
-pub record KeepsShelf (file : List ℕ) (volume : Volume) (items : List Item) (old new : Meaning (List File)) : Type 0 where
+pub record StopsInItems (file : List ℕ) (volume : Volume) (items : List Item) (old new : Meaning (List File)) : Type 0 where
   pub later : old.clock ≤ new.clock
   pub stops : (files : List File) (printed : List ℕ) → new.left_since old.clock files printed → StopStands file volume items old files printed
 
 -- whatever the status, a stop at any moment leaves what the task allows
 abbrev pub IsSafe : Task → Meaning (List File) → Meaning (List File) → Type 0
 IsSafe (Says code text) old new = KeepsFiles text old new
-IsSafe (Works file volume items) old new = KeepsShelf file volume items old new
+IsSafe (Works file volume items) old new = StopsInItems file volume items old new
 
 -- A task is done where the status says so, and is safe whatever the status is; where memory ran out nothing was printed.
 pub record Does (task : Task) (old new : Meaning (List File)) (status : ℕ) : Type 0 where

@@ -233,19 +233,22 @@ mod tests {
         Ok(())
     }
 
+    // A name, why it can't be attached, and the count of faults then.
+    const REFUSED: &[(&str, HallErr, u64)] = &[
+        ("no_such_file", HallErr::Missing, 0),
+        ("no_such_folder/pack", HallErr::Missing, 0),
+        ("/dev/null/pack", HallErr::Missing, 0),
+        ("", HallErr::Missing, 0),
+        (".", HallErr::Failed, 1),
+        ("/dev/null", HallErr::Failed, 1),
+    ];
+
     #[test]
     fn refuses_what_is_no_file(rt: HostRuntime) {
-        for (name, want, faults) in [
-            ("no_such_file", HallErr::Missing, 0),
-            ("no_such_folder/pack", HallErr::Missing, 0),
-            ("/dev/null/pack", HallErr::Missing, 0),
-            ("", HallErr::Missing, 0),
-            (".", HallErr::Failed, 1),
-            ("/dev/null", HallErr::Failed, 1),
-        ] {
+        for (name, want, faults) in REFUSED {
             let mut hall = FileHall::new(rt.alloc(), &rt);
-            assert_eq!(rt; hall.attach(name), Err(want), "at {name}");
-            assert_eq!(rt; hall.dev_faults, faults, "at {name}");
+            assert_eq!(rt; hall.attach(name), Err(*want), "at {name}");
+            assert_eq!(rt; hall.dev_faults, *faults, "at {name}");
         }
     }
 

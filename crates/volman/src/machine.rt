@@ -8,8 +8,9 @@ ghost use Rattle.hall_core.specs.Steps.{seen};
 ghost use Rattle.hall_core.proofs.MomentLemmas.{durable_seen, counts_now_seen, only_now_seen};
 ghost use Rattle.vol_model.specs.Shelf.{number_of, step};
 ghost use Rattle.vtoc_index.specs.Index.{IsMounted, IsOfUnit};
-ghost use Rattle.vtoc_index.specs.Kept.{IsKept, kept_props};
-ghost use Rattle.volman.specs.Machine.{ChangesOnlyVtoc, LeavesJust, lawful_in, shelf_named, status_of};
+ghost use Rattle.vtoc_index.specs.Kept.{IsKept};
+ghost use Rattle.vtoc_index.proofs.KeptProps.{kept_props};
+ghost use Rattle.volman.specs.Machine.{ChangesOnlyNames, LeavesJust, lawful_in, shelf_named, status_of};
 
 use dadsm_ops::rename;
 use ebcdic_names::{Dsn, Serial};
@@ -76,7 +77,7 @@ impl<H: Hall> PackMachine<H> {
     fn rename(&mut self, v: u8, old: &Dsn, new: &Dsn) -> Result<(), MachErr>
         requires sound { IsTrue self.old.is_sound }
         ensures shelf { IsTrue H.tells → Applies (Op.Rename v old.now new.now) (seen (shelf_named (unit_of (H.facts self.old.hall).units self.old.vol.unit).name) (H.meaning self.old.hall)) (seen (shelf_named (unit_of (H.facts self.new.hall).units self.new.vol.unit).name) (H.meaning self.new.hall)) result }
-        ensures promise { IsTrue H.tells → Keeps (H.meaning self.old.hall).clock (ChangesOnlyVtoc (unit_of (H.facts self.old.hall).units self.old.vol.unit).name self.old.vol.geometry self.old.vol.vtoc (H.meaning self.old.hall)) (ChangesOnlyVtoc (unit_of (H.facts self.new.hall).units self.new.vol.unit).name self.new.vol.geometry self.new.vol.vtoc (H.meaning self.new.hall)) }
+        ensures promise { IsTrue H.tells → Keeps (H.meaning self.old.hall).clock (ChangesOnlyNames (unit_of (H.facts self.old.hall).units self.old.vol.unit).name self.old.vol.geometry self.old.vol.vtoc (H.meaning self.old.hall)) (ChangesOnlyNames (unit_of (H.facts self.new.hall).units self.new.vol.unit).name self.new.vol.geometry self.new.vol.vtoc (H.meaning self.new.hall)) }
         ensures stays { IsTrue H.tells → IsIdle (step (shelf_named (unit_of (H.facts self.old.hall).units self.old.vol.unit).name (H.meaning self.old.hall).state) (Op.Rename v old.now new.now)) result → Keeps (H.meaning self.old.hall).clock (LeavesJust (H.meaning self.old.hall)) (LeavesJust (H.meaning self.new.hall)) }
         ensures call { MachineCall (status_of self.old.is_sound (H.facts self.old.hall) self.old.vol) (status_of self.new.is_sound (H.facts self.new.hall) self.new.vol) result }
         ensures print { IsErrOf result MachErr.Print → ⊥ }
@@ -105,7 +106,7 @@ impl<H: Hall> Machine for PackMachine<H> {
 
     ghost status = { λ m. status_of m.is_sound (H.facts m.hall) m.vol };
 
-    ghost promise = { λ m t files. ChangesOnlyVtoc (unit_of (H.facts m.hall).units m.vol.unit).name m.vol.geometry m.vol.vtoc (H.meaning m.hall) t files };
+    ghost promise = { λ m t files. ChangesOnlyNames (unit_of (H.facts m.hall).units m.vol.unit).name m.vol.geometry m.vol.vtoc (H.meaning m.hall) t files };
 
     ghost stays = { λ m t files. LeavesJust (H.meaning m.hall) t files };
 

@@ -62,8 +62,8 @@ pub fn volman<C: Cards, H: Hall>(alloc: Global, words: &[String], cards: &mut C,
     ensures deck { IsTrue C.tells → (file : List ℕ) → request_of (map string_bytes words.now) ≡ Some (Run file) → result ≤ 16 → C.left cards.new ≡ [] }
     ensures cards { ((file : List ℕ) → request_of (map string_bytes words.now) ≢ Some (Run file)) → cards.new ≡ cards.old }
 
-    // Causes of every status, over any hall and any cards: words are refused where they are no others, and
-    // a fault is reported only where its count rose in this call.
+    // Causes of every status, over any hall and any cards: the words are refused only where they ask for
+    // nothing, and a fault is reported only where its count rose in this call.
     ensures words { result ≡ 20 → request_of (map string_bytes words.now) ≡ None }
     ensures refused { request_of (map string_bytes words.now) ≡ None → (result ≡ 20) ⊎ (result ≡ 24) }
     ensures form { result ≡ 26 → IsTrue C.tells → deck_of (C.left cards.old) ≡ None }

@@ -24,7 +24,6 @@ use Rattle.vtoc_index.specs.declared.tracks.ReadSlots.{ReadSlots}
 
 -- a track that is reported broken has no records
 pub broken_none : (image : List ℕ) (g : Geometry) (upto : Option ℕ) (track : ℕ) (e : TrackErr) (at : ℕ) → e ≡ track_errors.BadCount at → IsBroken image g upto track e → records_on image g upto track ≡ None
-unfolding records_on
 broken_none image g upto track (track_errors.BadCount at') at is broken = broken.0
 broken_none image g upto track track_errors.Device at is broken = cc
 

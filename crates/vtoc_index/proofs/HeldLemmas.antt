@@ -13,8 +13,6 @@ use Rattle.hall_core.specs.Facts.{Facts, Rose, DeviceCall, NotedCall}
 use Rattle.pack_spec.specs.Label.{heads_of, records_on, track_bytes}
 use Rattle.pack_spec.specs.Vtoc.{slot_bytes}
 use Rattle.track_records.specs.Buffers.{Buffer}
-use Rattle.track_records.specs.Reads.{IsBroken}
-use Rattle.track_records.specs.declared.error.TrackErr.TheVariants.{BadCount}
 use Rattle.track_records.specs.Updates.{HasLengths}
 use Rattle.track_records.specs.Written.{StandsOn}
 use Rattle.track_records.proofs.StandLemmas.{stand}
@@ -148,8 +146,3 @@ noted {tells = tells} {old = old} {mid = mid} {new = new} units references print
     risen : (b : Bool) → (IsFalse b → Rose mid.dev_faults new.dev_faults) → (IsTrue b → ⊥) → Rose mid.dev_faults new.dev_faults
     risen true up none = absurd (none refl)
     risen false up none = up refl
-
--- a track that breaks the grammar is read by no records
-pub broken_none : (image : List ℕ) (g : Geometry) (upto : Option ℕ) (track at : ℕ) → IsBroken image g upto track (BadCount at) → records_on image g upto track ≡ None
-unfolding records_on
-broken_none image g upto track at broken = broken.0

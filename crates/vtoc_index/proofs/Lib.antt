@@ -25,3 +25,5 @@ pub mod PutLaw
 pub mod ExtentLaw
 pub mod LawfulVolumes
 pub mod KeptLemmas
+pub mod KeptProps
+mod Cases

@@ -14,12 +14,12 @@ ghost use Rattle.vtoc_index.specs.Calls.{MountCall};
 ghost use Rattle.vtoc_index.specs.Index.{IsMounted, IsOfUnit, IsReason, run_of};
 ghost use Rattle.vtoc_index.specs.Reading.{AreNumbered, AreTracksRead, IsExtent, Refuses, vtoc_on};
 
-use crate::extent::extent_held;
 use crate::header::read_geometry;
 use crate::label::read_label;
 use crate::rules::dscbs_in;
 use crate::tracks::ReadSlots;
 use crate::vol::Vol;
+use crate::vtoc_extent::extent_held;
 use ckd_image::Geometry;
 use hall_core::Hall;
 use pack_spec::{Address, MountErr};

@@ -11,8 +11,8 @@ ghost use Rattle.vtoc_index.specs.Contents.{AreDscbs, AreRead, IsContent, IsRead
 ghost use Rattle.vtoc_index.specs.Rules.{dscb_in, is_f4, is_f5_or_f0};
 
 use crate::MountErr;
-use crate::extents::extents_fault;
-use crate::names::name_fault;
+use crate::equal_names::name_fault;
+use crate::set_extents::extents_fault;
 use crate::slots::ReadSlot;
 use ckd_image::Geometry;
 use dscb_codec::{Dscb, DscbErr};

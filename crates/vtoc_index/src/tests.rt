@@ -3,7 +3,7 @@ ghost use Rattle.std.specs.Prelude.{◌≡◌, [], IfOk};
 ghost use Rattle.hall_core.specs.Memory.{facts_of};
 
 use super::*;
-use ckd_image::{DiskType, Geometry};
+use ckd_image::{FRONT_LEN, HEADER_LEN};
 use dscb_codec::{Dscb, decode};
 use ebcdic_names::Dsn;
 use hall_core::{Call, Device, Hall, MemHall};
@@ -13,10 +13,7 @@ use vol_model::Run;
 
 mod packs;
 
-use packs::{
-    FRONT_LEN, HEADER_LEN, Patch, SERIAL, SLOT_LEN, TRACK_LEN, image_of, image_with_gaps, name,
-    set, vtoc,
-};
+use packs::{PACK, Patch, SERIAL, SLOT_LEN, TRACK_LEN, image_of, image_with_gaps, name, set, vtoc};
 
 // A number that no call has.
 const NONE: u64 = 99;
@@ -82,13 +79,8 @@ fn slot_named(vol: &Vol, bytes: [u8; 44]) -> Option<u32> {
 fn each_track_is_read_once(rt: HostRuntime) -> Result<(), Fail> {
     let mut hall = hall_with(rt.alloc(), &[], NONE)?;
     let vol = mount(rt.alloc(), &mut hall)?;
-    let pack = Geometry {
-        device: DiskType::D2311,
-        cylinders: 2,
-        track_size: TRACK_LEN as u32,
-    };
     assert_eq!(rt; vol.serial.bytes, SERIAL);
-    assert_eq!(rt; vol.geometry, pack);
+    assert_eq!(rt; vol.geometry, PACK);
     assert_eq!(rt; vol.vtoc, Run { start: 1, len: 2 });
     assert_eq!(rt; vol.slots.len(), 7);
     assert_eq!(rt; vol.firsts.as_slice(), [0u32, 4].as_slice());

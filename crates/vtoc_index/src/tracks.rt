@@ -5,8 +5,8 @@ ghost use Rattle.pack_spec.specs.Vtoc.{slots_in};
 ghost use Rattle.vtoc_index.specs.Contents.{IsRead};
 ghost use Rattle.vtoc_index.specs.Reading.{Adds};
 
-use crate::extent::slot_held;
 use crate::slots::ReadSlot;
+use crate::vtoc_extent::slot_held;
 use ckd_image::Geometry;
 use dscb_codec::decode;
 use pack_spec::layout::Slot;

@@ -167,33 +167,37 @@ pub(crate) fn headed(alloc: Global, magic: &[u8; 8], len: usize) -> Result<Vec<u
 }
 
 // A 2314 pack of 200 cylinders has 512 + 4000 * 7680 bytes, one more than the first of these.
+const HEADERS: &[(&[u8; 8], usize, &str)] = &[
+    (b"CKD_P370", 30_720_511, "BAD-LENGTH 30720511"),
+    (b"CKD_C370", 512, "COMPRESSED"),
+    (b"CKD_C370", 511, "BAD-MAGIC"),
+    (b"CKD_P370", 511, "BAD-MAGIC"),
+    (b"CKD_P371", 512, "BAD-MAGIC"),
+    (b"CKD_P370", 0, "BAD-MAGIC"),
+];
+
 #[test]
 fn headers_and_lengths_are_named(rt: HostRuntime) -> Result<(), Fail> {
-    for (magic, len, reason) in [
-        (b"CKD_P370", 30_720_511, "BAD-LENGTH 30720511"),
-        (b"CKD_C370", 512, "COMPRESSED"),
-        (b"CKD_C370", 511, "BAD-MAGIC"),
-        (b"CKD_P370", 511, "BAD-MAGIC"),
-        (b"CKD_P371", 512, "BAD-MAGIC"),
-        (b"CKD_P370", 0, "BAD-MAGIC"),
-    ] {
-        let image = headed(rt.alloc(), magic, len)?;
+    for (magic, len, reason) in HEADERS {
+        let image = headed(rt.alloc(), magic, *len)?;
         assert_refused(&rt, rt.alloc(), &image, reason)?;
     }
     Ok(())
 }
 
 // A byte of the header and what it is changed to; behind its mark the fields begin at 8, 12, 16 and 17.
+const HEADER_FAULTS: &[(usize, u8, &str)] = &[
+    (4, b'C', "COMPRESSED"),
+    (16, 0x50, "BAD-TYPE 80"),
+    (8, 11, "BAD-HEADS 11"),
+    (13, 0x11, "BAD-TRACK-SIZE 4352"),
+    (17, 2, "MULTI-FILE"),
+];
+
 #[test]
 fn each_fault_of_a_header_is_named(rt: HostRuntime) -> Result<(), Fail> {
-    for (at, byte, reason) in [
-        (4, b'C', "COMPRESSED"),
-        (16, 0x50, "BAD-TYPE 80"),
-        (8, 11, "BAD-HEADS 11"),
-        (13, 0x11, "BAD-TRACK-SIZE 4352"),
-        (17, 2, "MULTI-FILE"),
-    ] {
-        let image = small_pack(rt.alloc(), &[Image(at, byte)])?;
+    for (at, byte, reason) in HEADER_FAULTS {
+        let image = small_pack(rt.alloc(), &[Image(*at, *byte)])?;
         assert_refused(&rt, rt.alloc(), &image, reason)?;
         assert_alike(&rt, rt.alloc(), &image)?;
     }

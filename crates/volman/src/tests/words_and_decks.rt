@@ -97,18 +97,18 @@ fn words_ask_for_names_or_a_run_or_are_refused(rt: HostRuntime) -> Result<(), Fa
 }
 
 // A card of 46 columns.
-const CARD: &str = " RENAME DSNAME=A.B,VOL=2314=WORK01,NEWNAME=A.C";
+const CARD: &str = " RENAME DSNAME=P.Q,VOL=2314=PACK01,NEWNAME=P.R";
 
 // A card of 80 columns.
 const WHOLE: &str =
-    " RENAME DSNAME=ABCDEFGH.ABCDEFGH.AB,VOL=2314=WORK01,NEWNAME=ABCDEFGH.ABCDEFGH.AC";
+    " RENAME DSNAME=ABCDEFGH.ABCDEFGH.AB,VOL=2314=PACK01,NEWNAME=ABCDEFGH.ABCDEFGH.AC";
 
 // A card of 81 columns.
 const LONG: &str =
-    " RENAME DSNAME=ABCDEFGH.ABCDEFGH.AB,VOL=2314=WORK01,NEWNAME=ABCDEFGH.ABCDEFGH.ACD";
+    " RENAME DSNAME=ABCDEFGH.ABCDEFGH.AB,VOL=2314=PACK01,NEWNAME=ABCDEFGH.ABCDEFGH.ACD";
 
 // The names of the first two cards.
-const NAMES: (&str, &str) = ("A.B", "A.C");
+const NAMES: (&str, &str) = ("P.Q", "P.R");
 
 const WHOLE_NAMES: (&str, &str) = ("ABCDEFGH.ABCDEFGH.AB", "ABCDEFGH.ABCDEFGH.AC");
 
@@ -146,7 +146,7 @@ const DECKS: &[Deck] = &[
     ("", "\r\n", None, 0),
     (
         "\n",
-        " RENAME DSNAME=A.B,VOL=2314=WORK01,NEWNAME=A.C\n",
+        " RENAME DSNAME=P.Q,VOL=2314=PACK01,NEWNAME=P.R\n",
         None,
         0,
     ),
@@ -156,7 +156,7 @@ const DECKS: &[Deck] = &[
 fn statement(names: (&str, &str)) -> Option<Rename> {
     Some(Rename {
         old: Dsn::read(names.0).ok()?,
-        serial: Serial::read("WORK01").ok()?,
+        serial: Serial::read("PACK01").ok()?,
         new: Dsn::read(names.1).ok()?,
     })
 }

@@ -1,5 +1,6 @@
-use Rattle.std.proofs.Common.{List, ap}
+use Rattle.std.proofs.Common.{List, ap, inl, inr}
 use Rattle.hall_core.specs.Facts.{Attached, unit_of}
+use Rattle.vtoc_index.specs.declared.vol.Vol.{Vol}
 use Rattle.dadsm_ops.specs.Operations.{image_named}
 use Rattle.dadsm_ops.proofs.Writes.{put_fails, put_synced}
 use Rattle.dadsm_ops.proofs.through.put_through.Goals as goal
@@ -16,3 +17,9 @@ returns-clause-told g c told =
     let v = c.args.vol.now in
     let there = ap (λ (us : List Attached). image_named (g.H.Hall.meaning c.put_slot.new.hall).state (unit_of us v.unit).name) c.in_ok-put_slot.ensures.call.units in
     put_synced (g.H.Hall.facts hall).units v.unit v c.put_slot.new.vol c.args.slot c.args.dscb.now (g.H.Hall.meaning hall) (g.met.H.Hall.whole hall told) c.requires.unit.attached (c.requires.durable told) _ (c.in_ok-put_slot.ensures.told told) there (c.make_durable.ensures.told told)
+
+pub returns-in_err-put_slot-clause-slots : goal.returns-in_err-put_slot-clause-slots
+returns-in_err-put_slot-clause-slots g c = inl (ap (λ (v : Vol). v.slots.items) c.in_err-put_slot.ensures.index.failed.others)
+
+pub returns-clause-slots : goal.returns-clause-slots
+returns-clause-slots g c = inr c.in_ok-put_slot.ensures.index.done.items

@@ -4,7 +4,7 @@ use Rattle.std.specs.Option.{option_map}
 use Rattle.pack_spec.specs.Vtoc.{slots_on}
 use Rattle.pack_spec.specs.Slots.{addressed_from}
 use Rattle.pack_spec.specs.Views.{run_of}
-use Rattle.pack_spec.proofs.Extents.{length-slots_on}
+use Rattle.pack_spec.proofs.SlotCounts.{length-slots_on}
 use Rattle.pack_spec.proofs.TrackSlots.{PassedTracks-none, PassedTracks-more, PassedTracks-broken}
 use Rattle.pack_spec.proofs.addressed.slots_of_vtoc.Goals as goal
 

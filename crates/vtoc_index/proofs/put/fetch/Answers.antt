@@ -1,11 +1,9 @@
 use Rattle.std.proofs.Common.{subst, sym, Some}
 use Rattle.hall_core.specs.Files.{image_of}
 use Rattle.track_records.specs.Buffers.{Buffer}
-use Rattle.track_records.specs.Reads.{IsBroken}
 use Rattle.track_records.specs.Written.{StandsOn}
-use Rattle.track_records.specs.declared.error.TrackErr.{TrackErr}
-use Rattle.track_records.specs.declared.error.TrackErr.TheVariants as errors
-use Rattle.vtoc_index.proofs.HeldLemmas.{noted, slot_held, slot_unbroken, broken_none}
+use Rattle.vtoc_index.proofs.CallsMade.{broken_none}
+use Rattle.vtoc_index.proofs.HeldLemmas.{noted, slot_held, slot_unbroken}
 use Rattle.vtoc_index.proofs.put.fetch.Goals as goal
 
 pub returns-in-Ok-clause-stands : goal.returns-in-Ok-clause-stands
@@ -23,6 +21,4 @@ returns-in-Err-BadCount-clause-call g c =
     let image = image_of (g.H.Hall.meaning c.args.hall.now).state (g.H.Hall.facts c.args.hall.now) c.args.unit in
     noted was.units was.references was.prints was.later c.differs.ensures.call c.differs.ensures.rose
     (λ told.
-    let broken : IsBroken image c.args.buf.now.geometry (Some c.args.place.number) c.args.place.track (errors.BadCount c.in-Err-BadCount.field-0-0) =
-    subst (λ (e : TrackErr). IsBroken image c.args.buf.now.geometry (Some c.args.place.number) c.args.place.track e) c.in-Err-BadCount.field-0-is (c.in-Err-BadCount.ensures.broken told) in
-    slot_unbroken image c.args.buf.now.geometry c.args.place.track c.args.place.number (c.requires.there told) (broken_none image c.args.buf.now.geometry (Some c.args.place.number) c.args.place.track c.in-Err-BadCount.field-0-0 broken))
+    slot_unbroken image c.args.buf.now.geometry c.args.place.track c.args.place.number (c.requires.there told) (broken_none image c.args.buf.now.geometry (Some c.args.place.number) c.args.place.track _ c.in-Err-BadCount.field-0-0 c.in-Err-BadCount.field-0-is (c.in-Err-BadCount.ensures.broken told)))

@@ -1,5 +1,5 @@
 use Rattle.std.proofs.Common.{ap, ◌∙◌, Err}
-use Rattle.volman.proofs.Machines.{applies_zero, applies_done, applies_elsewhere, applies_fault, applies_refused, keeps_promise, kept_at, promises_at, stays_idle}
+use Rattle.volman.proofs.Machines.{applies_zero, applies_done, applies_elsewhere, applies_fault, applies_refused, keeps_promise, kept_at, promises_at, puts_failed, stays_idle}
 use Rattle.vtoc_index.proofs.KeptLemmas.{mounted_of}
 use Rattle.volman.proofs.machine.PackMachine.rename.Goals as goal
 
@@ -23,7 +23,7 @@ returns-in-Ok-clause-shelf g c told =
 
 pub returns-in-Ok-clause-promise : goal.returns-in-Ok-clause-promise
 returns-in-Ok-clause-promise g c told =
-    promises_at _ _ c.args.self.now.vol c.rename.new.vol c.rename.ensures.call.units c.rename.ensures.index (g.H.Hall.meaning c.args.self.now.hall) (g.H.Hall.meaning c.rename.new.hall) (keeps_promise (g.met.H.Hall.counts_now c.args.self.now.hall) (g.met.H.Hall.leaves_state c.args.self.now.hall) (c.rename.ensures.told told))
+    promises_at _ _ c.args.self.now.vol c.rename.new.vol c.rename.ensures.call.units c.rename.ensures.index (g.H.Hall.meaning c.args.self.now.hall) (g.H.Hall.meaning c.rename.new.hall) (keeps_promise (g.met.H.Hall.counts_now c.args.self.now.hall) (g.met.H.Hall.leaves_state c.args.self.now.hall) (mounted_of _ _ (c.args.self.now.kept c.requires.sound told)) (c.in-Ok.ensures.written told) (c.rename.ensures.told told))
 
 pub returns-in-Err-Refused-clause-shelf : goal.returns-in-Err-Refused-clause-shelf
 returns-in-Err-Refused-clause-shelf g c told =
@@ -36,7 +36,7 @@ returns-in-Err-Device-clause-shelf g c told =
 
 pub returns-in-Err-Device-clause-promise : goal.returns-in-Err-Device-clause-promise
 returns-in-Err-Device-clause-promise g c told =
-    promises_at _ _ c.args.self.now.vol c.rename.new.vol c.rename.ensures.call.units c.rename.ensures.index (g.H.Hall.meaning c.args.self.now.hall) (g.H.Hall.meaning c.rename.new.hall) (keeps_promise (g.met.H.Hall.counts_now c.args.self.now.hall) (g.met.H.Hall.leaves_state c.args.self.now.hall) (c.rename.ensures.told told))
+    promises_at _ _ c.args.self.now.vol c.rename.new.vol c.rename.ensures.call.units c.rename.ensures.index (g.H.Hall.meaning c.args.self.now.hall) (g.H.Hall.meaning c.rename.new.hall) (keeps_promise (g.met.H.Hall.counts_now c.args.self.now.hall) (g.met.H.Hall.leaves_state c.args.self.now.hall) (mounted_of _ _ (c.args.self.now.kept c.requires.sound told)) (puts_failed c.in-Err-Device.field-0 c.in-Err-Device.field-0-is (c.in-Err-Device.ensures.written told)) (c.rename.ensures.told told))
 
 pub returns-in-Ok-clause-stays : goal.returns-in-Ok-clause-stays
 returns-in-Ok-clause-stays g c told =

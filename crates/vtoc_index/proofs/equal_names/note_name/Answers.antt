@@ -5,7 +5,7 @@ use Rattle.std.specs.Cmp.Lexicographic.{slice_cmp}
 use Rattle.std.specs.Ordering.{nat_cmp}
 use Rattle.std.proofs.lemmas.Map.Text.{is_eq-slice_cmp}
 use Rattle.vtoc_index.proofs.NameFaults.{named_by}
-use Rattle.vtoc_index.proofs.names.note_name.Goals as goal
+use Rattle.vtoc_index.proofs.equal_names.note_name.Goals as goal
 
 pub returns-in_ok-insert-in-Some-clause-noted : goal.returns-in_ok-insert-in-Some-clause-noted
 returns-in_ok-insert-in-Some-clause-noted c same name =

@@ -11,7 +11,7 @@ use Rattle.pack_spec.specs.Faults.{name_fault, name_faults}
 use Rattle.vtoc_index.proofs.FaultWalks.{first_from-end, first_from-none, first_from-some, no_slot}
 use Rattle.vtoc_index.proofs.NameFaults.{lowest-more, name_fault-is}
 use Rattle.vtoc_index.proofs.ReadSlots.{length-read, read_at}
-use Rattle.vtoc_index.proofs.names.name_fault.Goals as goal
+use Rattle.vtoc_index.proofs.equal_names.name_fault.Goals as goal
 
 pub loop-index-init : goal.loop-index-init
 unfolding name_faults

@@ -2,7 +2,7 @@
 use Rattle.std.proofs.Common.{take, sym, ◌∙◌}
 use Rattle.vtoc_index.proofs.ReadSlots.{read_take}
 use Rattle.vtoc_index.proofs.ExtentFaults.{chain-is, extents-is, types-is, fault-types, fault-extents, fault-chain}
-use Rattle.vtoc_index.proofs.extents.extents_fault.Goals as goal
+use Rattle.vtoc_index.proofs.set_extents.extents_fault.Goals as goal
 
 pub returns-then-not-has_types-clause-first : goal.returns-then-not-has_types-clause-first
 returns-then-not-has_types-clause-first c given bytes are has =

@@ -9,7 +9,7 @@ use Rattle.pack_spec.specs.Faults.{name_fault, name_faults}
 use Rattle.vtoc_index.specs.Contents.{AreRead}
 use Rattle.vtoc_index.specs.Rules.{is_named_content}
 use Rattle.vtoc_index.proofs.FaultWalks.{first_from}
-use Rattle.vtoc_index.proofs.names.name_fault.Given as goal
+use Rattle.vtoc_index.proofs.equal_names.name_fault.Given as goal
 
 abbrev pub invariant-loop-index : goal.invariant-loop-index
 invariant-loop-index l = record {

@@ -1,0 +1,201 @@
+-- What calls may do to what a hall means, on cases at which near readings of the definitions say otherwise.
+use Rattle.std.proofs.Common.{◌≡◌, ◌⊎◌, ⊎_elim, inl, inr, ℕ, List, [], ◌∷◌, ◌++◌, ◌∙◌, length, get_or, refl, ap, arith, lit≤}
+use Rattle.std.specs.Prelude.{Ok, Err, Result}
+use Rattle.hall_core.specs.declared.hall.HallErr.{HallErr}
+use Rattle.hall_core.specs.declared.hall.HallErr.TheVariants.{Missing, Failed, Memory}
+use Rattle.hall_core.specs.Cards.{GivesNext}
+use Rattle.hall_core.specs.Files.{File, patched, written, Attaches, IsPending, AfterWrite, AfterSync, AfterPrint, untold}
+use Rattle.hall_core.specs.History.{wrote, synced, printed, passed, with_write, with_writes, meaning_after}
+use Rattle.hall_core.specs.HistoryLaws.{nothing_kept}
+use Rattle.hall_core.specs.Moments.{Meaning}
+use Rattle.hall_core.proofs.CallLemmas.{same_passed, write_done, write_failed, write_lacking, sync_done, sync_failed, print_done, print_failed}
+use Rattle.hall_core.proofs.HistoryCases.{files, first_byte, second_byte, nine, failed}
+
+-- the answer of a call that gives nothing
+abbrev Answer : Type 0
+Answer = Result (Unit {0}) HallErr
+
+abbrev done : Answer
+done = Ok tt
+
+abbrev fails : Answer
+fails = Err Failed
+
+-- what is meant at first; behind a call that did nothing, a write, a write and a sync, a write and a sync that failed, a print, and a print of its first byte
+abbrev pub at_first : Meaning (List File)
+at_first = meaning_after files []
+
+abbrev pub behind_none : Meaning (List File)
+behind_none = meaning_after files (passed ∷ [])
+
+abbrev pub behind_write : Meaning (List File)
+behind_write = meaning_after files (wrote nine ∷ [])
+
+abbrev pub behind_sync : Meaning (List File)
+behind_sync = meaning_after files (wrote nine ∷ synced ∷ [])
+
+abbrev behind_failed_sync : Meaning (List File)
+behind_failed_sync = meaning_after files (wrote nine ∷ passed ∷ [])
+
+abbrev pub ab : List ℕ
+ab = 97 ∷ 98 ∷ []
+
+abbrev pub behind_print : Meaning (List File)
+behind_print = meaning_after files (printed ab ∷ [])
+
+abbrev behind_half : Meaning (List File)
+behind_half = meaning_after files (printed (97 ∷ []) ∷ [])
+
+-- the files with the write aren't those without it
+pub differ : ¬ files ≡ with_write files nine
+unfolding written patched
+differ same = let tail : 2 ≡ 9 = ap second_byte same in absurd (omega (arith, tail))
+
+-- and they are all that is left behind the sync, as those without it are at first
+pub left_at_first : (j : List File) → at_first.left j → j ≡ files
+left_at_first j left = left.1 ∙ ap (with_writes files) (nothing_kept left.0)
+
+pub left_behind_sync : (j : List File) → behind_sync.left j → j ≡ with_write files nine
+left_behind_sync j left = left.1 ∙ ap (with_writes (with_write files nine)) (nothing_kept left.0)
+
+pub files_behind_write : behind_write.left files
+files_behind_write = ([], refl)
+
+-- a write is done and pending, failed and pending, or failed and not begun
+pub write_is_done : AfterWrite nine.name 1 (9 ∷ []) at_first behind_write done
+write_is_done = write_done files [] nine refl
+
+write_fails : AfterWrite failed.name 0 (8 ∷ []) at_first (meaning_after files (wrote failed ∷ [])) fails
+write_fails = write_failed files [] failed refl Failed
+
+write_begins_not : AfterWrite nine.name 1 (9 ∷ []) at_first at_first fails
+write_begins_not = write_lacking files [] nine.name 1 (9 ∷ []) Failed
+
+-- one that is done isn't left out of what is read
+write_does_nothing : ¬ AfterWrite nine.name 1 (9 ∷ []) at_first behind_none done
+write_does_nothing write = differ write.done
+
+-- nor is it elsewhere
+write_goes_elsewhere : ¬ AfterWrite nine.name 0 (9 ∷ []) at_first behind_write done
+unfolding written patched
+write_goes_elsewhere write = let tail : 9 ≡ 2 = ap second_byte write.done in absurd (omega (arith, tail))
+
+-- nor there and elsewhere too
+write_goes_there_and_elsewhere : ¬ AfterWrite nine.name 1 (9 ∷ []) at_first (meaning_after files (wrote nine ∷ wrote (record nine { at = 0 }) ∷ [])) done
+unfolding written patched
+write_goes_there_and_elsewhere write = let head : 9 ≡ 1 = ap first_byte write.done in absurd (omega (arith, head))
+
+-- nor durable at once: a stop may still leave it out
+write_is_durable : ¬ AfterWrite nine.name 1 (9 ∷ []) at_first behind_sync done
+write_is_durable write = ⊎_elim
+    (λ (pending : IsPending nine.name 1 (9 ∷ []) at_first behind_sync). absurd (differ (left_behind_sync files ((pending files).1 (files, ([], refl), inl refl)))))
+    (λ absent. absurd (cc absent.0))
+    write.pending
+
+-- and it takes time
+write_takes_no_time : ¬ AfterWrite nine.name 1 (9 ∷ []) at_first (record behind_write { clock = 0 }) done
+write_takes_no_time write = absurd (omega (arith, write.ticks))
+
+-- one that failed may be left, or else nothing is
+write_failed_is_durable : ¬ AfterWrite nine.name 1 (9 ∷ []) at_first behind_sync fails
+write_failed_is_durable write = ⊎_elim
+    (λ (pending : IsPending nine.name 1 (9 ∷ []) at_first behind_sync). absurd (differ (left_behind_sync files ((pending files).1 (files, ([], refl), inl refl)))))
+    (λ absent. absurd (differ (left_behind_sync files ((absent.1 files).1 ([], refl)))))
+    write.pending
+
+-- a sync that is done leaves no write pending, and one that failed leaves them so
+pub sync_is_done : AfterSync behind_write behind_sync done
+sync_is_done = sync_done files (wrote nine ∷ [])
+
+sync_fails : AfterSync behind_write behind_failed_sync fails
+sync_fails = sync_failed files (wrote nine ∷ []) Failed
+
+sync_leaves_it_pending : ¬ AfterSync behind_write behind_failed_sync done
+unfolding written patched
+sync_leaves_it_pending sync = differ (sync.done files ([], refl))
+
+sync_failed_is_durable : ¬ AfterSync behind_write behind_sync fails
+sync_failed_is_durable sync = differ (left_behind_sync files ((sync.failed files).1 files_behind_write))
+
+sync_undoes_it : ¬ AfterSync behind_write (meaning_after files (synced ∷ [])) done
+sync_undoes_it sync = differ sync.state
+
+-- a print that is done printed all, one that failed a prefix; and a stop in it leaves each prefix of what was printed
+pub print_is_done : AfterPrint ab at_first behind_print done
+print_is_done = print_done files [] ab
+
+print_fails : AfterPrint ab at_first behind_none fails
+print_fails = print_failed files [] ab Failed
+
+print_fails_within : AfterPrint ab at_first behind_half fails
+print_fails_within =
+    let half = print_done files [] (97 ∷ []) in
+    record { state = half.state; left = half.left; done = tt; prefix = (97 ∷ [], (98 ∷ [], refl), refl); ticks = tt; time = half.time }
+
+print_is_done_within : ¬ AfterPrint ab at_first behind_half done
+print_is_done_within print = let size : 1 ≡ 2 = ap length print.done in absurd (omega (arith, size))
+
+print_fails_with_other_bytes : ¬ AfterPrint ab at_first (meaning_after files (printed (98 ∷ []) ∷ [])) fails
+print_fails_with_other_bytes print =
+    let (q, (rest, whole), is) = print.prefix in
+    let head : 98 ≡ 97 = ap (λ (l : List ℕ). get_or l 0 0) (ap (λ (l : List ℕ). l ++ rest) is ∙ whole) in
+    absurd (omega (arith, head))
+
+print_writes : ¬ AfterPrint ab at_first (meaning_after files (wrote nine ∷ printed ab ∷ [])) done
+unfolding written patched
+print_writes print = let tail : 9 ≡ 2 = ap second_byte print.state in absurd (omega (arith, tail))
+
+print_is_not_stopped_within : ¬ AfterPrint ab at_first (record behind_print { left_since = λ t j p. (p ≡ []) ⊎ (p ≡ ab) }) done
+print_is_not_stopped_within print = ⊎_elim
+    (λ (is : 97 ∷ [] ≡ []). absurd (cc is))
+    (λ (is : 97 ∷ [] ≡ ab). let size : 1 ≡ 2 = ap length is in absurd (omega (arith, size)))
+    ((print.time.since 0 files (97 ∷ []) (lit≤ tt)).1 (inr (([], refl), ((97 ∷ [], refl), (98 ∷ [], refl)))))
+
+-- an attachment is done only where the file is there, and reported missing only where it isn't; memory that is wanting takes no time
+attach_is_done : Attaches nine.name at_first behind_none (Ok 0)
+attach_is_done = record { same = same_passed files []; there = (_, refl); missing = λ is. absurd (cc is); memory = λ is. absurd (cc is) }
+
+attach_is_missing : Attaches [] at_first behind_none (Err Missing)
+attach_is_missing = record { same = same_passed files []; there = tt; missing = λ is. refl; memory = λ is. absurd (cc is) }
+
+attach_of_none : ¬ Attaches [] at_first behind_none (Ok 0)
+attach_of_none attach = absurd (cc attach.there.1)
+
+attach_misses_it : ¬ Attaches nine.name at_first behind_none (Err Missing)
+attach_misses_it attach = absurd (cc (attach.missing refl))
+
+attach_takes_time : ¬ Attaches nine.name at_first behind_none (Err Memory)
+attach_takes_time attach = absurd (omega (arith, attach.memory refl))
+
+attach_writes : ¬ Attaches nine.name at_first behind_write (Ok 0)
+unfolding written patched
+attach_writes attach = let tail : 9 ≡ 2 = ap second_byte attach.same.state in absurd (omega (arith, tail))
+
+-- a hall that tells nothing may leave any files, and has printed nothing
+any_files_untold : untold.left_since 0 files []
+any_files_untold = refl
+
+no_text_untold : ¬ untold.left_since 0 files (97 ∷ [])
+no_text_untold left = absurd (cc left)
+
+-- a read of cards gives the next bytes, maybe fewer than there are, and none only at the end; one that failed takes none
+abbrev Gives : List ℕ → List ℕ → List ℕ → Result ℕ (Unit {0}) → Type 0
+Gives old new buf result = GivesNext old new buf result
+
+some_given : Gives (1 ∷ 2 ∷ 3 ∷ []) (3 ∷ []) (1 ∷ 2 ∷ 9 ∷ []) (Ok 2)
+some_given = record { next = refl; end = (λ none. absurd (omega (arith, none)), λ none. absurd (cc none)); failed = tt }
+
+end_given : Gives [] [] (9 ∷ []) (Ok 0)
+end_given = record { next = refl; end = (λ none. refl, λ none. refl); failed = tt }
+
+none_given_before_the_end : ¬ Gives (1 ∷ []) (1 ∷ []) (9 ∷ []) (Ok 0)
+none_given_before_the_end gives = absurd (cc (gives.end.0 refl))
+
+one_is_left_out : ¬ Gives (1 ∷ 2 ∷ 3 ∷ []) (3 ∷ []) (1 ∷ 9 ∷ []) (Ok 1)
+one_is_left_out gives = let size : 3 ≡ 2 = ap length gives.next in absurd (omega (arith, size))
+
+other_is_given : ¬ Gives (1 ∷ 2 ∷ []) (2 ∷ []) (2 ∷ []) (Ok 1)
+other_is_given gives = let head : 1 ≡ 2 = ap (λ (l : List ℕ). get_or l 0 0) gives.next in absurd (omega (arith, head))
+
+failure_takes_one : ¬ Gives (1 ∷ 2 ∷ []) (2 ∷ []) (1 ∷ []) (Err tt)
+failure_takes_one gives = let size : 1 ≡ 2 = ap length gives.failed in absurd (omega (arith, size))

@@ -1,0 +1,90 @@
+-- What a hall and cards in memory show of themselves, on cases at which near readings of the definitions say otherwise.
+use Rattle.std.proofs.Common.{◌≡◌, ◌-◌, ◌^◌, ⊎_elim, inl, inr, ℕ, zero, suc, List, [], ◌∷◌, ◌++◌, length, refl, sym, ◌∙◌, ap, subst, arith, length-append, lit<}
+use Rattle.std.specs.Prelude.{Ok, Err, Contains}
+use Rattle.hall_core.specs.declared.hall.HallErr.TheVariants.{Failed}
+use Rattle.hall_core.specs.declared.mem_hall.step.Call.TheVariants.{Sync}
+use Rattle.hall_core.specs.declared.mem_hall.MemHall.{MemHall}
+use Rattle.hall_core.specs.declared.mem_cards.MemCards.{MemCards}
+use Rattle.hall_core.specs.History.{synced}
+use Rattle.hall_core.specs.Memory.{calls_of, failing_calls, number_of_calls, calls_left, bytes_left, LacksRoom, HasRoom, NextCallFails, KeepsRoom, Records, IsExactCall}
+use Rattle.hall_core.specs.MemoryCards.{IsNextRead}
+
+-- room for one call, and for five bytes: five may be used, and not six
+module _ (hall : MemHall) (calls : calls_left hall ≡ 1) (bytes : bytes_left hall ≡ 5) where
+  room_for_five : HasRoom hall 5
+  room_for_five = record { calls = omega (arith, calls); bytes = omega (arith, bytes) }
+
+  room_for_six : ¬ HasRoom hall 6
+  room_for_six room = absurd (omega (arith, room.bytes, bytes))
+
+  five_are_lacking : ¬ LacksRoom hall 5
+  five_are_lacking lacks = ⊎_elim (λ none. absurd (omega (arith, none, calls))) (λ few. absurd (omega (arith, few, bytes))) lacks
+
+  six_are_lacking : LacksRoom hall 6
+  six_are_lacking = inr (omega (arith, bytes))
+
+-- with no call left not even a call without bytes has room
+module _ (hall : MemHall) (calls : calls_left hall ≡ 0) where
+  none_is_lacking : LacksRoom hall 0
+  none_is_lacking = inl calls
+
+  room_for_none : ¬ HasRoom hall 0
+  room_for_none room = absurd (omega (arith, room.calls, calls))
+
+-- a call fails by its number, which is that of the calls before it, in any order of the failing ones
+module _ (hall : MemHall) (failing : failing_calls hall ≡ 4 ∷ 2 ∷ []) where
+  second_call : number_of_calls hall ≡ 2 → NextCallFails hall
+  second_call number = subst (λ (l : List ℕ). Contains l (number_of_calls hall)) (sym failing) (subst (λ (n : ℕ). Contains {X = ℕ} (4 ∷ 2 ∷ []) n) (sym number) (1, lit< tt, refl))
+
+  third_call : number_of_calls hall ≡ 3 → ¬ NextCallFails hall
+  third_call number fails = of_three (subst (λ (n : ℕ). Contains {X = ℕ} (4 ∷ 2 ∷ []) n) number (subst (λ (l : List ℕ). Contains l (number_of_calls hall)) failing fails))
+    where
+      of_three : ¬ Contains {X = ℕ} (4 ∷ 2 ∷ []) 3
+      of_three (zero, low, is) = absurd (omega (arith, is))
+      of_three (suc zero, low, is) = absurd (omega (arith, is))
+      of_three (suc (suc k), low, is) = absurd (omega arith)
+
+-- a call uses one call of the room, and just its bytes
+module _ (old new : MemHall) (calls : calls_left old ≡ 3) (bytes : bytes_left old ≡ 5) where
+  uses_two_calls : calls_left new ≡ 1 → ¬ Records 2 Sync synced old new
+  uses_two_calls left records = absurd (omega (arith, records.room_calls, left, calls))
+
+  uses_no_bytes : bytes_left new ≡ 5 → ¬ Records 2 Sync synced old new
+  uses_no_bytes left records = absurd (omega (arith, records.room_bytes, left, bytes))
+
+  keeps_no_room : calls_left new ≡ 2 → ¬ KeepsRoom old new
+  keeps_no_room left keeps = absurd (omega (arith, keeps.calls, left, calls))
+
+-- one that has no room fails and uses none, and one with room whose number isn't to fail is done
+module _ (old new : MemHall) where
+  done_without_room : LacksRoom old 2 → ¬ IsExactCall {T = Unit {0}} 2 Sync synced old new (Ok tt)
+  done_without_room lacks exact = absurd (cc (exact.failed.1 (inl lacks)))
+
+  fails_for_nothing : ¬ LacksRoom old 2 → ¬ NextCallFails old → ¬ IsExactCall {T = Unit {0}} 2 Sync synced old new (Err Failed)
+  fails_for_nothing room number exact = ⊎_elim room number (exact.failed.0 refl)
+
+  is_on_the_record_without_room : LacksRoom old 2 → calls_of new ≡ calls_of old ++ Sync ∷ [] → ¬ IsExactCall {T = Unit {0}} 2 Sync synced old new (Err Failed)
+  is_on_the_record_without_room lacks more exact = absurd (let same = ap length (sym more ∙ (exact.lacking lacks).1.calls) in omega (arith, same, length-append (calls_of old) (Sync ∷ [])))
+
+-- a read of cards is counted, done or failed, and a fault where it failed; both counts stand still at their end
+module _ (cards : MemCards) where
+  abbrev at : ℕ → ℕ → MemCards
+  at number faults = record cards { next_call = number; faults = faults }
+
+  done : IsNextRead {T = ℕ} {E = Unit {0}} (at 3 1) (at 4 1) (Ok 7)
+  done = record { failing = refl; number = refl; failed = tt; done = refl }
+
+  failed : IsNextRead {T = ℕ} {E = Unit {0}} (at 3 1) (at 4 2) (Err tt)
+  failed = record { failing = refl; number = refl; failed = refl; done = tt }
+
+  at_the_end : IsNextRead {T = ℕ} {E = Unit {0}} (at (2 ^ 64 - 1) (2 ^ 64 - 1)) (at (2 ^ 64 - 1) (2 ^ 64 - 1)) (Err tt)
+  at_the_end = record { failing = refl; number = refl; failed = refl; done = tt }
+
+  before_the_end : IsNextRead {T = ℕ} {E = Unit {0}} (at (2 ^ 64 - 2) (2 ^ 64 - 2)) (at (2 ^ 64 - 1) (2 ^ 64 - 1)) (Err tt)
+  before_the_end = record { failing = refl; number = refl; failed = refl; done = tt }
+
+  failed_unnumbered : ¬ IsNextRead {T = ℕ} {E = Unit {0}} (at 3 1) (at 3 2) (Err tt)
+  failed_unnumbered next = let same : 3 ≡ 4 = next.number in absurd (omega (arith, same))
+
+  counted_though_done : ¬ IsNextRead {T = ℕ} {E = Unit {0}} (at 3 1) (at 4 2) (Ok 7)
+  counted_though_done next = let same : 2 ≡ 1 = next.done in absurd (omega (arith, same))

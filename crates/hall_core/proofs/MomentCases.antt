@@ -1,0 +1,234 @@
+-- Moments and steps, on cases at which near readings of the definitions say otherwise.
+use Rattle.std.proofs.Common.{◌≡◌, ◌⊎◌, ◌+◌, ◌-◌, ◌^◌, ⊎_elim, inl, inr, ℕ, List, [], ◌∷◌, ◌∙◌, length, refl, sym, ap, arith, lit≤, true, false}
+use Rattle.std.specs.Prelude.{Ok, Err, Result}
+use Rattle.hall_core.specs.declared.hall.HallErr.{HallErr}
+use Rattle.hall_core.specs.declared.hall.HallErr.TheVariants.{Failed}
+use Rattle.hall_core.specs.Example.{HasFirst, IsInOrder, WritesInOrder}
+use Rattle.hall_core.specs.Facts.{Facts}
+use Rattle.hall_core.specs.Files.{File, IsPrefixOf, patched, written}
+use Rattle.hall_core.specs.History.{Write, wrote, synced, printed, with_write, meaning_after}
+use Rattle.hall_core.specs.HistoryLaws.{since_now}
+use Rattle.hall_core.specs.Moments.{LeftNow, IsDurable, LeavesSame, ElapsesExactly, Elapses, Same}
+use Rattle.hall_core.specs.Steps.{seen, Leaves, IsBeforeOrAfter, StepTo, Stage, Exit, OutsideCalls}
+use Rattle.hall_core.proofs.CallLemmas.{same_passed}
+use Rattle.hall_core.proofs.MomentLemmas.{elapses_from_exactly}
+use Rattle.hall_core.proofs.StepLemmas.{write_leaves, write_then_sync}
+use Rattle.hall_core.proofs.StageLemmas.{begins, next, stops}
+use Rattle.hall_core.proofs.HistoryCases.{holds, files, first_byte, second_byte, nine, one_printed}
+use Rattle.hall_core.proofs.CallCases.{ab, at_first, behind_none, behind_write, behind_sync, behind_print, differ, left_at_first, left_behind_sync, files_behind_write, sync_is_done, write_is_done, print_is_done}
+
+-- the answer of a step
+abbrev Answer : Type 0
+Answer = Result (Unit {0}) HallErr
+
+abbrev done : Answer
+done = Ok tt
+
+abbrev fails : Answer
+fails = Err Failed
+
+write_left : behind_write.left (with_write files nine)
+write_left = (true ∷ [], refl)
+
+write_left_since : behind_write.left_since 0 (with_write files nine) []
+write_left_since = (1, lit≤ tt, lit≤ tt, record { files = (true ∷ [], refl); text = ([], ([], refl), refl) })
+
+-- now all is left that was printed, and no part of it
+now_nothing : LeftNow at_first files []
+now_nothing = (([], refl), refl)
+
+now_all : LeftNow behind_print files ab
+now_all = (([], refl), refl)
+
+now_a_part : ¬ LeftNow behind_print files (97 ∷ [])
+now_a_part now = let size : 1 ≡ 2 = ap length now.1 in absurd (omega (arith, size))
+
+-- a state is durable where no write is pending
+durable_at_first : IsDurable at_first
+durable_at_first = left_at_first
+
+durable_behind_sync : IsDurable behind_sync
+durable_behind_sync = left_behind_sync
+
+durable_behind_write : ¬ IsDurable behind_write
+durable_behind_write durable = differ (durable files files_behind_write)
+
+-- the same is left after a call that did nothing; less or more is another thing
+leaves_same : LeavesSame at_first behind_none
+leaves_same = (same_passed files []).left
+
+leaves_more : ¬ LeavesSame at_first behind_write
+leaves_more same = differ (sym (left_at_first (with_write files nine) ((same (with_write files nine)).0 write_left)))
+
+leaves_less : ¬ LeavesSame behind_write behind_sync
+leaves_less same = differ (left_behind_sync files ((same files).1 files_behind_write))
+
+-- a call that did nothing takes time and changes nothing else
+nothing_done : Same at_first behind_none
+nothing_done = same_passed files []
+
+something_done : ¬ Same at_first behind_write
+something_done same = differ (sym same.state)
+
+-- to what stops left comes what has P: each prefix that a stop in a print leaves, and not the text before it alone
+prints_in_time : Elapses at_first behind_print (λ j p. IsPrefixOf p ab)
+prints_in_time = elapses_from_exactly print_is_done.time (λ j p left. left.1.1)
+
+none_since : (j : List File) (p : List ℕ) → at_first.left_since 0 j p → p ≡ []
+none_since j p left = (since_now files [] j p left).1
+
+print_is_forgotten : ¬ Elapses at_first behind_print (LeftNow at_first)
+print_is_forgotten time = ⊎_elim
+    (λ before. absurd (cc (none_since files (97 ∷ []) before)))
+    (λ now. absurd (cc now.1))
+    (time.moments 0 files (97 ∷ []) (lit≤ tt) (0, lit≤ tt, lit≤ tt, one_printed))
+
+-- what they left isn't lost, and time doesn't go back
+left_is_lost : (P : List File → List ℕ → Type 0) → ¬ Elapses at_first (record behind_none { left_since = λ t j p. ⊥ }) P
+left_is_lost P time = time.keeps 0 files [] (lit≤ tt) (0, lit≤ tt, lit≤ tt, record { files = ([], refl); text = ([], ([], refl), refl) })
+
+time_goes_back : (P : List File → List ℕ → Type 0) → ¬ Elapses behind_write at_first P
+time_goes_back P time = absurd (omega (arith, time.later))
+
+-- where it is said exactly, all that has P comes to it
+more_than_comes : ¬ ElapsesExactly at_first behind_none (λ j p. p ≡ ab)
+more_than_comes time = ⊎_elim
+    (λ before. absurd (cc (none_since files ab before)))
+    (λ now. absurd (cc now.1))
+    (((same_passed files []).time.since 0 files ab (lit≤ tt)).0 ((time.since 0 files ab (lit≤ tt)).1 (inr refl)))
+
+-- what is seen is durable where no pending write changes it
+first_byte_durable : IsDurable (seen first_byte behind_write)
+unfolding written patched
+first_byte_durable y (j, left, is) = sym is ∙ ⊎_elim (λ before. ap first_byte before) (λ after. ap first_byte after) (write_leaves durable_at_first write_is_done j left)
+
+second_byte_durable : ¬ IsDurable (seen second_byte behind_write)
+unfolding written patched
+second_byte_durable durable = let same : 2 ≡ 9 = durable 2 (files, files_behind_write, refl) in absurd (omega (arith, same))
+
+-- what a stop leaves has P, all of it, and with what was printed
+leaves_either : Leaves behind_write (λ j p. (j ≡ files) ⊎ (j ≡ with_write files nine))
+leaves_either j left = write_leaves durable_at_first write_is_done j left
+
+leaves_the_write : ¬ Leaves behind_write (λ j p. j ≡ with_write files nine)
+leaves_the_write leaves = differ (leaves files files_behind_write)
+
+leaves_the_text : Leaves behind_print (λ j p. p ≡ ab)
+leaves_the_text j left = refl
+
+-- the state before or the one after, and this text
+is_before : IsBeforeOrAfter {Y = ℕ} 2 9 ab 2 ab
+is_before = (inl refl, refl)
+
+is_after : IsBeforeOrAfter {Y = ℕ} 2 9 ab 9 ab
+is_after = (inr refl, refl)
+
+is_between : ¬ IsBeforeOrAfter {Y = ℕ} 2 9 ab 5 ab
+is_between is = ⊎_elim (λ before. absurd (omega (arith, before))) (λ after. absurd (omega (arith, after))) is.0
+
+has_other_text : ¬ IsBeforeOrAfter {Y = ℕ} 2 9 ab 2 []
+has_other_text is = absurd (cc is.1)
+
+-- a write and a sync are one step, and the write alone is none, since it isn't durable
+one_step : StepTo (λ j. j) (with_write files nine) at_first behind_sync done
+one_step = write_then_sync (λ j. j) durable_at_first write_is_done sync_is_done
+
+no_step : ¬ StepTo (λ j. j) (with_write files nine) at_first behind_write done
+no_step step = durable_behind_write step.done.1
+
+-- it goes where it says, prints nothing, and a stop in it leaves nothing else
+step_elsewhere : ¬ StepTo (λ j. j) files at_first behind_sync done
+step_elsewhere step = differ (sym step.done.0)
+
+step_prints : ¬ StepTo (λ j. j) files at_first behind_print done
+step_prints step = absurd (cc step.printed)
+
+step_leaves_more : ¬ StepTo (λ j. j) files at_first behind_write fails
+step_leaves_more step = ⊎_elim
+    (λ before. differ (sym (left_at_first _ (since_now files [] _ _ before).0)))
+    (λ left. ⊎_elim (λ before. differ (sym before)) (λ after. differ (sym after)) left.0)
+    (step.moments.moments 0 (with_write files nine) [] (lit≤ tt) write_left_since)
+
+-- how far a chain has come is known of what is durable, with the text that was printed
+abbrev InOrder : List File → List ℕ → Type 0
+InOrder j p = IsBeforeOrAfter files (with_write files nine) [] j p
+
+at_start : Stage (λ j. j) InOrder at_first at_first files []
+at_start = begins durable_at_first (inl refl, refl)
+
+at_end : Exit (λ j. j) InOrder at_first behind_sync (with_write files nine) [] done
+at_end = next at_start one_step refl (inr refl, refl)
+
+not_yet : ¬ Stage (λ j. j) InOrder at_first behind_write (with_write files nine) []
+not_yet stage = durable_behind_write stage.durable
+
+not_back : ¬ Stage (λ j. j) InOrder at_first behind_sync files []
+not_back stage = differ (sym stage.state)
+
+not_printed : ¬ Stage (λ j. j) InOrder at_first behind_sync (with_write files nine) ab
+not_printed stage = absurd (cc stage.printed)
+
+-- a chain that failed has come to nothing, and what its stops left is known
+failed_exit : Exit (λ j. j) InOrder at_first behind_sync files ab fails
+failed_exit = stops fails refl at_end.moments
+
+done_early : ¬ Exit (λ j. j) InOrder at_first behind_write (with_write files nine) [] done
+done_early exit = durable_behind_write exit.done.durable
+
+-- where calls of a device and of a printer failed, one count rose, and where they were done, none did
+abbrev counted : ℕ → ℕ → Facts
+counted dev print = record { units = []; references = []; dev_faults = dev; print_faults = print }
+
+either_rose : OutsideCalls (counted 3 5) (counted 3 6) fails
+either_rose = record { units = refl; references = refl; devices = lit≤ tt; prints = lit≤ tt; done = tt; failed = inr (lit≤ tt) }
+
+neither_rose : ¬ OutsideCalls (counted 3 5) (counted 3 5) fails
+neither_rose calls = ⊎_elim (λ dev. absurd (omega (arith, dev))) (λ print. absurd (omega (arith, print))) calls.failed
+
+both_at_the_end : OutsideCalls (counted (2 ^ 64 - 1) (2 ^ 64 - 1)) (counted (2 ^ 64 - 1) (2 ^ 64 - 1)) fails
+both_at_the_end = record { units = refl; references = refl; devices = lit≤ tt; prints = lit≤ tt; done = tt; failed = inl (lit≤ tt) }
+
+rose_though_done : ¬ OutsideCalls (counted 3 5) (counted 3 6) done
+rose_though_done calls = let same : 6 ≡ 5 = calls.done.1 in absurd (omega (arith, same))
+
+-- a byte of the line is printed only behind both writes, and the first one is there with the second
+line_behind_both : HasFirst 3 4 [] ab 4 (97 ∷ [])
+line_behind_both = inr (refl, (97 ∷ [], (98 ∷ [], refl), refl))
+
+line_behind_one : ¬ HasFirst 3 4 [] ab 3 (97 ∷ [])
+line_behind_one has = ⊎_elim (λ either. absurd (cc either.1)) (λ both. absurd (omega (arith, both.0))) has
+
+first_is_missing : ¬ HasFirst 3 4 [] ab 2 []
+first_is_missing has = ⊎_elim (λ either. ⊎_elim (λ once. absurd (omega (arith, once))) (λ twice. absurd (omega (arith, twice))) either.0) (λ both. absurd (omega (arith, both.0))) has
+
+before_both : IsInOrder second_byte (holds 1 2) (holds 1 3) (holds 1 4) [] ab (holds 1 2) []
+before_both = inl (inl refl, refl)
+
+line_before_both : ¬ IsInOrder second_byte (holds 1 2) (holds 1 3) (holds 1 4) [] ab (holds 1 2) (97 ∷ [])
+line_before_both is = ⊎_elim (λ early. absurd (cc early.1)) (λ has. ⊎_elim (λ either. absurd (cc either.1)) (λ both. let same : 2 ≡ 4 = both.0 in absurd (omega (arith, same))) has) is
+
+-- two writes with no sync between them aren't in order: a stop may leave the second one alone
+abbrev sum : List File → ℕ
+sum all = first_byte all + second_byte all
+
+abbrev five : Write
+five = record { name = 65 ∷ []; at = 0; bytes = 5 ∷ []; is_done = true }
+
+abbrev with_five : List File
+with_five = with_write files five
+
+second_alone : ¬ IsInOrder sum files with_five (with_write with_five nine) [] ab (holds 1 9) []
+unfolding written patched
+second_alone is = ⊎_elim
+    (λ early. ⊎_elim (λ none. let same : 10 ≡ 3 = none in absurd (omega (arith, same))) (λ once. let same : 10 ≡ 7 = once in absurd (omega (arith, same))) early.0)
+    (λ has. ⊎_elim
+    (λ either. ⊎_elim (λ once. let same : 10 ≡ 7 = once in absurd (omega (arith, same))) (λ twice. let same : 10 ≡ 14 = twice in absurd (omega (arith, same))) either.0)
+    (λ both. let same : 10 ≡ 14 = both.0 in absurd (omega (arith, same))) has)
+    is
+
+no_sync_between : ¬ WritesInOrder sum with_five (with_write with_five nine) ab at_first (meaning_after files (wrote five ∷ wrote nine ∷ synced ∷ printed ab ∷ [])) done
+unfolding written patched
+no_sync_between in_order = ⊎_elim
+    (λ before. let same : 9 ≡ 2 = ap second_byte (left_at_first (holds 1 9) (since_now files [] (holds 1 9) [] before).0) in absurd (omega (arith, same)))
+    (λ is. second_alone is)
+    (in_order.exit.moments.moments 0 (holds 1 9) [] (lit≤ tt) (2, lit≤ tt, lit≤ tt, record { files = (false ∷ true ∷ [], refl); text = ([], ([], refl), refl) }))

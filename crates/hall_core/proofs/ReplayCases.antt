@@ -1,0 +1,213 @@
+-- The record of a hall in memory, on cases at which near readings of the definitions give something else.
+use Rattle.std.proofs.Common.{◌≡◌, ◌<◌, ℕ, zero, suc, List, [], ◌∷◌, length, get_or, refl, ap, arith, lit<, lit≤, true, false}
+use Rattle.hall_core.specs.declared.mem_hall.step.Step.{Step}
+use Rattle.hall_core.specs.declared.mem_hall.step.Step.TheVariants.{Write, Sync, Print, Pass}
+use Rattle.hall_core.specs.Facts.{Attached, unit_of}
+use Rattle.hall_core.specs.Files.{File, patched, written}
+use Rattle.hall_core.specs.History.{wrote, synced, printed, passed, Write as Writing}
+use Rattle.hall_core.specs.Held.{IsFirst}
+use Rattle.hall_core.specs.Replay.{part, event_of, events_at, unit_written, units_needed, size_needed, pool_needed, text_needed, IsWithin, AreWithin, IsWritable, AreWritable, ArePrinted, IsReplay, writes_at, is_write, is_done_write, done_of, prints_at, disk_after, pending_place, IsPendingFrom}
+use Rattle.hall_core.proofs.ReplayLemmas.{pending_none, pending_more}
+use Rattle.hall_core.proofs.HistoryCases.{files, changed, second_byte}
+
+-- so many bytes from a start on: not up to a place; and what there is, where that is less
+part_within : part (11 ∷ 12 ∷ 13 ∷ 14 ∷ []) 2 1 ≡ 13 ∷ []
+part_within = refl
+
+part_past_the_end : part (11 ∷ 12 ∷ 13 ∷ 14 ∷ []) 3 2 ≡ 14 ∷ []
+part_past_the_end = refl
+
+abbrev units : List Attached
+units = record { name = 65 ∷ []; size = 2 } ∷ record { name = 66 ∷ []; size = 3 } ∷ []
+
+abbrev pool : List ℕ
+pool = 11 ∷ 12 ∷ 13 ∷ 14 ∷ []
+
+abbrev text : List ℕ
+text = 97 ∷ 98 ∷ 99 ∷ []
+
+-- the last two bytes of the last unit, which are the last two that were written
+abbrev last : Step
+last = Write 1 1 2 2 true
+
+abbrev failed : Step
+failed = Write 0 0 0 1 false
+
+abbrev of_last : Writing
+of_last = record { name = 66 ∷ []; at = 1; bytes = 13 ∷ 14 ∷ []; is_done = true }
+
+abbrev of_failed : Writing
+of_failed = record { name = 65 ∷ []; at = 0; bytes = 11 ∷ []; is_done = false }
+
+abbrev steps : List Step
+steps = failed ∷ Sync ∷ Print 1 2 ∷ Pass ∷ last ∷ Print 0 1 ∷ []
+
+-- a write has the bytes that were written, and a print those printed; and they stay in their order
+events : events_at units pool text steps ≡ wrote of_failed ∷ synced ∷ printed (98 ∷ 99 ∷ []) ∷ passed ∷ wrote of_last ∷ printed (97 ∷ []) ∷ []
+events = refl
+
+-- the place isn't that in the bytes written
+event : event_of units pool text last ≡ wrote of_last
+event = refl
+
+-- what a step needs: the unit, and not the offset; sizes that end behind the last byte
+unit_of_last : unit_written last ≡ 1
+unit_of_last = refl
+
+last_needs_units : units_needed last ≡ 2
+last_needs_units = refl
+
+last_needs_size : size_needed last ≡ 3
+last_needs_size = refl
+
+last_needs_pool : pool_needed last ≡ 4
+last_needs_pool = refl
+
+last_needs_no_text : text_needed last ≡ 0
+last_needs_no_text = refl
+
+print_needs_text : text_needed (Print 1 2) ≡ 3
+print_needs_text = refl
+
+print_needs_no_units : units_needed (Print 1 2) ≡ 0
+print_needs_no_units = refl
+
+print_needs_no_pool : pool_needed (Print 1 2) ≡ 0
+print_needs_no_pool = refl
+
+-- all of that may just be there, and not one less
+last_within : IsWithin units 4 0 last
+last_within = record { unit = lit≤ tt; size = lit≤ tt; from_pool = lit≤ tt; from_text = lit≤ tt }
+
+unit_is_wanting : ¬ IsWithin (record { name = 65 ∷ []; size = 9 } ∷ []) 4 0 last
+unit_is_wanting within = absurd (omega (arith, within.unit))
+
+size_is_wanting : ¬ IsWithin units 4 0 (Write 1 2 2 2 true)
+size_is_wanting within = absurd (omega (arith, within.size))
+
+pool_is_wanting : ¬ IsWithin units 3 9 last
+pool_is_wanting within = absurd (omega (arith, within.from_pool))
+
+text_is_wanting : ¬ IsWithin units 9 2 (Print 1 2)
+text_is_wanting within = absurd (omega (arith, within.from_text))
+
+last_writable : IsWritable units 4 last
+last_writable = record { unit = lit≤ tt; size = lit≤ tt; from_pool = lit≤ tt }
+
+unwritable : ¬ IsWritable units 3 last
+unwritable within = absurd (omega (arith, within.from_pool))
+
+-- the last step too
+all_within : AreWithin units 4 3 (failed ∷ last ∷ [])
+all_within zero low = record { unit = lit≤ tt; size = lit≤ tt; from_pool = lit≤ tt; from_text = lit≤ tt }
+all_within (suc zero) low = record { unit = lit≤ tt; size = lit≤ tt; from_pool = lit≤ tt; from_text = lit≤ tt }
+all_within (suc (suc k)) low = absurd (omega arith)
+
+last_not_within : ¬ AreWithin units 3 3 (failed ∷ last ∷ [])
+last_not_within within = pool_is_wanting_of (within 1 (lit< tt))
+  where
+    pool_is_wanting_of : ¬ IsWithin units 3 3 last
+    pool_is_wanting_of within = absurd (omega (arith, within.from_pool))
+
+last_not_writable : ¬ AreWritable units 3 (failed ∷ last ∷ [])
+last_not_writable within = unwritable (within 1 (lit< tt))
+
+-- bytes that a write needs aren't asked of what was printed
+all_printed : ArePrinted 3 (last ∷ Print 1 2 ∷ [])
+all_printed zero low = lit≤ tt
+all_printed (suc zero) low = lit≤ tt
+all_printed (suc (suc k)) low = absurd (omega arith)
+
+last_not_printed : ¬ ArePrinted 2 (last ∷ Print 1 2 ∷ [])
+last_not_printed all = let needed = all 1 (lit< tt) in absurd (omega (arith, needed))
+
+-- writes in their order, done and failed; of these those that were done
+writes : writes_at units pool steps ≡ of_failed ∷ of_last ∷ []
+writes = refl
+
+done : done_of (of_failed ∷ of_last ∷ []) ≡ of_last ∷ []
+done = refl
+
+failed_is_a_write : is_write failed ≡ true
+failed_is_a_write = refl
+
+failed_is_not_done : is_done_write failed ≡ false
+failed_is_not_done = refl
+
+last_is_done : is_done_write last ≡ true
+last_is_done = refl
+
+print_is_no_write : is_write (Print 1 2) ≡ false
+print_is_no_write = refl
+
+-- prints in their order
+prints : prints_at text steps ≡ 98 ∷ 99 ∷ 97 ∷ []
+prints = refl
+
+-- pending is what stands behind the last sync: the place behind that sync, and not its own
+sync_at_3 : pending_place Sync 3 1 ≡ 4
+sync_at_3 = refl
+
+write_at_3 : pending_place last 3 1 ≡ 1
+write_at_3 = refl
+
+print_at_3 : pending_place (Print 1 2) 3 1 ≡ 1
+print_at_3 = refl
+
+abbrev three : List Step
+three = failed ∷ Sync ∷ last ∷ []
+
+behind_sync : IsPendingFrom three 2
+behind_sync = pending_more (failed ∷ Sync ∷ []) 2 (pending_more (failed ∷ []) 0 (pending_more [] 0 pending_none failed) Sync) last
+
+abbrev no_files : List File
+no_files = []
+
+from_the_first : ¬ IsPendingFrom three 0
+from_the_first is = let size : 1 ≡ 2 = ap length (is.pending no_files units pool text) in absurd (omega (arith, size))
+
+from_the_end : ¬ IsPendingFrom three 3
+from_the_end is = let size : 1 ≡ 0 = ap length (is.pending no_files units pool text) in absurd (omega (arith, size))
+
+past_the_end : ¬ IsPendingFrom three 4
+past_the_end is = absurd (omega (arith, is.within))
+
+-- the disk after steps
+disk : disk_after files units pool text (Write 0 1 3 1 true ∷ failed ∷ Print 1 2 ∷ []) ≡ record {
+  stable = files;
+  files = record { name = 65 ∷ []; bytes = 1 ∷ 14 ∷ [] } ∷ [];
+  pending = record { name = 65 ∷ []; at = 1; bytes = 14 ∷ []; is_done = true } ∷ of_failed ∷ [];
+  text = 98 ∷ 99 ∷ [];
+}
+unfolding written patched
+disk = refl
+
+-- a record of a write and a print makes of the first files and no text the present ones
+only_file : (k : ℕ) → k < 1 → IsFirst (record { name = 65 ∷ []; size = 2 } ∷ []) (get_or (0 ∷ []) k 0)
+only_file zero low = record { inside = lit< tt; before = λ k low. absurd (omega arith) }
+only_file (suc k) low = absurd (omega arith)
+
+both_within : AreWithin (record { name = 65 ∷ []; size = 2 } ∷ []) 1 1 (Write 0 1 0 1 true ∷ Print 0 1 ∷ [])
+both_within zero low = record { unit = lit≤ tt; size = lit≤ tt; from_pool = lit≤ tt; from_text = lit≤ tt }
+both_within (suc zero) low = record { unit = lit≤ tt; size = lit≤ tt; from_pool = lit≤ tt; from_text = lit≤ tt }
+both_within (suc (suc k)) low = absurd (omega arith)
+
+replay : IsReplay files changed (0 ∷ []) (Write 0 1 0 1 true ∷ Print 0 1 ∷ []) (9 ∷ []) (97 ∷ [])
+unfolding written patched
+replay = record { shapes = refl; firsts = only_file; within = both_within; present = refl; printed = refl }
+
+-- a write that failed isn't in the present files, and one that was done is
+failed_is_read : ¬ IsReplay files changed (0 ∷ []) (Write 0 1 0 1 false ∷ Print 0 1 ∷ []) (9 ∷ []) (97 ∷ [])
+failed_is_read replay = let same : 2 ≡ 9 = ap second_byte replay.present in absurd (omega (arith, same))
+
+done_is_unread : ¬ IsReplay files files (0 ∷ []) (Write 0 1 0 1 true ∷ Print 0 1 ∷ []) (9 ∷ []) (97 ∷ [])
+unfolding written patched
+done_is_unread replay = let same : 9 ≡ 2 = ap second_byte replay.present in absurd (omega (arith, same))
+
+-- all that was printed is on the record
+print_is_off_the_record : ¬ IsReplay files changed (0 ∷ []) (Write 0 1 0 1 true ∷ []) (9 ∷ []) (97 ∷ [])
+print_is_off_the_record replay = absurd (cc replay.printed)
+
+-- a file has the size that it had
+size_changes : ¬ IsReplay files (record { name = 65 ∷ []; bytes = 1 ∷ [] } ∷ []) (0 ∷ []) [] [] []
+size_changes replay = let same : 2 ≡ 1 = ap (λ (shapes : List Attached). (unit_of shapes 0).size) replay.shapes in absurd (omega (arith, same))

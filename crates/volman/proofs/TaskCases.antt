@@ -1,0 +1,175 @@
+-- What is to be done, and what the program promises of it, on cases that a near reading of Task.antt, Mount.antt and Run.antt answers otherwise.
+use Rattle.std.proofs.Common.{◌≡◌, ◌≢◌, ◌≤◌, ℕ, true, false, List, [], ◌∷◌, length, codes, get_or, Some, None, inl, refl, sym, ap, subst, ◌∙◌, arith}
+use Rattle.std.proofs.lemmas.List.{append-nil}
+use Rattle.std.specs.Prelude.{Option, Result, Ok, Err}
+use Rattle.ebcdic_names.specs.CodePage.{ascii_of, code_page}
+use Rattle.ebcdic_names.specs.Names.{shown}
+use Rattle.hall_core.specs.Files.{File}
+use Rattle.pack_spec.specs.Volume.{volume_of}
+use Rattle.pack_spec.specs.declared.MountErr.{MountErr}
+use Rattle.pack_spec.specs.declared.MountErr.TheVariants as mount
+use Rattle.util_syntax.specs.Statement.{rename_of}
+use Rattle.util_syntax.specs.declared.statement.Rename.{Rename}
+use Rattle.vol_model.specs.declared.contents.DataSet.{DataSet}
+use Rattle.vol_model.specs.declared.contents.Volume.{Volume}
+use Rattle.vtoc_index.specs.Index.{IsMounted}
+use Rattle.vtoc_index.specs.declared.vol.Vol.{Vol}
+use Rattle.volman.specs.Deck.{deck_of}
+use Rattle.volman.specs.Lines.{deck_line, name_line, names_listing, reason_of, unit_line, words_line}
+use Rattle.volman.specs.Mount.{IsPackIn, RefusesFile}
+use Rattle.volman.specs.Run.{Does, Headline, code_of}
+use Rattle.volman.specs.Statement.{item_of}
+use Rattle.volman.specs.Task.{Task, Says, Works, names_task, statement_task, task_for, task_of}
+use Rattle.volman.specs.Words.{Names, Run}
+use Rattle.volman.specs.declared.status.Status.TheVariants as status
+use Rattle.volman.proofs.PrintCases.{before, printing, prints}
+use Rattle.volman.proofs.MomentCases.{at_rest, files}
+use Rattle.volman.proofs.Promised.{promised_with_0}
+use Rattle.volman.proofs.Reported.{HasOnly}
+use Rattle.pack_spec.proofs.Quantities.{AreBytes}
+use Rattle.vol_model.specs.Shelf.{has_set}
+
+abbrev w : List ℕ
+w = codes "w.img"
+
+-- a hall that has the file with this image, behind one of another name; `files` has another name alone
+abbrev with_image : List ℕ → List File
+with_image image = record { name = codes "x.img"; bytes = [] } ∷ record { name = codes "w.img"; bytes = image } ∷ []
+
+-- ---- what is to be done
+
+-- words come first: no deck and no file matters where they are refused
+words_first : (deck : Option Rename) (all : List File) → task_of None deck all ≡ Says 20 words_line
+unfolding task_of
+words_first deck all = refl
+
+-- then the deck: it is refused also where there is no such file
+deck_second : (all : List File) → task_of (Some (Run w)) None all ≡ Says 26 deck_line
+unfolding task_of
+deck_second all = refl
+
+-- the names need no deck
+names_without_deck : task_of (Some (Names w)) None files ≡ Says 21 (unit_line w mount.NoFile)
+unfolding task_of
+names_without_deck = refl
+
+-- then the file, by its whole name, before the statement
+file_third : (s : Rename) → task_of (Some (Run w)) (Some s) files ≡ Says 21 (unit_line w mount.NoFile)
+unfolding task_of
+file_third s = refl
+
+-- then its image
+image_fourth : (s : Rename) (image : List ℕ) (e : MountErr) → volume_of image ≡ Err e → task_of (Some (Run w)) (Some s) (with_image image) ≡ Says 21 (unit_line w e)
+unfolding task_of
+image_fourth s image e fails = ap (task_for w (statement_task w s)) fails
+
+-- and then the statement, on the shelf of that image alone
+statement_last : (s : Rename) (image : List ℕ) (volume : Volume) → volume_of image ≡ Ok volume → task_of (Some (Run w)) (Some s) (with_image image) ≡ Works w volume (item_of (record { volumes = volume ∷ [] }) s ∷ [])
+unfolding task_of
+statement_last s image volume stands = ap (task_for w (statement_task w s)) stands
+
+-- names are said with code 0, in the order of the volume, a line each without the blanks behind them
+names_said : (volume : Volume) (x y : DataSet) → names_task (record volume { sets = record x { name = record { bytes = 0xC1 ∷ 0x40 ∷ [] } } ∷ record y { name = record { bytes = 0xC1 ∷ 0x4B ∷ 0xC2 ∷ [] } } ∷ [] }) ≡ Says 0 (codes "A\nA.B\n")
+unfolding names_listing name_line shown ascii_of code_page
+names_said volume x y = refl
+
+-- the numbers of the statuses
+numbers : (code_of status.Done ≡ 0) × (code_of status.Words ≡ 20) × (code_of status.Unit ≡ 21) × (code_of status.Device ≡ 22) × (code_of status.Cards ≡ 23) × (code_of status.Print ≡ 24) × (code_of status.Memory ≡ 25) × (code_of status.Deck ≡ 26)
+numbers = (refl, refl, refl, refl, refl, refl, refl, refl)
+
+-- ---- what is found in a file
+
+-- a file that isn't there is no pack, whatever other files are
+no_pack : (v : Vol) → ¬ IsPackIn w files v
+no_pack v found = let wrong = found.there in absurd (cc)
+
+-- nor is one whose image doesn't mount
+broken_pack : (v : Vol) (image : List ℕ) (e : MountErr) → volume_of image ≡ Err e → ¬ IsPackIn w (with_image image) v
+broken_pack v image e fails found =
+    let here : ◌≡◌ {A = Option (List ℕ)} (Some image) (Some found.image) = found.there in
+    let same : image ≡ found.image = cc in
+    let wrong = sym fails ∙ ap volume_of same ∙ found.mounted.volume in
+    absurd (cc)
+
+-- one that mounts is, behind any other file
+pack_found : (v : Vol) (image : List ℕ) → IsMounted image v → IsPackIn w (with_image image) v
+pack_found v image mounted = record { image = image; there = refl; mounted = mounted }
+
+-- a missing file is refused for that
+missing_refused : RefusesFile w files mount.NoFile
+missing_refused = record { why = λ _ _ task. refl }
+
+-- and for nothing else, not for what another file lacks
+text_in : Task → List ℕ
+text_in (Says code text) = text
+text_in (Works file volume items) = []
+
+missing_for_another_cause : ¬ RefusesFile w files mount.NoLabel
+unfolding unit_line reason_of text_in
+missing_for_another_cause refuses = absurd (omega (arith, ap (λ (t : Task). length (text_in t)) (refuses.why (λ is. cc is) (λ is. cc is) (λ other. Says 0 []))))
+
+-- one that is there isn't missing
+present_not_missing : (volume : Volume) (image : List ℕ) → volume_of image ≡ Ok volume → ¬ RefusesFile w (with_image image) mount.NoFile
+present_not_missing volume image stands refuses =
+    let is = refuses.why (λ is. cc is) (λ is. cc is) (λ other. Says 0 []) in
+    let said : Says 0 [] ≡ Says 21 (unit_line w mount.NoFile) = sym (ap (task_for w (λ other. Says 0 [])) stands) ∙ is in
+    absurd (cc)
+
+-- one that breaks a rule is refused for that, and for no other
+broken_refused : (image : List ℕ) (e : MountErr) → volume_of image ≡ Err e → RefusesFile w (with_image image) e
+broken_refused image e fails = record { why = λ _ _ task. ap (task_for w task) fails }
+
+refused_for_another_rule : (image : List ℕ) → volume_of image ≡ Err mount.NoLabel → ¬ RefusesFile w (with_image image) mount.BadVtoc
+unfolding unit_line reason_of text_in
+refused_for_another_rule image fails refuses =
+    let is = refuses.why (λ is. cc is) (λ is. cc is) (λ other. Says 0 []) in
+    let letter : 78 ≡ 66 = ap (λ (t : Task). get_or (text_in t) 18 0) (sym (ap (task_for w (λ other. Says 0 [])) fails) ∙ is) in
+    absurd (omega (arith, letter))
+
+-- want of memory and a fault of the device tell nothing of the file
+nothing_told : (all : List File) → RefusesFile w all mount.Memory × RefusesFile w all mount.Device
+nothing_told all = (record { why = λ other. absurd (other refl) }, record { why = λ _ other. absurd (other refl) })
+
+-- ---- what the program promises
+
+-- Of a card that is no statement nothing but 26 is answered where the cards tell it, also where the file is missing.
+other_deck : ¬ Headline (Some (Run w)) true (codes "X") before (printing (unit_line w mount.NoFile) (unit_line w mount.NoFile)) 21
+unfolding task_of rename_of
+other_deck headline =
+    let is : headline.deck ≡ None = headline.given refl in
+    let does : Does (Says 26 deck_line) before (printing (unit_line w mount.NoFile) (unit_line w mount.NoFile)) 21 =
+    subst (λ (deck : Option Rename). Does (task_of (Some (Run w)) deck files) before (printing (unit_line w mount.NoFile) (unit_line w mount.NoFile)) 21) is headline.does in
+    absurd (omega (arith, (does.ends (inl (omega arith))).0))
+
+-- a text that was said whole
+said_whole : (code : ℕ) (text : List ℕ) → code ≢ 25 → Does (Says code text) before (printing text text) code
+said_whole code text ample = record { ends = λ final. (refl, refl); silent = λ is. absurd (ample is); stops = prints text text (text, ([], append-nil text), refl) }
+
+-- where they don't tell it, some deck was read, which may have been a statement
+untold_deck : (s : Rename) → Headline (Some (Run w)) false (codes "X") before (printing (unit_line w mount.NoFile) (unit_line w mount.NoFile)) 21
+unfolding task_of
+untold_deck s = record { deck = Some s; given = λ told. absurd (cc told); does = said_whole 21 (unit_line w mount.NoFile) (λ is. absurd (omega (arith, is))) }
+
+-- the names are said of no deck, whatever the cards hold
+names_of_no_deck : (input : List ℕ) → Headline (Some (Names w)) true input before (printing (unit_line w mount.NoFile) (unit_line w mount.NoFile)) 21
+unfolding task_of
+names_of_no_deck input = record { deck = deck_of input; given = λ told. refl; does = said_whole 21 (unit_line w mount.NoFile) (λ is. absurd (omega (arith, is))) }
+
+-- words that are refused end with 20, and not with a condition code or the status of a file
+words_refused : (input : List ℕ) → Headline None true input before (printing words_line words_line) 20
+unfolding task_of
+words_refused input = record { deck = deck_of input; given = λ told. refl; does = said_whole 20 words_line (λ is. absurd (omega (arith, is))) }
+
+words_with : (input text : List ℕ) (n : ℕ) → n ≤ 21 → n ≢ 20 → ¬ Headline None true input before (printing text text) n
+unfolding task_of
+words_with input text n final other headline = other (headline.does.ends (inl final)).0
+
+-- A code of 0 says that the data set has the new name: not where nothing was done.
+nothing_done : (s : Rename) (image input : List ℕ) (volume : Volume) → deck_of input ≡ Some s → AreBytes image → volume_of image ≡ Ok volume → HasOnly s.old.bytes s.new.bytes volume
+    → ¬ Headline (Some (Run w)) true input (at_rest (with_image image) [] 0) (at_rest (with_image image) [] 1) 0
+nothing_done s image input volume deck bytes stands names headline =
+    let now = promised_with_0 w image input s volume (at_rest (with_image image) [] 0) (at_rest (with_image image) [] 1) 0 deck refl bytes stands headline refl in
+    let same : ◌≡◌ {A = Result Volume MountErr} (Ok volume) (Ok now.0) = sym stands ∙ now.1 in
+    let is : volume ≡ now.0 = cc in
+    let wrong : true ≡ false = sym now.2.0 ∙ ap (λ (v : Volume). has_set v s.new.bytes) (sym is) ∙ names.1 in
+    absurd (cc)

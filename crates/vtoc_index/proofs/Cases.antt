@@ -1,0 +1,182 @@
+-- Definitions on cases at which near readings of them give something else.
+use Rattle.std.proofs.Common.{◌≡◌, ◌≢◌, ◌+◌, inl, inr, ℕ, List, [], ◌∷◌, ◌++◌, length, replicate, Some, None, refl, sym, ap, subst, ◌∙◌, arith}
+use Rattle.std.specs.Prelude.{Option, Ok, Err}
+use Rattle.std.specs.List.{range_with_len}
+use Rattle.ckd_image.specs.declared.device.DiskType.TheVariants.{D2311}
+use Rattle.ckd_image.specs.declared.header.Geometry.{Geometry}
+use Rattle.ckd_image.specs.declared.header.ImageErr.TheVariants.{BadMagic}
+use Rattle.ckd_image.specs.Header.{geometry_of, geometry_on}
+use Rattle.ckd_image.specs.Reading.{records_of, is_front}
+use Rattle.ckd_image.specs.Track.{Record}
+use Rattle.dscb_codec.specs.declared.Dscb.{Dscb}
+use Rattle.dscb_codec.specs.declared.Dscb.TheVariants as formats
+use Rattle.dscb_codec.specs.declared.DscbErr.TheVariants.{Unsupported, BadFormat}
+use Rattle.dscb_codec.specs.declared.F1.{F1}
+use Rattle.hall_core.specs.Facts.{Attached, Facts}
+use Rattle.pack_spec.specs.Label.{records_on, track_bytes}
+use Rattle.pack_spec.specs.Slots.{first_extents, slots_of_vtoc}
+use Rattle.pack_spec.specs.Vtoc.{slots_on}
+use Rattle.pack_spec.specs.Volume.{volume_of}
+use Rattle.pack_spec.specs.declared.MountErr.TheVariants.{Device, Image, Memory, NoLabel}
+use Rattle.pack_spec.specs.declared.addressed.VtocSlot.{VtocSlot}
+use Rattle.track_records.specs.Buffers.{Buffer}
+use Rattle.vtoc_index.specs.Calls.{MountCall}
+use Rattle.vtoc_index.specs.Contents.{AreDscbs, AreRead, IsContent, IsRead, with_bytes}
+use Rattle.vtoc_index.specs.Index.{AreFirsts, IsIndexOf, IsOfUnit, IsPut, IsReason, firsts_of, place_of_slot, run_of, slots_in_front, track_index}
+use Rattle.vtoc_index.specs.Kept.{IsKept}
+use Rattle.vtoc_index.specs.Puts.{HasSlot, IsHeld, IsReplaced, IsWith, SameBut}
+use Rattle.vtoc_index.specs.Reading.{Adds, AreNumbered, AreTracksRead, IsExtent, IsLabel, Refuses, Says, record_number, slot_of}
+use Rattle.vtoc_index.specs.Rules.{HasExtentsOf}
+use Rattle.vtoc_index.specs.declared.label.Label.{Label}
+use Rattle.vtoc_index.specs.declared.slots.ReadSlot.{ReadSlot}
+use Rattle.vtoc_index.specs.declared.tracks.ReadSlots.{ReadSlots}
+use Rattle.vtoc_index.specs.declared.vol.Vol.{Vol}
+
+-- lists of other lengths hold no slots of each other, whatever is in front
+read_lists_are_as_long : (x : ReadSlot) (s : VtocSlot) → AreRead [] [] × (¬ AreRead (x ∷ []) []) × (¬ AreRead [] (s ∷ [])) × (¬ AreRead (x ∷ x ∷ []) (s ∷ [])) × (¬ AreRead (x ∷ []) (s ∷ s ∷ []))
+read_lists_are_as_long x s = (tt, λ are. are, λ are. are, λ are. are.1, λ are. are.1)
+
+dscb_lists_are_as_long : (d : Dscb) (s : VtocSlot) → AreDscbs [] [] × (¬ AreDscbs (d ∷ []) []) × (¬ AreDscbs [] (s ∷ [])) × (¬ AreDscbs (d ∷ d ∷ []) (s ∷ [])) × (¬ AreDscbs (d ∷ []) (s ∷ s ∷ []))
+dscb_lists_are_as_long d s = (tt, λ are. are, λ are. are, λ are. are.1, λ are. are.1)
+
+index_is_as_long : (image : List ℕ) (v : Vol) (s : VtocSlot) → slots_of_vtoc image v.geometry (run_of v.vtoc) ≡ s ∷ [] → v.slots.items ≡ [] → (¬ IsIndexOf image v) × (¬ IsKept image v)
+index_is_as_long image v s stand held = (λ is. rw (held, stand) at is.slots, λ is. rw (held, stand) at is.slots)
+
+firsts_are_as_many : (image : List ℕ) (g : Geometry) (found : ReadSlots) (n : ℕ) → found.firsts.items ≡ n ∷ [] → ¬ AreTracksRead image g 1 2 found
+unfolding firsts_of
+firsts_are_as_many image g found n is read = let same = ap length (sym is ∙ read.firsts) in absurd (omega (arith, same))
+
+-- the slots of three tracks, of which one has none
+firsts : List ℕ
+firsts = 0 ∷ 4 ∷ 4 ∷ []
+
+are_firsts : AreFirsts 0 firsts 7
+unfolding firsts
+are_firsts = (refl, (4, omega arith, (refl, (0, omega arith, (refl, (3, omega arith, refl))))))
+
+-- numbers begin at 0 and go to the end, and a track has at most 255
+not_firsts : (¬ AreFirsts 0 (1 ∷ []) 7) × (¬ AreFirsts 0 [] 7) × (¬ AreFirsts 0 (0 ∷ []) 256)
+not_firsts = (λ are. omega (arith, are.0), λ are. omega (arith, are), λ are. omega (arith, are.1.1, are.1.2))
+
+-- a track without slots holds none
+tracks_are : (track_index firsts 3 ≡ 0) × (track_index firsts 4 ≡ 2) × (track_index firsts 6 ≡ 2) × (slots_in_front firsts 3 ≡ 3) × (slots_in_front firsts 4 ≡ 0) × (slots_in_front firsts 6 ≡ 2)
+unfolding firsts
+tracks_are = (refl, refl, refl, refl, refl, refl)
+
+-- 512, three tracks of 4096, 21, two slots of 148, and a count of eight
+place_is : (v : Vol) → v.geometry.track_size ≡ 4096 → v.vtoc.start ≡ 1 → v.firsts.items ≡ firsts → place_of_slot v 6 ≡ 13125
+unfolding firsts
+place_is v size start is = rw (size, start, is) refl
+
+-- one slot has other bytes, and keeps its address; past the last none has
+changed : (s t : VtocSlot) → (with_bytes 1 (9 ∷ []) (s ∷ t ∷ []) ≡ s ∷ record { address = t.address; bytes = 9 ∷ [] } ∷ []) × (with_bytes 2 (9 ∷ []) (s ∷ t ∷ []) ≡ s ∷ t ∷ [])
+changed s t = (refl, refl)
+
+-- zeros are a format 0, and no other bytes are; what is no DSCB has its reason
+contents :
+    IsContent (Ok formats.F0) (replicate 140 0)
+    × (¬ IsContent (Ok formats.F0) (replicate 139 0 ++ 1 ∷ []))
+    × IsContent (Err (BadFormat 0)) (replicate 139 0 ++ 1 ∷ [])
+    × (¬ IsContent (Err (Unsupported 0)) (replicate 139 0 ++ 1 ∷ []))
+contents = ((refl, refl, tt), λ is. cc, refl, λ is. cc)
+
+-- a slot was read from its own record
+read : (s : VtocSlot) → s.bytes ≡ replicate 140 0 → IsRead (record { address = s.address; content = Ok formats.F0 }) s
+read s is = record { address = refl; content = subst (IsContent (Ok formats.F0)) (sym is) contents.0 }
+
+-- want of memory and a fault of the device say nothing of the image, and another reason is its first
+reasons : (image : List ℕ) → IsReason image Memory × IsReason image Device
+reasons image = (tt, tt)
+
+reason_is_the_first : IsReason [] (Image BadMagic) × (¬ IsReason [] NoLabel)
+unfolding volume_of geometry_of geometry_on
+reason_is_the_first = (refl, λ is. cc)
+
+refuses : {X : Type 0} (x : X) → Refuses {X = X} (Err NoLabel) NoLabel × Refuses {X = X} (Ok x) Memory × Refuses {X = X} (Ok x) Device × (¬ Refuses {X = X} (Ok x) NoLabel)
+refuses x = (record { why = λ _ _. refl }, record { why = λ no _. absurd (no refl) }, record { why = λ _ no. absurd (no refl) }, λ is. let why = is.why (λ same. cc) (λ same. cc) in cc)
+
+-- the serial stands at 4, and the address behind it
+label : Label
+label = record { serial = record { bytes = 4 ∷ 5 ∷ 6 ∷ 7 ∷ 8 ∷ 9 ∷ [] }; vtoc = record { cylinder = 0x0B0C; head = 0x0D0E } }
+
+says : Says label (range_with_len 0 80) × IsLabel (Some (range_with_len 0 80)) label × (¬ IsLabel None label)
+unfolding label
+says = (record { serial = refl; vtoc = refl }, record { serial = refl; vtoc = refl }, λ is. is)
+
+-- a slot has both lengths, and a record that isn't there has none
+slot : ℕ → ℕ → Record
+slot keys datas = record { address = []; key = replicate keys 1; «data» = replicate datas 2 }
+
+slots : (slot_of (slot 44 96) ≡ Some (replicate 44 1 ++ replicate 96 2)) × (slot_of (slot 96 44) ≡ None) × (slot_of (slot 44 97) ≡ None) × (record_number (slot 44 96 ∷ slot 1 2 ∷ []) 1 ≡ slot 1 2) × (record_number (slot 1 2 ∷ []) 1 ≡ slot 0 0)
+unfolding slot
+slots = (refl, refl, refl, refl, refl)
+
+-- records of which one is no slot add none
+no_slots_added : (g : Geometry) (track : ℕ) (old new : List ReadSlot) → (¬ Adds g track (slot 44 96 ∷ slot 1 2 ∷ []) old new) × Adds g track [] [] []
+unfolding slot
+no_slots_added g track old new = (λ adds. let none = adds.are_slots in cc, record { bytes = []; slots = []; are_slots = refl; added = refl; read = tt })
+
+-- two cylinders of ten heads
+pack : Geometry
+pack = record { device = D2311; cylinders = 2; track_size = 4096 }
+
+-- the VTOC goes to the last track at most
+extents :
+    IsExtent pack (record { cylinder = 0; head = 1 }) (record { start = 1; len = 19 })
+    × (¬ IsExtent pack (record { cylinder = 0; head = 1 }) (record { start = 1; len = 20 }))
+    × (¬ IsExtent pack (record { cylinder = 0; head = 1 }) (record { start = 1; len = 0 }))
+    × (¬ IsExtent pack (record { cylinder = 0; head = 1 }) (record { start = 2; len = 1 }))
+    × IsExtent pack (record { cylinder = 1; head = 1 }) (record { start = 11; len = 1 })
+unfolding pack
+extents = (
+  record { begins = refl; some = omega arith; few = omega arith; inside = omega arith },
+  λ is. omega (arith, is.inside),
+  λ is. omega (arith, is.some),
+  λ is. omega (arith, is.begins),
+  record { begins = refl; some = omega arith; few = omega arith; inside = omega arith },
+)
+
+-- a track has a number, and at most 255 slots
+not_numbered : (found : ReadSlots) → length found.firsts.items ≡ 1 → length found.slots.items ≡ 256 → (¬ AreNumbered 2 found) × (¬ AreNumbered 1 found)
+not_numbered found tracks slots = (λ are. omega (arith, tracks, are.tracks), λ are. omega (arith, slots, are.few))
+
+-- the fields of a format 1 that lead to its extents
+extents_are : (f : F1) → HasExtentsOf f (range_with_len 0 140) → (f.extents ≡ 59) × (f.runs ≡ range_with_len 105 10 ∷ range_with_len 115 10 ∷ range_with_len 125 10 ∷ []) × (f.pointer ≡ 135 ∷ 136 ∷ 137 ∷ 138 ∷ 139 ∷ [])
+unfolding first_extents
+extents_are f has = (sym has.count, sym has.first, sym has.pointer)
+
+-- the index is one of a unit that is there, with a number for each track of the VTOC and at most 65,535 slots, and its buffer is of that unit
+not_of_unit : (u : Attached) (v : Vol) → (v.unit ≡ 1 → ¬ IsOfUnit (u ∷ []) v) × (v.unit ≡ 0 → v.buf.unit ≡ 1 → ¬ IsOfUnit (u ∷ []) v) × (v.vtoc.len ≡ 2 → length v.firsts.items ≡ 1 → ¬ IsOfUnit (u ∷ []) v) × (length v.slots.items ≡ 65536 → ¬ IsOfUnit (u ∷ []) v)
+not_of_unit u v = (λ unit is. omega (arith, unit, is.attached), λ unit buf is. omega (arith, unit, buf, is.buffer.1), λ len firsts is. omega (arith, len, firsts, is.tracks), λ slots is. omega (arith, slots, is.most))
+
+-- where one slot is put, the image keeps its length, and its header
+not_put : (v : Vol) (bytes image : List ℕ) → (¬ IsPut v 0 bytes image (0 ∷ image)) × (¬ IsPut v 0 bytes (0 ∷ image) (1 ∷ image))
+not_put v bytes image = (λ is. omega (arith, is.size), λ is. let header = is.header in cc)
+
+-- an image without tracks has no records
+nothing_read : (upto : Option ℕ) → records_on [] pack upto 0 ≡ None
+unfolding pack records_on track_bytes records_of is_front
+nothing_read upto = refl
+
+-- so a buffer with a record isn't one of it, and an empty one is
+not_held : (x : Record) → (¬ IsHeld [] (record { geometry = pack; unit = 0; track = 0; records = x ∷ [] })) × IsHeld [] (record { geometry = pack; unit = 0; track = 0; records = [] })
+not_held x = (λ is. elim is [ inl none ↦ cc | inr stands ↦ let some = sym (nothing_read stands.0) ∙ stands.1 in cc ], inl refl)
+
+-- the slots of a track are counted from 1
+has_slot : (image : List ℕ) (g : Geometry) (bytes : List ℕ) → slots_on image g 3 ≡ Some (bytes ∷ []) → HasSlot image g 3 1 × (¬ HasSlot image g 3 2)
+has_slot image g bytes is = (record { found = bytes ∷ []; slots = is; there = omega arith }, λ has. let found : has.found ≡ bytes ∷ [] = (let same = sym has.slots ∙ is in cc) in omega (arith, has.there, ap length found))
+
+-- the buffer alone may differ, and it stays that of its unit
+same_but : (v : Vol) (b : Buffer) → SameBut v v × (¬ SameBut v (record v { unit = v.unit + 1 }))
+same_but v b = (record { others = refl; geometry = refl; unit = refl }, λ same. let unit = ap (λ (w : Vol). w.unit) same.others in absurd (omega (arith, unit)))
+
+-- one slot has the DSCB, once it is put; after an error the index keeps what it held
+not_replaced : (v : Vol) (c d : Dscb) → v.slots.items ≡ c ∷ [] → c ≢ d → (¬ IsReplaced 0 d v v) × (¬ IsWith {T = Unit {0}} {E = Unit {0}} 0 d v v (Ok tt)) × IsWith {T = Unit {0}} {E = Unit {0}} 0 d v v (Err tt)
+not_replaced v c d is other = (λ replaced. old replaced, λ with. old with.done, record { done = tt; failed = (same_but v v.buf).0 })
+  where
+    old : ¬ IsReplaced 0 d v v
+    old replaced = let same = rw is at replaced.items in other cc
+
+-- a count stands still, unless a fault is answered
+not_called : (facts : Facts) → facts.dev_faults ≡ 3 → (¬ MountCall {T = ℕ} facts facts (Err Device)) × (¬ MountCall {T = ℕ} facts (record facts { dev_faults = 4 }) (Err NoLabel))
+not_called facts is = (λ call. let rose = call.device refl in absurd (omega (arith, is, rose)), λ call. let still = call.others (λ no. cc) in absurd (omega (arith, is, still)))
