@@ -1,4 +1,7 @@
 mod Cases
+mod HeaderCases
+mod TrackCases
+mod WritingCases
 pub mod Counts
 pub mod Front
 pub mod Patterns

@@ -24,7 +24,7 @@ pub fn push_front(bytes: &mut Vec<u8>, cylinder: u16, head: u16) -> Result<(), A
 
 /// Adds the record R = `number` of a track: its count, which names the track, its key and its data.
 ///
-/// On an error nothing is added.
+/// The key has at most 255 bytes, and the data 65,535. On an error nothing is added.
 pub fn push_record(
     bytes: &mut Vec<u8>,
     cylinder: u16,

@@ -5,6 +5,7 @@ pub mod Operating
 pub mod OperationCases
 pub mod Refusals
 pub mod RenameChains
+pub mod RenameSetCases
 pub mod RenamedImages
 pub mod RenamedSets
 pub mod RenamedSlots

@@ -19,7 +19,7 @@ use Rattle.vol_model.specs.declared.contents.Volume.{Volume}
 use Rattle.vol_model.specs.declared.refusals.Refusal.{Refusal}
 use Rattle.vol_model.specs.declared.refusals.Refusal.TheVariants.{NoSet, SetExists}
 use Rattle.vtoc_index.specs.Contents.{AreDscbs}
-use Rattle.vtoc_index.specs.Index.{IsMounted, run_of}
+use Rattle.vtoc_index.specs.Index.{IsMounted}
 use Rattle.vtoc_index.specs.declared.vol.Vol.{Vol}
 use Rattle.dadsm_ops.specs.Operations.{ChangesVtoc, DiffersInVtoc, StandsForEither, IsDone, Operates, StoreAnswers, image_named}
 use Rattle.dadsm_ops.proofs.SmallFiles.{Either, files, later, names_apart, other, other_byte, pack, resting}
@@ -72,10 +72,10 @@ module _ (image next : List ℕ) (volume after : Volume) (v : Vol) (mounted : Is
       apart (same ∙ sym next_same)
 
   -- the index has a slot as free in which something stands
-  done_has_an_index : (slot : VtocSlot) → v.slots.items ≡ formats.F0 ∷ [] → slots_of_vtoc next v.geometry (run_of v.vtoc) ≡ slot ∷ [] → is_zeros slot.bytes ≡ false → ¬ IsDone pack (Ok after) v (files 7 image) (resting (files 7 next))
+  done_has_an_index : (slot : VtocSlot) → v.slots.items ≡ formats.F0 ∷ [] → slots_of_vtoc next v.geometry v.vtoc ≡ slot ∷ [] → is_zeros slot.bytes ≡ false → ¬ IsDone pack (Ok after) v (files 7 image) (resting (files 7 next))
   done_has_an_index slot free one full is =
       let held : AreDscbs (formats.F0 ∷ []) (slot ∷ []) =
-      subst (λ (ss : List VtocSlot). AreDscbs (formats.F0 ∷ []) ss) one (subst (λ ds. AreDscbs ds (slots_of_vtoc next v.geometry (run_of v.vtoc))) free is.index.index.slots) in
+      subst (λ (ss : List VtocSlot). AreDscbs (formats.F0 ∷ []) ss) one (subst (λ ds. AreDscbs ds (slots_of_vtoc next v.geometry v.vtoc)) free is.index.index.slots) in
       let wrong = sym full ∙ held.0 in absurd (cc)
 
   -- another file is another

@@ -25,7 +25,7 @@ use Rattle.vol_model.specs.declared.refusals.Refusal.TheVariants.{NoSet, SetExis
 use Rattle.vol_model.specs.Shelf.{has_set, is_catalog, rename_on, rename_refusal, renamed, unless_refused}
 use Rattle.vtoc_index.specs.declared.vol.Vol.{Vol}
 use Rattle.vtoc_index.specs.Contents.{with_bytes}
-use Rattle.vtoc_index.specs.Index.{IsIndexOf, IsMounted, IsPut, run_of}
+use Rattle.vtoc_index.specs.Index.{IsIndexOf, IsMounted, IsPut}
 use Rattle.vtoc_index.specs.Puts.{IsHeld, IsReplaced}
 use Rattle.vtoc_index.proofs.ExtentLaw.{KeepsExtent, mounted_put}
 use Rattle.vtoc_index.proofs.FaultWalks.{no_slot}
@@ -40,11 +40,11 @@ use Rattle.dadsm_ops.proofs.RenamedSlots.{faults_alike, named_behind, named_once
 
 -- the slots of the VTOC of an image, by an index
 abbrev pub slots_on_image : List ℕ → Vol → List VtocSlot
-slots_on_image image v = slots_of_vtoc image v.geometry (run_of v.vtoc)
+slots_on_image image v = slots_of_vtoc image v.geometry v.vtoc
 
 -- the volume of an image, by an index
 abbrev pub volume_on_image : List ℕ → Vol → Volume
-volume_on_image image v = volume_with v.geometry (unwrap_or (label_of image v.geometry) []) (run_of v.vtoc) (slots_on_image image v)
+volume_on_image image v = volume_with v.geometry (unwrap_or (label_of image v.geometry) []) v.vtoc (slots_on_image image v)
 
 -- A data set of the old name stands in a slot, and none of the new name anywhere; neither name is the catalog's.
 pub record CanRename (image : List ℕ) (v : Vol) (old new : Dsn) (slot : ℕ) (f : F1) : Type 0 where
@@ -104,7 +104,7 @@ is_named_anew image v old new slot f bytes can size dscb =
       low = at.0;
       there = here;
       named = at.1;
-      written = bytes_renamed f new.bytes s.bytes bytes (slot_wide image v.geometry (run_of v.vtoc) slot s here) size (dscb_at v.slots.items slots slot (formats.F1 f) s can.mounted.index.slots can.set here) dscb;
+      written = bytes_renamed f new.bytes s.bytes bytes (slot_wide image v.geometry v.vtoc slot s here) size (dscb_at v.slots.items slots slot (formats.F1 f) s can.mounted.index.slots can.set here) dscb;
     }
 
 -- What the bytes that are put make of the slots.
@@ -167,7 +167,7 @@ unfolding rename_on rename_refusal outcome
 renamed_by image v old new volume is =
     let g : Geometry = v.geometry in
     let label : List ℕ = unwrap_or (label_of image g) [] in
-    let has : (name : List ℕ) → has_set volume name ≡ is_some (position (is_named name) (slots_on_image image v)) = λ name. ap (λ (x : Volume). has_set x name) is ∙ has_set_found g label (run_of v.vtoc) (slots_on_image image v) name in
+    let has : (name : List ℕ) → has_set volume name ≡ is_some (position (is_named name) (slots_on_image image v)) = λ name. ap (λ (x : Volume). has_set x name) is ∙ has_set_found g label v.vtoc (slots_on_image image v) name in
     let kept : Bool = is_catalog old.bytes || is_catalog new.bytes in
     let after : Volume = renamed volume old.bytes new in
     ap (λ (b : Bool). outcome b (has_set volume new.bytes) kept after) (has old.bytes)
@@ -183,9 +183,9 @@ rename_stands image put v old new slot f bytes volume can stands size dscb is =
     let read = rename_put image put v (index_then v slot d) old new slot f bytes can size dscb is (is_replaced v slot d) (inl refl) in
     let before : volume ≡ volume_on_image image v = volume_is image v volume can.mounted stands in
     let after : volume_on_image put v ≡ renamed volume old.bytes new =
-    ap (λ (o : Option (List ℕ)). volume_with g (unwrap_or o []) (run_of v.vtoc) (slots_on_image put v)) is.label
-    ∙ ap (volume_with g (unwrap_or (label_of image g) []) (run_of v.vtoc)) (is.slots ∙ of.slots)
-    ∙ volume_renamed g (unwrap_or (label_of image g) []) (run_of v.vtoc) (slots_on_image image v) old.bytes new can.long of.apart
+    ap (λ (o : Option (List ℕ)). volume_with g (unwrap_or o []) v.vtoc (slots_on_image put v)) is.label
+    ∙ ap (volume_with g (unwrap_or (label_of image g) []) v.vtoc) (is.slots ∙ of.slots)
+    ∙ volume_renamed g (unwrap_or (label_of image g) []) v.vtoc (slots_on_image image v) old.bytes new can.long of.apart
     ∙ ap (λ (x : Volume). renamed x old.bytes new) (sym before) in
     record {
       after = renamed volume old.bytes new;

@@ -1,7 +1,8 @@
 -- What gives a data set another name, in the slots of a VTOC (System Control Blocks GC28-6628).
-use Rattle.std.specs.Prelude.{◌≡◌, ℕ, ◌||◌, false, if◌then◌else◌, List, [], ◌∷◌, ◌++◌, drop, position, slice_get, Option, Some, None, is_none, is_some, slice_set, Result, Ok, Err}
+use Rattle.std.specs.Prelude.{◌≡◌, ◌⊎◌, ℕ, ◌||◌, false, if◌then◌else◌, List, [], ◌∷◌, ◌++◌, drop, position, slice_get, Option, Some, None, is_none, is_some, slice_set, Result, Ok, Err}
 use Rattle.dscb_codec.specs.declared.Dscb.{Dscb}
 use Rattle.dscb_codec.specs.declared.Dscb.TheVariants.{F1}
+use Rattle.ebcdic_names.specs.declared.names.Dsn.{Dsn}
 use Rattle.hall_core.specs.Files.{File}
 use Rattle.hall_core.specs.Moments.{Meaning}
 use Rattle.hall_core.specs.Steps.{StepTo}
@@ -12,8 +13,10 @@ use Rattle.vol_model.specs.declared.answers.StoreErr.{StoreErr}
 use Rattle.vol_model.specs.declared.answers.StoreErr.TheVariants.{Refused, Memory, Device}
 use Rattle.vol_model.specs.declared.refusals.Refusal.{Refusal}
 use Rattle.vol_model.specs.declared.refusals.Refusal.TheVariants.{NoSet, SetExists, WrongKind}
+use Rattle.vol_model.specs.declared.requests.Op.{Op}
+use Rattle.vol_model.specs.declared.requests.Op.TheVariants.{Rename}
 use Rattle.vtoc_index.specs.Contents.{is_set_named}
-use Rattle.vtoc_index.specs.Index.{IsMounted, run_of}
+use Rattle.vtoc_index.specs.Index.{IsMounted}
 use Rattle.vtoc_index.specs.declared.vol.Vol.{Vol}
 use Rattle.dadsm_ops.specs.Operations.{image_named}
 use Rattle.dadsm_ops.specs.Through.{HaveSlot}
@@ -58,10 +61,10 @@ named_bytes name bytes = name ++ drop 44 bytes
 -- Files in which one slot of the VTOC of the image of this name is under a name, and which else are as before, each byte of them.
 pub record HaveName (file : List ℕ) (v : Vol) (slot : ℕ) (name : List ℕ) (before after : List File) : Type 0 where
   pub held : VtocSlot
-  pub there : slice_get (slots_of_vtoc (image_named before file) v.geometry (run_of v.vtoc)) slot ≡ Some held
+  pub there : slice_get (slots_of_vtoc (image_named before file) v.geometry v.vtoc) slot ≡ Some held
   pub put : HaveSlot file v slot (named_bytes name held.bytes) before after
 
--- The slot of the old name is put under the new one: a stop leaves the files as before, or with the slot so and nothing else. Where it is done, they are so durably.
+-- The slot of the old name, by the index before, is put under the new one: a stop leaves the files as before, or with the slot so and nothing else. Where it is done, they are so durably.
 pub record PutsName {T E : Type 0} (file : List ℕ) (v : Vol) (from to : List ℕ) (old new : Meaning (List File)) (result : Result T E) : Type 0 where
   pub slot : ℕ
   pub found : IsToRename v.slots.items from to slot
@@ -76,21 +79,16 @@ WritesName file v from to old new (Err (Refused r)) = Unit {0}
 WritesName file v from to old new (Err Memory) = Unit {0}
 WritesName {T} file v from to old new (Err Device) = PutsName {T = T} {E = StoreErr} file v from to old new (Err Device)
 
--- A data set of an image was given another name: by the index of the image its slot is under the new one, and each other byte of all files is as before.
-pub record RenamesSet (file : List ℕ) (before after : List File) : Type 0 where
+-- The data set of the old name on an image was given the new one: by the index of the image its slot is under the new name, and each other byte of all files is as before.
+pub record RenamesSet (file : List ℕ) (old new : Dsn) (before after : List File) : Type 0 where
   pub index : Vol
   pub mounted : IsMounted (image_named before file) index
-  pub old : List ℕ
-  pub new : List ℕ
   pub slot : ℕ
-  pub found : IsToRename index.slots.items old new slot
-  pub named : HaveName file index slot new before after
+  pub found : IsToRename index.slots.items old.bytes new.bytes slot
+  pub named : HaveName file index slot new.bytes before after
 
--- data sets of an image were, one after another, and each step left these files
-abbrev pub RenamesThrough : List ℕ → List File → List (List File) → List File → Type 0
-RenamesThrough file before [] after = after ≡ before
-RenamesThrough file before (next ∷ others) after = RenamesSet file before next × RenamesThrough file next others after
-
--- data sets of an image were given other names, one after another, or none was: each other byte of all files is as before
-abbrev pub RenamesSets : List ℕ → List File → List File → Type 0
-RenamesSets file before after = (steps : List (List File)) × RenamesThrough file before steps after
+-- Some of these operations were done on an image, in their order, and the others not: each gave its data set its name, and each other byte of all files is as before.
+abbrev pub RenamesSome : List ℕ → List Op → List File → List File → Type 0
+RenamesSome file [] before after = after ≡ before
+RenamesSome file (Rename v old new ∷ ops) before after =
+    RenamesSome file ops before after ⊎ ((next : List File) × RenamesSet file old new before next × RenamesSome file ops next after)

@@ -1,4 +1,5 @@
 mod Cases
+mod TableCases
 pub mod Fields
 pub mod Once
 pub mod Parts

@@ -1,3 +1,4 @@
+mod Cases
 pub mod BlankLemmas
 pub mod CodeLemmas
 pub mod DisplayLemmas

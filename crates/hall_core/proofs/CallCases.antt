@@ -12,13 +12,13 @@ use Rattle.hall_core.proofs.CallLemmas.{same_passed, write_done, write_failed, w
 use Rattle.hall_core.proofs.HistoryCases.{files, first_byte, second_byte, nine, failed}
 
 -- the answer of a call that gives nothing
-abbrev Answer : Type 0
+abbrev pub Answer : Type 0
 Answer = Result (Unit {0}) HallErr
 
-abbrev done : Answer
+abbrev pub done : Answer
 done = Ok tt
 
-abbrev fails : Answer
+abbrev pub fails : Answer
 fails = Err Failed
 
 -- what is meant at first; behind a call that did nothing, a write, a write and a sync, a write and a sync that failed, a print, and a print of its first byte
@@ -96,6 +96,10 @@ write_is_durable write = ⊎_elim
 write_takes_no_time : ¬ AfterWrite nine.name 1 (9 ∷ []) at_first (record behind_write { clock = 0 }) done
 write_takes_no_time write = absurd (omega (arith, write.ticks))
 
+-- and nothing is printed
+write_prints : ¬ AfterWrite nine.name 1 (9 ∷ []) at_first (record behind_write { printed = ab }) done
+write_prints write = absurd (cc write.printed)
+
 -- one that failed may be left, or else nothing is
 write_failed_is_durable : ¬ AfterWrite nine.name 1 (9 ∷ []) at_first behind_sync fails
 write_failed_is_durable write = ⊎_elim
@@ -116,6 +120,9 @@ sync_leaves_it_pending sync = differ (sync.done files ([], refl))
 
 sync_failed_is_durable : ¬ AfterSync behind_write behind_sync fails
 sync_failed_is_durable sync = differ (left_behind_sync files ((sync.failed files).1 files_behind_write))
+
+sync_prints : ¬ AfterSync behind_write (record behind_sync { printed = ab }) done
+sync_prints sync = absurd (cc sync.printed)
 
 sync_undoes_it : ¬ AfterSync behind_write (meaning_after files (synced ∷ [])) done
 sync_undoes_it sync = differ sync.state

@@ -198,6 +198,46 @@ attach_fails_uncounted call = stood_still (call.failed refl)
 attach_counts_want_of_memory : ¬ AttachCall (9 ∷ []) (counted 3 5) (counted 4 5) (Err Memory)
 attach_counts_want_of_memory call = let same : 4 ≡ 3 = ap (λ (facts : Facts). facts.dev_faults) (call.memory refl) in absurd (omega (arith, same))
 
+-- no call drops a unit, nor is the hall then another
+abbrev with_units : List Attached → Facts
+with_units units = record { units = units; references = 7 ∷ []; dev_faults = 3; print_faults = 5 }
+
+abbrev of_another : Facts
+of_another = record { units = two; references = 8 ∷ []; dev_faults = 3; print_faults = 5 }
+
+one_is_gone : ¬ unit_named 1 ∷ [] ≡ two
+one_is_gone same = let size : 1 ≡ 2 = ap length same in absurd (omega (arith, size))
+
+another_hall : ¬ of_another.references ≡ (counted 3 5).references
+another_hall same = let head : 8 ≡ 7 = ap (λ (l : List ℕ). get_or l 0 0) same in absurd (omega (arith, head))
+
+device_drops_a_unit : ¬ DeviceCall {T = Unit {0}} {E = Unit {0}} (counted 3 5) (with_units (unit_named 1 ∷ [])) (Ok tt)
+device_drops_a_unit call = one_is_gone call.units
+
+device_of_another_hall : ¬ DeviceCall {T = Unit {0}} {E = Unit {0}} (counted 3 5) of_another (Ok tt)
+device_of_another_hall call = another_hall call.references
+
+reported_drops_a_unit : ¬ ReportedCall ⊥ (counted 3 5) (with_units (unit_named 1 ∷ []))
+reported_drops_a_unit call = one_is_gone call.units
+
+reported_of_another_hall : ¬ ReportedCall ⊥ (counted 3 5) of_another
+reported_of_another_hall call = another_hall call.references
+
+noted_drops_a_unit : ¬ NotedCall (counted 3 5) (with_units (unit_named 1 ∷ []))
+noted_drops_a_unit call = one_is_gone call.units
+
+noted_of_another_hall : ¬ NotedCall (counted 3 5) of_another
+noted_of_another_hall call = another_hall call.references
+
+print_drops_a_unit : ¬ PrintCall {T = Unit {0}} {E = Unit {0}} (counted 3 5) (with_units (unit_named 1 ∷ [])) (Ok tt)
+print_drops_a_unit call = one_is_gone call.units
+
+print_of_another_hall : ¬ PrintCall {T = Unit {0}} {E = Unit {0}} (counted 3 5) of_another (Ok tt)
+print_of_another_hall call = another_hall call.references
+
+attach_of_another_hall : ¬ AttachCall (9 ∷ []) (counted 3 5) (record (counted_three 3 5) { references = 8 ∷ [] }) (Ok 2)
+attach_of_another_hall call = another_hall call.references
+
 -- three files, of which two have one name
 abbrev files : List File
 files = record { name = 1 ∷ []; bytes = 11 ∷ 12 ∷ 13 ∷ [] } ∷ record { name = 2 ∷ []; bytes = [] } ∷ record { name = 1 ∷ []; bytes = 21 ∷ [] } ∷ []

@@ -1,13 +1,13 @@
 -- What a hall and cards in memory show of themselves, on cases at which near readings of the definitions say otherwise.
-use Rattle.std.proofs.Common.{◌≡◌, ◌-◌, ◌^◌, ⊎_elim, inl, inr, ℕ, zero, suc, List, [], ◌∷◌, ◌++◌, length, refl, sym, ◌∙◌, ap, subst, arith, length-append, lit<}
+use Rattle.std.proofs.Common.{◌≡◌, ◌≢◌, ◌-◌, ◌^◌, ⊎_elim, inl, inr, ℕ, zero, suc, List, [], ◌∷◌, ◌++◌, length, refl, sym, ◌∙◌, ap, subst, arith, length-append, lit<}
 use Rattle.std.specs.Prelude.{Ok, Err, Contains}
-use Rattle.hall_core.specs.declared.hall.HallErr.TheVariants.{Failed}
+use Rattle.hall_core.specs.declared.hall.HallErr.TheVariants.{Failed, Memory}
 use Rattle.hall_core.specs.declared.mem_hall.step.Call.TheVariants.{Sync}
 use Rattle.hall_core.specs.declared.mem_hall.MemHall.{MemHall}
 use Rattle.hall_core.specs.declared.mem_cards.MemCards.{MemCards}
-use Rattle.hall_core.specs.History.{synced}
-use Rattle.hall_core.specs.Memory.{calls_of, failing_calls, number_of_calls, calls_left, bytes_left, LacksRoom, HasRoom, NextCallFails, KeepsRoom, Records, IsExactCall}
-use Rattle.hall_core.specs.MemoryCards.{IsNextRead}
+use Rattle.hall_core.specs.History.{new_disk, synced}
+use Rattle.hall_core.specs.Memory.{calls_of, disk_at, events_of, facts_of, failing_calls, first_files, meaning_of, number_of_calls, calls_left, bytes_left, LacksRoom, HasRoom, NextCallFails, KeepsAllButRoom, KeepsRecord, KeepsRoom, KeepsSetup, Records, IsExactCall}
+use Rattle.hall_core.specs.MemoryCards.{IsNextRead, bytes_left as bytes_to_come, failing_reads, faults_counted, number_of_reads}
 
 -- room for one call, and for five bytes: five may be used, and not six
 module _ (hall : MemHall) (calls : calls_left hall ≡ 1) (bytes : bytes_left hall ≡ 5) where
@@ -55,6 +55,14 @@ module _ (old new : MemHall) (calls : calls_left old ≡ 3) (bytes : bytes_left 
   keeps_no_room : calls_left new ≡ 2 → ¬ KeepsRoom old new
   keeps_no_room left keeps = absurd (omega (arith, keeps.calls, left, calls))
 
+-- what it did is the event, and the ways in which calls fail stay
+module _ (old new : MemHall) where
+  does_other : events_of new ≢ events_of old ++ synced ∷ [] → ¬ Records 2 Sync synced old new
+  does_other other records = other records.events
+
+  fails_otherwise : failing_calls new ≢ failing_calls old → ¬ IsExactCall {T = Unit {0}} 2 Sync synced old new (Ok tt)
+  fails_otherwise other exact = other exact.setup.failing
+
 -- one that has no room fails and uses none, and one with room whose number isn't to fail is done
 module _ (old new : MemHall) where
   done_without_room : LacksRoom old 2 → ¬ IsExactCall {T = Unit {0}} 2 Sync synced old new (Ok tt)
@@ -65,6 +73,45 @@ module _ (old new : MemHall) where
 
   is_on_the_record_without_room : LacksRoom old 2 → calls_of new ≡ calls_of old ++ Sync ∷ [] → ¬ IsExactCall {T = Unit {0}} 2 Sync synced old new (Err Failed)
   is_on_the_record_without_room lacks more exact = absurd (let same = ap length (sym more ∙ (exact.lacking lacks).1.calls) in omega (arith, same, length-append (calls_of old) (Sync ∷ [])))
+
+  wants_memory : ¬ IsExactCall {T = Unit {0}} 2 Sync synced old new (Err Memory)
+  wants_memory exact = exact.memory refl
+
+  is_off_the_record_with_room : HasRoom old 2 → calls_of new ≡ calls_of old → ¬ IsExactCall {T = Unit {0}} 2 Sync synced old new (Ok tt)
+  is_off_the_record_with_room room same exact = absurd (let more = ap length (sym same ∙ (exact.room room).calls) in omega (arith, more, length-append (calls_of old) (Sync ∷ [])))
+
+-- the calls, what was done, what the hall was made with and its facts are kept each by itself
+module _ (old new : MemHall) where
+  other_calls : calls_of new ≢ calls_of old → ¬ KeepsRecord old new
+  other_calls other keeps = other keeps.calls
+
+  other_events : events_of new ≢ events_of old → ¬ KeepsRecord old new
+  other_events other keeps = other keeps.events
+
+  other_files : first_files new ≢ first_files old → ¬ KeepsSetup old new
+  other_files other keeps = other keeps.first
+
+  other_failing : failing_calls new ≢ failing_calls old → ¬ KeepsSetup old new
+  other_failing other keeps = other keeps.failing
+
+  other_facts : facts_of new ≢ facts_of old → ¬ KeepsAllButRoom old new
+  other_facts other keeps = other keeps.facts
+
+  other_setup : failing_calls new ≢ failing_calls old → ¬ KeepsAllButRoom old new
+  other_setup other keeps = other keeps.setup.failing
+
+  other_record : calls_of new ≢ calls_of old → ¬ KeepsAllButRoom old new
+  other_record other keeps = other keeps.record_of_calls.calls
+
+-- the counts of faults aren't exchanged, and no reference leads to it; at moment 0 nothing has been done, and its time counts what was
+counts_of_a_hall : (hall : MemHall) → ((facts_of hall).dev_faults ≡ hall.dev_faults) × ((facts_of hall).print_faults ≡ hall.print_faults) × ((facts_of hall).references ≡ [])
+counts_of_a_hall hall = (refl, refl, refl)
+
+moments_of_a_hall : (hall : MemHall) → (disk_at hall 0 ≡ new_disk (first_files hall)) × ((meaning_of hall).clock ≡ length (events_of hall))
+moments_of_a_hall hall = (refl, refl)
+
+reads_fail_otherwise : (old new : MemCards) → failing_reads new ≢ failing_reads old → ¬ IsNextRead {T = ℕ} {E = Unit {0}} old new (Ok 7)
+reads_fail_otherwise old new other next = other next.failing
 
 -- a read of cards is counted, done or failed, and a fault where it failed; both counts stand still at their end
 module _ (cards : MemCards) where
@@ -88,3 +135,11 @@ module _ (cards : MemCards) where
 
   counted_though_done : ¬ IsNextRead {T = ℕ} {E = Unit {0}} (at 3 1) (at 4 2) (Ok 7)
   counted_though_done next = let same : 2 ≡ 1 = next.done in absurd (omega (arith, same))
+
+  -- each of the three numbers is its own
+  numbers : (number_of_reads (at 3 1) ≡ 3) × (faults_counted (at 3 1) ≡ 1) × (failing_reads (at 3 1) ≡ cards.fails.items)
+  numbers = (refl, refl, refl)
+
+  -- what was given is gone from the front
+  to_come : cards.given ≡ 1 → cards.bytes.items ≡ 5 ∷ 6 ∷ 7 ∷ [] → bytes_to_come cards ≡ 6 ∷ 7 ∷ []
+  to_come given bytes = rw (given, bytes) refl

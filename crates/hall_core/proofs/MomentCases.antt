@@ -1,8 +1,5 @@
 -- Moments and steps, on cases at which near readings of the definitions say otherwise.
 use Rattle.std.proofs.Common.{◌≡◌, ◌⊎◌, ◌+◌, ◌-◌, ◌^◌, ⊎_elim, inl, inr, ℕ, List, [], ◌∷◌, ◌∙◌, length, refl, sym, ap, arith, lit≤, true, false}
-use Rattle.std.specs.Prelude.{Ok, Err, Result}
-use Rattle.hall_core.specs.declared.hall.HallErr.{HallErr}
-use Rattle.hall_core.specs.declared.hall.HallErr.TheVariants.{Failed}
 use Rattle.hall_core.specs.Example.{HasFirst, IsInOrder, WritesInOrder}
 use Rattle.hall_core.specs.Facts.{Facts}
 use Rattle.hall_core.specs.Files.{File, IsPrefixOf, patched, written}
@@ -15,17 +12,7 @@ use Rattle.hall_core.proofs.MomentLemmas.{elapses_from_exactly}
 use Rattle.hall_core.proofs.StepLemmas.{write_leaves, write_then_sync}
 use Rattle.hall_core.proofs.StageLemmas.{begins, next, stops}
 use Rattle.hall_core.proofs.HistoryCases.{holds, files, first_byte, second_byte, nine, one_printed}
-use Rattle.hall_core.proofs.CallCases.{ab, at_first, behind_none, behind_write, behind_sync, behind_print, differ, left_at_first, left_behind_sync, files_behind_write, sync_is_done, write_is_done, print_is_done}
-
--- the answer of a step
-abbrev Answer : Type 0
-Answer = Result (Unit {0}) HallErr
-
-abbrev done : Answer
-done = Ok tt
-
-abbrev fails : Answer
-fails = Err Failed
+use Rattle.hall_core.proofs.CallCases.{Answer, done, fails, ab, at_first, behind_none, behind_write, behind_sync, behind_print, differ, left_at_first, left_behind_sync, files_behind_write, sync_is_done, write_is_done, print_is_done}
 
 write_left : behind_write.left (with_write files nine)
 write_left = (true ∷ [], refl)
@@ -168,6 +155,16 @@ not_back stage = differ (sym stage.state)
 not_printed : ¬ Stage (λ j. j) InOrder at_first behind_sync (with_write files nine) ab
 not_printed stage = absurd (cc stage.printed)
 
+-- nor is it where a stop on the way left something else, nor where what it comes to is such
+not_allowed : ¬ Stage (λ j. j) (λ j p. ⊥) at_first at_first files []
+not_allowed stage = stage.allowed
+
+not_so_far : ¬ Stage (λ j. j) (λ j p. p ≡ ab) at_first behind_print files ab
+not_so_far stage = ⊎_elim
+    (λ before. let none : 97 ∷ [] ≡ [] = (since_now files [] _ _ before).1 in absurd (cc none))
+    (λ is. let size : 1 ≡ 2 = ap length is in absurd (omega (arith, size)))
+    (stage.so_far.moments 0 files (97 ∷ []) (lit≤ tt) (0, lit≤ tt, lit≤ tt, record { files = ([], refl); text = (97 ∷ [], (98 ∷ [], refl), refl) }))
+
 -- a chain that failed has come to nothing, and what its stops left is known
 failed_exit : Exit (λ j. j) InOrder at_first behind_sync files ab fails
 failed_exit = stops fails refl at_end.moments
@@ -190,6 +187,19 @@ both_at_the_end = record { units = refl; references = refl; devices = lit≤ tt;
 
 rose_though_done : ¬ OutsideCalls (counted 3 5) (counted 3 6) done
 rose_though_done calls = let same : 6 ≡ 5 = calls.done.1 in absurd (omega (arith, same))
+
+-- neither count fell, though the other rose; and the units and the hall stay
+device_fell : ¬ OutsideCalls (counted 3 5) (counted 2 6) fails
+device_fell calls = absurd (omega (arith, calls.devices))
+
+print_fell : ¬ OutsideCalls (counted 3 5) (counted 4 4) fails
+print_fell calls = absurd (omega (arith, calls.prints))
+
+other_units : ¬ OutsideCalls (counted 3 5) (record (counted 3 5) { units = record { name = []; size = 0 } ∷ [] }) done
+other_units calls = absurd (cc calls.units)
+
+other_hall : ¬ OutsideCalls (counted 3 5) (record (counted 3 5) { references = 8 ∷ [] }) done
+other_hall calls = absurd (cc calls.references)
 
 -- a byte of the line is printed only behind both writes, and the first one is there with the second
 line_behind_both : HasFirst 3 4 [] ab 4 (97 ∷ [])

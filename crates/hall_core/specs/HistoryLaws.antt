@@ -62,12 +62,8 @@ pub nothing_kept : (flags : List Bool) → kept flags [] ≡ []
 nothing_kept [] = refl
 nothing_kept (flag ∷ flags) = refl
 
-abbrev pub one_if : Bool → Write → List Write
-one_if true w = w ∷ []
-one_if false w = []
-
 -- one write more may be left out or kept
-pub kept_with : (b : Bool) (flags : List Bool) (ws : List Write) (w : Write) → (more : List Bool) × (kept more (ws ++ w ∷ []) ≡ kept flags ws ++ one_if b w)
+pub kept_with : (b : Bool) (flags : List Bool) (ws : List Write) (w : Write) → (more : List Bool) × (kept more (ws ++ w ∷ []) ≡ kept flags ws ++ kept (b ∷ []) (w ∷ []))
 kept_with true flags [] w = (true ∷ [], sym (ap (λ (l : List Write). l ++ w ∷ []) (nothing_kept flags)))
 kept_with false flags [] w = (false ∷ [], sym (ap (λ (l : List Write). l ++ []) (nothing_kept flags)))
 kept_with b [] (v ∷ ws) w = let r = kept_with b [] ws w in (false ∷ r.0, r.1)

@@ -1,10 +1,12 @@
 -- What a machine held at each moment, computed by the definitions of Past.antt. Each comment names a wrong definition that the case tells from the right one.
-use Rattle.std.proofs.Common.{◌≡◌, ◌≤◌, ℕ, zero, suc, List, [], ◌∷◌, refl, sym, ap, ◌∙◌, arith, lit≤}
+use Rattle.std.proofs.Common.{◌≡◌, ◌≤◌, ℕ, zero, suc, List, [], ◌∷◌, length, true, refl, sym, ap, ◌∙◌, arith, lit≤}
 use Rattle.std.specs.Prelude.{Ok}
 use Rattle.ebcdic_names.specs.declared.names.Dsn.{Dsn}
 use Rattle.map_machine.specs.declared.past.Done.{Done}
 use Rattle.map_machine.specs.declared.past.Done.TheVariants.{Printed, Renamed}
-use Rattle.map_machine.specs.Past.{Moment, before, meaning_after, moment_at}
+use Rattle.map_machine.specs.Held.{meaning_of, now_of, status_of}
+use Rattle.map_machine.specs.Past.{Moment, before, before_all, meaning_after, moment_at}
+use Rattle.map_machine.specs.declared.machine.MapMachine.{MapMachine}
 use Rattle.vol_model.specs.declared.contents.Shelf.{Shelf}
 use Rattle.vol_model.specs.declared.requests.Op.TheVariants.{Rename}
 use Rattle.vol_model.specs.Events.{behind}
@@ -52,6 +54,13 @@ module _ (s1 s2 s3 : Shelf) (v w : ℕ) (a b c : Dsn) (lawful : IsLawful s1) (fi
   at_0 : moment_at log now 0 ≡ held s1 []
   at_0 = ap (λ r. held (behind (behind s3 r) (step (behind s3 r) (Rename v b a))) []) back ∙ ap (λ r. held (behind s2 r) []) further_back
 
+  -- all of it is undone from the last thing on, and none of nothing
+  all_undone : before_all log now ≡ held s1 []
+  all_undone = at_0
+
+  none_undone : before_all [] now ≡ now
+  none_undone = refl
+
   -- the time is the number of things done
   three_moments_on : (meaning_after log now).clock ≡ 3
   three_moments_on = refl
@@ -89,3 +98,14 @@ module _ (s1 s2 s3 : Shelf) (v w : ℕ) (a b c : Dsn) (lawful : IsLawful s1) (fi
       shelf_by (suc (suc zero)) low high said = absurd (cc said)
       shelf_by (suc (suc (suc zero))) low high said = absurd (cc said)
       shelf_by (suc (suc (suc (suc k)))) low high said = absurd (omega arith)
+
+-- a machine holds its shelf and its text, and has no faults and no base; its time counts its record
+module _ (machine : MapMachine) where
+  held_now : now_of machine ≡ held machine.shelf machine.printed.items
+  held_now = refl
+
+  tells : status_of machine ≡ record { is_sound = true; base = []; dev_faults = 0; print_faults = 0 }
+  tells = refl
+
+  means : ((meaning_of machine).state ≡ machine.shelf) × ((meaning_of machine).printed ≡ machine.printed.items) × ((meaning_of machine).clock ≡ length machine.log.items)
+  means = (refl, refl, refl)

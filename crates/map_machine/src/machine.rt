@@ -94,9 +94,7 @@ impl Machine for MapMachine {
 
     ghost status = { λ machine. status_of machine };
 
-    ghost promise = { λ machine t files. Unit {0} };
-
-    ghost stays = { λ machine t files. Unit {0} };
+    ghost promise = { λ machine ops t files. Unit {0} };
 
     ghost lawful = { λ machine told sound. machine.lawful };
 

@@ -2,6 +2,7 @@
 use Rattle.std.proofs.Common.{◌≡◌, ◌≢◌, ℕ, Bool, true, false, cond, List, [], ◌∷◌, length, map, get_or, Option, Some, None, Bor, refl, sym, ap, ◌∙◌, arith}
 use Rattle.std.specs.Option.{option_copied}
 use Rattle.std.specs.Bool.{then_some}
+use Rattle.ckd_image.specs.Track.{Record}
 use Rattle.pack_spec.specs.declared.track.Record as held
 use Rattle.pack_spec.specs.Label.{label_in, are_label}
 use Rattle.pack_spec.specs.Views.{record_of}
@@ -30,7 +31,7 @@ label_in-read xs d r b x three is tested found =
     ap option_copied is ∙ copied-then_some b x ∙ ap (then_some b) found ∙ ap (λ t. then_some t (get_or xs 2 d).data.now) tested ∙ sym (label_in-three xs d three)
 
 -- fewer or more have none
-pub label_in-other : (xs : List held.Record) → length xs ≢ 3 → label_in (map record_of xs) ≡ None
+pub label_in-other : (xs : List Record) → length xs ≢ 3 → label_in xs ≡ None
 unfolding label_in
 label_in-other [] n = refl
 label_in-other (x ∷ []) n = refl

@@ -1,4 +1,7 @@
 mod Cases
+mod FaultCases
+mod SlotCases
+mod WrittenCases
 pub mod Bounds
 pub mod Walks
 pub mod Labels

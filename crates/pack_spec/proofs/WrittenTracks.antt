@@ -6,7 +6,8 @@ use Rattle.ckd_image.specs.Track.{Record, end_marker, record_bytes, records_byte
 use Rattle.ckd_image.specs.Writing.{front_bytes}
 use Rattle.ckd_image.proofs.Written.{put_behind}
 use Rattle.std.specs.Int.{w16, to_be_bytes}
-use Rattle.pack_spec.specs.Label.{Address, vol1}
+use Rattle.pack_spec.specs.declared.address.Address.{Address}
+use Rattle.pack_spec.specs.Label.{vol1}
 use Rattle.pack_spec.specs.Written.{label_bytes, slot_record}
 
 -- three parts, each put behind the other over blanks
@@ -18,9 +19,9 @@ laid a s z la ls =
     ∙ (put_behind 0x40 10 6 70 (a ++ s) z two
     ∙ (append_assoc (a ++ s) z _ ∙ append_assoc a s _)))
 
--- the label's data, of its text, its serial, and a blank with the address of the VTOC
+-- the label's data, of its text, its serial, and the security byte with the address of the VTOC
 pub label_laid : (a s z c h serial : List ℕ) (vtoc : Address) → a ≡ vol1 → s ≡ serial → length serial ≡ 6 → c ≡ to_be_bytes w16 vtoc.cylinder → h ≡ to_be_bytes w16 vtoc.head
-    → z ≡ 0x40 ∷ slice_index_or c 0 0 ∷ slice_index_or c 1 0 ∷ slice_index_or h 0 0 ∷ slice_index_or h 1 0 ∷ 1 ∷ []
+    → z ≡ 0 ∷ slice_index_or c 0 0 ∷ slice_index_or c 1 0 ∷ slice_index_or h 0 0 ∷ slice_index_or h 1 0 ∷ 1 ∷ []
     → put_mid 10 6 (put_mid 4 6 (a ++ drop 4 (replicate 80 0x40)) s) z ≡ label_bytes serial vtoc
 label_laid a s z c h serial vtoc text number six cc hh last =
     let blanks : List ℕ = replicate 64 0x40 in
@@ -28,7 +29,7 @@ label_laid a s z c h serial vtoc text number six cc hh last =
     ∙ (ap (λ (xs : List ℕ). xs ++ (s ++ (z ++ blanks))) text
     ∙ (ap (λ (xs : List ℕ). vol1 ++ (xs ++ (z ++ blanks))) number
     ∙ (ap (λ (xs : List ℕ). vol1 ++ (serial ++ (xs ++ blanks))) last
-    ∙ ap₂ (λ (x y : List ℕ). vol1 ++ (serial ++ (0x40 ∷ slice_index_or x 0 0 ∷ slice_index_or x 1 0 ∷ slice_index_or y 0 0 ∷ slice_index_or y 1 0 ∷ 1 ∷ blanks))) cc hh)))
+    ∙ ap₂ (λ (x y : List ℕ). vol1 ++ (serial ++ (0 ∷ slice_index_or x 0 0 ∷ slice_index_or x 1 0 ∷ slice_index_or y 0 0 ∷ slice_index_or y 1 0 ∷ 1 ∷ blanks))) cc hh)))
 
 -- three records, each behind the other
 pub three_written : (front b c d : List ℕ) (x y z : Record) → b ≡ front ++ record_bytes 1 x → c ≡ b ++ record_bytes 2 y → d ≡ c ++ record_bytes 3 z → d ≡ front ++ records_bytes 1 (x ∷ y ∷ z ∷ [])

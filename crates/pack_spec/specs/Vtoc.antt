@@ -3,14 +3,11 @@ use Rattle.std.specs.Prelude.{ℕ, ◌+◌, ◌-◌, ◌==◌, ◌&&◌, nat_lt,
 use Rattle.std.specs.List.{list_all}
 use Rattle.ckd_image.specs.declared.header.Geometry.{Geometry}
 use Rattle.ckd_image.specs.Track.{Record}
+use Rattle.vol_model.specs.declared.contents.Run.{Run}
+use Rattle.pack_spec.specs.declared.address.Address.{Address}
 use Rattle.pack_spec.specs.declared.MountErr.{MountErr}
 use Rattle.pack_spec.specs.declared.MountErr.TheVariants.{NoLabel, BadVtoc, VtocTrack}
-use Rattle.pack_spec.specs.Label.{Address, address_at, is_inside, track_of_address, records_on, label_of}
-
--- tracks in a row: the first, and how many
-pub record Run : Type 0 where
-  pub start : ℕ
-  pub len : ℕ
+use Rattle.pack_spec.specs.Label.{address_at, is_inside, track_of_address, records_on, label_of}
 
 -- a slot is a record with a key of 44 bytes and 96 bytes of data
 abbrev pub is_slot : Record → Bool

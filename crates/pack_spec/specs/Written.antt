@@ -3,11 +3,12 @@ use Rattle.std.specs.Prelude.{ℕ, List, [], ◌∷◌, ◌++◌, drop, replicat
 use Rattle.std.specs.Int.{w16, to_be_bytes}
 use Rattle.ckd_image.specs.Track.{Record}
 use Rattle.ckd_image.specs.Writing.{record_on}
-use Rattle.pack_spec.specs.Label.{Address, ipl1, ipl2, vol1}
+use Rattle.pack_spec.specs.declared.address.Address.{Address}
+use Rattle.pack_spec.specs.Label.{ipl1, ipl2, vol1}
 
--- the data of the volume label: VOL1, the serial, CCHH of the VTOC and its R, which is 1; all else is blank
+-- the data of the volume label: VOL1, the serial, a security byte of zero, CCHH of the VTOC and its R, which is 1; all else, the owner too, is blank
 abbrev pub label_bytes : List ℕ → Address → List ℕ
-label_bytes serial vtoc = vol1 ++ (serial ++ (0x40 ∷ (to_be_bytes w16 vtoc.cylinder ++ (to_be_bytes w16 vtoc.head ++ (1 ∷ replicate 64 0x40)))))
+label_bytes serial vtoc = vol1 ++ (serial ++ (0 ∷ (to_be_bytes w16 vtoc.cylinder ++ (to_be_bytes w16 vtoc.head ++ (1 ∷ replicate 64 0x40)))))
 
 -- the records on track 0: those of the initial program, of zeros, and the volume label
 abbrev pub label_records : List ℕ → Address → List Record

@@ -3,7 +3,7 @@ ghost use Rattle.std.specs.Prelude.{◌≡◌, ◌≢◌, ◌≤◌, ◌+◌, �
 ghost use Rattle.ckd_image.specs.Header.{HasGeometry};
 ghost use Rattle.pack_spec.specs.Slots.{addressed_from, record_address, slots_of_vtoc};
 ghost use Rattle.pack_spec.specs.Faults.{track_faults};
-ghost use Rattle.pack_spec.specs.Views.{run_of, tracks_of};
+ghost use Rattle.pack_spec.specs.Views.{tracks_of};
 
 use crate::MountErr;
 use crate::layout::Slot;
@@ -30,9 +30,9 @@ pub(crate) fn slots_of_vtoc(
 ) -> Result<Vec<VtocSlot>, MountErr>
     requires whole { HasGeometry (length image.now) geometry }
     requires inside { vtoc.start + vtoc.len ≤ tracks_of geometry }
-    ensures slots { IfOk result (λ v. v.items ≡ slots_of_vtoc image.now geometry (run_of vtoc)) }
-    ensures unbroken { IfOk result (λ _. track_faults image.now geometry (run_of vtoc) ≡ []) }
-    ensures broken { IfErr result (λ e. e ≢ MountErr.Memory → slice_get (track_faults image.now geometry (run_of vtoc)) 0 ≡ Some e) }
+    ensures slots { IfOk result (λ v. v.items ≡ slots_of_vtoc image.now geometry vtoc) }
+    ensures unbroken { IfOk result (λ _. track_faults image.now geometry vtoc ≡ []) }
+    ensures broken { IfErr result (λ e. e ≢ MountErr.Memory → slice_get (track_faults image.now geometry vtoc) 0 ≡ Some e) }
     ensures few { IfOk result (λ v. vec_len v ≤ vtoc.len * 255) }
 {
     let mut slots = Vec::new(alloc);

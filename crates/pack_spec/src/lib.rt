@@ -32,6 +32,7 @@ pub use address::Address;
 pub use addressed::{VtocSlot, record_address};
 use ckd_image::{Geometry, Header, ImageErr};
 use ebcdic_names::Serial;
+pub use set_extents::{are_extents, have_counted_types, have_field_types};
 use std::alloc::{AllocError, Global};
 use vol_model::{DataSets, Volume};
 pub use vtoc::vtoc_extent;
@@ -130,7 +131,7 @@ impl From<AllocError> for MountErr {
 /// and all slots of the VTOC in memory, and goes over all slots for each of them.
 #[tactic(auto, unfolding(crate::specs::Volume::volume_of))]
 pub fn volume(alloc: Global, image: &[u8]) -> Result<Volume, MountErr>
-    ensures { Answers (λ volume. volume) (volume_of image.now) result }
+    ensures { Answers (volume_of image.now) result }
 {
     match geometry_of(image) {
         Ok(geometry) => volume_on(alloc, image, geometry),
@@ -141,7 +142,7 @@ pub fn volume(alloc: Global, image: &[u8]) -> Result<Volume, MountErr>
 // The volume of an image with this geometry.
 fn volume_on(alloc: Global, image: &[u8], geometry: Geometry) -> Result<Volume, MountErr>
     requires { HasGeometry (length image.now) geometry }
-    ensures { Answers (λ volume. volume) (volume_within image.now geometry (vtoc_of image.now geometry)) result }
+    ensures { Answers (volume_within image.now geometry (vtoc_of image.now geometry)) result }
 {
     let serial = serial(alloc, image, geometry)?;
     let vtoc = vtoc(alloc, image, geometry)?;

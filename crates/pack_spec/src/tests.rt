@@ -38,7 +38,7 @@ fn the_label_stands_behind_the_initial_program(rt: HostRuntime) -> Result<(), Fa
             213,
             b"\0\0\0\0\x03\x04\0\x50\xE5\xD6\xD3\xF1\xE5\xD6\xD3\xF1",
         ),
-        (229, b"\xC1\xC2\xC3\xF1\xF2\xF3\x40\x01\x02\x03\x04\x01\x40"),
+        (229, b"\xC1\xC2\xC3\xF1\xF2\xF3\0\x01\x02\x03\x04\x01\x40"),
         (304, b"\x40\xFF\xFF\xFF\xFF\xFF\xFF\xFF\xFF\0"),
     ] {
         assert_eq!(rt; track.get(at..at + bytes.len()), Some(bytes), "{at}");

@@ -3,7 +3,7 @@ ghost use Rattle.std.specs.Prelude.{◌≡◌, ℕ, ◌≤◌, ◌<◌, ◌+◌,
 ghost use Rattle.ckd_image.specs.Header.{HasGeometry};
 ghost use Rattle.pack_spec.specs.Label.{records_on, track_of_address};
 ghost use Rattle.pack_spec.specs.Vtoc.{first_slot, vtoc_by, vtoc_of};
-ghost use Rattle.pack_spec.specs.Views.{Answers, address_of, run_of, tracks_of};
+ghost use Rattle.pack_spec.specs.Views.{Answers, tracks_of};
 
 use crate::MountErr;
 use crate::address::Address;
@@ -25,7 +25,7 @@ const MOST_TRACKS: u16 = 257;
 #[tactic(auto, unfolding(crate::specs::Vtoc::vtoc_of, crate::specs::Vtoc::vtoc_at))]
 pub(crate) fn vtoc(alloc: Global, image: &[u8], geometry: Geometry) -> Result<Run, MountErr>
     requires { HasGeometry (length image.now) geometry }
-    ensures answer { Answers run_of (vtoc_of image.now geometry) result }
+    ensures answer { Answers (vtoc_of image.now geometry) result }
     ensures inside { IfOk result (λ vtoc. vtoc.start + vtoc.len ≤ tracks_of geometry) }
     ensures few { IfOk result (λ vtoc. vtoc.len ≤ 257) }
 {
@@ -69,12 +69,13 @@ fn first_slot(
 /// The extent of the VTOC in its first slot, where that is one of 1 to 257 tracks of the image that has its
 /// first track at the address in the label.
 ///
-/// Neither its type and its sequence nor the format of the slot is judged.
+/// Neither its type and its sequence nor the format of the slot is judged. The geometry is one that an image has, as
+/// `Header::read` of `ckd_image` gives it.
 pub fn vtoc_extent(geometry: Geometry, at: Address, slot: &Slot) -> Option<Run>
     requires { (len : ℕ) × HasGeometry len geometry }
-    ensures good { IfSome result (λ vtoc. vtoc_by geometry (address_of at) (Some slot.now) ≡ Ok (run_of vtoc)) }
-    ensures bad { IfNone result (vtoc_by geometry (address_of at) (Some slot.now) ≡ Err MountErr.BadVtoc) }
-    ensures begins { IfSome result (λ vtoc. vtoc.start ≡ track_of_address geometry (address_of at)) }
+    ensures good { IfSome result (λ vtoc. vtoc_by geometry at (Some slot.now) ≡ Ok vtoc) }
+    ensures bad { IfNone result (vtoc_by geometry at (Some slot.now) ≡ Err MountErr.BadVtoc) }
+    ensures begins { IfSome result (λ vtoc. vtoc.start ≡ track_of_address geometry at) }
     ensures inside { IfSome result (λ vtoc. vtoc.start + vtoc.len ≤ tracks_of geometry) }
     ensures few { IfSome result (λ vtoc. (1 ≤ vtoc.len) × (vtoc.len ≤ 257)) }
 {

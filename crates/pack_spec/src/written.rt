@@ -1,7 +1,6 @@
 //! Tracks of packs that are written in memory: that of the label, and those of a VTOC.
 ghost use Rattle.std.specs.Prelude.{◌≡◌, ◌+◌, ◌*◌, ◌≤◌, length, map, vec_len, IfOk};
 ghost use Rattle.ckd_image.specs.Writing.{new_track};
-ghost use Rattle.pack_spec.specs.Views.{address_of};
 ghost use Rattle.pack_spec.specs.Written.{label_bytes, label_records, slot_record};
 
 use crate::address::Address;
@@ -18,10 +17,13 @@ const BLANK: u8 = 0x40;
 // Where the label has its security byte, behind the serial and before the address of the VTOC.
 const SECURITY_AT: usize = 10;
 
-/// The data of the volume label of a pack: VOL1, its serial, and the address of the first slot of its VTOC, which is R1
-/// of a track. All else is blank.
+// The security byte of a volume that isn't protected.
+const UNPROTECTED: u8 = 0;
+
+/// The data of the volume label of a pack: VOL1, its serial, a security byte of zero, and the address of the first slot of
+/// its VTOC, which is R1 of a track. All else, the owner too, is blank.
 pub fn label_data(serial: &Serial, vtoc: Address) -> [u8; LABEL_LEN]
-    ensures { result ≡ label_bytes serial.now.bytes (address_of vtoc) }
+    ensures { result ≡ label_bytes serial.now.bytes vtoc }
 {
     let [cc_high, cc_low] = vtoc.cylinder.to_be_bytes();
     let [hh_high, hh_low] = vtoc.head.to_be_bytes();
@@ -29,12 +31,20 @@ pub fn label_data(serial: &Serial, vtoc: Address) -> [u8; LABEL_LEN]
     data[..SERIAL_AT].copy_from_slice(VOL1);
     data[SERIAL_AT..SECURITY_AT].copy_from_slice(&serial.bytes);
     data[SECURITY_AT..SECURITY_AT + 6].copy_from_slice(&[
-        BLANK, cc_high, cc_low, hh_high, hh_low, 1,
+        UNPROTECTED,
+        cc_high,
+        cc_low,
+        hh_high,
+        hh_low,
+        1,
     ]);
     data
 }
 
-/// Track 0 of a pack, in so many bytes: the records of the initial program, which are zeros, and the volume label.
+/// Track 0 of a pack, in `size` bytes: the records of the initial program, which are zeros, and the volume label.
+///
+/// The size is at least the 313 bytes that these records take with what stands around them. The one error is want of
+/// memory.
 pub fn label_track(
     alloc: Global,
     serial: &Serial,
@@ -42,7 +52,7 @@ pub fn label_track(
     size: usize,
 ) -> Result<Vec<u8>, AllocError>
     requires room { 313 ≤ size }
-    ensures bytes { IfOk result (λ track. track.items ≡ new_track 0 0 (label_records serial.now.bytes (address_of vtoc)) size) }
+    ensures bytes { IfOk result (λ track. track.items ≡ new_track 0 0 (label_records serial.now.bytes vtoc) size) }
     ensures len { IfOk result (λ track. vec_len track ≡ size) }
 {
     let label = label_data(serial, vtoc);
@@ -82,7 +92,10 @@ pub fn label_track(
     Ok(track)
 }
 
-/// A track of a VTOC, in so many bytes, with these slots from R1 on.
+/// A track of a VTOC, in `size` bytes, with these slots from R1 on.
+///
+/// There are at most 255 slots, and the size is at least 29 bytes, for what stands around them, and 148 for each. The one
+/// error is want of memory.
 pub fn slots_track(
     alloc: Global,
     at: Address,
@@ -91,7 +104,7 @@ pub fn slots_track(
 ) -> Result<Vec<u8>, AllocError>
     requires few { length slots.now ≤ 255 }
     requires room { 29 + 148 * length slots.now ≤ size }
-    ensures bytes { IfOk result (λ track. track.items ≡ new_track at.cylinder at.head (map (slot_record (address_of at)) slots.now) size) }
+    ensures bytes { IfOk result (λ track. track.items ≡ new_track at.cylinder at.head (map (slot_record at) slots.now) size) }
     ensures len { IfOk result (λ track. vec_len track ≡ size) }
 {
     let mut track = Vec::new(alloc);

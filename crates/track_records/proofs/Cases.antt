@@ -1,11 +1,13 @@
 -- Definitions on cases at which near readings of them give something else.
-use Rattle.std.proofs.Common.{◌≡◌, ◌+◌, ℕ, List, [], ◌∷◌, ◌++◌, Option, Some, None, drop, refl, sym, ◌∙◌, arith, true, false}
+use Rattle.std.proofs.Common.{◌≡◌, ◌≢◌, ◌+◌, ℕ, List, [], ◌∷◌, ◌++◌, Option, Some, None, drop, refl, sym, ◌∙◌, arith, true, false}
 use Rattle.std.specs.Prelude.{Ok, Err, replicate}
+use Rattle.std.specs.Option.{option_map}
 use Rattle.ckd_image.specs.declared.device.DiskType.TheVariants.{D2311, D2314}
 use Rattle.ckd_image.specs.declared.header.Geometry.{Geometry}
 use Rattle.ckd_image.specs.Reading.{is_front, records_of}
 use Rattle.ckd_image.specs.Track.{Record}
 use Rattle.hall_core.specs.Facts.{Attached, Facts}
+use Rattle.hall_core.specs.Files.{patched}
 use Rattle.pack_spec.specs.Label.{records_on, track_bytes}
 use Rattle.pack_spec.specs.Views.{tracks_of}
 use Rattle.track_records.specs.Buffers.{Buffer, records_at, are_places, places_from, IsPartOf, IsContentOf}
@@ -132,3 +134,10 @@ nothing_stands = (λ stands. let some = sym (nothing_read stands.0) ∙ stands.1
 -- a write of a record keeps the image's length and its header
 not_updated : (image : List ℕ) → (¬ IsUpdated buffer 0 (65 ∷ 66 ∷ []) (97 ∷ 98 ∷ 99 ∷ []) image (0 ∷ image)) × (¬ IsUpdated buffer 0 (65 ∷ 66 ∷ []) (97 ∷ 98 ∷ 99 ∷ []) (0 ∷ image) (1 ∷ image))
 not_updated image = (λ is. omega (arith, is.size), λ is. let header = is.header in cc)
+
+-- it puts its bytes in one place, and the records are those before with the one changed
+other_bytes : (image updated : List ℕ) → updated ≢ patched image (place_of buffer 0) (65 ∷ 66 ∷ 97 ∷ 98 ∷ 99 ∷ []) → ¬ IsUpdated buffer 0 (65 ∷ 66 ∷ []) (97 ∷ 98 ∷ 99 ∷ []) image updated
+other_bytes image updated other is = other is.bytes
+
+other_records : (image updated : List ℕ) (upto : Option ℕ) → records_on updated buffer.geometry upto 25 ≢ option_map (with_parts 0 (65 ∷ 66 ∷ []) (97 ∷ 98 ∷ 99 ∷ [])) (records_on image buffer.geometry upto 25) → ¬ IsUpdated buffer 0 (65 ∷ 66 ∷ []) (97 ∷ 98 ∷ 99 ∷ []) image updated
+other_records image updated upto other is = other (is.records upto)

@@ -1,6 +1,7 @@
 //! A buffer for the records of one track, and what reads and writes them.
-ghost use Rattle.std.specs.Prelude.{◌≡◌, ◌≤◌, ◌+◌, ◌-◌, ◌++◌, [], length, Some, IsTrue, IfOk, IfErr, OnOk, OnErr, slice_get};
+ghost use Rattle.std.specs.Prelude.{◌≡◌, ◌≤◌, ◌+◌, ◌-◌, ◌++◌, [], length, true, Some, IsTrue, IfOk, IfErr, OnOk, OnErr, slice_get};
 ghost use Rattle.std.specs.Option.{option_map};
+ghost use Rattle.ckd_image.specs.Reading.{front_record, is_record_at};
 ghost use Rattle.hall_core.specs.Facts.{DeviceCall, unit_of};
 ghost use Rattle.hall_core.specs.Files.{AfterWrite, image_of, patched};
 ghost use Rattle.hall_core.specs.Moments.{Same};
@@ -113,8 +114,7 @@ impl TrackBuf {
         requires last { r ≤ length self.now.records }
         ensures { IsContentOf (slice_get self.now.records (r - 1)) result.now }
     {
-        let at = self.places[usize::from(r) - 1];
-        let bytes = &self.bytes[at..];
+        let bytes = self.bytes_from(r);
         let (parts, _rest) = record_at(bytes, r).unwrap();
         &bytes[COUNT_LEN..COUNT_LEN + parts.key.len() + parts.data.len()]
     }
@@ -125,9 +125,19 @@ impl TrackBuf {
         requires last { r ≤ length self.now.records }
         ensures { IsPartOf (slice_get self.now.records (r - 1)) result.key.now result.data.now }
     {
-        let at = self.places[usize::from(r) - 1];
-        let (parts, _rest) = record_at(&self.bytes[at..], r).unwrap();
+        let (parts, _rest) = record_at(self.bytes_from(r), r).unwrap();
         parts
+    }
+
+    // The bytes of the track from the count of Rr on.
+    fn bytes_from(&self, r: u8) -> &[u8]
+        requires first { 1 ≤ r }
+        requires last { r ≤ length self.now.records }
+        ensures stands { is_record_at r result.now ≡ true }
+        ensures record { slice_get self.now.records (r - 1) ≡ Some (front_record result.now) }
+    {
+        let at = self.places[usize::from(r) - 1];
+        &self.bytes[at..]
     }
 }
 

@@ -1,15 +1,19 @@
 -- The definitions of `specs/`, at the edges where a near-miss reading would differ.
-use Rattle.std.proofs.Common.{◌≡◌, ℕ, true, false, List, [], ◌∷◌, ◌++◌, codes, replicate, Some, None, refl}
+use Rattle.std.proofs.Common.{◌≡◌, ℕ, true, false, List, [], ◌∷◌, ◌++◌, Option, codes, get_or, replicate, Some, None, refl, ap, arith, lit≤}
 use Rattle.std.specs.Prelude.{Ok, Err}
 use Rattle.std.specs.Fmt.{digits}
+use Rattle.std.specs.Option.{option_map_or}
 use Rattle.ebcdic_names.specs.CodePage.{ascii_of, code_page}
 use Rattle.ebcdic_names.specs.Names.{byte_of, char_faults, shown}
 use Rattle.ebcdic_names.specs.declared.names.Dsn.{Dsn}
 use Rattle.ebcdic_names.specs.declared.names.Serial.{Serial}
+use Rattle.ckd_image.specs.declared.device.DiskType.TheVariants.{D2314}
+use Rattle.util_syntax.specs.declared.statement.Rename.{Rename}
 use Rattle.vol_model.specs.Words.{refusal_words}
 use Rattle.vol_model.specs.declared.refusals.Refusal.TheVariants.{NoSet, SetExists, VtocFull}
+use Rattle.util_syntax.proofs.Grammar.{rename_at}
 use Rattle.util_syntax.specs.Lines.{card_number, next_word, outcome_words, result_line}
-use Rattle.util_syntax.specs.Statement.{behind, is_device_word, name_behind, operands_of, rename_if, rename_of, rename_of_operands, serial_of_parts, text_of, volume_parts, volume_serial}
+use Rattle.util_syntax.specs.Statement.{IsRename, behind, is_device_word, name_behind, operands_of, rename_if, rename_of, rename_of_operands, serial_of_parts, text_of, volume_parts, volume_serial}
 
 -- the names J and K, and the serial 1
 j : Dsn
@@ -71,6 +75,43 @@ card blanks = codes " RENAME DSNAME=J,VOL=2311=1,NEWNAME=K" ++ replicate blanks 
 column_80_is_the_last : (rename_of (card 43) ≡ Some (record { old = j; serial = one; new = k })) × (rename_of (card 44) ≡ None)
 unfolding rename_of card j k one byte_of char_faults code_page
 column_80_is_the_last = (refl, refl)
+
+-- A card spells a statement with its blanks up to column 80, and no longer card does.
+abbrev spelt : Rename
+spelt = record { old = record { bytes = 0xD1 ∷ replicate 43 0x40 }; serial = record { bytes = 0xF1 ∷ replicate 5 0x40 }; new = record { bytes = 0xD2 ∷ replicate 43 0x40 } }
+
+card_spells_a_statement : IsRename (codes " RENAME DSNAME=J,VOL=2314=1,NEWNAME=K" ++ replicate 43 32) spelt
+unfolding byte_of char_faults code_page
+card_spells_a_statement = record {
+  old = codes "J";
+  device = D2314;
+  serial = codes "1";
+  new = codes "K";
+  blanks = 43;
+  spelling = refl;
+  old_reads = refl;
+  serial_reads = refl;
+  new_reads = refl;
+  fits = lit≤ tt;
+}
+
+longer_card_spells_none : ¬ IsRename (codes " RENAME DSNAME=J,VOL=2314=1,NEWNAME=K" ++ replicate 44 32) spelt
+longer_card_spells_none is = let fits = is.fits in absurd (omega (arith, fits))
+
+-- The old name is the first, and the serial the card's.
+exchanged_names_are_not_spelt : ¬ IsRename (codes " RENAME DSNAME=J,VOL=2314=1,NEWNAME=K") (record spelt { old = spelt.new; new = spelt.old })
+unfolding rename_of byte_of char_faults code_page
+exchanged_names_are_not_spelt is =
+    let same : Some spelt ≡ Some (record spelt { old = spelt.new; new = spelt.old }) = rename_at (codes " RENAME DSNAME=J,VOL=2314=1,NEWNAME=K") (record spelt { old = spelt.new; new = spelt.old }) is in
+    let first : 0xD1 ≡ 0xD2 = ap (λ (o : Option Rename). option_map_or (λ (s : Rename). get_or s.old.bytes 0 0) o 0) same in
+    absurd (omega (arith, first))
+
+other_serial_is_not_spelt : ¬ IsRename (codes " RENAME DSNAME=J,VOL=2314=1,NEWNAME=K") (record spelt { serial = record { bytes = 0xF2 ∷ replicate 5 0x40 } })
+unfolding rename_of byte_of char_faults code_page
+other_serial_is_not_spelt is =
+    let same : Some spelt ≡ Some (record spelt { serial = record { bytes = 0xF2 ∷ replicate 5 0x40 } }) = rename_at (codes " RENAME DSNAME=J,VOL=2314=1,NEWNAME=K") (record spelt { serial = record { bytes = 0xF2 ∷ replicate 5 0x40 } }) is in
+    let first : 0xF1 ≡ 0xF2 = ap (λ (o : Option Rename). option_map_or (λ (s : Rename). get_or s.serial.bytes 0 0) o 0) same in
+    absurd (omega (arith, first))
 
 -- A card's number has five digits, and more where it needs them.
 number_of_a_card_has_five_digits : (card_number 0 ≡ codes "00000") × (card_number 12 ≡ codes "00012") × (card_number 99999 ≡ codes "99999") × (card_number 100000 ≡ codes "100000")

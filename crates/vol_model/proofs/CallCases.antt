@@ -1,5 +1,5 @@
 -- Calls of a machine, and runs on one, by the definitions of Calls.antt and Runs.antt. Each comment names a wrong definition that the case tells from the right one.
-use Rattle.std.proofs.Common.{◌≡◌, ◌⊎◌, ◌-◌, ◌<◌, ◌≤◌, ◌^◌, ℕ, Bool, true, false, List, [], ◌∷◌, ◌++◌, Result, Ok, Err, refl, sym, ap, ◌∙◌, inl, inr, ⊎_elim, get_or, arith, lit≤}
+use Rattle.std.proofs.Common.{◌≡◌, ◌≢◌, ◌⊎◌, ◌-◌, ◌<◌, ◌≤◌, ◌^◌, ℕ, Bool, true, false, List, [], ◌∷◌, ◌++◌, Result, Ok, Err, refl, sym, ap, ◌∙◌, inl, inr, ⊎_elim, get_or, arith, lit≤}
 use Rattle.hall_core.specs.Files.{File}
 use Rattle.hall_core.specs.Moments.{Meaning}
 use Rattle.vol_model.specs.declared.answers.MachErr.{MachErr}
@@ -117,6 +117,13 @@ run_sound_behind_fault call = let never = call.sound in cc
 run_base_changed : ¬ RunCall (counts true 3 5) (record { is_sound = true; base = (7 ∷ []) ∷ []; dev_faults = 3; print_faults = 5 }) finished
 run_base_changed call = let never = call.base in cc
 
+-- the count of prints didn't fall, though the device's rose
+print_fell : ¬ MachineCall (counts true 3 5) (counts false 4 4) (fails Device)
+print_fell call = let never = call.prints in absurd (omega (arith, never))
+
+run_print_fell : ¬ RunCall (counts true 3 5) (counts false 4 4) (ends stop.Device)
+run_print_fell call = let never = call.prints in absurd (omega (arith, never))
+
 module _ (s t u : Shelf) (r r' : Refusal) where
   -- done is the step, not the shelf before it or another one
   done_is_the_step : Answers done (Ok t) s u → t ≡ u
@@ -209,6 +216,13 @@ module _ (op : Op) (s t u : Shelf) (r : Refusal) where
   want_leaves_the_same : Applies op before (record (held s (64 ∷ []) 1 (just s (64 ∷ []))) { left = λ shelf. Unit {0} }) (fails Memory) → u ≡ s
   want_leaves_the_same applies = ((applies.idle (inr refl)).left u).0 tt
 
+  -- what is done is the step, and what is refused is its refusal
+  other_shelf_is_done : step s op ≡ Ok t → {P : Shelf → List ℕ → Type 0} → Applies op before (held u (64 ∷ []) 1 P) done → t ≡ u
+  other_shelf_is_done is applies = let same = sym is ∙ applies.answer in cc
+
+  refused_is_done : step s op ≡ Err r → {P : Shelf → List ℕ → Type 0} → ¬ Applies op before (held s (64 ∷ []) 1 P) done
+  refused_is_done is applies = let never = sym is ∙ applies.answer in cc
+
   -- a print that fails may have printed a part, and a stop in it another one
   part_is_printed : Prints true (65 ∷ 66 ∷ []) before (held s (64 ∷ 65 ∷ []) 1 (either (just s (64 ∷ [])) (just s (64 ∷ 65 ∷ 66 ∷ [])))) (fails Print)
   part_is_printed = record {
@@ -286,12 +300,25 @@ module _ (op : Op) (s t u : Shelf) (r : Refusal) where
       by_text q is (inr (inr end)) = end.2.0
 
 -- promises hold on that were made since the clock's moment or before, and no later ones
-made_till_now : Keeps 2 (λ since files. Unit {0}) (λ since files. since ≤ 2)
-made_till_now = λ since files early promise. early
+made_till_now : Keeps 2 [] (λ ops since files. Unit {0}) (λ ops since files. since ≤ 2)
+made_till_now = λ ops since files early promise. early
 
-made_now : ¬ Keeps 2 (λ since files. Unit {0}) (λ since files. since < 2)
-made_now keeps = let never : 2 < 2 = keeps 2 [] (lit≤ tt) tt in absurd (omega (arith, never))
+made_now : ¬ Keeps 2 [] (λ ops since files. Unit {0}) (λ ops since files. since < 2)
+made_now keeps = let never : 2 < 2 = keeps [] 2 [] (lit≤ tt) tt in absurd (omega (arith, never))
 
 -- of the same files
-made_of_files : (f : File) → ¬ Keeps 2 (λ since files. files ≡ f ∷ []) (λ since files. files ≡ [])
-made_of_files f keeps = let never = keeps 0 (f ∷ []) (lit≤ tt) refl in cc
+made_of_files : (f : File) → ¬ Keeps 2 [] (λ ops since files. files ≡ f ∷ []) (λ ops since files. files ≡ [])
+made_of_files f keeps = let never = keeps [] 0 (f ∷ []) (lit≤ tt) refl in cc
+
+-- by the operations since the moment, and these more behind them: not by these alone, nor in front, nor without them
+made_of_operations : (op more : Op) → Keeps 2 (more ∷ []) (λ ops since files. ops ≡ op ∷ []) (λ ops since files. ops ≡ op ∷ more ∷ [])
+made_of_operations op more = λ ops since files early was. ap (λ (l : List Op). l ++ more ∷ []) was
+
+more_alone : (op more : Op) → ¬ Keeps 2 (more ∷ []) (λ ops since files. ops ≡ op ∷ []) (λ ops since files. ops ≡ more ∷ [])
+more_alone op more keeps = let never = keeps (op ∷ []) 0 [] (lit≤ tt) refl in cc
+
+more_in_front : (op more : Op) → op ≢ more → ¬ Keeps 2 (more ∷ []) (λ ops since files. ops ≡ op ∷ []) (λ ops since files. ops ≡ more ∷ op ∷ [])
+more_in_front op more apart keeps = let never = keeps (op ∷ []) 0 [] (lit≤ tt) refl in apart (cc)
+
+none_more : (op more : Op) → ¬ Keeps 2 (more ∷ []) (λ ops since files. ops ≡ op ∷ []) (λ ops since files. ops ≡ op ∷ [])
+none_more op more keeps = let never = keeps (op ∷ []) 0 [] (lit≤ tt) refl in cc

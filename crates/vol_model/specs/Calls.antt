@@ -61,6 +61,6 @@ pub record Prints {T : Type 0} (tells : Bool) (bytes : List ℕ) (old new : Mean
   pub prefix : (q : List ℕ) × IsPrefixOf q bytes × (IsTrue tells → new.printed ≡ old.printed ++ q)
   pub moments : Elapses old new (λ shelf p. (shelf ≡ old.state) × ((q : List ℕ) × IsPrefixOf q bytes × (IsTrue tells → p ≡ old.printed ++ q)))
 
--- promises on stops, each since a moment up to this one, hold on
-abbrev pub Keeps : ℕ → (ℕ → List File → Type 0) → (ℕ → List File → Type 0) → Type 0
-Keeps clock old new = (t : ℕ) (files : List File) → t ≤ clock → old t files → new t files
+-- what was promised of stops, each since a moment up to this one, by the operations begun since, is promised with these more
+abbrev pub Keeps : ℕ → List Op → (List Op → ℕ → List File → Type 0) → (List Op → ℕ → List File → Type 0) → Type 0
+Keeps clock more old new = (ops : List Op) (t : ℕ) (files : List File) → t ≤ clock → old ops t files → new (ops ++ more) t files

@@ -1,9 +1,10 @@
 //! The machine on which every utility works: a shelf of volumes, changed by one operation at a time, and a place to
 //! print on.
-ghost use Rattle.std.specs.Prelude.{◌≡◌, ◌≤◌, ℕ, List, Bool, IsTrue, IsErrOf};
+ghost use Rattle.std.specs.Prelude.{◌≡◌, ◌≤◌, ℕ, List, [], ◌∷◌, Bool, IsTrue, IsErrOf};
 ghost use Rattle.hall_core.specs.Files.{File};
 ghost use Rattle.hall_core.specs.Moments.{Meaning, LeftNow, IsDurable};
 ghost use Rattle.vol_model.specs.declared.contents.Shelf.{Shelf};
+ghost use Rattle.vol_model.specs.declared.requests.Op as requests;
 ghost use Rattle.vol_model.specs.Calls.{Status, MachineCall, Applies, IsIdle, Prints, Keeps};
 ghost use Rattle.vol_model.specs.Shelf.{IsLawful, step};
 
@@ -33,11 +34,9 @@ pub trait Machine {
     /// Whether it is sound, what it stands on, and its counts of faults.
     ghost status: { Self → Status };
 
-    /// What it promises besides of every stop since a moment, by the files on which it stood then.
-    ghost promise: { Self → ℕ → List File → Type 0 };
-
-    /// That every stop since a moment leaves just these files, on which it stood then.
-    ghost stays: { Self → ℕ → List File → Type 0 };
+    /// What it promises besides of every stop since a moment, by the operations that were begun since, and the files on
+    /// which it stood then.
+    ghost promise: { Self → List requests.Op → ℕ → List File → Type 0 };
 
     /// Whether no fault has come so far.
     fn is_sound(&self) -> bool
@@ -49,8 +48,8 @@ pub trait Machine {
     fn apply(&mut self, op: &Op) -> Result<(), MachErr>
         requires sound { IsTrue (status self.old).is_sound }
         ensures shelf { IsTrue tells → Applies op.now (meaning self.old) (meaning self.new) result }
-        ensures promise { IsTrue tells → Keeps (meaning self.old).clock (promise self.old) (promise self.new) }
-        ensures stays { IsTrue tells → IsIdle (step (meaning self.old).state op.now) result → Keeps (meaning self.old).clock (stays self.old) (stays self.new) }
+        ensures promise { IsTrue tells → Keeps (meaning self.old).clock (op.now ∷ []) (promise self.old) (promise self.new) }
+        ensures idle { IsTrue tells → IsIdle (step (meaning self.old).state op.now) result → Keeps (meaning self.old).clock [] (promise self.old) (promise self.new) }
         ensures call { MachineCall (status self.old) (status self.new) result }
         ensures print { IsErrOf result MachErr.Print → ⊥ };
 
@@ -60,8 +59,7 @@ pub trait Machine {
     fn print(&mut self, bytes: &[u8]) -> Result<(), MachErr>
         requires sound { IsTrue (status self.old).is_sound }
         ensures shelf { IsTrue tells → Prints tells_prints bytes.now (meaning self.old) (meaning self.new) result }
-        ensures promise { IsTrue tells → Keeps (meaning self.old).clock (promise self.old) (promise self.new) }
-        ensures stays { IsTrue tells → Keeps (meaning self.old).clock (stays self.old) (stays self.new) }
+        ensures promise { IsTrue tells → Keeps (meaning self.old).clock [] (promise self.old) (promise self.new) }
         ensures call { MachineCall (status self.old) (status self.new) result }
         ensures refused { (r : Refusal) → IsErrOf result (MachErr.Refused r) → ⊥ };
 

@@ -1,14 +1,16 @@
 -- What a statement leaves: its operations come first, and then its lines.
 use Rattle.std.specs.Prelude.{◌⊎◌, Option, Some, Result, Ok, Err, IsErr}
-use Rattle.std.proofs.Common.{◌≡◌, inl, inr, ⊎_elim, ℕ, Bool, List, [], ◌∷◌, ◌++◌, map, refl, sym, ◌∙◌, ap, subst}
+use Rattle.std.proofs.Common.{◌≡◌, ◌≤◌, arith, inl, inr, ⊎_elim, ℕ, Bool, List, [], ◌∷◌, ◌++◌, map, refl, sym, ◌∙◌, ap, subst}
 use Rattle.std.proofs.lemmas.List.{append-nil}
+use Rattle.hall_core.specs.Files.{File}
 use Rattle.hall_core.specs.Moments.{Meaning}
 use Rattle.hall_core.proofs.MomentLemmas.{elapses_weaker}
 use Rattle.util_syntax.specs.declared.statement.Rename.{Rename}
 use Rattle.vol_model.specs.declared.answers.MachErr.{MachErr}
 use Rattle.vol_model.specs.declared.contents.Shelf.{Shelf}
 use Rattle.vol_model.specs.declared.refusals.Refusal.{Refusal}
-use Rattle.vol_model.specs.Calls.{Applies, IsIdle}
+use Rattle.vol_model.specs.declared.requests.Op.{Op}
+use Rattle.vol_model.specs.Calls.{Applies, Keeps}
 use Rattle.vol_model.specs.Events.{Event, Do, Say, Item, StopsIn, behind, events_in}
 use Rattle.vol_model.specs.Runs.{Runs}
 use Rattle.vol_model.specs.Shelf.{number_of, step}
@@ -40,17 +42,16 @@ pub item_found : (shelf : Shelf) (s : Rename) (v : Option ℕ) → v ≡ number_
 unfolding item_of
 item_found shelf s v found = ap (item_on shelf s) found
 
--- a statement without operations, on the volume that was found
-pub idle_found : (shelf : Shelf) (s : Rename) (v : Option ℕ) → v ≡ number_of shelf s.serial.bytes → (item_of shelf s).operations ≡ [] → (item_on shelf s v).operations ≡ []
-idle_found shelf s v found none = ap (λ (item : Item). item.operations) (item_found shelf s v found) ∙ none
+-- ---- what was promised of stops
 
--- there the step is refused
-pub idle_step : {T : Type 0} {result : Result T MachErr} (shelf : Shelf) (s : Rename) (v : ℕ) → (item_on shelf s (Some v)).operations ≡ [] → IsIdle (step shelf (operation_on s v)) result
-idle_step {result = result} shelf s v none = by_step (step shelf (operation_on s v)) none
-  where
-    by_step : (r : Result Shelf Refusal) → (item_by s (operation_on s v) r).operations ≡ [] → IsIdle r result
-    by_step (Ok after) is = absurd (cc is)
-    by_step (Err r) is = inl (r, refl)
+-- behind the operations of a statement it is promised behind one whose volume was found
+pub promise_found : {clock : ℕ} (old new : List Op → ℕ → List File → Type 0) (shelf : Shelf) (s : Rename) (v : Option ℕ) → v ≡ number_of shelf s.serial.bytes → Keeps clock (item_on shelf s v).operations old new → Keeps clock (item_of shelf s).operations old new
+promise_found {clock} old new shelf s v found = subst (λ (item : Item). Keeps clock item.operations old new) (item_found shelf s v found)
+
+-- and behind its line
+pub promise_then : {clock clock' : ℕ} (more : List Op) (old mid new : List Op → ℕ → List File → Type 0) → clock ≤ clock' → Keeps clock more old mid → Keeps clock' [] mid new → Keeps clock more old new
+promise_then more old mid new later first second ops t files early was =
+    subst (λ (all : List Op). new all t files) (append-nil (ops ++ more)) (second (ops ++ more) t files (omega (arith, early, later)) (first ops t files early was))
 
 -- an operation in which the device failed
 pub device_failed : {T T' E' : Type 0} {tells : Bool} {old new : Meaning Shelf} {result : Result T MachErr} (s : Rename) (found : Option ℕ) (v : ℕ) (answer : Result T' E') → found ≡ Some v → IsErr answer → Applies (operation_on s v) old new result

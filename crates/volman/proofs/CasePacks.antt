@@ -1,6 +1,7 @@
 -- Small packs and items that cases speak of.
 use Rattle.std.proofs.Common.{◌≡◌, ℕ, List, [], ◌∷◌, codes, get_or, Some, None, refl, sym, ap, ◌∙◌, arith}
 use Rattle.std.specs.Prelude.{Option, Ok}
+use Rattle.dadsm_ops.proofs.RenameChains.{none_renamed}
 use Rattle.hall_core.specs.Files.{File}
 use Rattle.pack_spec.specs.Volume.{volume_of}
 use Rattle.vol_model.specs.Events.{Item}
@@ -30,17 +31,17 @@ item op = record { operations = op ∷ []; lines = line ∷ []; code = 0 }
 abbrev pub idle : Item
 idle = record { operations = []; lines = line ∷ []; code = 8 }
 
--- what a run may change on the pack of a volume
-abbrev pub Changes : Volume → List File → List File → Type 0
-Changes volume before after = ChangesNames file volume.geometry volume.vtoc before after
+-- what operations may change on the pack of a volume
+abbrev pub Changes : Volume → List Op → List File → List File → Type 0
+Changes volume ops before after = ChangesNames file volume.geometry volume.vtoc ops before after
 
 -- nothing
-pub unchanged : (volume : Volume) (files : List File) → Changes volume files files
-unchanged volume files = record { tracks = record { others = λ other apart. refl; image = record { size = refl; header = refl; tracks = λ track outside. refl } }; renames = ([], refl) }
+pub unchanged : (volume : Volume) (ops : List Op) (files : List File) → Changes volume ops files files
+unchanged volume ops files = record { tracks = record { others = λ other apart. refl; image = record { size = refl; header = refl; tracks = λ track outside. refl } }; renames = none_renamed file ops files }
 
 -- and not a file that stands beside it
-pub beside_stays : (volume : Volume) (image image' : List ℕ) → ¬ Changes volume (beside image 1) (beside image' 2)
-beside_stays volume image image' changes =
+pub beside_stays : (volume : Volume) (ops : List Op) (image image' : List ℕ) → ¬ Changes volume ops (beside image 1) (beside image' 2)
+beside_stays volume ops image image' changes =
     let byte : ◌≡◌ {A = Option (List ℕ)} (Some (2 ∷ [])) (Some (1 ∷ [])) = changes.tracks.others (codes "Q") (λ (same : codes "Q" ≡ codes "P"). absurd (omega (arith, ap (λ (l : List ℕ). get_or l 0 0) same))) in
     absurd (omega (arith, ap (λ (o : Option (List ℕ)). first o) byte))
   where
@@ -49,8 +50,8 @@ beside_stays volume image image' changes =
     first (Some l) = get_or l 0 0
 
 -- nor one that comes up there
-pub none_beside : (volume : Volume) (image image' : List ℕ) → ¬ Changes volume (pack image) (beside image' 2)
-none_beside volume image image' changes =
+pub none_beside : (volume : Volume) (ops : List Op) (image image' : List ℕ) → ¬ Changes volume ops (pack image) (beside image' 2)
+none_beside volume ops image image' changes =
     let there : ◌≡◌ {A = Option (List ℕ)} (Some (2 ∷ [])) None = changes.tracks.others (codes "Q") (λ (same : codes "Q" ≡ codes "P"). absurd (omega (arith, ap (λ (l : List ℕ). get_or l 0 0) same))) in
     absurd (cc)
 

@@ -1,5 +1,6 @@
 -- An operation on the volume of one image as an operation of the machine over it, and what the machine keeps.
 use Rattle.std.proofs.Common.{◌≡◌, ◌≢◌, ⊎_elim, inl, inr, ℕ, zero, suc, List, [], ◌∷◌, ◌++◌, refl, sym, ◌∙◌, ap, subst, arith}
+use Rattle.std.proofs.lemmas.List.{append-nil}
 use Rattle.std.specs.Option.{option_map}
 use Rattle.std.specs.Str.{bytes_eq}
 use Rattle.std.specs.Prelude.{◌⊎◌, Bool, true, false, cond, slice_range, unwrap_or, Option, Some, None, IsErrOf, IsTrue, Result, Ok, Err}
@@ -7,7 +8,7 @@ use Rattle.ckd_image.specs.Device.{row_of}
 use Rattle.ckd_image.specs.declared.device.DiskType.{DiskType}
 use Rattle.ckd_image.specs.declared.device.DiskType.TheVariants.{D2311, D2314, D3330}
 use Rattle.ckd_image.specs.declared.header.Geometry.{Geometry}
-use Rattle.dadsm_ops.specs.Naming.{PutsName, RenamesSets, RenamesThrough, WritesName}
+use Rattle.dadsm_ops.specs.Naming.{PutsName, RenamesSet, RenamesSome, WritesName}
 use Rattle.dadsm_ops.specs.Operations.{ChangesVtoc, Operates, StoreAnswers, image_named}
 use Rattle.ebcdic_names.specs.declared.names.Dsn.{Dsn}
 use Rattle.hall_core.specs.Facts.{Attached, Facts, unit_of}
@@ -34,10 +35,10 @@ use Rattle.vol_model.specs.declared.refusals.Refusal.TheVariants.{NoVolume}
 use Rattle.vol_model.specs.declared.requests.Op.{Op}
 use Rattle.vol_model.specs.declared.requests.Op.TheVariants.{Rename}
 use Rattle.vtoc_index.specs.declared.vol.Vol.{Vol}
-use Rattle.vtoc_index.specs.Index.{IsMounted, run_of}
+use Rattle.vtoc_index.specs.Index.{IsMounted}
 use Rattle.vtoc_index.specs.Kept.{IsKept}
 use Rattle.vtoc_index.proofs.KeptLemmas.{kept_of}
-use Rattle.volman.specs.Machine.{ChangesNames, ChangesOnlyNames, LeavesJust, base_of, numbers_of, shelf_in, shelf_named, shelf_with, texts_of}
+use Rattle.volman.specs.Machine.{ChangesNames, ChangesOnlyNames, base_of, numbers_of, shelf_in, shelf_named, shelf_with, texts_of}
 
 -- the files of a step, and then those of another
 tracks_then : {name : List ℕ} {g : Geometry} {vtoc : Run} {a b c : List File} → ChangesVtoc name g vtoc a b → ChangesVtoc name g vtoc b c → ChangesVtoc name g vtoc a c
@@ -50,12 +51,18 @@ tracks_then first second = record {
   };
 }
 
-renames_then : {name : List ℕ} (a : List File) (steps : List (List File)) {b c : List File} → RenamesThrough name a steps b → RenamesSets name b c → RenamesSets name a c
-renames_then {name} a [] {c = c} first second = subst (λ (files : List File). RenamesSets name files c) first second
-renames_then a (next ∷ steps) first second = let rest = renames_then next steps first.1 second in (next ∷ rest.0, (first.0, rest.1))
+-- files after some operations, and then after one more, or not
+renames_then : {name : List ℕ} (ops : List Op) (v : ℕ) (from to : Dsn) (a : List File) {b c : List File} → RenamesSome name ops a b → (c ≡ b) ⊎ RenamesSet name from to b c → RenamesSome name (ops ++ Rename v from to ∷ []) a c
+renames_then {name} [] v from to a {c = c} none last = ⊎_elim (λ same. inl (same ∙ none)) (λ renamed. inr (c, subst (λ (files : List File). RenamesSet name from to files c) none renamed, refl)) last
+renames_then (Rename w x y ∷ ops) v from to a some last = ⊎_elim (λ left_out. inl (renames_then ops v from to a left_out last)) (λ done. inr (done.0, done.1, renames_then ops v from to done.0 done.2 last)) some
 
-changes_then : {name : List ℕ} {g : Geometry} {vtoc : Run} {a b c : List File} → ChangesNames name g vtoc a b → ChangesNames name g vtoc b c → ChangesNames name g vtoc a c
-changes_then {a = a} first second = record { tracks = tracks_then first.tracks second.tracks; renames = renames_then a first.renames.0 first.renames.1 second.renames }
+-- what some operations changed, some of these and one more may have changed
+changes_more : {name : List ℕ} {g : Geometry} {vtoc : Run} {a b : List File} (ops : List Op) (v : ℕ) (from to : Dsn) → ChangesNames name g vtoc ops a b → ChangesNames name g vtoc (ops ++ Rename v from to ∷ []) a b
+changes_more {a = a} ops v from to changes = record { tracks = changes.tracks; renames = renames_then ops v from to a changes.renames (inl refl) }
+
+-- and no more than these
+changes_no_more : {name : List ℕ} {g : Geometry} {vtoc : Run} {a b : List File} (ops : List Op) → ChangesNames name g vtoc ops a b → ChangesNames name g vtoc (ops ++ []) a b
+changes_no_more {name} {g} {vtoc} {a} {b} ops = subst (λ (all : List Op). ChangesNames name g vtoc all a b) (sym (append-nil ops))
 
 -- a step of the volume is one of the shelf
 step_of : (volume : Volume) (old new : Dsn) (r : Result Volume Refusal) → rename_on old new volume ≡ r → step (shelf_with volume) (Rename 0 old new) ≡ with_volume (shelf_with volume) 0 r
@@ -68,15 +75,18 @@ unfolding step
 not_there volume zero old new other = absurd (other refl)
 not_there volume (suc v) old new other = refl
 
--- what stops left stays where nothing but the time changes
-pub just_same : {m m' : Meaning (List File)} → CountsNow m → Same m m' → Keeps m.clock (LeavesJust m) (LeavesJust m')
-just_same {m} counts same t files early was j p left =
-    ⊎_elim (λ before. was j p before) (λ now. was j m.printed (counts t j early now.0)) ((same.time.since t j p early).0 left)
+-- what was promised of stops is promised where nothing but the time changes
+keeps_same : {name : List ℕ} {m m' : Meaning (List File)} {g : Geometry} {vtoc : Run} → CountsNow m → Same m m' → Keeps m.clock [] (ChangesOnlyNames name g vtoc m) (ChangesOnlyNames name g vtoc m')
+keeps_same {m = m} counts same ops t files early was j p left =
+    changes_no_more ops (⊎_elim (λ before. was j p before) (λ now. was j m.printed (counts t j early now.0)) ((same.time.since t j p early).0 left))
 
--- and after a print
-pub just_printed : {T E : Type 0} {bytes : List ℕ} {m m' : Meaning (List File)} {r : Result T E} → CountsNow m → AfterPrint bytes m m' r → Keeps m.clock (LeavesJust m) (LeavesJust m')
-just_printed {m = m} counts print t files early was j p left =
-    ⊎_elim (λ before. was j p before) (λ now. was j m.printed (counts t j early now.0)) ((print.time.since t j p early).0 left)
+-- and where nothing changes at all, though an operation was begun
+pub keeps_begun : {name : List ℕ} (m : Meaning (List File)) {m' : Meaning (List File)} {g : Geometry} {vtoc : Run} (v : ℕ) (from to : Dsn) → m' ≡ m → Keeps m.clock (Rename v from to ∷ []) (ChangesOnlyNames name g vtoc m) (ChangesOnlyNames name g vtoc m')
+keeps_begun {name} m {g = g} {vtoc = vtoc} v from to same =
+    subst (λ (x : Meaning (List File)). Keeps m.clock (Rename v from to ∷ []) (ChangesOnlyNames name g vtoc m) (ChangesOnlyNames name g vtoc x)) (sym same) (λ ops t files early was j p left. changes_more ops v from to (was j p left))
+
+pub keeps_all : {name : List ℕ} {clock : ℕ} (m : Meaning (List File)) {g : Geometry} {vtoc : Run} → Keeps clock [] (ChangesOnlyNames name g vtoc m) (ChangesOnlyNames name g vtoc m)
+keeps_all m ops t files early was j p left = changes_no_more ops (was j p left)
 
 module _ {name : List ℕ} {m m' : Meaning (List File)} {v : Vol} (old new : Dsn) where
   -- what stops leave of an operation, by the shelf
@@ -105,11 +115,11 @@ module _ {name : List ℕ} {m m' : Meaning (List File)} {v : Vol} (old new : Dsn
   idle_seen : {T A : Type 0} {r : Result T StoreErr} (answer : Result A MachErr) → ¬ IsErrOf answer mach.Memory → Operates name (rename_on old new) v m m' r → IsIdle (step (shelf_named name m.state) (Rename 0 old new)) answer → Same (seen (shelf_named name) m) (seen (shelf_named name) m')
   idle_seen answer ample run = ⊎_elim (λ refused. same_seen (shelf_named name) (idle run refused.0 refused.1)) (λ short. absurd (ample short))
 
-  -- and what stops left stays
-  pub stays_idle : {T A : Type 0} {r : Result T StoreErr} (n : ℕ) (answer : Result A MachErr) → n ≡ 0 → ¬ IsErrOf answer mach.Memory → CountsNow m → Operates name (rename_on old new) v m m' r → IsIdle (step (shelf_named name m.state) (Rename n old new)) answer
-      → Keeps m.clock (LeavesJust m) (LeavesJust m')
-  stays_idle n answer is ample counts run = ⊎_elim
-      (λ refused. just_same counts (idle run refused.0 (ap (λ (k : ℕ). step (shelf_named name m.state) (Rename k old new)) (sym is) ∙ refused.1)))
+  -- and what was promised of stops is promised
+  pub keeps_idle : {T A : Type 0} {r : Result T StoreErr} {g : Geometry} {vtoc : Run} (n : ℕ) (answer : Result A MachErr) → n ≡ 0 → ¬ IsErrOf answer mach.Memory → CountsNow m → Operates name (rename_on old new) v m m' r → IsIdle (step (shelf_named name m.state) (Rename n old new)) answer
+      → Keeps m.clock [] (ChangesOnlyNames name g vtoc m) (ChangesOnlyNames name g vtoc m')
+  keeps_idle n answer is ample counts run = ⊎_elim
+      (λ refused. keeps_same counts (idle run refused.0 (ap (λ (k : ℕ). step (shelf_named name m.state) (Rename k old new)) (sym is) ∙ refused.1)))
       (λ short. absurd (ample short))
 
   -- it is done
@@ -148,31 +158,31 @@ applies_elsewhere name m volume v old new counts stands other = record {
 }
 
 -- files before a data set is put under its new name, or then
-renamed_or_not : {T E : Type 0} {name : List ℕ} {v : Vol} {from to : List ℕ} {m m' : Meaning (List File)} {r : Result T E} (files : List File) → IsMounted (image_named m.state name) v → (puts : PutsName name v from to m m' r) → (files ≡ m.state) ⊎ (files ≡ puts.after) → RenamesSets name m.state files
-renamed_or_not {name = name} {v = v} {from = from} {to = to} {m = m} files mounted puts =
-    ⊎_elim (λ before. ([], before))
-    (λ after. (puts.after ∷ [], (record { index = v; mounted = mounted; old = from; new = to; slot = puts.slot; found = puts.found; named = puts.named }, after)))
+renamed_or_not : {T E : Type 0} {name : List ℕ} {v : Vol} (from to : Dsn) {m m' : Meaning (List File)} {r : Result T E} (files : List File) → IsMounted (image_named m.state name) v → (puts : PutsName name v from.bytes to.bytes m m' r) → (files ≡ m.state) ⊎ (files ≡ puts.after) → (files ≡ m.state) ⊎ RenamesSet name from to m.state files
+renamed_or_not {name = name} {v = v} from to {m = m} files mounted puts =
+    ⊎_elim (λ before. inl before)
+    (λ after. inr (subst (RenamesSet name from to m.state) (sym after) (record { index = v; mounted = mounted; slot = puts.slot; found = puts.found; named = puts.named })))
 
 -- where the device failed, a data set was put so far
 pub puts_failed : {T : Type 0} {name : List ℕ} {v : Vol} {from to : List ℕ} {m m' : Meaning (List File)} (e : StoreErr) → e ≡ store.Device → WritesName {T = T} name v from to m m' (Err e) → PutsName {T = T} {E = StoreErr} name v from to m m' (Err store.Device)
 puts_failed {T = T} {name = name} {v = v} {from = from} {to = to} {m = m} {m' = m'} e is = subst (λ (x : StoreErr). WritesName {T = T} name v from to m m' (Err x)) is
 
 -- what was promised of stops is promised after an operation
-pub keeps_promise : {T T' E : Type 0} {name : List ℕ} {m m' : Meaning (List File)} {v v' : Vol} {operation : Volume → Result Volume Refusal} {from to : List ℕ} {r : Result T StoreErr} {r' : Result T' E} → CountsNow m → m.left m.state → IsMounted (image_named m.state name) v → PutsName name v from to m m' r' → Operates name operation v' m m' r
-    → Keeps m.clock (ChangesOnlyNames name v'.geometry v'.vtoc m) (ChangesOnlyNames name v'.geometry v'.vtoc m')
-keeps_promise {m = m} counts left mounted puts run t files early was j p stop =
+pub keeps_promise : {T T' E : Type 0} {name : List ℕ} {m m' : Meaning (List File)} {v v' : Vol} {operation : Volume → Result Volume Refusal} (n : ℕ) (from to : Dsn) {r : Result T StoreErr} {r' : Result T' E} → CountsNow m → m.left m.state → IsMounted (image_named m.state name) v → PutsName name v from.bytes to.bytes m m' r' → Operates name operation v' m m' r
+    → Keeps m.clock (Rename n from to ∷ []) (ChangesOnlyNames name v'.geometry v'.vtoc m) (ChangesOnlyNames name v'.geometry v'.vtoc m')
+keeps_promise {m = m} n from to counts left mounted puts run ops t files early was j p stop =
     let at_begin = was m.state m.printed (counts t m.state early left) in
-    ⊎_elim (λ before. was j p before)
-    (λ now. ⊎_elim (λ before. was j p before)
-    (λ named. changes_then at_begin (record { tracks = now.1.0; renames = renamed_or_not j mounted puts named.0 }))
+    ⊎_elim (λ before. changes_more ops n from to (was j p before))
+    (λ now. ⊎_elim (λ before. changes_more ops n from to (was j p before))
+    (λ named. record { tracks = tracks_then at_begin.tracks now.1.0; renames = renames_then ops n from to files at_begin.renames (renamed_or_not from to j mounted puts named.0) })
     (puts.step.moments.moments t j p early stop))
     (run.moments.moments t j p early stop)
 
 -- and after a print
 pub keeps_printed : {T E : Type 0} {name bytes : List ℕ} {m m' : Meaning (List File)} {g : Geometry} {vtoc : Run} {r : Result T E} → CountsNow m → AfterPrint bytes m m' r
-    → Keeps m.clock (ChangesOnlyNames name g vtoc m) (ChangesOnlyNames name g vtoc m')
-keeps_printed {m = m} counts print t files early was j p stop =
-    ⊎_elim (λ before. was j p before) (λ now. was j m.printed (counts t j early now.0)) ((print.time.since t j p early).0 stop)
+    → Keeps m.clock [] (ChangesOnlyNames name g vtoc m) (ChangesOnlyNames name g vtoc m')
+keeps_printed {m = m} counts print ops t files early was j p stop =
+    changes_no_more ops (⊎_elim (λ before. was j p before) (λ now. was j m.printed (counts t j early now.0)) ((print.time.since t j p early).0 stop))
 
 -- what is done has no error, and another error is another
 no_error : {A : Type 0} {y : A} {P : Type 0} → IsErrOf (Ok y) mach.Memory → P
@@ -223,23 +233,23 @@ module _ (units units' : List Attached) (v v' : Vol) (same_units : units' ≡ un
   applies_zero n old new m m' {r = r} is run = subst (λ (k : ℕ). Applies (Rename k old new) (seen (shelf_named (unit_of units v.unit).name) m) (seen (shelf_named (unit_of units' v'.unit).name) m') r) (sym is) (applies_at m m' run)
 
   -- and promises the same
-  pub promises_at : {clock : ℕ} (m m' : Meaning (List File)) → Keeps clock (ChangesOnlyNames (unit_of units v.unit).name v'.geometry v'.vtoc m) (ChangesOnlyNames (unit_of units v.unit).name v'.geometry v'.vtoc m')
-      → Keeps clock (ChangesOnlyNames (unit_of units v.unit).name v.geometry v.vtoc m) (ChangesOnlyNames (unit_of units' v'.unit).name v'.geometry v'.vtoc m')
-  promises_at m m' keeps t files early was =
+  pub promises_at : {clock : ℕ} {more : List Op} (m m' : Meaning (List File)) → Keeps clock more (ChangesOnlyNames (unit_of units v.unit).name v'.geometry v'.vtoc m) (ChangesOnlyNames (unit_of units v.unit).name v'.geometry v'.vtoc m')
+      → Keeps clock more (ChangesOnlyNames (unit_of units v.unit).name v.geometry v.vtoc m) (ChangesOnlyNames (unit_of units' v'.unit).name v'.geometry v'.vtoc m')
+  promises_at {more = more} m m' keeps ops t files early was =
       let g : v.geometry ≡ v'.geometry = sym (ap (λ (w : Vol). w.geometry) same_index) in
       let vtoc : v.vtoc ≡ v'.vtoc = sym (ap (λ (w : Vol). w.vtoc) same_index) in
       let name = (unit_of units v.unit).name in
-      subst (λ (n : List ℕ). ChangesOnlyNames n v'.geometry v'.vtoc m' t files) (sym same_name)
-      (keeps t files early (subst (λ (x : Geometry). ChangesOnlyNames name x v'.vtoc m t files) g (subst (λ (x : Run). ChangesOnlyNames name v.geometry x m t files) vtoc was)))
+      subst (λ (n : List ℕ). ChangesOnlyNames n v'.geometry v'.vtoc m' (ops ++ more) t files) (sym same_name)
+      (keeps ops t files early (subst (λ (x : Geometry). ChangesOnlyNames name x v'.vtoc m ops t files) g (subst (λ (x : Run). ChangesOnlyNames name v.geometry x m ops t files) vtoc was)))
 
   -- the index is kept
   pub kept_at : (files : List File) → IsMounted (image_named files (unit_of units v.unit).name) v' → IsKept (image_named files (unit_of units' v'.unit).name) v'
   kept_at files mounted = kept_of _ _ (subst (λ (n : List ℕ). IsMounted (image_named files n) v') (sym same_name) mounted)
 
 -- a print keeps the units
-pub printed_at : (units units' : List Attached) (unit : ℕ) → units' ≡ units → {clock : ℕ} {g : Geometry} {vtoc : Run} (m m' : Meaning (List File)) → Keeps clock (ChangesOnlyNames (unit_of units unit).name g vtoc m) (ChangesOnlyNames (unit_of units unit).name g vtoc m')
-    → Keeps clock (ChangesOnlyNames (unit_of units unit).name g vtoc m) (ChangesOnlyNames (unit_of units' unit).name g vtoc m')
-printed_at units units' unit same {clock} {g} {vtoc} m m' keeps = subst (λ (us : List Attached). Keeps clock (ChangesOnlyNames (unit_of units unit).name g vtoc m) (ChangesOnlyNames (unit_of us unit).name g vtoc m')) (sym same) keeps
+pub printed_at : (units units' : List Attached) (unit : ℕ) → units' ≡ units → {clock : ℕ} {g : Geometry} {vtoc : Run} (m m' : Meaning (List File)) → Keeps clock [] (ChangesOnlyNames (unit_of units unit).name g vtoc m) (ChangesOnlyNames (unit_of units unit).name g vtoc m')
+    → Keeps clock [] (ChangesOnlyNames (unit_of units unit).name g vtoc m) (ChangesOnlyNames (unit_of units' unit).name g vtoc m')
+printed_at units units' unit same {clock} {g} {vtoc} m m' keeps = subst (λ (us : List Attached). Keeps clock [] (ChangesOnlyNames (unit_of units unit).name g vtoc m) (ChangesOnlyNames (unit_of us unit).name g vtoc m')) (sym same) keeps
 
 pub prints_at : {T : Type 0} (units units' : List Attached) (unit : ℕ) → units' ≡ units → {tells : Bool} {bytes : List ℕ} (m m' : Meaning (List File)) {r : Result T MachErr} → Prints tells bytes (seen (shelf_named (unit_of units unit).name) m) (seen (shelf_named (unit_of units unit).name) m') r
     → Prints tells bytes (seen (shelf_named (unit_of units unit).name) m) (seen (shelf_named (unit_of units' unit).name) m') r
@@ -259,7 +269,7 @@ labelled (Some label) serial is = cc
 pub number_is : (image : List ℕ) (v : Vol) (serial : List ℕ) (b : Bool) → IsMounted image v → bytes_eq v.serial.bytes serial ≡ b → number_of (shelf_in (volume_of image)) serial ≡ cond b (Some 0) None
 unfolding volume_with
 number_is image v serial b mounted is =
-    let volume : Volume = volume_with v.geometry (unwrap_or (label_of image v.geometry) []) (run_of v.vtoc) (slots_of_vtoc image v.geometry (run_of v.vtoc)) in
+    let volume : Volume = volume_with v.geometry (unwrap_or (label_of image v.geometry) []) v.vtoc (slots_of_vtoc image v.geometry v.vtoc) in
     ap (λ r. number_of (shelf_in r) serial) mounted.volume
     ∙ only_number volume serial b (ap (λ (bytes : List ℕ). bytes_eq bytes serial) (labelled (label_of image v.geometry) v.serial.bytes mounted.index.serial) ∙ is)
 
@@ -317,7 +327,7 @@ same_base old new v v' is = record {
 pub same_plan : (image : List ℕ) (v : Vol) (volume : Volume) → IsMounted image v → volume_of image ≡ Ok volume → (v.geometry ≡ volume.geometry) × (v.vtoc ≡ volume.vtoc)
 unfolding volume_with
 same_plan image v volume mounted is =
-    let meant : volume_with v.geometry (unwrap_or (label_of image v.geometry) []) (run_of v.vtoc) (slots_of_vtoc image v.geometry (run_of v.vtoc)) ≡ volume = ok_same (sym mounted.volume ∙ is) in
+    let meant : volume_with v.geometry (unwrap_or (label_of image v.geometry) []) v.vtoc (slots_of_vtoc image v.geometry v.vtoc) ≡ volume = ok_same (sym mounted.volume ∙ is) in
     (ap (λ (w : Volume). w.geometry) meant, ap (λ (w : Volume). w.vtoc) meant)
   where
     ok_same : {a b : Volume} → ◌≡◌ {A = Result Volume MountErr} (Ok a) (Ok b) → a ≡ b

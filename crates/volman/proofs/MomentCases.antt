@@ -1,9 +1,8 @@
--- What was there and is there in a hall, on cases that a near reading of Run.antt and Machine.antt answers otherwise. Each comment names a wrong definition that the case tells from the right one.
+-- What was there and is there in a hall, on cases that a near reading of Run.antt answers otherwise. Each comment names a wrong definition that the case tells from the right one.
 use Rattle.std.proofs.Common.{◌≡◌, ◌≢◌, ◌≤◌, ℕ, List, [], ◌∷◌, length, codes, get_or, inl, inr, ⊎_elim, refl, sym, ap, arith}
 use Rattle.std.specs.Prelude.{◌⊎◌}
 use Rattle.hall_core.specs.Files.{File}
 use Rattle.hall_core.specs.Moments.{Meaning}
-use Rattle.volman.specs.Machine.{LeavesJust}
 use Rattle.volman.specs.Run.{IsCalmSince, LeavesFiles, Synced}
 
 -- one file, and the same file with another byte
@@ -41,16 +40,6 @@ calm_behind j p left = (⊎_elim (λ same. same) (λ before. absurd (omega (arit
 
 not_calm_before : ¬ IsCalmSince changed_at_1 1
 not_calm_before calm = apart (calm others [] (inr (omega arith, refl), refl)).0
-
--- just these files are left, whatever was printed, and no others
-just_these : LeavesJust (record (at_rest files (codes "A") 3) { left_since = λ t j p. j ≡ files }) 2 files
-just_these j p left = left
-
-just_behind : LeavesJust changed_at_1 2 files
-just_behind j p left = (calm_behind j p left).0
-
-another_file : ¬ LeavesJust changed_at_1 1 files
-another_file leaves = apart (leaves others [] (inr (omega arith, refl), refl))
 
 -- ---- files that stay
 

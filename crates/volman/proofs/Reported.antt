@@ -8,7 +8,7 @@ use Rattle.hall_core.specs.Files.{IsPrefixOf}
 use Rattle.util_syntax.specs.Lines.{card_number, next_word, outcome_words, result_line}
 use Rattle.util_syntax.specs.declared.statement.Rename.{Rename}
 use Rattle.vol_model.proofs.Steps.{Renames, renames_of, undone}
-use Rattle.vol_model.specs.Events.{Event, Do, Say, StandsIn, behind, begun, code_of, events_of, listing, operations_before, operations_up_to, reported, shelf_after, shelf_behind, whole_lines}
+use Rattle.vol_model.specs.Events.{Event, Do, Say, StandsIn, behind, begun, code_of, events_of, listing, operations_before, operations_of, operations_up_to, reported, shelf_after, shelf_behind, whole_lines}
 use Rattle.vol_model.specs.Shelf.{IsLawful, has_set, number_of, renamed, step}
 use Rattle.vol_model.specs.Words.{refusal_words}
 use Rattle.vol_model.specs.declared.contents.Shelf.{Shelf}
@@ -201,6 +201,32 @@ module _ (s : Shelf) (x : Rename) where
       by_step v (Err r) code = refl
 
       by_number : (o : Option ℕ) → code_of (item_on s x o ∷ []) ≡ 8 → shelf_behind s (events_of (item_on s x o ∷ [])) ≡ s
+      by_number None code = refl
+      by_number (Some v) code = by_step v (step s (operation_on x v)) code
+
+  -- a statement has no operation, or its own
+  pub operations_are : (operations_of (events_of (item_of s x ∷ [])) ≡ []) ⊎ ((v : ℕ) × (operations_of (events_of (item_of s x ∷ [])) ≡ operation_on x v ∷ []))
+  unfolding item_of
+  operations_are = by_number (number_of s x.serial.bytes)
+    where
+      by_step : (v : ℕ) (r : Result Shelf Refusal) → (operations_of (events_of (item_by x (operation_on x v) r ∷ [])) ≡ []) ⊎ ((w : ℕ) × (operations_of (events_of (item_by x (operation_on x v) r ∷ [])) ≡ operation_on x w ∷ []))
+      by_step v (Ok after) = inr (v, refl)
+      by_step v (Err r) = inl refl
+
+      by_number : (o : Option ℕ) → (operations_of (events_of (item_on s x o ∷ [])) ≡ []) ⊎ ((v : ℕ) × (operations_of (events_of (item_on s x o ∷ [])) ≡ operation_on x v ∷ []))
+      by_number None = inl refl
+      by_number (Some v) = by_step v (step s (operation_on x v))
+
+  -- none with a code of 8
+  pub no_operation_with_8 : code_of (item_of s x ∷ []) ≡ 8 → operations_of (events_of (item_of s x ∷ [])) ≡ []
+  unfolding item_of
+  no_operation_with_8 is = by_number (number_of s x.serial.bytes) is
+    where
+      by_step : (v : ℕ) (r : Result Shelf Refusal) → code_of (item_by x (operation_on x v) r ∷ []) ≡ 8 → operations_of (events_of (item_by x (operation_on x v) r ∷ [])) ≡ []
+      by_step v (Ok after) code = absurd (omega (arith, code))
+      by_step v (Err r) code = refl
+
+      by_number : (o : Option ℕ) → code_of (item_on s x o ∷ []) ≡ 8 → operations_of (events_of (item_on s x o ∷ [])) ≡ []
       by_number None code = refl
       by_number (Some v) code = by_step v (step s (operation_on x v)) code
 

@@ -1,8 +1,10 @@
 -- What a run of an item leaves on a pack, on cases that a near reading of Run.antt and Machine.antt answers otherwise. Each comment names a wrong definition that the case tells from the right one.
 use Rattle.std.proofs.Common.{◌≡◌, ◌≢◌, ◌≤◌, ℕ, zero, suc, List, [], ◌∷◌, ◌++◌, length, codes, get_or, inl, inr, ⊎_elim, refl, sym, ap, subst, ◌∙◌, arith}
-use Rattle.std.specs.Prelude.{◌⊎◌, Ok, Err}
-use Rattle.dadsm_ops.specs.Naming.{RenamesSets}
+use Rattle.std.specs.Prelude.{◌⊎◌, Ok, Err, take}
+use Rattle.dadsm_ops.proofs.RenameSetCases as renames
+use Rattle.dadsm_ops.proofs.SmallFiles as small
 use Rattle.dadsm_ops.specs.Operations.{ChangesVtoc, image_named}
+use Rattle.ebcdic_names.specs.declared.names.Dsn.{Dsn}
 use Rattle.hall_core.specs.Files.{File}
 use Rattle.hall_core.specs.Moments.{Meaning}
 use Rattle.pack_spec.specs.Volume.{volume_of}
@@ -12,6 +14,8 @@ use Rattle.vol_model.specs.Shelf.{step}
 use Rattle.vol_model.specs.declared.contents.Shelf.{Shelf}
 use Rattle.vol_model.specs.declared.contents.Volume.{Volume}
 use Rattle.vol_model.specs.declared.requests.Op.{Op}
+use Rattle.vol_model.specs.declared.requests.Op.TheVariants.{Rename}
+use Rattle.vtoc_index.proofs.SmallPack.{a, b, c, data_set, set_bytes}
 use Rattle.volman.specs.Machine.{ChangesOnlyNames, shelf_in, shelf_named, shelf_with}
 use Rattle.volman.specs.Run.{StopsInItems, StandsFor, StopStands}
 use Rattle.volman.proofs.MomentCases.{at_rest}
@@ -30,7 +34,7 @@ other_name : (image : List ℕ) → image_named (pack image) (codes "PA") ≡ []
 other_name image = refl
 
 module _ (volume after : Volume) (op : Op) (image image' : List ℕ) (stands : volume_of image ≡ Ok volume) (stands' : volume_of image' ≡ Ok after)
-    (steps : step (shelf_with volume) op ≡ Ok (shelf_with after)) (changed : Changes volume (pack image) (pack image')) (apart : volume ≢ after) where
+    (steps : step (shelf_with volume) op ≡ Ok (shelf_with after)) (changed : Changes volume (op ∷ []) (pack image) (pack image')) (apart : volume ≢ after) where
   abbrev before : Meaning (List File)
   before = at_rest (pack image) [] 0
 
@@ -51,10 +55,10 @@ module _ (volume after : Volume) (op : Op) (image image' : List ℕ) (stands : v
   Stops = StopStands file volume (item op ∷ []) before
 
   stopped_before : (q : List ℕ) → StandsIn (shelf_with volume) (events_of (item op ∷ [])) (shelf_with volume) q → Stops (pack image) q
-  stopped_before q place = record { shelf = shelf_with volume; stands = (volume, stands, refl); front = q; text = refl; place = place; changes = unchanged volume (pack image); idle = λ none. refl }
+  stopped_before q place = record { shelf = shelf_with volume; stands = (volume, stands, refl); front = q; text = refl; place = place; changes = unchanged volume (op ∷ []) (pack image) }
 
   stopped_behind : (q : List ℕ) → StandsIn (shelf_with volume) (events_of (item op ∷ [])) (shelf_with after) q → Stops (pack image') q
-  stopped_behind q place = record { shelf = shelf_with after; stands = (after, stands', refl); front = q; text = refl; place = place; changes = changed; idle = λ none. absurd (cc none) }
+  stopped_behind q place = record { shelf = shelf_with after; stands = (after, stands', refl); front = q; text = refl; place = place; changes = changed }
 
   nothing_printed_before : Stops (pack image) []
   nothing_printed_before = stopped_before [] (record { prefix = (line, refl); count = 0; least = omega arith; most = omega arith; state = refl })
@@ -99,10 +103,10 @@ module _ (volume after : Volume) (op : Op) (image image' : List ℕ) (stands : v
 
   -- nor did another file change
   other_left : ¬ StopStands file volume (item op ∷ []) (at_rest (beside image 1) [] 0) (beside image' 2) []
-  other_left stop = beside_stays volume image image' stop.changes
+  other_left stop = beside_stays volume (op ∷ []) image image' stop.changes
 
   -- where an operation is to be done, the VTOC of the volume from before may be another; where none is, not a byte is: to stand for the volume isn't enough
-  same_volume : (image'' : List ℕ) → volume_of image'' ≡ Ok volume → Changes volume (pack image) (pack image'') → Stops (pack image'') []
+  same_volume : (image'' : List ℕ) → volume_of image'' ≡ Ok volume → Changes volume (op ∷ []) (pack image) (pack image'') → Stops (pack image'') []
   same_volume image'' stands'' changed'' = record {
     shelf = shelf_with volume;
     stands = (volume, stands'', refl);
@@ -110,11 +114,10 @@ module _ (volume after : Volume) (op : Op) (image image' : List ℕ) (stands : v
     text = refl;
     place = record { prefix = (line, refl); count = 0; least = omega arith; most = omega arith; state = refl };
     changes = changed'';
-    idle = λ none. absurd (cc none);
   }
 
-  same_volume_idle : (image'' : List ℕ) → volume_of image'' ≡ Ok volume → Changes volume (pack image) (pack image'') → image'' ≢ image → ¬ StopStands file volume (idle ∷ []) before (pack image'') []
-  same_volume_idle image'' stands'' changed'' other stop = other (ap (λ (fs : List File). image_named fs file) (stop.idle refl))
+  same_volume_idle : (image'' : List ℕ) → volume_of image'' ≡ Ok volume → ChangesVtoc file volume.geometry volume.vtoc (pack image) (pack image'') → image'' ≢ image → ¬ StopStands file volume (idle ∷ []) before (pack image'') []
+  same_volume_idle image'' stands'' tracks other stop = other (ap (λ (fs : List File). image_named fs file) stop.changes.renames)
 
   idle_stays : StopStands file volume (idle ∷ []) before (pack image) line
   idle_stays = record {
@@ -123,8 +126,7 @@ module _ (volume after : Volume) (op : Op) (image image' : List ℕ) (stands : v
     front = line;
     text = refl;
     place = record { prefix = ([], refl); count = 0; least = omega arith; most = omega arith; state = refl };
-    changes = unchanged volume (pack image);
-    idle = λ none. refl;
+    changes = unchanged volume [] (pack image);
   }
 
   -- nor was the image changed to that of the volume behind an operation that the item doesn't have
@@ -149,7 +151,7 @@ module _ (volume after : Volume) (op : Op) (image image' : List ℕ) (stands : v
       by_count t (suc (suc n)) few is = absurd (omega (arith, few))
 
   -- and it may be behind it
-  second_behind_line : (second : Op) (image'' : List ℕ) (last : Volume) → volume_of image'' ≡ Ok last → step (shelf_with after) second ≡ Ok (shelf_with last) → Changes volume (pack image) (pack image'')
+  second_behind_line : (second : Op) (image'' : List ℕ) (last : Volume) → volume_of image'' ≡ Ok last → step (shelf_with after) second ≡ Ok (shelf_with last) → Changes volume (op ∷ second ∷ []) (pack image) (pack image'')
       → StopStands file volume (item op ∷ item second ∷ []) before (pack image'') line
   second_behind_line second image'' last stands'' steps' changed'' = record {
     shelf = shelf_with last;
@@ -158,7 +160,6 @@ module _ (volume after : Volume) (op : Op) (image image' : List ℕ) (stands : v
     text = refl;
     place = record { prefix = (line, refl); count = 2; least = omega arith; most = omega arith; state = sym (ap (λ (s : Shelf). behind s (step s second)) done_shelf ∙ ap (behind (shelf_with after)) steps') };
     changes = changed'';
-    idle = λ none. absurd (cc none);
   }
 
   -- ---- since the begin
@@ -182,28 +183,38 @@ module _ (volume after : Volume) (op : Op) (image image' : List ℕ) (stands : v
   before_the_begin : StopsInItems file volume (item op ∷ []) (at_rest (pack image) [] 1) (record done { left_since = λ t j p. ((t ≤ 0) × (j ≡ [])) ⊎ ((j ≡ pack image') × (p ≡ line)) })
   before_the_begin = record {
     later = omega arith;
-    stops = λ files printed left. ⊎_elim (λ early. absurd (omega (arith, early.0))) (λ is. let stop = stop_behind files printed is in record { shelf = stop.shelf; stands = stop.stands; front = stop.front; text = stop.text; place = stop.place; changes = stop.changes; idle = stop.idle }) left;
+    stops = λ files printed left. ⊎_elim (λ early. absurd (omega (arith, early.0))) (λ is. let stop = stop_behind files printed is in record { shelf = stop.shelf; stands = stop.stands; front = stop.front; text = stop.text; place = stop.place; changes = stop.changes }) left;
   }
 
   -- ---- the names alone
 
-  only_names : ChangesOnlyNames file volume.geometry volume.vtoc done 0 (pack image)
-  only_names j p left = subst (λ (fs : List File). Changes volume (pack image) fs) (sym left.0) changed
+  only_names : ChangesOnlyNames file volume.geometry volume.vtoc done (op ∷ []) 0 (pack image)
+  only_names j p left = subst (λ (fs : List File). Changes volume (op ∷ []) (pack image) fs) (sym left.0) changed
+
+  -- without the operation not a byte
+  not_without : ¬ ChangesOnlyNames file volume.geometry volume.vtoc done [] 0 (pack image)
+  not_without all = apart (stands_once image stands (ap (λ (fs : List File). volume_of (image_named fs file)) (sym (all (pack image') line (refl, refl)).renames) ∙ stands'))
 
   -- what was left before the moment alone doesn't count, and what was left since then does: another file is none of the names
   abbrev added_at_0 : Meaning (List File)
   added_at_0 = record done { left_since = λ t j p. ((t ≤ 0) × (j ≡ beside image' 2)) ⊎ (j ≡ pack image') }
 
-  only_names_behind : ChangesOnlyNames file volume.geometry volume.vtoc added_at_0 1 (pack image)
-  only_names_behind j p left = ⊎_elim (λ early. absurd (omega (arith, early.0))) (λ is. subst (λ (fs : List File). Changes volume (pack image) fs) (sym is) changed) left
+  only_names_behind : ChangesOnlyNames file volume.geometry volume.vtoc added_at_0 (op ∷ []) 1 (pack image)
+  only_names_behind j p left = ⊎_elim (λ early. absurd (omega (arith, early.0))) (λ is. subst (λ (fs : List File). Changes volume (op ∷ []) (pack image) fs) (sym is) changed) left
 
-  added_on_the_way : ¬ ChangesOnlyNames file volume.geometry volume.vtoc added_at_0 0 (pack image)
-  added_on_the_way all = none_beside volume image image' (all (beside image' 2) line (inl (omega arith, refl)))
+  added_on_the_way : ¬ ChangesOnlyNames file volume.geometry volume.vtoc added_at_0 (op ∷ []) 0 (pack image)
+  added_on_the_way all = none_beside volume (op ∷ []) image image' (all (beside image' 2) line (inl (omega arith, refl)))
 
   -- nor is one that stood there and was changed
-  not_only_names : ¬ ChangesOnlyNames file volume.geometry volume.vtoc (at_rest (beside image' 2) line 1) 0 (beside image 1)
-  not_only_names all = beside_stays volume image image' (all (beside image' 2) line (refl, refl))
+  not_only_names : ¬ ChangesOnlyNames file volume.geometry volume.vtoc (at_rest (beside image' 2) line 1) (op ∷ []) 0 (beside image 1)
+  not_only_names all = beside_stays volume (op ∷ []) image image' (all (beside image' 2) line (refl, refl))
 
-  -- nor is a byte of the VTOC that is none of a name, though the tracks outside it stay
-  other_byte : (image'' : List ℕ) → ChangesVtoc file volume.geometry volume.vtoc (pack image) (pack image'') → ¬ RenamesSets file (pack image) (pack image'') → ¬ Stops (pack image'') []
-  other_byte image'' tracks none stop = none stop.changes.renames
+-- ---- the bytes of names, on a pack with two sets that are alike in all but these
+
+-- a byte of the VTOC is another that is none of a name: the last of the slot that has the new one
+other_byte : (volume : Volume) (q : List ℕ) → ¬ StopStands small.pack volume (item (renames.rename a c) ∷ []) (at_rest renames.before [] 0) (renames.having (data_set b) (c ++ take 95 set_bytes ++ 9 ∷ [])) q
+other_byte volume q stop = renames.other_bytes_stay stop.changes.renames
+
+-- the two have exchanged their names, whatever name was to be given: the shelf is the one from before
+names_exchanged : (volume : Volume) (old new : Dsn) (q : List ℕ) → ¬ StopStands small.pack volume (item (Rename 0 old new) ∷ []) (at_rest renames.before [] 0) (renames.having (data_set a) (data_set b)) q
+names_exchanged volume old new q stop = renames.one_rename_does_not_exchange old new stop.changes.renames

@@ -20,7 +20,7 @@ use Rattle.volman.proofs.CasePacks.{Changes, beside, beside_stays, file, item, l
 use Rattle.volman.proofs.StopCases.{keeps, line_without_operation, stop_behind}
 
 module _ (volume after : Volume) (op : Op) (image image' : List ℕ) (stands : volume_of image ≡ Ok volume) (stands' : volume_of image' ≡ Ok after)
-    (steps : step (shelf_with volume) op ≡ Ok (shelf_with after)) (changed : Changes volume (pack image) (pack image')) (apart : volume ≢ after) where
+    (steps : step (shelf_with volume) op ≡ Ok (shelf_with after)) (changed : Changes volume (op ∷ []) (pack image) (pack image')) (apart : volume ≢ after) where
   abbrev before : Meaning (List File)
   before = at_rest (pack image) [] 0
 
@@ -65,7 +65,7 @@ module _ (volume after : Volume) (op : Op) (image image' : List ℕ) (stands : v
 
   -- nor is the right volume enough, where another file changed
   other_changed : ¬ HasWorked file volume (item op ∷ []) (at_rest (beside image 1) [] 0) (at_rest (beside image' 2) line 1) 0
-  other_changed all = beside_stays volume image image' all.changes
+  other_changed all = beside_stays volume (op ∷ []) image image' all.changes
 
   -- and an image that doesn't mount stands for no shelf
   unmounted : (image'' : List ℕ) (e : MountErr) → volume_of image'' ≡ Err e → ¬ HasWorked file volume (item op ∷ []) before (at_rest (pack image'') line 1) 0
@@ -106,7 +106,7 @@ module _ (volume after : Volume) (op : Op) (image image' : List ℕ) (stands : v
   since_earlier : ¬ WorksOn file volume (item op ∷ []) (at_rest (pack image) [] 1) (record done { left_since = λ t j p. ((t ≤ 0) × ((j ≡ pack image) × (p ≡ line))) ⊎ ((j ≡ pack image') × (p ≡ line)) }) 22
   since_earlier all =
       let stop = all.stops 0 (omega arith) (λ files printed left. left) (pack image) line (inl (omega arith, (refl, refl))) in
-      line_without_operation volume after op image image' stands stands' steps changed apart (record { shelf = stop.shelf; stands = stop.stands; front = stop.front; text = stop.text; place = stop.place; changes = stop.changes; idle = stop.idle })
+      line_without_operation volume after op image image' stands stands' steps changed apart (record { shelf = stop.shelf; stands = stop.stands; front = stop.front; text = stop.text; place = stop.place; changes = stop.changes })
 
   -- but where something else was, nothing is said of a stop
   never_calm : WorksOn file volume (item op ∷ []) (record before { left_since = λ t j p. j ≡ [] }) (record done { left_since = λ t j p. j ≡ [] }) 22

@@ -5,6 +5,7 @@ use Rattle.std.specs.List.{AllByRecursion}
 use Rattle.std.proofs.lemmas.List.{append-nil, length-set}
 use Rattle.ckd_image.specs.declared.header.Geometry.{Geometry}
 use Rattle.dadsm_ops.specs.Operations.{image_named}
+use Rattle.dadsm_ops.proofs.RenameChains.{none_renamed}
 use Rattle.hall_core.specs.Files.{File, file_of}
 use Rattle.hall_core.specs.Moments.{IsDurable, Meaning, Same}
 use Rattle.hall_core.specs.Steps.{seen}
@@ -30,7 +31,7 @@ use Rattle.vol_model.proofs.Steps.{renames_of}
 use Rattle.vol_model.proofs.Stops.{HasNoEmptyLine, no_empty_line_in_items, stop_is_between, stop_before_first_event}
 use Rattle.vtoc_index.specs.declared.vol.Vol.{Vol}
 use Rattle.vtoc_index.specs.Index.{IsMounted}
-use Rattle.volman.specs.Machine.{ChangesNames, ChangesOnlyNames, LeavesJust, shelf_in, shelf_named, shelf_with}
+use Rattle.volman.specs.Machine.{ChangesNames, ChangesOnlyNames, shelf_in, shelf_named, shelf_with}
 use Rattle.volman.specs.Run.{Does, Headline, HasWorked, IsCalmSince, IsFinal, StandsFor, StopStands, Synced, WorksOn}
 use Rattle.volman.specs.Statement.{answer_line, item_by, item_of, item_on, operation_on}
 use Rattle.volman.specs.Deck.{deck_of}
@@ -73,24 +74,28 @@ single item = append-nil (events_in item)
 single_code : (item : Item) → code_of (item ∷ []) ≡ item.code
 single_code item = omega arith
 
--- where its events have no operation, it has none
-none_in : (item : Item) → operations_of (events_in item) ≡ [] → item.operations ≡ []
-none_in item none = by_list item.operations none
+-- the operations among its events are its own
+no_more : (lines : List (List ℕ)) → operations_of (map Say lines) ≡ []
+no_more [] = refl
+no_more (line ∷ lines) = no_more lines
+
+operations_in : (item : Item) → operations_of (events_in item) ≡ item.operations
+operations_in item = by_list item.operations
   where
-    by_list : (ops : List Op) → operations_of (map Do ops ++ map Say item.lines) ≡ [] → ops ≡ []
-    by_list [] is = refl
-    by_list (op ∷ ops) is = absurd (cc is)
+    by_list : (ops : List Op) → operations_of (map Do ops ++ map Say item.lines) ≡ ops
+    by_list [] = no_more item.lines
+    by_list (op ∷ ops) = ap (λ (rest : List Op). op ∷ rest) (by_list ops)
 
 -- ---- files that are as before
 
-unchanged : (name : List ℕ) (g : Geometry) (vtoc : Run) (before after : List File) → after ≡ before → ChangesNames name g vtoc before after
-unchanged name g vtoc before after same =
-    let none : ChangesNames name g vtoc before before = record {
+unchanged : (name : List ℕ) (g : Geometry) (vtoc : Run) (ops : List Op) (before after : List File) → after ≡ before → ChangesNames name g vtoc ops before after
+unchanged name g vtoc ops before after same =
+    let none : ChangesNames name g vtoc ops before before = record {
       tracks = record { others = λ other apart. refl; image = record { size = refl; header = refl; tracks = λ track outside. refl } };
-      renames = ([], refl);
+      renames = none_renamed name ops before;
     }
     in
-    subst (λ (files : List File). ChangesNames name g vtoc before files) (sym same) none
+    subst (λ (files : List File). ChangesNames name g vtoc ops before files) (sym same) none
 
 -- since now a stop left what is there
 pub calm_now : (m : Meaning (List File)) → OnlyNow m → IsDurable m → IsCalmSince m m.clock
@@ -112,8 +117,7 @@ stopped_before file volume items old files printed stands_at have same text = re
   front = [];
   text = text ∙ sym (append-nil old.printed);
   place = stop_is_between (shelf_with volume) (events_of items) (shelf_with volume) [] have (stop_before_first_event (shelf_with volume) (events_of items));
-  changes = unchanged file volume.geometry volume.vtoc old.state files same;
-  idle = λ none. same;
+  changes = unchanged file volume.geometry volume.vtoc (operations_of (events_of items)) old.state files same;
 }
 
 -- items of which none was begun
@@ -140,7 +144,7 @@ worked_then file volume items {old} {mid} {new} status durable only same silent 
         printed = done.printed ∙ ap (λ (l : List ℕ). l ++ listing (events_of items)) same.printed;
         shelf = done.shelf;
         durable = done.durable;
-        changes = subst (λ (all : List File). ChangesNames file volume.geometry volume.vtoc all new.state) same.state done.changes;
+        changes = subst (λ (all : List File). ChangesNames file volume.geometry volume.vtoc (operations_of (events_of items)) all new.state) same.state done.changes;
       };
   silent = λ short. silent short ∙ same.printed;
   stops = record {
@@ -153,8 +157,7 @@ worked_then file volume items {old} {mid} {new} status durable only same silent 
           front = stop.front;
           text = stop.text ∙ ap (λ (l : List ℕ). l ++ stop.front) same.printed;
           place = stop.place;
-          changes = subst (λ (all : List File). ChangesNames file volume.geometry volume.vtoc all files) same.state stop.changes;
-          idle = λ none. stop.idle none ∙ same.state;
+          changes = subst (λ (all : List File). ChangesNames file volume.geometry volume.vtoc (operations_of (events_of items)) all files) same.state stop.changes;
         };
   };
 }
@@ -165,24 +168,20 @@ module _ (name name' : List ℕ) (m m' : Meaning (List File)) (v v' : Vol) (volu
     (mounted : IsMounted (image_named m.state name) v) (stands_at : volume_of (image_named m.state name) ≡ Ok volume)
     (same_name : name' ≡ name) (same_geometry : v'.geometry ≡ v.geometry) (same_vtoc : v'.vtoc ≡ v.vtoc)
     (have : HasNoEmptyLine (events_of (item ∷ [])))
-    (promise : Keeps m.clock (ChangesOnlyNames name v.geometry v.vtoc m) (ChangesOnlyNames name' v'.geometry v'.vtoc m'))
-    (stays : item.operations ≡ [] → Keeps m.clock (LeavesJust m) (LeavesJust m')) where
+    (promise : Keeps m.clock item.operations (ChangesOnlyNames name v.geometry v.vtoc m) (ChangesOnlyNames name' v'.geometry v'.vtoc m')) where
   here : shelf_named name m.state ≡ shelf_with volume
   here = ap shelf_in stands_at
 
-  -- names of data sets alone were changed
-  changed : (t : ℕ) → t ≤ m.clock → IsCalmSince m t → (files : List File) (printed : List ℕ) → m'.left_since t files printed → ChangesNames name volume.geometry volume.vtoc m.state files
+  -- names of data sets alone were changed, by the operations
+  changed : (t : ℕ) → t ≤ m.clock → IsCalmSince m t → (files : List File) (printed : List ℕ) → m'.left_since t files printed → ChangesNames name volume.geometry volume.vtoc (operations_of (events_of (item ∷ []))) m.state files
   changed t early calm files printed left =
       let plan = same_plan (image_named m.state name) v volume mounted stands_at in
-      let made = promise t m.state early (λ j p was. unchanged name v.geometry v.vtoc m.state j (calm j p was).0) files printed left in
-      subst (λ (n : List ℕ). ChangesNames n volume.geometry volume.vtoc m.state files) same_name
-      (subst (λ (g : Geometry). ChangesNames name' g volume.vtoc m.state files) (same_geometry ∙ plan.0)
-      (subst (λ (run : Run). ChangesNames name' v'.geometry run m.state files) (same_vtoc ∙ plan.1) made))
-
-  -- nothing was, where there is no operation
-  untouched : (t : ℕ) → t ≤ m.clock → IsCalmSince m t → (files : List File) (printed : List ℕ) → m'.left_since t files printed → operations_of (events_of (item ∷ [])) ≡ [] → files ≡ m.state
-  untouched t early calm files printed left none =
-      stays (none_in item (ap operations_of (sym (single item)) ∙ none)) t m.state early (λ j p was. (calm j p was).0) files printed left
+      let made = promise [] t m.state early (λ j p was. unchanged name v.geometry v.vtoc [] m.state j (calm j p was).0) files printed left in
+      let ops = ap operations_of (single item) ∙ operations_in item in
+      subst (λ (all : List Op). ChangesNames name volume.geometry volume.vtoc all m.state files) (sym ops)
+      (subst (λ (n : List ℕ). ChangesNames n volume.geometry volume.vtoc item.operations m.state files) same_name
+      (subst (λ (g : Geometry). ChangesNames name' g volume.vtoc item.operations m.state files) (same_geometry ∙ plan.0)
+      (subst (λ (run : Run). ChangesNames name' v'.geometry run item.operations m.state files) (same_vtoc ∙ plan.1) made)))
 
   -- where a stop stands, by the machine's shelf
   stopped : (t : ℕ) → t ≤ m.clock → IsCalmSince m t → (files : List File) (printed q : List ℕ) → m'.left_since t files printed → printed ≡ m.printed ++ q → StopsIn (shelf_with volume) (events_of (item ∷ [])) (shelf_named name files) q
@@ -197,7 +196,6 @@ module _ (name name' : List ℕ) (m m' : Meaning (List File)) (v v' : Vol) (volu
         text = text;
         place = place;
         changes = changed t early calm files printed left;
-        idle = untouched t early calm files printed left;
       }
 
   -- a stop since a moment
@@ -247,7 +245,7 @@ worked_synced {name} {volume} {items} {m} synced ends done = record {
   printed = synced.printed ∙ done.printed;
   shelf = subst (λ (all : List File). StandsFor name all (shelf_behind (shelf_with volume) (events_of items))) (sym synced.state) done.shelf;
   durable = synced.durable ends;
-  changes = subst (λ (all : List File). ChangesNames name volume.geometry volume.vtoc m.state all) (sym synced.state) done.changes;
+  changes = subst (λ (all : List File). ChangesNames name volume.geometry volume.vtoc (operations_of (events_of items)) m.state all) (sym synced.state) done.changes;
 }
 
 -- the outcome of items is a status with which the program ends, and no fault

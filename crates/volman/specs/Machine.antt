@@ -1,9 +1,9 @@
 -- The shelf that the machine over one image holds, and what it promises besides.
-use Rattle.std.specs.Prelude.{◌≡◌, ℕ, Bool, List, [], ◌∷◌, Result, Ok, Err}
+use Rattle.std.specs.Prelude.{ℕ, Bool, List, [], ◌∷◌, Result, Ok, Err}
 use Rattle.std.proofs.Common.{subst, sym}
 use Rattle.ckd_image.specs.Device.{row_of}
 use Rattle.ckd_image.specs.declared.header.Geometry.{Geometry}
-use Rattle.dadsm_ops.specs.Naming.{RenamesSets}
+use Rattle.dadsm_ops.specs.Naming.{RenamesSome}
 use Rattle.dadsm_ops.specs.Operations.{ChangesVtoc, image_named}
 use Rattle.hall_core.specs.Facts.{Attached, Facts}
 use Rattle.hall_core.specs.Files.{File}
@@ -16,6 +16,7 @@ use Rattle.vol_model.specs.Shelf.{IsLawful}
 use Rattle.vol_model.specs.declared.contents.Run.{Run}
 use Rattle.vol_model.specs.declared.contents.Shelf.{Shelf}
 use Rattle.vol_model.specs.declared.contents.Volume.{Volume}
+use Rattle.vol_model.specs.declared.requests.Op.{Op}
 use Rattle.vtoc_index.specs.declared.vol.Vol.{Vol}
 use Rattle.vtoc_index.specs.Kept.{IsKept}
 use Rattle.vtoc_index.proofs.KeptLemmas.{mounted_of}
@@ -51,18 +52,14 @@ base_of facts v = facts.references ∷ numbers_of v.geometry ∷ (v.vtoc.start �
 abbrev pub status_of : Bool → Facts → Vol → Status
 status_of is_sound facts v = record { is_sound = is_sound; base = base_of facts v; dev_faults = facts.dev_faults; print_faults = facts.print_faults }
 
--- Files differ in the image of this name alone, and that in the tracks of its VTOC, and there in the names of data sets: each other byte is as before.
-pub record ChangesNames (name : List ℕ) (g : Geometry) (vtoc : Run) (before after : List File) : Type 0 where
+-- Files differ in the image of this name alone, and that in the tracks of its VTOC, and there in the names that some of these operations gave to data sets: each other byte is as before, and each byte where there is no operation. The renames go by the index of the image at each; that no track outside this VTOC changed is said beside them.
+pub record ChangesNames (name : List ℕ) (g : Geometry) (vtoc : Run) (ops : List Op) (before after : List File) : Type 0 where
   pub tracks : ChangesVtoc name g vtoc before after
-  pub renames : RenamesSets name before after
+  pub renames : RenamesSome name ops before after
 
--- since that moment every stop leaves files that differ from these in the names of data sets of one image alone
-abbrev pub ChangesOnlyNames : List ℕ → Geometry → Run → Meaning (List File) → ℕ → List File → Type 0
-ChangesOnlyNames name g vtoc m t files = (j : List File) (p : List ℕ) → m.left_since t j p → ChangesNames name g vtoc files j
-
--- since that moment every stop leaves just these files
-abbrev pub LeavesJust : Meaning (List File) → ℕ → List File → Type 0
-LeavesJust m t files = (j : List File) (p : List ℕ) → m.left_since t j p → j ≡ files
+-- since that moment every stop leaves files that differ from these in the names alone that some of these operations gave to data sets of one image
+abbrev pub ChangesOnlyNames : List ℕ → Geometry → Run → Meaning (List File) → List Op → ℕ → List File → Type 0
+ChangesOnlyNames name g vtoc m ops t files = (j : List File) (p : List ℕ) → m.left_since t j p → ChangesNames name g vtoc ops files j
 
 -- the shelf of a mounted image is lawful
 pub lawful_in : (image : List ℕ) (v : Vol) → IsKept image v → IsLawful (shelf_in (volume_of image))

@@ -44,28 +44,27 @@ AddsPrefix text old new = (q : List ℕ) × IsPrefixOf q text × (new ≡ old ++
 abbrev pub StandsFor : List ℕ → List File → Shelf → Type 0
 StandsFor file files shelf = (volume : Volume) × (volume_of (image_named files file) ≡ Ok volume) × (shelf ≡ shelf_with volume)
 
--- All items were done: the status is their highest condition code, their lines were printed, the image stands durably for the shelf after all their operations, and nothing but names of data sets in its VTOC was changed.
+-- All items were done: the status is their highest condition code, their lines were printed, the image stands durably for the shelf after all their operations, and nothing was changed but names of data sets in its VTOC, by these operations.
 pub record HasWorked (file : List ℕ) (volume : Volume) (items : List Item) (old new : Meaning (List File)) (status : ℕ) : Type 0 where
   pub code : status ≡ events.code_of items
   pub printed : new.printed ≡ old.printed ++ listing (events_of items)
   pub shelf : StandsFor file new.state (shelf_behind (shelf_with volume) (events_of items))
   pub durable : IsDurable new
-  pub changes : ChangesNames file volume.geometry volume.vtoc old.state new.state
+  pub changes : ChangesNames file volume.geometry volume.vtoc (operations_of (events_of items)) old.state new.state
 
 -- the task was done, and this is its status
 abbrev pub IsEnd : Task → Meaning (List File) → Meaning (List File) → ℕ → Type 0
 IsEnd (Says code text) old new status = (status ≡ code) × (new.printed ≡ old.printed ++ text)
 IsEnd (Works file volume items) old new status = HasWorked file volume items old new status
 
--- What a stop leaves of a run of items: behind what was printed a prefix of their lines; an image that stands for the shelf after some of their operations, all that are reported and none that can't have begun; and nothing changed but names of data sets in its VTOC, and nothing at all where there is no operation.
+-- What a stop leaves of a run of items: behind what was printed a prefix of their lines; an image that stands for the shelf after some of their operations, all that are reported and none that can't have begun; and nothing changed but names of data sets in its VTOC, by some of these operations, so nothing at all where there is none.
 pub record StopStands (file : List ℕ) (volume : Volume) (items : List Item) (old : Meaning (List File)) (files : List File) (printed : List ℕ) : Type 0 where
   pub shelf : Shelf
   pub stands : StandsFor file files shelf
   pub front : List ℕ
   pub text : printed ≡ old.printed ++ front
   pub place : StandsIn (shelf_with volume) (events_of items) shelf front
-  pub changes : ChangesNames file volume.geometry volume.vtoc old.state files
-  pub idle : operations_of (events_of items) ≡ [] → files ≡ old.state
+  pub changes : ChangesNames file volume.geometry volume.vtoc (operations_of (events_of items)) old.state files
 
 -- A text was printed, or a prefix of it, and nothing was written: the files stay, and a stop leaves them as before.
 pub record KeepsFiles (text : List ℕ) (old new : Meaning (List File)) : Type 0 where
@@ -84,7 +83,7 @@ abbrev pub IsSafe : Task → Meaning (List File) → Meaning (List File) → Typ
 IsSafe (Says code text) old new = KeepsFiles text old new
 IsSafe (Works file volume items) old new = StopsInItems file volume items old new
 
--- A task is done where the status says so, and is safe whatever the status is; where memory ran out nothing was printed.
+-- A task is done where the status says so, and is safe whatever the status is; where memory ran out nothing was printed, since a run has one line, which comes last.
 pub record Does (task : Task) (old new : Meaning (List File)) (status : ℕ) : Type 0 where
   pub ends : IsFinal status → IsEnd task old new status
   pub silent : status ≡ 25 → new.printed ≡ old.printed

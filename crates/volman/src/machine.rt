@@ -1,6 +1,5 @@
 //! The machine over the image of one pack.
-ghost use Rattle.std.specs.Prelude.{◌≡◌, ℕ, ◌≤◌, List, Bool, true, IsTrue, Some, refl};
-ghost use Rattle.std.specs.Option.{option_map};
+ghost use Rattle.std.specs.Prelude.{◌≡◌, true, IsTrue, Some, refl};
 ghost use Rattle.hall_core.specs.Facts.{unit_of};
 ghost use Rattle.hall_core.specs.Files.{image_of};
 ghost use Rattle.hall_core.specs.Moments.{IsDurable};
@@ -10,7 +9,7 @@ ghost use Rattle.vol_model.specs.Shelf.{number_of, step};
 ghost use Rattle.vtoc_index.specs.Index.{IsMounted, IsOfUnit};
 ghost use Rattle.vtoc_index.specs.Kept.{IsKept};
 ghost use Rattle.vtoc_index.proofs.KeptProps.{kept_props};
-ghost use Rattle.volman.specs.Machine.{ChangesOnlyNames, LeavesJust, lawful_in, shelf_named, status_of};
+ghost use Rattle.volman.specs.Machine.{ChangesOnlyNames, lawful_in, shelf_named, status_of};
 
 use dadsm_ops::rename;
 use ebcdic_names::{Dsn, Serial};
@@ -70,15 +69,15 @@ impl<H: Hall> PackMachine<H> {
 }
 
 impl<H: Hall> PackMachine<H> {
-    ghost use Rattle.std.specs.Prelude.{IsErrOf};
+    ghost use Rattle.std.specs.Prelude.{[], ◌∷◌, IsErrOf};
     ghost use Rattle.vol_model.specs.Calls.{Applies, IsIdle, Keeps, MachineCall};
 
     // Gives a data set of the volume of this number another name.
     fn rename(&mut self, v: u8, old: &Dsn, new: &Dsn) -> Result<(), MachErr>
         requires sound { IsTrue self.old.is_sound }
         ensures shelf { IsTrue H.tells → Applies (Op.Rename v old.now new.now) (seen (shelf_named (unit_of (H.facts self.old.hall).units self.old.vol.unit).name) (H.meaning self.old.hall)) (seen (shelf_named (unit_of (H.facts self.new.hall).units self.new.vol.unit).name) (H.meaning self.new.hall)) result }
-        ensures promise { IsTrue H.tells → Keeps (H.meaning self.old.hall).clock (ChangesOnlyNames (unit_of (H.facts self.old.hall).units self.old.vol.unit).name self.old.vol.geometry self.old.vol.vtoc (H.meaning self.old.hall)) (ChangesOnlyNames (unit_of (H.facts self.new.hall).units self.new.vol.unit).name self.new.vol.geometry self.new.vol.vtoc (H.meaning self.new.hall)) }
-        ensures stays { IsTrue H.tells → IsIdle (step (shelf_named (unit_of (H.facts self.old.hall).units self.old.vol.unit).name (H.meaning self.old.hall).state) (Op.Rename v old.now new.now)) result → Keeps (H.meaning self.old.hall).clock (LeavesJust (H.meaning self.old.hall)) (LeavesJust (H.meaning self.new.hall)) }
+        ensures promise { IsTrue H.tells → Keeps (H.meaning self.old.hall).clock (Op.Rename v old.now new.now ∷ []) (ChangesOnlyNames (unit_of (H.facts self.old.hall).units self.old.vol.unit).name self.old.vol.geometry self.old.vol.vtoc (H.meaning self.old.hall)) (ChangesOnlyNames (unit_of (H.facts self.new.hall).units self.new.vol.unit).name self.new.vol.geometry self.new.vol.vtoc (H.meaning self.new.hall)) }
+        ensures idle { IsTrue H.tells → IsIdle (step (shelf_named (unit_of (H.facts self.old.hall).units self.old.vol.unit).name (H.meaning self.old.hall).state) (Op.Rename v old.now new.now)) result → Keeps (H.meaning self.old.hall).clock [] (ChangesOnlyNames (unit_of (H.facts self.old.hall).units self.old.vol.unit).name self.old.vol.geometry self.old.vol.vtoc (H.meaning self.old.hall)) (ChangesOnlyNames (unit_of (H.facts self.new.hall).units self.new.vol.unit).name self.new.vol.geometry self.new.vol.vtoc (H.meaning self.new.hall)) }
         ensures call { MachineCall (status_of self.old.is_sound (H.facts self.old.hall) self.old.vol) (status_of self.new.is_sound (H.facts self.new.hall) self.new.vol) result }
         ensures print { IsErrOf result MachErr.Print → ⊥ }
     {
@@ -106,9 +105,7 @@ impl<H: Hall> Machine for PackMachine<H> {
 
     ghost status = { λ m. status_of m.is_sound (H.facts m.hall) m.vol };
 
-    ghost promise = { λ m t files. ChangesOnlyNames (unit_of (H.facts m.hall).units m.vol.unit).name m.vol.geometry m.vol.vtoc (H.meaning m.hall) t files };
-
-    ghost stays = { λ m t files. LeavesJust (H.meaning m.hall) t files };
+    ghost promise = { λ m ops t files. ChangesOnlyNames (unit_of (H.facts m.hall).units m.vol.unit).name m.vol.geometry m.vol.vtoc (H.meaning m.hall) ops t files };
 
     ghost lawful = { λ m told sound. lawful_in _ _ (m.kept sound told) };
 

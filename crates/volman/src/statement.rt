@@ -29,8 +29,7 @@ pub fn run_rename<M: Machine>(
     ensures code { IsTrue M.tells → IfOk result (λ code. code ≡ (item_of (M.meaning machine.old).state statement.now).code) }
     ensures small { IfOk result (λ code. code ≤ 16) }
     ensures silent { IsTrue M.tells → IsErrOf result Stop.Memory → (M.meaning machine.new).printed ≡ (M.meaning machine.old).printed }
-    ensures promise { IsTrue M.tells → Keeps (M.meaning machine.old).clock (M.promise machine.old) (M.promise machine.new) }
-    ensures stays { IsTrue M.tells → (item_of (M.meaning machine.old).state statement.now).operations ≡ [] → Keeps (M.meaning machine.old).clock (M.stays machine.old) (M.stays machine.new) }
+    ensures promise { IsTrue M.tells → Keeps (M.meaning machine.old).clock (item_of (M.meaning machine.old).state statement.now).operations (M.promise machine.old) (M.promise machine.new) }
     ensures call { RunCall (M.status machine.old) (M.status machine.new) result }
 {
     let outcome = rename(machine, volume, statement)?;
@@ -52,8 +51,7 @@ fn rename<M: Machine>(
     ensures lines { IsTrue M.tells → IfOk result (λ outcome. (item_on (M.meaning machine.old).state statement.now volume).lines ≡ answer_line statement.now outcome ∷ []) }
     ensures code { IsTrue M.tells → IfOk result (λ outcome. (item_on (M.meaning machine.old).state statement.now volume).code ≡ code_for outcome) }
     ensures printed { IsTrue M.tells → (M.meaning machine.new).printed ≡ (M.meaning machine.old).printed }
-    ensures promise { IsTrue M.tells → Keeps (M.meaning machine.old).clock (M.promise machine.old) (M.promise machine.new) }
-    ensures stays { IsTrue M.tells → (item_on (M.meaning machine.old).state statement.now volume).operations ≡ [] → Keeps (M.meaning machine.old).clock (M.stays machine.old) (M.stays machine.new) }
+    ensures promise { IsTrue M.tells → Keeps (M.meaning machine.old).clock (item_on (M.meaning machine.old).state statement.now volume).operations (M.promise machine.old) (M.promise machine.new) }
     ensures call { RunCall (M.status machine.old) (M.status machine.new) result }
 {
     let Some(v) = volume else {
@@ -78,8 +76,7 @@ fn say<M: Machine>(machine: &mut M, line: &[u8]) -> Result<(), Stop>
     requires sound { IsTrue (M.status machine.old).is_sound }
     ensures runs { IsTrue M.tells → Runs M.tells_prints (Say line.now ∷ []) (M.meaning machine.old) (M.meaning machine.new) result }
     ensures silent { IsTrue M.tells → IsErrOf result Stop.Memory → (M.meaning machine.new).printed ≡ (M.meaning machine.old).printed }
-    ensures promise { IsTrue M.tells → Keeps (M.meaning machine.old).clock (M.promise machine.old) (M.promise machine.new) }
-    ensures stays { IsTrue M.tells → Keeps (M.meaning machine.old).clock (M.stays machine.old) (M.stays machine.new) }
+    ensures promise { IsTrue M.tells → Keeps (M.meaning machine.old).clock [] (M.promise machine.old) (M.promise machine.new) }
     ensures call { RunCall (M.status machine.old) (M.status machine.new) result }
 {
     match machine.print(line) {

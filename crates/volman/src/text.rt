@@ -1,10 +1,10 @@
 //! The texts that the program prints.
-ghost use Rattle.std.specs.Prelude.{◌≡◌, ◌++◌, List, ℕ, IfOk, OnOk};
-ghost use Rattle.volman.specs.Lines.{deck_line, words_line, unit_line, name_line, names_listing};
+ghost use Rattle.std.specs.Prelude.{◌≡◌, IfOk};
+ghost use Rattle.volman.specs.Lines.{unit_line, names_listing};
 
 use crate::reason::push_reason;
-use ebcdic_names::{to_ascii, without_blanks};
 use std::alloc::{AllocError, Global};
+use util_syntax::push_name_in_ascii;
 use vtoc_index::MountErr;
 
 /// Where the words are refused.
@@ -27,25 +27,14 @@ pub fn unit_line(alloc: Global, file: &str, why: MountErr) -> Result<Vec<u8>, Al
 }
 
 /// The names, each on a line without the blanks behind it.
-#[tactic(auto, unfolding(crate::specs::Lines::names_listing))]
+#[tactic(auto, unfolding(crate::specs::Lines::names_listing, crate::specs::Lines::name_line))]
 pub fn listing(alloc: Global, names: &[[u8; 44]]) -> Result<Vec<u8>, AllocError>
     ensures { IfOk result (λ text. text.items ≡ names_listing names.now) }
 {
     let mut text = Vec::new(alloc);
     for name in names {
-        push_name(&mut text, name)?;
+        push_name_in_ascii(&mut text, name)?;
+        text.push(b'\n')?;
     }
     Ok(text)
-}
-
-// Adds a name and the end of its line.
-#[tactic(auto, unfolding(crate::specs::Lines::name_line, ebcdic_names::specs::Names::shown))]
-fn push_name(text: &mut Vec<u8>, name: &[u8]) -> Result<(), AllocError>
-    ensures { OnOk result (text.new.items ≡ text.old.items ++ name_line name.now) }
-{
-    for byte in without_blanks(name) {
-        text.push(to_ascii(*byte))?;
-    }
-    text.push(b'\n')?;
-    Ok(())
 }

@@ -1,5 +1,5 @@
 //! The top call: all that the program does.
-ghost use Rattle.std.specs.Prelude.{◌≡◌, ◌≢◌, ◌≤◌, ◌⊎◌, [], ◌++◌, List, ℕ, map, string_bytes, IsTrue, IfOk, Some, None};
+ghost use Rattle.std.specs.Prelude.{◌≡◌, ◌≢◌, ◌≤◌, ◌⊎◌, [], List, ℕ, map, string_bytes, IsTrue, IfOk, Some, None};
 ghost use Rattle.hall_core.specs.Facts.{Rose};
 ghost use Rattle.hall_core.specs.Files.{file_of};
 ghost use Rattle.volman.specs.Deck.{deck_of};

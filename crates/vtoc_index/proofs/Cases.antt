@@ -1,20 +1,22 @@
 -- Definitions on cases at which near readings of them give something else.
-use Rattle.std.proofs.Common.{◌≡◌, ◌≢◌, ◌+◌, inl, inr, ℕ, List, [], ◌∷◌, ◌++◌, length, replicate, Some, None, refl, sym, ap, subst, ◌∙◌, arith}
+use Rattle.std.proofs.Common.{◌≡◌, ◌≢◌, ◌+◌, inl, inr, ℕ, List, [], ◌∷◌, ◌++◌, get_or, length, replicate, Some, None, refl, sym, ap, subst, ◌∙◌, arith}
 use Rattle.std.specs.Prelude.{Option, Ok, Err}
 use Rattle.std.specs.List.{range_with_len}
 use Rattle.ckd_image.specs.declared.device.DiskType.TheVariants.{D2311}
 use Rattle.ckd_image.specs.declared.header.Geometry.{Geometry}
 use Rattle.ckd_image.specs.declared.header.ImageErr.TheVariants.{BadMagic}
-use Rattle.ckd_image.specs.Header.{geometry_of, geometry_on}
+use Rattle.ckd_image.specs.Header.{HasGeometry, geometry_of, geometry_on}
 use Rattle.ckd_image.specs.Reading.{records_of, is_front}
 use Rattle.ckd_image.specs.Track.{Record}
 use Rattle.dscb_codec.specs.declared.Dscb.{Dscb}
 use Rattle.dscb_codec.specs.declared.Dscb.TheVariants as formats
 use Rattle.dscb_codec.specs.declared.DscbErr.TheVariants.{Unsupported, BadFormat}
 use Rattle.dscb_codec.specs.declared.F1.{F1}
-use Rattle.hall_core.specs.Facts.{Attached, Facts}
+use Rattle.dscb_codec.specs.Layout.{refusal_of}
+use Rattle.hall_core.specs.Facts.{Attached, Facts, unit_of}
 use Rattle.pack_spec.specs.Label.{records_on, track_bytes}
-use Rattle.pack_spec.specs.Slots.{first_extents, slots_of_vtoc}
+use Rattle.pack_spec.specs.Faults.{slots_faults}
+use Rattle.pack_spec.specs.Slots.{addressed_from, first_extents, slots_of_vtoc}
 use Rattle.pack_spec.specs.Vtoc.{slots_on}
 use Rattle.pack_spec.specs.Volume.{volume_of}
 use Rattle.pack_spec.specs.declared.MountErr.TheVariants.{Device, Image, Memory, NoLabel}
@@ -22,7 +24,7 @@ use Rattle.pack_spec.specs.declared.addressed.VtocSlot.{VtocSlot}
 use Rattle.track_records.specs.Buffers.{Buffer}
 use Rattle.vtoc_index.specs.Calls.{MountCall}
 use Rattle.vtoc_index.specs.Contents.{AreDscbs, AreRead, IsContent, IsRead, with_bytes}
-use Rattle.vtoc_index.specs.Index.{AreFirsts, IsIndexOf, IsOfUnit, IsPut, IsReason, firsts_of, place_of_slot, run_of, slots_in_front, track_index}
+use Rattle.vtoc_index.specs.Index.{AreFirsts, IsIndexOf, IsOfUnit, IsPut, IsReason, firsts_of, place_of_slot, serial_on, slots_in_front, track_index}
 use Rattle.vtoc_index.specs.Kept.{IsKept}
 use Rattle.vtoc_index.specs.Puts.{HasSlot, IsHeld, IsReplaced, IsWith, SameBut}
 use Rattle.vtoc_index.specs.Reading.{Adds, AreNumbered, AreTracksRead, IsExtent, IsLabel, Refuses, Says, record_number, slot_of}
@@ -39,7 +41,7 @@ read_lists_are_as_long x s = (tt, λ are. are, λ are. are, λ are. are.1, λ ar
 dscb_lists_are_as_long : (d : Dscb) (s : VtocSlot) → AreDscbs [] [] × (¬ AreDscbs (d ∷ []) []) × (¬ AreDscbs [] (s ∷ [])) × (¬ AreDscbs (d ∷ d ∷ []) (s ∷ [])) × (¬ AreDscbs (d ∷ []) (s ∷ s ∷ []))
 dscb_lists_are_as_long d s = (tt, λ are. are, λ are. are, λ are. are.1, λ are. are.1)
 
-index_is_as_long : (image : List ℕ) (v : Vol) (s : VtocSlot) → slots_of_vtoc image v.geometry (run_of v.vtoc) ≡ s ∷ [] → v.slots.items ≡ [] → (¬ IsIndexOf image v) × (¬ IsKept image v)
+index_is_as_long : (image : List ℕ) (v : Vol) (s : VtocSlot) → slots_of_vtoc image v.geometry v.vtoc ≡ s ∷ [] → v.slots.items ≡ [] → (¬ IsIndexOf image v) × (¬ IsKept image v)
 index_is_as_long image v s stand held = (λ is. rw (held, stand) at is.slots, λ is. rw (held, stand) at is.slots)
 
 firsts_are_as_many : (image : List ℕ) (g : Geometry) (found : ReadSlots) (n : ℕ) → found.firsts.items ≡ n ∷ [] → ¬ AreTracksRead image g 1 2 found
@@ -84,6 +86,10 @@ contents = ((refl, refl, tt), λ is. cc, refl, λ is. cc)
 read : (s : VtocSlot) → s.bytes ≡ replicate 140 0 → IsRead (record { address = s.address; content = Ok formats.F0 }) s
 read s is = record { address = refl; content = subst (IsContent (Ok formats.F0)) (sym is) contents.0 }
 
+-- what it holds is what its bytes are
+other_content : (s : VtocSlot) → s.bytes ≡ replicate 140 0 → ¬ IsRead (record { address = s.address; content = Err (BadFormat 0) }) s
+other_content s is read = let never : None ≡ Some (BadFormat 0) = subst (λ (bytes : List ℕ). refusal_of bytes ≡ Some (BadFormat 0)) is read.content in cc
+
 -- want of memory and a fault of the device say nothing of the image, and another reason is its first
 reasons : (image : List ℕ) → IsReason image Memory × IsReason image Device
 reasons image = (tt, tt)
@@ -102,6 +108,10 @@ label = record { serial = record { bytes = 4 ∷ 5 ∷ 6 ∷ 7 ∷ 8 ∷ 9 ∷ [
 says : Says label (range_with_len 0 80) × IsLabel (Some (range_with_len 0 80)) label × (¬ IsLabel None label)
 unfolding label
 says = (record { serial = refl; vtoc = refl }, record { serial = refl; vtoc = refl }, λ is. is)
+
+other_serial : ¬ Says (record label { serial = record { bytes = 5 ∷ 5 ∷ 6 ∷ 7 ∷ 8 ∷ 9 ∷ [] } }) (range_with_len 0 80)
+unfolding label
+other_serial says = let first : 5 ≡ 4 = ap (λ (l : List ℕ). get_or l 0 0) says.serial in absurd (omega (arith, first))
 
 -- a slot has both lengths, and a record that isn't there has none
 slot : ℕ → ℕ → Record
@@ -180,3 +190,30 @@ not_replaced v c d is other = (λ replaced. old replaced, λ with. old with.done
 -- a count stands still, unless a fault is answered
 not_called : (facts : Facts) → facts.dev_faults ≡ 3 → (¬ MountCall {T = ℕ} facts facts (Err Device)) × (¬ MountCall {T = ℕ} facts (record facts { dev_faults = 4 }) (Err NoLabel))
 not_called facts is = (λ call. let rose = call.device refl in absurd (omega (arith, is, rose)), λ call. let still = call.others (λ no. cc) in absurd (omega (arith, is, still)))
+
+-- what was added stands behind what there was, and was read from the slots of the track
+module _ (g : Geometry) (track : ℕ) (x : ReadSlot) where
+  others_stay : ¬ Adds g track [] (x ∷ []) []
+  others_stay adds = absurd (cc adds.added)
+
+  read_from_none : ¬ Adds g track [] [] (x ∷ [])
+  read_from_none adds =
+      let is : Some [] ≡ Some adds.bytes = adds.are_slots in
+      let none : [] ≡ adds.bytes = cc in
+      let one : x ∷ [] ≡ adds.slots = adds.added in
+      subst (λ (bytes : List (List ℕ)). AreRead (x ∷ []) (addressed_from g track 1 bytes)) (sym none) (subst (λ (xs : List ReadSlot). AreRead xs (addressed_from g track 1 adds.bytes)) (sym one) adds.read)
+
+-- an index has the serial of its image and the size of its unit, and a kept one breaks no rule
+module _ (image : List ℕ) (v : Vol) where
+  serial_of_another : serial_on image v.geometry ≢ Some v.serial.bytes → (¬ IsIndexOf image v) × (¬ IsKept image v)
+  serial_of_another other = (λ is. other is.serial, λ is. other is.serial)
+
+  breaks_a_rule : slots_faults v.geometry (slots_of_vtoc image v.geometry v.vtoc) ≢ [] → ¬ IsKept image v
+  breaks_a_rule broken is = broken is.lawful
+
+  of_another_size : (units : List Attached) → ¬ HasGeometry (unit_of units v.unit).size v.geometry → ¬ IsOfUnit units v
+  of_another_size units other is = other is.whole
+
+  -- behind an error the index is as before, but for its buffer
+  other_unit : (d : Dscb) → ¬ IsWith {T = Unit {0}} {E = Unit {0}} 0 d v (record v { unit = v.unit + 1 }) (Err tt)
+  other_unit d is = let same : v.unit + 1 ≡ v.unit = ap (λ (x : Vol). x.unit) is.failed.others in absurd (omega (arith, same))

@@ -1,5 +1,5 @@
 -- The label among the records that a buffer holds.
-use Rattle.std.proofs.Common.{◌≡◌, ◌≢◌, ℕ, Bool, true, false, cond, List, [], ◌∷◌, length, Option, Some, None, refl, ap, ◌∙◌, arith}
+use Rattle.std.proofs.Common.{◌≡◌, ℕ, Bool, true, false, cond, List, [], ◌∷◌, length, Option, Some, None, refl, ap, ◌∙◌, arith}
 use Rattle.std.specs.Prelude.{unwrap_or}
 use Rattle.std.specs.Option.{option_map}
 use Rattle.ckd_image.specs.Track.{Record}
@@ -32,12 +32,3 @@ label_found xs content three are is = label_in-three xs three ∙ chosen _ true 
 
 pub label_not : (xs : List Record) → length xs ≡ 3 → are_label (record_number xs 0) (record_number xs 1) (record_number xs 2) ≡ false → label_in xs ≡ None
 label_not xs three are = label_in-three xs three ∙ chosen _ false _ _ are
-
--- fewer or more have none
-pub label_in-other : (xs : List Record) → length xs ≢ 3 → label_in xs ≡ None
-unfolding label_in
-label_in-other [] n = refl
-label_in-other (x ∷ []) n = refl
-label_in-other (x ∷ y ∷ []) n = refl
-label_in-other (x ∷ y ∷ z ∷ []) n = absurd (n refl)
-label_in-other (x ∷ y ∷ z ∷ w ∷ ws) n = refl

@@ -27,3 +27,7 @@ pub mod LawfulVolumes
 pub mod KeptLemmas
 pub mod KeptProps
 mod Cases
+pub mod SmallPack
+pub mod MountCases
+pub mod PutCases
+mod RuleCases

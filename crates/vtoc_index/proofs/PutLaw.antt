@@ -16,9 +16,10 @@ use Rattle.ckd_image.specs.Track.{Record}
 use Rattle.dscb_codec.specs.declared.Dscb.{Dscb}
 use Rattle.dscb_codec.specs.Layout.{IsDscb}
 use Rattle.hall_core.specs.Files.{patched}
+use Rattle.vol_model.specs.declared.contents.Run.{Run}
 use Rattle.pack_spec.specs.declared.addressed.VtocSlot.{VtocSlot}
 use Rattle.pack_spec.specs.Label.{are_label, heads_of, ipl1, ipl2, vol1, is_keyed, label_in, label_of, records_on, track_bytes}
-use Rattle.pack_spec.specs.Vtoc.{Run, is_slot, slot_bytes, slots_on}
+use Rattle.pack_spec.specs.Vtoc.{is_slot, slot_bytes, slots_on}
 use Rattle.pack_spec.specs.Slots.{slots_at, slots_of_vtoc}
 use Rattle.pack_spec.specs.Faults.{track_fault}
 use Rattle.pack_spec.specs.Views.{tracks_of}
@@ -29,7 +30,7 @@ use Rattle.track_records.proofs.StandLemmas.{stand}
 use Rattle.track_records.proofs.WrittenLemmas.{updated}
 use Rattle.vtoc_index.specs.declared.vol.Vol.{Vol}
 use Rattle.vtoc_index.specs.Contents.{AreDscbs, with_bytes}
-use Rattle.vtoc_index.specs.Index.{IsIndexOf, IsPut, place_of_slot, run_of, slots_in_front, track_index}
+use Rattle.vtoc_index.specs.Index.{IsIndexOf, IsPut, place_of_slot, slots_in_front, track_index}
 use Rattle.vtoc_index.specs.Puts.{HasSlot, IsHeld, IsReplaced}
 use Rattle.ckd_image.proofs.GeometryLemmas.{has_geometry}
 use Rattle.vtoc_index.proofs.HeldLemmas.{held_slot}
@@ -47,7 +48,7 @@ front_of v slot = slots_in_front v.firsts.items slot
 
 -- The record that a slot is: where it stands, and the records of its track.
 pub record Found (image : List ℕ) (v : Vol) (slot : ℕ) : Type 0 where
-  pub stands : Stands image v.geometry (run_of v.vtoc) (track_index v.firsts.items slot) (front_of v slot) slot
+  pub stands : Stands image v.geometry v.vtoc (track_index v.firsts.items slot) (front_of v slot) slot
   pub has : HasSlot image v.geometry (track_of v slot) (front_of v slot + 1)
   pub records : List Record
   pub read : records_on image v.geometry None (track_of v slot) ≡ Some records
@@ -57,7 +58,7 @@ pub record Found (image : List ℕ) (v : Vol) (slot : ℕ) : Type 0 where
 pub slot_found : (image : List ℕ) (v : Vol) (slot : ℕ) → IsIndexOf image v → slot < length v.slots.items → Found image v slot
 slot_found image v slot index low =
     let g : Geometry = v.geometry in
-    let vtoc : Run = run_of v.vtoc in
+    let vtoc : Run = v.vtoc in
     let stands = slot_stands image g vtoc v.firsts.items slot index.firsts (omega (arith, low, same_length v.slots.items (slots_of_vtoc image g vtoc) index.slots)) in
     let found = slots_found image g (track_of v slot) (front_of v slot) stands.there in
     let of = slot_records image g (track_of v slot) found.0 found.1.0 in
@@ -202,9 +203,9 @@ put_updated image put v slot key content f index keys contents is u = record {
   size = u.size;
   header = u.header;
   label = same_label image put g (u.others 0 apart);
-  slots = vtoc_put image put g (run_of v.vtoc) (key ++ content) (track_index v.firsts.items slot) (front_of v slot) slot f.stands wrote.slots (λ j other. same_slots image put g j (same_slots_on image put g j (u.others j other)));
-  tracks = same_faults image put g (run_of v.vtoc) faults ∙ index.tracks;
-  firsts = same_firsts image put g (run_of v.vtoc) counts;
+  slots = vtoc_put image put g v.vtoc (key ++ content) (track_index v.firsts.items slot) (front_of v slot) slot f.stands wrote.slots (λ j other. same_slots image put g j (same_slots_on image put g j (u.others j other)));
+  tracks = same_faults image put g v.vtoc faults ∙ index.tracks;
+  firsts = same_firsts image put g v.vtoc counts;
   others = u.others;
 }
   where
@@ -259,7 +260,7 @@ index_put image put v v' slot d bytes index is dscb replaced held =
       tracks = is.tracks;
       slots =
           subst (λ (ss : List VtocSlot). AreDscbs v'.slots.items ss) (sym is.slots)
-          (subst (λ (ds : List Dscb). AreDscbs ds (with_bytes slot bytes (slots_of_vtoc image g (run_of v.vtoc)))) (sym replaced.items) (dscbs_put slot d bytes v.slots.items (slots_of_vtoc image g (run_of v.vtoc)) dscb index.slots));
+          (subst (λ (ds : List Dscb). AreDscbs ds (with_bytes slot bytes (slots_of_vtoc image g v.vtoc))) (sym replaced.items) (dscbs_put slot d bytes v.slots.items (slots_of_vtoc image g v.vtoc) dscb index.slots));
       firsts = index.firsts ∙ sym is.firsts;
       buffer = held;
     } in

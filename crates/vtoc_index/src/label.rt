@@ -6,7 +6,6 @@ ghost use Rattle.hall_core.specs.Facts.{unit_of};
 ghost use Rattle.hall_core.specs.Files.{image_of};
 ghost use Rattle.hall_core.specs.Moments.{Same};
 ghost use Rattle.pack_spec.specs.Label.{address_at, are_label, is_keyed, label_in, label_of};
-ghost use Rattle.pack_spec.specs.Views.{address_of};
 ghost use Rattle.pack_spec.specs.Volume.{volume_within};
 ghost use Rattle.pack_spec.specs.Vtoc.{vtoc_of};
 ghost use Rattle.vtoc_index.specs.Calls.{MountCall};
@@ -124,7 +123,7 @@ fn data_held(buf: &TrackBuf, r: u8) -> &[u8]
 fn label_of(label: &[u8]) -> Label
     requires { length label.now ≡ 80 }
     ensures serial { result.serial.bytes ≡ slice_range label.now 4 10 }
-    ensures vtoc { address_of result.vtoc ≡ address_at 11 label.now }
+    ensures vtoc { result.vtoc ≡ address_at 11 label.now }
 {
     let mut bytes = [0; 6];
     bytes.copy_from_slice(&label[SERIAL_AT..SERIAL_AT + 6]);

@@ -1,5 +1,5 @@
 //! One slot of a VTOC, written over.
-ghost use Rattle.std.specs.Prelude.{◌≡◌, ◌⊎◌, ◌<◌, ◌≤◌, ◌+◌, ◌-◌, [], length, filter, nat_le, slice_index, IsOk, IsTrue, OnOk};
+ghost use Rattle.std.specs.Prelude.{◌≡◌, ◌<◌, ◌≤◌, ◌+◌, ◌-◌, length, filter, nat_le, slice_index, IsOk, IsTrue, OnOk};
 ghost use Rattle.hall_core.specs.Facts.{DeviceCall, unit_of};
 ghost use Rattle.hall_core.specs.Files.{image_of};
 ghost use Rattle.hall_core.specs.Moments.{Same};

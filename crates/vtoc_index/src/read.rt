@@ -1,17 +1,17 @@
 //! The index of a VTOC, read with one read a track.
-ghost use Rattle.std.specs.Prelude.{◌≡◌, ◌≢◌, ℕ, ◌≤◌, ◌<◌, ◌+◌, ◌⊎◌, length, IsTrue, IfOk, IfErr, OnOk, OnErr, IsErrOf, Some, None, Ok, Err};
+ghost use Rattle.std.specs.Prelude.{◌≡◌, ◌≢◌, ◌≤◌, ◌<◌, ◌+◌, ◌⊎◌, length, IsTrue, IfOk, IfErr, OnOk, IsErrOf, Some, None, Ok, Err};
 ghost use Rattle.ckd_image.specs.Header.{HasGeometry};
 ghost use Rattle.hall_core.specs.Facts.{unit_of};
 ghost use Rattle.hall_core.specs.Files.{image_of};
 ghost use Rattle.hall_core.specs.Moments.{Same};
 ghost use Rattle.pack_spec.specs.Label.{is_inside, records_on, track_of_address};
-ghost use Rattle.pack_spec.specs.Views.{address_of, tracks_of};
+ghost use Rattle.pack_spec.specs.Views.{tracks_of};
 ghost use Rattle.pack_spec.specs.Volume.{volume_within};
 ghost use Rattle.pack_spec.specs.Vtoc.{slots_on};
 ghost use Rattle.track_records.specs.Calls.{HasTrack};
 ghost use Rattle.track_records.specs.Written.{StandsOn};
 ghost use Rattle.vtoc_index.specs.Calls.{MountCall};
-ghost use Rattle.vtoc_index.specs.Index.{IsMounted, IsOfUnit, IsReason, run_of};
+ghost use Rattle.vtoc_index.specs.Index.{IsMounted, IsOfUnit, IsReason};
 ghost use Rattle.vtoc_index.specs.Reading.{AreNumbered, AreTracksRead, IsExtent, Refuses, vtoc_on};
 
 use crate::header::read_geometry;
@@ -87,12 +87,12 @@ fn read_slots<H: Hall>(
     requires attached { unit < length (H.facts hall.old).units }
     requires whole { HasGeometry (unit_of (H.facts hall.old).units unit).size geometry }
     requires buffer { buf.old.geometry ≡ geometry }
-    requires inside { IsTrue (is_inside geometry (address_of at)) }
-    ensures extent { IsTrue H.tells → IfOk result (λ p. vtoc_on (image_of (H.meaning hall.old).state (H.facts hall.old) unit) geometry (address_of at) ≡ Ok (run_of p.0)) }
+    requires inside { IsTrue (is_inside geometry at) }
+    ensures extent { IsTrue H.tells → IfOk result (λ p. vtoc_on (image_of (H.meaning hall.old).state (H.facts hall.old) unit) geometry at ≡ Ok p.0) }
     ensures read { IsTrue H.tells → IfOk result (λ p. AreTracksRead (image_of (H.meaning hall.old).state (H.facts hall.old) unit) geometry p.0.start p.0.len p.1) }
     ensures stands { IsTrue H.tells → OnOk result (StandsOn (image_of (H.meaning hall.old).state (H.facts hall.old) unit) buf.new) }
-    ensures refused { let image = image_of (H.meaning hall.old).state (H.facts hall.old) unit in IsTrue H.tells → IfErr result (Refuses (volume_within image geometry (vtoc_on image geometry (address_of at)))) }
-    ensures numbers { IfOk result (λ p. IsExtent geometry (address_of at) p.0 × AreNumbered p.0.len p.1) }
+    ensures refused { let image = image_of (H.meaning hall.old).state (H.facts hall.old) unit in IsTrue H.tells → IfErr result (Refuses (volume_within image geometry (vtoc_on image geometry at))) }
+    ensures numbers { IfOk result (λ p. IsExtent geometry at p.0 × AreNumbered p.0.len p.1) }
     ensures buffer { OnOk result ((buf.new.geometry ≡ geometry) × (buf.new.unit ≡ unit)) }
     ensures told { IsTrue H.tells → Same (H.meaning hall.old) (H.meaning hall.new) }
     ensures call { MountCall (H.facts hall.old) (H.facts hall.new) result }
@@ -116,11 +116,11 @@ fn read_first<H: Hall>(
     requires attached { unit < length (H.facts hall.old).units }
     requires whole { HasGeometry (unit_of (H.facts hall.old).units unit).size geometry }
     requires buffer { buf.old.geometry ≡ geometry }
-    requires inside { IsTrue (is_inside geometry (address_of at)) }
-    ensures extent { IsTrue H.tells → IfOk result (λ p. vtoc_on (image_of (H.meaning hall.old).state (H.facts hall.old) unit) geometry (address_of at) ≡ Ok (run_of p.0)) }
+    requires inside { IsTrue (is_inside geometry at) }
+    ensures extent { IsTrue H.tells → IfOk result (λ p. vtoc_on (image_of (H.meaning hall.old).state (H.facts hall.old) unit) geometry at ≡ Ok p.0) }
     ensures read { IsTrue H.tells → IfOk result (λ p. records_on (image_of (H.meaning hall.old).state (H.facts hall.old) unit) geometry None p.0.start ≡ Some buf.new.records) }
-    ensures refused { let image = image_of (H.meaning hall.old).state (H.facts hall.old) unit in IsTrue H.tells → IfErr result (Refuses (volume_within image geometry (vtoc_on image geometry (address_of at)))) }
-    ensures numbers { IfOk result (λ p. IsExtent geometry (address_of at) p.0 × (length buf.new.records ≡ p.1)) }
+    ensures refused { let image = image_of (H.meaning hall.old).state (H.facts hall.old) unit in IsTrue H.tells → IfErr result (Refuses (volume_within image geometry (vtoc_on image geometry at))) }
+    ensures numbers { IfOk result (λ p. IsExtent geometry at p.0 × (length buf.new.records ≡ p.1)) }
     ensures buffer { IfOk result (λ p. (buf.new.geometry ≡ geometry) × ((buf.new.unit ≡ unit) × (buf.new.track ≡ p.0.start))) }
     ensures told { IsTrue H.tells → Same (H.meaning hall.old) (H.meaning hall.new) }
     ensures call { MountCall (H.facts hall.old) (H.facts hall.new) result }
@@ -149,8 +149,8 @@ fn why_broken<H: Hall>(
     requires attached { unit < length (H.facts hall.old).units }
     requires whole { HasGeometry (unit_of (H.facts hall.old).units unit).size geometry }
     requires buffer { buf.old.geometry ≡ geometry }
-    requires inside { IsTrue (is_inside geometry (address_of at)) }
-    ensures refused { let image = image_of (H.meaning hall.old).state (H.facts hall.old) unit in IsTrue H.tells → records_on image geometry None (track_of_address geometry (address_of at)) ≡ None → Refuses (volume_within image geometry (vtoc_on image geometry (address_of at))) result }
+    requires inside { IsTrue (is_inside geometry at) }
+    ensures refused { let image = image_of (H.meaning hall.old).state (H.facts hall.old) unit in IsTrue H.tells → records_on image geometry None (track_of_address geometry at) ≡ None → Refuses (volume_within image geometry (vtoc_on image geometry at)) result }
     ensures told { IsTrue H.tells → Same (H.meaning hall.old) (H.meaning hall.new) }
     ensures call { MountCall {T = Unit {0}} (H.facts hall.old) (H.facts hall.new) (Err result) }
     ensures file { result ≢ MountErr.NoFile }
@@ -182,7 +182,7 @@ fn read_others<H: Hall>(
     requires tracks { (1 ≤ vtoc.len) × (vtoc.len ≤ 257) }
     requires numbers { AreNumbered 1 found.old }
     ensures read { let image = image_of (H.meaning hall.old).state (H.facts hall.old) unit in IsTrue H.tells → AreTracksRead image geometry vtoc.start 1 found.old → OnOk result (AreTracksRead image geometry vtoc.start vtoc.len found.new) }
-    ensures refused { let image = image_of (H.meaning hall.old).state (H.facts hall.old) unit in IsTrue H.tells → AreTracksRead image geometry vtoc.start 1 found.old → IfErr result (Refuses (volume_within image geometry (Ok (run_of vtoc)))) }
+    ensures refused { let image = image_of (H.meaning hall.old).state (H.facts hall.old) unit in IsTrue H.tells → AreTracksRead image geometry vtoc.start 1 found.old → IfErr result (Refuses (volume_within image geometry (Ok vtoc))) }
     ensures stands { let image = image_of (H.meaning hall.old).state (H.facts hall.old) unit in IsTrue H.tells → StandsOn image buf.old → OnOk result (StandsOn image buf.new) }
     ensures numbers { OnOk result (AreNumbered vtoc.len found.new) }
     ensures buffer { (buf.new.geometry ≡ geometry) × (buf.new.unit ≡ unit) }

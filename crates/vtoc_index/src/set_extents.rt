@@ -5,8 +5,7 @@ ghost use Rattle.std.specs.Option.{option_copied};
 ghost use Rattle.ckd_image.specs.Header.{HasGeometry};
 ghost use Rattle.pack_spec.specs.declared.addressed.VtocSlot.{VtocSlot};
 ghost use Rattle.pack_spec.specs.Faults.{extents_fault};
-ghost use Rattle.pack_spec.specs.Slots.{is_counted_type, is_extent, is_field_type, lower_of, type_of, upper_of};
-ghost use Rattle.pack_spec.specs.Views.{address_of};
+ghost use Rattle.pack_spec.specs.Slots.{is_counted_type, is_extent, is_field_type};
 ghost use Rattle.vtoc_index.specs.Contents.{AreRead};
 ghost use Rattle.vtoc_index.specs.Rules.{HasExtentsOf, counted_rows, has_own_chain, is_chained_set, is_led_to, leads_along, rows_in, slot_led_to};
 
@@ -14,38 +13,9 @@ use crate::MountErr;
 use crate::slots::ReadSlot;
 use ckd_image::Geometry;
 use dscb_codec::{Dscb, F1};
-use pack_spec::Address;
-use pack_spec::layout::{
-    self, CYLINDER_EXTENT, DATA_EXTENT, LOWER_AT, MOST_EXTENTS, NO_EXTENT, OWN_EXTENTS, TYPE_AT,
-    UPPER_AT,
-};
+use pack_spec::layout::{Extent, MOST_EXTENTS, OWN_EXTENTS};
+use pack_spec::{are_extents, have_counted_types, have_field_types};
 use std::alloc::{AllocError, Global};
-
-// The bytes of an extent in a DSCB.
-type Row = layout::Extent;
-
-// An extent, or a field for one that has none.
-#[derive(Clone, Copy)]
-struct Extent {
-    kind: u8,
-    lower: Address,
-    upper: Address,
-}
-
-impl Extent {
-    // The extent that a DSCB has.
-    fn read(row: &Row) -> Extent
-        ensures kind { result.kind ≡ type_of row.now }
-        ensures lower { address_of result.lower ≡ lower_of row.now }
-        ensures upper { address_of result.upper ≡ upper_of row.now }
-    {
-        Extent {
-            kind: row[TYPE_AT],
-            lower: Address::read(row, LOWER_AT),
-            upper: Address::read(row, UPPER_AT),
-        }
-    }
-}
 
 // The first rule on extents that the format 1 in the slot of this number breaks.
 pub(crate) fn extents_fault(
@@ -77,7 +47,7 @@ pub(crate) fn extents_fault(
 }
 
 // The extents that a format 1 counts: first its own, then those of its format 3.
-fn counted_rows(alloc: Global, slots: &[ReadSlot], set: &F1) -> Result<Vec<Row>, AllocError>
+fn counted_rows(alloc: Global, slots: &[ReadSlot], set: &F1) -> Result<Vec<Extent>, AllocError>
     ensures { IfOk result (λ rows. rows.items ≡ counted_rows slots.now set.now) }
 {
     let mut rows = Vec::new(alloc);
@@ -90,7 +60,7 @@ fn counted_rows(alloc: Global, slots: &[ReadSlot], set: &F1) -> Result<Vec<Row>,
 }
 
 // Puts the extents of a format 3 behind others.
-fn push_further(rows: &mut Vec<Row>, slot: &ReadSlot) -> Result<(), AllocError>
+fn push_further(rows: &mut Vec<Extent>, slot: &ReadSlot) -> Result<(), AllocError>
     ensures { OnOk result (rows.new.items ≡ rows.old.items ++ rows_in slot.now.content) }
 {
     if let Ok(Dscb::F3(further)) = &slot.content {
@@ -101,68 +71,18 @@ fn push_further(rows: &mut Vec<Row>, slot: &ReadSlot) -> Result<(), AllocError>
 }
 
 // Whether the types of all extents in a format 1, and of all that it counts, are ones that are read.
-fn has_types(set: &F1, counted: &[Row]) -> bool
+fn has_types(set: &F1, counted: &[Extent]) -> bool
     ensures { result ≡ (list_all is_field_type set.now.runs && list_all is_counted_type counted.now) }
 {
-    are_fields(&set.runs) && are_counted(counted)
-}
-
-// Whether each of these fields has an extent whose type is read, or none.
-fn are_fields(rows: &[Row]) -> bool
-    ensures { result ≡ list_all is_field_type rows.now }
-{
-    rows.iter().all(is_field_type)
-}
-
-// Whether each of these extents has a type that is read.
-fn are_counted(rows: &[Row]) -> bool
-    ensures { result ≡ list_all is_counted_type rows.now }
-{
-    rows.iter().all(is_counted_type)
-}
-
-// Whether a field for an extent has one whose type is read, or none.
-fn is_field_type(row: &Row) -> bool
-    ensures { result ≡ is_field_type row.now }
-{
-    matches!(
-        Extent::read(row).kind,
-        NO_EXTENT | DATA_EXTENT | CYLINDER_EXTENT
-    )
-}
-
-// Whether an extent has a type that is read.
-fn is_counted_type(row: &Row) -> bool
-    ensures { result ≡ is_counted_type row.now }
-{
-    matches!(Extent::read(row).kind, DATA_EXTENT | CYLINDER_EXTENT)
+    have_field_types(&set.runs) && have_counted_types(counted)
 }
 
 // Whether a format 1 counts at most 16 extents, each a run of tracks of the image.
-fn has_extents(geometry: Geometry, set: &F1, counted: &[Row]) -> bool
+fn has_extents(geometry: Geometry, set: &F1, counted: &[Extent]) -> bool
     requires { (len : ℕ) × HasGeometry len geometry }
     ensures { result ≡ (nat_le set.now.extents 16 && list_all (is_extent geometry) counted.now) }
 {
     set.extents <= MOST_EXTENTS && are_extents(geometry, counted)
-}
-
-// Whether each of these is a run of tracks of the image.
-fn are_extents(geometry: Geometry, rows: &[Row]) -> bool
-    requires { (len : ℕ) × HasGeometry len geometry }
-    ensures { result ≡ list_all (is_extent geometry) rows.now }
-{
-    rows.iter().all(|row| is_extent(geometry, row))
-}
-
-// Whether an extent is a run of tracks of the image.
-fn is_extent(geometry: Geometry, row: &Row) -> bool
-    requires { (len : ℕ) × HasGeometry len geometry }
-    ensures { result ≡ is_extent geometry row.now }
-{
-    let extent = Extent::read(row);
-    extent.lower.is_inside(geometry)
-        && extent.upper.is_inside(geometry)
-        && extent.lower.track(geometry) <= extent.upper.track(geometry)
 }
 
 // Whether a format 1 has a format 3 of its own, where it needs one.

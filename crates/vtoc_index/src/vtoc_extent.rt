@@ -1,10 +1,8 @@
 //! The extent of the VTOC.
 ghost use Rattle.std.specs.Prelude.{◌≡◌, ℕ, ◌≤◌, ◌+◌, ◌-◌, ◌++◌, take, length, IsTrue, IfOk, IfErr, IsErrOf, Some, Ok, Err, slice_get, option_and_then};
 ghost use Rattle.ckd_image.specs.Header.{HasGeometry};
-ghost use Rattle.pack_spec.specs.Label.{is_inside, track_of_address};
-ghost use Rattle.pack_spec.specs.Views.{address_of, tracks_of};
+ghost use Rattle.pack_spec.specs.Label.{is_inside};
 ghost use Rattle.pack_spec.specs.Vtoc.{first_slot, vtoc_by};
-ghost use Rattle.vtoc_index.specs.Index.{run_of};
 ghost use Rattle.vtoc_index.specs.Reading.{IsExtent, slot_of};
 
 use ckd_image::Geometry;
@@ -16,10 +14,10 @@ use vol_model::Run;
 // The extent of the VTOC that begins at an address of the label, where the buffer holds the first slot there.
 pub(crate) fn extent_held(buf: &TrackBuf, geometry: Geometry, at: Address) -> Result<Run, MountErr>
     requires whole { (len : ℕ) × HasGeometry len geometry }
-    requires inside { IsTrue (is_inside geometry (address_of at)) }
-    ensures found { IfOk result (λ vtoc. vtoc_by geometry (address_of at) (first_slot (take 1 buf.now.records)) ≡ Ok (run_of vtoc)) }
-    ensures refused { IfErr result (λ e. vtoc_by geometry (address_of at) (first_slot (take 1 buf.now.records)) ≡ Err e) }
-    ensures extent { IfOk result (IsExtent geometry (address_of at)) }
+    requires inside { IsTrue (is_inside geometry at) }
+    ensures found { IfOk result (λ vtoc. vtoc_by geometry at (first_slot (take 1 buf.now.records)) ≡ Ok vtoc) }
+    ensures refused { IfErr result (λ e. vtoc_by geometry at (first_slot (take 1 buf.now.records)) ≡ Err e) }
+    ensures extent { IfOk result (IsExtent geometry at) }
     ensures device { IsErrOf result MountErr.Device → ⊥ }
     ensures file { IsErrOf result MountErr.NoFile → ⊥ }
 {

@@ -1,6 +1,8 @@
 -- Three records are the label's or not, and any other number has none.
-use Rattle.std.proofs.Common.{◌≡◌, length, sym, refl, arith}
+use Rattle.std.proofs.Common.{◌≡◌, length, map, sym, refl, arith}
 use Rattle.std.proofs.lemmas.Bool.{ltb-true, ltb-false}
+use Rattle.std.proofs.lemmas.List.{length-map}
+use Rattle.pack_spec.specs.Views.{record_of}
 use Rattle.pack_spec.proofs.Labels.{label_in-read, label_in-other}
 use Rattle.pack_spec.proofs.label.label_in.Goals as goal
 use Rattle.pack_spec.proofs.label.label_in.Goals.{in_default-via-then-records-lt3, in_default-via-else-records-lt3+else-records-lt4}
@@ -8,8 +10,8 @@ use Rattle.pack_spec.proofs.label.label_in.Goals.{in_default-via-then-records-lt
 pub returns-in_default-clause-exact : goal.returns-in_default-clause-exact
 returns-in_default-clause-exact c =
     elim c.in_default.branch [
-      | in_default-via-then-records-lt3 w ↦ sym (label_in-other c.args.records.now (omega (arith, ltb-true, ltb-false)))
-      | in_default-via-else-records-lt3+else-records-lt4 w ↦ sym (label_in-other c.args.records.now (omega (arith, ltb-true, ltb-false)))
+      | in_default-via-then-records-lt3 w ↦ sym (label_in-other (map record_of c.args.records.now) (omega (arith, ltb-true, ltb-false, length-map c.args.records.now record_of)))
+      | in_default-via-else-records-lt3+else-records-lt4 w ↦ sym (label_in-other (map record_of c.args.records.now) (omega (arith, ltb-true, ltb-false, length-map c.args.records.now record_of)))
     ]
 
 pub returns-clause-exact : goal.returns-clause-exact

@@ -1,7 +1,7 @@
-use Rattle.std.proofs.Common.{◌≡◌, ◌≤◌, arith, refl, sym, ◌∙◌, ap, List, ℕ, [], ◌∷◌}
+use Rattle.std.proofs.Common.{◌≡◌, refl, sym, ◌∙◌, ap, List, ℕ, [], ◌∷◌}
 use Rattle.vol_model.specs.Events.{Item}
-use Rattle.volman.specs.Statement.{answer_line}
-use Rattle.volman.proofs.Answering.{idle_found, item_found, ends_before_line, ends_in_line, answered}
+use Rattle.volman.specs.Statement.{answer_line, item_on}
+use Rattle.volman.proofs.Answering.{item_found, promise_found, promise_then, ends_before_line, ends_in_line, answered}
 use Rattle.volman.proofs.statement.run_rename.Goals as goal
 
 pub returns-in_err-outcome-clause-runs : goal.returns-in_err-outcome-clause-runs
@@ -29,22 +29,24 @@ returns-clause-code g c told =
     let shelf = (g.M.Machine.meaning c.args.machine.now).state in
     c.code_for.ensures ∙ sym (c.in_ok-outcome.ensures.code told) ∙ ap (λ (item : Item). item.code) (item_found shelf c.args.statement.now c.args.volume (c.requires.volume told))
 
-pub returns-in_err-outcome-clause-stays : goal.returns-in_err-outcome-clause-stays
-returns-in_err-outcome-clause-stays g c told none =
-    c.rename.ensures.stays told (idle_found (g.M.Machine.meaning c.args.machine.now).state c.args.statement.now c.args.volume (c.requires.volume told) none)
+pub returns-in_err-outcome-clause-promise : goal.returns-in_err-outcome-clause-promise
+returns-in_err-outcome-clause-promise g c told = promise_found (g.M.Machine.promise c.args.machine.now) (g.M.Machine.promise c.rename.new.machine) (g.M.Machine.meaning c.args.machine.now).state c.args.statement.now c.args.volume (c.requires.volume told) (c.rename.ensures.promise told)
 
-pub returns-in_default-clause-stays : goal.returns-in_default-clause-stays
-returns-in_default-clause-stays g c told none =
-    c.rename.ensures.stays told (idle_found (g.M.Machine.meaning c.args.machine.now).state c.args.statement.now c.args.volume (c.requires.volume told) none)
+pub returns-in_default-clause-promise : goal.returns-in_default-clause-promise
+returns-in_default-clause-promise g c told = promise_found (g.M.Machine.promise c.args.machine.now) (g.M.Machine.promise c.rename.new.machine) (g.M.Machine.meaning c.args.machine.now).state c.args.statement.now c.args.volume (c.requires.volume told) (c.rename.ensures.promise told)
 
-pub returns-in_err-say-clause-stays : goal.returns-in_err-say-clause-stays
-returns-in_err-say-clause-stays g c told none t files early was =
-    let idle = idle_found (g.M.Machine.meaning c.args.machine.now).state c.args.statement.now c.args.volume (c.requires.volume told) none in
-    let later : t ≤ (g.M.Machine.meaning c.rename.new.machine).clock = omega (arith, early, (c.rename.ensures.runs told).moments.later) in
-    c.say.ensures.stays told t files later (c.rename.ensures.stays told idle t files early was)
+pub returns-in_err-say-clause-promise : goal.returns-in_err-say-clause-promise
+returns-in_err-say-clause-promise g c told =
+    let shelf = (g.M.Machine.meaning c.args.machine.now).state in
+    let old = g.M.Machine.promise c.args.machine.now in
+    let new = g.M.Machine.promise c.say.new.machine in
+    promise_found old new shelf c.args.statement.now c.args.volume (c.requires.volume told)
+    (promise_then (item_on shelf c.args.statement.now c.args.volume).operations old (g.M.Machine.promise c.rename.new.machine) new (c.rename.ensures.runs told).moments.later (c.rename.ensures.promise told) (c.say.ensures.promise told))
 
-pub returns-clause-stays : goal.returns-clause-stays
-returns-clause-stays g c told none t files early was =
-    let idle = idle_found (g.M.Machine.meaning c.args.machine.now).state c.args.statement.now c.args.volume (c.requires.volume told) none in
-    let later : t ≤ (g.M.Machine.meaning c.rename.new.machine).clock = omega (arith, early, (c.rename.ensures.runs told).moments.later) in
-    c.say.ensures.stays told t files later (c.rename.ensures.stays told idle t files early was)
+pub returns-clause-promise : goal.returns-clause-promise
+returns-clause-promise g c told =
+    let shelf = (g.M.Machine.meaning c.args.machine.now).state in
+    let old = g.M.Machine.promise c.args.machine.now in
+    let new = g.M.Machine.promise c.say.new.machine in
+    promise_found old new shelf c.args.statement.now c.args.volume (c.requires.volume told)
+    (promise_then (item_on shelf c.args.statement.now c.args.volume).operations old (g.M.Machine.promise c.rename.new.machine) new (c.rename.ensures.runs told).moments.later (c.rename.ensures.promise told) (c.say.ensures.promise told))

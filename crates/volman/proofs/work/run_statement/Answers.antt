@@ -10,7 +10,7 @@ use Rattle.vol_model.specs.Runs.{Runs}
 use Rattle.vol_model.specs.declared.answers.Stop.{Stop}
 use Rattle.vtoc_index.specs.declared.vol.Vol.{Vol}
 use Rattle.vtoc_index.proofs.KeptLemmas.{mounted_of}
-use Rattle.volman.specs.Machine.{LeavesJust, shelf_in, shelf_named, shelf_with}
+use Rattle.volman.specs.Machine.{ChangesOnlyNames, shelf_in, shelf_named, shelf_with}
 use Rattle.volman.specs.Run.{IsCalmSince, StopStands, Synced, WorksOn}
 use Rattle.volman.specs.Statement.{item_of}
 use Rattle.volman.proofs.Machines.{same_base}
@@ -36,12 +36,12 @@ returns-clause-does g c told =
     let item : Item = item_of (shelf_with volume) c.args.statement.now in
     let shelf : item_of (shelf_named name (M machine.hall).state) c.args.statement.now ≡ item = ap (λ r. item_of (shelf_in r) c.args.statement.now) stands in
     let have = have_line (shelf_with volume) c.args.statement.now in
-    let promise = c.run_rename-ran.ensures.promise told in
-    let stays : item.operations ≡ [] → Keeps (M machine.hall).clock (LeavesJust (M machine.hall)) (LeavesJust (M new.hall)) = λ none. c.run_rename-ran.ensures.stays told (ap (λ (i : Item). i.operations) shelf ∙ none) in
+    let promise : Keeps (M machine.hall).clock item.operations (ChangesOnlyNames name machine.vol.geometry machine.vol.vtoc (M machine.hall)) (ChangesOnlyNames name' new.vol.geometry new.vol.vtoc (M new.hall)) =
+    subst (λ (i : Item). Keeps (M machine.hall).clock i.operations (ChangesOnlyNames name machine.vol.geometry machine.vol.vtoc (M machine.hall)) (ChangesOnlyNames name' new.vol.geometry new.vol.vtoc (M new.hall))) shelf (c.run_rename-ran.ensures.promise told) in
     let runs : Runs g.H.Hall.tells (events_in item) (seen (shelf_named name) (M machine.hall)) (seen (shelf_named name') (M new.hall)) ran =
     subst (λ (i : Item). Runs g.H.Hall.tells (events_in i) (seen (shelf_named name) (M machine.hall)) (seen (shelf_named name') (M new.hall)) ran) shelf (c.run_rename-ran.ensures.runs told) in
     let stops : (t : ℕ) → t ≤ (M machine.hall).clock → IsCalmSince (M machine.hall) t → (files : List File) (printed : List ℕ) → (M new.hall).left_since t files printed → StopStands name volume (item ∷ []) (M machine.hall) files printed =
-    stops_worked name name' (M machine.hall) (M new.hall) machine.vol new.vol volume item mounted stands same_name base.geometry base.vtoc have promise stays told runs in
+    stops_worked name name' (M machine.hall) (M new.hall) machine.vol new.vol volume item mounted stands same_name base.geometry base.vtoc have promise told runs in
     let at_close : WorksOn name volume (item ∷ []) (M machine.hall) (M new.hall) c.match-ran.status → c.match-ran.hall ≡ c.close-hall.result → WorksOn name volume (item ∷ []) (M machine.hall) (M c.match-ran.hall) c.match-ran.status =
     λ works is. subst (λ h. WorksOn name volume (item ∷ []) (M machine.hall) (M h) c.match-ran.status) (sym (is ∙ c.close-hall.ensures)) works in
     elim c.match-ran.branch [
@@ -52,7 +52,7 @@ returns-clause-does g c told =
           let only = g.met.H.Hall.only_now machine.hall in
           let counts = g.met.H.Hall.counts_now new.hall in
           let later = runs.moments.later in
-          let done = has_worked name name' (M machine.hall) (M new.hall) machine.vol new.vol volume item mounted stands same_name base.geometry base.vtoc have promise stays code told only counts (g.met.H.Hall.leaves_state new.hall)
+          let done = has_worked name name' (M machine.hall) (M new.hall) machine.vol new.vol volume item mounted stands same_name base.geometry base.vtoc have promise code told only counts (g.met.H.Hall.leaves_state new.hall)
           (machine.durable sound told) (new.durable w.in-Ok.ensures.call.sound told) later (w.in-Ok.ensures.code told ∙ ap (λ (i : Item). i.code) shelf) ran_ok in
           let synced : Synced (M new.hall) (M c.match-ran.hall) c.match-ran.status =
           subst (λ (n : ℕ). Synced (M new.hall) (M c.match-ran.hall) n) (sym w.status-is)

@@ -1,5 +1,6 @@
 use Rattle.std.proofs.Common.{◌≡◌, length, sym, ◌∙◌}
-use Rattle.vtoc_index.proofs.Labels.{label_found, label_not, label_in-other}
+use Rattle.pack_spec.proofs.Labels.{label_in-other}
+use Rattle.vtoc_index.proofs.Labels.{label_found, label_not}
 use Rattle.vtoc_index.proofs.label.label_data.Goals as goal
 
 pub returns-then-len-from-clause-exact : goal.returns-then-len-from-clause-exact

@@ -3,11 +3,10 @@ use Rattle.std.specs.Prelude.{Err}
 use Rattle.std.proofs.lemmas.Result.{err_from_is_err_and}
 use Rattle.hall_core.specs.Files.{image_of}
 use Rattle.pack_spec.specs.Slots.{slots_of_vtoc}
-use Rattle.pack_spec.specs.Views.{address_of}
 use Rattle.track_records.specs.Buffers.{Buffer}
 use Rattle.track_records.specs.Written.{StandsOn}
 use Rattle.vtoc_index.specs.Contents.{AreRead}
-use Rattle.vtoc_index.specs.Index.{AreFirsts, run_of}
+use Rattle.vtoc_index.specs.Index.{AreFirsts}
 use Rattle.vtoc_index.specs.Reading.{AreTracksRead, vtoc_on}
 use Rattle.vtoc_index.specs.declared.slots.ReadSlot.{ReadSlot}
 use Rattle.vtoc_index.proofs.CallsMade.{reason_at}
@@ -62,13 +61,13 @@ returns-in_err-slots-clause-refused g c told =
     let later = image_of (g.H.Hall.meaning c.read_label.new.hall).state (g.H.Hall.facts c.read_label.new.hall) c.args.unit in
     let still : later ≡ image = same_image (g.H.Hall.meaning c.read_label.new.hall).state (g.H.Hall.meaning c.read_geometry.new.hall).state (g.H.Hall.facts c.read_label.new.hall) (g.H.Hall.facts c.read_geometry.new.hall) c.args.unit (c.in_ok-label.ensures.told told).state c.in_ok-label.ensures.call.units ∙ same in
     let vtoc = c.in_ok-vtoc.vtoc in
-    let extent = ap (λ (i : List ℕ). vtoc_on i geometry (address_of c.in_ok-label.label.vtoc)) (sym still) ∙ c.in_ok-vtoc.ensures.extent told in
+    let extent = ap (λ (i : List ℕ). vtoc_on i geometry c.in_ok-label.label.vtoc) (sym still) ∙ c.in_ok-vtoc.ensures.extent told in
     let read = subst (λ (i : List ℕ). AreTracksRead i geometry vtoc.start vtoc.len c.in_ok-vtoc.found) still (c.in_ok-vtoc.ensures.read told) in
-    let slots = subst (λ (l : List ReadSlot). AreRead l (slots_of_vtoc image geometry (run_of vtoc))) (sym c.deref.ensures.value) read.slots in
+    let slots = subst (λ (l : List ReadSlot). AreRead l (slots_of_vtoc image geometry vtoc)) (sym c.deref.ensures.value) read.slots in
     let p = err_from_is_err_and c.from_residual-in_err-slots.result c.from_residual-in_err-slots.ensures.1 in
     reason_at image c.from_residual-in_err-slots.result c.in_err-slots.field-0.0 (p.1 ∙ ap Err p.2)
     (slots_reason image geometry c.in_ok-label.label vtoc c.in_ok-vtoc.found c.in_err-slots.field-0.0 (c.in_ok-geometry.ensures.read told) label (sym c.if-not-is_inside.ensures) extent read
-    (c.in_err-slots.ensures.refused (slots_of_vtoc image geometry (run_of vtoc)) slots))
+    (c.in_err-slots.ensures.refused (slots_of_vtoc image geometry vtoc) slots))
 
 pub returns-clause-mounted : goal.returns-clause-mounted
 returns-clause-mounted g c told =
@@ -81,13 +80,13 @@ returns-clause-mounted g c told =
     let later = image_of (g.H.Hall.meaning c.read_label.new.hall).state (g.H.Hall.facts c.read_label.new.hall) c.args.unit in
     let still : later ≡ image = same_image (g.H.Hall.meaning c.read_label.new.hall).state (g.H.Hall.meaning c.read_geometry.new.hall).state (g.H.Hall.facts c.read_label.new.hall) (g.H.Hall.facts c.read_geometry.new.hall) c.args.unit (c.in_ok-label.ensures.told told).state c.in_ok-label.ensures.call.units ∙ same in
     let vtoc = c.in_ok-vtoc.vtoc in
-    let extent = ap (λ (i : List ℕ). vtoc_on i geometry (address_of c.in_ok-label.label.vtoc)) (sym still) ∙ c.in_ok-vtoc.ensures.extent told in
+    let extent = ap (λ (i : List ℕ). vtoc_on i geometry c.in_ok-label.label.vtoc) (sym still) ∙ c.in_ok-vtoc.ensures.extent told in
     let read = subst (λ (i : List ℕ). AreTracksRead i geometry vtoc.start vtoc.len c.in_ok-vtoc.found) still (c.in_ok-vtoc.ensures.read told) in
-    let slots = subst (λ (l : List ReadSlot). AreRead l (slots_of_vtoc image geometry (run_of vtoc))) (sym c.deref.ensures.value) read.slots in
+    let slots = subst (λ (l : List ReadSlot). AreRead l (slots_of_vtoc image geometry vtoc)) (sym c.deref.ensures.value) read.slots in
     let stands = subst (λ (i : List ℕ). StandsOn i c.read_slots.new.buf) still (c.in_ok-vtoc.ensures.stands told) in
     mounted image c.in_ok-label.label _ c.in_ok-vtoc.found
     (record { header = c.in_ok-geometry.ensures.read told; label = label; inside = sym c.if-not-is_inside.ensures; extent = extent; read = read })
-    refl refl stands (c.in_ok-slots.ensures.dscbs (slots_of_vtoc image geometry (run_of vtoc)) slots)
+    refl refl stands (c.in_ok-slots.ensures.dscbs (slots_of_vtoc image geometry vtoc) slots)
 
 -- as many slots are held as were read
 pub returns-clause-unit : goal.returns-clause-unit

@@ -1,5 +1,5 @@
-use Rattle.std.proofs.Common.{ap, ◌∙◌, Err}
-use Rattle.volman.proofs.Machines.{applies_zero, applies_done, applies_elsewhere, applies_fault, applies_refused, keeps_promise, kept_at, promises_at, puts_failed, stays_idle}
+use Rattle.std.proofs.Common.{ap, ◌∙◌, refl, Err}
+use Rattle.volman.proofs.Machines.{applies_zero, applies_done, applies_elsewhere, applies_fault, applies_refused, keeps_all, keeps_begun, keeps_idle, keeps_promise, kept_at, promises_at, puts_failed}
 use Rattle.vtoc_index.proofs.KeptLemmas.{mounted_of}
 use Rattle.volman.proofs.machine.PackMachine.rename.Goals as goal
 
@@ -23,7 +23,7 @@ returns-in-Ok-clause-shelf g c told =
 
 pub returns-in-Ok-clause-promise : goal.returns-in-Ok-clause-promise
 returns-in-Ok-clause-promise g c told =
-    promises_at _ _ c.args.self.now.vol c.rename.new.vol c.rename.ensures.call.units c.rename.ensures.index (g.H.Hall.meaning c.args.self.now.hall) (g.H.Hall.meaning c.rename.new.hall) (keeps_promise (g.met.H.Hall.counts_now c.args.self.now.hall) (g.met.H.Hall.leaves_state c.args.self.now.hall) (mounted_of _ _ (c.args.self.now.kept c.requires.sound told)) (c.in-Ok.ensures.written told) (c.rename.ensures.told told))
+    promises_at _ _ c.args.self.now.vol c.rename.new.vol c.rename.ensures.call.units c.rename.ensures.index (g.H.Hall.meaning c.args.self.now.hall) (g.H.Hall.meaning c.rename.new.hall) (keeps_promise c.args.v c.args.old.now c.args.new.now (g.met.H.Hall.counts_now c.args.self.now.hall) (g.met.H.Hall.leaves_state c.args.self.now.hall) (mounted_of _ _ (c.args.self.now.kept c.requires.sound told)) (c.in-Ok.ensures.written told) (c.rename.ensures.told told))
 
 pub returns-in-Err-Refused-clause-shelf : goal.returns-in-Err-Refused-clause-shelf
 returns-in-Err-Refused-clause-shelf g c told =
@@ -36,16 +36,30 @@ returns-in-Err-Device-clause-shelf g c told =
 
 pub returns-in-Err-Device-clause-promise : goal.returns-in-Err-Device-clause-promise
 returns-in-Err-Device-clause-promise g c told =
-    promises_at _ _ c.args.self.now.vol c.rename.new.vol c.rename.ensures.call.units c.rename.ensures.index (g.H.Hall.meaning c.args.self.now.hall) (g.H.Hall.meaning c.rename.new.hall) (keeps_promise (g.met.H.Hall.counts_now c.args.self.now.hall) (g.met.H.Hall.leaves_state c.args.self.now.hall) (mounted_of _ _ (c.args.self.now.kept c.requires.sound told)) (puts_failed c.in-Err-Device.field-0 c.in-Err-Device.field-0-is (c.in-Err-Device.ensures.written told)) (c.rename.ensures.told told))
+    promises_at _ _ c.args.self.now.vol c.rename.new.vol c.rename.ensures.call.units c.rename.ensures.index (g.H.Hall.meaning c.args.self.now.hall) (g.H.Hall.meaning c.rename.new.hall) (keeps_promise c.args.v c.args.old.now c.args.new.now (g.met.H.Hall.counts_now c.args.self.now.hall) (g.met.H.Hall.leaves_state c.args.self.now.hall) (mounted_of _ _ (c.args.self.now.kept c.requires.sound told)) (puts_failed c.in-Err-Device.field-0 c.in-Err-Device.field-0-is (c.in-Err-Device.ensures.written told)) (c.rename.ensures.told told))
 
-pub returns-in-Ok-clause-stays : goal.returns-in-Ok-clause-stays
-returns-in-Ok-clause-stays g c told =
-    stays_idle c.args.old.now c.args.new.now c.args.v _ c.if-v-ne0.false (λ short. cc) (g.met.H.Hall.counts_now c.args.self.now.hall) (c.rename.ensures.told told)
+pub returns-then-v-ne0-clause-promise : goal.returns-then-v-ne0-clause-promise
+returns-then-v-ne0-clause-promise g c told = keeps_begun (g.H.Hall.meaning c.args.self.now.hall) c.args.v c.args.old.now c.args.new.now refl
 
-pub returns-in-Err-Refused-clause-stays : goal.returns-in-Err-Refused-clause-stays
-returns-in-Err-Refused-clause-stays g c told =
-    stays_idle c.args.old.now c.args.new.now c.args.v _ c.if-v-ne0.false (λ short. let wrong = short in cc) (g.met.H.Hall.counts_now c.args.self.now.hall) (c.rename.ensures.told told)
+pub returns-in-Err-Refused-clause-promise : goal.returns-in-Err-Refused-clause-promise
+returns-in-Err-Refused-clause-promise g c told =
+    promises_at _ _ c.args.self.now.vol c.rename.new.vol c.rename.ensures.call.units c.rename.ensures.index (g.H.Hall.meaning c.args.self.now.hall) (g.H.Hall.meaning c.rename.new.hall)
+    (keeps_begun (g.H.Hall.meaning c.args.self.now.hall) c.args.v c.args.old.now c.args.new.now (ap (λ h. g.H.Hall.meaning h) (c.rename.ensures.refused c.in-Err-Refused.refusal (c.in-Err-Refused.is ∙ ap Err c.in-Err-Refused.field-0-is)).0))
 
-pub returns-in-Err-Device-clause-stays : goal.returns-in-Err-Device-clause-stays
-returns-in-Err-Device-clause-stays g c told =
-    stays_idle c.args.old.now c.args.new.now c.args.v _ c.if-v-ne0.false (λ short. let wrong = short in cc) (g.met.H.Hall.counts_now c.args.self.now.hall) (c.rename.ensures.told told)
+pub returns-then-v-ne0-clause-idle : goal.returns-then-v-ne0-clause-idle
+returns-then-v-ne0-clause-idle g c told idle = keeps_all (g.H.Hall.meaning c.args.self.now.hall)
+
+pub returns-in-Ok-clause-idle : goal.returns-in-Ok-clause-idle
+returns-in-Ok-clause-idle g c told idle =
+    promises_at _ _ c.args.self.now.vol c.rename.new.vol c.rename.ensures.call.units c.rename.ensures.index (g.H.Hall.meaning c.args.self.now.hall) (g.H.Hall.meaning c.rename.new.hall)
+    (keeps_idle c.args.old.now c.args.new.now c.args.v _ c.if-v-ne0.false (λ short. cc) (g.met.H.Hall.counts_now c.args.self.now.hall) (c.rename.ensures.told told) idle)
+
+pub returns-in-Err-Refused-clause-idle : goal.returns-in-Err-Refused-clause-idle
+returns-in-Err-Refused-clause-idle g c told idle =
+    promises_at _ _ c.args.self.now.vol c.rename.new.vol c.rename.ensures.call.units c.rename.ensures.index (g.H.Hall.meaning c.args.self.now.hall) (g.H.Hall.meaning c.rename.new.hall)
+    (keeps_idle c.args.old.now c.args.new.now c.args.v _ c.if-v-ne0.false (λ short. let wrong = short in cc) (g.met.H.Hall.counts_now c.args.self.now.hall) (c.rename.ensures.told told) idle)
+
+pub returns-in-Err-Device-clause-idle : goal.returns-in-Err-Device-clause-idle
+returns-in-Err-Device-clause-idle g c told idle =
+    promises_at _ _ c.args.self.now.vol c.rename.new.vol c.rename.ensures.call.units c.rename.ensures.index (g.H.Hall.meaning c.args.self.now.hall) (g.H.Hall.meaning c.rename.new.hall)
+    (keeps_idle c.args.old.now c.args.new.now c.args.v _ c.if-v-ne0.false (λ short. let wrong = short in cc) (g.met.H.Hall.counts_now c.args.self.now.hall) (c.rename.ensures.told told) idle)

@@ -1,0 +1,160 @@
+-- The grammar of a track, where it breaks, and the record at the front of bytes, on cases at which near readings of their definitions give something else.
+use Rattle.std.specs.Prelude.{ℕ, ◌+◌, ◌-◌, ◌<◌, ◌≡◌, nat_lt, true, false, Option, Some, None, List, [], ◌∷◌, ◌++◌, drop, length, replicate, take}
+use Rattle.std.specs.List.{list_all}
+use Rattle.std.proofs.Common.{zero, suc, refl, sym, subst, arith, lit<, ltb-true, length-take-le, take-append-drop}
+use Rattle.std.proofs.lemmas.Bool.{and_parts}
+use Rattle.ckd_image.specs.Track.{AreRecords, BreaksAt, Follows, IsRecord, IsTrack, IsTrackUpTo, Record, count_of, end_marker}
+use Rattle.ckd_image.specs.Reading.{data_length, front_record, is_at_end, is_front, is_record_at, key_length, record_length, records_behind, records_of, records_to_end, records_up_to}
+use Rattle.ckd_image.specs.Break.{break_behind, break_of, break_or_after, break_to_end, break_up_to, front_pattern, marker_length, pattern_break, record_break}
+use Rattle.ckd_image.proofs.Grammar.{follows_read, read_follows}
+use Rattle.ckd_image.proofs.GrammarBreak.{kept_part}
+use Rattle.ckd_image.proofs.GrammarFirstBreak.{break_breaks}
+use Rattle.ckd_image.proofs.GrammarRecord.{AreBytes}
+
+-- home address and R0 of cylinder 2 and head 3
+abbrev front : List ℕ
+front = 0 ∷ 0 ∷ 2 ∷ 0 ∷ 3 ∷ 0 ∷ 2 ∷ 0 ∷ 3 ∷ 0 ∷ 0 ∷ 0 ∷ 8 ∷ replicate 8 0
+
+-- R1 of another track, with a key of two bytes and data of three
+abbrev r1 : List ℕ
+r1 = 0 ∷ 9 ∷ 0 ∷ 7 ∷ 1 ∷ 2 ∷ 0 ∷ 3 ∷ 75 ∷ 76 ∷ 65 ∷ 66 ∷ 67 ∷ []
+
+abbrev one : Record
+one = record { address = 0 ∷ 9 ∷ 0 ∷ 7 ∷ []; key = 75 ∷ 76 ∷ []; «data» = 65 ∷ 66 ∷ 67 ∷ [] }
+
+abbrev marker : List ℕ
+marker = replicate 8 255
+
+-- ---- the record at the front
+
+-- KL is one byte and DL two, the high one first
+lengths : (key_length (0 ∷ 9 ∷ 0 ∷ 7 ∷ 1 ∷ 2 ∷ 3 ∷ 4 ∷ []) ≡ 2) × (data_length (0 ∷ 9 ∷ 0 ∷ 7 ∷ 1 ∷ 2 ∷ 3 ∷ 4 ∷ []) ≡ 0x0304) × (record_length (0 ∷ 9 ∷ 0 ∷ 7 ∷ 1 ∷ 2 ∷ 3 ∷ 4 ∷ []) ≡ 782)
+lengths = (refl, refl, refl)
+
+at_front : (front_record (r1 ++ (1 ∷ [])) ≡ one) × (is_record_at 1 r1 ≡ true) × (is_record_at 2 r1 ≡ false) × (is_record_at 1 (take 12 r1) ≡ false) × (is_record_at 1 (take 7 r1) ≡ false)
+at_front = (refl, refl, refl, refl, refl)
+
+ended : (is_at_end marker ≡ true) × (is_at_end (replicate 7 255) ≡ false) × (is_at_end (marker ++ (1 ∷ [])) ≡ true) × (is_at_end (replicate 7 255 ++ (0 ∷ [])) ≡ false)
+ended = (refl, refl, refl, refl)
+
+-- up to a record no marker is needed, but eight bytes; and to the end a marker is
+behind :
+    (records_behind None (r1 ++ marker) ≡ Some (one ∷ []))
+    × (records_behind None (r1 ++ replicate 8 0) ≡ None)
+    × (records_behind (Some 1) (r1 ++ replicate 8 0) ≡ Some (one ∷ []))
+    × (records_behind (Some 1) (r1 ++ replicate 7 0) ≡ None)
+    × (records_behind (Some 0) r1 ≡ Some [])
+    × (records_behind (Some 2) (r1 ++ marker) ≡ None)
+unfolding records_to_end records_up_to
+behind = (refl, refl, refl, refl, refl, refl)
+
+-- ---- where it breaks
+
+-- X'FF' are counted from the front on, and eight at the most
+markers : (marker_length (replicate 9 255) ≡ 8) × (marker_length (255 ∷ 255 ∷ 0 ∷ 255 ∷ []) ≡ 2) × (marker_length (0 ∷ marker) ≡ 0)
+markers = (refl, refl, refl)
+
+-- one byte of the home address, CC and HH of the count and the data of R0 are free
+pattern :
+    front_pattern 0x0102 0x0304
+    ≡ None ∷ Some 1 ∷ Some 2 ∷ Some 3 ∷ Some 4 ∷ None ∷ None ∷ None ∷ None ∷ Some 0 ∷ Some 0 ∷ Some 0 ∷ Some 8
+    ∷ replicate 8 None
+pattern = refl
+
+-- the bytes run out before R, another R stands there, a marker is begun or couldn't stand there, and the bytes run out behind R
+breaks :
+    (record_break true 1 r1 ≡ None) × (record_break true 1 (take 4 r1) ≡ Some 4) × (record_break true 2 r1 ≡ Some 4)
+    × (record_break true 1 (replicate 6 255 ++ (0 ∷ 0 ∷ [])) ≡ Some 6) × (record_break false 1 (replicate 6 255 ++ (0 ∷ 0 ∷ [])) ≡ Some 4)
+    × (record_break true 1 (take 7 r1) ≡ Some 7) × (record_break true 1 (take 12 r1) ≡ Some 12)
+breaks = (refl, refl, refl, refl, refl, refl, refl)
+
+-- the earlier break counts, and a later one from where it is looked for
+first_of_two : (break_or_after (Some 3) 10 (Some 5) ≡ Some 3) × (break_or_after None 10 (Some 5) ≡ Some 15) × (break_or_after None 10 None ≡ None)
+first_of_two = (refl, refl, refl)
+
+break_behind_front : (break_behind None (r1 ++ replicate 8 0) ≡ Some 17) × (break_behind (Some 1) (r1 ++ replicate 8 0) ≡ None) × (break_behind (Some 2) (r1 ++ marker) ≡ Some 17)
+unfolding break_to_end break_up_to
+break_behind_front = (refl, refl, refl)
+
+-- ---- the grammar
+
+-- bytes that are below 256, each of them
+small : (bytes : List ℕ) → list_all (λ b. nat_lt b 256) bytes ≡ true → AreBytes bytes
+small [] all i = omega arith
+small (b ∷ bs) all zero = ltb-true b 256 (and_parts _ _ all).0
+small (b ∷ bs) all (suc i) = small bs (and_parts _ _ all).1 i
+
+abbrev whole : List ℕ
+whole = front ++ (r1 ++ (marker ++ (1 ∷ [])))
+
+-- a track with this record, of its own cylinder and head alone, and with no other records
+track : IsTrack 2 3 (one ∷ []) whole
+unfolding records_of is_front records_to_end
+track = read_follows 2 3 None (one ∷ []) whole (small whole refl) refl
+
+other_address : (records : List Record) → ¬ IsTrack 3 2 records whole
+unfolding records_of is_front records_to_end
+other_address records is = let none : None ≡ Some records = follows_read 3 2 None records whole is in cc
+
+other_records : ¬ IsTrack 2 3 [] whole
+unfolding records_of is_front records_to_end
+other_records is = let same : Some (one ∷ []) ≡ Some [] = follows_read 2 3 None [] whole is in cc
+
+-- without its marker it is one up to R1, where eight bytes stand behind that
+up_to_1 : IsTrackUpTo 2 3 (one ∷ []) (front ++ (r1 ++ replicate 8 0))
+unfolding records_of is_front records_up_to
+up_to_1 = (read_follows 2 3 (Some 1) (one ∷ []) (front ++ (r1 ++ replicate 8 0)) (small (front ++ (r1 ++ replicate 8 0)) refl) refl).0
+
+no_marker : (records : List Record) → ¬ IsTrack 2 3 records (front ++ (r1 ++ replicate 8 0))
+unfolding records_of is_front records_to_end
+no_marker records is = let none : None ≡ Some records = follows_read 2 3 None records (front ++ (r1 ++ replicate 8 0)) is in cc
+
+seven_behind : (records : List Record) → ¬ Follows 2 3 (Some 1) records (front ++ (r1 ++ replicate 7 0))
+unfolding records_of is_front records_up_to
+seven_behind records is = let none : None ≡ Some records = follows_read 2 3 (Some 1) records (front ++ (r1 ++ replicate 7 0)) is in cc
+
+-- DL has two bytes, and a count of X'FF' alone is a marker
+too_long : (x : Record) → length x.data ≡ 65536 → ¬ IsRecord 1 x
+too_long x long is = absurd (omega (arith, long, is.data_fits))
+
+marker_is_no_count : (x : Record) → count_of 255 x ≡ end_marker → ¬ IsRecord 255 x
+marker_is_no_count x same is = is.count same
+
+-- there is no R256
+last_number : ¬ AreRecords 255 (one ∷ one ∷ [])
+last_number are = absurd (omega (arith, are.1.0.number))
+
+-- ---- one byte at the most is the first that breaks
+
+breaks_once : (c h : ℕ) (u : Option ℕ) (bytes : List ℕ) (a b : ℕ) → BreaksAt c h u bytes a → BreaksAt c h u bytes b → ¬ (a < b)
+breaks_once c h u bytes a b first second less =
+    let records = second.begins.0 in
+    let rest = second.begins.1 in
+    let inside = second.inside in
+    let more : List ℕ = take (b - (a + 1)) (drop (a + 1) bytes) ++ rest in
+    let part = kept_part (a + 1) b bytes (take (a + 1) bytes) (drop (a + 1) bytes) rest (sym (take-append-drop (a + 1) bytes)) (length-take-le (a + 1) bytes (omega (arith, less, inside))) (omega (arith, less)) in
+    first.breaks (omega (arith, less, inside)) records more (subst (λ (bs : List ℕ). Follows c h u records bs) part second.begins.2)
+
+abbrev broken : List ℕ
+broken = front ++ (r1 ++ (replicate 6 255 ++ replicate 8 0))
+
+-- six X'FF' behind R1 begin a marker, and so it breaks behind them: not before, as if they were a count, and not further on
+broken_at_40 : BreaksAt 2 3 None broken 40
+unfolding break_of break_to_end pattern_break
+broken_at_40 = break_breaks 2 3 None broken 40 (small broken refl) tt refl
+
+nowhere_else : (¬ BreaksAt 2 3 None broken 38) × (¬ BreaksAt 2 3 None broken 39) × (¬ BreaksAt 2 3 None broken 41)
+nowhere_else = (
+  λ at. breaks_once 2 3 None broken 38 40 at broken_at_40 (lit< tt),
+  λ at. breaks_once 2 3 None broken 39 40 at broken_at_40 (lit< tt),
+  λ at. breaks_once 2 3 None broken 40 41 broken_at_40 at (lit< tt),
+)
+
+-- where R2 is asked for they are no marker, and R is the byte
+asked_for_r2 : BreaksAt 2 3 (Some 2) broken 38
+unfolding break_of break_up_to pattern_break
+asked_for_r2 = break_breaks 2 3 (Some 2) broken 38 (small broken refl) (lit< tt) refl
+
+-- a track that is one breaks nowhere
+unbroken : (at : ℕ) → ¬ BreaksAt 2 3 None whole at
+unbroken at breaks = breaks.none (one ∷ []) track

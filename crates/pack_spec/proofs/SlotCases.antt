@@ -1,0 +1,230 @@
+-- Addresses, the label, slots and extents, on cases at which near readings of their definitions give something else.
+use Rattle.std.specs.Prelude.{ℕ, ◌≡◌, true, false, List, [], ◌∷◌, ◌++◌, Some, None, Ok, Err, replicate}
+use Rattle.std.specs.List.{range_with_len}
+use Rattle.std.proofs.Common.{refl}
+use Rattle.ckd_image.specs.declared.device.DiskType.TheVariants.{D2314}
+use Rattle.ckd_image.specs.declared.header.Geometry.{Geometry}
+use Rattle.ckd_image.specs.Track.{Record}
+use Rattle.ckd_image.specs.Writing.{record_on}
+use Rattle.dscb_codec.specs.declared.DscbErr.TheVariants.{Unsupported, BadFormat}
+use Rattle.pack_spec.specs.declared.MountErr.TheVariants.{BadVtoc, VtocTrack, BadDscb, UnsupportedDscb, NoLabel}
+use Rattle.pack_spec.specs.declared.addressed.VtocSlot.{VtocSlot}
+use Rattle.pack_spec.specs.declared.address.Address.{Address}
+use Rattle.pack_spec.specs.Label.{address_at, is_inside, is_keyed, label_in, track_of_address, vol1}
+use Rattle.pack_spec.specs.Vtoc.{first_slot, is_slot, is_vtoc_extent, slot_bytes, slots_in, vtoc_by}
+use Rattle.pack_spec.specs.Formats.{fault_or, is_data_set, slot_fault}
+use Rattle.pack_spec.specs.Slots.{addressed_from, counted_extents, extent_at, extent_count, first_extents, format_3_of, further_extents, has_chain, has_extents, has_types, is_chained, is_extent, is_shared, lower_of, pointer_of, record_address, tracks_in, type_of, upper_of}
+
+-- the most cylinders of a 2314, each of twenty heads
+abbrev pack : Geometry
+pack = record { device = D2314; cylinders = 203; track_size = 7680 }
+
+-- each byte is its offset
+abbrev numbered : List ℕ
+numbered = range_with_len 0 140
+
+-- the cylinder stands before the head, each with its high byte first, from the offset on
+address : address_at 1 (9 ∷ 1 ∷ 2 ∷ 3 ∷ 4 ∷ 9 ∷ []) ≡ record { cylinder = 0x0102; head = 0x0304 }
+address = refl
+
+-- the last track is inside, and neither the cylinder nor the head behind it is
+inside : (is_inside pack (record { cylinder = 202; head = 19 }) ≡ true) × (is_inside pack (record { cylinder = 203; head = 0 }) ≡ false) × (is_inside pack (record { cylinder = 0; head = 20 }) ≡ false)
+inside = (refl, refl, refl)
+
+-- tracks are counted over the heads of each cylinder, and their addresses have CC, HH and R
+tracks : (track_of_address pack (record { cylinder = 3; head = 7 }) ≡ 67) × (record_address pack 67 5 ≡ 0 ∷ 3 ∷ 0 ∷ 7 ∷ 5 ∷ []) × (record_address pack 5143 255 ≡ 1 ∷ 1 ∷ 0 ∷ 3 ∷ 255 ∷ [])
+tracks = (refl, refl, refl)
+
+run : tracks_in (record { start = 7; len = 3 }) ≡ 7 ∷ 8 ∷ 9 ∷ []
+run = refl
+
+-- the first slot of a track is R1, and the next R2
+addressed : addressed_from pack 67 1 ((1 ∷ []) ∷ (2 ∷ []) ∷ []) ≡ record { address = 0 ∷ 3 ∷ 0 ∷ 7 ∷ 1 ∷ []; bytes = 1 ∷ [] } ∷ record { address = 0 ∷ 3 ∷ 0 ∷ 7 ∷ 2 ∷ []; bytes = 2 ∷ [] } ∷ []
+addressed = refl
+
+-- a record by its key and the length of its data; the two aren't exchanged, and the key is whole
+keyed :
+    (is_keyed vol1 3 (record_on 0 0 vol1 (1 ∷ 2 ∷ 3 ∷ [])) ≡ true)
+    × (is_keyed vol1 4 (record_on 0 0 vol1 (1 ∷ 2 ∷ 3 ∷ [])) ≡ false)
+    × (is_keyed vol1 4 (record_on 0 0 (1 ∷ 2 ∷ 3 ∷ 4 ∷ []) vol1) ≡ false)
+    × (is_keyed vol1 3 (record_on 0 0 (vol1 ++ (0x40 ∷ [])) (1 ∷ 2 ∷ 3 ∷ [])) ≡ false)
+keyed = (refl, refl, refl, refl)
+
+-- the three records of a label, and these in another order, one of them without the text at the front of its data, and one of them missing
+abbrev ipl_1 : Record
+ipl_1 = record_on 0 0 (0xC9 ∷ 0xD7 ∷ 0xD3 ∷ 0xF1 ∷ []) (replicate 24 1)
+
+abbrev ipl_2 : Record
+ipl_2 = record_on 0 0 (0xC9 ∷ 0xD7 ∷ 0xD3 ∷ 0xF2 ∷ []) (replicate 144 2)
+
+abbrev text : List ℕ
+text = 0xE5 ∷ 0xD6 ∷ 0xD3 ∷ 0xF1 ∷ replicate 76 3
+
+label :
+    (label_in (ipl_1 ∷ ipl_2 ∷ record_on 0 0 vol1 text ∷ []) ≡ Some text)
+    × (label_in (ipl_2 ∷ ipl_1 ∷ record_on 0 0 vol1 text ∷ []) ≡ None)
+    × (label_in (ipl_1 ∷ ipl_2 ∷ record_on 0 0 vol1 (replicate 80 3) ∷ []) ≡ None)
+    × (label_in (ipl_1 ∷ ipl_2 ∷ record_on 0 0 vol1 (text ++ (3 ∷ [])) ∷ []) ≡ None)
+    × (label_in (ipl_1 ∷ ipl_2 ∷ []) ≡ None)
+unfolding label_in
+label = (refl, refl, refl, refl, refl)
+
+-- a slot has 44 bytes of key and 96 of data, which stand in this order
+abbrev parts : ℕ → ℕ → Record
+parts keys datas = record_on 0 0 (replicate keys 1) (replicate datas 2)
+
+slots :
+    (is_slot (parts 44 96) ≡ true) × (is_slot (parts 96 44) ≡ false) × (is_slot (parts 45 95) ≡ false)
+    × (slot_bytes (parts 44 96) ≡ replicate 44 1 ++ replicate 96 2)
+    × (first_slot (parts 44 96 ∷ []) ≡ Some (replicate 44 1 ++ replicate 96 2))
+    × (first_slot (parts 45 95 ∷ []) ≡ None) × (first_slot [] ≡ None)
+    × (slots_in (parts 44 96 ∷ parts 44 96 ∷ []) ≡ Some ((replicate 44 1 ++ replicate 96 2) ∷ (replicate 44 1 ++ replicate 96 2) ∷ []))
+    × (slots_in (parts 44 96 ∷ parts 44 95 ∷ []) ≡ None) × (slots_in [] ≡ Some [])
+slots = (refl, refl, refl, refl, refl, refl, refl, refl, refl, refl)
+
+-- a slot with an extent at 105, from cylinder 3 and head 7 to a cylinder and a head
+abbrev extent_to : ℕ → ℕ → List ℕ
+extent_to cylinder head = replicate 107 9 ++ (0 ∷ 3 ∷ 0 ∷ 7 ∷ 0 ∷ cylinder ∷ 0 ∷ head ∷ replicate 25 9)
+
+abbrev at : ℕ → ℕ → Address
+at cylinder head = record { cylinder = cylinder; head = head }
+
+-- it begins at the address, by cylinder and head; it has 257 tracks at the most, and one at the least; it ends on the pack
+vtoc_extents :
+    (is_vtoc_extent pack (at 3 7) (extent_to 16 3) ≡ true)
+    × (is_vtoc_extent pack (at 3 7) (extent_to 16 4) ≡ false)
+    × (is_vtoc_extent pack (at 3 7) (extent_to 3 7) ≡ true)
+    × (is_vtoc_extent pack (at 3 7) (extent_to 3 6) ≡ false)
+    × (is_vtoc_extent pack (at 4 7) (extent_to 16 3) ≡ false)
+    × (is_vtoc_extent pack (at 3 8) (extent_to 16 3) ≡ false)
+    × (is_vtoc_extent pack (at 3 7) (extent_to 4 20) ≡ false)
+    × (is_vtoc_extent (record { device = D2314; cylinders = 16; track_size = 7680 }) (at 3 7) (extent_to 16 3) ≡ false)
+vtoc_extents = (refl, refl, refl, refl, refl, refl, refl, refl)
+
+-- it is counted with both ends; one that isn't taken is `BadVtoc`, and where no slot was read the track is named
+vtocs :
+    (vtoc_by pack (at 3 7) (Some (extent_to 4 1)) ≡ Ok (record { start = 67; len = 15 }))
+    × (vtoc_by pack (at 3 7) (Some (extent_to 3 6)) ≡ Err BadVtoc)
+    × (vtoc_by pack (at 3 7) None ≡ Err (VtocTrack 67))
+vtocs = (refl, refl, refl)
+
+-- an extent has its type first, then a sequence byte, and its first track before its last
+extent :
+    (extent_at numbered 105 ≡ range_with_len 105 10) × (type_of (range_with_len 105 10) ≡ 105)
+    × (lower_of (1 ∷ 2 ∷ 3 ∷ 4 ∷ 5 ∷ 6 ∷ 7 ∷ 8 ∷ 9 ∷ 10 ∷ []) ≡ at 0x0304 0x0506)
+    × (upper_of (1 ∷ 2 ∷ 3 ∷ 4 ∷ 5 ∷ 6 ∷ 7 ∷ 8 ∷ 9 ∷ 10 ∷ []) ≡ at 0x0708 0x090A)
+extent = (refl, refl, refl, refl)
+
+-- three extents in a format 1, and in a format 3 four before the format byte and nine behind it, in their order
+extents :
+    (first_extents numbered ≡ range_with_len 105 10 ∷ range_with_len 115 10 ∷ range_with_len 125 10 ∷ [])
+    × (further_extents numbered
+    ≡ range_with_len 4 10 ∷ range_with_len 14 10 ∷ range_with_len 24 10 ∷ range_with_len 34 10
+    ∷ range_with_len 45 10 ∷ range_with_len 55 10 ∷ range_with_len 65 10 ∷ range_with_len 75 10 ∷ range_with_len 85 10
+    ∷ range_with_len 95 10 ∷ range_with_len 105 10 ∷ range_with_len 115 10 ∷ range_with_len 125 10 ∷ [])
+unfolding first_extents further_extents
+extents = (refl, refl)
+
+counted : (extent_count numbered ≡ 59) × (pointer_of numbered ≡ 135 ∷ 136 ∷ 137 ∷ 138 ∷ 139 ∷ [])
+counted = (refl, refl)
+
+-- a format 1 that counts so many extents and has these types, with tracks 0 to 2 and the pointer to record 5 of cylinder 1 and head 2
+abbrev set_of_types : ℕ → ℕ → ℕ → ℕ → List ℕ
+set_of_types count first second third =
+    replicate 44 0x40 ++ (0xF1 ∷ replicate 14 0) ++ (count ∷ replicate 45 0)
+    ++ (first ∷ 0 ∷ 0 ∷ 0 ∷ 0 ∷ 0 ∷ 0 ∷ 0 ∷ 0 ∷ 0 ∷ second ∷ 0 ∷ 0 ∷ 0 ∷ 0 ∷ 1 ∷ 0 ∷ 0 ∷ 0 ∷ 1 ∷ third ∷ 0 ∷ 0 ∷ 0 ∷ 0 ∷ 2 ∷ 0 ∷ 0 ∷ 0 ∷ 2 ∷ [])
+    ++ (0 ∷ 1 ∷ 0 ∷ 2 ∷ 5 ∷ [])
+
+abbrev set : ℕ → List ℕ
+set count = set_of_types count 1 0x81 1
+
+-- the pointer counts where more than three extents do
+chained : (is_chained (set 3) ≡ false) × (is_chained (set 4) ≡ true)
+chained = (refl, refl)
+
+-- slots with this address, of this format, all of whose other bytes are of the type of an extent
+abbrev slot_at : ℕ → ℕ → VtocSlot
+slot_at r format = record { address = 0 ∷ 1 ∷ 0 ∷ 2 ∷ r ∷ []; bytes = replicate 44 1 ++ (format ∷ replicate 95 1) }
+
+abbrev set_at : ℕ → List ℕ → VtocSlot
+set_at r bytes = record { address = 0 ∷ 1 ∷ 0 ∷ 2 ∷ r ∷ []; bytes = bytes }
+
+abbrev leads_on : List VtocSlot
+leads_on = set_at 1 (set 4) ∷ slot_at 4 0xF3 ∷ slot_at 5 0xF3 ∷ []
+
+abbrev leads_astray : List VtocSlot
+leads_astray = set_at 1 (set 4) ∷ slot_at 4 0xF3 ∷ slot_at 5 0xF5 ∷ []
+
+-- it leads to the format 3 of its address alone, and to none where it doesn't count
+formats_3 : (format_3_of leads_on (set 4) ≡ Some (slot_at 5 0xF3)) × (format_3_of leads_astray (set 4) ≡ None) × (format_3_of leads_on (set 3) ≡ None)
+unfolding format_3_of
+formats_3 = (refl, refl, refl)
+
+-- the first extents of a set are its own, and as many are taken as it counts; there are at most sixteen
+abbrev own : ℕ → ℕ → List ℕ
+own kind head = kind ∷ 0 ∷ 0 ∷ 0 ∷ 0 ∷ head ∷ 0 ∷ 0 ∷ 0 ∷ head ∷ []
+
+taken :
+    (counted_extents leads_on (set 0) ≡ [])
+    × (counted_extents leads_on (set 2) ≡ own 1 0 ∷ own 0x81 1 ∷ [])
+    × (counted_extents leads_on (set 4) ≡ own 1 0 ∷ own 0x81 1 ∷ own 1 2 ∷ replicate 10 1 ∷ [])
+    × (counted_extents leads_astray (set 4) ≡ own 1 0 ∷ own 0x81 1 ∷ own 1 2 ∷ [])
+    × (counted_extents leads_on (set 17) ≡ own 1 0 ∷ own 0x81 1 ∷ own 1 2 ∷ replicate 13 (replicate 10 1))
+unfolding counted_extents first_extents further_extents format_3_of
+taken = (refl, refl, refl, refl, refl)
+
+-- a field that isn't counted may be empty, but not of another type; one that is counted mayn't be empty
+types :
+    (has_types [] (set_of_types 1 1 0 0) ≡ true)
+    × (has_types [] (set_of_types 1 0x81 1 0x81) ≡ true)
+    × (has_types [] (set_of_types 2 1 0 0) ≡ false)
+    × (has_types [] (set_of_types 1 1 0 0x40) ≡ false)
+    × (has_types [] (set_of_types 0 0x80 0 0) ≡ false)
+    × (has_types leads_on (set 4) ≡ true)
+    × (has_types (set_at 1 (set 4) ∷ set_at 5 (replicate 44 0x40 ++ (0xF3 ∷ replicate 95 1)) ∷ []) (set 4) ≡ false)
+unfolding has_types counted_extents first_extents further_extents format_3_of
+types = (refl, refl, refl, refl, refl, refl, refl)
+
+-- from a track to itself or to a later one, whatever the cylinders; both ends are on the pack
+abbrev extent_of : ℕ → ℕ → ℕ → ℕ → List ℕ
+extent_of first_cylinder first_head last_cylinder last_head = 1 ∷ 0 ∷ 0 ∷ first_cylinder ∷ 0 ∷ first_head ∷ 0 ∷ last_cylinder ∷ 0 ∷ last_head ∷ []
+
+on_pack :
+    (is_extent pack (extent_of 3 7 3 7) ≡ true) × (is_extent pack (extent_of 3 7 4 1) ≡ true) × (is_extent pack (extent_of 3 7 3 6) ≡ false)
+    × (is_extent pack (extent_of 4 1 3 7) ≡ false) × (is_extent pack (extent_of 202 19 202 19) ≡ true) × (is_extent pack (extent_of 202 19 203 0) ≡ false)
+    × (is_extent pack (extent_of 3 20 4 5) ≡ false)
+on_pack = (refl, refl, refl, refl, refl, refl, refl)
+
+-- sixteen extents, and seventeen
+sixteen : (has_extents pack leads_astray (set 16) ≡ true) × (has_extents pack leads_astray (set 17) ≡ false) × (has_extents pack leads_on (set 4) ≡ false)
+unfolding has_extents counted_extents first_extents further_extents format_3_of
+sixteen = (refl, refl, refl)
+
+-- a chain is shared with a data set of a lower slot whose pointer counts and is the same
+shared :
+    (is_shared (set_at 1 (set 4) ∷ []) (set 4) ≡ true)
+    × (is_shared (set_at 1 (set 3) ∷ []) (set 4) ≡ false)
+    × (is_shared (slot_at 1 0xF3 ∷ []) (set 4) ≡ false)
+    × (is_shared [] (set 4) ≡ false)
+shared = (refl, refl, refl, refl)
+
+chains :
+    (has_chain leads_on [] (set 4) ≡ true)
+    × (has_chain leads_on (set_at 0 (set 4) ∷ []) (set 4) ≡ false)
+    × (has_chain leads_astray [] (set 4) ≡ false)
+    × (has_chain leads_astray (set_at 0 (set 4) ∷ []) (set 3) ≡ true)
+unfolding has_chain format_3_of
+chains = (refl, refl, refl, refl)
+
+-- the slot is named before its byte; a format 4 has its place in slot 0 alone, which isn't judged here
+faults_of_slots :
+    (slot_fault 7 (Some (Unsupported 0xF2)) 0xF2 ≡ Some (UnsupportedDscb 7 0xF2))
+    × (slot_fault 7 (Some (BadFormat 0xC7)) 0xC7 ≡ Some (BadDscb 7 0xC7))
+    × (slot_fault 7 None 0xF4 ≡ Some (BadDscb 7 0xF4))
+    × (slot_fault 7 None 0xF1 ≡ None)
+    × (fault_or (Some NoLabel) (Some BadVtoc) ≡ Some NoLabel)
+    × (fault_or None (Some BadVtoc) ≡ Some BadVtoc)
+faults_of_slots = (refl, refl, refl, refl, refl, refl)
+
+data_sets : (is_data_set (set 0) ≡ true) × (is_data_set (slot_at 1 0xF3).bytes ≡ false)
+data_sets = (refl, refl)

@@ -1,0 +1,296 @@
+-- A whole image and its index, computed. Each comment in small letters names what a near reading would let through.
+use Rattle.std.proofs.Common.{◌≡◌, ◌≢◌, inl, inr, ℕ, List, [], ◌∷◌, ◌++◌, length, get_or, replicate, Some, None, refl, sym, ap, subst, ◌∙◌, arith}
+use Rattle.std.specs.Prelude.{Option, Ok, Err, slice_range, take}
+use Rattle.std.specs.Option.{option_map}
+use Rattle.ckd_image.specs.declared.device.DiskType.TheVariants.{D2311, D2314}
+use Rattle.ckd_image.specs.declared.header.Geometry.{Geometry}
+use Rattle.ckd_image.specs.declared.header.ImageErr.TheVariants.{BadLength}
+use Rattle.ckd_image.specs.Header.{geometry_of, geometry_on}
+use Rattle.ckd_image.specs.Reading.{is_front, records_of, records_to_end, records_up_to}
+use Rattle.ckd_image.specs.Track.{Record}
+use Rattle.dscb_codec.specs.declared.Dscb.{Dscb}
+use Rattle.dscb_codec.specs.declared.Dscb.TheVariants as formats
+use Rattle.hall_core.specs.Facts.{Attached}
+use Rattle.pack_spec.specs.Label.{label_in, label_of, records_on, track_bytes}
+use Rattle.pack_spec.specs.Faults.{dscb_fault, dscb_faults, extents_fault, front_faults, name_fault, name_faults, slots_faults, track_fault, track_faults, vtoc_fault}
+use Rattle.pack_spec.specs.Slots.{counted_extents, first_extents, format_3_of, further_extents, has_chain, has_extents, has_types, slots_at, slots_of_vtoc}
+use Rattle.pack_spec.specs.Volume.{attr_of, data_set_of, data_sets_in, volume_of, volume_with}
+use Rattle.pack_spec.specs.Views.{tracks_of}
+use Rattle.pack_spec.specs.Vtoc.{slots_on, vtoc_at, vtoc_of}
+use Rattle.pack_spec.specs.Written.{slot_record}
+use Rattle.pack_spec.specs.declared.MountErr.{MountErr}
+use Rattle.pack_spec.specs.declared.MountErr.TheVariants.{BadDscb, BadExtent, BadVtoc, DuplicateName, Image, NoFormat5, VtocTrack}
+use Rattle.track_records.specs.Buffers.{Buffer}
+use Rattle.vol_model.specs.declared.contents.Body.TheVariants.{Other}
+use Rattle.vol_model.specs.declared.contents.DataSet.{DataSet}
+use Rattle.vol_model.specs.declared.contents.Run.{Run}
+use Rattle.vol_model.specs.Order.{in_order, rank}
+use Rattle.vtoc_index.specs.Contents.{AreDscbs}
+use Rattle.vtoc_index.specs.Index.{IsIndexOf, IsMounted, IsOfUnit, IsReason, firsts_of, place_of_slot, serial_on, slots_before}
+use Rattle.vtoc_index.specs.Kept.{IsKept}
+use Rattle.vtoc_index.specs.Puts.{IsHeld}
+use Rattle.vtoc_index.specs.Reading.{vtoc_on}
+use Rattle.vtoc_index.specs.declared.vol.Vol.{Vol}
+use Rattle.vtoc_index.proofs.ExtentLaw.{volume_is}
+use Rattle.vtoc_index.proofs.KeptLemmas.{kept_of, mounted_of}
+use Rattle.vtoc_index.proofs.SmallPack.{Holds, a, are_dscbs, b, c, data_set, extent, f1, f4, f5, first_track, format_4, format_5, four_slots, header_is_read, holds, image, index, label_is_read, one_cylinder, pack01, pack_of, second_track, set_bytes, slots_are_counted, slots_are_read, two_tracks, vtoc_is_found, with_sets}
+
+-- No track and no slot of the image breaks a rule.
+no_track_breaks_a_rule : track_faults image one_cylinder two_tracks ≡ []
+unfolding track_faults track_fault slots_on records_on track_bytes records_of is_front records_to_end
+no_track_breaks_a_rule = refl
+
+no_slot_breaks_a_rule : slots_faults one_cylinder four_slots ≡ []
+unfolding slots_faults front_faults dscb_faults dscb_fault extents_fault has_types has_extents has_chain counted_extents first_extents format_3_of further_extents name_faults name_fault
+no_slot_breaks_a_rule = refl
+
+-- a data set of the volume
+abbrev set_named : List ℕ → DataSet
+set_named name = record {
+  name = record { bytes = name };
+  attr = record {
+    volseq = 1;
+    created = 70 ∷ 0 ∷ 1 ∷ [];
+    expires = replicate 3 0;
+    system = replicate 13 0x40;
+    dsorg = 0x4000;
+    recfm = 0x90;
+    optcd = 0;
+    blksize = 80;
+    lrecl = 80;
+    keylen = 0;
+    rkp = 0;
+    indicators = 0x80;
+    scalo = 0x80;
+    secondary = 1;
+  };
+  extents = record { start = 3; len = 7 } ∷ [];
+  body = Other;
+}
+
+-- The volume has its data sets in the order of their names, which isn't that of their slots.
+image_stands_for_its_volume : volume_of image ≡ Ok (record { serial = record { bytes = pack01 }; geometry = one_cylinder; vtoc = record { start = 1; len = 2 }; slots = 4; sets = set_named a ∷ set_named b ∷ []; catalog = None })
+unfolding volume_of geometry_of geometry_on vtoc_of vtoc_at label_of label_in records_on track_bytes records_of is_front records_to_end records_up_to vtoc_fault track_faults track_fault slots_of_vtoc slots_at slots_on slots_faults front_faults dscb_faults dscb_fault extents_fault has_types has_extents has_chain counted_extents first_extents format_3_of further_extents name_faults name_fault volume_with data_sets_in data_set_of attr_of in_order rank
+image_stands_for_its_volume = refl
+
+-- The serial is that in the label.
+serial_is_read : serial_on image one_cylinder ≡ Some pack01
+serial_is_read = ap (option_map (λ (label : List ℕ). slice_range label 4 10)) label_is_read
+
+-- The extent is that in the first slot of the track to which the label leads. The first slot of the next track is a data set, and track 0 has none.
+extent_is_read_where_the_label_leads :
+    (vtoc_on image one_cylinder first_track ≡ Ok two_tracks)
+    × (vtoc_on image one_cylinder second_track ≡ Err BadVtoc)
+    × (vtoc_on image one_cylinder (record { cylinder = 0; head = 0 }) ≡ Err (VtocTrack 0))
+unfolding vtoc_on records_on track_bytes records_of is_front records_up_to
+extent_is_read_where_the_label_leads = (refl, refl, refl)
+
+-- Before the second track of the VTOC two slots stand, and on both four.
+slots_are_counted_by_tracks : (slots_before image one_cylinder two_tracks 0 ≡ 0) × (slots_before image one_cylinder two_tracks 1 ≡ 2) × (slots_before image one_cylinder two_tracks 2 ≡ 4)
+unfolding slots_of_vtoc slots_at slots_on records_on track_bytes records_of is_front records_to_end
+slots_are_counted_by_tracks = (refl, refl, refl)
+
+-- the records on a track of the VTOC
+abbrev records : List Record
+records = slot_record second_track (data_set b) ∷ slot_record second_track (data_set a) ∷ []
+
+-- a buffer with these records of the second track
+abbrev holding : List Record → Buffer
+holding records = record { geometry = one_cylinder; unit = 0; track = 2; records = records }
+
+module _ (any : Vol) where
+  mounted_with : (buf : Buffer) → IsHeld image buf → IsMounted image (record (index any) { buf = buf })
+  mounted_with buf held = record {
+    index = record {
+      header = header_is_read;
+      serial = serial_is_read;
+      tracks = no_track_breaks_a_rule;
+      slots = subst (AreDscbs (index any).slots.items) (sym slots_are_read) are_dscbs;
+      firsts = sym slots_are_counted;
+      buffer = held;
+    };
+    vtoc = vtoc_is_found;
+    lawful = ap (slots_faults one_cylinder) slots_are_read ∙ no_slot_breaks_a_rule;
+    volume = volume_is image one_cylinder two_tracks header_is_read vtoc_is_found no_track_breaks_a_rule (ap (slots_faults one_cylinder) slots_are_read ∙ no_slot_breaks_a_rule);
+  }
+
+  -- The index is the image's, with an empty buffer, with the records of a track, and with the first of them.
+  pub index_is_mounted : IsMounted image (index any)
+  index_is_mounted = mounted_with (holding []) (inl refl)
+
+  -- It is kept as such.
+  index_is_kept : IsKept image (index any)
+  index_is_kept = kept_of image (index any) index_is_mounted
+
+  buffer_may_hold_a_track : IsMounted image (record (index any) { buf = holding records })
+  unfolding records_on track_bytes records_of is_front records_to_end
+  buffer_may_hold_a_track = mounted_with (holding records) (inr (None, refl))
+
+  buffer_may_hold_its_first_records : IsMounted image (record (index any) { buf = holding (take 1 records) })
+  unfolding records_on track_bytes records_of is_front records_up_to
+  buffer_may_hold_its_first_records = mounted_with (holding (take 1 records)) (inr (Some 1, refl))
+
+  -- Slots are counted on over the tracks, and each track begins anew behind its R0.
+  slots_have_their_places : (place_of_slot (index any) 0 ≡ 4637) × (place_of_slot (index any) 1 ≡ 4785) × (place_of_slot (index any) 2 ≡ 8733) × (place_of_slot (index any) 3 ≡ 8881)
+  slots_have_their_places = (refl, refl, refl, refl)
+
+  -- The index is one of the unit.
+  index_is_of_its_unit : IsOfUnit (record { name = []; size = 41472 } ∷ []) (index any)
+  index_is_of_its_unit = record {
+    attached = omega arith;
+    whole = record { cylinders = omega arith; most = omega arith; track_size = refl; whole = refl };
+    inside = omega arith;
+    tracks = refl;
+    few = omega arith;
+    most = omega arith;
+    firsts = (refl, (2, omega arith, (refl, (2, omega arith, refl))));
+    buffer = (refl, refl);
+  }
+
+  -- a byte stands behind the last track of the unit
+  unit_ends_with_its_last_track : ¬ IsOfUnit (record { name = []; size = 41473 } ∷ []) (index any)
+  unit_ends_with_its_last_track is = omega (arith, is.whole.whole)
+
+-- the first byte of a name, and that of the key of the first record
+abbrev first : List ℕ → ℕ
+first bytes = get_or bytes 0 0
+
+abbrev first_key : Option (List Record) → ℕ
+first_key (Some (x ∷ xs)) = first x.key
+first_key _ = 0
+
+module _ (v : Vol) where
+  -- the last byte of the serial is another
+  whole_serial_is_compared : v.serial.bytes ≡ 0xD7 ∷ 0xC1 ∷ 0xC3 ∷ 0xD2 ∷ 0xF0 ∷ 0xF2 ∷ [] → ¬ IsMounted image v
+  whole_serial_is_compared is mounted = let wrong : 0xF2 ≡ 0xF1 = ap (λ (bytes : List ℕ). get_or bytes 5 0) (sym is ∙ (holds v mounted).serial) in omega (arith, wrong)
+
+  -- the VTOC begins a track later, lacks its last track, or goes on over the track behind it
+  vtoc_begins_at_its_track : v.vtoc ≡ record { start = 2; len = 2 } → ¬ IsMounted image v
+  vtoc_begins_at_its_track is mounted = omega (arith, ap (λ (run : Run). run.start) is, ap (λ (run : Run). run.start) (holds v mounted).vtoc)
+
+  vtoc_has_all_its_tracks : v.vtoc ≡ record { start = 1; len = 1 } → ¬ IsMounted image v
+  vtoc_has_all_its_tracks is mounted = omega (arith, ap (λ (run : Run). run.len) is, ap (λ (run : Run). run.len) (holds v mounted).vtoc)
+
+  vtoc_has_no_other_track : v.vtoc ≡ record { start = 1; len = 3 } → ¬ IsMounted image v
+  vtoc_has_no_other_track is mounted = omega (arith, ap (λ (run : Run). run.len) is, ap (λ (run : Run). run.len) (holds v mounted).vtoc)
+
+  -- there is a cylinder more, or the device is another
+  cylinders_are_those_of_the_file : v.geometry ≡ record one_cylinder { cylinders = 2 } → ¬ IsMounted image v
+  cylinders_are_those_of_the_file is mounted = omega (arith, ap (λ (g : Geometry). g.cylinders) is, ap (λ (g : Geometry). g.cylinders) (holds v mounted).geometry)
+
+  device_is_that_of_the_header : v.geometry ≡ record one_cylinder { device = D2314 } → ¬ IsMounted image v
+  device_is_that_of_the_header is mounted =
+      let wrong : D2314 ≡ D2311 = ap (λ (g : Geometry). g.device) (sym is ∙ (holds v mounted).geometry) in
+      absurd (cc)
+
+  -- slots are counted from 1, or anew on each track, or tracks are counted; the number behind the last slot is in the list, or that of the first isn't
+  counted_otherwise : (firsts : List ℕ) → v.firsts.items ≡ firsts → IsMounted image v → firsts ≡ 0 ∷ 2 ∷ []
+  counted_otherwise firsts is mounted = sym is ∙ (holds v mounted).firsts
+
+  slots_are_counted_from_0 : v.firsts.items ≡ 1 ∷ 3 ∷ [] → ¬ IsMounted image v
+  slots_are_counted_from_0 is mounted = let wrong : 1 ≡ 0 = ap (λ (l : List ℕ). get_or l 0 9) (counted_otherwise (1 ∷ 3 ∷ []) is mounted) in omega (arith, wrong)
+
+  slots_are_counted_on : v.firsts.items ≡ 0 ∷ 0 ∷ [] → ¬ IsMounted image v
+  slots_are_counted_on is mounted = let wrong : 0 ≡ 2 = ap (λ (l : List ℕ). get_or l 1 9) (counted_otherwise (0 ∷ 0 ∷ []) is mounted) in omega (arith, wrong)
+
+  tracks_are_not_counted : v.firsts.items ≡ 0 ∷ 1 ∷ [] → ¬ IsMounted image v
+  tracks_are_not_counted is mounted = let wrong : 1 ≡ 2 = ap (λ (l : List ℕ). get_or l 1 9) (counted_otherwise (0 ∷ 1 ∷ []) is mounted) in omega (arith, wrong)
+
+  each_track_has_one_number : (v.firsts.items ≡ 0 ∷ 2 ∷ 4 ∷ [] → ¬ IsMounted image v) × (v.firsts.items ≡ 2 ∷ [] → ¬ IsMounted image v)
+  each_track_has_one_number = (
+    λ is mounted. let wrong : 3 ≡ 2 = ap length (counted_otherwise (0 ∷ 2 ∷ 4 ∷ []) is mounted) in omega (arith, wrong),
+    λ is mounted. let wrong : 1 ≡ 2 = ap length (counted_otherwise (2 ∷ []) is mounted) in omega (arith, wrong),
+  )
+
+  held_as : (items : List Dscb) → v.slots.items ≡ items → IsMounted image v → AreDscbs items four_slots
+  held_as items is mounted = subst (λ (ds : List Dscb). AreDscbs ds four_slots) is (holds v mounted).slots
+
+  -- a slot holds another name than the image
+  slot_has_the_name_of_the_image : v.slots.items ≡ formats.F4 f4 ∷ formats.F5 f5 ∷ formats.F1 (f1 c) ∷ formats.F1 (f1 a) ∷ [] → ¬ IsMounted image v
+  slot_has_the_name_of_the_image is mounted = let wrong : 0xC2 ≡ 0xC3 = ap first (held_as _ is mounted).1.1.0.0 in omega (arith, wrong)
+
+  -- slots stand in another order, on one track or over both
+  sets_keep_their_order : v.slots.items ≡ formats.F4 f4 ∷ formats.F5 f5 ∷ formats.F1 (f1 a) ∷ formats.F1 (f1 b) ∷ [] → ¬ IsMounted image v
+  sets_keep_their_order is mounted = let wrong : 0xC2 ≡ 0xC1 = ap first (held_as _ is mounted).1.1.0.0 in omega (arith, wrong)
+
+  tracks_keep_their_order : v.slots.items ≡ formats.F1 (f1 b) ∷ formats.F1 (f1 a) ∷ formats.F4 f4 ∷ formats.F5 f5 ∷ [] → ¬ IsMounted image v
+  tracks_keep_their_order is mounted = let wrong : 4 ≡ 0xC2 = ap first (held_as _ is mounted).0.0 in omega (arith, wrong)
+
+  -- there is a slot too few, or a free one too many; or a set's slot is held as free
+  each_slot_is_held : v.slots.items ≡ formats.F4 f4 ∷ formats.F5 f5 ∷ formats.F1 (f1 b) ∷ [] → ¬ IsMounted image v
+  each_slot_is_held is mounted = (held_as _ is mounted).1.1.1
+
+  no_other_slot_is_held : v.slots.items ≡ formats.F4 f4 ∷ formats.F5 f5 ∷ formats.F1 (f1 b) ∷ formats.F1 (f1 a) ∷ formats.F0 ∷ [] → ¬ IsMounted image v
+  no_other_slot_is_held is mounted = (held_as _ is mounted).1.1.1.1
+
+  set_is_not_held_as_free : v.slots.items ≡ formats.F4 f4 ∷ formats.F5 f5 ∷ formats.F1 (f1 b) ∷ formats.F0 ∷ [] → ¬ IsMounted image v
+  set_is_not_held_as_free is mounted = let wrong = (held_as _ is mounted).1.1.1.0 in cc
+
+  -- a field behind the name is another
+  fields_behind_the_name_are_held : v.slots.items ≡ formats.F4 f4 ∷ formats.F5 f5 ∷ formats.F1 (f1 b) ∷ formats.F1 (record (f1 a) { volseq = 2 }) ∷ [] → ¬ IsMounted image v
+  fields_behind_the_name_are_held is mounted = let wrong : 1 ≡ 2 = ap (λ (l : List ℕ). get_or l 1 0) (held_as _ is mounted).1.1.1.0.1.1.1.0 in omega (arith, wrong)
+
+  buffered : (x : Record) (xs : List Record) → v.buf ≡ holding (x ∷ xs) → IsMounted image v → records_on image one_cylinder (Some (length (x ∷ xs))) 2 ≡ Some (x ∷ xs)
+  buffered x xs is mounted =
+      subst (λ (buf : Buffer). buf.records ≢ [] → records_on image buf.geometry (Some (length buf.records)) buf.track ≡ Some buf.records) is (kept_of image v mounted).buffer (λ none. cc)
+
+  -- the buffer holds the records of another track, those of its track but the first, or one with another byte
+  buffer_holds_its_own_track : v.buf ≡ holding (slot_record first_track format_4 ∷ slot_record first_track format_5 ∷ []) → ¬ IsMounted image v
+  unfolding records_on track_bytes records_of is_front records_up_to
+  buffer_holds_its_own_track is mounted = let wrong : 0xC2 ≡ 4 = ap first_key (buffered _ _ is mounted) in omega (arith, wrong)
+
+  buffer_begins_with_the_first_record : v.buf ≡ holding (slot_record second_track (data_set a) ∷ []) → ¬ IsMounted image v
+  unfolding records_on track_bytes records_of is_front records_up_to
+  buffer_begins_with_the_first_record is mounted = let wrong : 0xC2 ≡ 0xC1 = ap first_key (buffered _ _ is mounted) in omega (arith, wrong)
+
+  -- each of these of an index that is kept
+  kept_index_holds_the_image : IsKept image v → Holds v
+  kept_index_holds_the_image kept = holds v (mounted_of image v kept)
+
+  -- the VTOC goes on behind the last track of the unit, or the buffer is made for other packs
+  vtoc_lies_on_the_unit : (units : List Attached) → v.geometry ≡ one_cylinder → v.vtoc ≡ record { start = 9; len = 2 } → ¬ IsOfUnit units v
+  vtoc_lies_on_the_unit units geometry run is =
+      omega (arith, is.inside, ap tracks_of geometry, ap (λ (run : Run). run.start) run, ap (λ (run : Run). run.len) run)
+
+  buffer_is_made_for_its_pack : (units : List Attached) → v.geometry ≡ one_cylinder → v.buf.geometry ≡ record one_cylinder { cylinders = 2 } → ¬ IsOfUnit units v
+  buffer_is_made_for_its_pack units geometry other is =
+      omega (arith, ap (λ (g : Geometry). g.cylinders) is.buffer.0, ap (λ (g : Geometry). g.cylinders) geometry, ap (λ (g : Geometry). g.cylinders) other)
+
+-- Images that stand for no volume, by the first rule that each breaks: two sets have one name, and also one of them goes on behind the last track; slot 1 is a set; a format 4 stands behind slot 0; and a byte stands behind the last track.
+pub two_sets_have_one_name : IsReason (with_sets (data_set a ∷ data_set a ∷ [])) (DuplicateName 3 2)
+unfolding volume_of geometry_of geometry_on vtoc_of vtoc_at label_of label_in records_on track_bytes records_of is_front records_to_end records_up_to vtoc_fault track_faults track_fault slots_of_vtoc slots_at slots_on slots_faults front_faults dscb_faults dscb_fault extents_fault has_types has_extents has_chain counted_extents first_extents format_3_of further_extents name_faults name_fault
+two_sets_have_one_name = refl
+
+extents_are_judged_before_names : IsReason (with_sets (data_set a ∷ (a ++ take 61 set_bytes ++ extent 3 10 ++ replicate 25 0) ∷ [])) (BadExtent 3)
+unfolding volume_of geometry_of geometry_on vtoc_of vtoc_at label_of label_in records_on track_bytes records_of is_front records_to_end records_up_to vtoc_fault track_faults track_fault slots_of_vtoc slots_at slots_on slots_faults front_faults dscb_faults dscb_fault extents_fault has_types has_extents has_chain counted_extents first_extents format_3_of further_extents name_faults name_fault
+extents_are_judged_before_names = refl
+
+slot_1_is_a_set : IsReason (pack_of pack01 (format_4 ∷ data_set c ∷ []) (data_set b ∷ data_set a ∷ [])) NoFormat5
+unfolding volume_of geometry_of geometry_on vtoc_of vtoc_at label_of label_in records_on track_bytes records_of is_front records_to_end records_up_to vtoc_fault track_faults track_fault slots_of_vtoc slots_at slots_on slots_faults front_faults dscb_faults dscb_fault extents_fault has_types has_extents has_chain counted_extents first_extents format_3_of further_extents name_faults name_fault
+slot_1_is_a_set = refl
+
+format_4_stands_behind_slot_0 : IsReason (with_sets (data_set b ∷ format_4 ∷ [])) (BadDscb 3 0xF4)
+unfolding volume_of geometry_of geometry_on vtoc_of vtoc_at label_of label_in records_on track_bytes records_of is_front records_to_end records_up_to vtoc_fault track_faults track_fault slots_of_vtoc slots_at slots_on slots_faults front_faults dscb_faults dscb_fault extents_fault has_types has_extents has_chain counted_extents first_extents format_3_of further_extents name_faults name_fault
+format_4_stands_behind_slot_0 = refl
+
+byte_stands_behind_the_last_track : IsReason (image ++ 0 ∷ []) (Image (BadLength 41473))
+unfolding volume_of geometry_of geometry_on
+byte_stands_behind_the_last_track = refl
+
+-- Such an image has an index, but is none that is mounted.
+pub not_mounted : (broken : List ℕ) (e : MountErr) → volume_of broken ≡ Err e → (v : Vol) → ¬ IsMounted broken v
+not_mounted broken e is v mounted = let wrong = sym is ∙ mounted.volume in cc
+
+index_is_that_of_the_image_and_no_more : (any : Vol) → IsIndexOf (with_sets (data_set a ∷ data_set a ∷ [])) (record (index any) { slots = record (index any).slots { items = formats.F4 f4 ∷ formats.F5 f5 ∷ formats.F1 (f1 a) ∷ formats.F1 (f1 a) ∷ [] } })
+unfolding geometry_of geometry_on label_of label_in records_on track_bytes records_of is_front records_to_end records_up_to track_faults track_fault slots_of_vtoc slots_at slots_on firsts_of
+index_is_that_of_the_image_and_no_more any = record {
+  header = refl;
+  serial = refl;
+  tracks = refl;
+  slots = (are_dscbs.0, (are_dscbs.1.0, (are_dscbs.1.1.1.0, (are_dscbs.1.1.1.0, tt))));
+  firsts = refl;
+  buffer = inl refl;
+}
+
+two_sets_of_one_name_are_not_mounted : (v : Vol) → ¬ IsMounted (with_sets (data_set a ∷ data_set a ∷ [])) v
+two_sets_of_one_name_are_not_mounted v = not_mounted (with_sets (data_set a ∷ data_set a ∷ [])) (DuplicateName 3 2) two_sets_have_one_name v
