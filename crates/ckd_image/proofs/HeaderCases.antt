@@ -1,5 +1,6 @@
 -- Headers, devices and what records cost, on cases at which near readings of their definitions give something else.
-use Rattle.std.specs.Prelude.{ℕ, ◌+◌, ◌*◌, ◌≡◌, true, false, List, [], ◌∷◌, ◌++◌, Some, None, Ok, Err, codes, length, replicate}
+use Rattle.std.specs.Prelude.{ℕ, ◌+◌, ◌-◌, ◌*◌, ◌≡◌, true, false, List, [], ◌∷◌, ◌++◌, Some, None, Ok, Err, codes, length, replicate}
+use Rattle.std.specs.Int.{w32, to_be_bytes}
 use Rattle.std.specs.List.{range_with_len}
 use Rattle.std.proofs.Common.{refl, arith}
 use Rattle.ckd_image.specs.declared.device.DiskType.TheVariants.{D2311, D2314, D3330}
@@ -19,6 +20,16 @@ rows :
     × ((row_of D3330).most_cylinders ≡ 411) × ((row_of D3330).primary_cylinders ≡ 404) × ((row_of D3330).dscbs_per_track ≡ 39) × ((row_of D3330).directory_blocks_per_track ≡ 28)
     × ((row_of D3330).track_capacity ≡ 13165) × ((row_of D3330).largest_record ≡ 13030)
 rows = (refl, refl, refl, refl, refl, refl, refl, refl, refl, refl, refl, refl, refl, refl)
+
+-- each device is that of its type byte and has its own heads, code and word
+own_rows :
+    (device_of (row_of D2311).type_byte ≡ Some D2311) × (device_of (row_of D2314).type_byte ≡ Some D2314) × (device_of (row_of D3330).type_byte ≡ Some D3330)
+    × ((row_of D2311).heads ≡ 10) × ((row_of D2314).heads ≡ 20) × ((row_of D3330).heads ≡ 19)
+    × (to_be_bytes w32 (row_of D2311).device_code ≡ 0x30 ∷ 0 ∷ 0x20 ∷ 1 ∷ [])
+    × (to_be_bytes w32 (row_of D2314).device_code ≡ 0x30 ∷ 0xC0 ∷ 0x20 ∷ 8 ∷ [])
+    × (to_be_bytes w32 (row_of D3330).device_code ≡ 0x30 ∷ 0x50 ∷ 0x20 ∷ 9 ∷ [])
+    × ((row_of D2311).device_word ≡ 50 ∷ 51 ∷ 49 ∷ 49 ∷ []) × ((row_of D2314).device_word ≡ 50 ∷ 51 ∷ 49 ∷ 52 ∷ []) × ((row_of D3330).device_word ≡ 51 ∷ 51 ∷ 51 ∷ 48 ∷ [])
+own_rows = (refl, refl, refl, refl, refl, refl, refl, refl, refl, refl, refl, refl)
 
 -- the cost of a record and of the last one, of 44 and 96 bytes, and without a key: K is saved without a key alone, and the tolerance is another device's for each
 costs :
@@ -46,6 +57,13 @@ track_sizes :
     (is_track_size D2311 3584 ≡ false) × (is_track_size D2311 4096 ≡ true) × (is_track_size D2311 4097 ≡ false) × (is_track_size D2311 65536 ≡ true) × (is_track_size D2311 66048 ≡ false)
     × (is_track_size D2314 7168 ≡ false) × (is_track_size D2314 7680 ≡ true) × (is_track_size D3330 12800 ≡ false) × (is_track_size D3330 13312 ≡ true)
 track_sizes = (refl, refl, refl, refl, refl, refl, refl, refl, refl)
+
+-- a track of a new image has the least of these sizes
+least_sizes :
+    (is_track_size D2311 (row_of D2311).written_track_size ≡ true) × (is_track_size D2311 ((row_of D2311).written_track_size - 512) ≡ false)
+    × (is_track_size D2314 (row_of D2314).written_track_size ≡ true) × (is_track_size D2314 ((row_of D2314).written_track_size - 512) ≡ false)
+    × (is_track_size D3330 (row_of D3330).written_track_size ≡ true) × (is_track_size D3330 ((row_of D3330).written_track_size - 512) ≡ false)
+least_sizes = (refl, refl, refl, refl, refl, refl)
 
 -- whole cylinders behind the header, from one to the device's most, its alternates among them
 lengths :

@@ -1,9 +1,10 @@
 -- The grammar of a track, where it breaks, and the record at the front of bytes, on cases at which near readings of their definitions give something else.
-use Rattle.std.specs.Prelude.{ℕ, ◌+◌, ◌-◌, ◌<◌, ◌≡◌, nat_lt, true, false, Option, Some, None, List, [], ◌∷◌, ◌++◌, drop, length, replicate, take}
+use Rattle.std.specs.Prelude.{ℕ, ◌+◌, ◌-◌, ◌<◌, ◌≤◌, ◌≡◌, nat_lt, true, false, Option, Some, None, List, [], ◌∷◌, ◌++◌, drop, length, replicate, take}
 use Rattle.std.specs.List.{list_all}
-use Rattle.std.proofs.Common.{zero, suc, refl, sym, subst, arith, lit<, ltb-true, length-take-le, take-append-drop}
+use Rattle.std.specs.Int.{w16, to_be_bytes}
+use Rattle.std.proofs.Common.{zero, suc, get_or, refl, sym, ◌∙◌, ap, subst, arith, lit<, ltb-true, length-take-le, take-append-drop}
 use Rattle.std.proofs.lemmas.Bool.{and_parts}
-use Rattle.ckd_image.specs.Track.{AreRecords, BreaksAt, Follows, IsRecord, IsTrack, IsTrackUpTo, Record, count_of, end_marker}
+use Rattle.ckd_image.specs.Track.{AreRecords, BreaksAt, Follows, IsR0, IsRecord, IsTrack, IsTrackUpTo, Record, home_address, record_bytes, records_bytes}
 use Rattle.ckd_image.specs.Reading.{data_length, front_record, is_at_end, is_front, is_record_at, key_length, record_length, records_behind, records_of, records_to_end, records_up_to}
 use Rattle.ckd_image.specs.Break.{break_behind, break_of, break_or_after, break_to_end, break_up_to, front_pattern, marker_length, pattern_break, record_break}
 use Rattle.ckd_image.proofs.Grammar.{follows_read, read_follows}
@@ -25,6 +26,10 @@ one = record { address = 0 ∷ 9 ∷ 0 ∷ 7 ∷ []; key = 75 ∷ 76 ∷ []; «d
 abbrev marker : List ℕ
 marker = replicate 8 255
 
+-- the bytes with another one at this place
+abbrev changed : ℕ → ℕ → List ℕ → List ℕ
+changed at byte bytes = take at bytes ++ (byte ∷ drop (at + 1) bytes)
+
 -- ---- the record at the front
 
 -- KL is one byte and DL two, the high one first
@@ -36,6 +41,13 @@ at_front = (refl, refl, refl, refl, refl)
 
 ended : (is_at_end marker ≡ true) × (is_at_end (replicate 7 255) ≡ false) × (is_at_end (marker ++ (1 ∷ [])) ≡ true) × (is_at_end (replicate 7 255 ++ (0 ∷ [])) ≡ false)
 ended = (refl, refl, refl, refl)
+
+-- 21 bytes, the track's own cylinder and head, and R, KL and DL of R0
+fronts :
+    (is_front 2 3 front ≡ true) × (is_front 2 3 (take 20 front) ≡ false) × (is_front 3 2 front ≡ false) × (is_front 2 3 (changed 0 9 front) ≡ true)
+    × (is_front 2 3 (changed 9 1 front) ≡ false) × (is_front 2 3 (changed 10 1 front) ≡ false) × (is_front 2 3 (changed 11 1 front) ≡ false) × (is_front 2 3 (changed 12 9 front) ≡ false)
+unfolding is_front
+fronts = (refl, refl, refl, refl, refl, refl, refl, refl)
 
 -- up to a record no marker is needed, but eight bytes; and to the end a marker is
 behind :
@@ -117,12 +129,143 @@ seven_behind records is = let none : None ≡ Some records = follows_read 2 3 (S
 too_long : (x : Record) → length x.data ≡ 65536 → ¬ IsRecord 1 x
 too_long x long is = absurd (omega (arith, long, is.data_fits))
 
-marker_is_no_count : (x : Record) → count_of 255 x ≡ end_marker → ¬ IsRecord 255 x
-marker_is_no_count x same is = is.count same
+marker_is_no_count : (content : List ℕ) → length content ≡ 65535 → ¬ IsRecord 255 (record { address = replicate 4 255; key = replicate 255 0; «data» = content })
+marker_is_no_count content long is = is.count (ap (λ (n : ℕ). replicate 4 255 ++ (255 ∷ 255 ∷ to_be_bytes w16 n)) long)
 
 -- there is no R256
 last_number : ¬ AreRecords 255 (one ∷ one ∷ [])
 last_number are = absurd (omega (arith, are.1.0.number))
+
+-- ---- each part of a track is asked for
+
+-- bytes of which nothing is read are no track
+no_track : (bytes : List ℕ) → records_of 2 3 None bytes ≡ None → (records : List Record) → ¬ IsTrack 2 3 records bytes
+no_track bytes nothing records is = let none : None ≡ Some records = sym nothing ∙ follows_read 2 3 None records bytes is in cc
+
+not_up_to_1 : (bytes : List ℕ) → records_of 2 3 (Some 1) bytes ≡ None → ¬ IsTrackUpTo 2 3 (one ∷ []) bytes
+not_up_to_1 bytes nothing is = let none : None ≡ Some (one ∷ []) = sym nothing ∙ follows_read 2 3 (Some 1) (one ∷ []) bytes (is, refl) in cc
+
+-- an R0 of this address, key and data
+abbrev zero_of : List ℕ → List ℕ → List ℕ → Record
+zero_of address key content = record { address = address; key = key; «data» = content }
+
+abbrev other_r0 : Record
+other_r0 = zero_of (9 ∷ 9 ∷ 9 ∷ 9 ∷ []) [] (1 ∷ 2 ∷ 3 ∷ 4 ∷ 5 ∷ 6 ∷ 7 ∷ 8 ∷ [])
+
+one_stands : IsRecord 1 one
+one_stands = record { number = omega arith; four = refl; key_fits = omega arith; data_fits = omega arith; count = λ same. cc }
+
+-- a home address, this R0 and R1, and what stands behind them
+abbrev with_r0 : Record → List ℕ → List ℕ
+with_r0 r0 rest = home_address 7 2 3 ++ (record_bytes 0 r0 ++ (r1 ++ rest))
+
+stands_as_r0 : IsR0 other_r0
+stands_as_r0 = record { stands = record { number = omega arith; four = refl; key_fits = omega arith; data_fits = omega arith; count = λ same. cc }; no_key = refl; eight = refl }
+
+-- the first byte, CC and HH of R0's count, its data and what stands behind the marker may be any
+unjudged : IsTrack 2 3 (one ∷ []) (with_r0 other_r0 (marker ++ (1 ∷ [])))
+unjudged = record { first = 7; r0 = other_r0; rest = 1 ∷ []; zero_stands = stands_as_r0; stand = (one_stands, tt); parts = refl }
+
+unjudged_up_to_1 : IsTrackUpTo 2 3 (one ∷ []) (with_r0 other_r0 (replicate 8 0))
+unjudged_up_to_1 = record { first = 7; r0 = other_r0; rest = replicate 8 0; zero_stands = stands_as_r0; stand = (one_stands, tt); parts = refl; room = omega arith }
+
+-- but R0 is one: it has no key, eight bytes and an address of four, and with all else in its place no other will do
+r0_is_none :
+    ((records : List Record) → ¬ IsTrack 2 3 records (with_r0 (zero_of (9 ∷ 9 ∷ 9 ∷ 9 ∷ []) (1 ∷ []) (replicate 8 1)) marker))
+    × ((records : List Record) → ¬ IsTrack 2 3 records (with_r0 (zero_of (9 ∷ 9 ∷ 9 ∷ 9 ∷ []) [] (replicate 9 1)) marker))
+    × ((records : List Record) → ¬ IsTrack 2 3 records (with_r0 (zero_of (9 ∷ 9 ∷ 9 ∷ 9 ∷ 0 ∷ []) [] (replicate 8 1)) marker))
+unfolding records_of is_front records_to_end
+r0_is_none = (no_track _ refl, no_track _ refl, no_track _ refl)
+
+r0_is_none_up_to_1 :
+    (¬ IsTrackUpTo 2 3 (one ∷ []) (with_r0 (zero_of (9 ∷ 9 ∷ 9 ∷ 9 ∷ []) (1 ∷ []) (replicate 8 1)) (replicate 8 0)))
+    × (¬ IsTrackUpTo 2 3 (one ∷ []) (with_r0 (zero_of (9 ∷ 9 ∷ 9 ∷ 9 ∷ []) [] (replicate 9 1)) (replicate 8 0)))
+    × (¬ IsTrackUpTo 2 3 (one ∷ []) (with_r0 (zero_of (9 ∷ 9 ∷ 9 ∷ 9 ∷ 0 ∷ []) [] (replicate 8 1)) (replicate 8 0)))
+unfolding records_of is_front records_up_to
+r0_is_none_up_to_1 = (not_up_to_1 _ refl, not_up_to_1 _ refl, not_up_to_1 _ refl)
+
+-- nor is a record that can't stand one of a track, though its bytes are there
+abbrev wide : Record
+wide = record { address = 0 ∷ 9 ∷ 0 ∷ 7 ∷ 0 ∷ []; key = []; «data» = [] }
+
+wide_stands : (¬ IsTrack 2 3 (one ∷ wide ∷ []) (front ++ (records_bytes 1 (one ∷ wide ∷ []) ++ marker))) × (¬ IsTrackUpTo 2 3 (one ∷ wide ∷ []) (front ++ (records_bytes 1 (one ∷ wide ∷ []) ++ replicate 8 0)))
+wide_stands = (λ is. absurd (omega (arith, is.stand.1.0.four)), λ is. absurd (omega (arith, is.stand.1.0.four)))
+
+-- records have their numbers from 1 on: 255 may stand, and 256 can't
+abbrev empty : Record
+empty = record { address = replicate 4 0; key = []; «data» = [] }
+
+empty_ones : (n r : ℕ) → r + n ≤ 256 → AreRecords r (replicate n empty)
+empty_ones zero r low = tt
+empty_ones (suc n) r low = (record { number = omega arith; four = refl; key_fits = omega arith; data_fits = omega arith; count = λ same. cc }, empty_ones n (suc r) (omega arith))
+
+few_stand : (records : List Record) (r : ℕ) → r ≤ 256 → AreRecords r records → r + length records ≤ 256
+few_stand [] r low are = omega arith
+few_stand (x ∷ xs) r low are = let here : r < 256 = are.0.number in omega (arith, few_stand xs (suc r) here are.1)
+
+most_records : AreRecords 1 (replicate 255 empty)
+most_records = empty_ones 255 1 (omega arith)
+
+too_many : (records : List Record) (bytes : List ℕ) → length records ≡ 256 → (¬ IsTrack 2 3 records bytes) × (¬ IsTrackUpTo 2 3 records bytes)
+too_many records bytes many = (
+  λ is. absurd (omega (arith, many, few_stand records 1 (omega arith) is.stand)),
+  λ is. absurd (omega (arith, many, few_stand records 1 (omega arith) is.stand)),
+)
+
+-- each byte that is judged: a byte of CC and of HH, R, KL and DL of R0, the number of R1, and the marker, of which there are eight bytes
+one_byte_is_other :
+    ((records : List Record) → ¬ IsTrack 2 3 records (changed 1 1 whole))
+    × ((records : List Record) → ¬ IsTrack 2 3 records (changed 2 3 whole))
+    × ((records : List Record) → ¬ IsTrack 2 3 records (changed 3 1 whole))
+    × ((records : List Record) → ¬ IsTrack 2 3 records (changed 4 2 whole))
+    × ((records : List Record) → ¬ IsTrack 2 3 records (changed 9 1 whole))
+    × ((records : List Record) → ¬ IsTrack 2 3 records (changed 10 1 whole))
+    × ((records : List Record) → ¬ IsTrack 2 3 records (changed 11 1 whole))
+    × ((records : List Record) → ¬ IsTrack 2 3 records (changed 12 7 whole))
+    × ((records : List Record) → ¬ IsTrack 2 3 records (changed 25 0 whole))
+    × ((records : List Record) → ¬ IsTrack 2 3 records (changed 25 2 whole))
+    × ((records : List Record) → ¬ IsTrack 2 3 records (changed 34 0 whole))
+    × ((records : List Record) → ¬ IsTrack 2 3 records (changed 41 0 whole))
+unfolding records_of is_front records_to_end
+one_byte_is_other = (no_track _ refl, no_track _ refl, no_track _ refl, no_track _ refl, no_track _ refl, no_track _ refl, no_track _ refl, no_track _ refl, no_track _ refl, no_track _ refl, no_track _ refl, no_track _ refl)
+
+abbrev whole_up_to_1 : List ℕ
+whole_up_to_1 = front ++ (r1 ++ replicate 8 0)
+
+one_byte_is_other_up_to_1 :
+    (¬ IsTrackUpTo 2 3 (one ∷ []) (changed 1 1 whole_up_to_1))
+    × (¬ IsTrackUpTo 2 3 (one ∷ []) (changed 2 3 whole_up_to_1))
+    × (¬ IsTrackUpTo 2 3 (one ∷ []) (changed 3 1 whole_up_to_1))
+    × (¬ IsTrackUpTo 2 3 (one ∷ []) (changed 4 2 whole_up_to_1))
+    × (¬ IsTrackUpTo 2 3 (one ∷ []) (changed 9 1 whole_up_to_1))
+    × (¬ IsTrackUpTo 2 3 (one ∷ []) (changed 12 7 whole_up_to_1))
+    × (¬ IsTrackUpTo 2 3 (one ∷ []) (changed 25 0 whole_up_to_1))
+    × (¬ IsTrackUpTo 2 3 (one ∷ []) (changed 25 2 whole_up_to_1))
+unfolding records_of is_front records_up_to
+one_byte_is_other_up_to_1 = (not_up_to_1 _ refl, not_up_to_1 _ refl, not_up_to_1 _ refl, not_up_to_1 _ refl, not_up_to_1 _ refl, not_up_to_1 _ refl, not_up_to_1 _ refl, not_up_to_1 _ refl)
+
+exchanged_up_to_1 : (records : List Record) → ¬ Follows 3 2 (Some 1) records whole_up_to_1
+unfolding records_of is_front records_up_to
+exchanged_up_to_1 records is = let none : None ≡ Some records = follows_read 3 2 (Some 1) records whole_up_to_1 is in cc
+
+-- with another byte in its key R1 is another record
+abbrev key_byte : Option (List Record) → ℕ
+key_byte (Some (x ∷ xs)) = get_or x.key 0 0
+key_byte _ = 0
+
+other_key : (¬ IsTrack 2 3 (one ∷ []) (changed 29 0 whole)) × (¬ IsTrackUpTo 2 3 (one ∷ []) (changed 29 0 whole_up_to_1))
+unfolding records_of is_front records_to_end records_up_to
+other_key = (
+  λ is. let key : 0 ≡ 75 = ap key_byte (follows_read 2 3 None (one ∷ []) (changed 29 0 whole) is) in absurd (omega (arith, key)),
+  λ is. let key : 0 ≡ 75 = ap key_byte (follows_read 2 3 (Some 1) (one ∷ []) (changed 29 0 whole_up_to_1) (is, refl)) in absurd (omega (arith, key)),
+)
+
+-- seven bytes behind R1 are no room, and what follows up to a record are so many
+no_room : ¬ IsTrackUpTo 2 3 (one ∷ []) (front ++ (r1 ++ replicate 7 0))
+no_room is = seven_behind (one ∷ []) (is, refl)
+
+counted : (Follows 2 3 (Some 1) (one ∷ []) whole_up_to_1) × (¬ Follows 2 3 (Some 0) (one ∷ []) whole_up_to_1) × (¬ Follows 2 3 (Some 2) (one ∷ []) whole_up_to_1)
+counted = ((up_to_1, refl), λ is. absurd (omega (arith, is.1)), λ is. absurd (omega (arith, is.1)))
 
 -- ---- one byte at the most is the first that breaks
 
@@ -154,6 +297,14 @@ nowhere_else = (
 asked_for_r2 : BreaksAt 2 3 (Some 2) broken 38
 unfolding break_of break_up_to pattern_break
 asked_for_r2 = break_breaks 2 3 (Some 2) broken 38 (small broken refl) (lit< tt) refl
+
+-- no bytes break where the first is asked for, and not behind it, where there are none
+nothing_at_0 : BreaksAt 2 3 None [] 0
+unfolding break_of pattern_break
+nothing_at_0 = break_breaks 2 3 None [] 0 (small [] refl) tt refl
+
+nothing_at_1 : ¬ BreaksAt 2 3 None [] 1
+nothing_at_1 breaks = absurd (omega (arith, breaks.inside))
 
 -- a track that is one breaks nowhere
 unbroken : (at : ℕ) → ¬ BreaksAt 2 3 None whole at

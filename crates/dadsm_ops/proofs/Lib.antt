@@ -1,6 +1,8 @@
 pub mod Cases
 pub mod ChangedLists
+pub mod DoneCases
 pub mod FoundSets
+pub mod OneOutcome
 pub mod Operating
 pub mod OperationCases
 pub mod Refusals

@@ -5,6 +5,7 @@ use Rattle.dscb_codec.specs.Layout.{is_zeros}
 use Rattle.ckd_image.specs.Header.{geometry_of}
 use Rattle.ckd_image.specs.declared.header.ImageErr.TheVariants.{BadMagic}
 use Rattle.dscb_codec.specs.declared.Dscb.TheVariants as formats
+use Rattle.hall_core.specs.Facts.{Facts}
 use Rattle.hall_core.specs.Files.{File, file_of}
 use Rattle.hall_core.specs.Laws.{other_name}
 use Rattle.hall_core.specs.Moments.{Meaning, Same}
@@ -21,7 +22,7 @@ use Rattle.vol_model.specs.declared.refusals.Refusal.TheVariants.{NoSet, SetExis
 use Rattle.vtoc_index.specs.Contents.{AreDscbs}
 use Rattle.vtoc_index.specs.Index.{IsMounted}
 use Rattle.vtoc_index.specs.declared.vol.Vol.{Vol}
-use Rattle.dadsm_ops.specs.Operations.{ChangesVtoc, DiffersInVtoc, StandsForEither, IsDone, Operates, StoreAnswers, image_named}
+use Rattle.dadsm_ops.specs.Operations.{ChangesVtoc, DiffersInVtoc, StandsForEither, IsDone, Operates, StoreAnswers, StoreCall, image_named}
 use Rattle.dadsm_ops.proofs.SmallFiles.{Either, files, later, names_apart, other, other_byte, pack, resting}
 
 -- The answer is that of the step: a step with another reason, one that is done, and one that is refused aren't answered so.
@@ -42,9 +43,50 @@ module _ (v : Vol) (before : List File) (new : Meaning (List File)) where
   other_errors_may_come : (stepped : Result Volume Refusal) → StoreAnswers {T = ℕ} pack stepped v before new (Err Memory) × StoreAnswers {T = ℕ} pack stepped v before new (Err Device)
   other_errors_may_come stepped = (tt, tt)
 
+-- what a hall tells, after so many faults of its device
+abbrev counting : ℕ → Facts
+counting faults = record { units = []; references = 7 ∷ []; dev_faults = faults; print_faults = 5 }
+
+-- A fault of the device is counted where it is answered, and nothing else is: neither want of memory nor a refusal, nor what is done. The hall stays the same one.
+faults_that_are_answered_are_counted :
+    StoreCall {T = ℕ} (counting 3) (counting 4) (Err Device)
+    × StoreCall {T = ℕ} (counting 3) (counting 3) (Ok 1)
+    × StoreCall {T = ℕ} (counting 3) (counting 3) (Err Memory)
+    × StoreCall {T = ℕ} (counting 3) (counting 3) (Err (Refused NoSet))
+    × (¬ StoreCall {T = ℕ} (counting 3) (counting 3) (Err Device))
+    × (¬ StoreCall {T = ℕ} (counting 3) (counting 4) (Ok 1))
+    × (¬ StoreCall {T = ℕ} (counting 3) (counting 4) (Err Memory))
+    × (¬ StoreCall {T = ℕ} (counting 3) (counting 4) (Err (Refused NoSet)))
+    × (¬ StoreCall {T = ℕ} (counting 3) (record (counting 3) { references = [] }) (Ok 1))
+    × (¬ StoreCall {T = ℕ} (counting 3) (record (counting 4) { print_faults = 6 }) (Err Device))
+faults_that_are_answered_are_counted = (
+  record { units = refl; references = refl; prints = refl; later = omega arith; device = λ is. omega arith; others = λ no. absurd (no refl) },
+  record { units = refl; references = refl; prints = refl; later = omega arith; device = λ is. absurd (let wrong = is in cc); others = λ no. refl },
+  record { units = refl; references = refl; prints = refl; later = omega arith; device = λ is. absurd (let wrong = is in cc); others = λ no. refl },
+  record { units = refl; references = refl; prints = refl; later = omega arith; device = λ is. absurd (let wrong = is in cc); others = λ no. refl },
+  λ call. let rose = call.device refl in omega (arith, rose),
+  λ call. let still : 4 ≡ 3 = call.others (λ no. absurd (let wrong = no in cc)) in omega (arith, still),
+  λ call. let still : 4 ≡ 3 = call.others (λ no. absurd (let wrong = no in cc)) in omega (arith, still),
+  λ call. let still : 4 ≡ 3 = call.others (λ no. absurd (let wrong = no in cc)) in omega (arith, still),
+  λ call. let wrong : [] ≡ 7 ∷ [] = call.references in absurd (cc),
+  λ call. let wrong : 6 ≡ 5 = call.prints in omega (arith, wrong),
+)
+
 -- the first byte of a file that is there
 abbrev first_byte : Option (List ℕ) → ℕ
 first_byte bytes = get_or (unwrap_or bytes []) 0 0
+
+-- it is done, and the index has a slot as free in which something stands
+done_has_an_index :
+    (next : List ℕ) (before : List File) (stepped : Result Volume Refusal) (v : Vol) (slot : VtocSlot)
+    → v.slots.items ≡ formats.F0 ∷ []
+    → slots_of_vtoc next v.geometry v.vtoc ≡ slot ∷ []
+    → is_zeros slot.bytes ≡ false
+    → ¬ IsDone pack stepped v before (resting (files 7 next))
+done_has_an_index next before stepped v slot free one full is =
+    let held : AreDscbs (formats.F0 ∷ []) (slot ∷ []) =
+    subst (λ (ss : List VtocSlot). AreDscbs (formats.F0 ∷ []) ss) one (subst (λ ds. AreDscbs ds (slots_of_vtoc next v.geometry v.vtoc)) free is.index.index.slots) in
+    let wrong = sym full ∙ held.0 in absurd (cc)
 
 -- an image, and another after an operation
 module _ (image next : List ℕ) (volume after : Volume) (v : Vol) (mounted : IsMounted next v) (stands : volume_of image ≡ Ok volume) (stands_next : volume_of next ≡ Ok after) (differs : DiffersInVtoc v.geometry v.vtoc image next) where
@@ -70,13 +112,6 @@ module _ (image next : List ℕ) (volume after : Volume) (v : Vol) (mounted : Is
       let same : volume ≡ is.after = cc in
       let next_same : after ≡ is.after = cc in
       apart (same ∙ sym next_same)
-
-  -- the index has a slot as free in which something stands
-  done_has_an_index : (slot : VtocSlot) → v.slots.items ≡ formats.F0 ∷ [] → slots_of_vtoc next v.geometry v.vtoc ≡ slot ∷ [] → is_zeros slot.bytes ≡ false → ¬ IsDone pack (Ok after) v (files 7 image) (resting (files 7 next))
-  done_has_an_index slot free one full is =
-      let held : AreDscbs (formats.F0 ∷ []) (slot ∷ []) =
-      subst (λ (ss : List VtocSlot). AreDscbs (formats.F0 ∷ []) ss) one (subst (λ ds. AreDscbs ds (slots_of_vtoc next v.geometry v.vtoc)) free is.index.index.slots) in
-      let wrong = sym full ∙ held.0 in absurd (cc)
 
   -- another file is another
   done_keeps_other_files : ¬ IsDone pack (Ok after) v (files 7 image) (resting (files 8 next))
@@ -191,6 +226,11 @@ module _ (image next : List ℕ) (volume after : Volume) (v : Vol) (mounted : Is
           let same : volume ≡ operates.volume = cc in
           let wrong : Err r ≡ Ok operates.answer.after = sym step ∙ ap operation same ∙ operates.answer.step in
           absurd (cc)
+
+-- the image stands for no volume, whatever is answered
+image_stands_for_a_volume : {T : Type 0} (operation : Volume → Result Volume Refusal) (v : Vol) (new : Meaning (List File)) (result : Result T StoreErr) → ¬ Operates pack operation v (resting (files 7 [])) new result
+unfolding volume_of geometry_of
+image_stands_for_a_volume operation v new result operates = let wrong : Err (Image BadMagic) ≡ Ok operates.volume = operates.before in absurd (cc)
 
 -- time goes back, or what a stop left since an earlier moment is forgotten
 time_goes_on : (operation : Volume → Result Volume Refusal) (v : Vol) (old new : Meaning (List File)) → new.clock < old.clock → ¬ Operates {T = ℕ} pack operation v old new (Err Device)

@@ -35,7 +35,7 @@ abbrev d : List ℕ
 d = name 0xC4
 
 -- a name of these bytes
-abbrev dsn : List ℕ → Dsn
+abbrev pub dsn : List ℕ → Dsn
 dsn bytes = record { bytes = bytes }
 
 -- the files with these slots of B and A on the image, and those before
@@ -65,18 +65,18 @@ module _ (any : Vol) where
   abbrev index_now : Vol
   index_now = index_then any
 
-  mounted_then : IsMounted put index_now
-  mounted_then = rename_put image put (index any) index_now (dsn a) (dsn c) 3 (f1 a) (data_set c) can refl c_stands (slot_is_put any) (slot_is_replaced any) (inl refl)
-    where
-      can : CanRename image (index any) (dsn a) (dsn c) 3 (f1 a)
-      can = record {
-        mounted = index_is_mounted any;
-        found = ap (position (is_named a)) slots_are_read;
-        absent = ap (position (is_named c)) slots_are_read;
-        set = refl;
-        not_catalog = refl;
-        long = refl;
-      }
+  pub can_be_renamed : CanRename image (index any) (dsn a) (dsn c) 3 (f1 a)
+  can_be_renamed = record {
+    mounted = index_is_mounted any;
+    found = ap (position (is_named a)) slots_are_read;
+    absent = ap (position (is_named c)) slots_are_read;
+    set = refl;
+    not_catalog = refl;
+    long = refl;
+  }
+
+  pub mounted_then : IsMounted put index_now
+  mounted_then = rename_put image put (index any) index_now (dsn a) (dsn c) 3 (f1 a) (data_set c) can_be_renamed refl c_stands (slot_is_put any) (slot_is_replaced any) (inl refl)
 
   set_is_renamed_again : RenamesSet pack (dsn c) (dsn d) (having (data_set b) (data_set c)) (having (data_set b) (data_set d))
   unfolding written patched slots_of_vtoc slots_at slots_on records_on track_bytes records_of is_front records_to_end

@@ -1,6 +1,6 @@
 -- An image in which one slot holds a data set's format 1 under another name: it stands for the renamed volume.
 use Rattle.std.proofs.Common.{◌≡◌, inl, ℕ, ◌<◌, Bool, true, false, List, [], ◌∷◌, ◌++◌, map, length, get_or, Option, Some, None, refl, sym, ap, ◌∙◌, arith}
-use Rattle.std.specs.Prelude.{◌||◌, is_some, position, slice_get, slice_range, slice_set, unwrap_or, not, Result, Ok, Err, if◌then◌else◌}
+use Rattle.std.specs.Prelude.{◌||◌, is_some, position, slice_get, slice_range, slice_set, unwrap_or, not, Result, Ok, if◌then◌else◌}
 use Rattle.std.specs.List.{list_any}
 use Rattle.std.specs.Vec.{with_items}
 use Rattle.std.proofs.lemmas.List.{length-set, with_items_is}
@@ -158,7 +158,7 @@ volume_is : (image : List ℕ) (v : Vol) (volume : Volume) → IsMounted image v
 volume_is image v volume mounted stands = let same : Ok volume ≡ Ok (volume_on_image image v) = sym stands ∙ mounted.volume in cc
 
 -- by the answers to the three tests
-outcome : Bool → Bool → Bool → Volume → Result Volume Refusal
+unfoldable pub outcome : Bool → Bool → Bool → Volume → Result Volume Refusal
 outcome has_old has_new is_kept after = unless_refused (if not has_old then Some NoSet else (if has_new then Some SetExists else (if is_kept then Some WrongKind else None))) after
 
 renamed_by : (image : List ℕ) (v : Vol) (old new : Dsn) (volume : Volume) → volume ≡ volume_on_image image v
@@ -197,27 +197,7 @@ rename_stands image put v old new slot f bytes volume can stands size dscb is =
       changes = differs_in_vtoc image put v slot bytes can.mounted.index of.low is;
     }
 
-module _ (image : List ℕ) (v : Vol) (old new : Dsn) (volume : Volume) (mounted : IsMounted image v) (stands : volume_of image ≡ Ok volume) where
-  -- there is no data set of the old name
-  pub rename_no_set : position (is_named old.bytes) (slots_on_image image v) ≡ None → rename_on old new volume ≡ Err NoSet
-  unfolding outcome
-  rename_no_set none =
-      renamed_by image v old new volume (volume_is image v volume mounted stands)
-      ∙ ap (λ (o : Option ℕ). outcome (is_some o) (is_some (position (is_named new.bytes) (slots_on_image image v))) (is_catalog old.bytes || is_catalog new.bytes) (renamed volume old.bytes new)) none
-
-  -- there is one of the new name
-  pub rename_set_exists : (slot other : ℕ) → position (is_named old.bytes) (slots_on_image image v) ≡ Some slot → position (is_named new.bytes) (slots_on_image image v) ≡ Some other → rename_on old new volume ≡ Err SetExists
-  unfolding outcome
-  rename_set_exists slot other found exists =
-      renamed_by image v old new volume (volume_is image v volume mounted stands)
-      ∙ ap (λ (o : Option ℕ). outcome (is_some o) (is_some (position (is_named new.bytes) (slots_on_image image v))) (is_catalog old.bytes || is_catalog new.bytes) (renamed volume old.bytes new)) found
-      ∙ ap (λ (o : Option ℕ). outcome true (is_some o) (is_catalog old.bytes || is_catalog new.bytes) (renamed volume old.bytes new)) exists
-
-  -- a name is the catalog's
-  pub rename_wrong_kind : (slot : ℕ) → position (is_named old.bytes) (slots_on_image image v) ≡ Some slot → position (is_named new.bytes) (slots_on_image image v) ≡ None → (is_catalog old.bytes || is_catalog new.bytes) ≡ true → rename_on old new volume ≡ Err WrongKind
-  unfolding outcome
-  rename_wrong_kind slot found absent catalog =
-      renamed_by image v old new volume (volume_is image v volume mounted stands)
-      ∙ ap (λ (o : Option ℕ). outcome (is_some o) (is_some (position (is_named new.bytes) (slots_on_image image v))) (is_catalog old.bytes || is_catalog new.bytes) (renamed volume old.bytes new)) found
-      ∙ ap (λ (o : Option ℕ). outcome true (is_some o) (is_catalog old.bytes || is_catalog new.bytes) (renamed volume old.bytes new)) absent
-      ∙ ap (λ (b : Bool). outcome true false b (renamed volume old.bytes new)) catalog
+-- what a rename gives, by the slots of an image that is mounted
+pub renamed_on_image : (image : List ℕ) (v : Vol) (old new : Dsn) (volume : Volume) → IsMounted image v → volume_of image ≡ Ok volume
+    → rename_on old new volume ≡ outcome (is_some (position (is_named old.bytes) (slots_on_image image v))) (is_some (position (is_named new.bytes) (slots_on_image image v))) (is_catalog old.bytes || is_catalog new.bytes) (renamed volume old.bytes new)
+renamed_on_image image v old new volume mounted stands = renamed_by image v old new volume (volume_is image v volume mounted stands)

@@ -1,6 +1,6 @@
 -- What a write of one slot leaves, computed on an image of one track with two slots. Each comment in small letters names what a near reading would let through.
-use Rattle.std.proofs.Common.{◌≡◌, ◌≢◌, ◌≤◌, ◌+◌, ◌*◌, ⊎_elim, inl, inr, ℕ, zero, suc, List, [], ◌∷◌, ◌++◌, length, drop, take, replicate, Some, refl, sym, ap, subst, ◌∙◌, arith}
-use Rattle.std.specs.Prelude.{Result, Ok, Err, unwrap_or}
+use Rattle.std.proofs.Common.{◌≡◌, ◌≢◌, ◌≤◌, ◌+◌, ◌*◌, ⊎_elim, inl, inr, ℕ, zero, suc, List, [], ◌∷◌, ◌++◌, length, codes, drop, get_or, take, replicate, Some, refl, sym, ap, subst, ◌∙◌, arith}
+use Rattle.std.specs.Prelude.{Result, Ok, Err, slice_get, unwrap_or}
 use Rattle.std.specs.Option.{option_map}
 use Rattle.std.proofs.lemmas.List.{drop_all}
 use Rattle.ckd_image.specs.Header.{geometry_of}
@@ -27,7 +27,7 @@ use Rattle.vtoc_index.specs.declared.vol.Vol.{Vol}
 use Rattle.dadsm_ops.specs.Naming.{HaveName, PutsName, WritesName, named_bytes}
 use Rattle.dadsm_ops.specs.Operations.{image_named}
 use Rattle.dadsm_ops.specs.Through.{HaveSlot, PutsThrough}
-use Rattle.dadsm_ops.proofs.SmallFiles.{Either, byte, files, later, other_byte, pack, resting}
+use Rattle.dadsm_ops.proofs.SmallFiles.{Either, byte, files, later, other, other_byte, pack, resting}
 use Rattle.dadsm_ops.proofs.Writes.{other_file}
 
 -- names of 44 bytes, which differ in the first and in the last
@@ -67,6 +67,19 @@ half_named = files 7 (image 0 (0xC1 ∷ drop 1 b ++ rest) 0)
 abbrev half_freed : List File
 half_freed = files 7 (image 0 (replicate 44 0 ++ rest) 0)
 
+-- the name of no file
+abbrev missing : List ℕ
+missing = codes "PACK2"
+
+-- the first letter of the name of the first file
+abbrev first_letter : List File → ℕ
+first_letter [] = 0
+first_letter (file ∷ files) = get_or file.name 0 0
+
+-- the bytes of a slot
+abbrev slot_at : ℕ → List VtocSlot → List ℕ
+slot_at slot slots = unwrap_or (option_map (λ (s : VtocSlot). s.bytes) (slice_get slots slot)) []
+
 module _ (any : Vol) (f : F1) where
   -- the index of the image: a free slot, and the set of the one name
   abbrev v : Vol
@@ -88,11 +101,11 @@ module _ (any : Vol) (f : F1) where
 
   put_name : IsPut v 1 (a ++ rest) (image 0 (b ++ rest) 0) (image 0 (a ++ rest) 0)
   unfolding patched label_of label_in records_on track_bytes records_of is_front records_to_end records_up_to slots_of_vtoc slots_at slots_on track_faults track_fault firsts_of
-  put_name = record { written = refl; size = refl; header = refl; label = refl; slots = refl; tracks = refl; firsts = refl; others = no_other_track (image 0 (b ++ rest) 0) (image 0 (a ++ rest) 0) (omega arith) (omega arith) }
+  put_name = record { there = omega arith; written = refl; size = refl; header = refl; label = refl; slots = refl; tracks = refl; firsts = refl; others = no_other_track (image 0 (b ++ rest) 0) (image 0 (a ++ rest) 0) (omega arith) (omega arith) }
 
   put_zeros : IsPut v 1 (replicate 140 0) (image 0 (b ++ rest) 0) (image 0 (replicate 140 0) 0)
   unfolding patched label_of label_in records_on track_bytes records_of is_front records_to_end records_up_to slots_of_vtoc slots_at slots_on track_faults track_fault firsts_of
-  put_zeros = record { written = refl; size = refl; header = refl; label = refl; slots = refl; tracks = refl; firsts = refl; others = no_other_track (image 0 (b ++ rest) 0) (image 0 (replicate 140 0) 0) (omega arith) (omega arith) }
+  put_zeros = record { there = omega arith; written = refl; size = refl; header = refl; label = refl; slots = refl; tracks = refl; firsts = refl; others = no_other_track (image 0 (b ++ rest) 0) (image 0 (replicate 140 0) 0) (omega arith) (omega arith) }
 
   -- A slot is written.
   slot_is_written : HaveSlot pack v 1 (a ++ rest) before after
@@ -127,6 +140,37 @@ module _ (any : Vol) (f : F1) where
   slots_are_counted_from_0 : (¬ HaveSlot pack v 0 (a ++ rest) before after) × (¬ HaveSlot pack v 2 (a ++ rest) before after)
   unfolding written patched
   slots_are_counted_from_0 = (λ has. let wrong : 0 ≡ 0xC1 = ap (byte 541) has.files in omega (arith, wrong), λ has. let wrong : 0xC1 ≡ 0xC2 = ap (byte 689) has.files in omega (arith, wrong))
+
+  -- each file has its bytes, but the files stand in another order, or one comes
+  files_keep_their_order : ¬ HaveSlot pack v 1 (a ++ rest) before (record { name = pack; bytes = image 0 (a ++ rest) 0 } ∷ record { name = other; bytes = 7 ∷ [] } ∷ [])
+  unfolding written patched
+  files_keep_their_order has = let wrong : 80 ≡ 79 = ap (λ (all : List File). first_letter all) has.files in omega (arith, wrong)
+
+  no_file_comes : ¬ HaveSlot pack v 1 (a ++ rest) before (after ++ record { name = pack; bytes = [] } ∷ [])
+  unfolding written patched
+  no_file_comes has = let wrong : 3 ≡ 2 = ap length has.files in omega (arith, wrong)
+
+  -- The files are those in which the bytes are written at the place, but the image isn't one with that slot.
+  abbrev AreWritten : List ℕ → ℕ → List ℕ → List File → Type 0
+  AreWritten name slot bytes all = all ≡ written before name (place_of_slot v slot) bytes
+
+  -- the bytes are fewer than a slot's, and the last one was there before
+  slot_has_all_its_bytes : AreWritten pack 1 (a ++ take 95 rest) after × (¬ HaveSlot pack v 1 (a ++ take 95 rest) before after)
+  unfolding written patched slots_of_vtoc slots_at slots_on records_on track_bytes records_of is_front records_to_end
+  slot_has_all_its_bytes = (refl, λ has. let wrong : 140 ≡ 139 = ap (λ (slots : List VtocSlot). length (slot_at 1 slots)) has.image.slots in omega (arith, wrong))
+
+  -- the slot would stand behind the last one
+  abbrev grown : List File
+  grown = files 7 (take 837 (image 0 (b ++ rest) 0) ++ a ++ rest)
+
+  slot_stands_among_the_others : AreWritten pack 2 (a ++ rest) grown × (¬ HaveSlot pack v 2 (a ++ rest) before grown)
+  unfolding written patched
+  slot_stands_among_the_others = (refl, λ has. let wrong : 977 ≡ 838 = has.image.size in omega (arith, wrong))
+
+  -- no file has the name, so that none is written
+  file_is_there : AreWritten missing 1 (a ++ rest) before × (¬ HaveSlot missing v 1 (a ++ rest) before before)
+  unfolding written patched
+  file_is_there = (refl, λ has. let wrong : 0 ≡ 140 = ap length has.image.written in omega (arith, wrong))
 
   -- The name is written, and the other 96 bytes are as they were.
   name_is_written : HaveName pack v 1 a before after
@@ -198,6 +242,15 @@ module _ (any : Vol) (f : F1) where
   -- it is done, and what is read is as before
   put_is_read : {T E : Type 0} (v' : Vol) (new : Meaning (List File)) (x : T) → new.state ≡ before → ¬ PutsThrough {T = T} {E = E} pack v 1 formats.F0 v' (resting before) new (Ok x)
   put_is_read v' new x same puts = let wrong : 0xC2 ≡ 0 = ap (byte 689) (sym same ∙ puts.step.done.0 ∙ all_put v' new (Ok x) puts) in omega (arith, wrong)
+
+  -- with no bytes all else holds at a number behind the last
+  no_slot_is_there : AreWritten pack 7 [] before × (¬ HaveSlot pack v 7 [] before before)
+  unfolding written patched slots_of_vtoc slots_at slots_on records_on track_bytes records_of is_front records_to_end
+  no_slot_is_there = (refl, λ has. omega (arith, has.image.there))
+
+  slot_is_there : {T E : Type 0} (v' : Vol) (new : Meaning (List File)) (result : Result T E) → ¬ PutsThrough pack v 7 formats.F0 v' (resting before) new result
+  unfolding slots_of_vtoc slots_at slots_on records_on track_bytes records_of is_front records_to_end
+  slot_is_there v' new result puts = omega (arith, puts.put.image.there)
 
   -- it is done, and the index is that of no image: this one has no header
   put_has_an_index : {T E : Type 0} (v' : Vol) (new : Meaning (List File)) (x : T) → ¬ PutsThrough {T = T} {E = E} pack v 1 formats.F0 v' (resting before) new (Ok x)

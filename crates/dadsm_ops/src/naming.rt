@@ -53,7 +53,6 @@ pub fn rename<H: Hall>(hall: &mut H, vol: &mut Vol, old: &Dsn, new: &Dsn) -> Res
 }
 
 // The slot of the set that has the old name, or the first reason why it can't get the new one.
-#[tactic(auto, using(crate::proofs::Refusals::refused_no_set, crate::proofs::Refusals::refused_set_exists, crate::proofs::Refusals::refused_old_catalog, crate::proofs::Refusals::refused_new_catalog))]
 fn slot_to_rename(vol: &Vol, old: &Dsn, new: &Dsn) -> Result<u32, Refusal>
     requires { length vol.now.slots.items ≤ 65535 }
     ensures found { IfOk result (IsToRename vol.now.slots.items old.now.bytes new.now.bytes) }

@@ -4,7 +4,7 @@ use Rattle.std.proofs.Common.{refl, arith}
 use Rattle.dscb_codec.specs.declared.Dscb.{Dscb}
 use Rattle.dscb_codec.specs.declared.Dscb.TheVariants as formats
 use Rattle.dscb_codec.specs.declared.DscbErr.TheVariants.{Unsupported, BadFormat}
-use Rattle.dscb_codec.specs.Layout.{AreBelow, AreRows, FitsTypes, HasFields, IsDscb, Stands, byte, covers, field, half, holds_byte, refusal_of, word}
+use Rattle.dscb_codec.specs.Layout.{AreBelow, AreRows, Field, FitsTypes, HasFields, IsDscb, Stands, byte, covers, field, half, holds_byte, refusal_of, word}
 
 -- 140 bytes of zeros, but for those at 44 and behind it
 abbrev from_44 : List ℕ → List ℕ
@@ -33,6 +33,22 @@ places :
     × Stands (9 ∷ 1 ∷ 2 ∷ 3 ∷ 4 ∷ 9 ∷ []) (byte 5 9)
     × Stands (9 ∷ 1 ∷ 2 ∷ 3 ∷ 4 ∷ 9 ∷ []) (field 3 3 (3 ∷ 4 ∷ 9 ∷ []))
 places = (refl, refl, refl, refl)
+
+-- a row is an offset, a length and bytes; it isn't that of the offset before or behind it, of a byte less or more, or of the bytes in another order
+abbrev two_at_1 : Field
+two_at_1 = record { at = 1; len = 2; bytes = 1 ∷ 2 ∷ [] }
+
+row : (field 1 2 (1 ∷ 2 ∷ []) ≡ two_at_1) × (half 1 0x0102 ≡ two_at_1) × (byte 3 7 ≡ record { at = 3; len = 1; bytes = 7 ∷ [] }) × (word 3 7 ≡ record { at = 3; len = 4; bytes = 0 ∷ 0 ∷ 0 ∷ 7 ∷ [] })
+row = (refl, refl, refl, refl)
+
+one_row :
+    Stands (0 ∷ 1 ∷ 2 ∷ 3 ∷ []) two_at_1
+    × (¬ Stands (0 ∷ 1 ∷ 2 ∷ 3 ∷ []) (record two_at_1 { at = 0 }))
+    × (¬ Stands (0 ∷ 1 ∷ 2 ∷ 3 ∷ []) (record two_at_1 { at = 2 }))
+    × (¬ Stands (0 ∷ 1 ∷ 2 ∷ 3 ∷ []) (record two_at_1 { len = 1 }))
+    × (¬ Stands (0 ∷ 1 ∷ 2 ∷ 3 ∷ []) (record two_at_1 { len = 3 }))
+    × (¬ Stands (0 ∷ 1 ∷ 2 ∷ 3 ∷ []) (record two_at_1 { bytes = 2 ∷ 1 ∷ [] }))
+one_row = (refl, λ is. cc, λ is. cc, λ is. cc, λ is. cc, λ is. cc)
 
 -- fields with a gap, fields that overlap, and fields that end early or late don't cover
 covered :

@@ -1,5 +1,5 @@
 -- The tables of fields, on bytes that are their offsets but for that of the format, so that each field has its own.
-use Rattle.std.specs.Prelude.{ℕ, ◌≡◌, true, false, List, [], ◌∷◌, ◌++◌}
+use Rattle.std.specs.Prelude.{ℕ, ◌≡◌, ◌-◌, ◌^◌, true, false, List, [], ◌∷◌, ◌++◌}
 use Rattle.std.specs.List.{range_with_len}
 use Rattle.std.proofs.Common.{get_or, refl, ap, arith}
 use Rattle.dscb_codec.specs.declared.Dscb.TheVariants as formats
@@ -7,7 +7,7 @@ use Rattle.dscb_codec.specs.declared.F1.{F1}
 use Rattle.dscb_codec.specs.declared.F3.{F3}
 use Rattle.dscb_codec.specs.declared.F4.{F4}
 use Rattle.dscb_codec.specs.declared.F5.{F5}
-use Rattle.dscb_codec.specs.Layout.{IsDscb, covers, f1_fields, f3_fields, f4_fields, f5_fields, format_byte, is_left_out, is_read}
+use Rattle.dscb_codec.specs.Layout.{FitsTypes, IsDscb, covers, f1_fields, f3_fields, f4_fields, f5_fields, format_byte, is_left_out, is_read}
 
 -- the bytes of a DSCB of this format
 abbrev numbered : ℕ → List ℕ
@@ -112,6 +112,77 @@ other_formats = (
   λ is. let format : 0xF1 ≡ 0xF4 = ap (λ (l : List ℕ). get_or l 0 0) is.1.0 in absurd (omega (arith, format)),
   λ is. let format : 0xF3 ≡ 0xF5 = ap (λ (l : List ℕ). get_or l 0 0) is.1.1.0 in absurd (omega (arith, format)),
 )
+
+-- each number of two bytes and of four is below its bound; the extents are three, or four and nine, of ten bytes each, and the entries of free space eight and eighteen of five
+fitting : FitsTypes (formats.F1 set) × FitsTypes (formats.F3 further) × FitsTypes (formats.F4 vtoc)
+fitting = (
+  ((omega arith, (omega arith, (omega arith, (omega arith, (omega arith, (omega arith, tt)))))), (omega arith, tt), (refl, (refl, (refl, (refl, tt))))),
+  ((omega arith, tt), (refl, (refl, (refl, (refl, (refl, tt))))), (refl, (refl, (refl, (refl, (refl, (refl, (refl, (refl, (refl, (refl, tt))))))))))),
+  ((omega arith, (omega arith, (omega arith, (omega arith, tt)))), (omega arith, (omega arith, tt))),
+)
+
+fitting_free : FitsTypes (formats.F5 free)
+fitting_free = (
+  (omega arith, tt),
+  (refl, (refl, (refl, (refl, (refl, (refl, (refl, (refl, (refl, tt))))))))),
+  (refl, (refl, (refl, (refl, (refl, (refl, (refl, (refl, (refl, (refl, (refl, (refl, (refl, (refl, (refl, (refl, (refl, (refl, (refl, tt))))))))))))))))))),
+)
+
+-- and each of them must
+unfit_in_format_1 :
+    (¬ FitsTypes (formats.F1 (record set { volseq = 65536 })))
+    × (¬ FitsTypes (formats.F1 (record set { dsorg = 65536 })))
+    × (¬ FitsTypes (formats.F1 (record set { blksize = 65536 })))
+    × (¬ FitsTypes (formats.F1 (record set { lrecl = 65536 })))
+    × (¬ FitsTypes (formats.F1 (record set { rkp = 65536 })))
+    × (¬ FitsTypes (formats.F1 (record set { balance = 65536 })))
+    × (¬ FitsTypes (formats.F1 (record set { scalo = 2 ^ 32 })))
+    × FitsTypes (formats.F1 (record set { scalo = 2 ^ 32 - 1; balance = 65535 }))
+    × (¬ FitsTypes (formats.F1 (record set { runs = extent 105 ∷ extent 115 ∷ [] })))
+    × (¬ FitsTypes (formats.F1 (record set { runs = extent 105 ∷ extent 115 ∷ entry 125 ∷ [] })))
+unfit_in_format_1 = (
+  λ fits. omega (arith, fits.0.0),
+  λ fits. omega (arith, fits.0.1.0),
+  λ fits. omega (arith, fits.0.1.1.0),
+  λ fits. omega (arith, fits.0.1.1.1.0),
+  λ fits. omega (arith, fits.0.1.1.1.1.0),
+  λ fits. omega (arith, fits.0.1.1.1.1.1.0),
+  λ fits. omega (arith, fits.1.0),
+  ((omega arith, (omega arith, (omega arith, (omega arith, (omega arith, (omega arith, tt)))))), (omega arith, tt), (refl, (refl, (refl, (refl, tt))))),
+  λ fits. omega (arith, fits.2.0),
+  λ fits. omega (arith, fits.2.1.1.1.0),
+)
+
+unfit_in_format_3 :
+    (¬ FitsTypes (formats.F3 (record further { id = 2 ^ 32 })))
+    × (¬ FitsTypes (formats.F3 (record further { front = extent 4 ∷ extent 14 ∷ extent 24 ∷ [] })))
+    × (¬ FitsTypes (formats.F3 (record further { back = extent 4 ∷ extent 14 ∷ extent 24 ∷ extent 34 ∷ [] })))
+unfit_in_format_3 = (λ fits. omega (arith, fits.0.0), λ fits. omega (arith, fits.1.0), λ fits. omega (arith, fits.2.0))
+
+unfit_in_format_4 :
+    (¬ FitsTypes (formats.F4 (record vtoc { free = 65536 })))
+    × (¬ FitsTypes (formats.F4 (record vtoc { alternates = 65536 })))
+    × (¬ FitsTypes (formats.F4 (record vtoc { capacity = 65536 })))
+    × (¬ FitsTypes (formats.F4 (record vtoc { tolerance = 65536 })))
+    × (¬ FitsTypes (formats.F4 (record vtoc { next_alt = 2 ^ 32 })))
+    × (¬ FitsTypes (formats.F4 (record vtoc { size = 2 ^ 32 })))
+    × FitsTypes (formats.F4 (record vtoc { next_alt = 2 ^ 32 - 1; size = 2 ^ 32 - 1 }))
+unfit_in_format_4 = (
+  λ fits. omega (arith, fits.0.0),
+  λ fits. omega (arith, fits.0.1.0),
+  λ fits. omega (arith, fits.0.1.1.0),
+  λ fits. omega (arith, fits.0.1.1.1.0),
+  λ fits. omega (arith, fits.1.0),
+  λ fits. omega (arith, fits.1.1.0),
+  ((omega arith, (omega arith, (omega arith, (omega arith, tt)))), (omega arith, (omega arith, tt))),
+)
+
+unfit_in_format_5 :
+    (¬ FitsTypes (formats.F5 (record free { id = 2 ^ 32 })))
+    × (¬ FitsTypes (formats.F5 (record free { front = entry 4 ∷ entry 9 ∷ entry 14 ∷ entry 19 ∷ [] })))
+    × (¬ FitsTypes (formats.F5 (record free { front = extent 4 ∷ extent 14 ∷ extent 24 ∷ extent 34 ∷ extent 4 ∷ extent 14 ∷ extent 24 ∷ extent 34 ∷ [] })))
+    × (¬ FitsTypes (formats.F5 (record free { back = entry 45 ∷ entry 50 ∷ entry 55 ∷ entry 60 ∷ entry 65 ∷ entry 70 ∷ entry 75 ∷ entry 80 ∷ [] })))
+unfit_in_format_5 = (λ fits. omega (arith, fits.0.0), λ fits. omega (arith, fits.1.0), λ fits. omega (arith, fits.1.1.0), λ fits. omega (arith, fits.2.0))
 
 -- each byte lies in one field
 all_covered :

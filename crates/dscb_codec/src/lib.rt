@@ -1,6 +1,7 @@
 //! The data set control blocks (DSCBs) of a VTOC, between their fields and their 140 bytes.
 //!
-//! The places of the fields follow System Control Blocks, GC28-6628; every number is big-endian.
+//! The places of the fields follow System Control Blocks, GC28-6628; every number is big-endian. The default of a format
+//! has zeros in all fields.
 #![tactic(auto)]
 
 ghost use Rattle.std.specs.Prelude.{◌≡◌, ℕ, List, IsTrue, count_by, nat_lt, if◌then◌else◌};
@@ -38,7 +39,7 @@ pub const FORMAT_5: u8 = 0xF5;
 const FORMAT_6: u8 = 0xF6;
 
 /// Format 1: the attributes of a data set and its first three extents.
-#[derive(Clone, Copy, Debug, PartialEq, Eq)]
+#[derive(Clone, Copy, Debug, Default, PartialEq, Eq)]
 pub struct F1 {
     /// DSNAME, the name in EBCDIC, padded with blanks; the key.
     pub name: [u8; 44],
@@ -95,7 +96,7 @@ pub struct F1 {
 }
 
 /// Format 3: thirteen more extents of a data set.
-#[derive(Clone, Copy, Debug, PartialEq, Eq)]
+#[derive(Clone, Copy, Debug, Default, PartialEq, Eq)]
 pub struct F3 {
     /// The first four bytes of the key, X'03030303'; not judged.
     pub id: u32,
@@ -108,7 +109,7 @@ pub struct F3 {
 }
 
 /// Format 4: the VTOC and the device.
-#[derive(Clone, Copy, Debug, PartialEq, Eq)]
+#[derive(Clone, Copy, Debug, Default, PartialEq, Eq)]
 pub struct F4 {
     /// The key, X'04' in each byte; not judged.
     pub id: [u8; 44],
@@ -153,7 +154,7 @@ pub struct F4 {
 }
 
 /// Format 5: free space, in runs of tracks.
-#[derive(Clone, Copy, Debug, PartialEq, Eq)]
+#[derive(Clone, Copy, Debug, Default, PartialEq, Eq)]
 pub struct F5 {
     /// The first four bytes of the key, X'05050505'; not judged.
     pub id: u32,

@@ -2,7 +2,7 @@
 use Rattle.std.specs.Prelude.{ℕ, ◌≡◌, true, false, [], ◌∷◌, Some, None, Ok, Err, codes, replicate}
 use Rattle.std.proofs.Common.{refl}
 use Rattle.ebcdic_names.specs.CodePage.{ascii_of, code_page, ebcdic_of}
-use Rattle.ebcdic_names.specs.Names.{are_blanks, begins_level, byte_of, char_faults, char_faults_from, continues_level, dsn_of, ends_level, level_allows, level_fault, level_faults, levels, levels_faults, name8_of, name_fault, onto_first, padded, serial_allows, serial_fault, serial_faults, serial_of, shown, unless_fault, without_blanks}
+use Rattle.ebcdic_names.specs.Names.{are_blanks, begins_level, byte_of, char_faults, char_faults_from, continues_level, dsn_of, ends_level, is_digit, level_allows, level_fault, level_faults, levels, levels_faults, name8_of, name_fault, onto_first, padded, serial_allows, serial_fault, serial_faults, serial_of, shown, unless_fault, without_blanks}
 use Rattle.ebcdic_names.specs.declared.names.NameForm.TheVariants.{Levels, OneLevel}
 use Rattle.ebcdic_names.specs.declared.names.NameErr.TheVariants.{Empty, TooLong, BadLevel, BadChar}
 
@@ -18,6 +18,10 @@ begins :
     (begins_level 65 ≡ true) × (begins_level 90 ≡ true) × (begins_level 91 ≡ false) × (begins_level 64 ≡ true) × (begins_level 63 ≡ false)
     × (begins_level 35 ≡ true) × (begins_level 36 ≡ true) × (begins_level 34 ≡ false) × (begins_level 37 ≡ false) × (begins_level 97 ≡ false)
 begins = (refl, refl, refl, refl, refl, refl, refl, refl, refl, refl)
+
+-- the characters from 0 to 9, and neither their neighbours nor their EBCDIC bytes
+digits : (is_digit 47 ≡ false) × (is_digit 48 ≡ true) × (is_digit 57 ≡ true) × (is_digit 58 ≡ false) × (is_digit 0xF0 ≡ false) × (is_digit 0xF9 ≡ false)
+digits = (refl, refl, refl, refl, refl, refl)
 
 -- digits, and a hyphen where there are several levels
 continues :

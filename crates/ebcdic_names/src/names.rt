@@ -1,7 +1,7 @@
 //! Data set names, names of one level and volume serials.
 
 ghost use Rattle.std.specs.Prelude.{◌≡◌, ◌≢◌, ◌≤◌, ◌==◌, ◌-◌, ◌++◌, ◌∷◌, [], ℕ, List, chars, length, replicate, reverse, slice_get, take_while, IsOk, Some};
-ghost use Rattle.std.specs.Fmt.{DisplaysOnOk};
+ghost use Rattle.std.specs.Fmt.{DisplaysOnOk, WritesStyledOnOk};
 ghost use Rattle.ebcdic_names.specs.Names.{begins_level, byte_of, char_faults, continues_level, dsn_of, ends_level, is_digit, level_allows, level_fault, name8_of, name_fault, padded, serial_allows, serial_fault, serial_faults, serial_of, shown, without_blanks};
 
 use crate::{to_ascii, to_ebcdic};
@@ -283,6 +283,8 @@ fn byte_of(c: char) -> u8
 impl fmt::Display for Dsn {
     ghost output = { λ name. Some (shown name.bytes) };
 
+    ghost styled_output = { λ name _. Some (shown name.bytes) };
+
     fn fmt<W: fmt::Write>(&self, f: &mut fmt::Formatter<W>) -> fmt::Result {
         write_characters(&self.bytes, f)
     }
@@ -290,6 +292,8 @@ impl fmt::Display for Dsn {
 
 impl fmt::Display for Name8 {
     ghost output = { λ name. Some (shown name.bytes) };
+
+    ghost styled_output = { λ name _. Some (shown name.bytes) };
 
     fn fmt<W: fmt::Write>(&self, f: &mut fmt::Formatter<W>) -> fmt::Result {
         write_characters(&self.bytes, f)
@@ -299,14 +303,18 @@ impl fmt::Display for Name8 {
 impl fmt::Display for Serial {
     ghost output = { λ serial. Some (shown serial.bytes) };
 
+    ghost styled_output = { λ serial _. Some (shown serial.bytes) };
+
     fn fmt<W: fmt::Write>(&self, f: &mut fmt::Formatter<W>) -> fmt::Result {
         write_characters(&self.bytes, f)
     }
 }
 
-// Writes the characters of a name without the blanks behind them. Where there are none, that can't fail.
+// Writes the characters of a name without the blanks behind them, whatever width or other options the
+// formatter has. Where there are none, that can't fail.
 fn write_characters<W: fmt::Write>(bytes: &[u8], f: &mut fmt::Formatter<W>) -> fmt::Result
     ensures writes { DisplaysOnOk W.write_str_gives f.old result (Some (shown bytes.now)) f.new }
+    ensures styled { WritesStyledOnOk W.write_str_gives f.old result (shown bytes.now) f.new }
     ensures blank { shown bytes.now ≡ [] → IsOk result }
 {
     for e in without_blanks(bytes) {

@@ -1,15 +1,16 @@
 -- What calls may do to what a hall means, on cases at which near readings of the definitions say otherwise.
-use Rattle.std.proofs.Common.{◌≡◌, ◌⊎◌, ⊎_elim, inl, inr, ℕ, List, [], ◌∷◌, ◌++◌, ◌∙◌, length, get_or, refl, ap, arith, lit≤}
+use Rattle.std.proofs.Common.{◌≡◌, ◌⊎◌, ⊎_elim, inl, inr, ℕ, List, [], ◌∷◌, ◌++◌, ◌∙◌, length, get_or, refl, sym, ap, arith, lit≤, true}
 use Rattle.std.specs.Prelude.{Ok, Err, Result}
 use Rattle.hall_core.specs.declared.hall.HallErr.{HallErr}
 use Rattle.hall_core.specs.declared.hall.HallErr.TheVariants.{Missing, Failed, Memory}
 use Rattle.hall_core.specs.Cards.{GivesNext}
 use Rattle.hall_core.specs.Files.{File, patched, written, Attaches, IsPending, AfterWrite, AfterSync, AfterPrint, untold}
 use Rattle.hall_core.specs.History.{wrote, synced, printed, passed, with_write, with_writes, meaning_after}
-use Rattle.hall_core.specs.HistoryLaws.{nothing_kept}
+use Rattle.hall_core.specs.HistoryLaws.{nothing_kept, since_now}
 use Rattle.hall_core.specs.Moments.{Meaning}
 use Rattle.hall_core.proofs.CallLemmas.{same_passed, write_done, write_failed, write_lacking, sync_done, sync_failed, print_done, print_failed}
-use Rattle.hall_core.proofs.HistoryCases.{files, first_byte, second_byte, nine, failed}
+use Rattle.hall_core.proofs.StepLemmas.{write_leaves}
+use Rattle.hall_core.proofs.HistoryCases.{holds, files, first_byte, second_byte, nine, failed}
 
 -- the answer of a call that gives nothing
 abbrev pub Answer : Type 0
@@ -71,9 +72,19 @@ write_fails = write_failed files [] failed refl Failed
 write_begins_not : AfterWrite nine.name 1 (9 ∷ []) at_first at_first fails
 write_begins_not = write_lacking files [] nine.name 1 (9 ∷ []) Failed
 
--- one that is done isn't left out of what is read
+-- one that is done isn't left out of what is read, also where a stop may keep it
 write_does_nothing : ¬ AfterWrite nine.name 1 (9 ∷ []) at_first behind_none done
 write_does_nothing write = differ write.done
+
+write_is_unread : ¬ AfterWrite nine.name 1 (9 ∷ []) at_first (record behind_write { state = files }) done
+write_is_unread write = differ write.done
+
+-- nor out of what a stop may keep, though it is read
+write_is_unleft : ¬ AfterWrite nine.name 1 (9 ∷ []) at_first (record behind_none { state = with_write files nine }) done
+write_is_unleft write = ⊎_elim
+    (λ (pending : IsPending nine.name 1 (9 ∷ []) at_first behind_none). absurd (differ (sym (left_at_first _ ((pending (with_write files nine)).1 (files, ([], refl), inr refl))))))
+    (λ absent. absurd (cc absent.0))
+    write.pending
 
 -- nor is it elsewhere
 write_goes_elsewhere : ¬ AfterWrite nine.name 0 (9 ∷ []) at_first behind_write done
@@ -96,9 +107,21 @@ write_is_durable write = ⊎_elim
 write_takes_no_time : ¬ AfterWrite nine.name 1 (9 ∷ []) at_first (record behind_write { clock = 0 }) done
 write_takes_no_time write = absurd (omega (arith, write.ticks))
 
--- and nothing is printed
-write_prints : ¬ AfterWrite nine.name 1 (9 ∷ []) at_first (record behind_write { printed = ab }) done
+-- and nothing is printed, also where a stop leaves it with the files
+write_prints : ¬ AfterWrite nine.name 1 (9 ∷ []) at_first (record behind_write { printed = ab; left_since = λ t j p. at_first.left_since t j p ⊎ (behind_write.left j × (p ≡ ab)) }) done
 write_prints write = absurd (cc write.printed)
+
+-- and a stop since before it may leave it
+write_is_forgotten : ¬ AfterWrite nine.name 1 (9 ∷ []) at_first (record behind_write { left_since = at_first.left_since }) done
+write_is_forgotten write = differ (sym (left_at_first _ (since_now files [] _ _ ((write.time.since 0 (with_write files nine) [] (lit≤ tt)).1 (inr ((true ∷ [], refl), refl)))).0))
+
+-- one that failed isn't read as something else
+write_fails_elsewhere : ¬ AfterWrite nine.name 1 (9 ∷ []) at_first (record behind_write { state = holds 9 2 }) fails
+unfolding written patched
+write_fails_elsewhere write = ⊎_elim
+    (λ none. let head : 9 ≡ 1 = ap first_byte none in absurd (omega (arith, head)))
+    (λ all. let head : 9 ≡ 1 = ap first_byte all in absurd (omega (arith, head)))
+    write.failed
 
 -- one that failed may be left, or else nothing is
 write_failed_is_durable : ¬ AfterWrite nine.name 1 (9 ∷ []) at_first behind_sync fails
@@ -106,6 +129,28 @@ write_failed_is_durable write = ⊎_elim
     (λ (pending : IsPending nine.name 1 (9 ∷ []) at_first behind_sync). absurd (differ (left_behind_sync files ((pending files).1 (files, ([], refl), inl refl)))))
     (λ absent. absurd (differ (left_behind_sync files ((absent.1 files).1 ([], refl)))))
     write.pending
+
+-- a write is pending where a stop may leave it out or keep it, and leaves nothing else
+write_is_pending : IsPending nine.name 1 (9 ∷ []) at_first behind_write
+write_is_pending j = (
+  λ left. (files, ([], refl), write_leaves {old = at_first} left_at_first write_is_done j left),
+  λ before. let (d, left, either) = before in ⊎_elim (λ out. ([], out ∙ left_at_first d left)) (λ kept. (true ∷ [], kept ∙ ap (λ (l : List File). with_write l nine) (left_at_first d left))) either,
+)
+
+none_is_pending : ¬ IsPending nine.name 1 (9 ∷ []) at_first behind_none
+none_is_pending pending = differ (sym (left_at_first _ ((pending (with_write files nine)).1 (files, ([], refl), inr refl))))
+
+durable_is_pending : ¬ IsPending nine.name 1 (9 ∷ []) at_first behind_sync
+durable_is_pending pending = differ (left_behind_sync files ((pending files).1 (files, ([], refl), inl refl)))
+
+other_is_pending : ¬ IsPending nine.name 1 (9 ∷ []) at_first (record behind_write { left = λ j. Unit {0} })
+unfolding written patched
+other_is_pending pending =
+    let (d, left, either) = (pending (holds 9 2)).0 tt in
+    ⊎_elim
+    (λ out. let head : 9 ≡ 1 = ap first_byte (out ∙ left_at_first d left) in absurd (omega (arith, head)))
+    (λ kept. let head : 9 ≡ 1 = ap first_byte (kept ∙ ap (λ (l : List File). with_write l nine) (left_at_first d left)) in absurd (omega (arith, head)))
+    either
 
 -- a sync that is done leaves no write pending, and one that failed leaves them so
 pub sync_is_done : AfterSync behind_write behind_sync done
@@ -124,8 +169,15 @@ sync_failed_is_durable sync = differ (left_behind_sync files ((sync.failed files
 sync_prints : ¬ AfterSync behind_write (record behind_sync { printed = ab }) done
 sync_prints sync = absurd (cc sync.printed)
 
-sync_undoes_it : ¬ AfterSync behind_write (meaning_after files (synced ∷ [])) done
+-- it changes nothing that is read, takes time, and a stop in it may leave out what was pending
+sync_undoes_it : ¬ AfterSync behind_write (record behind_sync { state = files; left = λ j. j ≡ files }) done
 sync_undoes_it sync = differ sync.state
+
+sync_takes_no_time : ¬ AfterSync behind_write (record behind_sync { clock = 1 }) done
+sync_takes_no_time sync = absurd (omega (arith, sync.ticks))
+
+sync_is_not_stopped_within : ¬ AfterSync behind_write (record behind_sync { left_since = λ t j p. (j ≡ with_write files nine) × (p ≡ []) }) done
+sync_is_not_stopped_within sync = differ ((sync.time.since 0 files [] (lit≤ tt)).1 (inr (files_behind_write, refl))).0
 
 -- a print that is done printed all, one that failed a prefix; and a stop in it leaves each prefix of what was printed
 pub print_is_done : AfterPrint ab at_first behind_print done
@@ -148,9 +200,14 @@ print_fails_with_other_bytes print =
     let head : 98 ≡ 97 = ap (λ (l : List ℕ). get_or l 0 0) (ap (λ (l : List ℕ). l ++ rest) is ∙ whole) in
     absurd (omega (arith, head))
 
-print_writes : ¬ AfterPrint ab at_first (meaning_after files (wrote nine ∷ printed ab ∷ [])) done
-unfolding written patched
-print_writes print = let tail : 9 ≡ 2 = ap second_byte print.state in absurd (omega (arith, tail))
+print_writes : ¬ AfterPrint ab at_first (record behind_print { state = with_write files nine }) done
+print_writes print = differ (sym print.state)
+
+print_leaves_more : ¬ AfterPrint ab at_first (record behind_print { left = behind_write.left }) done
+print_leaves_more print = differ (sym (left_at_first _ ((print.left (with_write files nine)).0 (true ∷ [], refl))))
+
+print_takes_no_time : ¬ AfterPrint ab at_first (record behind_print { clock = 0 }) done
+print_takes_no_time print = absurd (omega (arith, print.ticks))
 
 print_is_not_stopped_within : ¬ AfterPrint ab at_first (record behind_print { left_since = λ t j p. (p ≡ []) ⊎ (p ≡ ab) }) done
 print_is_not_stopped_within print = ⊎_elim
@@ -182,6 +239,9 @@ attach_writes attach = let tail : 9 ≡ 2 = ap second_byte attach.same.state in 
 any_files_untold : untold.left_since 0 files []
 any_files_untold = refl
 
+nothing_untold : (untold.state ≡ []) × (untold.printed ≡ []) × (untold.clock ≡ 0) × untold.left files
+nothing_untold = (refl, refl, refl, tt)
+
 no_text_untold : ¬ untold.left_since 0 files (97 ∷ [])
 no_text_untold left = absurd (cc left)
 
@@ -200,6 +260,9 @@ none_given_before_the_end gives = absurd (cc (gives.end.0 refl))
 
 one_is_left_out : ¬ Gives (1 ∷ 2 ∷ 3 ∷ []) (3 ∷ []) (1 ∷ 9 ∷ []) (Ok 1)
 one_is_left_out gives = let size : 3 ≡ 2 = ap length gives.next in absurd (omega (arith, size))
+
+some_given_at_the_end : ¬ Gives [] [] [] (Ok 1)
+some_given_at_the_end gives = absurd (let none : 1 ≡ 0 = gives.end.1 refl in omega (arith, none))
 
 other_is_given : ¬ Gives (1 ∷ 2 ∷ []) (2 ∷ []) (2 ∷ []) (Ok 1)
 other_is_given gives = let head : 1 ≡ 2 = ap (λ (l : List ℕ). get_or l 0 0) gives.next in absurd (omega (arith, head))

@@ -5,7 +5,7 @@ use Rattle.std.specs.declared.alloc.Global.{Global}
 use Rattle.hall_core.specs.declared.hall.HallErr.TheVariants.{Missing, Failed, Memory}
 use Rattle.hall_core.specs.Facts.{Attached, Facts, Rose, unit_of, IsAttached, DeviceCall, ReportedCall, NotedCall, PrintCall, AttachCall}
 use Rattle.hall_core.specs.Files.{File, file_of, image_of, HasBytesAt, patched, written, AreWhole, IsPrefixOf}
-use Rattle.hall_core.specs.Held.{files_of, first_pairs, shapes_of, units_at, IsFirst, AreFirst}
+use Rattle.hall_core.specs.Held.{file_of_pair, files_of, first_pairs, attached_as, shapes_of, units_at, IsFirst, AreFirst}
 use Rattle.hall_core.specs.Memory.{CountsFailure}
 
 -- a count that rises isn't as before, unless it stands at its type's end
@@ -140,8 +140,11 @@ device_counted_at_both call = let same : 6 ≡ 5 = call.prints in absurd (omega 
 print_failed : PrintCall {T = Unit {0}} {E = Unit {0}} (counted 3 5) (counted 3 6) (Err tt)
 print_failed = record { units = refl; references = refl; devices = refl; later = lit≤ tt; done = tt; failed = lit≤ tt }
 
-print_counted_at_the_device : ¬ PrintCall {T = Unit {0}} {E = Unit {0}} (counted 3 5) (counted 4 5) (Err tt)
-print_counted_at_the_device call = let same : 4 ≡ 3 = call.devices in absurd (omega (arith, same))
+print_failed_uncounted : ¬ PrintCall {T = Unit {0}} {E = Unit {0}} (counted 3 5) (counted 3 5) (Err tt)
+print_failed_uncounted call = let rose : Rose 5 5 = call.failed in absurd (omega (arith, rose))
+
+print_counted_at_both : ¬ PrintCall {T = Unit {0}} {E = Unit {0}} (counted 3 5) (counted 4 6) (Err tt)
+print_counted_at_both call = let same : 4 ≡ 3 = call.devices in absurd (omega (arith, same))
 
 print_counted_though_done : ¬ PrintCall {T = Unit {0}} {E = Unit {0}} (counted 3 5) (counted 3 6) (Ok tt)
 print_counted_though_done call = let same : 6 ≡ 5 = call.done in absurd (omega (arith, same))
@@ -155,11 +158,33 @@ reported_uncounted call = stood_still (call.device tt)
 unreported_counted : ¬ ReportedCall ⊥ (counted 3 5) (counted 4 5)
 unreported_counted call = let same : 4 ≡ 3 = call.others (λ is. is) in absurd (omega (arith, same))
 
+reported_at_both : ¬ ReportedCall (Unit {0}) (counted 3 5) (counted 4 6)
+reported_at_both call = let same : 6 ≡ 5 = call.prints in absurd (omega (arith, same))
+
 noted : NotedCall (counted 3 5) (counted 4 5)
 noted = record { units = refl; references = refl; prints = refl; later = lit≤ tt }
 
 noted_falls : ¬ NotedCall (counted 3 5) (counted 2 5)
 noted_falls call = absurd (omega (arith, call.later))
+
+noted_at_both : ¬ NotedCall (counted 3 5) (counted 4 6)
+noted_at_both call = let same : 6 ≡ 5 = call.prints in absurd (omega (arith, same))
+
+-- past its type's end a count, which needn't rise there, doesn't fall either
+abbrev end : ℕ
+end = 2 ^ 64 - 1
+
+device_falls_to_the_end : ¬ DeviceCall {T = Unit {0}} {E = Unit {0}} (counted (2 ^ 64) 5) (counted end 5) (Err tt)
+device_falls_to_the_end call = absurd (omega (arith, call.later))
+
+reported_falls_to_the_end : ¬ ReportedCall (Unit {0}) (counted (2 ^ 64) 5) (counted end 5)
+reported_falls_to_the_end call = absurd (omega (arith, call.later))
+
+print_falls_to_the_end : ¬ PrintCall {T = Unit {0}} {E = Unit {0}} (counted 3 (2 ^ 64)) (counted 3 end) (Err tt)
+print_falls_to_the_end call = absurd (omega (arith, call.later))
+
+attach_falls_to_the_end : ¬ AttachCall (9 ∷ []) (counted (2 ^ 64) 5) (counted end 5) (Err Failed)
+attach_falls_to_the_end call = absurd (omega (arith, call.later))
 
 -- an attachment: the next unit is numbered by how many there were, and stands behind them
 abbrev counted_three : ℕ → ℕ → Facts
@@ -195,8 +220,19 @@ attach_counts_a_missing_file call = let same : 4 ≡ 3 = call.others (λ is. abs
 attach_fails_uncounted : ¬ AttachCall (9 ∷ []) (counted 3 5) (counted 3 5) (Err Failed)
 attach_fails_uncounted call = stood_still (call.failed refl)
 
+attach_counts_at_both : ¬ AttachCall (9 ∷ []) (counted 3 5) (counted 4 6) (Err Failed)
+attach_counts_at_both call = let same : 6 ≡ 5 = call.prints in absurd (omega (arith, same))
+
 attach_counts_want_of_memory : ¬ AttachCall (9 ∷ []) (counted 3 5) (counted 4 5) (Err Memory)
 attach_counts_want_of_memory call = let same : 4 ≡ 3 = ap (λ (facts : Facts). facts.dev_faults) (call.memory refl) in absurd (omega (arith, same))
+
+-- where it keeps each of these, it changes nothing: `memory` says no more than the others together
+memory_by_others : (old new : Facts) → new.units ≡ old.units → new.references ≡ old.references → new.dev_faults ≡ old.dev_faults → new.print_faults ≡ old.print_faults → new ≡ old
+memory_by_others old new units references devices prints =
+    ap (λ (l : List Attached). record new { units = l }) units
+    ∙ ap (λ (l : List ℕ). record new { units = old.units; references = l }) references
+    ∙ ap (λ (n : ℕ). record old { dev_faults = n; print_faults = new.print_faults }) devices
+    ∙ ap (λ (n : ℕ). record old { print_faults = n }) prints
 
 -- no call drops a unit, nor is the hall then another
 abbrev with_units : List Attached → Facts
@@ -362,8 +398,16 @@ second_begins (rest, is) = let head : 2 ≡ 1 = ap (λ (l : List ℕ). get_or l 
 shapes : units_at (shapes_of files) (2 ∷ 1 ∷ []) ≡ record { name = 1 ∷ []; size = 1 } ∷ record { name = 2 ∷ []; size = 0 } ∷ []
 shapes = refl
 
+-- a file as a unit has the size of its bytes, whichever they are, and not that of its name
+attached : attached_as (record { name = 1 ∷ 2 ∷ []; bytes = 0 ∷ 7 ∷ 0 ∷ [] }) ≡ record { name = 1 ∷ 2 ∷ []; size = 3 }
+attached = refl
+
 -- the copy counts where there is one, and the present files where there is none
 module _ (a b : String Global) (x y : Vec ℕ Global) (copy : Vec (String Global × Vec ℕ Global) Global) where
+  -- the name is the first of a pair, and the bytes are the second
+  named_by_the_first : string_bytes a ≡ 65 ∷ [] → x.items ≡ 11 ∷ 12 ∷ [] → file_of_pair (a, x) ≡ record { name = 65 ∷ []; bytes = 11 ∷ 12 ∷ [] }
+  named_by_the_first name bytes = rw (name, bytes) refl
+
   in_their_order : files_of ((a, x) ∷ (b, y) ∷ []) ≡ record { name = string_bytes a; bytes = x.items } ∷ record { name = string_bytes b; bytes = y.items } ∷ []
   in_their_order = refl
 

@@ -1,11 +1,15 @@
 -- What a hall and cards in memory show of themselves, on cases at which near readings of the definitions say otherwise.
 use Rattle.std.proofs.Common.{◌≡◌, ◌≢◌, ◌-◌, ◌^◌, ⊎_elim, inl, inr, ℕ, zero, suc, List, [], ◌∷◌, ◌++◌, length, refl, sym, ◌∙◌, ap, subst, arith, length-append, lit<}
-use Rattle.std.specs.Prelude.{Ok, Err, Contains}
+use Rattle.std.specs.Prelude.{Ok, Err, Contains, true, take, String, Vec}
+use Rattle.std.specs.declared.alloc.Global.{Global}
 use Rattle.hall_core.specs.declared.hall.HallErr.TheVariants.{Failed, Memory}
 use Rattle.hall_core.specs.declared.mem_hall.step.Call.TheVariants.{Sync}
+use Rattle.hall_core.specs.declared.mem_hall.step.Step.TheVariants.{Write, Print}
 use Rattle.hall_core.specs.declared.mem_hall.MemHall.{MemHall}
 use Rattle.hall_core.specs.declared.mem_cards.MemCards.{MemCards}
-use Rattle.hall_core.specs.History.{new_disk, synced}
+use Rattle.hall_core.specs.Facts.{unit_of}
+use Rattle.hall_core.specs.Held.{attached_as, file_of_pair}
+use Rattle.hall_core.specs.History.{Event, after_all, new_disk, printed, synced, wrote}
 use Rattle.hall_core.specs.Memory.{calls_of, disk_at, events_of, facts_of, failing_calls, first_files, meaning_of, number_of_calls, calls_left, bytes_left, LacksRoom, HasRoom, NextCallFails, KeepsAllButRoom, KeepsRecord, KeepsRoom, KeepsSetup, Records, IsExactCall}
 use Rattle.hall_core.specs.MemoryCards.{IsNextRead, bytes_left as bytes_to_come, failing_reads, faults_counted, number_of_reads}
 
@@ -55,8 +59,18 @@ module _ (old new : MemHall) (calls : calls_left old ≡ 3) (bytes : bytes_left 
   keeps_no_room : calls_left new ≡ 2 → ¬ KeepsRoom old new
   keeps_no_room left keeps = absurd (omega (arith, keeps.calls, left, calls))
 
--- what it did is the event, and the ways in which calls fail stay
+  keeps_no_bytes : bytes_left new ≡ 4 → ¬ KeepsRoom old new
+  keeps_no_bytes left keeps = absurd (omega (arith, keeps.bytes, left, bytes))
+
+  -- and where it has no room, neither
+  uses_room_without_room : LacksRoom old 6 → bytes_left new ≡ 4 → ¬ IsExactCall {T = Unit {0}} 6 Sync synced old new (Err Failed)
+  uses_room_without_room lacks left exact = keeps_no_bytes left (exact.lacking lacks).0
+
+-- it is on the record, what it did is the event, and the ways in which calls fail stay
 module _ (old new : MemHall) where
+  is_other : calls_of new ≢ calls_of old ++ Sync ∷ [] → ¬ Records 2 Sync synced old new
+  is_other other records = other records.calls
+
   does_other : events_of new ≢ events_of old ++ synced ∷ [] → ¬ Records 2 Sync synced old new
   does_other other records = other records.events
 
@@ -67,6 +81,9 @@ module _ (old new : MemHall) where
 module _ (old new : MemHall) where
   done_without_room : LacksRoom old 2 → ¬ IsExactCall {T = Unit {0}} 2 Sync synced old new (Ok tt)
   done_without_room lacks exact = absurd (cc (exact.failed.1 (inl lacks)))
+
+  done_though_to_fail : NextCallFails old → ¬ IsExactCall {T = Unit {0}} 2 Sync synced old new (Ok tt)
+  done_though_to_fail number exact = absurd (cc (exact.failed.1 (inr number)))
 
   fails_for_nothing : ¬ LacksRoom old 2 → ¬ NextCallFails old → ¬ IsExactCall {T = Unit {0}} 2 Sync synced old new (Err Failed)
   fails_for_nothing room number exact = ⊎_elim room number (exact.failed.0 refl)
@@ -110,6 +127,26 @@ counts_of_a_hall hall = (refl, refl, refl)
 moments_of_a_hall : (hall : MemHall) → (disk_at hall 0 ≡ new_disk (first_files hall)) × ((meaning_of hall).clock ≡ length (events_of hall))
 moments_of_a_hall hall = (refl, refl)
 
+-- its events are over the bytes that were printed and those written, its units are the files at their places, and neither room is the other
+module _ (hall : MemHall) where
+  of_what_was_printed : hall.steps.items ≡ Print 0 1 ∷ [] → hall.printed.items ≡ 97 ∷ [] → events_of hall ≡ printed (97 ∷ []) ∷ []
+  of_what_was_printed steps text = rw (steps, text) refl
+
+  of_what_was_written : hall.steps.items ≡ Write 0 5 0 1 true ∷ [] → hall.written.items ≡ 98 ∷ [] → events_of hall ≡ wrote (record { name = (unit_of (facts_of hall).units 0).name; at = 5; bytes = 98 ∷ []; is_done = true }) ∷ []
+  of_what_was_written steps pool = rw (steps, pool) refl
+
+  one_was_printed : events_of hall ≡ printed (97 ∷ []) ∷ printed (98 ∷ []) ∷ [] → (disk_at hall 1).text ≡ 97 ∷ []
+  one_was_printed events = ap (λ (es : List Event). (after_all (new_disk (first_files hall)) (take 1 es)).text) events
+
+  of_the_second_file : (a b : String Global × Vec ℕ Global) → hall.files.items ≡ a ∷ b ∷ [] → hall.units.items ≡ 1 ∷ [] → (facts_of hall).units ≡ attached_as (file_of_pair b) ∷ []
+  of_the_second_file a b files units = rw (files, units) refl
+
+  two_were_numbered : hall.calls.items ≡ Sync ∷ Sync ∷ [] → number_of_calls hall ≡ 2
+  two_were_numbered calls = ap length calls
+
+  rooms : (calls_left hall ≡ hall.room_calls) × (bytes_left hall ≡ hall.room_bytes)
+  rooms = (refl, refl)
+
 reads_fail_otherwise : (old new : MemCards) → failing_reads new ≢ failing_reads old → ¬ IsNextRead {T = ℕ} {E = Unit {0}} old new (Ok 7)
 reads_fail_otherwise old new other next = other next.failing
 
@@ -132,6 +169,9 @@ module _ (cards : MemCards) where
 
   failed_unnumbered : ¬ IsNextRead {T = ℕ} {E = Unit {0}} (at 3 1) (at 3 2) (Err tt)
   failed_unnumbered next = let same : 3 ≡ 4 = next.number in absurd (omega (arith, same))
+
+  failed_uncounted : ¬ IsNextRead {T = ℕ} {E = Unit {0}} (at 3 1) (at 4 1) (Err tt)
+  failed_uncounted next = let same : 1 ≡ 2 = next.failed in absurd (omega (arith, same))
 
   counted_though_done : ¬ IsNextRead {T = ℕ} {E = Unit {0}} (at 3 1) (at 4 2) (Ok 7)
   counted_though_done next = let same : 2 ≡ 1 = next.done in absurd (omega (arith, same))

@@ -1,18 +1,18 @@
 -- Moments and steps, on cases at which near readings of the definitions say otherwise.
-use Rattle.std.proofs.Common.{◌≡◌, ◌⊎◌, ◌+◌, ◌-◌, ◌^◌, ⊎_elim, inl, inr, ℕ, List, [], ◌∷◌, ◌∙◌, length, refl, sym, ap, arith, lit≤, true, false}
+use Rattle.std.proofs.Common.{◌≡◌, ◌⊎◌, ◌+◌, ◌-◌, ◌^◌, ⊎_elim, inl, inr, ℕ, List, [], ◌∷◌, ◌++◌, ◌∙◌, get_or, length, refl, sym, ap, arith, lit≤, true, false}
 use Rattle.hall_core.specs.Example.{HasFirst, IsInOrder, WritesInOrder}
 use Rattle.hall_core.specs.Facts.{Facts}
-use Rattle.hall_core.specs.Files.{File, IsPrefixOf, patched, written}
+use Rattle.hall_core.specs.Files.{File, AfterPrint, AfterSync, AfterWrite, IsPrefixOf, patched, written}
 use Rattle.hall_core.specs.History.{Write, wrote, synced, printed, with_write, meaning_after}
 use Rattle.hall_core.specs.HistoryLaws.{since_now}
-use Rattle.hall_core.specs.Moments.{LeftNow, IsDurable, LeavesSame, ElapsesExactly, Elapses, Same}
+use Rattle.hall_core.specs.Moments.{Meaning, LeftNow, IsDurable, LeavesSame, ElapsesExactly, Elapses, Same}
 use Rattle.hall_core.specs.Steps.{seen, Leaves, IsBeforeOrAfter, StepTo, Stage, Exit, OutsideCalls}
-use Rattle.hall_core.proofs.CallLemmas.{same_passed}
+use Rattle.hall_core.proofs.CallLemmas.{same_passed, write_done, sync_done, print_done}
 use Rattle.hall_core.proofs.MomentLemmas.{elapses_from_exactly}
 use Rattle.hall_core.proofs.StepLemmas.{write_leaves, write_then_sync}
-use Rattle.hall_core.proofs.StageLemmas.{begins, next, stops}
+use Rattle.hall_core.proofs.StageLemmas.{begins, next, says, says_leaves, stops}
 use Rattle.hall_core.proofs.HistoryCases.{holds, files, first_byte, second_byte, nine, one_printed}
-use Rattle.hall_core.proofs.CallCases.{Answer, done, fails, ab, at_first, behind_none, behind_write, behind_sync, behind_print, differ, left_at_first, left_behind_sync, files_behind_write, sync_is_done, write_is_done, print_is_done}
+use Rattle.hall_core.proofs.CallCases.{done, fails, ab, at_first, behind_none, behind_write, behind_sync, behind_print, differ, left_at_first, left_behind_sync, files_behind_write, sync_is_done, write_is_done, print_is_done}
 
 write_left : behind_write.left (with_write files nine)
 write_left = (true ∷ [], refl)
@@ -29,6 +29,9 @@ now_all = (([], refl), refl)
 
 now_a_part : ¬ LeftNow behind_print files (97 ∷ [])
 now_a_part now = let size : 1 ≡ 2 = ap length now.1 in absurd (omega (arith, size))
+
+now_the_write : ¬ LeftNow at_first (with_write files nine) []
+now_the_write now = differ (sym (left_at_first _ now.0))
 
 -- a state is durable where no write is pending
 durable_at_first : IsDurable at_first
@@ -54,8 +57,20 @@ leaves_less same = differ (left_behind_sync files ((same files).1 files_behind_w
 nothing_done : Same at_first behind_none
 nothing_done = same_passed files []
 
-something_done : ¬ Same at_first behind_write
-something_done same = differ (sym same.state)
+something_read : ¬ Same at_first (record behind_none { state = with_write files nine })
+something_read same = differ (sym same.state)
+
+something_printed : ¬ Same at_first (record behind_none { printed = ab })
+something_printed same = absurd (cc same.printed)
+
+something_left : ¬ Same at_first (record behind_none { left = behind_write.left })
+something_left same = differ (sym (left_at_first _ ((same.left (with_write files nine)).0 write_left)))
+
+something_left_since : ¬ Same at_first (record behind_none { left_since = behind_write.left_since })
+something_left_since same = ⊎_elim
+    (λ before. differ (sym (left_at_first _ (since_now files [] _ _ before).0)))
+    (λ now. differ (sym (left_at_first _ now.0)))
+    ((same.time.since 0 (with_write files nine) [] (lit≤ tt)).0 write_left_since)
 
 -- to what stops left comes what has P: each prefix that a stop in a print leaves, and not the text before it alone
 prints_in_time : Elapses at_first behind_print (λ j p. IsPrefixOf p ab)
@@ -74,10 +89,20 @@ print_is_forgotten time = ⊎_elim
 left_is_lost : (P : List File → List ℕ → Type 0) → ¬ Elapses at_first (record behind_none { left_since = λ t j p. ⊥ }) P
 left_is_lost P time = time.keeps 0 files [] (lit≤ tt) (0, lit≤ tt, lit≤ tt, record { files = ([], refl); text = ([], ([], refl), refl) })
 
-time_goes_back : (P : List File → List ℕ → Type 0) → ¬ Elapses behind_write at_first P
+time_goes_back : (P : List File → List ℕ → Type 0) → ¬ Elapses behind_write (record behind_write { clock = 0 }) P
 time_goes_back P time = absurd (omega (arith, time.later))
 
--- where it is said exactly, all that has P comes to it
+-- the same where it is said exactly
+exactly_goes_back : ¬ ElapsesExactly behind_write (record behind_write { clock = 0 }) (λ j p. ⊥)
+exactly_goes_back time = absurd (omega (arith, time.later))
+
+exactly_is_forgotten : ¬ ElapsesExactly at_first behind_print (LeftNow at_first)
+exactly_is_forgotten time = print_is_forgotten (elapses_from_exactly time (λ j p left. left))
+
+exactly_is_lost : ¬ ElapsesExactly at_first (record behind_none { left_since = λ t j p. ⊥ }) (λ j p. ⊥)
+exactly_is_lost time = left_is_lost (λ j p. ⊥) (elapses_from_exactly time (λ j p left. left))
+
+-- and then all that has P comes to it
 more_than_comes : ¬ ElapsesExactly at_first behind_none (λ j p. p ≡ ab)
 more_than_comes time = ⊎_elim
     (λ before. absurd (cc (none_since files ab before)))
@@ -92,6 +117,18 @@ first_byte_durable y (j, left, is) = sym is ∙ ⊎_elim (λ before. ap first_by
 second_byte_durable : ¬ IsDurable (seen second_byte behind_write)
 unfolding written patched
 second_byte_durable durable = let same : 2 ≡ 9 = durable 2 (files, files_behind_write, refl) in absurd (omega (arith, same))
+
+-- each of its states is seen: the present one, and those that a stop left
+seen_behind_write : ((seen second_byte behind_write).state ≡ 9) × ((seen second_byte behind_print).printed ≡ ab) × ((seen second_byte behind_sync).clock ≡ 2) × (seen second_byte behind_write).left 9 × (seen second_byte behind_write).left_since 0 9 []
+unfolding written patched
+seen_behind_write = (refl, refl, refl, (with_write files nine, write_left, refl), (with_write files nine, write_left_since, refl))
+
+unseen_behind_sync : (¬ (seen second_byte behind_sync).left 2) × (¬ (seen second_byte behind_sync).left_since 2 2 [])
+unfolding written patched
+unseen_behind_sync = (
+  λ left. let (j, now, is) = left in let same : 9 ≡ 2 = sym (ap second_byte (left_behind_sync j now)) ∙ is in absurd (omega (arith, same)),
+  λ left. let (j, since, is) = left in let same : 9 ≡ 2 = sym (ap second_byte (left_behind_sync j (since_now files (wrote nine ∷ synced ∷ []) j [] since).0)) ∙ is in absurd (omega (arith, same)),
+)
 
 -- what a stop leaves has P, all of it, and with what was printed
 leaves_either : Leaves behind_write (λ j p. (j ≡ files) ⊎ (j ≡ with_write files nine))
@@ -124,10 +161,10 @@ no_step : ¬ StepTo (λ j. j) (with_write files nine) at_first behind_write done
 no_step step = durable_behind_write step.done.1
 
 -- it goes where it says, prints nothing, and a stop in it leaves nothing else
-step_elsewhere : ¬ StepTo (λ j. j) files at_first behind_sync done
-step_elsewhere step = differ (sym step.done.0)
+step_stays : ¬ StepTo (λ j. j) (with_write files nine) at_first behind_none done
+step_stays step = differ step.done.0
 
-step_prints : ¬ StepTo (λ j. j) files at_first behind_print done
+step_prints : ¬ StepTo (λ j. j) (with_write files nine) at_first (record behind_sync { printed = ab }) done
 step_prints step = absurd (cc step.printed)
 
 step_leaves_more : ¬ StepTo (λ j. j) files at_first behind_write fails
@@ -152,7 +189,7 @@ not_yet stage = durable_behind_write stage.durable
 not_back : ¬ Stage (λ j. j) InOrder at_first behind_sync files []
 not_back stage = differ (sym stage.state)
 
-not_printed : ¬ Stage (λ j. j) InOrder at_first behind_sync (with_write files nine) ab
+not_printed : ¬ Stage (λ j. j) (λ j p. Unit {0}) at_first behind_sync (with_write files nine) ab
 not_printed stage = absurd (cc stage.printed)
 
 -- nor is it where a stop on the way left something else, nor where what it comes to is such
@@ -168,6 +205,12 @@ not_so_far stage = ⊎_elim
 -- a chain that failed has come to nothing, and what its stops left is known
 failed_exit : Exit (λ j. j) InOrder at_first behind_sync files ab fails
 failed_exit = stops fails refl at_end.moments
+
+failed_otherwise : ¬ Exit (λ j. j) (λ j p. p ≡ ab) at_first behind_print files ab fails
+failed_otherwise exit = ⊎_elim
+    (λ before. let none : 97 ∷ [] ≡ [] = (since_now files [] _ _ before).1 in absurd (cc none))
+    (λ is. let size : 1 ≡ 2 = ap length is in absurd (omega (arith, size)))
+    (exit.moments.moments 0 files (97 ∷ []) (lit≤ tt) (0, lit≤ tt, lit≤ tt, one_printed))
 
 done_early : ¬ Exit (λ j. j) InOrder at_first behind_write (with_write files nine) [] done
 done_early exit = durable_behind_write exit.done.durable
@@ -187,6 +230,9 @@ both_at_the_end = record { units = refl; references = refl; devices = lit≤ tt;
 
 rose_though_done : ¬ OutsideCalls (counted 3 5) (counted 3 6) done
 rose_though_done calls = let same : 6 ≡ 5 = calls.done.1 in absurd (omega (arith, same))
+
+device_rose_though_done : ¬ OutsideCalls (counted 3 5) (counted 4 5) done
+device_rose_though_done calls = let same : 4 ≡ 3 = calls.done.0 in absurd (omega (arith, same))
 
 -- neither count fell, though the other rose; and the units and the hall stay
 device_fell : ¬ OutsideCalls (counted 3 5) (counted 2 6) fails
@@ -217,7 +263,16 @@ before_both = inl (inl refl, refl)
 line_before_both : ¬ IsInOrder second_byte (holds 1 2) (holds 1 3) (holds 1 4) [] ab (holds 1 2) (97 ∷ [])
 line_before_both is = ⊎_elim (λ early. absurd (cc early.1)) (λ has. ⊎_elim (λ either. absurd (cc either.1)) (λ both. let same : 2 ≡ 4 = both.0 in absurd (omega (arith, same))) has) is
 
--- two writes with no sync between them aren't in order: a stop may leave the second one alone
+once_is_seen : HasFirst 3 4 [] ab 3 []
+once_is_seen = inl (inl refl, refl)
+
+other_line : ¬ HasFirst 3 4 [] ab 4 (98 ∷ [])
+other_line has = ⊎_elim
+    (λ either. absurd (cc either.1))
+    (λ both. let (q, (rest, whole), is) = both.1 in let head : 98 ≡ 97 = ap (λ (l : List ℕ). get_or l 0 0) (ap (λ (l : List ℕ). l ++ rest) is ∙ whole) in absurd (omega (arith, head)))
+    has
+
+-- the sum tells which of two writes are seen
 abbrev sum : List File → ℕ
 sum all = first_byte all + second_byte all
 
@@ -227,6 +282,34 @@ five = record { name = 65 ∷ []; at = 0; bytes = 5 ∷ []; is_done = true }
 abbrev with_five : List File
 with_five = with_write files five
 
+-- two writes, each with a sync behind it, and a line are in order
+abbrev behind_five : Meaning (List File)
+behind_five = meaning_after files (wrote five ∷ synced ∷ [])
+
+abbrev behind_both : Meaning (List File)
+behind_both = meaning_after files (wrote five ∷ synced ∷ wrote nine ∷ synced ∷ [])
+
+first_step : StepTo (λ j. j) with_five at_first behind_five done
+first_step =
+    let write : AfterWrite five.name 0 (5 ∷ []) at_first (meaning_after files (wrote five ∷ [])) done = write_done files [] five refl in
+    let sync : AfterSync (meaning_after files (wrote five ∷ [])) behind_five done = sync_done files (wrote five ∷ []) in
+    write_then_sync (λ j. j) durable_at_first write sync
+
+second_step : StepTo (λ j. j) (with_write with_five nine) behind_five behind_both done
+second_step =
+    let write : AfterWrite nine.name 1 (9 ∷ []) behind_five (meaning_after files (wrote five ∷ synced ∷ wrote nine ∷ [])) done = write_done files (wrote five ∷ synced ∷ []) nine refl in
+    let sync : AfterSync (meaning_after files (wrote five ∷ synced ∷ wrote nine ∷ [])) behind_both done = sync_done files (wrote five ∷ synced ∷ wrote nine ∷ []) in
+    write_then_sync (λ j. j) first_step.done.1 write sync
+
+in_order : WritesInOrder sum with_five (with_write with_five nine) ab at_first (meaning_after files (wrote five ∷ synced ∷ wrote nine ∷ synced ∷ printed ab ∷ [])) done
+in_order =
+    let start : Stage (λ j. j) (IsInOrder sum files with_five (with_write with_five nine) [] ab) at_first at_first files [] = begins durable_at_first (inl (inl refl, refl)) in
+    let once = (next start first_step refl (inl (inr refl, refl))).done in
+    let both = (next once second_step refl (inr (inl (inr refl, refl)))).done in
+    let print : AfterPrint ab behind_both (meaning_after files (wrote five ∷ synced ∷ wrote nine ∷ synced ∷ printed ab ∷ [])) done = print_done files (wrote five ∷ synced ∷ wrote nine ∷ synced ∷ []) ab in
+    record { exit = says both print (λ q prefix. inr (inr (refl, (q, prefix, refl)))); left = inr (λ j left. let said = says_leaves both print j left in inr (ap sum said.0, said.1)) }
+
+-- with no sync between them they aren't: a stop may leave the second one alone
 second_alone : ¬ IsInOrder sum files with_five (with_write with_five nine) [] ab (holds 1 9) []
 unfolding written patched
 second_alone is = ⊎_elim
@@ -242,3 +325,14 @@ no_sync_between in_order = ⊎_elim
     (λ before. let same : 9 ≡ 2 = ap second_byte (left_at_first (holds 1 9) (since_now files [] (holds 1 9) [] before).0) in absurd (omega (arith, same)))
     (λ is. second_alone is)
     (in_order.exit.moments.moments 0 (holds 1 9) [] (lit≤ tt) (2, lit≤ tt, lit≤ tt, record { files = (false ∷ true ∷ [], refl); text = ([], ([], refl), refl) }))
+
+-- nor are they in order where a stop may yet leave neither or both, though what it left till now is
+both_are_pending : ¬ WritesInOrder sum with_five (with_write with_five nine) ab at_first (record at_first { left = λ j. (j ≡ files) ⊎ (j ≡ with_write with_five nine) }) fails
+unfolding written patched
+both_are_pending in_order = ⊎_elim
+    (λ before. ⊎_elim (λ none. let same : 14 ≡ 3 = none in absurd (omega (arith, same))) (λ once. let same : 14 ≡ 7 = once in absurd (omega (arith, same))) (before (with_write with_five nine) (inr refl)).0)
+    (λ has. ⊎_elim
+    (λ either. ⊎_elim (λ once. let same : 3 ≡ 7 = once in absurd (omega (arith, same))) (λ twice. let same : 3 ≡ 14 = twice in absurd (omega (arith, same))) either.0)
+    (λ both. let same : 3 ≡ 14 = both.0 in absurd (omega (arith, same)))
+    (has files (inl refl)))
+    in_order.left

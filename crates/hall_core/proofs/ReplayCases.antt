@@ -1,14 +1,15 @@
 -- The record of a hall in memory, on cases at which near readings of the definitions give something else.
-use Rattle.std.proofs.Common.{◌≡◌, ◌<◌, ℕ, zero, suc, List, [], ◌∷◌, length, get_or, refl, ap, arith, lit<, lit≤, true, false}
+use Rattle.std.proofs.Common.{◌≡◌, ◌<◌, ℕ, zero, suc, List, [], ◌∷◌, length, ◌++◌, get_or, refl, sym, ◌∙◌, ap, arith, lit<, lit≤, true, false, take, drop, take-append-drop}
+use Rattle.std.proofs.lemmas.List.{append_cancel_right}
 use Rattle.hall_core.specs.declared.mem_hall.step.Step.{Step}
 use Rattle.hall_core.specs.declared.mem_hall.step.Step.TheVariants.{Write, Sync, Print, Pass}
 use Rattle.hall_core.specs.Facts.{Attached, unit_of}
 use Rattle.hall_core.specs.Files.{File, patched, written}
-use Rattle.hall_core.specs.History.{wrote, synced, printed, passed, Write as Writing}
+use Rattle.hall_core.specs.History.{wrote, synced, printed, passed, Write as Writing, with_writes}
 use Rattle.hall_core.specs.Held.{IsFirst}
 use Rattle.hall_core.specs.Replay.{part, event_of, events_at, unit_written, units_needed, size_needed, pool_needed, text_needed, IsWithin, AreWithin, IsWritable, AreWritable, ArePrinted, IsReplay, writes_at, is_write, is_done_write, done_of, prints_at, disk_after, pending_place, IsPendingFrom}
-use Rattle.hall_core.proofs.ReplayLemmas.{pending_none, pending_more}
-use Rattle.hall_core.proofs.HistoryCases.{files, changed, second_byte}
+use Rattle.hall_core.proofs.ReplayLemmas.{pending_none, pending_more, writes_at-append}
+use Rattle.hall_core.proofs.HistoryCases.{holds, files, changed, second_byte}
 
 -- so many bytes from a start on: not up to a place; and what there is, where that is less
 part_within : part (11 ∷ 12 ∷ 13 ∷ 14 ∷ []) 2 1 ≡ 13 ∷ []
@@ -79,7 +80,8 @@ print_needs_no_pool = refl
 last_within : IsWithin units 4 0 last
 last_within = record { unit = lit≤ tt; size = lit≤ tt; from_pool = lit≤ tt; from_text = lit≤ tt }
 
-unit_is_wanting : ¬ IsWithin (record { name = 65 ∷ []; size = 9 } ∷ []) 4 0 last
+-- a write of no bytes, at 0, wants its unit too
+unit_is_wanting : ¬ IsWithin (record { name = 65 ∷ []; size = 9 } ∷ []) 4 0 (Write 1 0 0 0 true)
 unit_is_wanting within = absurd (omega (arith, within.unit))
 
 size_is_wanting : ¬ IsWithin units 4 0 (Write 1 2 2 2 true)
@@ -96,6 +98,16 @@ last_writable = record { unit = lit≤ tt; size = lit≤ tt; from_pool = lit≤ 
 
 unwritable : ¬ IsWritable units 3 last
 unwritable within = absurd (omega (arith, within.from_pool))
+
+unit_is_unwritable : ¬ IsWritable (record { name = 65 ∷ []; size = 9 } ∷ []) 4 (Write 1 0 0 0 true)
+unit_is_unwritable within = absurd (omega (arith, within.unit))
+
+size_is_unwritable : ¬ IsWritable units 4 (Write 1 2 2 2 true)
+size_is_unwritable within = absurd (omega (arith, within.size))
+
+-- what is printed isn't asked of what is written
+print_is_writable : IsWritable [] 0 (Print 1 2)
+print_is_writable = record { unit = lit≤ tt; size = lit≤ tt; from_pool = lit≤ tt }
 
 -- the last step too
 all_within : AreWithin units 4 3 (failed ∷ last ∷ [])
@@ -169,8 +181,34 @@ from_the_first is = let size : 1 ≡ 2 = ap length (is.pending no_files units po
 from_the_end : ¬ IsPendingFrom three 3
 from_the_end is = let size : 1 ≡ 0 = ap length (is.pending no_files units pool text) in absurd (omega (arith, size))
 
-past_the_end : ¬ IsPendingFrom three 4
+-- there is no place past the end, also where no write is pending
+past_the_end : ¬ IsPendingFrom (Sync ∷ []) 2
 past_the_end is = absurd (omega (arith, is.within))
+
+behind_the_sync : IsPendingFrom (Sync ∷ []) 1
+behind_the_sync = pending_more [] 0 pending_none Sync
+
+-- before the sync one write was done, and one failed that would change the byte beside it: the first alone is durable, and the one behind isn't
+abbrev four : List Step
+four = Write 0 1 3 1 true ∷ failed ∷ Sync ∷ Write 0 0 1 1 true ∷ []
+
+from_the_fourth : IsPendingFrom four 3
+from_the_fourth = pending_more (Write 0 1 3 1 true ∷ failed ∷ Sync ∷ []) 3 (pending_more (Write 0 1 3 1 true ∷ failed ∷ []) 0 (pending_more (Write 0 1 3 1 true ∷ []) 0 (pending_more [] 0 pending_none (Write 0 1 3 1 true)) failed) Sync) (Write 0 0 1 1 true)
+
+durable : ((disk_after files units pool text four).stable ≡ holds 1 14) × ((disk_after files units pool text four).files ≡ holds 12 14) × (with_writes files (writes_at units pool (take 3 four)) ≡ holds 11 14)
+unfolding written patched
+durable = (refl, refl, refl)
+
+-- of two places with the same writes behind them those before them are the same too: where `pending` holds, `stable` does
+stable_by_pending : (steps : List Step) (m n : ℕ) → IsPendingFrom steps m → ((first : List File) (units : List Attached) (pool text : List ℕ) → (disk_after first units pool text steps).pending ≡ writes_at units pool (drop n steps))
+    → (first : List File) (units : List Attached) (pool text : List ℕ) → (disk_after first units pool text steps).stable ≡ with_writes first (done_of (writes_at units pool (take n steps)))
+stable_by_pending steps m n is pending first units pool text =
+    let whole : (k : ℕ) → writes_at units pool (take k steps) ++ writes_at units pool (drop k steps) ≡ writes_at units pool steps = λ k. sym (writes_at-append units pool (take k steps) (drop k steps)) ∙ ap (writes_at units pool) (take-append-drop k steps) in
+    let behind : writes_at units pool (drop m steps) ≡ writes_at units pool (drop n steps) = sym (is.pending first units pool text) ∙ pending first units pool text in
+    let before : writes_at units pool (take m steps) ≡ writes_at units pool (take n steps) =
+    append_cancel_right (writes_at units pool (take m steps)) (writes_at units pool (take n steps)) (writes_at units pool (drop n steps))
+    (ap (λ (l : List Writing). writes_at units pool (take m steps) ++ l) (sym behind) ∙ whole m ∙ sym (whole n)) in
+    is.stable first units pool text ∙ ap (λ (l : List Writing). with_writes first (done_of l)) before
 
 -- the disk after steps
 disk : disk_after files units pool text (Write 0 1 3 1 true ∷ failed ∷ Print 1 2 ∷ []) ≡ record {
@@ -208,6 +246,23 @@ done_is_unread replay = let same : 9 ≡ 2 = ap second_byte replay.present in ab
 print_is_off_the_record : ¬ IsReplay files changed (0 ∷ []) (Write 0 1 0 1 true ∷ []) (9 ∷ []) (97 ∷ [])
 print_is_off_the_record replay = absurd (cc replay.printed)
 
--- a file has the size that it had
-size_changes : ¬ IsReplay files (record { name = 65 ∷ []; bytes = 1 ∷ [] } ∷ []) (0 ∷ []) [] [] []
-size_changes replay = let same : 2 ≡ 1 = ap (λ (shapes : List Attached). (unit_of shapes 0).size) replay.shapes in absurd (omega (arith, same))
+-- a file has the size that it had: no write makes it longer
+size_changes : ¬ IsReplay (record { name = 65 ∷ []; bytes = 1 ∷ [] } ∷ []) changed (0 ∷ []) (Write 0 1 0 1 true ∷ []) (9 ∷ []) []
+size_changes replay = let same : 1 ≡ 2 = ap (λ (shapes : List Attached). (unit_of shapes 0).size) replay.shapes in absurd (omega (arith, same))
+
+-- a unit is the first file of its name, and one that is there
+abbrev twins : List File
+twins = record { name = 65 ∷ []; bytes = 1 ∷ 2 ∷ [] } ∷ record { name = 65 ∷ []; bytes = 3 ∷ 4 ∷ [] } ∷ []
+
+second_is_a_unit : ¬ IsReplay twins twins (1 ∷ []) [] [] []
+second_is_a_unit replay = (replay.firsts 0 (lit< tt)).before 0 (lit< tt) refl
+
+no_file_is_a_unit : ¬ IsReplay files files (1 ∷ []) [] [] []
+no_file_is_a_unit replay = let inside = (replay.firsts 0 (lit< tt)).inside in absurd (omega (arith, inside))
+
+-- no step speaks of more bytes than were written or printed, though what there is would be just those
+pool_is_short : ¬ IsReplay files (holds 7 2) (0 ∷ []) (Write 0 0 0 2 true ∷ []) (7 ∷ []) []
+pool_is_short replay = let few = (replay.within 0 (lit< tt)).from_pool in absurd (omega (arith, few))
+
+text_is_short : ¬ IsReplay files files (0 ∷ []) (Print 0 2 ∷ []) [] (97 ∷ [])
+text_is_short replay = let few = (replay.within 0 (lit< tt)).from_text in absurd (omega (arith, few))

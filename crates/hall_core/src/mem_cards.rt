@@ -6,7 +6,8 @@ use crate::cards::{Cards, ReadFault};
 /// A source of cards in memory, which tells what is still to come and fails where it is told to.
 ///
 /// A call that is to fail answers `ReadFault` and raises the count of faults; any other gives as many
-/// bytes as there are, at most as many as the buffer has. None takes memory.
+/// bytes as there are, at most as many as the buffer has. Of the buffer, what isn't given stays as it was.
+/// None takes memory.
 #[derive(Debug, Drop)]
 pub struct MemCards {
     bytes: Vec<u8>,
@@ -60,6 +61,8 @@ impl Cards for MemCards {
         ensures which { IsErr result ↔ Contains (failing_reads self.old) (number_of_reads self.old) }
         ensures most { IfOk result (λ n. n ≡ min (length buf.old) (length (bytes_left self.old))) }
         ensures next { IsNextRead self.old self.new result }
+        ensures kept { OnErr result (buf.new ≡ buf.old) }
+        ensures behind { IfOk result (λ n. drop n buf.new ≡ drop n buf.old) }
     {
         let fails = self.fails.contains(&self.next_call);
         self.next_call = self.next_call.saturating_add(1);

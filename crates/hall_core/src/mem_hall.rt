@@ -401,7 +401,14 @@ impl Hall for MemHall {
         Ok(())
     }
 
-    fn differs(&mut self, unit: u8, track: u16) {}
+    fn differs(&mut self, unit: u8, track: u16)
+        requires { unit < length (facts_of self.old).units }
+        ensures call { NotedCall (facts_of self.old) (facts_of self.new) }
+        ensures told { Same (meaning_of self.old) (meaning_of self.new) }
+        ensures clock { (meaning_of self.new).clock ≡ (meaning_of self.old).clock }
+        ensures facts { facts_of self.new ≡ facts_of self.old }
+        ensures nothing { self.new ≡ self.old }
+    {}
 }
 
 #[cfg(test)]

@@ -1,8 +1,8 @@
 //! Calls of a hall that a stop leaves undone or done.
-ghost use Rattle.std.specs.Prelude.{◌≡◌, ◌+◌, ◌<◌, ◌≤◌, length, IsTrue};
+ghost use Rattle.std.specs.Prelude.{◌≡◌, ◌⊎◌, ◌+◌, ◌<◌, ◌≤◌, length, IsTrue, OnErr};
 ghost use Rattle.hall_core.specs.Facts.{unit_of, DeviceCall};
-ghost use Rattle.hall_core.specs.Files.{written};
-ghost use Rattle.hall_core.specs.Moments.{IsDurable};
+ghost use Rattle.hall_core.specs.Files.{written, IsPending};
+ghost use Rattle.hall_core.specs.Moments.{IsDurable, LeavesSame};
 ghost use Rattle.hall_core.specs.Steps.{StepTo};
 
 use crate::hall::{Hall, HallErr};
@@ -30,6 +30,7 @@ pub fn write_through<H: Hall>(hall: &mut H, unit: u8, at: u64, bytes: &[u8]) -> 
     requires inside { at + length bytes.now ≤ (unit_of (H.facts hall.old).units unit).size }
     requires durable { IsTrue H.tells → IsDurable (H.meaning hall.old) }
     ensures told { IsTrue H.tells → StepTo (λ files. files) (written (H.meaning hall.old).state (unit_of (H.facts hall.old).units unit).name at bytes.now) (H.meaning hall.old) (H.meaning hall.new) result }
+    ensures pending { IsTrue H.tells → OnErr result (IsPending (unit_of (H.facts hall.old).units unit).name at bytes.now (H.meaning hall.old) (H.meaning hall.new) ⊎ LeavesSame (H.meaning hall.old) (H.meaning hall.new)) }
     ensures call { DeviceCall (H.facts hall.old) (H.facts hall.new) result }
 {
     hall.write(unit, at, bytes)?;

@@ -70,6 +70,7 @@ rename_applies log log' now after v old new lawful done noted =
     let back : before (Renamed v old new) later ≡ now = ap (λ r. record { shelf = behind after r; text = now.text }) (undone now.shelf after v old new lawful done) in
     record {
       answer = done;
+      refused = λ known r refused. let never = sym done ∙ refused in absurd (cc never);
       idle = ⊎_elim (λ refused. let never = sym done ∙ refused.1 in absurd (cc never)) (λ short. cc);
       printed = refl;
       moments = subst (λ l. Elapses (meaning_after log now) (meaning_after l later) P) (sym noted) (elapses-more log (Renamed v old new) now later back P (inr done, refl));

@@ -2,19 +2,20 @@
 use Rattle.std.specs.Prelude.{ℕ, ◌≡◌, true, false, List, [], ◌∷◌, ◌++◌, Some, None, Ok, Err, replicate}
 use Rattle.std.specs.List.{range_with_len}
 use Rattle.std.proofs.Common.{refl}
-use Rattle.ckd_image.specs.declared.device.DiskType.TheVariants.{D2314}
+use Rattle.ckd_image.specs.declared.device.DiskType.TheVariants.{D2311, D2314}
 use Rattle.ckd_image.specs.declared.header.Geometry.{Geometry}
-use Rattle.ckd_image.specs.declared.header.ImageErr.TheVariants.{BadHeads}
+use Rattle.ckd_image.specs.declared.header.ImageErr.TheVariants.{BadHeads, BadLength, BadMagic}
 use Rattle.vol_model.specs.declared.contents.Body.TheVariants.{Other}
 use Rattle.vol_model.specs.Order.{in_order, rank}
 use Rattle.pack_spec.specs.declared.MountErr.TheVariants.{Image, NoLabel, BadVtoc, VtocTrack, NoFormat4, NoFormat5, BadDscb, UnsupportedDscb, UnsupportedExtent, BadExtent, BadChain, DuplicateName}
 use Rattle.pack_spec.specs.declared.addressed.VtocSlot.{VtocSlot}
+use Rattle.ckd_image.specs.Header.{geometry_of, geometry_on, header_bytes}
 use Rattle.ckd_image.specs.Reading.{is_front, records_of}
 use Rattle.pack_spec.specs.Label.{label_of, records_on, track_bytes}
 use Rattle.pack_spec.specs.Vtoc.{slots_on, vtoc_at, vtoc_of}
 use Rattle.pack_spec.specs.Slots.{counted_extents, first_extents, format_3_of, further_extents, has_chain, has_extents, has_types, slots_at, slots_of_vtoc}
-use Rattle.pack_spec.specs.Faults.{dscb_fault, dscb_faults, extents_fault, front_faults, is_named, name_fault, name_faults, slots_faults, track_fault, track_faults, vtoc_fault}
-use Rattle.pack_spec.specs.Volume.{attr_of, data_set_of, data_sets_in, halfword_at, run_of_extent, secondary_of, space_flags, unless, volume_on, volume_with, volume_within}
+use Rattle.pack_spec.specs.Faults.{dscb_fault, dscb_faults, extents_fault, front_faults, is_format_4, is_format_5_or_free, is_named, name_fault, name_faults, slots_faults, track_fault, track_faults, vtoc_fault}
+use Rattle.pack_spec.specs.Volume.{attr_of, data_set_of, data_sets_in, halfword_at, run_of_extent, secondary_of, space_flags, unless, volume_of, volume_on, volume_with, volume_within}
 
 -- two cylinders of a 2314, each of twenty heads
 abbrev pack : Geometry
@@ -37,6 +38,29 @@ set name count kind last =
     name ∷ replicate 43 0 ++ (0xF1 ∷ replicate 14 0) ++ (count ∷ replicate 45 0)
     ++ (kind ∷ 0 ∷ 0 ∷ 0 ∷ 0 ∷ 4 ∷ 0 ∷ 0 ∷ 0 ∷ last ∷ 1 ∷ 0 ∷ 0 ∷ 0 ∷ 0 ∷ 5 ∷ 0 ∷ 0 ∷ 0 ∷ 5 ∷ 1 ∷ 0 ∷ 0 ∷ 0 ∷ 0 ∷ 6 ∷ 0 ∷ 0 ∷ 0 ∷ 7 ∷ [])
     ++ (0 ∷ 0 ∷ 0 ∷ 1 ∷ 6 ∷ [])
+
+-- the format byte tells a format 4, and no other byte does
+formats_4 :
+    (is_format_4 (slot 1 (dscb 4 0xF4)) ≡ true)
+    × (is_format_4 (slot 1 (dscb 0 0xF4)) ≡ true)
+    × (is_format_4 (slot 1 (dscb 0xF4 0xF5)) ≡ false)
+    × (is_format_4 (slot 1 (dscb 0xF4 0)) ≡ false)
+    × (is_format_4 (slot 1 (replicate 45 0 ++ (0xF4 ∷ replicate 94 0))) ≡ false)
+    × (is_format_4 (slot 1 zeros) ≡ false)
+formats_4 = (refl, refl, refl, refl, refl, refl)
+
+-- it tells a format 5 too; but a slot is free where all bytes are zero: neither where its format byte alone is, nor where all but that are
+formats_5 :
+    (is_format_5_or_free (slot 2 (dscb 5 0xF5)) ≡ true)
+    × (is_format_5_or_free (slot 2 (dscb 0 0xF5)) ≡ true)
+    × (is_format_5_or_free (slot 2 zeros) ≡ true)
+    × (is_format_5_or_free (slot 2 (dscb 5 0)) ≡ false)
+    × (is_format_5_or_free (slot 2 (replicate 139 0 ++ (1 ∷ []))) ≡ false)
+    × (is_format_5_or_free (slot 2 (dscb 0 0x40)) ≡ false)
+    × (is_format_5_or_free (slot 2 (dscb 0xF5 0xF1)) ≡ false)
+    × (is_format_5_or_free (slot 2 (dscb 4 0xF4)) ≡ false)
+    × (is_format_5_or_free (slot 2 (dscb 3 0xF3)) ≡ false)
+formats_5 = (refl, refl, refl, refl, refl, refl, refl, refl, refl)
 
 -- slot 0 is a format 4; slot 1 is a format 5 or all zeros, but not of another format; and both are there
 fronts :
@@ -106,6 +130,15 @@ broken = slot 1 (dscb 4 0xF4) ∷ slot 2 (dscb 1 0xC7) ∷ slot 3 (set 7 0 0 0) 
 in_turn : slots_faults pack broken ≡ NoFormat5 ∷ BadDscb 1 0xC7 ∷ UnsupportedDscb 4 0xF2 ∷ BadExtent 5 ∷ DuplicateName 3 2 ∷ []
 unfolding slots_faults front_faults dscb_faults dscb_fault extents_fault name_faults name_fault has_types has_extents has_chain counted_extents first_extents further_extents format_3_of
 in_turn = refl
+
+-- each slot behind the first is judged by its own number, also by what stands in lower slots and in higher ones
+each_slot :
+    (dscb_faults pack broken ≡ BadDscb 1 0xC7 ∷ UnsupportedDscb 4 0xF2 ∷ BadExtent 5 ∷ [])
+    × (dscb_faults pack chained ≡ BadChain 3 ∷ [])
+    × (dscb_faults pack (slot 1 (dscb 1 0xC7) ∷ slot 2 zeros ∷ []) ≡ [])
+    × (dscb_faults pack [] ≡ [])
+unfolding dscb_faults dscb_fault extents_fault has_types has_extents has_chain counted_extents first_extents further_extents format_3_of
+each_slot = (refl, refl, refl, refl)
 
 -- each byte is its offset, but that of the format
 abbrev numbered : List ℕ
@@ -196,6 +229,18 @@ vtocs :
     × (vtoc_at [] pack (Some (label 1 3)) ≡ Err (VtocTrack 23))
 unfolding vtoc_of vtoc_at label_of records_on track_bytes records_of is_front
 vtocs = (refl, refl, refl, refl)
+
+-- the header is the first 512 bytes, and the length that of the whole image; cylinders of zeros have no label
+abbrev one_cylinder : Geometry
+one_cylinder = record { device = D2311; cylinders = 1; track_size = 4096 }
+
+images :
+    (volume_of [] ≡ Err (Image BadMagic))
+    × (volume_of (header_bytes one_cylinder) ≡ Err (Image (BadLength 512)))
+    × (volume_of (header_bytes one_cylinder ++ replicate 40961 0) ≡ Err (Image (BadLength 41473)))
+    × (volume_of (header_bytes one_cylinder ++ replicate 40960 0) ≡ Err NoLabel)
+unfolding volume_of geometry_of geometry_on vtoc_of vtoc_at label_of records_on track_bytes records_of is_front
+images = (refl, refl, refl, refl)
 
 -- each track is judged before the slots, the lowest first; without tracks there are no slots
 first_faults :

@@ -1,7 +1,8 @@
 -- Addresses, the label, slots and extents, on cases at which near readings of their definitions give something else.
-use Rattle.std.specs.Prelude.{ℕ, ◌≡◌, true, false, List, [], ◌∷◌, ◌++◌, Some, None, Ok, Err, replicate}
+use Rattle.std.specs.Prelude.{ℕ, ◌≡◌, true, false, List, [], ◌∷◌, ◌++◌, Some, None, Ok, Err, codes, map, replicate}
 use Rattle.std.specs.List.{range_with_len}
 use Rattle.std.proofs.Common.{refl}
+use Rattle.ebcdic_names.specs.CodePage.{ascii_of, code_page}
 use Rattle.ckd_image.specs.declared.device.DiskType.TheVariants.{D2314}
 use Rattle.ckd_image.specs.declared.header.Geometry.{Geometry}
 use Rattle.ckd_image.specs.Track.{Record}
@@ -10,10 +11,10 @@ use Rattle.dscb_codec.specs.declared.DscbErr.TheVariants.{Unsupported, BadFormat
 use Rattle.pack_spec.specs.declared.MountErr.TheVariants.{BadVtoc, VtocTrack, BadDscb, UnsupportedDscb, NoLabel}
 use Rattle.pack_spec.specs.declared.addressed.VtocSlot.{VtocSlot}
 use Rattle.pack_spec.specs.declared.address.Address.{Address}
-use Rattle.pack_spec.specs.Label.{address_at, is_inside, is_keyed, label_in, track_of_address, vol1}
+use Rattle.pack_spec.specs.Label.{address_at, are_label, ipl1, ipl2, is_inside, is_keyed, label_in, track_of_address, vol1}
 use Rattle.pack_spec.specs.Vtoc.{first_slot, is_slot, is_vtoc_extent, slot_bytes, slots_in, vtoc_by}
 use Rattle.pack_spec.specs.Formats.{fault_or, is_data_set, slot_fault}
-use Rattle.pack_spec.specs.Slots.{addressed_from, counted_extents, extent_at, extent_count, first_extents, format_3_of, further_extents, has_chain, has_extents, has_types, is_chained, is_extent, is_shared, lower_of, pointer_of, record_address, tracks_in, type_of, upper_of}
+use Rattle.pack_spec.specs.Slots.{addressed_from, counted_extents, extent_at, extent_count, first_extents, format_3_of, further_extents, has_chain, has_extents, has_types, is_chained, is_counted_type, is_extent, is_field_type, is_shared, lower_of, pointer_of, record_address, tracks_in, type_of, upper_of}
 
 -- the most cylinders of a 2314, each of twenty heads
 abbrev pack : Geometry
@@ -68,6 +69,38 @@ label :
     × (label_in (ipl_1 ∷ ipl_2 ∷ []) ≡ None)
 unfolding label_in
 label = (refl, refl, refl, refl, refl)
+
+-- the keys as text
+keys : (map ascii_of ipl1 ≡ codes "IPL1") × (map ascii_of ipl2 ≡ codes "IPL2") × (map ascii_of vol1 ≡ codes "VOL1")
+unfolding ascii_of code_page
+keys = (refl, refl, refl)
+
+-- each record has its key and its length, and neither is that of its neighbour; the label begins with its key and has 80 bytes; where its count says that it stands isn't judged, nor what stands in the records before it
+abbrev program : List ℕ → ℕ → Record
+program key len = record_on 0 0 key (replicate len 7)
+
+abbrev volume : Record
+volume = record_on 0 0 vol1 text
+
+labels :
+    (are_label ipl_1 ipl_2 volume ≡ true)
+    × (are_label (record_on 3 7 ipl1 (replicate 24 0xFF)) (record_on 2 1 ipl2 (replicate 144 0)) (record_on 9 9 vol1 text) ≡ true)
+    × (are_label (program ipl1 144) (program ipl2 24) volume ≡ false)
+    × (are_label (program ipl1 144) (program ipl2 144) volume ≡ false)
+    × (are_label (program ipl1 24) (program ipl2 24) volume ≡ false)
+    × (are_label (program ipl1 25) (program ipl2 144) volume ≡ false)
+    × (are_label (program ipl1 24) (program ipl2 143) volume ≡ false)
+    × (are_label (program ipl2 24) (program ipl1 144) volume ≡ false)
+    × (are_label (program ipl2 24) (program ipl2 144) volume ≡ false)
+    × (are_label (program ipl1 24) (program ipl1 144) volume ≡ false)
+    × (are_label (program [] 24) (program ipl2 144) volume ≡ false)
+    × (are_label ipl_1 ipl_2 (record_on 0 0 ipl1 text) ≡ false)
+    × (are_label ipl_1 ipl_2 (record_on 0 0 [] text) ≡ false)
+    × (are_label ipl_1 ipl_2 (record_on 0 0 vol1 (vol1 ++ replicate 75 3)) ≡ false)
+    × (are_label ipl_1 ipl_2 (record_on 0 0 vol1 (vol1 ++ replicate 77 3)) ≡ false)
+    × (are_label ipl_1 ipl_2 (record_on 0 0 vol1 (0xE5 ∷ 0xD6 ∷ 0xD3 ∷ 0xF2 ∷ replicate 76 3)) ≡ false)
+    × (are_label ipl_1 ipl_2 (record_on 0 0 vol1 (3 ∷ vol1 ++ replicate 75 3)) ≡ false)
+labels = (refl, refl, refl, refl, refl, refl, refl, refl, refl, refl, refl, refl, refl, refl, refl, refl, refl)
 
 -- a slot has 44 bytes of key and 96 of data, which stand in this order
 abbrev parts : ℕ → ℕ → Record
@@ -172,6 +205,34 @@ taken :
     × (counted_extents leads_on (set 17) ≡ own 1 0 ∷ own 0x81 1 ∷ own 1 2 ∷ replicate 13 (replicate 10 1))
 unfolding counted_extents first_extents further_extents format_3_of
 taken = (refl, refl, refl, refl, refl)
+
+-- an extent of this type; its sequence and its tracks are those of another type
+abbrev typed : ℕ → List ℕ
+typed kind = kind ∷ replicate 9 0x40
+
+-- data, also on cylinder boundaries; neither user labels nor shared cylinders, nor an empty field, nor a type that has but a bit of these
+counted_types :
+    (is_counted_type (typed 0x01) ≡ true)
+    × (is_counted_type (typed 0x81) ≡ true)
+    × (is_counted_type (typed 0x00) ≡ false)
+    × (is_counted_type (typed 0x40) ≡ false)
+    × (is_counted_type (typed 0x80) ≡ false)
+    × (is_counted_type (typed 0x41) ≡ false)
+    × (is_counted_type (typed 0x02) ≡ false)
+    × (is_counted_type (0x00 ∷ replicate 9 0x01) ≡ false)
+counted_types = (refl, refl, refl, refl, refl, refl, refl, refl)
+
+-- an empty field too, by its type alone, and no other
+field_types :
+    (is_field_type (typed 0x00) ≡ true)
+    × (is_field_type (typed 0x01) ≡ true)
+    × (is_field_type (typed 0x81) ≡ true)
+    × (is_field_type (typed 0x40) ≡ false)
+    × (is_field_type (typed 0x80) ≡ false)
+    × (is_field_type (typed 0x41) ≡ false)
+    × (is_field_type (typed 0x02) ≡ false)
+    × (is_field_type (0x40 ∷ replicate 9 0x00) ≡ false)
+field_types = (refl, refl, refl, refl, refl, refl, refl, refl)
 
 -- a field that isn't counted may be empty, but not of another type; one that is counted mayn't be empty
 types :

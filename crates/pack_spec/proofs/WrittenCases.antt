@@ -1,12 +1,18 @@
 -- The bytes of written labels and slots, on cases at which near readings of their definitions give something else.
-use Rattle.std.specs.Prelude.{ℕ, ◌≡◌, true, List, [], ◌∷◌, ◌++◌, Some, length, map, replicate, slice_range}
+use Rattle.std.specs.Prelude.{ℕ, ◌≡◌, true, List, [], ◌∷◌, ◌++◌, Some, None, length, map, replicate, slice_range}
 use Rattle.std.proofs.Common.{refl}
-use Rattle.ckd_image.specs.Track.{records_bytes}
-use Rattle.ckd_image.specs.Reading.{is_front, records_of, records_up_to}
+use Rattle.ckd_image.specs.declared.device.DiskType.TheVariants.{D2311}
+use Rattle.ckd_image.specs.declared.header.Geometry.{Geometry}
+use Rattle.ckd_image.specs.Track.{Record, records_bytes}
+use Rattle.ckd_image.specs.Reading.{is_front, records_of, records_to_end, records_up_to}
 use Rattle.ckd_image.specs.Writing.{new_track}
+use Rattle.pack_spec.specs.declared.MountErr.TheVariants.{VtocTrack}
 use Rattle.pack_spec.specs.declared.address.Address.{Address}
-use Rattle.pack_spec.specs.Label.{address_at, label_in}
-use Rattle.pack_spec.specs.Vtoc.{is_slot, slot_bytes}
+use Rattle.pack_spec.specs.declared.addressed.VtocSlot.{VtocSlot}
+use Rattle.pack_spec.specs.Label.{address_at, label_in, label_of, records_on, track_bytes}
+use Rattle.pack_spec.specs.Vtoc.{is_slot, slot_bytes, slots_on}
+use Rattle.pack_spec.specs.Slots.{slots_at, slots_of_vtoc}
+use Rattle.pack_spec.specs.Faults.{track_fault}
 use Rattle.pack_spec.specs.Written.{label_bytes, label_records, slot_record}
 
 -- ABC and three blanks in EBCDIC
@@ -63,3 +69,91 @@ slot_stands = (refl, refl)
 -- on its track it takes 148 bytes, with KL 44 and DL 96
 on_track : records_bytes 1 (map (slot_record (record { cylinder = 0x0102; head = 3 })) (slot ∷ [])) ≡ 1 ∷ 2 ∷ 0 ∷ 3 ∷ 1 ∷ 44 ∷ 0 ∷ 96 ∷ slot
 on_track = refl
+
+-- tracks of 400 bytes, ten to a cylinder; another slot; and the two as the records of a track
+abbrev small : Geometry
+small = record { device = D2311; cylinders = 2; track_size = 400 }
+
+abbrev other : List ℕ
+other = replicate 140 5
+
+abbrev slot_records : ℕ → ℕ → List Record
+slot_records cylinder head = map (slot_record (record { cylinder = cylinder; head = head })) (slot ∷ other ∷ [])
+
+-- a header that isn't read here, the label on the first track, slots on the second, and a third of zeros, which has no home address
+abbrev header : List ℕ
+header = replicate 512 9
+
+abbrev pack : List ℕ
+pack = header ++ new_track 0 0 (label_records serial vtoc) 400 ++ new_track 0 1 (slot_records 0 1) 400 ++ replicate 400 0
+
+-- tracks are counted from 0 behind the header, and there is none behind the last
+tracks :
+    (track_bytes pack small 0 ≡ new_track 0 0 (label_records serial vtoc) 400)
+    × (track_bytes pack small 1 ≡ new_track 0 1 (slot_records 0 1) 400)
+    × (track_bytes pack small 2 ≡ replicate 400 0)
+    × (track_bytes pack small 3 ≡ [])
+unfolding track_bytes
+tracks = (refl, refl, refl, refl)
+
+-- its records are all of the track's, or so many, where it has as many; a track whose home address is another's has none, and track 10 is the first of cylinder 1
+on_tracks :
+    (records_on pack small None 0 ≡ Some (label_records serial vtoc))
+    × (records_on pack small None 1 ≡ Some (slot_records 0 1))
+    × (records_on pack small (Some 1) 1 ≡ Some (slot_record (record { cylinder = 0; head = 1 }) slot ∷ []))
+    × (records_on pack small (Some 3) 1 ≡ None)
+    × (records_on pack small None 2 ≡ None)
+    × (records_on pack small None 3 ≡ None)
+    × (records_on (header ++ new_track 0 1 (slot_records 0 1) 400) small None 0 ≡ None)
+    × (records_on (replicate 4512 9 ++ new_track 1 0 (slot_records 1 0) 400) small None 10 ≡ Some (slot_records 1 0))
+    × (records_on (replicate 4512 9 ++ new_track 0 10 (slot_records 0 10) 400) small None 10 ≡ None)
+unfolding records_on track_bytes records_of is_front records_to_end records_up_to
+on_tracks = (refl, refl, refl, refl, refl, refl, refl, refl, refl)
+
+-- the label is that on the first track, whatever records stand behind it
+labels :
+    (label_of pack small ≡ Some (label_bytes serial vtoc))
+    × (label_of (header ++ new_track 0 0 (label_records serial vtoc ++ slot_records 0 0) 700) (record small { track_size = 700 }) ≡ Some (label_bytes serial vtoc))
+    × (label_of (header ++ new_track 0 0 (slot_records 0 0 ++ label_records serial vtoc) 700) (record small { track_size = 700 }) ≡ None)
+    × (label_of (header ++ replicate 400 0 ++ new_track 0 1 (label_records serial vtoc) 400) small ≡ None)
+unfolding label_of label_in records_on track_bytes records_of is_front records_to_end records_up_to
+labels = (refl, refl, refl, refl)
+
+-- a track has slots where all of its records are some, also where it has no record
+on_track_slots :
+    (slots_on pack small 1 ≡ Some (slot ∷ other ∷ []))
+    × (slots_on pack small 0 ≡ None)
+    × (slots_on pack small 2 ≡ None)
+    × (slots_on (header ++ new_track 0 0 [] 400) small 0 ≡ Some [])
+    × (slots_on (header ++ new_track 0 0 (slot_records 0 0 ++ label_records serial vtoc) 700) (record small { track_size = 700 }) 0 ≡ None)
+unfolding slots_on records_on track_bytes records_of is_front records_to_end
+on_track_slots = (refl, refl, refl, refl, refl)
+
+-- else it breaks a rule, by its number on the pack
+faults : (track_fault pack small 0 ≡ Some (VtocTrack 0)) × (track_fault pack small 1 ≡ None) × (track_fault pack small 2 ≡ Some (VtocTrack 2))
+unfolding track_fault slots_on records_on track_bytes records_of is_front records_to_end
+faults = (refl, refl, refl)
+
+-- a slot with its address; its count doesn't give that
+abbrev slot_on : ℕ → ℕ → List ℕ → VtocSlot
+slot_on head r bytes = record { address = 0 ∷ 0 ∷ 0 ∷ head ∷ r ∷ []; bytes = bytes }
+
+abbrev miscounted : List ℕ
+miscounted = header ++ new_track 0 0 (slot_records 7 7) 400 ++ new_track 0 1 (slot_records 0 1) 400
+
+addresses :
+    (slots_at pack small 1 ≡ slot_on 1 1 slot ∷ slot_on 1 2 other ∷ [])
+    × (slots_at pack small 0 ≡ [])
+    × (slots_at miscounted small 0 ≡ slot_on 0 1 slot ∷ slot_on 0 2 other ∷ [])
+unfolding slots_at slots_on records_on track_bytes records_of is_front records_to_end
+addresses = (refl, refl, refl)
+
+-- the slots of a VTOC stand as its tracks do, each of which begins with R1; tracks without slots, and those before it and behind it, have none
+over_tracks :
+    (slots_of_vtoc miscounted small (record { start = 0; len = 2 }) ≡ slot_on 0 1 slot ∷ slot_on 0 2 other ∷ slot_on 1 1 slot ∷ slot_on 1 2 other ∷ [])
+    × (slots_of_vtoc miscounted small (record { start = 0; len = 1 }) ≡ slot_on 0 1 slot ∷ slot_on 0 2 other ∷ [])
+    × (slots_of_vtoc miscounted small (record { start = 1; len = 3 }) ≡ slot_on 1 1 slot ∷ slot_on 1 2 other ∷ [])
+    × (slots_of_vtoc pack small (record { start = 0; len = 3 }) ≡ slot_on 1 1 slot ∷ slot_on 1 2 other ∷ [])
+    × (slots_of_vtoc pack small (record { start = 1; len = 0 }) ≡ [])
+unfolding slots_of_vtoc slots_at slots_on records_on track_bytes records_of is_front records_to_end
+over_tracks = (refl, refl, refl, refl, refl)

@@ -1,11 +1,12 @@
 -- Definitions on cases at which near readings of them give something else.
-use Rattle.std.proofs.Common.{◌≡◌, ◌≢◌, ◌+◌, ℕ, List, [], ◌∷◌, ◌++◌, Option, Some, None, drop, refl, sym, ◌∙◌, arith, true, false}
+use Rattle.std.proofs.Common.{◌≡◌, ◌≢◌, ◌+◌, ◌*◌, ◌≤◌, ℕ, zero, suc, List, [], ◌∷◌, ◌++◌, Option, Some, None, drop, get_or, length, take, refl, sym, ap, ◌∙◌, arith, true, false}
+use Rattle.std.proofs.lemmas.List.{drop_all}
 use Rattle.std.specs.Prelude.{Ok, Err, replicate}
 use Rattle.std.specs.Option.{option_map}
 use Rattle.ckd_image.specs.declared.device.DiskType.TheVariants.{D2311, D2314}
 use Rattle.ckd_image.specs.declared.header.Geometry.{Geometry}
-use Rattle.ckd_image.specs.Reading.{is_front, records_of}
-use Rattle.ckd_image.specs.Track.{Record}
+use Rattle.ckd_image.specs.Reading.{is_front, records_of, records_to_end, records_up_to}
+use Rattle.ckd_image.specs.Track.{Record, end_marker}
 use Rattle.hall_core.specs.Facts.{Attached, Facts}
 use Rattle.hall_core.specs.Files.{patched}
 use Rattle.pack_spec.specs.Label.{records_on, track_bytes}
@@ -86,11 +87,32 @@ records = refl
 stand : StandFrom 1 (drop 21 bytes) (first ∷ second ∷ [])
 stand = (refl, (refl, (refl, (refl, tt))))
 
+-- the first of them is R1, and none is left out
+stand_otherwise : (¬ StandFrom 2 (drop 21 bytes) (first ∷ second ∷ [])) × (¬ StandFrom 1 (drop 21 bytes) (second ∷ []))
+stand_otherwise = (λ stands. let never = stands.0 in absurd (cc), λ stands. absurd (omega (arith, ap (λ (x : Record). length x.key) stands.1.0)))
+
 part_of : IsPartOf (Some first) (65 ∷ 66 ∷ []) (97 ∷ 98 ∷ 99 ∷ [])
 part_of = (refl, refl)
 
+-- not of a record that isn't there, nor exchanged, nor parted elsewhere
+parts_of_none : (¬ IsPartOf None [] []) × (¬ IsPartOf (Some first) (97 ∷ 98 ∷ 99 ∷ []) (65 ∷ 66 ∷ [])) × (¬ IsPartOf (Some first) (65 ∷ 66 ∷ 97 ∷ []) (98 ∷ 99 ∷ []))
+parts_of_none = (λ is. is, λ is. absurd (omega (arith, ap length is.0)), λ is. absurd (omega (arith, ap length is.0)))
+
+-- both parts count
+other_parts : (¬ IsPartOf (Some first) (65 ∷ 67 ∷ []) (97 ∷ 98 ∷ 99 ∷ [])) × (¬ IsPartOf (Some first) (65 ∷ 66 ∷ []) (97 ∷ 98 ∷ 98 ∷ []))
+other_parts = (λ is. let wrong : 66 ≡ 67 = ap (λ (l : List ℕ). get_or l 1 0) is.0 in absurd (omega (arith, wrong)), λ is. let wrong : 99 ≡ 98 = ap (λ (l : List ℕ). get_or l 2 0) is.1 in absurd (omega (arith, wrong)))
+
 content_of : IsContentOf (Some first) (65 ∷ 66 ∷ 97 ∷ 98 ∷ 99 ∷ [])
 content_of = refl
+
+-- the key stands in front of the data, and neither alone
+content_of_none : (¬ IsContentOf None []) × (¬ IsContentOf (Some first) (97 ∷ 98 ∷ 99 ∷ 65 ∷ 66 ∷ [])) × (¬ IsContentOf (Some first) (97 ∷ 98 ∷ 99 ∷ [])) × (¬ IsContentOf (Some first) (65 ∷ 66 ∷ []))
+content_of_none = (
+  λ is. is,
+  λ is. let wrong : 97 ≡ 65 = ap (λ (l : List ℕ). get_or l 0 0) is in absurd (omega (arith, wrong)),
+  λ is. absurd (omega (arith, ap length is)),
+  λ is. absurd (omega (arith, ap length is)),
+)
 
 -- the same buffer, of which the second record has other parts
 buffer_changed : with_record buffer 1 (1 ∷ []) (2 ∷ []) ≡ record buffer { records = first ∷ record second { key = 1 ∷ []; «data» = 2 ∷ [] } ∷ third ∷ [] }
@@ -141,3 +163,112 @@ other_bytes image updated other is = other is.bytes
 
 other_records : (image updated : List ℕ) (upto : Option ℕ) → records_on updated buffer.geometry upto 25 ≢ option_map (with_parts 0 (65 ∷ 66 ∷ []) (97 ∷ 98 ∷ 99 ∷ [])) (records_on image buffer.geometry upto 25) → ¬ IsUpdated buffer 0 (65 ∷ 66 ∷ []) (97 ∷ 98 ∷ 99 ∷ []) image updated
 other_records image updated upto other is = other (is.records upto)
+
+-- and another track stays
+other_tracks : (image updated : List ℕ) (track : ℕ) → track ≢ 25 → track_bytes updated buffer.geometry track ≢ track_bytes image buffer.geometry track → ¬ IsUpdated buffer 0 (65 ∷ 66 ∷ []) (97 ∷ 98 ∷ 99 ∷ []) image updated
+other_tracks image updated track apart other is = other (is.others track apart)
+
+-- ---- an image that ends with its first track
+
+-- its one record, the same with other parts, and the image with a record of these parts
+abbrev r1 : Record
+r1 = record { address = 0 ∷ 0 ∷ 0 ∷ 0 ∷ []; key = 65 ∷ 66 ∷ []; «data» = 97 ∷ 98 ∷ 99 ∷ [] }
+
+abbrev r1_changed : Record
+r1_changed = record r1 { key = 67 ∷ 68 ∷ []; «data» = 100 ∷ 101 ∷ 102 ∷ [] }
+
+abbrev image_with : List ℕ → List ℕ → List ℕ
+image_with key content = replicate 512 0 ++ replicate 12 0 ++ (8 ∷ replicate 8 0) ++ (0 ∷ 0 ∷ 0 ∷ 0 ∷ 1 ∷ 2 ∷ 0 ∷ 3 ∷ []) ++ key ++ content ++ end_marker
+
+abbrev image : List ℕ
+image = image_with r1.key r1.«data»
+
+abbrev image_changed : List ℕ
+image_changed = image_with r1_changed.key r1_changed.«data»
+
+abbrev on_it : List Record → Buffer
+on_it held = record { geometry = small; unit = 0; track = 0; records = held }
+
+-- a buffer holds all that stand there, or as many from the front on, and neither more nor others
+all_stand : StandsOn image (on_it (r1 ∷ [])) × StandsOn image (on_it [])
+unfolding records_on track_bytes records_of is_front records_to_end records_up_to
+all_stand = ((None, refl), (Some 0, refl))
+
+-- how many are read, and the first byte of the first
+how_many : Option (List Record) → ℕ
+how_many None = 0
+how_many (Some xs) = length xs
+
+letter : Option (List Record) → ℕ
+letter None = 0
+letter (Some []) = 0
+letter (Some (x ∷ xs)) = get_or x.key 0 0
+
+no_more_stand : ¬ StandsOn image (on_it (r1 ∷ r1 ∷ []))
+unfolding records_on track_bytes records_of is_front records_to_end records_up_to how_many
+no_more_stand stands = by_upto stands.0 stands.1
+  where
+    by_upto : (upto : Option ℕ) → ¬ (records_on image small upto 0 ≡ Some (r1 ∷ r1 ∷ []))
+    by_upto None is = absurd (omega (arith, ap how_many is))
+    by_upto (Some zero) is = absurd (omega (arith, ap how_many is))
+    by_upto (Some (suc zero)) is = absurd (omega (arith, ap how_many is))
+    by_upto (Some (suc (suc n))) is = absurd (omega (arith, ap how_many is))
+
+no_others_stand : ¬ StandsOn image (on_it (r1_changed ∷ []))
+unfolding records_on track_bytes records_of is_front records_to_end records_up_to letter
+no_others_stand stands = by_upto stands.0 stands.1
+  where
+    by_upto : (upto : Option ℕ) → ¬ (records_on image small upto 0 ≡ Some (r1_changed ∷ []))
+    by_upto None is = absurd (omega (arith, ap letter is))
+    by_upto (Some zero) is = absurd (omega (arith, ap letter is))
+    by_upto (Some (suc zero)) is = absurd (omega (arith, ap letter is))
+    by_upto (Some (suc (suc n))) is = absurd (omega (arith, ap letter is))
+
+-- a track that is read isn't broken, at whatever byte
+not_broken : (at : ℕ) → ¬ IsBroken image small None 0 (BadCount at)
+unfolding records_on track_bytes records_of is_front records_to_end how_many
+not_broken at broken = absurd (omega (arith, ap how_many broken.0))
+
+-- the record is given other parts
+read_changed : (upto : Option ℕ) → records_on image_changed small upto 0 ≡ option_map (with_parts 0 r1_changed.key r1_changed.«data») (records_on image small upto 0)
+unfolding records_on track_bytes records_of is_front records_to_end records_up_to
+read_changed None = refl
+read_changed (Some zero) = refl
+read_changed (Some (suc zero)) = refl
+read_changed (Some (suc (suc n))) = refl
+
+none_behind : (key content : List ℕ) (track : ℕ) → length (image_with key content) ≤ 4096 → track ≢ 0 → track_bytes (image_with key content) small track ≡ []
+unfolding track_bytes
+none_behind key content track short apart = ap (take 4096) (drop_all (512 + track * 4096) (image_with key content) (omega (arith, short, apart)))
+
+is_updated : IsUpdated (on_it (r1 ∷ [])) 0 r1_changed.key r1_changed.«data» image image_changed
+unfolding patched
+is_updated = record {
+  bytes = refl;
+  size = refl;
+  header = refl;
+  records = read_changed;
+  others = λ track apart. none_behind r1_changed.key r1_changed.«data» track (omega arith) apart ∙ sym (none_behind r1.key r1.«data» track (omega arith) apart);
+}
+
+-- not where nothing is put, though no records and no tracks are there that could be others
+nothing_put : ¬ IsUpdated (on_it (r1 ∷ [])) 0 r1_changed.key r1_changed.«data» [] []
+unfolding patched
+nothing_put is = absurd (omega (arith, ap length is.bytes))
+
+-- nor where the image ends before the place, and is longer then
+longer : ¬ IsUpdated (on_it (r1 ∷ [])) 0 r1_changed.key r1_changed.«data» (replicate 512 0) (replicate 512 0 ++ r1_changed.key ++ r1_changed.«data»)
+longer is = absurd (omega (arith, is.size))
+
+-- nor where the place isn't that of the record: behind none that is held the first stands, and not the second
+other_record : ¬ IsUpdated (on_it []) 1 r1_changed.key r1_changed.«data» image image_changed
+unfolding records_on track_bytes records_of is_front records_to_end letter
+other_record is = let wrong : 67 ≡ 65 = ap letter (is.records None) in absurd (omega (arith, wrong))
+
+-- nor where it lies on the next track, behind a record that is longer than a track
+abbrev long : Record
+long = record { address = 0 ∷ 0 ∷ 0 ∷ 0 ∷ []; key = []; «data» = replicate 4096 0 }
+
+on_the_next_track : ¬ IsUpdated (on_it (long ∷ [])) 1 (65 ∷ []) [] (replicate 5000 0) (replicate 4645 0 ++ 65 ∷ replicate 354 0)
+unfolding track_bytes
+on_the_next_track is = let wrong : 65 ≡ 0 = ap (λ (l : List ℕ). get_or l 37 0) (is.others 1 (λ same. omega (arith, same))) in absurd (omega (arith, wrong))

@@ -1,5 +1,6 @@
 -- Calls of a machine, and runs on one, by the definitions of Calls.antt and Runs.antt. Each comment names a wrong definition that the case tells from the right one.
 use Rattle.std.proofs.Common.{◌≡◌, ◌≢◌, ◌⊎◌, ◌-◌, ◌<◌, ◌≤◌, ◌^◌, ℕ, Bool, true, false, List, [], ◌∷◌, ◌++◌, Result, Ok, Err, refl, sym, ap, ◌∙◌, inl, inr, ⊎_elim, get_or, arith, lit≤}
+use Rattle.ebcdic_names.specs.declared.names.Dsn.{Dsn}
 use Rattle.hall_core.specs.Files.{File}
 use Rattle.hall_core.specs.Moments.{Meaning}
 use Rattle.vol_model.specs.declared.answers.MachErr.{MachErr}
@@ -9,8 +10,9 @@ use Rattle.vol_model.specs.declared.answers.Stop.TheVariants as stop
 use Rattle.vol_model.specs.declared.contents.Shelf.{Shelf}
 use Rattle.vol_model.specs.declared.refusals.Refusal.{Refusal}
 use Rattle.vol_model.specs.declared.requests.Op.{Op}
+use Rattle.vol_model.specs.declared.requests.Op.TheVariants.{Rename}
 use Rattle.vol_model.specs.Shelf.{step}
-use Rattle.vol_model.specs.Calls.{Status, sound_after, MachineCall, Answers, IsIdle, Applies, Prints, Keeps}
+use Rattle.vol_model.specs.Calls.{Status, sound_after, MachineCall, Answers, IsIdle, IsJudgedInMemory, Applies, Prints, Keeps}
 use Rattle.vol_model.specs.Events.{Do, Say, StopsIn, behind}
 use Rattle.vol_model.specs.Runs.{Runs, RunCall, sound_behind}
 
@@ -105,6 +107,12 @@ run_device_fault = record { base = refl; sound = refl; devices = lit≤ tt; prin
 run_device_stood : ¬ RunCall (counts true 3 5) (counts false 3 5) (ends stop.Device)
 run_device_stood call = let rose = call.device refl in absurd (omega (arith, rose))
 
+run_print_stood : ¬ RunCall (counts true 3 5) (counts false 3 5) (ends stop.Print)
+run_print_stood call = let rose = call.print refl in absurd (omega (arith, rose))
+
+run_both_rose : (¬ RunCall (counts true 3 5) (counts false 4 6) (ends stop.Print)) × (¬ RunCall (counts true 3 5) (counts false 4 6) (ends stop.Device))
+run_both_rose = (λ call. let still = call.no_device (λ is. cc) in absurd (omega (arith, still)), λ call. let still = call.no_print (λ is. cc) in absurd (omega (arith, still)))
+
 run_counts_exchanged : ¬ RunCall (counts true 3 5) (counts false 4 5) (ends stop.Print)
 run_counts_exchanged call = let still = call.no_device (λ is. cc) in absurd (omega (arith, still))
 
@@ -123,6 +131,19 @@ print_fell call = let never = call.prints in absurd (omega (arith, never))
 
 run_print_fell : ¬ RunCall (counts true 3 5) (counts false 4 4) (ends stop.Device)
 run_print_fell call = let never = call.prints in absurd (omega (arith, never))
+
+-- nor did either fall from beyond its type's end to that, which is as far as one is to rise
+device_fell_to_the_end : ¬ MachineCall (counts true (2 ^ 64) 5) (counts false (2 ^ 64 - 1) 5) (fails Device)
+device_fell_to_the_end call = let never = call.devices in absurd (omega (arith, never))
+
+print_fell_to_the_end : ¬ MachineCall (counts true 3 (2 ^ 64)) (counts false 3 (2 ^ 64 - 1)) (fails Print)
+print_fell_to_the_end call = let never = call.prints in absurd (omega (arith, never))
+
+run_device_fell_to_the_end : ¬ RunCall (counts true (2 ^ 64) 5) (counts false (2 ^ 64 - 1) 5) (ends stop.Device)
+run_device_fell_to_the_end call = let never = call.devices in absurd (omega (arith, never))
+
+run_print_fell_to_the_end : ¬ RunCall (counts true 3 (2 ^ 64)) (counts false 3 (2 ^ 64 - 1)) (ends stop.Print)
+run_print_fell_to_the_end call = let never = call.prints in absurd (omega (arith, never))
 
 module _ (s t u : Shelf) (r r' : Refusal) where
   -- done is the step, not the shelf before it or another one
@@ -176,6 +197,10 @@ either P Q shelf p = P shelf p ⊎ Q shelf p
 abbrev held : Shelf → List ℕ → ℕ → (Shelf → List ℕ → Type 0) → Meaning Shelf
 held s text time P = record { state = s; printed = text; left = λ shelf. shelf ≡ s; clock = time; left_since = λ since shelf p. P shelf p }
 
+-- a rename is refused by the names in the VTOC
+renames_are_judged_in_memory : (v : ℕ) (old new : Dsn) → IsJudgedInMemory (Rename v old new)
+renames_are_judged_in_memory v old new = tt
+
 module _ (op : Op) (s t u : Shelf) (r : Refusal) where
   abbrev before : Meaning Shelf
   before = held s (64 ∷ []) 0 (just s (64 ∷ []))
@@ -184,6 +209,7 @@ module _ (op : Op) (s t u : Shelf) (r : Refusal) where
   step_is_done : step s op ≡ Ok t → Applies op before (held t (64 ∷ []) 1 (either (just s (64 ∷ [])) (just t (64 ∷ [])))) done
   step_is_done is = record {
     answer = is;
+    refused = λ known why refused. let never = sym is ∙ refused in absurd (cc never);
     idle = ⊎_elim (λ refused. let never = sym is ∙ refused.1 in absurd (cc never)) (λ want. absurd (cc want));
     printed = refl;
     moments = record {
@@ -222,6 +248,13 @@ module _ (op : Op) (s t u : Shelf) (r : Refusal) where
 
   refused_is_done : step s op ≡ Err r → {P : Shelf → List ℕ → Type 0} → ¬ Applies op before (held s (64 ∷ []) 1 P) done
   refused_is_done is applies = let never = sym is ∙ applies.answer in cc
+
+  -- neither a fault nor want of memory comes in place of a refusal that is found in memory
+  fault_before_a_refusal : IsJudgedInMemory op → step s op ≡ Err r → {new : Meaning Shelf} → ¬ Applies op before new (fails Device)
+  fault_before_a_refusal known is applies = let never = applies.refused known r is in cc
+
+  want_before_a_refusal : IsJudgedInMemory op → step s op ≡ Err r → {new : Meaning Shelf} → ¬ Applies op before new (fails Memory)
+  want_before_a_refusal known is applies = let never = applies.refused known r is in cc
 
   -- a print that fails may have printed a part, and a stop in it another one
   part_is_printed : Prints true (65 ∷ 66 ∷ []) before (held s (64 ∷ 65 ∷ []) 1 (either (just s (64 ∷ [])) (just s (64 ∷ 65 ∷ 66 ∷ [])))) (fails Print)
@@ -290,14 +323,25 @@ module _ (op : Op) (s t u : Shelf) (r : Refusal) where
   run_prints : {P : Shelf → List ℕ → Type 0} → ¬ Runs true (Say (65 ∷ []) ∷ []) before (held s (64 ∷ []) 1 P) finished
   run_prints runs = let never = runs.printed refl in cc
 
-  -- a stop that leaves a byte of the line leaves the shelf behind the operation, also in a run that ended early
-  line_is_behind : {answer : Outcome} → Runs true (Do op ∷ Say (65 ∷ []) ∷ []) before (held s (64 ∷ []) 1 (either (just s (64 ∷ [])) (just u (64 ∷ 65 ∷ [])))) answer → u ≡ behind s (step s op)
+  -- a stop that leaves a byte of the line leaves the shelf behind the operation, also in a run that ended early; it is counted from the shelf at the begin, not from the one in the end
+  line_is_behind : {answer : Outcome} → Runs true (Do op ∷ Say (65 ∷ []) ∷ []) before (held t (64 ∷ []) 1 (either (just s (64 ∷ [])) (just u (64 ∷ 65 ∷ [])))) answer → u ≡ behind s (step s op)
   line_is_behind runs = ⊎_elim (λ was. let never = was.1 in absurd (cc)) (λ stopped. by_text stopped.0 (stopped.1 refl) stopped.2) (runs.moments.moments 0 u (64 ∷ 65 ∷ []) (lit≤ tt) (inr (refl, refl)))
     where
       by_text : (q : List ℕ) → 64 ∷ 65 ∷ [] ≡ 64 ∷ q → StopsIn s (Do op ∷ Say (65 ∷ []) ∷ []) u q → u ≡ behind s (step s op)
       by_text q is (inl early) = let never = is ∙ ap (λ (l : List ℕ). 64 ∷ l) early.1 in absurd (cc)
       by_text q is (inr (inl in_line)) = in_line.0
       by_text q is (inr (inr end)) = end.2.0
+
+  -- of a machine that doesn't tell its text nothing is said of that, and of its shelf all the same
+  untold_run : Runs false (Say (65 ∷ []) ∷ []) before (held s [] 1 (just s (64 ∷ []))) finished
+  untold_run = record {
+    shelf = refl;
+    printed = λ told. absurd (cc told);
+    moments = record { later = lit≤ tt; moments = λ time shelf p early left. inl left; keeps = λ time shelf p early left. left };
+  }
+
+  untold_run_keeps_the_shelf : {P : Shelf → List ℕ → Type 0} → Runs false (Say (65 ∷ []) ∷ []) before (held t [] 1 P) finished → t ≡ s
+  untold_run_keeps_the_shelf runs = runs.shelf
 
 -- promises hold on that were made since the clock's moment or before, and no later ones
 made_till_now : Keeps 2 [] (λ ops since files. Unit {0}) (λ ops since files. since ≤ 2)

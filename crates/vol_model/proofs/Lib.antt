@@ -5,3 +5,4 @@ pub mod Stops
 mod CallCases
 mod EventCases
 mod ShelfCases
+mod WordCases

@@ -8,6 +8,7 @@ use Rattle.vol_model.specs.declared.answers.MachErr.TheVariants.{Refused, Memory
 use Rattle.vol_model.specs.declared.contents.Shelf.{Shelf}
 use Rattle.vol_model.specs.declared.refusals.Refusal.{Refusal}
 use Rattle.vol_model.specs.declared.requests.Op.{Op}
+use Rattle.vol_model.specs.declared.requests.Op.TheVariants.{Rename}
 use Rattle.vol_model.specs.Shelf.{step}
 
 -- What a machine always tells: whether it is sound; what it stands on, as lists of numbers that each machine chooses; and its counts of faults.
@@ -46,9 +47,14 @@ Answers (Err Print) stepped old new = ⊥
 abbrev pub IsIdle : {T : Type 0} → Result Shelf Refusal → Result T MachErr → Type 0
 IsIdle stepped result = ((r : Refusal) × (stepped ≡ Err r)) ⊎ IsErrOf result Memory
 
--- An operation: it is done where the shelf has a step for it, and refused where that is, and then, or where memory ran out, nothing changes but the time. A stop leaves the shelf before or after it, and the printed bytes as they were.
+-- whether what an operation is refused for stands in the VTOC, which a machine holds in memory: so no fault comes while it is looked for
+abbrev pub IsJudgedInMemory : Op → Type 0
+IsJudgedInMemory (Rename v old new) = Unit {0}
+
+-- An operation: it is done where the shelf has a step for it, and refused where that is, and then, or where memory ran out, nothing changes but the time. A refusal that is found in memory is answered, whatever else might have come. A stop leaves the shelf before or after it, and the printed bytes as they were.
 pub record Applies {T : Type 0} (op : Op) (old new : Meaning Shelf) (result : Result T MachErr) : Type 0 where
   pub answer : Answers result (step old.state op) old.state new.state
+  pub refused : IsJudgedInMemory op → (r : Refusal) → step old.state op ≡ Err r → result ≡ Err (Refused r)
   pub idle : IsIdle (step old.state op) result → Same old new
   pub printed : new.printed ≡ old.printed
   pub moments : Elapses old new (λ shelf p. ((shelf ≡ old.state) ⊎ (step old.state op ≡ Ok shelf)) × (p ≡ old.printed))

@@ -44,7 +44,8 @@ pub trait Machine {
 
     /// Does an operation.
     ///
-    /// `Refused` carries the first reason, by the order of `Refusal`.
+    /// `Refused` carries the first reason, by the order of `Refusal`. A rename is judged by the names in the VTOC alone, so
+    /// no fault, nor want of memory, comes in place of its refusal.
     fn apply(&mut self, op: &Op) -> Result<(), MachErr>
         requires sound { IsTrue (status self.old).is_sound }
         ensures shelf { IsTrue tells → Applies op.now (meaning self.old) (meaning self.new) result }

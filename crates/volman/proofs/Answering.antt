@@ -11,7 +11,7 @@ use Rattle.vol_model.specs.declared.contents.Shelf.{Shelf}
 use Rattle.vol_model.specs.declared.refusals.Refusal.{Refusal}
 use Rattle.vol_model.specs.declared.requests.Op.{Op}
 use Rattle.vol_model.specs.Calls.{Applies, Keeps}
-use Rattle.vol_model.specs.Events.{Event, Do, Say, Item, StopsIn, behind, events_in}
+use Rattle.vol_model.specs.Events.{Event, Do, Say, Item, StopsIn, after_operations, behind, events_in, operations_of, shelf_behind}
 use Rattle.vol_model.specs.Runs.{Runs}
 use Rattle.vol_model.specs.Shelf.{number_of, step}
 use Rattle.vol_model.proofs.Stops.{EventsAreDone, left_in_earlier_events, left_in_later_events, events_are_done_in_turn}
@@ -86,3 +86,16 @@ ends_in_line {tells = tells} {old = old} {new = new} s v line r' found said fail
 pub answered : {T E T' E' T'' E'' : Type 0} {tells : Bool} {old mid new : Meaning Shelf} {x : T} {y : T'} (s : Rename) (v : Option ℕ) (line : List ℕ) (z : T'') → v ≡ number_of old.state s.serial.bytes → (item_on old.state s v).lines ≡ line ∷ [] → Runs {T = T} {E = E} tells (map Do (item_on old.state s v).operations) old mid (Ok x) → Runs {T = T'} {E = E'} tells (Say line ∷ []) mid new (Ok y) → Runs {T = T''} {E = E''} tells (events_in (item_of old.state s)) old new (Ok z)
 answered {T'' = T''} {E'' = E''} {tells = tells} {old = old} {new = new} s v line z found said first second =
     subst (λ (es : List Event). Runs {T = T''} {E = E''} tells es old new (Ok z)) (events_found old.state s v line found said) (both z first second)
+
+-- a line changes no shelf, so where it couldn't be printed the shelf is the one behind the statement
+with_line : (ops : List Op) (line : List ℕ) → operations_of (map Do ops) ≡ operations_of (map Do ops ++ Say line ∷ [])
+with_line [] line = refl
+with_line (op ∷ ops) line = ap (λ (rest : List Op). op ∷ rest) (with_line ops line)
+
+pub unprinted : {T E : Type 0} {tells : Bool} {old mid : Meaning Shelf} {x : T} (new : Meaning Shelf) (s : Rename) (v : Option ℕ) (line : List ℕ) → v ≡ number_of old.state s.serial.bytes → (item_on old.state s v).lines ≡ line ∷ [] → Runs {T = T} {E = E} tells (map Do (item_on old.state s v).operations) old mid (Ok x) → new.state ≡ mid.state
+    → new.state ≡ shelf_behind old.state (events_in (item_of old.state s))
+unprinted {old = old} new s v line found said first same =
+    same
+    ∙ first.shelf
+    ∙ ap (λ (ops : List Op). after_operations old.state ops) (with_line (item_on old.state s v).operations line)
+    ∙ ap (λ (es : List Event). shelf_behind old.state es) (events_found old.state s v line found said)

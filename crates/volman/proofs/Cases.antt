@@ -1,13 +1,15 @@
 -- Definitions on cases that a near reading answers otherwise.
-use Rattle.std.proofs.Common.{◌≡◌, ◌≤◌, ℕ, [], ◌∷◌, length, replicate, refl, inl, inr, ⊎_elim, ap, arith, length-append}
+use Rattle.std.proofs.Common.{◌≡◌, ◌≤◌, ℕ, List, [], ◌∷◌, get_or, length, replicate, refl, inl, inr, ⊎_elim, ap, arith, length-append}
 use Rattle.std.specs.Prelude.{◌⊎◌, Err, codes}
 use Rattle.ckd_image.specs.declared.header.Geometry.{Geometry}
 use Rattle.ckd_image.specs.declared.device.DiskType.TheVariants.{D2314}
 use Rattle.pack_spec.specs.declared.MountErr.TheVariants as mount
 use Rattle.volman.specs.Deck.{TakesAtMost}
 use Rattle.volman.specs.Machine.{numbers_of, shelf_in, texts_of}
-use Rattle.volman.specs.Run.{IsFinal, IsStatus, IsUnasked, IsUnbegun, file_asked}
-use Rattle.volman.specs.Words.{Names, Run}
+use Rattle.volman.specs.Run.{IsFinal, IsStatus, IsUnasked, IsUnbegun, code_of, file_asked}
+use Rattle.volman.specs.Words.{Request, Names, Run}
+use Rattle.volman.specs.declared.status.Status.{Status}
+use Rattle.volman.specs.declared.status.Status.TheVariants as status
 
 -- condition codes and refusals are final, faults and want of memory aren't
 codes_final : (n : ℕ) → n ≤ 16 → IsFinal n
@@ -31,6 +33,17 @@ no_statuses = (
     λ is. ⊎_elim (λ (few : 27 ≤ 16). omega (arith, few)) (λ (high : (20 ≤ 27) × (27 ≤ 26)). omega (arith, high.1)) is,
   ),
 )
+
+-- each that the program has a word for is one
+words_are_statuses : (s : Status) → IsStatus (code_of s)
+words_are_statuses status.Done = inl (omega arith)
+words_are_statuses status.Words = inr (omega arith, omega arith)
+words_are_statuses status.Unit = inr (omega arith, omega arith)
+words_are_statuses status.Device = inr (omega arith, omega arith)
+words_are_statuses status.Cards = inr (omega arith, omega arith)
+words_are_statuses status.Print = inr (omega arith, omega arith)
+words_are_statuses status.Memory = inr (omega arith, omega arith)
+words_are_statuses status.Deck = inr (omega arith, omega arith)
 
 -- with 21 a file was asked for, and nothing begun
 begun_none : IsUnbegun 20 × (IsUnbegun 21 × (IsUnbegun 23 × IsUnbegun 26))
@@ -62,6 +75,13 @@ run_asks = refl
 
 names_asks : file_asked (Names (codes "w.img")) ≡ codes "w.img"
 names_asks = refl
+
+-- a request is of one kind, and of one file
+kinds_apart : (file : List ℕ) → ¬ (Names file ≡ Run file)
+kinds_apart file is = cc is
+
+files_apart : ¬ (Run (codes "w.img") ≡ Run (codes "x.img"))
+files_apart is = let first : 119 ≡ 120 = ap (λ (r : Request). get_or (file_asked r) 0 0) is in absurd (omega (arith, first))
 
 -- of 84 bytes one stays
 one_stays : TakesAtMost 83 (replicate 84 65) [] → ⊥

@@ -1,6 +1,7 @@
 -- What a run may do to the facts of a hall, on cases that a near reading answers otherwise.
-use Rattle.std.proofs.Common.{◌≡◌, ◌≢◌, ◌<◌, ℕ, List, [], ◌∷◌, codes, length, get_or, None, Some, inl, inr, ⊎_elim, refl, ap, arith}
-use Rattle.hall_core.specs.Facts.{Attached, Facts}
+use Rattle.std.proofs.Common.{◌≡◌, ◌≢◌, ◌≤◌, ◌<◌, ℕ, List, [], ◌∷◌, codes, length, get_or, None, Some, inl, inr, ⊎_elim, refl, ap, arith}
+use Rattle.std.specs.Prelude.{◌⊎◌, ◌-◌, ◌^◌}
+use Rattle.hall_core.specs.Facts.{Attached, Facts, Rose}
 use Rattle.volman.specs.Run.{AttachesAsked, AttachesAtMost, CountsReported, Later, OnFile}
 use Rattle.volman.specs.Words.{Names, Run}
 
@@ -112,6 +113,29 @@ failed = record {
   units = inr (7, refl);
 }
 
+print_failed : OnFile w (facts [] 3 4) (facts [] 3 5) 24
+print_failed = record {
+  which = inr (inr (inr (inl refl)));
+  device = λ is. absurd (omega (arith, is));
+  print = λ is. omega arith;
+  reported = record { devices = λ other. refl; prints = λ other. absurd (other refl) };
+  later = record { devices = omega arith; prints = omega arith };
+  references = refl;
+  units = inl refl;
+}
+
+-- with a condition code, the file refused, or want of memory the counts stand still
+without_fault : (n : ℕ) → (n ≤ 16) ⊎ ((n ≡ 21) ⊎ (n ≡ 25)) → OnFile w (facts [] 3 4) (facts [] 3 4) n
+without_fault n which = record {
+  which = ⊎_elim (λ few. inl few) (λ more. ⊎_elim (λ refused. inr (inl refused)) (λ memory. inr (inr (inr (inr memory)))) more) which;
+  device = λ is. absurd (omega (arith, is, which));
+  print = λ is. absurd (omega (arith, is, which));
+  reported = record { devices = λ other. refl; prints = λ other. refl };
+  later = record { devices = omega arith; prints = omega arith };
+  references = refl;
+  units = inl refl;
+}
+
 -- no fault is reported that isn't counted
 device_uncounted : ¬ OnFile w (facts [] 3 4) (facts [] 3 4) 22
 device_uncounted call = absurd (omega (arith, call.device refl))
@@ -122,6 +146,13 @@ print_uncounted call = absurd (omega (arith, call.print refl))
 -- and none is counted that isn't reported
 device_unreported : ¬ OnFile w (facts [] 3 4) (facts [] 4 4) 21
 device_unreported call = absurd (omega (arith, call.reported.devices (λ is. absurd (omega (arith, is)))))
+
+print_unreported : ¬ OnFile w (facts [] 3 4) (facts [] 3 5) 22
+print_unreported call = absurd (omega (arith, call.reported.prints (λ is. absurd (omega (arith, is)))))
+
+-- nor does a count fall to its type's end from beyond it, though that is as far as it is to rise
+count_falls : Rose (2 ^ 64) (2 ^ 64 - 1) × (¬ OnFile w (facts [] (2 ^ 64) 4) (facts [] (2 ^ 64 - 1) 4) 22)
+count_falls = (omega arith, λ call. absurd (omega (arith, call.later.devices)))
 
 -- refusals of the words and of the deck, and a fault of the cards, come before there is a file
 none_on_a_file : (n : ℕ) → 16 < n → n ≢ 21 → n ≢ 22 → n ≢ 24 → n ≢ 25 → ¬ OnFile w (facts [] 3 4) (facts [] 3 4) n

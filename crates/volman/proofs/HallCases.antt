@@ -1,10 +1,13 @@
 -- What a hall over real files and a machine tell, on cases that a near reading of FileHall.antt, Machine.antt and Action.antt answers otherwise.
-use Rattle.std.proofs.Common.{◌≡◌, Bool, List, [], ◌∷◌, codes, refl}
+use Rattle.std.proofs.Common.{◌≡◌, Bool, List, [], ◌∷◌, map, codes, refl, inl, inr, ⊎_elim, ap}
 use Rattle.std.specs.Prelude.{string_bytes, Ok}
+use Rattle.std.specs.IoError.{error_kind}
+use Rattle.std.specs.declared.io.Error.{Error}
+use Rattle.std.specs.declared.io.ErrorKind.TheVariants.{NotFound, NotADirectory, PermissionDenied}
 use Rattle.ckd_image.specs.declared.device.DiskType.TheVariants.{D2311}
 use Rattle.hall_core.specs.Facts.{Attached}
 use Rattle.volman.specs.Action.{request_in}
-use Rattle.volman.specs.FileHall.{facts_of, units_of}
+use Rattle.volman.specs.FileHall.{SaysMissing, facts_of, notes_of, units_of}
 use Rattle.volman.specs.Machine.{base_of, shelf_in, status_of}
 use Rattle.volman.specs.declared.file_hall.Unit.{Unit}
 use Rattle.volman.specs.declared.file_hall.FileHall.{FileHall}
@@ -20,6 +23,22 @@ units_in_order u v = refl
 -- neither count of faults is the other, and no reference leads to such a hall
 counts_of_a_hall : {R : Type 0} (hall : FileHall R) → ((facts_of hall).dev_faults ≡ hall.dev_faults) × ((facts_of hall).print_faults ≡ hall.print_faults) × ((facts_of hall).references ≡ [])
 counts_of_a_hall hall = (refl, refl, refl)
+
+-- its units are all that it has
+units_of_a_hall : {R : Type 0} (hall : FileHall R) → (facts_of hall).units ≡ units_of hall.units.items
+units_of_a_hall hall = refl
+
+-- each note is that of its unit, in their order
+notes_of_a_hall : {R : Type 0} (hall : FileHall R) (u v : Unit) → hall.units.items ≡ u ∷ v ∷ [] → notes_of hall ≡ u.is_written ∷ v.is_written ∷ []
+notes_of_a_hall hall u v are = ap (map (λ (unit : Unit). unit.is_written)) are
+
+-- a file is missing where there is no such entry, and where its folder is none
+missing_files : ((e : Error) → error_kind e ≡ NotFound → SaysMissing e) × ((e : Error) → error_kind e ≡ NotADirectory → SaysMissing e)
+missing_files = (λ e found. inl found, λ e folder. inr folder)
+
+-- a file that may not be opened isn't missing
+denied_file : (e : Error) → error_kind e ≡ PermissionDenied → ¬ SaysMissing e
+denied_file e denied is = ⊎_elim (λ (found : error_kind e ≡ NotFound). absurd (cc (denied, found))) (λ (folder : error_kind e ≡ NotADirectory). absurd (cc (denied, folder))) is
 
 -- a pack that mounts is one volume
 one_volume : (volume : Volume) → shelf_in (Ok volume) ≡ record { volumes = volume ∷ [] }

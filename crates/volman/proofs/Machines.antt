@@ -8,8 +8,9 @@ use Rattle.ckd_image.specs.Device.{row_of}
 use Rattle.ckd_image.specs.declared.device.DiskType.{DiskType}
 use Rattle.ckd_image.specs.declared.device.DiskType.TheVariants.{D2311, D2314, D3330}
 use Rattle.ckd_image.specs.declared.header.Geometry.{Geometry}
-use Rattle.dadsm_ops.specs.Naming.{PutsName, RenamesSet, RenamesSome, WritesName}
+use Rattle.dadsm_ops.specs.Naming.{PutsName, RenamesSet, RenamesSome, WritesName, refusal_in}
 use Rattle.dadsm_ops.specs.Operations.{ChangesVtoc, Operates, StoreAnswers, image_named}
+use Rattle.dadsm_ops.proofs.Refusals.{refused_in_index}
 use Rattle.ebcdic_names.specs.declared.names.Dsn.{Dsn}
 use Rattle.hall_core.specs.Facts.{Attached, Facts, unit_of}
 use Rattle.hall_core.specs.Files.{AfterPrint, File, IsPrefixOf}
@@ -75,6 +76,28 @@ unfolding step
 not_there volume zero old new other = absurd (other refl)
 not_there volume (suc v) old new other = refl
 
+-- what the shelf refuses the volume does
+refused_there : (shelf : Shelf) (stepped : Result Volume Refusal) (why : Refusal) → with_volume shelf 0 stepped ≡ Err why → stepped ≡ Err why
+refused_there shelf (Ok volume) why is = absurd (cc is)
+refused_there shelf (Err r) why is = let same : Err r ≡ Err why = is in cc
+
+-- what has a step isn't refused, and what is refused has one reason
+stepped_not_refused : {T : Type 0} (stepped : Result Shelf Refusal) (after : Shelf) (r : Refusal) (result : Result T MachErr) → stepped ≡ Ok after → stepped ≡ Err r → result ≡ Err (mach.Refused r)
+stepped_not_refused stepped after r result is refused = let never = sym is ∙ refused in absurd (cc never)
+
+one_reason : {T : Type 0} (stepped : Result Shelf Refusal) (why r : Refusal) → stepped ≡ Err why → stepped ≡ Err r → ◌≡◌ {A = Result T MachErr} (Err (mach.Refused why)) (Err (mach.Refused r))
+one_reason stepped why r is refused = let same = sym is ∙ refused in cc
+
+-- what the index doesn't refuse the shelf doesn't
+not_refused : {T : Type 0} (name : List ℕ) (files : List File) (v : Vol) (old new : Dsn) (r : Refusal) (result : Result T MachErr) → IsMounted (image_named files name) v → refusal_in v.slots.items old.bytes new.bytes ≡ None → step (shelf_named name files) (Rename 0 old new) ≡ Err r → result ≡ Err (mach.Refused r)
+not_refused name files v old new r result mounted none refused =
+    let image = image_named files name in
+    let volume = volume_with v.geometry (unwrap_or (label_of image v.geometry) []) v.vtoc (slots_of_vtoc image v.geometry v.vtoc) in
+    let here : step (shelf_with volume) (Rename 0 old new) ≡ Err r = sym (ap (λ (s : Shelf). step s (Rename 0 old new)) (ap shelf_in mounted.volume)) ∙ refused in
+    let there : rename_on old new volume ≡ Err r = refused_there (shelf_with volume) (rename_on old new volume) r (sym (step_of volume old new (rename_on old new volume) refl) ∙ here) in
+    let never = sym none ∙ refused_in_index image v old new volume mounted mounted.volume r there in
+    absurd (cc never)
+
 -- what was promised of stops is promised where nothing but the time changes
 keeps_same : {name : List ℕ} {m m' : Meaning (List File)} {g : Geometry} {vtoc : Run} → CountsNow m → Same m m' → Keeps m.clock [] (ChangesOnlyNames name g vtoc m) (ChangesOnlyNames name g vtoc m')
 keeps_same {m = m} counts same ops t files early was j p left =
@@ -124,38 +147,53 @@ module _ {name : List ℕ} {m m' : Meaning (List File)} {v : Vol} (old new : Dsn
 
   -- it is done
   pub applies_done : {T E : Type 0} (x : T) (y : E) → Operates name (rename_on old new) v m m' (Ok x) → Applies (Rename 0 old new) (seen (shelf_named name) m) (seen (shelf_named name) m') (Ok y)
-  applies_done x y run = record {
-    answer =
-        ap (λ (s : Shelf). step s (Rename 0 old new)) (ap shelf_in run.before)
-        ∙ step_of run.volume old new (Ok run.answer.after) run.answer.step
-        ∙ ap (λ (r : Result Volume _). Ok (shelf_in r)) (sym run.answer.stands);
-    idle = idle_seen (Ok y) (λ short. cc) run;
+  applies_done x y run =
+      let stepped =
+      ap (λ (s : Shelf). step s (Rename 0 old new)) (ap shelf_in run.before)
+      ∙ step_of run.volume old new (Ok run.answer.after) run.answer.step
+      ∙ ap (λ (r : Result Volume _). Ok (shelf_in r)) (sym run.answer.stands) in
+      record {
+        answer = stepped;
+        refused = λ known r refused. stepped_not_refused _ _ r (Ok y) stepped refused;
+        idle = idle_seen (Ok y) (λ short. cc) run;
+        printed = run.printed;
+        moments = moments run;
+      }
+
+  -- the device failed, in a rename that the index doesn't refuse
+  pub applies_fault : {T E : Type 0} {r : Result T StoreErr} (w : Vol) → IsMounted (image_named m.state name) w → refusal_in w.slots.items old.bytes new.bytes ≡ None → Operates name (rename_on old new) v m m' r → Applies {T = E} (Rename 0 old new) (seen (shelf_named name) m) (seen (shelf_named name) m') (Err mach.Device)
+  applies_fault w mounted none run = record {
+    answer = tt;
+    refused = λ known r refused. not_refused name m.state w old new r (Err mach.Device) mounted none refused;
+    idle = idle_seen (Err mach.Device) (λ short. let wrong = short in cc) run;
     printed = run.printed;
     moments = moments run;
   }
-
-  -- the device failed
-  pub applies_fault : {T E : Type 0} {r : Result T StoreErr} → Operates name (rename_on old new) v m m' r → Applies {T = E} (Rename 0 old new) (seen (shelf_named name) m) (seen (shelf_named name) m') (Err mach.Device)
-  applies_fault run = record { answer = tt; idle = idle_seen (Err mach.Device) (λ short. let wrong = short in cc) run; printed = run.printed; moments = moments run }
 
   -- it is refused, and nothing was changed
   pub applies_refused : {T E : Type 0} {result : Result T StoreErr} (r : Refusal) → result ≡ Err (store.Refused r) → m'.state ≡ m.state → Operates name (rename_on old new) v m m' result → Applies {T = E} (Rename 0 old new) (seen (shelf_named name) m) (seen (shelf_named name) m') (Err (mach.Refused r))
-  applies_refused r is same run = record {
-    answer = (ap (λ (s : Shelf). step s (Rename 0 old new)) (ap shelf_in run.before) ∙ step_of run.volume old new (Err r) (subst (λ x. StoreAnswers name (rename_on old new run.volume) v m.state m' x) is run.answer), ap (shelf_named name) same);
-    idle = idle_seen (Err (mach.Refused r)) (λ short. let wrong = short in cc) run;
-    printed = run.printed;
-    moments = moments run;
-  }
+  applies_refused r is same run =
+      let stepped = ap (λ (s : Shelf). step s (Rename 0 old new)) (ap shelf_in run.before) ∙ step_of run.volume old new (Err r) (subst (λ x. StoreAnswers name (rename_on old new run.volume) v m.state m' x) is run.answer) in
+      record {
+        answer = (stepped, ap (shelf_named name) same);
+        refused = λ known why refused. one_reason _ r why stepped refused;
+        idle = idle_seen (Err (mach.Refused r)) (λ short. let wrong = short in cc) run;
+        printed = run.printed;
+        moments = moments run;
+      }
 
 -- there is no such volume
 pub applies_elsewhere : {E : Type 0} (name : List ℕ) (m : Meaning (List File)) (volume : Volume) (v : ℕ) (old new : Dsn) → CountsNow m → volume_of (image_named m.state name) ≡ Ok volume → v ≢ 0
     → Applies {T = E} (Rename v old new) (seen (shelf_named name) m) (seen (shelf_named name) m) (Err (mach.Refused NoVolume))
-applies_elsewhere name m volume v old new counts stands other = record {
-  answer = (ap (λ (s : Shelf). step s (Rename v old new)) (ap shelf_in stands) ∙ not_there volume v old new other, refl);
-  idle = λ idle. same_none (seen (shelf_named name) m) (counts_now_seen (shelf_named name) m counts);
-  printed = refl;
-  moments = elapses_none _ _;
-}
+applies_elsewhere name m volume v old new counts stands other =
+    let stepped = ap (λ (s : Shelf). step s (Rename v old new)) (ap shelf_in stands) ∙ not_there volume v old new other in
+    record {
+      answer = (stepped, refl);
+      refused = λ known why refused. one_reason _ NoVolume why stepped refused;
+      idle = λ idle. same_none (seen (shelf_named name) m) (counts_now_seen (shelf_named name) m counts);
+      printed = refl;
+      moments = elapses_none _ _;
+    }
 
 -- files before a data set is put under its new name, or then
 renamed_or_not : {T E : Type 0} {name : List ℕ} {v : Vol} (from to : Dsn) {m m' : Meaning (List File)} {r : Result T E} (files : List File) → IsMounted (image_named m.state name) v → (puts : PutsName name v from.bytes to.bytes m m' r) → (files ≡ m.state) ⊎ (files ≡ puts.after) → (files ≡ m.state) ⊎ RenamesSet name from to m.state files

@@ -3,7 +3,7 @@ use Rattle.std.proofs.Common.{◌≡◌, ◌≤◌, ℕ, List, [], ◌++◌, len
 use Rattle.std.specs.Prelude.{◌⊎◌}
 use Rattle.hall_core.specs.Files.{File}
 use Rattle.hall_core.specs.Moments.{Meaning}
-use Rattle.volman.specs.Run.{AddsPrefix, Does, IsFinal, KeepsFiles, PrintsText}
+use Rattle.volman.specs.Run.{AddsPrefix, Does, IsEnd, IsFinal, IsSafe, IsUnprinted, KeepsFiles, PrintsText}
 use Rattle.volman.specs.Task.{Says}
 use Rattle.volman.proofs.MomentCases.{apart, at_rest, files, others}
 
@@ -95,6 +95,24 @@ part_with_0 prints = absurd (omega (arith, ap length (prints.done (λ is. absurd
 part_with_25 : ¬ PrintsText (codes "AB") before (printing (codes "AB") (codes "A")) 25
 part_with_25 prints = absurd (omega (arith, ap length (prints.done (λ is. absurd (omega (arith, is))))))
 
+-- behind what was printed before, not in its place
+abbrev printing_behind : List ℕ → Meaning (List File)
+printing_behind printed = record (printing (codes "AB") printed) { left_since = λ t j p. (j ≡ files) × AddsPrefix (codes "AB") (codes "Z") p }
+
+prints_behind : (printed : List ℕ) → AddsPrefix (codes "AB") (codes "Z") printed → KeepsFiles (codes "AB") (at_rest files (codes "Z") 0) (printing_behind printed)
+prints_behind printed adds = record {
+  files = refl;
+  left = λ j. (λ left. left, λ left. left);
+  printed = adds;
+  moments = record { later = omega arith; moments = λ t j p early left. inr left; keeps = λ t j p early left. (left.0, ([], (codes "AB", refl), left.1)) };
+}
+
+behind_another : PrintsText (codes "AB") (at_rest files (codes "Z") 0) (printing_behind (codes "ZAB")) 0
+behind_another = record { done = λ other. refl; files = prints_behind (codes "ZAB") (codes "AB", ([], refl), refl) }
+
+instead_of_another : ¬ PrintsText (codes "AB") (at_rest files (codes "Z") 0) (printing (codes "AB") (codes "AB")) 0
+instead_of_another prints = added_instead prints.files.printed
+
 -- and nothing is printed that the text doesn't begin with
 other_with_24 : ¬ PrintsText (codes "AB") before (printing (codes "AB") (codes "B")) 24
 other_with_24 prints = text_added prints.files
@@ -104,17 +122,55 @@ other_with_24 prints = text_added prints.files
 pub no_end : (n : ℕ) → 22 ≤ n → n ≤ 25 → ¬ IsFinal n
 no_end n low high final = ⊎_elim (λ (few : n ≤ 21). omega (arith, low, few)) (λ (deck : n ≡ 26). omega (arith, high, deck)) final
 
+-- its end is its own status, and the whole text behind what was printed; of the files nothing is said there
+ends_with_21 : IsEnd (Says 21 (codes "AB")) (at_rest files (codes "Z") 0) (at_rest others (codes "ZAB") 1) 21
+ends_with_21 = (refl, refl)
+
+ends_with_20 : ¬ IsEnd (Says 21 (codes "AB")) before (printing (codes "AB") (codes "AB")) 20
+ends_with_20 end = absurd (omega (arith, end.0))
+
+ends_in_a_part : ¬ IsEnd (Says 21 (codes "AB")) before (printing (codes "AB") (codes "A")) 21
+ends_in_a_part end = absurd (omega (arith, ap length end.1))
+
+ends_in_place : ¬ IsEnd (Says 21 (codes "AB")) (at_rest files (codes "Z") 0) (at_rest files (codes "AB") 1) 21
+ends_in_place end = absurd (omega (arith, ap length end.1))
+
+-- a part is safe, whatever status the whole has
+part_is_safe : (code : ℕ) → IsSafe (Says code (codes "AB")) before (printing (codes "AB") (codes "A"))
+part_is_safe code = part_printed
+
+-- a file that is changed isn't, nor another text, though all of the text was said
+file_is_not_safe : ¬ IsSafe (Says 0 (codes "AB")) before (record (printing (codes "AB") (codes "AB")) { state = others })
+file_is_not_safe safe = file_changed safe
+
+text_is_not_safe : ¬ IsSafe (Says 0 (codes "AB")) before (printing (codes "AB") (codes "ABA"))
+text_is_not_safe safe = added_more safe.printed
+
+-- where the printer failed a part was printed, whatever status the whole has, and no other text; and no file is changed
+unprinted_in_part : (code : ℕ) → IsUnprinted (Says code (codes "AB")) before (printing (codes "AB") (codes "A"))
+unprinted_in_part code = part_printed
+
+unprinted_with_another : ¬ IsUnprinted (Says 0 (codes "AB")) before (printing (codes "AB") (codes "B"))
+unprinted_with_another left = text_added left
+
+unprinted_and_changed : ¬ IsUnprinted (Says 0 (codes "AB")) before (record (printing (codes "AB") (codes "A")) { state = others })
+unprinted_and_changed left = apart left.files
+
 -- said whole, with its own status
 said : Does (Says 21 (codes "AB")) before (printing (codes "AB") (codes "AB")) 21
-said = record { ends = λ final. (refl, refl); silent = λ is. absurd (omega (arith, is)); stops = whole_printed }
+said = record { ends = λ final. (refl, refl); unprinted = λ is. whole_printed; silent = λ is. absurd (omega (arith, is)); stops = whole_printed }
 
 -- or in part, with a fault
 said_in_part : Does (Says 21 (codes "AB")) before (printing (codes "AB") (codes "A")) 24
-said_in_part = record { ends = λ final. absurd (no_end 24 (omega arith) (omega arith) final); silent = λ is. absurd (omega (arith, is)); stops = part_printed }
+said_in_part = record { ends = λ final. absurd (no_end 24 (omega arith) (omega arith) final); unprinted = λ is. part_printed; silent = λ is. absurd (omega (arith, is)); stops = part_printed }
 
 -- or not at all, for want of memory
 said_nothing : Does (Says 21 (codes "AB")) before (printing (codes "AB") []) 25
-said_nothing = record { ends = λ final. absurd (no_end 25 (omega arith) (omega arith) final); silent = λ is. refl; stops = prints _ _ (begins_none (codes "AB")) }
+said_nothing = record { ends = λ final. absurd (no_end 25 (omega arith) (omega arith) final); unprinted = λ is. prints _ _ (begins_none (codes "AB")); silent = λ is. refl; stops = prints _ _ (begins_none (codes "AB")) }
+
+-- where another text stays as it was printed before
+said_nothing_behind : Does (Says 21 (codes "AB")) (at_rest files (codes "Z") 0) (printing_behind (codes "Z")) 25
+said_nothing_behind = record { ends = λ final. absurd (no_end 25 (omega arith) (omega arith) final); unprinted = λ is. prints_behind (codes "Z") ([], (codes "AB", refl), refl); silent = λ is. refl; stops = prints_behind (codes "Z") ([], (codes "AB", refl), refl) }
 
 -- a part isn't the whole, nor another final status its own
 part_is_not_all : ¬ Does (Says 21 (codes "AB")) before (printing (codes "AB") (codes "A")) 21

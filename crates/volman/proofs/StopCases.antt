@@ -3,21 +3,25 @@ use Rattle.std.proofs.Common.{◌≡◌, ◌≢◌, ◌≤◌, ℕ, zero, suc, L
 use Rattle.std.specs.Prelude.{◌⊎◌, Ok, Err, take}
 use Rattle.dadsm_ops.proofs.RenameSetCases as renames
 use Rattle.dadsm_ops.proofs.SmallFiles as small
-use Rattle.dadsm_ops.specs.Operations.{ChangesVtoc, image_named}
+use Rattle.ckd_image.specs.declared.header.Geometry.{Geometry}
+use Rattle.dadsm_ops.specs.Operations.{ChangesVtoc, IsIn, image_named}
 use Rattle.ebcdic_names.specs.declared.names.Dsn.{Dsn}
 use Rattle.hall_core.specs.Files.{File}
 use Rattle.hall_core.specs.Moments.{Meaning}
+use Rattle.pack_spec.specs.Label.{track_bytes}
 use Rattle.pack_spec.specs.Volume.{volume_of}
 use Rattle.pack_spec.specs.declared.MountErr.{MountErr}
 use Rattle.vol_model.specs.Events.{Event, StandsIn, begun, behind, events_of, shelf_after}
 use Rattle.vol_model.specs.Shelf.{step}
+use Rattle.vol_model.specs.declared.contents.Run.{Run}
 use Rattle.vol_model.specs.declared.contents.Shelf.{Shelf}
 use Rattle.vol_model.specs.declared.contents.Volume.{Volume}
 use Rattle.vol_model.specs.declared.requests.Op.{Op}
 use Rattle.vol_model.specs.declared.requests.Op.TheVariants.{Rename}
 use Rattle.vtoc_index.proofs.SmallPack.{a, b, c, data_set, set_bytes}
-use Rattle.volman.specs.Machine.{ChangesOnlyNames, shelf_in, shelf_named, shelf_with}
-use Rattle.volman.specs.Run.{StopsInItems, StandsFor, StopStands}
+use Rattle.volman.specs.Machine.{ChangesNames, ChangesOnlyNames, shelf_in, shelf_named, shelf_with}
+use Rattle.volman.specs.Run.{IsSafe, StopsInItems, StandsFor, StopStands}
+use Rattle.volman.specs.Task.{Works}
 use Rattle.volman.proofs.MomentCases.{at_rest}
 use Rattle.volman.proofs.Reported.{before_or_behind, behind_whole, line_alone, one_volume}
 use Rattle.volman.proofs.CasePacks.{Changes, beside, beside_stays, file, none_beside, idle, item, line, pack, stands_once, unchanged}
@@ -89,6 +93,27 @@ module _ (volume after : Volume) (op : Op) (image image' : List ℕ) (stands : v
 
   printed_lost : ¬ StopStands file volume (item op ∷ []) (at_rest (pack image) (codes "Z") 0) (pack image) []
   printed_lost stop = absurd (omega (arith, ap length stop.text))
+
+  -- nor is it counted to the line: two bytes of which one was printed before are no whole line of two
+  line_behind_another : StopStands file volume (item op ∷ []) (at_rest (pack image) (codes "Z") 0) (pack image') (codes "ZA\n")
+  line_behind_another = record {
+    shelf = shelf_with after;
+    stands = (after, stands', refl);
+    front = line;
+    text = refl;
+    place = record { prefix = ([], refl); count = 1; least = omega arith; most = omega arith; state = sym done_shelf };
+    changes = changed;
+  }
+
+  part_behind_another : StopStands file volume (item op ∷ []) (at_rest (pack image) (codes "Z") 0) (pack image) (codes "ZA")
+  part_behind_another = record {
+    shelf = shelf_with volume;
+    stands = (volume, stands, refl);
+    front = codes "A";
+    text = refl;
+    place = record { prefix = (codes "\n", refl); count = 0; least = omega arith; most = omega arith; state = refl };
+    changes = unchanged volume (op ∷ []) (pack image);
+  }
 
   -- the image isn't that of a third volume, nor none
   third_volume : (image'' : List ℕ) (other : Volume) → volume_of image'' ≡ Ok other → other ≢ volume → other ≢ after → ¬ Stops (pack image'') []
@@ -171,6 +196,9 @@ module _ (volume after : Volume) (op : Op) (image image' : List ℕ) (stands : v
   pub keeps : StopsInItems file volume (item op ∷ []) before done
   keeps = record { later = omega arith; stops = stop_behind }
 
+  pub keeps_all : StopsInItems file volume (item op ∷ []) before (at_rest (pack image) [] 1)
+  keeps_all = record { later = omega arith; stops = λ files printed is. subst (λ (fs : List File). Stops fs printed) (sym is.0) (subst (λ (p : List ℕ). Stops (pack image) p) (sym is.1) nothing_printed_before) }
+
   -- time doesn't go back, though each stop is as it may be
   time_back : ¬ StopsInItems file volume (item op ∷ []) (at_rest (pack image) [] 2) done
   time_back all = absurd (omega (arith, all.later))
@@ -178,6 +206,16 @@ module _ (volume after : Volume) (op : Op) (image image' : List ℕ) (stands : v
   -- a stop on the way counts, not those since the end alone
   stopped_wrongly : ¬ StopsInItems file volume (item op ∷ []) before (record done { left_since = λ t j p. ((t ≤ 0) × ((j ≡ pack image) × (p ≡ line))) ⊎ ((j ≡ pack image') × (p ≡ line)) })
   stopped_wrongly all = line_without_operation (all.stops (pack image) line (inl (omega arith, (refl, refl))))
+
+  -- safe is what a stop may leave: all, and nothing as well, whatever comes of it; a line without its operation isn't
+  all_is_safe : IsSafe (Works file volume (item op ∷ [])) before done
+  all_is_safe = keeps
+
+  nothing_is_safe : IsSafe (Works file volume (item op ∷ [])) before (at_rest (pack image) [] 1)
+  nothing_is_safe = keeps_all
+
+  line_is_not_safe : ¬ IsSafe (Works file volume (item op ∷ [])) before (at_rest (pack image) line 1)
+  line_is_not_safe safe = line_without_operation (safe.stops (pack image) line (refl, refl))
 
   -- one before the begin doesn't: there may have been other files
   before_the_begin : StopsInItems file volume (item op ∷ []) (at_rest (pack image) [] 1) (record done { left_since = λ t j p. ((t ≤ 0) × (j ≡ [])) ⊎ ((j ≡ pack image') × (p ≡ line)) })
@@ -187,6 +225,14 @@ module _ (volume after : Volume) (op : Op) (image image' : List ℕ) (stands : v
   }
 
   -- ---- the names alone
+
+  -- a rename that is one of these changes no track outside the VTOC that is named
+  other_tracks : (run : Run) (track : ℕ) → ¬ IsIn run track → track_bytes image' volume.geometry track ≢ track_bytes image volume.geometry track → ¬ ChangesNames file volume.geometry run (op ∷ []) (pack image) (pack image')
+  other_tracks run track outside other changes = other (changes.tracks.image.tracks track outside)
+
+  -- and no track within it changes but by such a one
+  no_operation : (image'' : List ℕ) → ChangesVtoc file volume.geometry volume.vtoc (pack image) (pack image'') → image'' ≢ image → ¬ ChangesNames file volume.geometry volume.vtoc [] (pack image) (pack image'')
+  no_operation image'' tracks other changes = other (ap (λ (fs : List File). image_named fs file) changes.renames)
 
   only_names : ChangesOnlyNames file volume.geometry volume.vtoc done (op ∷ []) 0 (pack image)
   only_names j p left = subst (λ (fs : List File). Changes volume (op ∷ []) (pack image) fs) (sym left.0) changed
@@ -211,7 +257,10 @@ module _ (volume after : Volume) (op : Op) (image image' : List ℕ) (stands : v
 
 -- ---- the bytes of names, on a pack with two sets that are alike in all but these
 
--- a byte of the VTOC is another that is none of a name: the last of the slot that has the new one
+-- a byte of the VTOC is another that is none of a name: the last of the slot that has the new one; no rename makes it so, and no stop leaves it so
+other_byte_changed : (g : Geometry) (vtoc : Run) → ¬ ChangesNames small.pack g vtoc (renames.rename a c ∷ []) renames.before (renames.having (data_set b) (c ++ take 95 set_bytes ++ 9 ∷ []))
+other_byte_changed g vtoc changes = renames.other_bytes_stay changes.renames
+
 other_byte : (volume : Volume) (q : List ℕ) → ¬ StopStands small.pack volume (item (renames.rename a c) ∷ []) (at_rest renames.before [] 0) (renames.having (data_set b) (c ++ take 95 set_bytes ++ 9 ∷ [])) q
 other_byte volume q stop = renames.other_bytes_stay stop.changes.renames
 

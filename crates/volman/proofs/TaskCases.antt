@@ -1,10 +1,14 @@
 -- What is to be done, and what the program promises of it, on cases that a near reading of Task.antt, Mount.antt and Run.antt answers otherwise.
 use Rattle.std.proofs.Common.{◌≡◌, ◌≢◌, ◌≤◌, ℕ, true, false, List, [], ◌∷◌, length, codes, get_or, Some, None, inl, refl, sym, ap, subst, ◌∙◌, arith}
 use Rattle.std.proofs.lemmas.List.{append-nil}
-use Rattle.std.specs.Prelude.{Option, Result, Ok, Err}
+use Rattle.std.specs.Prelude.{Option, Result, Ok, Err, take}
+use Rattle.ckd_image.specs.Header.{geometry_of}
+use Rattle.ckd_image.specs.declared.header.Geometry.{Geometry}
+use Rattle.ckd_image.specs.declared.header.ImageErr.{ImageErr}
 use Rattle.ebcdic_names.specs.CodePage.{ascii_of, code_page}
 use Rattle.ebcdic_names.specs.Names.{shown}
 use Rattle.hall_core.specs.Files.{File}
+use Rattle.hall_core.specs.Moments.{Meaning}
 use Rattle.pack_spec.specs.Volume.{volume_of}
 use Rattle.pack_spec.specs.declared.MountErr.{MountErr}
 use Rattle.pack_spec.specs.declared.MountErr.TheVariants as mount
@@ -15,11 +19,11 @@ use Rattle.vol_model.specs.declared.contents.Volume.{Volume}
 use Rattle.vtoc_index.specs.Index.{IsMounted}
 use Rattle.vtoc_index.specs.declared.vol.Vol.{Vol}
 use Rattle.volman.specs.Deck.{deck_of}
-use Rattle.volman.specs.Lines.{deck_line, name_line, names_listing, reason_of, unit_line, words_line}
+use Rattle.volman.specs.Lines.{deck_line, image_reason, name_line, names_listing, reason_of, unit_line, words_line}
 use Rattle.volman.specs.Mount.{IsPackIn, RefusesFile}
 use Rattle.volman.specs.Run.{Does, Headline, code_of}
 use Rattle.volman.specs.Statement.{item_of}
-use Rattle.volman.specs.Task.{Task, Says, Works, names_task, statement_task, task_for, task_of}
+use Rattle.volman.specs.Task.{Task, Says, Works, deck_task, names_task, statement_task, task_for, task_of, task_on}
 use Rattle.volman.specs.Words.{Names, Run}
 use Rattle.volman.specs.declared.status.Status.TheVariants as status
 use Rattle.volman.proofs.PrintCases.{before, printing, prints}
@@ -35,6 +39,42 @@ w = codes "w.img"
 -- a hall that has the file with this image, behind one of another name; `files` has another name alone
 abbrev with_image : List ℕ → List File
 with_image image = record { name = codes "x.img"; bytes = [] } ∷ record { name = codes "w.img"; bytes = image } ∷ []
+
+-- ---- a file, and a deck over one
+
+-- a missing file is refused by its name, whatever is to be done
+missing_file : (task : Volume → Task) → task_on w task None ≡ Says 21 (codes "VOLMAN UNIT w.img NO-FILE\n")
+unfolding unit_line reason_of
+missing_file task = refl
+
+-- an empty one isn't missing
+empty_file : (task : Volume → Task) → task_on w task (Some []) ≡ Says 21 (codes "VOLMAN UNIT w.img BAD-MAGIC\n")
+unfolding unit_line reason_of image_reason volume_of geometry_of
+empty_file task = refl
+
+-- an image that doesn't mount is refused for that, and one that does has the task of its own volume
+unmounted_file : (task : Volume → Task) (image : List ℕ) (e : MountErr) → volume_of image ≡ Err e → task_on w task (Some image) ≡ Says 21 (unit_line w e)
+unmounted_file task image e fails = ap (task_for w task) fails
+
+mounted_file : (task : Volume → Task) (image : List ℕ) (volume : Volume) → volume_of image ≡ Ok volume → task_on w task (Some image) ≡ task volume
+mounted_file task image volume stands = ap (task_for w task) stands
+
+-- a deck that is refused is so over each file, also over one that is there
+refused_deck : (image : List ℕ) → deck_task w None (with_image image) ≡ Says 26 (codes "VOLMAN DECK FORM\n")
+unfolding deck_line
+refused_deck image = refl
+
+-- one that isn't is over the file of this name: not over another that is there, and it isn't refused for what another lacks
+deck_over_none : (s : Rename) → deck_task w (Some s) files ≡ Says 21 (codes "VOLMAN UNIT w.img NO-FILE\n")
+unfolding unit_line reason_of
+deck_over_none s = refl
+
+deck_over_another : (s : Rename) (image : List ℕ) → deck_task (codes "x.img") (Some s) (with_image image) ≡ Says 21 (codes "VOLMAN UNIT x.img BAD-MAGIC\n")
+unfolding unit_line reason_of image_reason volume_of geometry_of
+deck_over_another s image = refl
+
+deck_over_a_pack : (s : Rename) (image : List ℕ) (volume : Volume) → volume_of image ≡ Ok volume → deck_task w (Some s) (with_image image) ≡ Works w volume (item_of (record { volumes = volume ∷ [] }) s ∷ [])
+deck_over_a_pack s image volume stands = ap (task_for w (statement_task w s)) stands
 
 -- ---- what is to be done
 
@@ -91,6 +131,14 @@ broken_pack v image e fails found =
     let wrong = sym fails ∙ ap volume_of same ∙ found.mounted.volume in
     absurd (cc)
 
+-- nor is the index that of an image with another geometry
+other_index : (v : Vol) (image : List ℕ) (g : Geometry) → geometry_of (take 512 image) (length image) ≡ Ok g → g ≢ v.geometry → ¬ IsPackIn w (with_image image) v
+other_index v image g header other found =
+    let here : ◌≡◌ {A = Option (List ℕ)} (Some image) (Some found.image) = found.there in
+    let same : image ≡ found.image = cc in
+    let is : ◌≡◌ {A = Result Geometry ImageErr} (Ok g) (Ok v.geometry) = sym header ∙ ap (λ (l : List ℕ). geometry_of (take 512 l) (length l)) same ∙ found.mounted.index.header in
+    other cc
+
 -- one that mounts is, behind any other file
 pack_found : (v : Vol) (image : List ℕ) → IsMounted image v → IsPackIn w (with_image image) v
 pack_found v image mounted = record { image = image; there = refl; mounted = mounted }
@@ -143,7 +191,7 @@ other_deck headline =
 
 -- a text that was said whole
 said_whole : (code : ℕ) (text : List ℕ) → code ≢ 25 → Does (Says code text) before (printing text text) code
-said_whole code text ample = record { ends = λ final. (refl, refl); silent = λ is. absurd (ample is); stops = prints text text (text, ([], append-nil text), refl) }
+said_whole code text ample = record { ends = λ final. (refl, refl); unprinted = λ is. prints text text (text, ([], append-nil text), refl); silent = λ is. absurd (ample is); stops = prints text text (text, ([], append-nil text), refl) }
 
 -- where they don't tell it, some deck was read, which may have been a statement
 untold_deck : (s : Rename) → Headline (Some (Run w)) false (codes "X") before (printing (unit_line w mount.NoFile) (unit_line w mount.NoFile)) 21
@@ -163,6 +211,15 @@ words_refused input = record { deck = deck_of input; given = λ told. refl; does
 words_with : (input text : List ℕ) (n : ℕ) → n ≤ 21 → n ≢ 20 → ¬ Headline None true input before (printing text text) n
 unfolding task_of
 words_with input text n final other headline = other (headline.does.ends (inl final)).0
+
+-- the task is by the files at the begin, whatever files there are in the end
+task_at_the_begin : (s : Rename) (image input : List ℕ) (volume : Volume) (new : Meaning (List File)) (code : ℕ) → deck_of input ≡ Some s → volume_of image ≡ Ok volume
+    → Does (Works w volume (item_of (record { volumes = volume ∷ [] }) s ∷ [])) (at_rest (with_image image) [] 0) new code → Headline (Some (Run w)) true input (at_rest (with_image image) [] 0) new code
+task_at_the_begin s image input volume new code deck stands does = record {
+  deck = Some s;
+  given = λ told. sym deck;
+  does = subst (λ (task : Task). Does task (at_rest (with_image image) [] 0) new code) (sym (statement_last s image volume stands)) does;
+}
 
 -- A code of 0 says that the data set has the new name: not where nothing was done.
 nothing_done : (s : Rename) (image input : List ℕ) (volume : Volume) → deck_of input ≡ Some s → AreBytes image → volume_of image ≡ Ok volume → HasOnly s.old.bytes s.new.bytes volume

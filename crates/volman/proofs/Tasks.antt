@@ -77,13 +77,14 @@ text_said {text} {old} {mid} {new} code result ample same prints which = record 
       (λ (is : result ≡ code). (is, prints.done (λ (failed : result ≡ 24). fault_ends result failed final) ∙ ap (λ (l : List ℕ). l ++ text) same.printed))
       (λ (failed : result ≡ 24). absurd (fault_ends result failed final))
       which;
+  unprinted = λ _. kept_then same prints.files;
   silent = λ (short : result ≡ 25). ⊎_elim (λ (is : result ≡ code). absurd (ample (sym is ∙ short))) (λ (failed : result ≡ 24). absurd (omega (arith, failed, short))) which;
   stops = kept_then same prints.files;
 }
 
 -- nothing was said
 pub nothing_said : (text : List ℕ) {old new : Meaning (List File)} (code result : ℕ) → Same old new → ¬ IsFinal result → Does (Says code text) old new result
-nothing_said text code result same other = record { ends = λ final. absurd (other final); silent = λ short. same.printed; stops = files_kept text same }
+nothing_said text code result same other = record { ends = λ final. absurd (other final); unprinted = λ _. files_kept text same; silent = λ short. same.printed; stops = files_kept text same }
 
 -- the files stay through calls that change nothing and others that keep them
 pub files_then : {old mid : Meaning (List File)} (new : Meaning (List File)) → Same old mid → LeavesFiles mid new → LeavesFiles old new

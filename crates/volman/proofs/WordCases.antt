@@ -7,15 +7,18 @@ use Rattle.std.specs.Ordering.{nat_cmp}
 use Rattle.ckd_image.specs.declared.header.ImageErr.TheVariants as image
 use Rattle.dscb_codec.specs.declared.Dscb.TheVariants as formats
 use Rattle.dscb_codec.specs.declared.F1.{F1}
+use Rattle.dscb_codec.specs.declared.F3.{F3}
+use Rattle.dscb_codec.specs.declared.F4.{F4}
+use Rattle.dscb_codec.specs.declared.F5.{F5}
 use Rattle.ebcdic_names.specs.CodePage.{ascii_of, code_page}
 use Rattle.ebcdic_names.specs.Names.{byte_of, char_faults, shown}
 use Rattle.pack_spec.specs.declared.MountErr.TheVariants as mount
 use Rattle.util_syntax.specs.Statement.{rename_of}
 use Rattle.vol_model.specs.declared.contents.DataSet.{DataSet}
 use Rattle.volman.specs.Deck.{TakesAtMost, deck_of, line_of}
-use Rattle.volman.specs.Lines.{deck_line, image_reason, name_line, names_listing, reason_of, unit_line, with_numbers, words_line}
-use Rattle.volman.specs.Names.{IsListing, names_in, names_of}
-use Rattle.volman.specs.Words.{Names, Run, is_date, is_day, is_file_word, request_of, value_of}
+use Rattle.volman.specs.Lines.{deck_line, image_reason, line, name_line, names_listing, number_text, reason_of, unit_line, with_numbers, words_line}
+use Rattle.volman.specs.Names.{IsListing, names_in, names_of, set_name}
+use Rattle.volman.specs.Words.{Names, Run, is_date, is_day, is_file_word, names_request, request_of, run_request, value_of}
 
 -- ---- words
 
@@ -35,6 +38,21 @@ days = (refl, refl, refl, refl)
 dates : (is_date (codes "75032") ≡ true) × (is_date (codes "00366") ≡ true) × (is_date (codes "36600") ≡ false) × (is_date (codes "7503") ≡ false) × (is_date (codes "750320") ≡ false) × (is_date (codes "7503A") ≡ false) × (is_date (codes "A5032") ≡ false)
 dates = (refl, refl, refl, refl, refl, refl, refl)
 
+-- `names` is written so to its last letter, and no other word; a file stands behind it, whose name may be that word
+names_alone : (names_request (codes "names") (codes "w.img") ≡ Some (Names (codes "w.img"))) × (names_request (codes "names") (codes "names") ≡ Some (Names (codes "names")))
+    × (names_request (codes "name") (codes "w.img") ≡ None) × (names_request (codes "names ") (codes "w.img") ≡ None) × (names_request (codes "NAMES") (codes "w.img") ≡ None) × (names_request (codes "run") (codes "w.img") ≡ None) × (names_request [] (codes "w.img") ≡ None)
+    × (names_request (codes "names") [] ≡ None) × (names_request (codes "names") (codes "-w.img") ≡ None) × (names_request (codes "w.img") (codes "names") ≡ None)
+names_alone = (refl, refl, refl, refl, refl, refl, refl, refl, refl, refl)
+
+-- each of the four is judged: the two words to their last letter, the date, and the file, in this order
+run_alone : (run_request (codes "run") (codes "--date") (codes "75032") (codes "w.img") ≡ Some (Run (codes "w.img"))) × (run_request (codes "run") (codes "--date") (codes "75032") (codes "75032") ≡ Some (Run (codes "75032")))
+    × (run_request (codes "ru") (codes "--date") (codes "75032") (codes "w.img") ≡ None) × (run_request (codes "RUN") (codes "--date") (codes "75032") (codes "w.img") ≡ None) × (run_request (codes "names") (codes "--date") (codes "75032") (codes "w.img") ≡ None)
+    × (run_request (codes "run") (codes "-date") (codes "75032") (codes "w.img") ≡ None) × (run_request (codes "run") (codes "--dates") (codes "75032") (codes "w.img") ≡ None) × (run_request (codes "run") [] (codes "75032") (codes "w.img") ≡ None)
+    × (run_request (codes "run") (codes "--date") (codes "75000") (codes "w.img") ≡ None) × (run_request (codes "run") (codes "--date") [] (codes "w.img") ≡ None)
+    × (run_request (codes "run") (codes "--date") (codes "75032") (codes "-w.img") ≡ None) × (run_request (codes "run") (codes "--date") (codes "75032") [] ≡ None)
+    × (run_request (codes "run") (codes "--date") (codes "w.img") (codes "75032") ≡ None) × (run_request (codes "--date") (codes "run") (codes "75032") (codes "w.img") ≡ None)
+run_alone = (refl, refl, refl, refl, refl, refl, refl, refl, refl, refl, refl, refl, refl, refl)
+
 -- the program's name is any word; the others stand in their order, and none is left out or behind them
 words : (request_of (codes "anything" ∷ codes "names" ∷ codes "w.img" ∷ []) ≡ Some (Names (codes "w.img")))
     × (request_of (codes "volman" ∷ codes "run" ∷ codes "--date" ∷ codes "75032" ∷ codes "w.img" ∷ []) ≡ Some (Run (codes "w.img")))
@@ -44,6 +62,10 @@ words : (request_of (codes "anything" ∷ codes "names" ∷ codes "w.img" ∷ []
     × (request_of (codes "names" ∷ codes "w.img" ∷ []) ≡ None)
     × (request_of (codes "volman" ∷ codes "names" ∷ codes "w.img" ∷ codes "x.img" ∷ []) ≡ None)
 words = (refl, refl, refl, refl, refl, refl, refl)
+
+-- fewer words ask for nothing, and so does one behind the file
+other_counts : (request_of [] ≡ None) × (request_of (codes "volman" ∷ []) ≡ None) × (request_of (codes "volman" ∷ codes "names" ∷ []) ≡ None) × (request_of (codes "volman" ∷ codes "run" ∷ codes "--date" ∷ codes "75032" ∷ codes "w.img" ∷ codes "x.img" ∷ []) ≡ None)
+other_counts = (refl, refl, refl, refl)
 
 -- ---- a deck's line
 
@@ -88,6 +110,10 @@ a_digit = 0xC1 ∷ 0xF0 ∷ []
 names_stand : (x y : DataSet) → names_of (record x { name = record { bytes = b } } ∷ record y { name = record { bytes = a } } ∷ record x { name = record { bytes = b } } ∷ []) ≡ b ∷ a ∷ b ∷ []
 names_stand x y = refl
 
+-- a name is that of a data set, with its blanks: neither free space has one, nor more extents, nor the VTOC, whose own key isn't one
+set_names : (f : F1) (more : F3) (vtoc : F4) (space : F5) → (set_name (formats.F1 (record f { name = a })) ≡ Some a) × (set_name formats.F0 ≡ None) × (set_name (formats.F3 more) ≡ None) × (set_name (formats.F4 vtoc) ≡ None) × (set_name (formats.F5 space) ≡ None)
+set_names f more vtoc space = (refl, refl, refl, refl, refl)
+
 -- those of format 1 alone, in their order
 format_1_alone : (f g : F1) → names_in (formats.F0 ∷ formats.F1 (record f { name = b }) ∷ formats.F0 ∷ formats.F1 (record g { name = a }) ∷ []) ≡ b ∷ a ∷ []
 format_1_alone f g = refl
@@ -120,9 +146,18 @@ none_comes_in lists = absurd (omega (arith, ap length (lists.same a)))
 
 -- ---- lines
 
+-- a line feed ends a line, and nothing else, also one of no text
+lines_end : (line (codes "A") ≡ codes "A\n") × (line [] ≡ codes "\n")
+lines_end = (refl, refl)
+
 fixed_lines : (words_line ≡ codes "VOLMAN WORDS\n") × (deck_line ≡ codes "VOLMAN DECK FORM\n")
 unfolding words_line deck_line
 fixed_lines = (refl, refl)
+
+-- a number stands behind a blank, with all its digits, and without zeros in front
+numbers_written : (number_text 0 ≡ codes " 0") × (number_text 10 ≡ codes " 10") × (number_text 65535 ≡ codes " 65535")
+unfolding digits
+numbers_written = (refl, refl, refl)
 
 -- numbers stand behind a blank each, in decimal, without zeros in front
 numbers_behind : (with_numbers (codes "W") [] ≡ codes "W") × (with_numbers (codes "W") (0 ∷ 120 ∷ []) ≡ codes "W 0 120")

@@ -32,7 +32,7 @@ use Rattle.vol_model.proofs.Stops.{HasNoEmptyLine, no_empty_line_in_items, stop_
 use Rattle.vtoc_index.specs.declared.vol.Vol.{Vol}
 use Rattle.vtoc_index.specs.Index.{IsMounted}
 use Rattle.volman.specs.Machine.{ChangesNames, ChangesOnlyNames, shelf_in, shelf_named, shelf_with}
-use Rattle.volman.specs.Run.{Does, Headline, HasWorked, IsCalmSince, IsFinal, StandsFor, StopStands, Synced, WorksOn}
+use Rattle.volman.specs.Run.{Does, Headline, HasWorked, HasWorkedUnprinted, IsCalmSince, IsFinal, StandsFor, StopStands, Synced, WorksOn}
 use Rattle.volman.specs.Statement.{answer_line, item_by, item_of, item_on, operation_on}
 use Rattle.volman.specs.Deck.{deck_of}
 use Rattle.volman.specs.Lines.{deck_line, unit_line, words_line}
@@ -86,6 +86,19 @@ operations_in item = by_list item.operations
     by_list [] = no_more item.lines
     by_list (op ∷ ops) = ap (λ (rest : List Op). op ∷ rest) (by_list ops)
 
+-- ---- statuses
+
+-- the outcome of items is a status with which the program ends, and no fault
+pub not_final : (status fault : ℕ) → status ≡ fault → 21 < fault → fault < 26 → ¬ IsFinal status
+not_final status fault is low high final = ⊎_elim (λ (few : status ≤ 21). omega (arith, is, low, few)) (λ (deck : status ≡ 26). omega (arith, is, high, deck)) final
+
+-- a status with which nothing need have been done: a fault, but not that of the printer
+abbrev pub IsCut : ℕ → Type 0
+IsCut status = (¬ IsFinal status) × (status ≢ 24)
+
+pub cut_by : (status fault : ℕ) → status ≡ fault → 21 < fault → fault < 26 → fault ≢ 24 → IsCut status
+cut_by status fault is low high other = (not_final status fault is low high, λ printer. other (sym is ∙ printer))
+
 -- ---- files that are as before
 
 unchanged : (name : List ℕ) (g : Geometry) (vtoc : Run) (ops : List Op) (before after : List File) → after ≡ before → ChangesNames name g vtoc ops before after
@@ -121,10 +134,11 @@ stopped_before file volume items old files printed stands_at have same text = re
 }
 
 -- items of which none was begun
-pub nothing_worked : (file : List ℕ) (volume : Volume) (items : List Item) {old new : Meaning (List File)} (status : ℕ) → volume_of (image_named old.state file) ≡ Ok volume → HasNoEmptyLine (events_of items) → IsDurable old → OnlyNow old → Same old new → ¬ IsFinal status
+pub nothing_worked : (file : List ℕ) (volume : Volume) (items : List Item) {old new : Meaning (List File)} (status : ℕ) → volume_of (image_named old.state file) ≡ Ok volume → HasNoEmptyLine (events_of items) → IsDurable old → OnlyNow old → Same old new → IsCut status
     → Does (Works file volume items) old new status
 nothing_worked file volume items {old} status stands_at have durable only same other = record {
-  ends = λ final. absurd (other final);
+  ends = λ final. absurd (other.0 final);
+  unprinted = λ printer. absurd (other.1 printer);
   silent = λ short. same.printed;
   stops = record {
     later = same.time.later;
@@ -146,6 +160,14 @@ worked_then file volume items {old} {mid} {new} status durable only same silent 
         durable = done.durable;
         changes = subst (λ (all : List File). ChangesNames file volume.geometry volume.vtoc (operations_of (events_of items)) all new.state) same.state done.changes;
       };
+  unprinted = λ printer.
+      let done = works.unprinted printer in
+      record {
+        printed = (done.printed.0, done.printed.1, done.printed.2 ∙ ap (λ (l : List ℕ). l ++ done.printed.0) same.printed);
+        shelf = done.shelf;
+        durable = done.durable;
+        changes = subst (λ (all : List File). ChangesNames file volume.geometry volume.vtoc (operations_of (events_of items)) all new.state) same.state done.changes;
+      };
   silent = λ short. silent short ∙ same.printed;
   stops = record {
     later = omega (arith, same.time.later, works.later);
@@ -161,6 +183,14 @@ worked_then file volume items {old} {mid} {new} status durable only same silent 
         };
   };
 }
+
+-- where nothing but prints came since no write was pending, none is pending
+pub durable_behind : {name name' : List ℕ} {g g' : Geometry} {vtoc vtoc' : Run} {m : Meaning (List File)} (m' : Meaning (List File)) → OnlyNow m → IsDurable m → CountsNow m' → m'.left m'.state → m.clock ≤ m'.clock → Keeps m.clock [] (ChangesOnlyNames name g vtoc m) (ChangesOnlyNames name' g' vtoc' m')
+    → IsDurable m'
+durable_behind {name} {g = g} {vtoc = vtoc} {m = m} m' only durable counts left later keeps files pending = as_then files pending ∙ sym (as_then m'.state left)
+  where
+    as_then : (all : List File) → m'.left all → all ≡ m.state
+    as_then all may = (keeps [] m.clock m.state (omega arith) (λ j p was. unchanged name g vtoc [] m.state j (calm_now m only durable j p was).0) all m'.printed (counts m.clock all later may)).renames
 
 -- ---- the machine
 
@@ -215,20 +245,32 @@ module _ (name name' : List ℕ) (m m' : Meaning (List File)) (v v' : Vol) (volu
       (subst (λ (s : Shelf). StopsIn (shelf_named name m.state) (events_in item) s stop.0) seen_as stop.2))))
       (runs.moments.moments t (shelf_named name' files) printed early (files, left, refl))
 
+  -- the shelf when all was done
+  shelf_all : shelf_named name' m'.state ≡ shelf_behind (shelf_named name m.state) (events_in item) → StandsFor name m'.state (shelf_behind (shelf_with volume) (events_of (item ∷ [])))
+  shelf_all is =
+      let seen_as : shelf_named name' m'.state ≡ shelf_named name m'.state = ap (λ (n : List ℕ). shelf_named n m'.state) same_name in
+      let after : shelf_named name m'.state ≡ shelf_behind (shelf_with volume) (events_of (item ∷ [])) =
+      sym seen_as ∙ is ∙ ap (λ (s : Shelf). shelf_behind s (events_in item)) here ∙ ap (λ (es : List Event). shelf_behind (shelf_with volume) es) (sym (single item)) in
+      stands_for name m'.state _ (volumes_stay (operations_of (events_of (item ∷ []))) (shelf_with volume)) after
+
   -- all was done
   pub has_worked : {T E : Type 0} {tells : Bool} {x : T} (code : ℕ) → IsTrue tells → OnlyNow m → CountsNow m' → m'.left m'.state → IsDurable m → IsDurable m' → m.clock ≤ m'.clock → code ≡ item.code
       → Runs {E = E} tells (events_in item) (seen (shelf_named name) m) (seen (shelf_named name') m') (Ok x) → HasWorked name volume (item ∷ []) m m' code
-  has_worked code told only counts left durable durable' later is runs =
-      let seen_as : shelf_named name' m'.state ≡ shelf_named name m'.state = ap (λ (n : List ℕ). shelf_named n m'.state) same_name in
-      let after : shelf_named name m'.state ≡ shelf_behind (shelf_with volume) (events_of (item ∷ [])) =
-      sym seen_as ∙ runs.shelf ∙ ap (λ (s : Shelf). shelf_behind s (events_in item)) here ∙ ap (λ (es : List Event). shelf_behind (shelf_with volume) es) (sym (single item)) in
-      record {
-        code = is ∙ sym (single_code item);
-        printed = runs.printed told ∙ ap (λ (es : List Event). m.printed ++ listing es) (sym (single item));
-        shelf = stands_for name m'.state _ (volumes_stay (operations_of (events_of (item ∷ []))) (shelf_with volume)) after;
-        durable = durable';
-        changes = changed m.clock (omega arith) (calm_now m only durable) m'.state m'.printed (counts m.clock m'.state later left);
-      }
+  has_worked code told only counts left durable durable' later is runs = record {
+    code = is ∙ sym (single_code item);
+    printed = runs.printed told ∙ ap (λ (es : List Event). m.printed ++ listing es) (sym (single item));
+    shelf = shelf_all runs.shelf;
+    durable = durable';
+    changes = changed m.clock (omega arith) (calm_now m only durable) m'.state m'.printed (counts m.clock m'.state later left);
+  }
+
+  -- all was done but the print
+  pub has_worked_unprinted : {T E : Type 0} {tells : Bool} {result : Result T E} → IsTrue tells → OnlyNow m → CountsNow m' → m'.left m'.state → IsDurable m → IsDurable m' → shelf_named name' m'.state ≡ shelf_behind (shelf_named name m.state) (events_in item)
+      → Runs tells (events_in item) (seen (shelf_named name) m) (seen (shelf_named name') m') result → HasWorkedUnprinted name volume (item ∷ []) m m'
+  has_worked_unprinted told only counts left durable durable' shelf runs =
+      let now = counts m.clock m'.state runs.moments.later left in
+      let stop = stops_worked told runs m.clock (omega arith) (calm_now m only durable) m'.state m'.printed now in
+      record { printed = (stop.front, stop.place.prefix, stop.text); shelf = shelf_all shelf; durable = durable'; changes = stop.changes }
 
 -- a sync at the end
 pub stops_synced : {name : List ℕ} {volume : Volume} {items : List Item} {m m' m'' : Meaning (List File)} {status : ℕ} → CountsNow m' → m.clock ≤ m'.clock → Synced m' m'' status
@@ -248,15 +290,22 @@ worked_synced {name} {volume} {items} {m} synced ends done = record {
   changes = subst (λ (all : List File). ChangesNames name volume.geometry volume.vtoc (operations_of (events_of items)) m.state all) (sym synced.state) done.changes;
 }
 
--- the outcome of items is a status with which the program ends, and no fault
-pub not_final : (status fault : ℕ) → status ≡ fault → 21 < fault → fault < 26 → ¬ IsFinal status
-not_final status fault is low high final = ⊎_elim (λ (few : status ≤ 21). omega (arith, is, low, few)) (λ (deck : status ≡ 26). omega (arith, is, high, deck)) final
-
 -- a run of an item that a fault ended
-pub works_failed : {name : List ℕ} {volume : Volume} {items : List Item} {m m' : Meaning (List File)} (status fault : ℕ) → status ≡ fault → 21 < fault → fault < 26 → m.clock ≤ m'.clock
+pub works_failed : {name : List ℕ} {volume : Volume} {items : List Item} {m m' : Meaning (List File)} (status : ℕ) → IsCut status → m.clock ≤ m'.clock
     → ((t : ℕ) → t ≤ m.clock → IsCalmSince m t → (files : List File) (printed : List ℕ) → m'.left_since t files printed → StopStands name volume items m files printed) → WorksOn name volume items m m' status
-works_failed status fault is low high later stops = record {
-  ends = λ final. absurd (not_final status fault is low high final);
+works_failed status other later stops = record {
+  ends = λ final. absurd (other.0 final);
+  unprinted = λ printer. absurd (other.1 printer);
+  later = later;
+  stops = stops;
+}
+
+-- one whose line couldn't be printed
+pub works_unprinted : {name : List ℕ} {volume : Volume} {items : List Item} {m m' : Meaning (List File)} (status : ℕ) → status ≡ 24 → m.clock ≤ m'.clock → HasWorkedUnprinted name volume items m m'
+    → ((t : ℕ) → t ≤ m.clock → IsCalmSince m t → (files : List File) (printed : List ℕ) → m'.left_since t files printed → StopStands name volume items m files printed) → WorksOn name volume items m m' status
+works_unprinted status is later done stops = record {
+  ends = λ final. absurd (not_final status 24 is (omega arith) (omega arith) final);
+  unprinted = λ _. done;
   later = later;
   stops = stops;
 }
@@ -268,6 +317,7 @@ works_finished {name} {volume} {items} {m} {m'} {m''} status code which small co
   ends = λ final. ⊎_elim
       (λ (is : status ≡ code). subst (λ (n : ℕ). HasWorked name volume items m m'' n) (sym is) (worked_synced synced (λ (failed : status ≡ 22). omega (arith, is, failed, small)) done))
       (λ (failed : status ≡ 22). absurd (not_final status 22 failed (omega arith) (omega arith) final)) which;
+  unprinted = λ (printer : status ≡ 24). ⊎_elim (λ (is : status ≡ code). absurd (omega (arith, is, printer, small))) (λ (failed : status ≡ 22). absurd (omega (arith, failed, printer))) which;
   later = omega (arith, later, synced.moments.later);
   stops = stops_synced counts later synced stops;
 }
@@ -295,39 +345,39 @@ have_line shelf s = no_empty_line_in_items (item_of shelf s ∷ []) (lines_on sh
 -- ---- tasks on a file
 
 -- the task on a file, by the volume in it
-by_file : (file : List ℕ) (task : Volume → Task) (found : Option (List ℕ)) {old new : Meaning (List File)} (status : ℕ) → Same old new → ¬ IsFinal status
+by_file : (file : List ℕ) (task : Volume → Task) (found : Option (List ℕ)) {old new : Meaning (List File)} (status : ℕ) → Same old new → IsCut status
     → ((image : List ℕ) (volume : Volume) → found ≡ Some image → volume_of image ≡ Ok volume → Does (task volume) old new status) → Does (task_on file task found) old new status
-by_file file task None status same other does = nothing_said _ 21 status same other
+by_file file task None status same other does = nothing_said _ 21 status same other.0
 by_file file task (Some image) {old} {new} status same other does = by_volume (volume_of image) refl
   where
     by_volume : (r : Result Volume MountErr) → volume_of image ≡ r → Does (task_for file task r) old new status
     by_volume (Ok volume) is = does image volume refl is
-    by_volume (Err e) is = nothing_said _ 21 status same other
+    by_volume (Err e) is = nothing_said _ 21 status same other.0
 
 -- no names were printed
-pub nothing_named : (file : List ℕ) {old new : Meaning (List File)} (status : ℕ) → Same old new → ¬ IsFinal status → Does (task_on file names_task (file_of old.state file)) old new status
-nothing_named file {old} status same other = by_file file names_task (file_of old.state file) status same other (λ image volume there is. nothing_said _ 0 status same other)
+pub nothing_named : (file : List ℕ) {old new : Meaning (List File)} (status : ℕ) → Same old new → IsCut status → Does (task_on file names_task (file_of old.state file)) old new status
+nothing_named file {old} status same other = by_file file names_task (file_of old.state file) status same other (λ image volume there is. nothing_said _ 0 status same other.0)
 
--- behind a condition code, or where the file is refused, no write is pending
-pub stated_durable : (file : List ℕ) (s : Rename) (found : Option (List ℕ)) {old new : Meaning (List File)} (status : ℕ) → IsDurable old → Does (task_on file (statement_task file s) found) old new status → IsFinal status → IsDurable new
-stated_durable file s None {old} {new} status durable does final = durable_left old new (does.stops.files, does.stops.left) durable
-stated_durable file s (Some image) {old} {new} status durable does final = by_volume (volume_of image) does
+-- behind a condition code, where the file is refused, and where the printer failed, no write is pending
+pub stated_durable : (file : List ℕ) (s : Rename) (found : Option (List ℕ)) {old new : Meaning (List File)} (status : ℕ) → IsDurable old → Does (task_on file (statement_task file s) found) old new status → IsFinal status ⊎ (status ≡ 24) → IsDurable new
+stated_durable file s None {old} {new} status durable does which = durable_left old new (does.stops.files, does.stops.left) durable
+stated_durable file s (Some image) {old} {new} status durable does which = by_volume (volume_of image) does
   where
     by_volume : (r : Result Volume MountErr) → Does (task_for file (statement_task file s) r) old new status → IsDurable new
-    by_volume (Ok volume) done = (done.ends final).durable
+    by_volume (Ok volume) done = ⊎_elim (λ final. (done.ends final).durable) (λ printer. (done.unprinted printer).durable) which
     by_volume (Err e) done = durable_left old new (done.stops.files, done.stops.left) durable
 
 -- no statement was begun
-pub nothing_stated : (file : List ℕ) (s : Rename) {old new : Meaning (List File)} (status : ℕ) → IsDurable old → OnlyNow old → Same old new → ¬ IsFinal status → Does (task_on file (statement_task file s) (file_of old.state file)) old new status
+pub nothing_stated : (file : List ℕ) (s : Rename) {old new : Meaning (List File)} (status : ℕ) → IsDurable old → OnlyNow old → Same old new → IsCut status → Does (task_on file (statement_task file s) (file_of old.state file)) old new status
 nothing_stated file s {old} status durable only same other = by_file file (statement_task file s) (file_of old.state file) status same other (λ image volume there is.
     nothing_worked file volume (item_of (shelf_with volume) s ∷ []) status (ap (λ (o : Option (List ℕ)). volume_of (unwrap_or o [])) there ∙ is) (have_line (shelf_with volume) s) durable only same other)
 
 -- nothing was done of whatever is to be done
-pub nothing_done : (request : Option Request) (deck : Option Rename) {old new : Meaning (List File)} (status : ℕ) → IsDurable old → OnlyNow old → Same old new → ¬ IsFinal status → Does (task_of request deck old.state) old new status
+pub nothing_done : (request : Option Request) (deck : Option Rename) {old new : Meaning (List File)} (status : ℕ) → IsDurable old → OnlyNow old → Same old new → IsCut status → Does (task_of request deck old.state) old new status
 unfolding task_of
-nothing_done None deck status durable only same other = nothing_said _ 20 status same other
+nothing_done None deck status durable only same other = nothing_said _ 20 status same other.0
 nothing_done (Some (Names file)) deck status durable only same other = nothing_named file status same other
-nothing_done (Some (Running file)) None status durable only same other = nothing_said _ 26 status same other
+nothing_done (Some (Running file)) None status durable only same other = nothing_said _ 26 status same other.0
 nothing_done (Some (Running file)) (Some s) status durable only same other = nothing_stated file s status durable only same other
 
 -- the task on the pack in a file
@@ -359,7 +409,7 @@ pub answered_form : {old new : Meaning (List File)} (request : Option Request) (
 unfolding task_of
 answered_form {old} {new} request file tells input status is given does = record { deck = None; given = λ told. sym (given told); does = subst (λ (r : Option Request). Does (task_of r None old.state) old new status) (sym is) does }
 
-pub answered_nothing : {old new : Meaning (List File)} (request : Option Request) (tells : Bool) (input : List ℕ) (status : ℕ) → IsDurable old → OnlyNow old → Same old new → ¬ IsFinal status → Headline request tells input old new status
+pub answered_nothing : {old new : Meaning (List File)} (request : Option Request) (tells : Bool) (input : List ℕ) (status : ℕ) → IsDurable old → OnlyNow old → Same old new → IsCut status → Headline request tells input old new status
 answered_nothing request tells input status durable only same other = record { deck = deck_of input; given = λ _. refl; does = nothing_done request (deck_of input) status durable only same other }
 
 -- ---- a file that is refused
@@ -386,6 +436,7 @@ silent_or_not (mount.DuplicateName slot other) = inr (λ is. cc, λ is. cc)
 said_then : {code : ℕ} {text : List ℕ} {old mid new : Meaning (List File)} {status : ℕ} → Same old mid → Does (Says code text) mid new status → Does (Says code text) old new status
 said_then {code} {text} {old} {mid} {new} same does = record {
   ends = λ final. let end = does.ends final in (end.0, end.1 ∙ ap (λ (l : List ℕ). l ++ text) same.printed);
+  unprinted = λ _. kept_then same does.stops;
   silent = λ short. does.silent short ∙ same.printed;
   stops = kept_then same does.stops;
 }
@@ -393,11 +444,11 @@ said_then {code} {text} {old} {mid} {new} same does = record {
 -- whatever was to be done on a file that is refused
 pub refused_file : (file : List ℕ) (task : Volume → Task) {old mid new : Meaning (List File)} (why : MountErr) (status : ℕ) → RefusesFile file old.state why → Same old mid
     → (why ≢ mount.Memory → why ≢ mount.Device → Does (Says 21 (unit_line file why)) mid new status) → ((why ≡ mount.Memory) ⊎ (why ≡ mount.Device) → Same mid new) → (why ≡ mount.Device → status ≡ 22) → (why ≡ mount.Memory → status ≡ 25)
-    → (Same old new → ¬ IsFinal status → Does (task_on file task (file_of old.state file)) old new status) → Does (task_on file task (file_of old.state file)) old new status
+    → (Same old new → IsCut status → Does (task_on file task (file_of old.state file)) old new status) → Does (task_on file task (file_of old.state file)) old new status
 refused_file file task {old} {mid} {new} why status refused same does silent device memory nothing =
     ⊎_elim
     (λ quiet.
-    let other : ¬ IsFinal status = ⊎_elim (λ is. not_final status 25 (memory is) (omega arith) (omega arith)) (λ is. not_final status 22 (device is) (omega arith) (omega arith)) quiet in
+    let other : IsCut status = ⊎_elim (λ is. cut_by status 25 (memory is) (omega arith) (omega arith) (λ no. omega (arith, no))) (λ is. cut_by status 22 (device is) (omega arith) (omega arith) (λ no. omega (arith, no))) quiet in
     nothing (same_then same (silent quiet)) other)
     (λ loud. subst (λ (t : Task). Does t old new status) (sym (refused.why loud.0 loud.1 task)) (said_then same (does loud.0 loud.1)))
     (silent_or_not why)

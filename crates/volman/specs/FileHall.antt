@@ -1,5 +1,8 @@
--- What a hall over real files tells.
-use Rattle.std.specs.Prelude.{List, [], map, string_bytes}
+-- What a hall over real files tells, which of its units are noted, and which files it finds missing.
+use Rattle.std.specs.Prelude.{◌≡◌, ◌⊎◌, Bool, List, [], map, string_bytes}
+use Rattle.std.specs.IoError.{error_kind}
+use Rattle.std.specs.declared.io.Error.{Error}
+use Rattle.std.specs.declared.io.ErrorKind.TheVariants.{NotFound, NotADirectory}
 use Rattle.hall_core.specs.Facts.{Attached, Facts}
 use Rattle.volman.specs.declared.file_hall.Unit.{Unit}
 use Rattle.volman.specs.declared.file_hall.FileHall.{FileHall}
@@ -11,3 +14,11 @@ units_of units = map (λ (u : Unit). record { name = string_bytes u.name; size =
 -- the units and the counts of faults; no reference leads to the hall
 abbrev pub facts_of : {R : Type 0} → FileHall R → Facts
 facts_of hall = record { units = units_of hall.units.items; references = []; dev_faults = hall.dev_faults; print_faults = hall.print_faults }
+
+-- whether each unit may have been written since the last sync that was done, in the order of the units
+abbrev pub notes_of : {R : Type 0} → FileHall R → List Bool
+notes_of hall = map (λ (u : Unit). u.is_written) hall.units.items
+
+-- an error says that no file has the name: there is no entry of that name, or what should be its folder is none
+abbrev pub SaysMissing : Error → Type 0
+SaysMissing error = (error_kind error ≡ NotFound) ⊎ (error_kind error ≡ NotADirectory)

@@ -52,6 +52,13 @@ pub record HasWorked (file : List ℕ) (volume : Volume) (items : List Item) (ol
   pub durable : IsDurable new
   pub changes : ChangesNames file volume.geometry volume.vtoc (operations_of (events_of items)) old.state new.state
 
+-- All items were done, and the printer failed: a prefix of their lines was printed, the image stands durably for the shelf after all their operations, and nothing was changed but names of data sets in its VTOC, by these operations.
+pub record HasWorkedUnprinted (file : List ℕ) (volume : Volume) (items : List Item) (old new : Meaning (List File)) : Type 0 where
+  pub printed : AddsPrefix (listing (events_of items)) old.printed new.printed
+  pub shelf : StandsFor file new.state (shelf_behind (shelf_with volume) (events_of items))
+  pub durable : IsDurable new
+  pub changes : ChangesNames file volume.geometry volume.vtoc (operations_of (events_of items)) old.state new.state
+
 -- the task was done, and this is its status
 abbrev pub IsEnd : Task → Meaning (List File) → Meaning (List File) → ℕ → Type 0
 IsEnd (Says code text) old new status = (status ≡ code) × (new.printed ≡ old.printed ++ text)
@@ -83,9 +90,15 @@ abbrev pub IsSafe : Task → Meaning (List File) → Meaning (List File) → Typ
 IsSafe (Says code text) old new = KeepsFiles text old new
 IsSafe (Works file volume items) old new = StopsInItems file volume items old new
 
--- A task is done where the status says so, and is safe whatever the status is; where memory ran out nothing was printed, since a run has one line, which comes last.
+-- what is left where the printer failed: a text was printed in part, and items were done
+abbrev pub IsUnprinted : Task → Meaning (List File) → Meaning (List File) → Type 0
+IsUnprinted (Says code text) old new = KeepsFiles text old new
+IsUnprinted (Works file volume items) old new = HasWorkedUnprinted file volume items old new
+
+-- A task is done where the status says so, and is safe whatever the status is. A run has one line, which comes last: so where the printer failed all else is done, and where memory ran out nothing was printed.
 pub record Does (task : Task) (old new : Meaning (List File)) (status : ℕ) : Type 0 where
   pub ends : IsFinal status → IsEnd task old new status
+  pub unprinted : status ≡ 24 → IsUnprinted task old new
   pub silent : status ≡ 25 → new.printed ≡ old.printed
   pub stops : IsSafe task old new
 
@@ -104,9 +117,10 @@ pub record PrintsText (text : List ℕ) (old new : Meaning (List File)) (result 
 abbrev pub IsCalmSince : Meaning (List File) → ℕ → Type 0
 IsCalmSince m t = (files : List File) (printed : List ℕ) → m.left_since t files printed → (files ≡ m.state) × (printed ≡ m.printed)
 
--- Items on the shelf of a pack that was mounted: they are done where the status says so; and if a stop since a moment left nothing else than was there, then one since that moment leaves what one in the items may leave.
+-- Items on the shelf of a pack that was mounted: they are done where the status says so, and where it is that of the printer, but for their lines; and if a stop since a moment left nothing else than was there, then one since that moment leaves what one in the items may leave.
 pub record WorksOn (file : List ℕ) (volume : Volume) (items : List Item) (old new : Meaning (List File)) (status : ℕ) : Type 0 where
   pub ends : IsFinal status → HasWorked file volume items old new status
+  pub unprinted : status ≡ 24 → HasWorkedUnprinted file volume items old new
   pub later : old.clock ≤ new.clock
   pub stops : (t : ℕ) → t ≤ old.clock → IsCalmSince old t → (files : List File) (printed : List ℕ) → new.left_since t files printed → StopStands file volume items old files printed
 

@@ -1,7 +1,10 @@
 -- What a RENAME statement does on a shelf, and the line that answers it, by Utilities GC28-6586 and this project's profile.
-use Rattle.std.specs.Prelude.{ℕ, List, [], ◌∷◌, codes, Option, Some, None, Result, Ok, Err}
+use Rattle.std.specs.Prelude.{◌≡◌, ℕ, ◌≤◌, List, [], ◌∷◌, codes, IsTrue, Option, Some, None, Result, Ok, Err}
+use Rattle.hall_core.specs.Files.{File}
+use Rattle.hall_core.specs.Moments.{Meaning}
 use Rattle.util_syntax.specs.declared.statement.Rename.{Rename}
 use Rattle.util_syntax.specs.Lines.{result_line}
+use Rattle.vol_model.specs.Calls.{Keeps, Status}
 use Rattle.vol_model.specs.declared.contents.Shelf.{Shelf}
 use Rattle.vol_model.specs.declared.refusals.Refusal.{Refusal}
 use Rattle.vol_model.specs.declared.refusals.Refusal.TheVariants.{NoVolume}
@@ -40,3 +43,11 @@ item_on shelf s (Some v) = item_by s (operation_on s v) (step shelf (operation_o
 -- what a statement does on a shelf: the data set of the volume with its serial is given the new name, or that is refused
 unfoldable pub item_of : Shelf → Rename → Item
 item_of shelf s = item_on shelf s (number_of shelf s.serial.bytes)
+
+-- A machine after which nothing but prints was done, with what it meant and promised of stops then and now: it was sound, and stood on what it stands on, and what it promised is promised still.
+pub record OnlyPrints (first before : Status) (then now : Meaning Shelf) (promised promises : List Op → ℕ → List File → Type 0) : Type 0 where
+  pub sound : IsTrue before.is_sound
+  pub base : before.base ≡ first.base
+  pub later : then.clock ≤ now.clock
+  pub state : now.state ≡ then.state
+  pub promise : Keeps then.clock [] promised promises

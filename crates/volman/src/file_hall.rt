@@ -3,10 +3,11 @@
 //! What the system does can't be proved. It is taken on trust that reads give what the file holds,
 //! writes before them included; that a sync of a file's data makes every write before it durable; that
 //! a stop leaves each write since then whole or not at all; and that two names are two files. What is
-//! proved is what the hall answers and counts: each call of the system that fails is a fault.
-ghost use Rattle.std.specs.Prelude.{◌≡◌, ◌+◌, ◌-◌, ◌^◌, ◌<◌, ◌≤◌, ◌↔◌, ◌⊎◌, min, length, refl, Err, OnOk, OnErr, IsTrue, false, []};
-ghost use Rattle.std.specs.IoError.{error_kind};
-ghost use Rattle.hall_core.specs.Facts.{Rose};
+//! proved is what the hall answers and counts: each call of the system that fails is a fault, and is
+//! counted once.
+ghost use Rattle.std.specs.Prelude.{◌≡◌, ◌+◌, ◌-◌, ◌^◌, ◌<◌, ◌≤◌, ◌↔◌, min, length, refl, Err, IfOk, IfErr, OnOk, OnErr, IsErrOf, IsTrue, true, false, []};
+ghost use Rattle.hall_core.specs.Memory.{CountsFailure};
+ghost use Rattle.volman.specs.FileHall.{SaysMissing};
 
 use hall_core::{Hall, HallErr, fault};
 use std::alloc::Global;
@@ -62,15 +63,31 @@ fn open<R: Files<File = File>>(rt: &R, name: &str) -> io::Result<(File, u64)> {
 
 // Whether no file has the name: there is no entry of that name, or what should be its folder is none.
 fn is_missing(error: Error) -> bool
-    ensures { IsTrue result ↔ ((error_kind error ≡ ErrorKind.NotFound) ⊎ (error_kind error ≡ ErrorKind.NotADirectory)) }
+    ensures { IsTrue result ↔ SaysMissing error }
 {
     matches!(error.kind(), ErrorKind::NotFound | ErrorKind::NotADirectory)
 }
 
-// What a call of the system that is done or failed comes to; one that failed is counted.
+// What an opening comes to: a file that is missing is no fault, and any other failure is counted once.
+fn opened(outcome: io::Result<(File, u64)>, faults: &mut u64) -> Result<(File, u64), HallErr>
+    ensures ok { IfOk outcome (λ found. result ≡ Ok found) }
+    ensures missing { IfErr outcome (λ e. SaysMissing e → result ≡ Err HallErr.Missing) }
+    ensures failed { IfErr outcome (λ e. ¬ SaysMissing e → result ≡ Err HallErr.Failed) }
+    ensures memory { ¬ IsErrOf result HallErr.Memory }
+    ensures count { CountsFailure faults.old faults.new result }
+    ensures later { faults.old ≤ faults.new }
+{
+    match outcome {
+        Ok(found) => Ok(found),
+        Err(error) if is_missing(error) => Err(HallErr::Missing),
+        Err(_) => Err(fault(faults)),
+    }
+}
+
+// What a call of the system that is done or failed comes to; one that failed is counted once.
 fn counted(outcome: io::Result<()>, faults: &mut u64) -> Result<(), HallErr>
     ensures ok { OnOk outcome ((result ≡ Ok tt) × (faults.new ≡ faults.old)) }
-    ensures err { OnErr outcome ((result ≡ Err HallErr.Failed) × Rose faults.old faults.new) }
+    ensures err { OnErr outcome ((result ≡ Err HallErr.Failed) × (faults.new ≡ min (faults.old + 1) (2 ^ 64 - 1))) }
     ensures later { faults.old ≤ faults.new }
 {
     match outcome {
@@ -80,7 +97,9 @@ fn counted(outcome: io::Result<()>, faults: &mut u64) -> Result<(), HallErr>
 }
 
 impl<'a, R: Files<File = File> + Print> FileHall<'a, R> {
-    ghost use Rattle.volman.specs.FileHall.{facts_of};
+    ghost use Rattle.std.specs.Prelude.{set, IsFalse};
+    ghost use Rattle.std.specs.List.{All};
+    ghost use Rattle.volman.specs.FileHall.{facts_of, notes_of};
 
     /// A hall with no unit. It takes no memory yet.
     pub fn new(alloc: Global, rt: &'a R) -> FileHall<'a, R>
@@ -95,10 +114,11 @@ impl<'a, R: Files<File = File> + Print> FileHall<'a, R> {
         }
     }
 
-    // Notes whether the unit may have been written since the last sync.
+    // Notes whether the unit may have been written since the last sync, and changes no other note.
     fn set_written(&mut self, unit: usize, is_written: bool)
         requires { unit < length self.old.units.items }
         ensures facts { facts_of self.new ≡ facts_of self.old }
+        ensures notes { notes_of self.new ≡ set (notes_of self.old) unit is_written }
         ensures len { length self.new.units.items ≡ length self.old.units.items }
     {
         self.units[unit].is_written = is_written;
@@ -117,7 +137,8 @@ impl<'a, R: Files<File = File> + Print> FileHall<'a, R> {
 
     // Notes that no unit was written since the last sync.
     fn set_synced(&mut self)
-        ensures { facts_of self.new ≡ facts_of self.old }
+        ensures facts { facts_of self.new ≡ facts_of self.old }
+        ensures notes { All IsFalse (notes_of self.new) }
     {
         for unit in 0..self.units.len() {
             self.set_written(unit, false);
@@ -126,9 +147,13 @@ impl<'a, R: Files<File = File> + Print> FileHall<'a, R> {
 }
 
 impl<R: Files<File = File> + Print> Hall for FileHall<'_, R> {
+    ghost use Rattle.std.specs.Prelude.{◌++◌, ◌∷◌, set, IsFalse};
+    ghost use Rattle.std.specs.List.{All};
     ghost use Rattle.std.proofs.lemmas.Bool.{false≢true};
-    ghost use Rattle.hall_core.specs.Files.{untold};
-    ghost use Rattle.volman.specs.FileHall.{facts_of};
+    ghost use Rattle.hall_core.specs.Facts.{unit_of, IsAttached, DeviceCall, PrintCall, AttachCall, NotedCall, Rose};
+    ghost use Rattle.hall_core.specs.Files.{untold, HasBytesAt, Attaches, AfterWrite, AfterSync, AfterPrint};
+    ghost use Rattle.hall_core.specs.Moments.{Same};
+    ghost use Rattle.volman.specs.FileHall.{facts_of, notes_of};
 
     ghost tells = { false };
 
@@ -146,14 +171,20 @@ impl<R: Files<File = File> + Print> Hall for FileHall<'_, R> {
 
     ghost none_pending = { λ _ told. absurd (false≢true told) };
 
-    fn attach(&mut self, name: &str) -> Result<u8, HallErr> {
+    // Of the trait's clauses, those on content say nothing here. To these is added that each fault is
+    // counted once, and what becomes of the units' notes.
+    fn attach(&mut self, name: &str) -> Result<u8, HallErr>
+        requires few { length (facts_of self.old).units < 255 }
+        requires once { ¬ IsAttached (facts_of self.old).units name.now }
+        ensures told { IsTrue false → Attaches name.now untold untold result }
+        ensures call { AttachCall name.now (facts_of self.old) (facts_of self.new) result }
+        ensures count { CountsFailure self.old.dev_faults self.new.dev_faults result }
+        ensures notes { IfOk result (λ _. notes_of self.new ≡ notes_of self.old ++ false ∷ []) }
+        ensures kept { OnErr result (notes_of self.new ≡ notes_of self.old) }
+    {
         let name_copy = String::from_str(self.alloc, name).map_err(|_| HallErr::Memory)?;
         self.units.reserve(1).map_err(|_| HallErr::Memory)?;
-        let (file, size) = match open(self.rt, name) {
-            Ok(opened) => opened,
-            Err(error) if is_missing(error) => return Err(HallErr::Missing),
-            Err(_) => return Err(fault(&mut self.dev_faults)),
-        };
+        let (file, size) = opened(open(self.rt, name), &mut self.dev_faults)?;
         let unit = self.units.len() as u8;
         self.units
             .push(Unit {
@@ -170,30 +201,69 @@ impl<R: Files<File = File> + Print> Hall for FileHall<'_, R> {
         self.units[unit as usize].size
     }
 
-    fn read(&mut self, unit: u8, at: u64, buf: &mut [u8]) -> Result<(), HallErr> {
+    fn read(&mut self, unit: u8, at: u64, buf: &mut [u8]) -> Result<(), HallErr>
+        requires attached { unit < length (facts_of self.old).units }
+        requires inside { at + length buf.old ≤ (unit_of (facts_of self.old).units unit).size }
+        ensures bytes { IsTrue false → OnOk result (HasBytesAt untold.state (unit_of (facts_of self.old).units unit).name at buf.new) }
+        ensures told { IsTrue false → Same untold untold }
+        ensures call { DeviceCall (facts_of self.old) (facts_of self.new) result }
+        ensures error { IfErr result (λ e. e ≡ HallErr.Failed) }
+        ensures count { CountsFailure self.old.dev_faults self.new.dev_faults result }
+        ensures units { self.new.units ≡ self.old.units }
+    {
         let outcome = self.units[unit as usize].file.read_exact_at(buf, at);
         counted(outcome, &mut self.dev_faults)
     }
 
-    fn write(&mut self, unit: u8, at: u64, bytes: &[u8]) -> Result<(), HallErr> {
+    fn write(&mut self, unit: u8, at: u64, bytes: &[u8]) -> Result<(), HallErr>
+        requires attached { unit < length (facts_of self.old).units }
+        requires inside { at + length bytes.now ≤ (unit_of (facts_of self.old).units unit).size }
+        ensures told { IsTrue false → AfterWrite (unit_of (facts_of self.old).units unit).name at bytes.now untold untold result }
+        ensures call { DeviceCall (facts_of self.old) (facts_of self.new) result }
+        ensures error { IfErr result (λ e. e ≡ HallErr.Failed) }
+        ensures count { CountsFailure self.old.dev_faults self.new.dev_faults result }
+        ensures notes { notes_of self.new ≡ set (notes_of self.old) unit true }
+    {
         self.set_written(unit as usize, true);
         let written = self.units[unit as usize].file.write_all_at(bytes, at);
         counted(written, &mut self.dev_faults)
     }
 
-    fn sync(&mut self) -> Result<(), HallErr> {
+    fn sync(&mut self) -> Result<(), HallErr>
+        ensures told { IsTrue false → AfterSync untold untold result }
+        ensures call { DeviceCall (facts_of self.old) (facts_of self.new) result }
+        ensures error { IfErr result (λ e. e ≡ HallErr.Failed) }
+        ensures count { CountsFailure self.old.dev_faults self.new.dev_faults result }
+        ensures synced { OnOk result (All IsFalse (notes_of self.new)) }
+        ensures kept { OnErr result (notes_of self.new ≡ notes_of self.old) }
+    {
         let synced = self.sync_written();
         counted(synced, &mut self.dev_faults)?;
         self.set_synced();
         Ok(())
     }
 
-    fn print(&mut self, bytes: &[u8]) -> Result<(), HallErr> {
+    fn print(&mut self, bytes: &[u8]) -> Result<(), HallErr>
+        ensures told { IsTrue false → AfterPrint bytes.now untold untold result }
+        ensures call { PrintCall (facts_of self.old) (facts_of self.new) result }
+        ensures error { IfErr result (λ e. e ≡ HallErr.Failed) }
+        ensures count { CountsFailure self.old.print_faults self.new.print_faults result }
+        ensures units { self.new.units ≡ self.old.units }
+    {
         let printed = self.rt.write_all(bytes);
         counted(printed, &mut self.print_faults)
     }
 
-    fn differs(&mut self, _unit: u8, _track: u16) {
+    fn differs(&mut self, unit: u8, track: u16)
+        requires { unit < length (facts_of self.old).units }
+        ensures rose { Rose (facts_of self.old).dev_faults (facts_of self.new).dev_faults }
+        ensures call { NotedCall (facts_of self.old) (facts_of self.new) }
+        ensures told { IsTrue false → Same untold untold }
+        ensures clock { IsTrue false → untold.clock ≡ untold.clock }
+        ensures facts { IsTrue false → facts_of self.new ≡ facts_of self.old }
+        ensures count { self.new.dev_faults ≡ min (self.old.dev_faults + 1) (2 ^ 64 - 1) }
+        ensures units { self.new.units ≡ self.old.units }
+    {
         let _ = fault(&mut self.dev_faults);
     }
 }

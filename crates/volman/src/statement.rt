@@ -1,10 +1,10 @@
 //! A RENAME statement on any machine.
 ghost use Rattle.std.specs.Prelude.{◌≡◌, ◌≤◌, [], ◌∷◌, map, IsErrOf, IsTrue, IfOk};
 ghost use Rattle.vol_model.specs.Calls.{Keeps};
-ghost use Rattle.vol_model.specs.Events.{Do, Say, events_in};
+ghost use Rattle.vol_model.specs.Events.{Do, Say, events_in, shelf_behind};
 ghost use Rattle.vol_model.specs.Runs.{Runs, RunCall};
 ghost use Rattle.vol_model.specs.Shelf.{number_of};
-ghost use Rattle.volman.specs.Statement.{answer_line, code_for, item_of, item_on};
+ghost use Rattle.volman.specs.Statement.{OnlyPrints, answer_line, code_for, item_of, item_on};
 
 use std::alloc::Global;
 use util_syntax::{Rename, result_line};
@@ -16,7 +16,8 @@ const FIRST_CARD: u32 = 1;
 /// Does a RENAME statement on the first card of a deck, whose volume has this number on the shelf if it is
 /// there, and prints the line that answers it. Gives its condition code: 0, or 8 where it is refused.
 ///
-/// An error comes where the machine has one. The line is printed once the operation is done.
+/// An error comes where the machine has one. The line is printed once the operation is done: so where the print
+/// failed, the operation is done, and nothing but the print came behind it.
 pub fn run_rename<M: Machine>(
     alloc: Global,
     machine: &mut M,
@@ -29,6 +30,8 @@ pub fn run_rename<M: Machine>(
     ensures code { IsTrue M.tells → IfOk result (λ code. code ≡ (item_of (M.meaning machine.old).state statement.now).code) }
     ensures small { IfOk result (λ code. code ≤ 16) }
     ensures silent { IsTrue M.tells → IsErrOf result Stop.Memory → (M.meaning machine.new).printed ≡ (M.meaning machine.old).printed }
+    ensures print { IsTrue M.tells → IsErrOf result Stop.Print → (M.meaning machine.new).state ≡ shelf_behind (M.meaning machine.old).state (events_in (item_of (M.meaning machine.old).state statement.now)) }
+    ensures line { IsTrue M.tells → IsErrOf result Stop.Print → (before : M) × OnlyPrints (M.status machine.old) (M.status before) (M.meaning before) (M.meaning machine.new) (M.promise before) (M.promise machine.new) }
     ensures promise { IsTrue M.tells → Keeps (M.meaning machine.old).clock (item_of (M.meaning machine.old).state statement.now).operations (M.promise machine.old) (M.promise machine.new) }
     ensures call { RunCall (M.status machine.old) (M.status machine.new) result }
 {
@@ -52,6 +55,7 @@ fn rename<M: Machine>(
     ensures code { IsTrue M.tells → IfOk result (λ outcome. (item_on (M.meaning machine.old).state statement.now volume).code ≡ code_for outcome) }
     ensures printed { IsTrue M.tells → (M.meaning machine.new).printed ≡ (M.meaning machine.old).printed }
     ensures promise { IsTrue M.tells → Keeps (M.meaning machine.old).clock (item_on (M.meaning machine.old).state statement.now volume).operations (M.promise machine.old) (M.promise machine.new) }
+    ensures print { IsErrOf result Stop.Print → ⊥ }
     ensures call { RunCall (M.status machine.old) (M.status machine.new) result }
 {
     let Some(v) = volume else {
@@ -75,6 +79,7 @@ fn rename<M: Machine>(
 fn say<M: Machine>(machine: &mut M, line: &[u8]) -> Result<(), Stop>
     requires sound { IsTrue (M.status machine.old).is_sound }
     ensures runs { IsTrue M.tells → Runs M.tells_prints (Say line.now ∷ []) (M.meaning machine.old) (M.meaning machine.new) result }
+    ensures shelf { IsTrue M.tells → (M.meaning machine.new).state ≡ (M.meaning machine.old).state }
     ensures silent { IsTrue M.tells → IsErrOf result Stop.Memory → (M.meaning machine.new).printed ≡ (M.meaning machine.old).printed }
     ensures promise { IsTrue M.tells → Keeps (M.meaning machine.old).clock [] (M.promise machine.old) (M.promise machine.new) }
     ensures call { RunCall (M.status machine.old) (M.status machine.new) result }

@@ -2,11 +2,11 @@
 ghost use Rattle.std.specs.Prelude.{◌≡◌, ◌≢◌, ◌≤◌, ◌⊎◌, [], List, ℕ, map, string_bytes, IsTrue, IfOk, Some, None};
 ghost use Rattle.hall_core.specs.Facts.{Rose};
 ghost use Rattle.hall_core.specs.Files.{file_of};
-ghost use Rattle.volman.specs.Deck.{deck_of};
+ghost use Rattle.volman.specs.Deck.{TakesAtMost, deck_of};
 ghost use Rattle.volman.specs.Lines.{names_listing, unit_line};
 ghost use Rattle.volman.specs.Names.{IsListing, names_in};
 ghost use Rattle.hall_core.specs.Moments.{IsDurable};
-ghost use Rattle.volman.specs.Run.{AttachesAsked, CountsReported, Does, Headline, IsFinal, IsStatus, IsUnasked, IsUnbegun, Later, LeavesFiles, OnFile, PrintsText, code_of};
+ghost use Rattle.volman.specs.Run.{AttachesAsked, CountsReported, Does, Headline, IsStatus, IsUnasked, IsUnbegun, Later, LeavesFiles, OnFile, PrintsText, code_of};
 ghost use Rattle.volman.specs.Task.{Says, names_task, statement_task, task_on};
 ghost use Rattle.volman.specs.Words.{Run, request_of};
 
@@ -46,20 +46,22 @@ pub fn volman<C: Cards, H: Hall>(alloc: Global, words: &[String], cards: &mut C,
     requires { (H.facts hall.old).units ≡ [] }
 
     // Run without a stop: with a condition code, or the status of a refusal, all that the words and the
-    // deck ask for was done and printed. Run stopped at any moment: whatever the status, a stop at any
-    // moment of the call leaves what a prefix of the operations leaves, all that are reported and none
-    // that can't have begun; and nothing at all is changed where no statement is to be done.
+    // deck ask for was done and printed; and where the printer failed, a statement was done all the same.
+    // Run stopped at any moment: whatever the status, a stop at any moment of the call leaves what a prefix
+    // of the operations leaves, all that are reported and none that can't have begun; and nothing at all is
+    // changed where no statement is to be done.
     ensures headline { IsTrue H.tells → Headline (request_of (map string_bytes words.now)) C.tells (C.left cards.old) (H.meaning hall.old) (H.meaning hall.new) result }
 
     // Where nothing was begun the files stay; a fault while names are read prints nothing; and behind all
-    // but a fault of the device or of the printer no write is pending.
+    // but a fault of the device no write is pending.
     ensures untouched { IsTrue H.tells → IsUnbegun result → LeavesFiles (H.meaning hall.old) (H.meaning hall.new) }
     ensures silent { IsTrue H.tells → ((file : List ℕ) → request_of (map string_bytes words.now) ≢ Some (Run file)) → (result ≡ 22) ⊎ (result ≡ 25) → (H.meaning hall.new).printed ≡ (H.meaning hall.old).printed }
-    ensures durable { IsTrue H.tells → IsFinal result ⊎ ((result ≡ 23) ⊎ (result ≡ 25)) → IsDurable (H.meaning hall.new) }
+    ensures durable { IsTrue H.tells → result ≢ 22 → IsDurable (H.meaning hall.new) }
 
     // No card is left where a statement was done or refused; and where no statement is asked for, no
-    // card was read.
+    // card was read. Whatever the status, at most 83 bytes are taken: a deck that is refused takes no more.
     ensures deck { IsTrue C.tells → (file : List ℕ) → request_of (map string_bytes words.now) ≡ Some (Run file) → result ≤ 16 → C.left cards.new ≡ [] }
+    ensures taken { IsTrue C.tells → TakesAtMost 83 (C.left cards.old) (C.left cards.new) }
     ensures cards { ((file : List ℕ) → request_of (map string_bytes words.now) ≢ Some (Run file)) → cards.new ≡ cards.old }
 
     // Causes of every status, over any hall and any cards: the words are refused only where they ask for

@@ -23,8 +23,8 @@ use vtoc_index::Vol;
 /// the hall: the condition code, 0 or 8, or the status of a fault of the device, 22, of the printer, 24, or
 /// of want of memory, 25.
 ///
-/// No write is pending before. Behind a fault the hall is one that a stop may leave; behind want of memory
-/// the statement may be done, and nothing was printed.
+/// No write is pending before. Behind a fault the hall is one that a stop may leave; behind one of the printer
+/// the statement is done, and no write is pending; behind want of memory it may be done, and nothing was printed.
 pub fn run_statement<H: Hall>(alloc: Global, statement: &Rename, vol: Vol, hall: H) -> (u8, H)
     requires unit { IsOfUnit (H.facts hall).units vol }
     requires mounted { IsTrue H.tells → IsMounted (image_of (H.meaning hall).state (H.facts hall) vol.unit) vol }

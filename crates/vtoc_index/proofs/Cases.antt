@@ -2,7 +2,7 @@
 use Rattle.std.proofs.Common.{◌≡◌, ◌≢◌, ◌+◌, inl, inr, ℕ, List, [], ◌∷◌, ◌++◌, get_or, length, replicate, Some, None, refl, sym, ap, subst, ◌∙◌, arith}
 use Rattle.std.specs.Prelude.{Option, Ok, Err}
 use Rattle.std.specs.List.{range_with_len}
-use Rattle.ckd_image.specs.declared.device.DiskType.TheVariants.{D2311}
+use Rattle.ckd_image.specs.declared.device.DiskType.TheVariants.{D2311, D2314}
 use Rattle.ckd_image.specs.declared.header.Geometry.{Geometry}
 use Rattle.ckd_image.specs.declared.header.ImageErr.TheVariants.{BadMagic}
 use Rattle.ckd_image.specs.Header.{HasGeometry, geometry_of, geometry_on}
@@ -15,11 +15,12 @@ use Rattle.dscb_codec.specs.declared.F1.{F1}
 use Rattle.dscb_codec.specs.Layout.{refusal_of}
 use Rattle.hall_core.specs.Facts.{Attached, Facts, unit_of}
 use Rattle.pack_spec.specs.Label.{records_on, track_bytes}
-use Rattle.pack_spec.specs.Faults.{slots_faults}
+use Rattle.pack_spec.specs.Faults.{slots_faults, track_fault, track_faults}
 use Rattle.pack_spec.specs.Slots.{addressed_from, first_extents, slots_of_vtoc}
 use Rattle.pack_spec.specs.Vtoc.{slots_on}
 use Rattle.pack_spec.specs.Volume.{volume_of}
 use Rattle.pack_spec.specs.declared.MountErr.TheVariants.{Device, Image, Memory, NoLabel}
+use Rattle.pack_spec.specs.declared.address.Address.{Address}
 use Rattle.pack_spec.specs.declared.addressed.VtocSlot.{VtocSlot}
 use Rattle.track_records.specs.Buffers.{Buffer}
 use Rattle.vtoc_index.specs.Calls.{MountCall}
@@ -47,6 +48,14 @@ index_is_as_long image v s stand held = (λ is. rw (held, stand) at is.slots, λ
 firsts_are_as_many : (image : List ℕ) (g : Geometry) (found : ReadSlots) (n : ℕ) → found.firsts.items ≡ n ∷ [] → ¬ AreTracksRead image g 1 2 found
 unfolding firsts_of
 firsts_are_as_many image g found n is read = let same = ap length (sym is ∙ read.firsts) in absurd (omega (arith, same))
+
+-- the slots that were read are those that stand on the tracks, and no track breaks the rules, also where no slot is read
+slots_are_those_that_stand : (image : List ℕ) (g : Geometry) (found : ReadSlots) (s : VtocSlot) → slots_of_vtoc image g (record { start = 1; len = 2 }) ≡ s ∷ [] → found.slots.items ≡ [] → ¬ AreTracksRead image g 1 2 found
+slots_are_those_that_stand image g found s stand held read = rw (held, stand) at read.slots
+
+each_track_is_read : (found : ReadSlots) → ¬ AreTracksRead [] (record { device = D2311; cylinders = 2; track_size = 4096 }) 1 2 found
+unfolding track_faults track_fault slots_on records_on track_bytes records_of is_front
+each_track_is_read found read = absurd (cc read.tracks)
 
 -- the slots of three tracks, of which one has none
 firsts : List ℕ
@@ -90,6 +99,13 @@ read s is = record { address = refl; content = subst (IsContent (Ok formats.F0))
 other_content : (s : VtocSlot) → s.bytes ≡ replicate 140 0 → ¬ IsRead (record { address = s.address; content = Err (BadFormat 0) }) s
 other_content s is read = let never : None ≡ Some (BadFormat 0) = subst (λ (bytes : List ℕ). refusal_of bytes ≡ Some (BadFormat 0)) is read.content in cc
 
+-- and it has that slot's address
+abbrev free_slot : ℕ → VtocSlot
+free_slot r = record { address = 0 ∷ 0 ∷ 0 ∷ 1 ∷ r ∷ []; bytes = replicate 140 0 }
+
+other_address : ¬ IsRead (record { address = (free_slot 2).address; content = Ok formats.F0 }) (free_slot 1)
+other_address read = let wrong : 2 ≡ 1 = ap (λ (l : List ℕ). get_or l 4 0) read.address in absurd (omega (arith, wrong))
+
 -- want of memory and a fault of the device say nothing of the image, and another reason is its first
 reasons : (image : List ℕ) → IsReason image Memory × IsReason image Device
 reasons image = (tt, tt)
@@ -112,6 +128,10 @@ says = (record { serial = refl; vtoc = refl }, record { serial = refl; vtoc = re
 other_serial : ¬ Says (record label { serial = record { bytes = 5 ∷ 5 ∷ 6 ∷ 7 ∷ 8 ∷ 9 ∷ [] } }) (range_with_len 0 80)
 unfolding label
 other_serial says = let first : 5 ≡ 4 = ap (λ (l : List ℕ). get_or l 0 0) says.serial in absurd (omega (arith, first))
+
+other_vtoc : ¬ Says (record label { vtoc = record { cylinder = 0x0B0C; head = 0x0D0D } }) (range_with_len 0 80)
+unfolding label
+other_vtoc says = let head : 0x0D0D ≡ 0x0D0E = ap (λ (a : Address). a.head) says.vtoc in absurd (omega (arith, head))
 
 -- a slot has both lengths, and a record that isn't there has none
 slot : ℕ → ℕ → Record
@@ -146,9 +166,30 @@ extents = (
   record { begins = refl; some = omega arith; few = omega arith; inside = omega arith },
 )
 
+-- it has 257 tracks at most, though more of them lie in the image
+most_tracks :
+    IsExtent (record { device = D2314; cylinders = 203; track_size = 7680 }) (record { cylinder = 0; head = 1 }) (record { start = 1; len = 257 })
+    × (¬ IsExtent (record { device = D2314; cylinders = 203; track_size = 7680 }) (record { cylinder = 0; head = 1 }) (record { start = 1; len = 258 }))
+most_tracks = (record { begins = refl; some = omega arith; few = omega arith; inside = omega arith }, λ is. omega (arith, is.few))
+
 -- a track has a number, and at most 255 slots
 not_numbered : (found : ReadSlots) → length found.firsts.items ≡ 1 → length found.slots.items ≡ 256 → (¬ AreNumbered 2 found) × (¬ AreNumbered 1 found)
 not_numbered found tracks slots = (λ are. omega (arith, tracks, are.tracks), λ are. omega (arith, slots, are.few))
+
+-- each track has a number, of which the first is 0, and each slot was read from some bytes: no DSCB has a number that its field can't hold
+abbrev too_large : F1 → ReadSlot
+too_large f = record { address = []; content = Ok (formats.F1 (record f { volseq = 65536 })) }
+
+read_from_no_bytes : (f : F1) (given : List VtocSlot) → ¬ AreRead (too_large f ∷ []) given
+read_from_no_bytes f [] are = are
+read_from_no_bytes f (s ∷ ss) are = omega (arith, are.0.content.2.0.0)
+
+numbered_otherwise : (f : F1) (found : ReadSlots) → (found.firsts.items ≡ 0 ∷ [] → ¬ AreNumbered 2 found) × (found.firsts.items ≡ 1 ∷ [] → ¬ AreNumbered 1 found) × (found.slots.items ≡ too_large f ∷ [] → ¬ AreNumbered 1 found)
+numbered_otherwise f found = (
+  λ is are. let one : 1 ≡ 2 = rw is at are.tracks in omega (arith, one),
+  λ is are. let first = rw is at are.firsts in omega (arith, first.0),
+  λ is are. read_from_no_bytes f are.read.0 (subst (λ (xs : List ReadSlot). AreRead xs are.read.0) is are.read.1),
+)
 
 -- the fields of a format 1 that lead to its extents
 extents_are : (f : F1) → HasExtentsOf f (range_with_len 0 140) → (f.extents ≡ 59) × (f.runs ≡ range_with_len 105 10 ∷ range_with_len 115 10 ∷ range_with_len 125 10 ∷ []) × (f.pointer ≡ 135 ∷ 136 ∷ 137 ∷ 138 ∷ 139 ∷ [])
@@ -158,6 +199,14 @@ extents_are f has = (sym has.count, sym has.first, sym has.pointer)
 -- the index is one of a unit that is there, with a number for each track of the VTOC and at most 65,535 slots, and its buffer is of that unit
 not_of_unit : (u : Attached) (v : Vol) → (v.unit ≡ 1 → ¬ IsOfUnit (u ∷ []) v) × (v.unit ≡ 0 → v.buf.unit ≡ 1 → ¬ IsOfUnit (u ∷ []) v) × (v.vtoc.len ≡ 2 → length v.firsts.items ≡ 1 → ¬ IsOfUnit (u ∷ []) v) × (length v.slots.items ≡ 65536 → ¬ IsOfUnit (u ∷ []) v)
 not_of_unit u v = (λ unit is. omega (arith, unit, is.attached), λ unit buf is. omega (arith, unit, buf, is.buffer.1), λ len firsts is. omega (arith, len, firsts, is.tracks), λ slots is. omega (arith, slots, is.most))
+
+-- the VTOC has 257 tracks at most, and its slots are numbered over them, at most 255 on each
+not_numbered_over_the_unit : (units : List Attached) (v : Vol) → (v.vtoc.len ≡ 258 → ¬ IsOfUnit units v) × (v.firsts.items ≡ 1 ∷ 2 ∷ [] → ¬ IsOfUnit units v) × (v.firsts.items ≡ 0 ∷ 2 ∷ [] → length v.slots.items ≡ 258 → ¬ IsOfUnit units v)
+not_numbered_over_the_unit units v = (
+  λ len is. omega (arith, len, is.few),
+  λ firsts is. let are = rw firsts at is.firsts in omega (arith, are.0),
+  λ firsts slots is. let are = rw firsts at is.firsts in omega (arith, slots, are.1.2.0, are.1.2.1.1, are.1.2.1.2),
+)
 
 -- where one slot is put, the image keeps its length, and its header
 not_put : (v : Vol) (bytes image : List ℕ) → (¬ IsPut v 0 bytes image (0 ∷ image)) × (¬ IsPut v 0 bytes (0 ∷ image) (1 ∷ image))
@@ -176,9 +225,32 @@ not_held x = (λ is. elim is [ inl none ↦ cc | inr stands ↦ let some = sym (
 has_slot : (image : List ℕ) (g : Geometry) (bytes : List ℕ) → slots_on image g 3 ≡ Some (bytes ∷ []) → HasSlot image g 3 1 × (¬ HasSlot image g 3 2)
 has_slot image g bytes is = (record { found = bytes ∷ []; slots = is; there = omega arith }, λ has. let found : has.found ≡ bytes ∷ [] = (let same = sym has.slots ∙ is in cc) in omega (arith, has.there, ap length found))
 
+-- a track that breaks the grammar has none
+has_no_slot : (image : List ℕ) (g : Geometry) (r : ℕ) → slots_on image g 3 ≡ None → ¬ HasSlot image g 3 r
+has_no_slot image g r none has = let never = sym none ∙ has.slots in cc
+
 -- the buffer alone may differ, and it stays that of its unit
 same_but : (v : Vol) (b : Buffer) → SameBut v v × (¬ SameBut v (record v { unit = v.unit + 1 }))
 same_but v b = (record { others = refl; geometry = refl; unit = refl }, λ same. let unit = ap (λ (w : Vol). w.unit) same.others in absurd (omega (arith, unit)))
+
+other_buffer : (v : Vol) → (¬ SameBut v (record v { buf = record v.buf { unit = v.buf.unit + 1 } })) × (¬ SameBut v (record v { buf = record v.buf { geometry = record v.buf.geometry { cylinders = v.buf.geometry.cylinders + 1 } } }))
+other_buffer v = (
+  λ same. absurd (omega (arith, same.unit)),
+  λ same. let more = ap (λ (g : Geometry). g.cylinders) same.geometry in absurd (omega (arith, more)),
+)
+
+-- so it is where one slot has a DSCB
+replaced : (v : Vol) (d : Dscb) → v.slots.items ≡ d ∷ []
+    → IsReplaced 0 d v v
+    × (¬ IsReplaced 0 d v (record v { unit = v.unit + 1 }))
+    × (¬ IsReplaced 0 d v (record v { buf = record v.buf { unit = v.buf.unit + 1 } }))
+    × (¬ IsReplaced 0 d v (record v { buf = record v.buf { geometry = record v.buf.geometry { cylinders = v.buf.geometry.cylinders + 1 } } }))
+replaced v d is = (
+  record { items = rw is refl; others = refl; geometry = refl; unit = refl },
+  λ replaced. let unit = ap (λ (w : Vol). w.unit) replaced.others in absurd (omega (arith, unit)),
+  λ replaced. absurd (omega (arith, replaced.unit)),
+  λ replaced. let more = ap (λ (g : Geometry). g.cylinders) replaced.geometry in absurd (omega (arith, more)),
+)
 
 -- one slot has the DSCB, once it is put; after an error the index keeps what it held
 not_replaced : (v : Vol) (c d : Dscb) → v.slots.items ≡ c ∷ [] → c ≢ d → (¬ IsReplaced 0 d v v) × (¬ IsWith {T = Unit {0}} {E = Unit {0}} 0 d v v (Ok tt)) × IsWith {T = Unit {0}} {E = Unit {0}} 0 d v v (Err tt)

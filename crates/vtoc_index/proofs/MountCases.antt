@@ -1,13 +1,14 @@
 -- A whole image and its index, computed. Each comment in small letters names what a near reading would let through.
-use Rattle.std.proofs.Common.{◌≡◌, ◌≢◌, inl, inr, ℕ, List, [], ◌∷◌, ◌++◌, length, get_or, replicate, Some, None, refl, sym, ap, subst, ◌∙◌, arith}
+use Rattle.std.proofs.Common.{◌≡◌, ◌≢◌, inl, inr, ℕ, List, [], ◌∷◌, ◌++◌, length, map, get_or, replicate, Some, None, refl, sym, ap, subst, ◌∙◌, arith}
 use Rattle.std.specs.Prelude.{Option, Ok, Err, slice_range, take}
 use Rattle.std.specs.Option.{option_map}
 use Rattle.ckd_image.specs.declared.device.DiskType.TheVariants.{D2311, D2314}
 use Rattle.ckd_image.specs.declared.header.Geometry.{Geometry}
 use Rattle.ckd_image.specs.declared.header.ImageErr.TheVariants.{BadLength}
-use Rattle.ckd_image.specs.Header.{geometry_of, geometry_on}
+use Rattle.ckd_image.specs.Header.{geometry_of, geometry_on, header_bytes}
 use Rattle.ckd_image.specs.Reading.{is_front, records_of, records_to_end, records_up_to}
 use Rattle.ckd_image.specs.Track.{Record}
+use Rattle.ckd_image.specs.Writing.{new_track}
 use Rattle.dscb_codec.specs.declared.Dscb.{Dscb}
 use Rattle.dscb_codec.specs.declared.Dscb.TheVariants as formats
 use Rattle.hall_core.specs.Facts.{Attached}
@@ -17,7 +18,7 @@ use Rattle.pack_spec.specs.Slots.{counted_extents, first_extents, format_3_of, f
 use Rattle.pack_spec.specs.Volume.{attr_of, data_set_of, data_sets_in, volume_of, volume_with}
 use Rattle.pack_spec.specs.Views.{tracks_of}
 use Rattle.pack_spec.specs.Vtoc.{slots_on, vtoc_at, vtoc_of}
-use Rattle.pack_spec.specs.Written.{slot_record}
+use Rattle.pack_spec.specs.Written.{label_records, slot_record}
 use Rattle.pack_spec.specs.declared.MountErr.{MountErr}
 use Rattle.pack_spec.specs.declared.MountErr.TheVariants.{BadDscb, BadExtent, BadVtoc, DuplicateName, Image, NoFormat5, VtocTrack}
 use Rattle.track_records.specs.Buffers.{Buffer}
@@ -33,7 +34,7 @@ use Rattle.vtoc_index.specs.Reading.{vtoc_on}
 use Rattle.vtoc_index.specs.declared.vol.Vol.{Vol}
 use Rattle.vtoc_index.proofs.ExtentLaw.{volume_is}
 use Rattle.vtoc_index.proofs.KeptLemmas.{kept_of, mounted_of}
-use Rattle.vtoc_index.proofs.SmallPack.{Holds, a, are_dscbs, b, c, data_set, extent, f1, f4, f5, first_track, format_4, format_5, four_slots, header_is_read, holds, image, index, label_is_read, one_cylinder, pack01, pack_of, second_track, set_bytes, slots_are_counted, slots_are_read, two_tracks, vtoc_is_found, with_sets}
+use Rattle.vtoc_index.proofs.SmallPack.{Holds, a, are_dscbs, b, c, data_set, extent, f1, f4, f5, first_track, format_4, format_5, four_slots, header_is_read, holds, image, index, label_is_read, one_cylinder, pack01, pack_of, second_track, set_bytes, slot_on, slots_are_counted, slots_are_read, two_tracks, vtoc_is_found, with_sets}
 
 -- No track and no slot of the image breaks a rule.
 no_track_breaks_a_rule : track_faults image one_cylinder two_tracks ≡ []
@@ -89,6 +90,15 @@ extent_is_read_where_the_label_leads = (refl, refl, refl)
 slots_are_counted_by_tracks : (slots_before image one_cylinder two_tracks 0 ≡ 0) × (slots_before image one_cylinder two_tracks 1 ≡ 2) × (slots_before image one_cylinder two_tracks 2 ≡ 4)
 unfolding slots_of_vtoc slots_at slots_on records_on track_bytes records_of is_front records_to_end
 slots_are_counted_by_tracks = (refl, refl, refl)
+
+-- The first slot of each track is numbered, also of one without slots behind others.
+first_slots_are_numbered :
+    (firsts_of image one_cylinder two_tracks ≡ 0 ∷ 2 ∷ [])
+    × (firsts_of image one_cylinder (record { start = 2; len = 1 }) ≡ 0 ∷ [])
+    × (firsts_of image one_cylinder (record { start = 0; len = 4 }) ≡ 0 ∷ 0 ∷ 2 ∷ 4 ∷ [])
+    × (firsts_of image one_cylinder (record { start = 1; len = 0 }) ≡ [])
+unfolding firsts_of slots_of_vtoc slots_at slots_on records_on track_bytes records_of is_front records_to_end
+first_slots_are_numbered = (refl, refl, refl, refl)
 
 -- the records on a track of the VTOC
 abbrev records : List Record
@@ -276,6 +286,31 @@ format_4_stands_behind_slot_0 = refl
 byte_stands_behind_the_last_track : IsReason (image ++ 0 ∷ []) (Image (BadLength 41473))
 unfolding volume_of geometry_of geometry_on
 byte_stands_behind_the_last_track = refl
+
+-- An image whose VTOC has a second track of zeros: what can be read of it is held, but that track breaks a rule.
+abbrev second_is_broken : List ℕ
+second_is_broken =
+    header_bytes one_cylinder
+    ++ new_track 0 0 (label_records pack01 first_track) 4096
+    ++ new_track 0 1 (map (slot_record first_track) (format_4 ∷ format_5 ∷ [])) 4096
+    ++ replicate 32768 0
+
+broken_slots_are_read : slots_of_vtoc second_is_broken one_cylinder two_tracks ≡ slot_on 1 1 format_4 ∷ slot_on 1 2 format_5 ∷ []
+unfolding slots_of_vtoc slots_at slots_on records_on track_bytes records_of is_front records_to_end
+broken_slots_are_read = refl
+
+broken_vtoc_is_found : vtoc_of second_is_broken one_cylinder ≡ Ok two_tracks
+unfolding vtoc_of vtoc_at label_of label_in records_on track_bytes records_of is_front records_up_to
+broken_vtoc_is_found = refl
+
+each_track_is_whole : (v : Vol) → v.geometry ≡ one_cylinder → v.vtoc ≡ two_tracks → (¬ IsIndexOf second_is_broken v) × (¬ IsKept second_is_broken v)
+unfolding track_faults track_fault slots_on records_on track_bytes records_of is_front records_to_end
+each_track_is_whole v geometry run = (λ is. broken is.tracks, λ is. broken is.tracks)
+  where
+    broken : track_faults second_is_broken v.geometry v.vtoc ≡ [] → ⊥
+    broken none =
+        let faults : VtocTrack 2 ∷ [] ≡ [] = subst (λ (run : Run). track_faults second_is_broken one_cylinder run ≡ []) run (subst (λ (g : Geometry). track_faults second_is_broken g v.vtoc ≡ []) geometry none) in
+        cc
 
 -- Such an image has an index, but is none that is mounted.
 pub not_mounted : (broken : List ℕ) (e : MountErr) → volume_of broken ≡ Err e → (v : Vol) → ¬ IsMounted broken v

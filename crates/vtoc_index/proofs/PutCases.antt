@@ -1,7 +1,8 @@
 -- One slot of the small pack is put, computed. Each comment in small letters names what a near reading would let through.
-use Rattle.std.proofs.Common.{◌≡◌, ◌≢◌, ◌⊎◌, ⊎_elim, inl, inr, ℕ, List, [], ◌∷◌, ◌++◌, codes, drop, get_or, take, refl, sym, ap, subst, ◌∙◌, arith}
-use Rattle.std.specs.Prelude.{Ok, Err, unwrap_or}
-use Rattle.ckd_image.specs.Reading.{is_front, records_of, records_to_end}
+use Rattle.std.proofs.Common.{◌≡◌, ◌≢◌, ◌⊎◌, ⊎_elim, inl, inr, ℕ, List, [], ◌∷◌, ◌++◌, codes, drop, get_or, length, take, Some, None, refl, sym, ap, subst, ◌∙◌, arith}
+use Rattle.std.specs.Prelude.{Result, Ok, Err, slice_get, unwrap_or}
+use Rattle.std.specs.Option.{option_map}
+use Rattle.ckd_image.specs.Reading.{is_front, records_of, records_to_end, records_up_to}
 use Rattle.dscb_codec.specs.declared.Dscb.{Dscb}
 use Rattle.dscb_codec.specs.declared.Dscb.TheVariants as formats
 use Rattle.dscb_codec.specs.Layout.{IsDscb, f1_fields}
@@ -9,16 +10,19 @@ use Rattle.dscb_codec.proofs.Tables.{decoded_encoded}
 use Rattle.hall_core.specs.Files.{AfterWrite, File, IsPending, file_of, patched, written}
 use Rattle.hall_core.specs.Moments.{Meaning}
 use Rattle.pack_spec.specs.declared.addressed.VtocSlot.{VtocSlot}
-use Rattle.pack_spec.specs.Label.{records_on, track_bytes}
+use Rattle.pack_spec.specs.declared.MountErr.TheVariants.{VtocTrack}
+use Rattle.pack_spec.specs.Faults.{track_fault, track_faults}
+use Rattle.pack_spec.specs.Label.{label_in, label_of, records_on, track_bytes}
 use Rattle.pack_spec.specs.Slots.{slots_at, slots_of_vtoc}
 use Rattle.pack_spec.specs.Vtoc.{slots_on}
+use Rattle.pack_spec.specs.Written.{label_bytes}
 use Rattle.vtoc_index.specs.Contents.{AreDscbs}
-use Rattle.vtoc_index.specs.Index.{IsPut}
+use Rattle.vtoc_index.specs.Index.{IsPut, place_of_slot}
 use Rattle.vtoc_index.specs.Puts.{AfterPut, IsReplaced}
 use Rattle.vtoc_index.specs.declared.vol.Vol.{Vol}
 use Rattle.vtoc_index.proofs.MountCases.{index_is_mounted}
 use Rattle.vtoc_index.proofs.PutLaw.{index_put, slot_put}
-use Rattle.vtoc_index.proofs.SmallPack.{a, all_stand, b, c, data_set, f1, f4, f5, format_4, format_5, image, index, one_cylinder, set_bytes, slot_on, two_tracks, with_sets}
+use Rattle.vtoc_index.proofs.SmallPack.{a, all_stand, b, c, data_set, f1, f4, f5, first_track, format_4, format_5, image, index, one_cylinder, pack01, set_bytes, slot_on, two_tracks, with_sets}
 
 -- the file of the image
 abbrev file : List ℕ
@@ -114,6 +118,63 @@ module _ (any : Vol) where
     kept = slot_is_put;
     done = tt;
   }
+
+-- the bytes of a slot
+abbrev bytes_at : ℕ → List VtocSlot → List ℕ
+bytes_at slot slots = unwrap_or (option_map (λ (s : VtocSlot). s.bytes) (slice_get slots slot)) []
+
+-- an image that ends behind the end marker of its third track
+abbrev cut : List ℕ
+cut = take 9029 image
+
+-- One field at a time of what is said of an image with a slot: each other field holds here.
+module _ (any : Vol) where
+  -- a byte is another that belongs to no slot: in the count before the slot, or behind the last record of its track
+  nothing_else_is_written : (¬ IsPut (index any) 3 (data_set c) image (take 8873 put ++ 9 ∷ drop 8874 put)) × (¬ IsPut (index any) 3 (data_set c) image (take 12799 put ++ 9 ∷ drop 12800 put))
+  unfolding patched
+  nothing_else_is_written = (
+    λ is. let wrong : 9 ≡ 0 = ap (λ (l : List ℕ). get_or l 8873 1) is.written in omega (arith, wrong),
+    λ is. let wrong : 9 ≡ 0 = ap (λ (l : List ℕ). get_or l 12799 1) is.written in omega (arith, wrong),
+  )
+
+  -- the image grows on the track of the slot, behind which none is
+  image_keeps_its_size : (cut ++ data_set c ≡ patched cut (place_of_slot (index any) 4) (data_set c)) × (¬ IsPut (index any) 4 (data_set c) cut (cut ++ data_set c))
+  unfolding patched
+  image_keeps_its_size = (refl, λ is. let wrong : 9169 ≡ 9029 = is.size in omega (arith, wrong))
+
+  -- the bytes lack the last of a slot's, which stands there
+  slot_has_all_its_bytes : (image ≡ patched image (place_of_slot (index any) 3) (take 139 (data_set a))) × (¬ IsPut (index any) 3 (take 139 (data_set a)) image image)
+  unfolding patched slots_of_vtoc slots_at slots_on records_on track_bytes records_of is_front records_to_end
+  slot_has_all_its_bytes = (refl, λ is. let wrong : 140 ≡ 139 = ap (λ (slots : List VtocSlot). length (bytes_at 3 slots)) is.slots in omega (arith, wrong))
+
+  -- the VTOC has no track, and the label is written over
+  label_stays : ¬ IsPut (record (index any) { vtoc = record { start = 0; len = 0 } }) 0 (data_set c) image (patched image 541 (data_set c))
+  unfolding patched label_of label_in records_on track_bytes records_of is_front records_to_end records_up_to
+  label_stays is = let gone : None ≡ Some (label_bytes pack01 first_track) = is.label in absurd (cc)
+
+  -- the VTOC goes on over a track that breaks the grammar, as it did before
+  tracks_are_whole : ¬ IsPut (record (index any) { vtoc = record { start = 1; len = 3 } }) 3 (data_set c) image put
+  unfolding track_faults track_fault slots_on records_on track_bytes records_of is_front records_to_end
+  tracks_are_whole is = let broken : VtocTrack 3 ∷ [] ≡ [] = is.tracks in absurd (cc)
+
+  -- the slot would stand on the track behind the VTOC
+  abbrev behind : List ℕ
+  behind = patched image 12877 (data_set c)
+
+  other_tracks_stay : (place_of_slot (index any) 30 ≡ 12877) × (¬ IsPut (index any) 30 (data_set c) image behind)
+  unfolding patched track_bytes
+  other_tracks_stay = (refl, λ is. let wrong : 0xC3 ≡ 0 = ap (λ (l : List ℕ). get_or l 77 1) (is.others 3 (λ same. omega (arith, same))) in omega (arith, wrong))
+
+  -- a DSCB isn't put on that track, whatever is answered
+  no_slot_is_put_behind_the_vtoc : {T E : Type 0} (v' : Vol) (seen : List ℕ) (from to : Meaning (List File)) (result : Result T E) → ¬ AfterPut file (index any) 30 set_c v' image seen from to result
+  no_slot_is_put_behind_the_vtoc v' seen from to result after =
+      other_tracks_stay.1
+      (subst (λ (bytes : List ℕ). IsPut (index any) 30 bytes image (patched image 12877 bytes)) (decoded_encoded set_c after.bytes (data_set c) after.size refl after.dscb c_stands) after.kept)
+
+  -- it is a slot that is there: at a number behind the last all else holds, for no bytes and for those of a set behind the end marker
+  no_slot_is_there : (¬ IsPut (index any) 4 [] cut cut) × (¬ IsPut (index any) 4 (data_set c) image (patched image 9029 (data_set c)))
+  unfolding slots_of_vtoc slots_at slots_on records_on track_bytes records_of is_front records_to_end
+  no_slot_is_there = (λ is. omega (arith, is.there), λ is. omega (arith, is.there))
 
 -- it is done, and other files are read
 module _ (any v' : Vol) (seen : List ℕ) (after : Meaning (List File)) where

@@ -196,9 +196,10 @@ unfolding track_fault
 good_fault image g track found good = rw good refl
 
 -- the image whose record was written over has that slot, and is otherwise as before
-put_updated : (image put : List ℕ) (v : Vol) (slot : ℕ) (key content : List ℕ) (f : Found image v slot) → IsIndexOf image v → length key ≡ 44 → length content ≡ 96 → put ≡ patched image (place_of_slot v slot) (key ++ content)
+put_updated : (image put : List ℕ) (v : Vol) (slot : ℕ) (key content : List ℕ) (f : Found image v slot) → IsIndexOf image v → slot < length v.slots.items → length key ≡ 44 → length content ≡ 96 → put ≡ patched image (place_of_slot v slot) (key ++ content)
     → IsUpdated (buffer_of v slot f.records) (front_of v slot) key content image put → IsPut v slot (key ++ content) image put
-put_updated image put v slot key content f index keys contents is u = record {
+put_updated image put v slot key content f index low keys contents is u = record {
+  there = omega (arith, low, same_length v.slots.items (slots_of_vtoc image v.geometry v.vtoc) index.slots);
   written = is;
   size = u.size;
   header = u.header;
@@ -247,7 +248,7 @@ slot_put image v slot bytes index low size =
     let contents : length content ≡ 96 = omega (arith, size, length-drop 44 bytes) in
     let joined : key ++ content ≡ bytes = take-append-drop 44 bytes in
     subst (λ (bs : List ℕ). IsPut v slot bs image (patched image (place_of_slot v slot) bs)) joined
-    (put_updated image (patched image (place_of_slot v slot) (key ++ content)) v slot key content f index keys contents refl (slot_updated image v slot key content f index keys contents))
+    (put_updated image (patched image (place_of_slot v slot) (key ++ content)) v slot key content f index low keys contents refl (slot_updated image v slot key content f index keys contents))
 
 -- The index of that image holds the slot's DSCB in its place.
 pub index_put : (image put : List ℕ) (v v' : Vol) (slot : ℕ) (d : Dscb) (bytes : List ℕ) → IsIndexOf image v → IsPut v slot bytes image put → IsDscb d bytes → IsReplaced slot d v v' → IsHeld put v'.buf → IsIndexOf put v'

@@ -1,5 +1,5 @@
 -- What a slot as it was read holds, computed where near readings give something else.
-use Rattle.std.proofs.Common.{◌≡◌, ℕ, true, false, List, [], ◌∷◌, length, replicate, Some, None, refl}
+use Rattle.std.proofs.Common.{◌≡◌, ℕ, true, false, List, [], ◌∷◌, ◌++◌, get_or, length, replicate, take, Some, None, refl, ap, arith}
 use Rattle.std.specs.Prelude.{Result, Ok, Err}
 use Rattle.dscb_codec.specs.declared.Dscb.{Dscb}
 use Rattle.dscb_codec.specs.declared.Dscb.TheVariants as formats
@@ -7,9 +7,11 @@ use Rattle.dscb_codec.specs.declared.DscbErr.{DscbErr}
 use Rattle.dscb_codec.specs.declared.DscbErr.TheVariants.{BadFormat}
 use Rattle.dscb_codec.specs.declared.F1.{F1}
 use Rattle.dscb_codec.specs.declared.F3.{F3}
-use Rattle.vtoc_index.specs.Rules.{counted_rows, dscb_in, has_own_chain, is_chained_set, is_f3, is_f4, is_f5_or_f0, is_led_to, is_named_content, leads_along, name_in, rows_in, slot_led_to}
+use Rattle.pack_spec.specs.Slots.{first_extents}
+use Rattle.vtoc_index.specs.Contents.{is_set_named}
+use Rattle.vtoc_index.specs.Rules.{HasExtentsOf, counted_rows, dscb_in, has_own_chain, is_chained_set, is_f3, is_f4, is_f5_or_f0, is_led_to, is_named_content, leads_along, name_in, rows_in, slot_led_to}
 use Rattle.vtoc_index.specs.declared.slots.ReadSlot.{ReadSlot}
-use Rattle.vtoc_index.proofs.SmallPack.{a, b, f1, f4, f5}
+use Rattle.vtoc_index.proofs.SmallPack.{a, b, data_set, extent, f1, f4, f5}
 
 -- an extent of equal bytes
 abbrev row : ℕ → List ℕ
@@ -70,6 +72,29 @@ names_are_those_of_sets :
     × (is_named_content (replicate 44 4) (Ok (formats.F4 f4)) ≡ false)
     × (is_named_content a broken ≡ false)
 names_are_those_of_sets = (refl, refl, refl, refl, refl, refl, refl, refl)
+
+sets_are_named_alike :
+    (is_set_named a (formats.F1 (f1 a)) ≡ true)
+    × (is_set_named b (formats.F1 (f1 a)) ≡ false)
+    × (is_set_named (take 43 a) (formats.F1 (f1 a)) ≡ false)
+    × (is_set_named (take 43 a ++ 0x40 ∷ []) (formats.F1 (f1 a)) ≡ false)
+    × (is_set_named (replicate 44 4) (formats.F4 f4) ≡ false)
+    × (is_set_named (replicate 44 0) formats.F0 ≡ false)
+sets_are_named_alike = (refl, refl, refl, refl, refl, refl)
+
+-- A set has the count, the extents and the pointer of its bytes, each of them.
+extents_are_those_of_the_bytes :
+    HasExtentsOf (f1 a) (data_set a)
+    × (¬ HasExtentsOf (record (f1 a) { extents = 2 }) (data_set a))
+    × (¬ HasExtentsOf (record (f1 a) { runs = replicate 10 0 ∷ extent 3 9 ∷ replicate 10 0 ∷ [] }) (data_set a))
+    × (¬ HasExtentsOf (record (f1 a) { pointer = place 3 }) (data_set a))
+unfolding first_extents
+extents_are_those_of_the_bytes = (
+  record { count = refl; first = refl; pointer = refl },
+  λ has. let wrong : 1 ≡ 2 = has.count in omega (arith, wrong),
+  λ has. let wrong : 1 ≡ 0 = ap (λ (rows : List (List ℕ)). get_or (get_or rows 0 []) 0 9) has.first in omega (arith, wrong),
+  λ has. let wrong : 0 ≡ 2 = ap (λ (l : List ℕ). get_or l 3 9) has.pointer in omega (arith, wrong),
+)
 
 -- A slot holds its DSCB, or none.
 dscb_is_that_of_the_slot : (dscb_in (read 1 (Ok formats.F0)) ≡ Some formats.F0) × (dscb_in (read 1 broken) ≡ None)

@@ -84,6 +84,7 @@ place_of_slot v slot =
 
 -- One slot of the VTOC has these bytes, and nothing else on the image is changed.
 pub record IsPut (v : Vol) (slot : ℕ) (bytes image put : List ℕ) : Type 0 where
+  pub there : slot < length (slots_of_vtoc image v.geometry v.vtoc)
   pub written : put ≡ patched image (place_of_slot v slot) bytes
   pub size : length put ≡ length image
   pub header : take 512 put ≡ take 512 image

@@ -4,7 +4,7 @@ ghost use Rattle.hall_core.specs.Memory.{facts_of};
 
 use super::*;
 use ckd_image::{FRONT_LEN, HEADER_LEN};
-use dscb_codec::{Dscb, decode};
+use dscb_codec::{Dscb, encode};
 use ebcdic_names::Dsn;
 use hall_core::{Call, Device, Hall, MemHall};
 use std::alloc::{AllocError, Global};
@@ -181,7 +181,7 @@ fn change<H: Hall>(
 #[test]
 fn a_name_that_is_put_twice_is_found_in_its_lowest_slot(rt: HostRuntime) -> Result<(), Fail> {
     let alloc = rt.alloc();
-    let dscb = decode(&set(0xC1, 5)).unwrap_or(Dscb::F0);
+    let dscb = set(0xC1, 5);
     let mut hall = hall_with(alloc, &[], NONE)?;
     let (put, vol, again) = change(alloc, &mut hall, 5, &dscb)?;
     assert_eq!(rt; put, Ok(()));
@@ -194,7 +194,7 @@ fn a_name_that_is_put_twice_is_found_in_its_lowest_slot(rt: HostRuntime) -> Resu
 #[test]
 fn slot_0_is_put_and_read_again(rt: HostRuntime) -> Result<(), Fail> {
     let alloc = rt.alloc();
-    let dscb = decode(&vtoc(1, 2, 9)).unwrap_or(Dscb::F0);
+    let dscb = vtoc(1, 2, 9);
     let mut hall = hall_with(alloc, &[], NONE)?;
     let (put, vol, again) = change(alloc, &mut hall, 0, &dscb)?;
     let again = again?;
@@ -226,8 +226,8 @@ fn tracks_without_slots_are_passed_over(rt: HostRuntime) -> Result<(), Fail> {
     assert_eq!(rt; vol.firsts.as_slice(), [0u32, 3, 3, 5].as_slice());
     assert_eq!(rt; slot_of(&vol, 0xC1), Some(2));
     assert_eq!(rt; slot_of(&vol, 0xC2), Some(4));
-    let bytes = set(0xC4, 7);
-    let dscb = decode(&bytes).unwrap_or(Dscb::F0);
+    let dscb = set(0xC4, 7);
+    let bytes = encode(&dscb);
     for (slot, at) in BESIDE_GAPS {
         let mut expected = image_with_gaps(alloc)?;
         for (to, from) in expected.iter_mut().skip(at).zip(&bytes) {
@@ -268,7 +268,7 @@ fn slot_is_put_in_one_write(rt: HostRuntime) -> Result<(), Fail> {
     let old_image = image_of(rt.alloc(), &[])?;
     for (i, (slot, old, track, at, fails, want, is_read)) in PUTS.into_iter().enumerate() {
         let new_image = image_of(rt.alloc(), &[(at, 0xC4)])?;
-        let dscb = decode(&set(0xC4, track)).unwrap_or(Dscb::F0);
+        let dscb = set(0xC4, track);
         let mut hall = hall_with(rt.alloc(), &[], fails)?;
         let (put, vol, again) = change(rt.alloc(), &mut hall, slot, &dscb)?;
         let again = again?;

@@ -1,7 +1,8 @@
 //! A pack of two cylinders of a 2311, with three data sets in the seven slots of its VTOC.
 use ckd_image::{COUNT_LEN, DiskType, Geometry, Header};
+use dscb_codec::{Dscb, F1, F4, F5, encode};
 use ebcdic_names::Serial;
-use pack_spec::layout::{self, Slot};
+use pack_spec::layout::{self, Extent};
 use pack_spec::{Address, label_track, record_address, slots_track};
 use std::alloc::{AllocError, Global};
 
@@ -29,8 +30,6 @@ const SERIAL: Serial = Serial {
 /// The name of a data set.
 pub(crate) type Name = [u8; 44];
 
-const FREE: Slot = [0; 140];
-
 /// The name of these letters.
 pub(crate) fn name(letters: &[u8]) -> Name {
     let mut name = [0x40; 44];
@@ -40,24 +39,19 @@ pub(crate) fn name(letters: &[u8]) -> Name {
     name
 }
 
-// A slot of this format with one extent, from one track of cylinder 0 to another.
-fn slot(format: u8, first: u8, last: u8) -> Slot {
-    let mut slot = FREE;
-    slot[44] = format;
-    slot[105] = 1;
-    slot[110] = first;
-    slot[114] = last;
-    slot
+// An extent from one track of cylinder 0 to another.
+fn extent(first: u8, last: u8) -> Extent {
+    [1, 0, 0, 0, 0, first, 0, 0, 0, last]
 }
 
-// The slot of the data set of this name on one track of cylinder 0.
-fn set(name: &Name, track: u8) -> Slot {
-    let mut slot = slot(0xF1, track, track);
-    for (to, from) in slot.iter_mut().zip(name) {
-        *to = *from;
-    }
-    slot[59] = 1;
-    slot
+// The data set of this name on one track of cylinder 0.
+fn set(name: &Name, track: u8) -> Dscb {
+    Dscb::F1(F1 {
+        name: *name,
+        extents: 1,
+        runs: [extent(track, track), [0; 10], [0; 10]],
+        ..F1::default()
+    })
 }
 
 // The address of a track.
@@ -68,13 +62,13 @@ fn address_of(track: u16) -> Address {
 /// The image of the pack. Sets of the first two names stand in slots 2 and 3, the last on track 1, and
 /// one of the third name in slot 5, the second on track 2.
 pub(crate) fn image_of(alloc: Global, names: &[Name; 3]) -> Result<Vec<u8>, AllocError> {
-    let front = [
-        slot(0xF4, 1, 2),
-        slot(0xF5, 0, 0),
-        set(&names[0], 3),
-        set(&names[1], 4),
-    ];
-    let back = [FREE, set(&names[2], 5), FREE];
+    let vtoc = Dscb::F4(F4 {
+        vtoc: extent(1, 2),
+        ..F4::default()
+    });
+    let space = Dscb::F5(F5::default());
+    let front = [vtoc, space, set(&names[0], 3), set(&names[1], 4)].map(|dscb| encode(&dscb));
+    let back = [Dscb::F0, set(&names[2], 5), Dscb::F0].map(|dscb| encode(&dscb));
     let mut image = Header::write(&PACK).to_vec(alloc)?;
     image.extend_from_slice(&label_track(alloc, &SERIAL, address_of(1), TRACK_LEN)?)?;
     for track in 1..TRACKS {

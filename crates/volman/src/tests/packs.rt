@@ -2,6 +2,7 @@
 ghost use Rattle.std.specs.Prelude.{◌≡◌, ◌≤◌};
 
 use ckd_image::{DiskType, Geometry, Header};
+use dscb_codec::{Dscb, F1, F3, F4, F5, encode};
 use ebcdic_names::Serial;
 use pack_spec::{Address, label_track, layout, record_address, slots_track};
 use std::alloc::{AllocError, Global};
@@ -23,6 +24,9 @@ const VTOC_BEGIN: u16 = 9;
 // The most slots that are put on a track.
 const MOST_SLOTS: usize = 16;
 
+// An extent of track 8 alone.
+const EXTENT: layout::Extent = [1, 0, 0, 0, 0, 8, 0, 0, 0, 8];
+
 // A serial of blanks.
 const BLANKS: Serial = Serial { bytes: [0x40; 6] };
 
@@ -40,27 +44,25 @@ pub(crate) enum Slot {
 }
 
 impl Slot {
-    // The key and the data.
-    fn bytes(self) -> layout::Slot {
-        let mut bytes = [0; layout::SLOT_LEN];
+    // Its DSCB.
+    fn dscb(self) -> Dscb {
         match self {
-            Slot::F0 => {}
-            Slot::F1(name) => {
-                bytes[..44].copy_from_slice(&padded(name));
-                bytes[44] = 0xF1;
-            }
-            Slot::F3 => {
-                bytes[..4].copy_from_slice(&[3; 4]);
-                write_extents(&mut bytes[4..44]);
-                bytes[44] = 0xF3;
-                write_extents(&mut bytes[45..135]);
-            }
-            Slot::F5 => {
-                bytes[..44].copy_from_slice(&[5; 44]);
-                bytes[44] = 0xF5;
-            }
+            Slot::F0 => Dscb::F0,
+            Slot::F1(name) => Dscb::F1(F1 {
+                name: padded(name),
+                ..F1::default()
+            }),
+            Slot::F3 => Dscb::F3(F3 {
+                id: 0x0303_0303,
+                front: [EXTENT; 4],
+                back: [EXTENT; 9],
+                ..F3::default()
+            }),
+            Slot::F5 => Dscb::F5(F5 {
+                id: 0x0505_0505,
+                ..F5::default()
+            }),
         }
-        bytes
     }
 }
 
@@ -73,26 +75,15 @@ pub(crate) fn padded(name: &[u8]) -> [u8; 44] {
     bytes
 }
 
-// Fills bytes with extents of track 8 alone.
-fn write_extents(bytes: &mut [u8]) {
-    for (to, from) in bytes
-        .iter_mut()
-        .zip([1, 0, 0, 0, 0, 8, 0, 0, 0, 8].iter().cycle())
-    {
-        *to = *from;
-    }
-}
-
 // Slot 0: the extent of the VTOC ends with the track of this address.
-fn vtoc_slot(last: Address) -> layout::Slot {
+fn vtoc_slot(last: Address) -> Dscb {
     let [cc_high, cc_low] = last.cylinder.to_be_bytes();
     let [hh_high, hh_low] = last.head.to_be_bytes();
-    let mut bytes = [0; layout::SLOT_LEN];
-    bytes[..44].copy_from_slice(&[4; 44]);
-    bytes[44] = 0xF4;
-    bytes[105..111].copy_from_slice(&[1, 0, 0, 0, 0, 9]);
-    bytes[111..115].copy_from_slice(&[cc_high, cc_low, hh_high, hh_low]);
-    bytes
+    Dscb::F4(F4 {
+        id: [4; 44],
+        vtoc: [1, 0, 0, 0, 0, 9, cc_high, cc_low, hh_high, hh_low],
+        ..F4::default()
+    })
 }
 
 // The address of a track.
@@ -112,10 +103,10 @@ fn slots_of(
         return Ok(slots);
     };
     if index == 0 {
-        slots.push(vtoc_slot(last))?;
+        slots.push(encode(&vtoc_slot(last)))?;
     }
     for slot in vtoc.get(usize::from(index)).copied().unwrap_or_default() {
-        slots.push(slot.bytes())?;
+        slots.push(encode(&slot.dscb()))?;
     }
     Ok(slots)
 }

@@ -1,7 +1,8 @@
 //! A pack of two cylinders of a 2311, ABC123, whose VTOC begins on track 1.
 use ckd_image::{COUNT_LEN, DiskType, Geometry, Header};
+use dscb_codec::{Dscb, F1, F4, F5, encode};
 use ebcdic_names::Serial;
-use pack_spec::layout::{self, Slot};
+use pack_spec::layout::{self, Extent, Slot};
 use pack_spec::{Address, label_track, record_address, slots_track};
 use std::alloc::{AllocError, Global};
 
@@ -30,8 +31,6 @@ pub(crate) const SERIAL: [u8; 6] = [0xC1, 0xC2, 0xC3, 0xF1, 0xF2, 0xF3];
 /// A byte to write over one of the image: its offset, and the byte.
 pub(crate) type Patch = (usize, u8);
 
-const FREE: Slot = [0; 140];
-
 /// The name of one letter.
 pub(crate) fn name(letter: u8) -> [u8; 44] {
     let mut name = [0x40; 44];
@@ -39,34 +38,29 @@ pub(crate) fn name(letter: u8) -> [u8; 44] {
     name
 }
 
+// An extent from one track of cylinder 0 to another.
+fn extent(first: u8, last: u8) -> Extent {
+    [1, 0, 0, 0, 0, first, 0, 0, 0, last]
+}
+
 /// The format 4 of a VTOC on these tracks of cylinder 0, with so many free slots.
-pub(crate) fn vtoc(first: u8, last: u8, free: u8) -> Slot {
-    let mut slot = slot(0xF4, first, last);
-    for byte in slot.iter_mut().take(44) {
-        *byte = 4;
-    }
-    slot[51] = free;
-    slot
+pub(crate) fn vtoc(first: u8, last: u8, free: u16) -> Dscb {
+    Dscb::F4(F4 {
+        id: [4; 44],
+        free,
+        vtoc: extent(first, last),
+        ..F4::default()
+    })
 }
 
-// A slot of this format with an extent from one track of cylinder 0 to another.
-fn slot(format: u8, first: u8, last: u8) -> Slot {
-    let mut slot = FREE;
-    slot[44] = format;
-    slot[105] = 1;
-    slot[110] = first;
-    slot[114] = last;
-    slot
-}
-
-/// The slot of the data set of this name, which has one extent of one track of cylinder 0.
-pub(crate) fn set(letter: u8, track: u8) -> Slot {
-    let mut slot = slot(0xF1, track, track);
-    for (to, from) in slot.iter_mut().zip(&name(letter)) {
-        *to = *from;
-    }
-    slot[59] = 1;
-    slot
+/// The data set of this name, which has one extent of one track of cylinder 0.
+pub(crate) fn set(letter: u8, track: u8) -> Dscb {
+    Dscb::F1(F1 {
+        name: name(letter),
+        extents: 1,
+        runs: [extent(track, track), [0; 10], [0; 10]],
+        ..F1::default()
+    })
 }
 
 // The address of a track.
@@ -75,7 +69,7 @@ fn address_of(track: u16) -> Address {
 }
 
 // The image of the pack with these slots on the tracks of its VTOC, from track 1 on.
-fn image_with(alloc: Global, vtoc: &[&[Slot]]) -> Result<Vec<u8>, AllocError> {
+fn image_with(alloc: Global, vtoc: &[&[Dscb]]) -> Result<Vec<u8>, AllocError> {
     let serial = Serial { bytes: SERIAL };
     let mut image = Header::write(&PACK).to_vec(alloc)?;
     image.extend_from_slice(&label_track(alloc, &serial, address_of(1), TRACK_LEN)?)?;
@@ -85,7 +79,8 @@ fn image_with(alloc: Global, vtoc: &[&[Slot]]) -> Result<Vec<u8>, AllocError> {
             .copied()
             .unwrap_or_default();
         let slots = &slots[..slots.len().min(MOST_SLOTS)];
-        image.extend_from_slice(&slots_track(alloc, address_of(track), slots, TRACK_LEN)?)?;
+        let slots: Vec<Slot> = slots.iter().map(|dscb| encode(dscb)).collect(alloc)?;
+        image.extend_from_slice(&slots_track(alloc, address_of(track), &slots, TRACK_LEN)?)?;
     }
     Ok(image)
 }
@@ -93,15 +88,16 @@ fn image_with(alloc: Global, vtoc: &[&[Slot]]) -> Result<Vec<u8>, AllocError> {
 /// The image of a pack whose VTOC has four tracks: A stands in slot 2, the last on track 1, and B in slot
 /// 4, the second on track 3. Tracks 2 and 4 have no slots.
 pub(crate) fn image_with_gaps(alloc: Global) -> Result<Vec<u8>, AllocError> {
-    let front = [vtoc(1, 4, 0), slot(0xF5, 0, 0), set(0xC1, 5)];
-    image_with(alloc, &[&front, &[], &[FREE, set(0xC2, 6)], &[]])
+    let front = [vtoc(1, 4, 0), Dscb::F5(F5::default()), set(0xC1, 5)];
+    image_with(alloc, &[&front, &[], &[Dscb::F0, set(0xC2, 6)], &[]])
 }
 
 /// The image of the pack with these bytes written over it; A and B stand in slots 2 and 3 on track 1,
 /// and C in slot 5, the second on track 2.
 pub(crate) fn image_of(alloc: Global, patches: &[Patch]) -> Result<Vec<u8>, AllocError> {
-    let front = [vtoc(1, 2, 0), slot(0xF5, 0, 0), set(0xC1, 3), set(0xC2, 4)];
-    let back = [FREE, set(0xC3, 5), FREE];
+    let space = Dscb::F5(F5::default());
+    let front = [vtoc(1, 2, 0), space, set(0xC1, 3), set(0xC2, 4)];
+    let back = [Dscb::F0, set(0xC3, 5), Dscb::F0];
     let mut image = image_with(alloc, &[&front, &back])?;
     for (at, byte) in patches {
         if let Some(place) = image.get_mut(*at) {

@@ -1,7 +1,7 @@
 use Rattle.std.proofs.Common.{◌≡◌, refl, sym, ◌∙◌, ap, List, ℕ, [], ◌∷◌}
 use Rattle.vol_model.specs.Events.{Item}
 use Rattle.volman.specs.Statement.{answer_line, item_on}
-use Rattle.volman.proofs.Answering.{item_found, promise_found, promise_then, ends_before_line, ends_in_line, answered}
+use Rattle.volman.proofs.Answering.{item_found, promise_found, promise_then, ends_before_line, ends_in_line, answered, unprinted}
 use Rattle.volman.proofs.statement.run_rename.Goals as goal
 
 pub returns-in_err-outcome-clause-runs : goal.returns-in_err-outcome-clause-runs
@@ -50,3 +50,9 @@ returns-clause-promise g c told =
     let new = g.M.Machine.promise c.say.new.machine in
     promise_found old new shelf c.args.statement.now c.args.volume (c.requires.volume told)
     (promise_then (item_on shelf c.args.statement.now c.args.volume).operations old (g.M.Machine.promise c.rename.new.machine) new (c.rename.ensures.runs told).moments.later (c.rename.ensures.promise told) (c.say.ensures.promise told))
+
+pub returns-in_err-say-clause-print : goal.returns-in_err-say-clause-print
+returns-in_err-say-clause-print g c told failed =
+    let said : c.deref.result.now ≡ answer_line c.args.statement.now c.in_ok-outcome.outcome = c.deref.ensures.value ∙ c.in-Ok.ensures in
+    unprinted (g.M.Machine.meaning c.say.new.machine) c.args.statement.now c.args.volume c.deref.result.now (c.requires.volume told)
+    (c.in_ok-outcome.ensures.lines told ∙ ap (λ (line : List ℕ). line ∷ []) (sym said)) (c.in_ok-outcome.ensures.runs told) (c.say.ensures.shelf told)

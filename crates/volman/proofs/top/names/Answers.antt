@@ -8,7 +8,7 @@ use Rattle.volman.specs.Run.{PrintsText}
 use Rattle.volman.specs.Task.{names_task}
 use Rattle.volman.proofs.Listings.{listed_right}
 use Rattle.volman.proofs.Tasks.{text_said}
-use Rattle.volman.proofs.Works.{not_final, nothing_named, on_pack, refused_file}
+use Rattle.volman.proofs.Works.{cut_by, nothing_named, on_pack, refused_file}
 use Rattle.volman.proofs.top.names.Goals as goal
 
 pub returns-in-Ok-names_text-clause-does : goal.returns-in-Ok-names_text-clause-does
@@ -24,7 +24,7 @@ returns-in-Ok-names_text-clause-does g c told =
 
 pub returns-in-Ok-clause-does : goal.returns-in-Ok-clause-does
 returns-in-Ok-clause-does g c told =
-    nothing_named c.args.file.now c.code.result (c.mount.ensures.told told) (not_final c.code.result 25 c.code.ensures (omega arith) (omega arith))
+    nothing_named c.args.file.now c.code.result (c.mount.ensures.told told) (cut_by c.code.result 25 c.code.ensures (omega arith) (omega arith) (λ no. omega (arith, no)))
 
 pub returns-clause-does : goal.returns-clause-does
 returns-clause-does g c told =

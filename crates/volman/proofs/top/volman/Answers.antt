@@ -1,5 +1,5 @@
-use Rattle.std.proofs.Common.{◌≡◌, ◌∙◌, ⊎_elim, sym, ap, subst, Err, Some, arith}
-use Rattle.std.specs.Prelude.{Option}
+use Rattle.std.proofs.Common.{◌≡◌, ◌≤◌, ◌∙◌, inl, inr, ⊎_elim, sym, ap, subst, Err, Some, arith}
+use Rattle.std.specs.Prelude.{◌⊎◌, Option}
 use Rattle.hall_core.proofs.MomentLemmas.{same_none}
 use Rattle.hall_core.specs.Files.{file_of}
 use Rattle.hall_core.specs.Moments.{IsDurable}
@@ -8,7 +8,7 @@ use Rattle.volman.specs.Lines.{deck_line, words_line}
 use Rattle.volman.specs.Run.{AttachesAsked, IsFinal}
 use Rattle.volman.specs.Words.{Request}
 use Rattle.volman.proofs.Tasks.{text_said}
-use Rattle.volman.proofs.Works.{answered_deck, answered_form, answered_names, answered_nothing, answered_words, not_final, stated_durable}
+use Rattle.volman.proofs.Works.{answered_deck, answered_form, answered_names, answered_nothing, answered_words, cut_by, stated_durable}
 use Rattle.volman.proofs.top.volman.Goals as goal
 
 pub returns-in-None-clause-headline : goal.returns-in-None-clause-headline
@@ -27,11 +27,15 @@ returns-in-Ok-clause-headline g c told =
     answered_deck _ c.in-Some-Run.file.now c.in-Ok.statement g.C.Cards.tells (g.C.Cards.left c.args.cards.now) c.run.result asked (λ tells. (c.in-Ok.ensures.deck tells).0) (c.run.ensures.does told)
 
 pub returns-in-Ok-clause-durable : goal.returns-in-Ok-clause-durable
-returns-in-Ok-clause-durable g c told which =
+returns-in-Ok-clause-durable g c told other =
     let hall = c.args.hall.now in
-    let final : IsFinal c.run.result → IsDurable (g.H.Hall.meaning c.run.new.hall) =
+    let stated : IsFinal c.run.result ⊎ (c.run.result ≡ 24) → IsDurable (g.H.Hall.meaning c.run.new.hall) =
     stated_durable c.in-Some-Run.file.now c.in-Ok.statement (file_of (g.H.Hall.meaning hall).state c.in-Some-Run.file.now) c.run.result (g.met.H.Hall.none_pending hall told c.requires) (c.run.ensures.does told) in
-    ⊎_elim final (⊎_elim (λ (read : c.run.result ≡ 23). absurd (omega (arith, read, c.run.ensures.call.which))) (c.run.ensures.durable told)) which
+    ⊎_elim (λ (low : c.run.result ≤ 16). stated (inl (inl (omega (arith, low)))))
+    (⊎_elim (λ (unit : c.run.result ≡ 21). stated (inl (inl (omega (arith, unit)))))
+    (⊎_elim (λ (device : c.run.result ≡ 22). absurd (other device))
+    (⊎_elim (λ (printer : c.run.result ≡ 24). stated (inr printer)) (c.run.ensures.durable told))))
+    c.run.ensures.call.which
 
 pub returns-in-Ok-clause-units : goal.returns-in-Ok-clause-units
 returns-in-Ok-clause-units g c =
@@ -49,4 +53,4 @@ pub returns-in-Err-Read-clause-headline : goal.returns-in-Err-Read-clause-headli
 returns-in-Err-Read-clause-headline g c told =
     let hall = c.args.hall.now in
     answered_nothing _ g.C.Cards.tells (g.C.Cards.left c.args.cards.now) c.code.result (g.met.H.Hall.none_pending hall told c.requires) (g.met.H.Hall.only_now hall) (same_none _ (g.met.H.Hall.counts_now hall))
-    (not_final c.code.result 23 c.code.ensures (omega arith) (omega arith))
+    (cut_by c.code.result 23 c.code.ensures (omega arith) (omega arith) (λ no. omega (arith, no)))

@@ -1,20 +1,21 @@
-use Rattle.std.proofs.Common.{◌≡◌, ◌∙◌, inl, inr, ⊎_elim, ℕ, ◌≤◌, List, [], ◌∷◌, Ok, sym, ap, subst, arith}
+use Rattle.std.proofs.Common.{◌≡◌, ◌∙◌, inl, inr, ⊎_elim, ℕ, ◌≤◌, List, [], ◌∷◌, Ok, IsErrOf, sym, ap, subst, arith, rules}
 use Rattle.hall_core.specs.Facts.{Attached, unit_of}
 use Rattle.hall_core.specs.Files.{File, image_of}
 use Rattle.hall_core.specs.Steps.{seen}
 use Rattle.pack_spec.specs.Volume.{volume_of}
 use Rattle.vol_model.specs.declared.contents.Volume.{Volume}
 use Rattle.vol_model.specs.Calls.{Keeps}
-use Rattle.vol_model.specs.Events.{Item, events_in}
+use Rattle.vol_model.specs.Events.{Item, events_in, shelf_behind}
 use Rattle.vol_model.specs.Runs.{Runs}
 use Rattle.vol_model.specs.declared.answers.Stop.{Stop}
+use Rattle.vol_model.specs.declared.answers.Stop.TheVariants.{Print}
 use Rattle.vtoc_index.specs.declared.vol.Vol.{Vol}
 use Rattle.vtoc_index.proofs.KeptLemmas.{mounted_of}
 use Rattle.volman.specs.Machine.{ChangesOnlyNames, shelf_in, shelf_named, shelf_with}
 use Rattle.volman.specs.Run.{IsCalmSince, StopStands, Synced, WorksOn}
 use Rattle.volman.specs.Statement.{item_of}
 use Rattle.volman.proofs.Machines.{same_base}
-use Rattle.volman.proofs.Works.{has_worked, have_line, stops_worked, works_failed, works_finished}
+use Rattle.volman.proofs.Works.{cut_by, durable_behind, has_worked, has_worked_unprinted, have_line, stops_worked, works_failed, works_finished, works_unprinted}
 use Rattle.volman.proofs.work.run_statement.Goals as goal
 use Rattle.volman.proofs.work.run_statement.Goals.{in-Ok, in-Err-Device, in-Err-Print, in-Err-Memory}
 
@@ -58,9 +59,17 @@ returns-clause-does g c told =
           subst (λ (n : ℕ). Synced (M new.hall) (M c.match-ran.hall) n) (sym w.status-is)
           (subst (λ h. Synced (M new.hall) (M h) w.finish-status.result) (sym w.hall-is) (subst (λ h. Synced (M h) (M w.finish-status.new.hall) w.finish-status.result) c.close-hall.ensures (w.finish-status.ensures.told told))) in
           works_finished c.match-ran.status code (⊎_elim (λ is. inl (w.status-is ∙ is)) (λ is. inr (w.status-is ∙ is)) w.finish-status.ensures.status) w.in-Ok.ensures.small counts later synced done stops
-      | in-Err-Device w ↦ at_close (works_failed c.match-ran.status 22 (w.status-is ∙ w.code-status.ensures) (omega arith) (omega arith) runs.moments.later stops) w.hall-is
-      | in-Err-Print w ↦ at_close (works_failed c.match-ran.status 24 (w.status-is ∙ w.code-status-in-Err-Print.ensures) (omega arith) (omega arith) runs.moments.later stops) w.hall-is
-      | in-Err-Memory w ↦ at_close (works_failed c.match-ran.status 25 (w.status-is ∙ w.code-status-in-Err-Memory.ensures) (omega arith) (omega arith) runs.moments.later stops) w.hall-is
+      | in-Err-Device w ↦ at_close (works_failed c.match-ran.status (cut_by c.match-ran.status 22 (w.status-is ∙ w.code-status.ensures) (omega arith) (omega arith) (λ no. omega (arith, no))) runs.moments.later stops) w.hall-is
+      | in-Err-Print w ↦
+          let failed : IsErrOf ran Print = search rules in
+          let before = c.run_rename-ran.ensures.line told failed in
+          let mid = before.0 in
+          let prints = before.1 in
+          let durable = durable_behind (M new.hall) (g.met.H.Hall.only_now mid.hall) (mid.durable prints.sound told) (g.met.H.Hall.counts_now new.hall) (g.met.H.Hall.leaves_state new.hall) prints.later prints.promise in
+          let shelf = c.run_rename-ran.ensures.print told failed ∙ ap (λ (i : Item). shelf_behind (shelf_named name (M machine.hall).state) (events_in i)) shelf in
+          let done = has_worked_unprinted name name' (M machine.hall) (M new.hall) machine.vol new.vol volume item mounted stands same_name base.geometry base.vtoc have promise told (g.met.H.Hall.only_now machine.hall) (g.met.H.Hall.counts_now new.hall) (g.met.H.Hall.leaves_state new.hall) (machine.durable sound told) durable shelf runs in
+          at_close (works_unprinted c.match-ran.status (w.status-is ∙ w.code-status-in-Err-Print.ensures) runs.moments.later done stops) w.hall-is
+      | in-Err-Memory w ↦ at_close (works_failed c.match-ran.status (cut_by c.match-ran.status 25 (w.status-is ∙ w.code-status-in-Err-Memory.ensures) (omega arith) (omega arith) (λ no. omega (arith, no))) runs.moments.later stops) w.hall-is
     ]
     in
     let at : (w : Vol) → machine.vol ≡ w → (volume : Volume) → volume_of (image_of (M machine.hall).state (F machine.hall) w.unit) ≡ Ok volume

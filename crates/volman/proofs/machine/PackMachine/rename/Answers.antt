@@ -1,4 +1,4 @@
-use Rattle.std.proofs.Common.{ap, ◌∙◌, refl, Err}
+use Rattle.std.proofs.Common.{ap, ◌∙◌, refl, Err, rules}
 use Rattle.volman.proofs.Machines.{applies_zero, applies_done, applies_elsewhere, applies_fault, applies_refused, keeps_all, keeps_begun, keeps_idle, keeps_promise, kept_at, promises_at, puts_failed}
 use Rattle.vtoc_index.proofs.KeptLemmas.{mounted_of}
 use Rattle.volman.proofs.machine.PackMachine.rename.Goals as goal
@@ -32,7 +32,7 @@ returns-in-Err-Refused-clause-shelf g c told =
 
 pub returns-in-Err-Device-clause-shelf : goal.returns-in-Err-Device-clause-shelf
 returns-in-Err-Device-clause-shelf g c told =
-    applies_zero _ _ c.args.self.now.vol c.rename.new.vol c.rename.ensures.call.units c.rename.ensures.index c.args.v c.args.old.now c.args.new.now (g.H.Hall.meaning c.args.self.now.hall) (g.H.Hall.meaning c.rename.new.hall) c.if-v-ne0.false (applies_fault c.args.old.now c.args.new.now (c.rename.ensures.told told))
+    applies_zero _ _ c.args.self.now.vol c.rename.new.vol c.rename.ensures.call.units c.rename.ensures.index c.args.v c.args.old.now c.args.new.now (g.H.Hall.meaning c.args.self.now.hall) (g.H.Hall.meaning c.rename.new.hall) c.if-v-ne0.false (applies_fault c.args.old.now c.args.new.now c.args.self.now.vol (mounted_of _ _ (c.args.self.now.kept c.requires.sound told)) (search rules) (c.rename.ensures.told told))
 
 pub returns-in-Err-Device-clause-promise : goal.returns-in-Err-Device-clause-promise
 returns-in-Err-Device-clause-promise g c told =
