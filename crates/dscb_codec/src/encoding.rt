@@ -1,5 +1,5 @@
 //! From the fields of a DSCB to the 140 bytes of its slot.
-ghost use Rattle.std.specs.Prelude.{◌≡◌, ◌+◌, ◌*◌, ◌^◌, ◌≤◌, ◌<◌, ◌++◌, ℕ, List, length, map, take};
+ghost use Rattle.std.specs.Prelude.{◌≡◌, ◌+◌, ◌*◌, ◌^◌, ◌≤◌, ◌<◌, ◌++◌, ℕ, List, length, map, take, drop};
 ghost use Rattle.std.specs.List.{concat};
 ghost use Rattle.std.specs.Int.{w16, w32, to_be_bytes};
 ghost use Rattle.dscb_codec.specs.Layout.{IsDscb, HasFields, AreRows, FitsTypes, f1_fields, f3_fields, f4_fields, f5_fields};
@@ -23,10 +23,11 @@ fn word_bytes(number: u32) -> [u8; 4]
     number.to_be_bytes()
 }
 
-// Copies a part to its place and gives the offset behind it. Nothing is said of the bytes from there on: parts
-// are copied from front to back, so these are still to come.
+// Copies a part to its place and gives the offset behind it. The bytes from there on stay: parts are copied from
+// front to back, so these are still to come.
 fn copy_part(out: &mut [u8], from: usize, part: &[u8]) -> usize
     requires { from + length part.now ≤ length out.old }
+    ensures exact { out.new ≡ take from out.old ++ part.now ++ drop (from + length part.now) out.old }
     ensures front { take result out.new ≡ take from out.old ++ part.now }
     ensures behind { result ≡ from + length part.now }
     ensures inside { result ≤ length out.old }
@@ -39,6 +40,7 @@ fn copy_part(out: &mut [u8], from: usize, part: &[u8]) -> usize
 // The same of a row, whose length its type gives.
 fn copy_row<const N: usize>(out: &mut [u8], from: usize, row: &[u8; N]) -> usize
     requires { from + N ≤ length out.old }
+    ensures exact { out.new ≡ take from out.old ++ row.now ++ drop (from + N) out.old }
     ensures front { take result out.new ≡ take from out.old ++ row.now }
     ensures behind { result ≡ from + N }
     ensures wide { length row.now ≡ N }

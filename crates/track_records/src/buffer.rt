@@ -1,5 +1,5 @@
 //! A buffer for the records of one track, and what reads and writes them.
-ghost use Rattle.std.specs.Prelude.{◌≡◌, ◌≤◌, ◌+◌, ◌-◌, ◌++◌, [], length, true, Some, IsTrue, IfOk, IfErr, OnOk, OnErr, slice_get};
+ghost use Rattle.std.specs.Prelude.{◌≡◌, ◌≤◌, ◌+◌, ◌-◌, ◌++◌, [], length, true, Some, IsTrue, IfOk, IfErr, IfSome, OnOk, OnErr, slice_get};
 ghost use Rattle.std.specs.Option.{option_map};
 ghost use Rattle.ckd_image.specs.Reading.{front_record, is_record_at};
 ghost use Rattle.hall_core.specs.Facts.{DeviceCall, unit_of};
@@ -159,6 +159,7 @@ pub fn read_records<H: Hall>(
 ) -> Result<u8, TrackErr>
     requires { HasTrack (H.facts hall.old).units unit buf.old.geometry track }
     ensures count { IfOk result (λ n. length buf.new.records ≡ n) }
+    ensures upto { IfOk result (λ n. IfSome upto (λ r. n ≡ r)) }
     ensures buffer { buf.new ≡ record buf.old { unit = unit; track = track; records = buf.new.records } }
     ensures none { OnErr result (buf.new.records ≡ []) }
     ensures read { IsTrue H.tells → IfOk result (λ _. records_on (image_of (H.meaning hall.old).state (H.facts hall.old) unit) buf.old.geometry upto track ≡ Some buf.new.records) }

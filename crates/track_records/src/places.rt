@@ -1,5 +1,5 @@
 //! Where the records of a track stand.
-ghost use Rattle.std.specs.Prelude.{◌≡◌, ◌≤◌, ◌+◌, [], length, IsTrue, vec_capacity, Some, None, IfOk, IfErr, OnErr};
+ghost use Rattle.std.specs.Prelude.{◌≡◌, ◌≤◌, ◌+◌, [], length, IsTrue, vec_capacity, Some, None, IfOk, IfErr, IfSome, OnErr};
 ghost use Rattle.ckd_image.specs.Reading.{records_of};
 ghost use Rattle.ckd_image.specs.Track.{BreaksAt};
 ghost use Rattle.track_records.specs.Buffers.{are_places, places_from, records_at};
@@ -19,6 +19,7 @@ pub(crate) fn put_places(
     requires empty { places.old.items ≡ [] }
     requires room { 255 ≤ vec_capacity places.old }
     ensures count { IfOk result (λ n. length places.new.items ≡ n) }
+    ensures upto { IfOk result (λ n. IfSome upto (λ r. n ≡ r)) }
     ensures records { IfOk result (λ _. records_of cylinder head upto bytes.now ≡ Some (records_at bytes.now places.new.items)) }
     ensures are { IsTrue (are_places 1 21 bytes.now places.new.items) }
     ensures broken { OnErr result (records_of cylinder head upto bytes.now ≡ None) }

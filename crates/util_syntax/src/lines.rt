@@ -1,5 +1,5 @@
 //! The lines that answer statements, and names as lines show them.
-ghost use Rattle.std.specs.Prelude.{◌≡◌, ◌++◌, is_ok, if◌then◌else◌, IfOk, OnOk};
+ghost use Rattle.std.specs.Prelude.{◌≡◌, ◌++◌, is_ok, if◌then◌else◌, IfOk, OnOk, OnErr, take, length};
 ghost use Rattle.ebcdic_names.specs.Names.{shown};
 ghost use Rattle.util_syntax.specs.Lines.{card_number, next_word, outcome_words, result_line};
 
@@ -56,7 +56,8 @@ pub fn push_name_in_ascii(text: &mut Vec<u8>, name: &[u8]) -> Result<(), AllocEr
 // Adds a card's number.
 #[tactic(auto, unfolding(crate::specs::Lines::card_number))]
 fn push_card(line: &mut Vec<u8>, card: u32) -> Result<(), AllocError>
-    ensures { OnOk result (line.new.items ≡ line.old.items ++ card_number card) }
+    ensures added { OnOk result (line.new.items ≡ line.old.items ++ card_number card) }
+    ensures kept { OnErr result (take (length line.old.items) line.new.items ≡ line.old.items) }
 {
     let mut buffer = Buffer::new();
     let digits = buffer.format(card);
@@ -66,7 +67,8 @@ fn push_card(line: &mut Vec<u8>, card: u32) -> Result<(), AllocError>
 
 // Adds a word behind a blank.
 fn push_word(line: &mut Vec<u8>, word: &[u8]) -> Result<(), AllocError>
-    ensures { OnOk result (line.new.items ≡ line.old.items ++ next_word word.now) }
+    ensures added { OnOk result (line.new.items ≡ line.old.items ++ next_word word.now) }
+    ensures kept { OnErr result (take (length line.old.items) line.new.items ≡ line.old.items) }
 {
     line.push(b' ')?;
     line.extend_from_slice(word)

@@ -1,5 +1,5 @@
 -- What calls of a hall leave, one after another.
-use Rattle.std.proofs.Common.{◌≡◌, ◌≢◌, ◌⊎◌, ⊎_elim, ℕ, ◌<◌, List, length, None, Some, refl, sym, ap, subst, ◌∙◌, arith}
+use Rattle.std.proofs.Common.{◌≡◌, ◌≢◌, ◌⊎◌, ⊎_elim, ℕ, ◌+◌, ◌<◌, List, length, None, Some, refl, sym, ap, subst, ◌∙◌, arith}
 use Rattle.std.specs.Prelude.{Result, Ok, Err, IfErr, IfOk, IsErrOf, IsTrue, Bool, Option, option_and_then}
 use Rattle.ckd_image.specs.declared.header.Geometry.{Geometry}
 use Rattle.ckd_image.specs.Header.{HasGeometry}
@@ -137,5 +137,6 @@ pub record KeepsReading (tells : Bool) (f0 f : Facts) (m0 m : Meaning (List File
   pub geometry : b.geometry ≡ g
   pub unit_is : b.unit ≡ unit
   pub numbers : AreNumbered len r
+  pub last : b0.track ≡ start → b.track + 1 ≡ start + len
   pub read : IsTrue tells → AreTracksRead image g start 1 r0 → AreTracksRead image g start len r
   pub stands : IsTrue tells → StandsOn image b0 → StandsOn image b

@@ -1,5 +1,5 @@
 //! The volume label.
-ghost use Rattle.std.specs.Prelude.{◌≡◌, ◌<◌, ◌≤◌, ◌-◌, length, IsTrue, IfOk, IfErr, IfSome, IsErrOf, slice_range, None};
+ghost use Rattle.std.specs.Prelude.{◌≡◌, ◌<◌, ◌≤◌, ◌-◌, length, IsTrue, IfOk, OnOk, IfErr, IfSome, IsErrOf, slice_range, None};
 ghost use Rattle.std.specs.Option.{option_copied};
 ghost use Rattle.ckd_image.specs.Header.{HasGeometry};
 ghost use Rattle.hall_core.specs.Facts.{unit_of};
@@ -42,6 +42,8 @@ pub(crate) fn read_label<H: Hall>(
     ensures label { IsTrue H.tells → IfOk result (IsLabel (label_of (image_of (H.meaning hall.old).state (H.facts hall.old) unit) buf.old.geometry)) }
     ensures refused { let image = image_of (H.meaning hall.old).state (H.facts hall.old) unit in IsTrue H.tells → IfErr result (Refuses (volume_within image buf.old.geometry (vtoc_of image buf.old.geometry))) }
     ensures geometry { buf.new.geometry ≡ buf.old.geometry }
+    ensures three { OnOk result (length buf.new.records ≡ 3) }
+    ensures buffer { buf.new ≡ record buf.old { unit = unit; track = 0; records = buf.new.records } }
     ensures told { IsTrue H.tells → Same (H.meaning hall.old) (H.meaning hall.new) }
     ensures call { MountCall (H.facts hall.old) (H.facts hall.new) result }
     ensures file { IsErrOf result MountErr.NoFile → ⊥ }
@@ -56,6 +58,7 @@ pub(crate) fn read_label<H: Hall>(
 // What the label says, where the buffer holds its track up to it.
 fn label_held(buf: &TrackBuf) -> Result<Label, MountErr>
     ensures label { IfOk result (IsLabel (label_in buf.now.records)) }
+    ensures three { OnOk result (length buf.now.records ≡ 3) }
     ensures refused { IfErr result (λ e. (e ≡ MountErr.NoLabel) × (label_in buf.now.records ≡ None)) }
 {
     match label_data(buf) {
@@ -68,6 +71,7 @@ fn label_held(buf: &TrackBuf) -> Result<Label, MountErr>
 fn label_data(buf: &TrackBuf) -> Option<&[u8]>
     ensures exact { option_copied result ≡ label_in buf.now.records }
     ensures len { IfSome result (λ label. length label.now ≡ 80) }
+    ensures three { IfSome result (λ _. length buf.now.records ≡ 3) }
 {
     if buf.len() != usize::from(LABEL_RECORD) {
         return None;

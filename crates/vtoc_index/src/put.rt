@@ -38,6 +38,7 @@ pub fn put_slot<H: Hall>(hall: &mut H, vol: &mut Vol, slot: u32, dscb: &Dscb) ->
     requires index { IsTrue H.tells → IsIndexOf (image_of (H.meaning hall.old).state (H.facts hall.old) vol.old.unit) vol.old }
     ensures told { IsTrue H.tells → AfterPut (unit_of (H.facts hall.old).units vol.old.unit).name vol.old slot dscb.now vol.new (image_of (H.meaning hall.old).state (H.facts hall.old) vol.old.unit) (image_of (H.meaning hall.new).state (H.facts hall.new) vol.old.unit) (H.meaning hall.old) (H.meaning hall.new) result }
     ensures index { IsWith slot dscb.now vol.old vol.new result }
+    ensures held { vol.new.buf.track ≡ vol.old.vtoc.start + track_index vol.old.firsts.items slot }
     ensures unit { IsOfUnit (H.facts hall.new).units vol.new }
     ensures call { DeviceCall (H.facts hall.old) (H.facts hall.new) result }
 {
@@ -96,6 +97,7 @@ fn hold<H: Hall>(hall: &mut H, unit: u8, place: Place, buf: &mut TrackBuf) -> Re
     requires held { IsTrue H.tells → IsHeld (image_of (H.meaning hall.old).state (H.facts hall.old) unit) buf.old }
     ensures buffer { OnOk result (buf.new ≡ record buf.old { track = place.track; records = buf.new.records }) }
     ensures kept { (buf.new.geometry ≡ buf.old.geometry) × (buf.new.unit ≡ buf.old.unit) }
+    ensures track { buf.new.track ≡ place.track }
     ensures lengths { OnOk result (HasLengths buf.new.records (place.number - 1) 44 96) }
     ensures stands { IsTrue H.tells → OnOk result (StandsOn (image_of (H.meaning hall.new).state (H.facts hall.new) unit) buf.new) }
     ensures told { IsTrue H.tells → Same (H.meaning hall.old) (H.meaning hall.new) }
@@ -118,6 +120,7 @@ fn fetch<H: Hall>(hall: &mut H, unit: u8, place: Place, buf: &mut TrackBuf) -> R
     requires there { IsTrue H.tells → HasSlot (image_of (H.meaning hall.old).state (H.facts hall.old) unit) buf.old.geometry place.track place.number }
     requires held { IsTrue H.tells → IsHeld (image_of (H.meaning hall.old).state (H.facts hall.old) unit) buf.old }
     ensures buffer { buf.new ≡ record buf.old { track = place.track; records = buf.new.records } }
+    ensures few { (buf.old.track ≡ place.track → place.number ≤ length buf.old.records → ⊥) → OnOk result (length buf.new.records ≡ place.number) }
     ensures again { buf.old.track ≡ place.track → place.number ≤ length buf.old.records → IsOk result × (buf.new ≡ buf.old) }
     ensures stands { IsTrue H.tells → OnOk result ((place.number ≤ length buf.new.records) × StandsOn (image_of (H.meaning hall.old).state (H.facts hall.old) unit) buf.new) }
     ensures told { IsTrue H.tells → Same (H.meaning hall.old) (H.meaning hall.new) }

@@ -51,6 +51,7 @@ pub fn read_vtoc<H: Hall>(alloc: Global, hall: &mut H, unit: u8) -> Result<Vol, 
     ensures mounted { IsTrue H.tells → IfOk result (IsMounted (image_of (H.meaning hall.old).state (H.facts hall.old) unit)) }
     ensures refused { IsTrue H.tells → IfErr result (IsReason (image_of (H.meaning hall.old).state (H.facts hall.old) unit)) }
     ensures unit { IfOk result (λ vol. (vol.unit ≡ unit) × IsOfUnit (H.facts hall.old).units vol) }
+    ensures last { IfOk result (λ vol. vol.buf.track + 1 ≡ vol.vtoc.start + vol.vtoc.len) }
     ensures told { IsTrue H.tells → Same (H.meaning hall.old) (H.meaning hall.new) }
     ensures call { MountCall (H.facts hall.old) (H.facts hall.new) result }
     ensures file { IsErrOf result MountErr.NoFile → ⊥ }
@@ -93,6 +94,7 @@ fn read_slots<H: Hall>(
     ensures stands { IsTrue H.tells → OnOk result (StandsOn (image_of (H.meaning hall.old).state (H.facts hall.old) unit) buf.new) }
     ensures refused { let image = image_of (H.meaning hall.old).state (H.facts hall.old) unit in IsTrue H.tells → IfErr result (Refuses (volume_within image geometry (vtoc_on image geometry at))) }
     ensures numbers { IfOk result (λ p. IsExtent geometry at p.0 × AreNumbered p.0.len p.1) }
+    ensures last { IfOk result (λ p. buf.new.track + 1 ≡ p.0.start + p.0.len) }
     ensures buffer { OnOk result ((buf.new.geometry ≡ geometry) × (buf.new.unit ≡ unit)) }
     ensures told { IsTrue H.tells → Same (H.meaning hall.old) (H.meaning hall.new) }
     ensures call { MountCall (H.facts hall.old) (H.facts hall.new) result }
@@ -122,6 +124,7 @@ fn read_first<H: Hall>(
     ensures refused { let image = image_of (H.meaning hall.old).state (H.facts hall.old) unit in IsTrue H.tells → IfErr result (Refuses (volume_within image geometry (vtoc_on image geometry at))) }
     ensures numbers { IfOk result (λ p. IsExtent geometry at p.0 × (length buf.new.records ≡ p.1)) }
     ensures buffer { IfOk result (λ p. (buf.new.geometry ≡ geometry) × ((buf.new.unit ≡ unit) × (buf.new.track ≡ p.0.start))) }
+    ensures left { buf.new ≡ record buf.old { unit = unit; track = track_of_address geometry at; records = buf.new.records } }
     ensures told { IsTrue H.tells → Same (H.meaning hall.old) (H.meaning hall.new) }
     ensures call { MountCall (H.facts hall.old) (H.facts hall.new) result }
     ensures file { IsErrOf result MountErr.NoFile → ⊥ }
@@ -154,6 +157,7 @@ fn why_broken<H: Hall>(
     ensures told { IsTrue H.tells → Same (H.meaning hall.old) (H.meaning hall.new) }
     ensures call { MountCall {T = Unit {0}} (H.facts hall.old) (H.facts hall.new) (Err result) }
     ensures file { result ≢ MountErr.NoFile }
+    ensures buffer { buf.new ≡ record buf.old { unit = unit; track = track_of_address geometry at; records = buf.new.records } }
 {
     let track = at.track(geometry);
     match read_records(hall, unit, track, Some(FIRST_SLOT), buf) {
@@ -185,6 +189,7 @@ fn read_others<H: Hall>(
     ensures refused { let image = image_of (H.meaning hall.old).state (H.facts hall.old) unit in IsTrue H.tells → AreTracksRead image geometry vtoc.start 1 found.old → IfErr result (Refuses (volume_within image geometry (Ok vtoc))) }
     ensures stands { let image = image_of (H.meaning hall.old).state (H.facts hall.old) unit in IsTrue H.tells → StandsOn image buf.old → OnOk result (StandsOn image buf.new) }
     ensures numbers { OnOk result (AreNumbered vtoc.len found.new) }
+    ensures last { buf.old.track ≡ vtoc.start → OnOk result (buf.new.track + 1 ≡ vtoc.start + vtoc.len) }
     ensures buffer { (buf.new.geometry ≡ geometry) × (buf.new.unit ≡ unit) }
     ensures told { IsTrue H.tells → Same (H.meaning hall.old) (H.meaning hall.new) }
     ensures call { MountCall (H.facts hall.old) (H.facts hall.new) result }

@@ -1,5 +1,5 @@
 //! The extents of data sets, in their DSCBs of formats 1 and 3.
-ghost use Rattle.std.specs.Prelude.{◌≡◌, ◌≢◌, ℕ, ◌≤◌, ◌<◌, ◌++◌, ◌&&◌, List, Some, find, length, nat_le, IfOk, OnOk};
+ghost use Rattle.std.specs.Prelude.{◌≡◌, ◌≢◌, ℕ, ◌≤◌, ◌<◌, ◌++◌, ◌&&◌, List, Some, find, length, nat_le, IfOk, OnOk, OnErr, take};
 ghost use Rattle.std.specs.List.{list_all, list_any};
 ghost use Rattle.std.specs.Option.{option_copied};
 ghost use Rattle.ckd_image.specs.Header.{HasGeometry};
@@ -61,7 +61,8 @@ fn counted_rows(alloc: Global, slots: &[ReadSlot], set: &F1) -> Result<Vec<Exten
 
 // Puts the extents of a format 3 behind others.
 fn push_further(rows: &mut Vec<Extent>, slot: &ReadSlot) -> Result<(), AllocError>
-    ensures { OnOk result (rows.new.items ≡ rows.old.items ++ rows_in slot.now.content) }
+    ensures added { OnOk result (rows.new.items ≡ rows.old.items ++ rows_in slot.now.content) }
+    ensures kept { OnErr result (take (length rows.old.items) rows.new.items ≡ rows.old.items) }
 {
     if let Ok(Dscb::F3(further)) = &slot.content {
         rows.extend_from_slice(&further.front)?;

@@ -28,4 +28,4 @@ loop-track-preserved c =
     let found : Some c.in-Some.found.items ≡ slots_on image c.args.geometry c.loop-track.track = ap (option_map (λ v. v.items)) (sym c.in-Some.is) ∙ c.in_ok-found.ensures in
     let short = length-slots_on image c.args.geometry c.loop-track.track c.in-Some.found.items (sym found) in
     PassedTracks-more image c.args.geometry c.args.vtoc c.loop-track.track c.loop-track.slots.items c.push_addressed.new.slots.items c.in-Some.found.items c.loop-track.invariant c.loop-track.auto.track c.loop-track-test.true found short
-    (c.in_ok-push_addressed.ensures ∙ ap (λ s. c.loop-track.slots.items ++ addressed_from c.args.geometry c.loop-track.track 1 s) c.deref.ensures.value)
+    (c.in_ok-push_addressed.ensures.added ∙ ap (λ s. c.loop-track.slots.items ++ addressed_from c.args.geometry c.loop-track.track 1 s) c.deref.ensures.value)

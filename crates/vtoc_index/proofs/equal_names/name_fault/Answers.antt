@@ -1,5 +1,5 @@
 -- A name stands earlier, or the map takes it.
-use Rattle.std.proofs.Common.{Ok, refl, sym, ap, ◌∙◌, arith, get_or}
+use Rattle.std.proofs.Common.{refl, sym, ap, ◌∙◌, arith, get_or}
 use Rattle.std.specs.BTreeMap.{get}
 use Rattle.std.specs.Cmp.Lexicographic.{slice_cmp}
 use Rattle.std.specs.Map.{lookup}
@@ -34,7 +34,7 @@ loop-index-preserved c =
     let i = c.loop-index.index in
     let none = sym c.in_ok-other.ensures.before ∙ c.in_default.is in
     record {
-      lowest = λ name. c.in_ok-other.ensures.noted (ap Ok c.in_default.is) name ∙ lowest-more (get (slice_cmp nat_cmp) c.loop-index.lowest) slots i _ c.loop-index-test.true c.loop-index.invariant.lowest none name;
+      lowest = λ name. c.in_ok-other.ensures.noted name ∙ lowest-more (get (slice_cmp nat_cmp) c.loop-index.lowest) slots i _ c.loop-index-test.true c.loop-index.invariant.lowest none name;
       apart = λ given are.
           let read = read_at slots given i _ no_slot are c.loop-index-test.true in
           let fault = name_fault-is (get (slice_cmp nat_cmp) c.loop-index.lowest) slots given i _ (get_or given i no_slot) c.loop-index.invariant.lowest are read ∙ ap (option_map (DuplicateName i)) none in

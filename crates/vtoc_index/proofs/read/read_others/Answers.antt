@@ -25,6 +25,7 @@ loop-track-init g c =
       geometry = c.requires.buffer.0;
       unit_is = c.requires.buffer.1;
       numbers = subst (λ (n : ℕ). AreNumbered n c.args.found.now) one c.requires.numbers;
+      last = λ is. omega (arith, is);
       read = λ told first. subst (λ (n : ℕ). AreTracksRead image c.args.geometry start n c.args.found.now) one first;
       stands = λ told stands. stands;
     }
@@ -114,6 +115,7 @@ loop-track-preserved g c =
       geometry = geometry;
       unit_is = held.unit_is;
       numbers = subst (λ (n : ℕ). AreNumbered n c.add.new.self) next (numbered_more c.args.geometry l.track (l.track - start) few.0 c.read_track.new.buf.records l.found c.add.new.self l.invariant.numbers c.in_ok-add.ensures.firsts few.1 few.2 c.in_ok-add.ensures.slots);
+      last = λ _. omega (arith, held.track_is, l.auto.track);
       read = λ told first.
           let seen = image_of (g.H.Hall.meaning l.hall).state (g.H.Hall.facts l.hall) c.args.unit in
           let same = same_image (g.H.Hall.meaning l.hall).state (g.H.Hall.meaning c.args.hall.now).state (g.H.Hall.facts l.hall) (g.H.Hall.facts c.args.hall.now) c.args.unit (l.invariant.told told).state l.invariant.facts.units in
@@ -142,6 +144,11 @@ returns-clause-numbers g c =
     let l = c.loop-track in
     let all : l.track - c.args.vtoc.start ≡ c.args.vtoc.len = omega (arith, c.loop-track-test.false, l.auto.track, l.auto.track-end, c.requires.tracks.0) in
     subst (λ (n : ℕ). AreNumbered n l.found) all l.invariant.numbers
+
+pub returns-clause-last : goal.returns-clause-last
+returns-clause-last g c is =
+    let l = c.loop-track in
+    omega (arith, l.invariant.last is, c.loop-track-test.false, l.auto.track, l.auto.track-end, c.requires.tracks.0)
 
 pub returns-clause-buffer : goal.returns-clause-buffer
 returns-clause-buffer g c = (c.loop-track.invariant.geometry, c.loop-track.invariant.unit_is)
