@@ -31,7 +31,7 @@ own_rows :
     × ((row_of D2311).device_word ≡ 50 ∷ 51 ∷ 49 ∷ 49 ∷ []) × ((row_of D2314).device_word ≡ 50 ∷ 51 ∷ 49 ∷ 52 ∷ []) × ((row_of D3330).device_word ≡ 51 ∷ 51 ∷ 51 ∷ 48 ∷ [])
 own_rows = (refl, refl, refl, refl, refl, refl, refl, refl, refl, refl, refl, refl)
 
--- the cost of a record and of the last one, of 44 and 96 bytes, and without a key: K is saved without a key alone, and the tolerance is another device's for each
+-- the cost of a record and of the last one, of 44 and 96 bytes, and without a key: K is saved without a key alone, and each device has a tolerance of its own
 costs :
     (record_cost D2311 44 96 ≡ 227) × (last_record_cost D2311 44 96 ≡ 160) × (record_cost D2311 0 140 ≡ 207) × (last_record_cost D2311 0 140 ≡ 140)
     × (record_cost D2314 44 96 ≡ 292) × (last_record_cost D2314 44 96 ≡ 185) × (record_cost D2314 0 140 ≡ 247) × (last_record_cost D2314 0 140 ≡ 140)
@@ -71,7 +71,7 @@ lengths :
     × (is_length D2311 40960 (512 + 203 * 40960) ≡ true) × (is_length D2311 40960 (512 + 204 * 40960) ≡ false) × (is_length D2311 40960 41473 ≡ false)
 lengths = (refl, refl, refl, refl, refl, refl)
 
--- a header of this text and type, with so many heads, bytes a track, a sequence and a high cylinder
+-- a header of this text and type, with so many heads, so many times 256 bytes a track, a sequence and a high cylinder
 abbrev header : List ℕ → ℕ → ℕ → ℕ → ℕ → ℕ → List ℕ
 header text heads size type_byte sequence cylinder = text ++ (heads ∷ 0 ∷ 0 ∷ 0 ∷ 0 ∷ size ∷ 0 ∷ 0 ∷ type_byte ∷ sequence ∷ cylinder ∷ 0 ∷ replicate 492 0)
 

@@ -50,7 +50,7 @@ pub struct Geometry {
 /// The first rule that the header or the length of an image breaks, in this order.
 #[derive(Clone, Copy, Debug, PartialEq, Eq)]
 pub enum ImageErr {
-    /// A compressed image.
+    /// A compressed image, which isn't shorter than a header.
     Compressed,
     /// Not an image of a disk pack in the CKD layout, or shorter than a header.
     BadMagic,

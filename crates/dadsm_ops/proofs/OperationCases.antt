@@ -54,6 +54,7 @@ faults_that_are_answered_are_counted :
     × StoreCall {T = ℕ} (counting 3) (counting 3) (Err Memory)
     × StoreCall {T = ℕ} (counting 3) (counting 3) (Err (Refused NoSet))
     × (¬ StoreCall {T = ℕ} (counting 3) (counting 3) (Err Device))
+    × (¬ StoreCall {T = ℕ} (counting 3) (counting 5) (Err Device))
     × (¬ StoreCall {T = ℕ} (counting 3) (counting 4) (Ok 1))
     × (¬ StoreCall {T = ℕ} (counting 3) (counting 4) (Err Memory))
     × (¬ StoreCall {T = ℕ} (counting 3) (counting 4) (Err (Refused NoSet)))
@@ -64,6 +65,7 @@ faults_that_are_answered_are_counted = (
   record { units = refl; references = refl; prints = refl; later = omega arith; device = λ is. absurd (let wrong = is in cc); others = λ no. refl },
   record { units = refl; references = refl; prints = refl; later = omega arith; device = λ is. absurd (let wrong = is in cc); others = λ no. refl },
   record { units = refl; references = refl; prints = refl; later = omega arith; device = λ is. absurd (let wrong = is in cc); others = λ no. refl },
+  λ call. let rose = call.device refl in omega (arith, rose),
   λ call. let rose = call.device refl in omega (arith, rose),
   λ call. let still : 4 ≡ 3 = call.others (λ no. absurd (let wrong = no in cc)) in omega (arith, still),
   λ call. let still : 4 ≡ 3 = call.others (λ no. absurd (let wrong = no in cc)) in omega (arith, still),

@@ -191,7 +191,7 @@ new_name_is_free after = (λ renames. taken b 2 renames refl, λ renames. taken 
 catalog_is_not_made : (after : List File) → ¬ RenamesSet pack (dsn a) (dsn catalog_name) before after
 catalog_is_not_made after renames = let wrong = renames.found.others in absurd (cc)
 
--- the image stands for no volume, since both of its sets have the old name
+-- the image stands for no volume, since both of its sets have one name
 image_is_mounted : (old new : Dsn) (after : List File) → ¬ RenamesSet pack old new (having (data_set a) (data_set a)) after
 image_is_mounted old new after renames = not_mounted (with_sets (data_set a ∷ data_set a ∷ [])) (DuplicateName 3 2) two_sets_have_one_name renames.index renames.mounted
 
@@ -247,7 +247,7 @@ changed_by_a_rename after at old new some = ⊎_elim (λ none. old (ap (byte at)
 pub other_bytes_stay : ¬ RenamesSome pack (rename a c ∷ []) before (having (data_set b) (c ++ take 95 set_bytes ++ 9 ∷ []))
 other_bytes_stay = changed_by_a_rename _ 9020 (λ wrong. omega (arith, wrong)) (λ wrong. omega (arith, wrong))
 
--- a set has the name of a rename that comes before the one which its name makes possible
+-- a set has the name of a rename that comes before the one which makes it possible
 renames_keep_their_order : ¬ RenamesSome pack (rename c d ∷ rename a c ∷ []) before (having (data_set b) (data_set d))
 renames_keep_their_order some = ⊎_elim
     (changed_by_a_rename _ 8881 (λ wrong. omega (arith, wrong)) (λ wrong. omega (arith, wrong)))

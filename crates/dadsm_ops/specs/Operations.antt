@@ -22,7 +22,7 @@ image_named files name = unwrap_or (file_of files name) []
 abbrev pub IsIn : Run → ℕ → Type 0
 IsIn run track = (run.start ≤ track) × (track < run.start + run.len)
 
--- Two images differ in the tracks of the VTOC alone. Length, header and tracks are all of an image that holds its cylinders whole; in another the bytes behind its last track aren't judged.
+-- Two images differ in the tracks of the VTOC alone: length, header and all other tracks are the same, counted on to the end of the image.
 pub record DiffersInVtoc (g : Geometry) (vtoc : Run) (before after : List ℕ) : Type 0 where
   pub size : length after ≡ length before
   pub header : take 512 after ≡ take 512 before

@@ -1,6 +1,6 @@
 //! One slot of a VTOC, written and made durable.
 ghost use Rattle.std.specs.Prelude.{◌≡◌, ◌⊎◌, ◌<◌, length, slice_set, IsTrue, OnOk};
-ghost use Rattle.hall_core.specs.Facts.{DeviceCall, unit_of};
+ghost use Rattle.hall_core.specs.Facts.{CallsAtMost, DeviceCall, unit_of};
 ghost use Rattle.hall_core.specs.Files.{AfterSync, image_of};
 ghost use Rattle.hall_core.specs.Moments.{IsDurable};
 ghost use Rattle.vtoc_index.specs.Index.{IsIndexOf, IsOfUnit};
@@ -29,6 +29,7 @@ pub(crate) fn put_through<H: Hall>(
     ensures others { vol.new ≡ record vol.old { slots = vol.new.slots; buf = vol.new.buf } }
     ensures unit { IsOfUnit (H.facts hall.new).units vol.new }
     ensures call { DeviceCall (H.facts hall.old) (H.facts hall.new) result }
+    ensures calls { CallsAtMost 1 1 1 0 (H.calls hall.old) (H.calls hall.new) }
 {
     put_slot(hall, vol, slot, dscb)?;
     make_durable(hall)
@@ -38,6 +39,7 @@ pub(crate) fn put_through<H: Hall>(
 fn make_durable<H: Hall>(hall: &mut H) -> Result<(), Device>
     ensures told { IsTrue H.tells → AfterSync (H.meaning hall.old) (H.meaning hall.new) result }
     ensures call { DeviceCall (H.facts hall.old) (H.facts hall.new) result }
+    ensures calls { CallsAtMost 0 0 1 0 (H.calls hall.old) (H.calls hall.new) }
 {
     hall.sync()?;
     Ok(())

@@ -78,7 +78,7 @@ uneven_rows are = omega (arith, are.1.0)
 numbers : AreBelow (2 ^ 16) (65535 ∷ 0 ∷ []) × (AreBelow (2 ^ 16) (0 ∷ 65536 ∷ []) → ⊥)
 numbers = ((omega arith, (omega arith, tt)), λ below. omega (arith, below.1.0))
 
--- the DSCBs of zeros, of a field too few, and of a field with another value
+-- the DSCB of zeros; a field with another value, and one for which there is a byte too few
 dscbs :
     IsDscb formats.F0 (replicate 140 0)
     × (¬ IsDscb formats.F0 (replicate 139 0 ++ (1 ∷ [])))

@@ -33,7 +33,7 @@ continues = (refl, refl, refl, refl, refl, refl, refl)
 allowed : (level_allows Levels 0 65 ≡ true) × (level_allows Levels 0 48 ≡ false) × (level_allows Levels 0 45 ≡ false) × (level_allows Levels 1 48 ≡ true) × (level_allows Levels 1 45 ≡ true)
 allowed = (refl, refl, refl, refl, refl)
 
--- the ninth character, counted from 0, makes its level too long, and once; that goes before what the character is
+-- the ninth character, number 8 from 0, makes its level too long, and once; that goes before what the character is
 ninth :
     (char_faults Levels 2 7 20 65 ≡ []) × (char_faults Levels 2 8 20 65 ≡ BadLevel 2 ∷ []) × (char_faults Levels 2 9 20 65 ≡ [])
     × (char_faults Levels 2 8 20 63 ≡ BadLevel 2 ∷ BadChar 20 ∷ []) × (char_faults Levels 2 7 20 63 ≡ BadChar 20 ∷ [])

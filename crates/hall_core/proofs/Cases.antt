@@ -3,48 +3,37 @@ use Rattle.std.proofs.Common.{◌≡◌, ◌≢◌, ◌<◌, ◌-◌, ◌^◌, �
 use Rattle.std.specs.Prelude.{Option, Ok, Err, String, Vec, string_bytes, unwrap_or}
 use Rattle.std.specs.declared.alloc.Global.{Global}
 use Rattle.hall_core.specs.declared.hall.HallErr.TheVariants.{Missing, Failed, Memory}
-use Rattle.hall_core.specs.Facts.{Attached, Facts, Rose, unit_of, IsAttached, DeviceCall, ReportedCall, NotedCall, PrintCall, AttachCall}
+use Rattle.hall_core.specs.Facts.{Attached, Calls, CallsAtMost, Facts, Rose, unit_of, IsAttached, DeviceCall, ReportedCall, NotedCall, PrintCall, AttachCall}
 use Rattle.hall_core.specs.Files.{File, file_of, image_of, HasBytesAt, patched, written, AreWhole, IsPrefixOf}
 use Rattle.hall_core.specs.Held.{file_of_pair, files_of, first_pairs, attached_as, shapes_of, units_at, IsFirst, AreFirst}
-use Rattle.hall_core.specs.Memory.{CountsFailure}
 
--- a count that rises isn't as before, unless it stands at its type's end
+-- a count that rises does so by one, unless it stands at its type's end
 rose_by_one : Rose 3 4
-rose_by_one = lit≤ tt
+rose_by_one = refl
 
-rose_by_two : Rose 3 5
-rose_by_two = lit≤ tt
+rose_by_two : ¬ Rose 3 5
+rose_by_two rose = absurd (omega (arith, rose))
 
 stood_still : ¬ Rose 3 3
-stood_still rose = absurd (omega arith)
+stood_still rose = absurd (omega (arith, rose))
 
 fell : ¬ Rose 4 3
-fell rose = absurd (omega arith)
+fell rose = absurd (omega (arith, rose))
 
-rose_to_the_end : Rose 0 (2 ^ 64 - 1)
-rose_to_the_end = lit≤ tt
+rose_to_the_end : Rose (2 ^ 64 - 2) (2 ^ 64 - 1)
+rose_to_the_end = omega arith
+
+jumped_to_the_end : ¬ Rose (2 ^ 64 - 3) (2 ^ 64 - 1)
+jumped_to_the_end rose = absurd (omega (arith, rose))
 
 stands_at_the_end : Rose (2 ^ 64 - 1) (2 ^ 64 - 1)
-stands_at_the_end = lit≤ tt
+stands_at_the_end = omega arith
+
+rose_past_the_end : ¬ Rose (2 ^ 64 - 1) (2 ^ 64)
+rose_past_the_end rose = absurd (omega (arith, rose))
 
 stood_before_the_end : ¬ Rose (2 ^ 64 - 2) (2 ^ 64 - 2)
-stood_before_the_end rose = absurd (omega arith)
-
--- in memory it grows by just one, and only where the call failed
-counts_one : CountsFailure {T = Unit {0}} 3 4 (Err Failed)
-counts_one = record { failed = λ is. refl; others = λ not. absurd (not refl) }
-
-counts_two : ¬ CountsFailure {T = Unit {0}} 3 5 (Err Failed)
-counts_two counts = let now : 5 ≡ 4 = counts.failed refl in absurd (omega (arith, now))
-
-counts_at_the_end : CountsFailure {T = Unit {0}} (2 ^ 64 - 1) (2 ^ 64 - 1) (Err Failed)
-counts_at_the_end = record { failed = λ is. refl; others = λ not. absurd (not refl) }
-
-counts_a_missing_file : ¬ CountsFailure {T = Unit {0}} 3 4 (Err Missing)
-counts_a_missing_file counts = let now : 4 ≡ 3 = counts.others (λ is. absurd (cc is)) in absurd (omega (arith, now))
-
-counts_none : CountsFailure {T = Unit {0}} 3 3 (Ok tt)
-counts_none = record { failed = λ is. absurd (cc is); others = λ not. refl }
+stood_before_the_end rose = absurd (omega (arith, rose))
 
 abbrev unit_named : ℕ → Attached
 unit_named n = record { name = n ∷ []; size = n }
@@ -123,13 +112,16 @@ device_done : DeviceCall {T = Unit {0}} {E = Unit {0}} (counted 3 5) (counted 3 
 device_done = record { units = refl; references = refl; prints = refl; later = lit≤ tt; done = refl; failed = tt }
 
 device_failed : DeviceCall {T = Unit {0}} {E = Unit {0}} (counted 3 5) (counted 4 5) (Err tt)
-device_failed = record { units = refl; references = refl; prints = refl; later = lit≤ tt; done = tt; failed = lit≤ tt }
+device_failed = record { units = refl; references = refl; prints = refl; later = lit≤ tt; done = tt; failed = refl }
 
 device_failed_at_the_end : DeviceCall {T = Unit {0}} {E = Unit {0}} (counted (2 ^ 64 - 1) 5) (counted (2 ^ 64 - 1) 5) (Err tt)
-device_failed_at_the_end = record { units = refl; references = refl; prints = refl; later = lit≤ tt; done = tt; failed = lit≤ tt }
+device_failed_at_the_end = record { units = refl; references = refl; prints = refl; later = lit≤ tt; done = tt; failed = refl }
 
 device_failed_uncounted : ¬ DeviceCall {T = Unit {0}} {E = Unit {0}} (counted 3 5) (counted 3 5) (Err tt)
 device_failed_uncounted call = let rose : Rose 3 3 = call.failed in stood_still rose
+
+device_failed_twice : ¬ DeviceCall {T = Unit {0}} {E = Unit {0}} (counted 3 5) (counted 5 5) (Err tt)
+device_failed_twice call = let rose : Rose 3 5 = call.failed in rose_by_two rose
 
 device_counted_though_done : ¬ DeviceCall {T = Unit {0}} {E = Unit {0}} (counted 3 5) (counted 4 5) (Ok tt)
 device_counted_though_done call = let same : 4 ≡ 3 = call.done in absurd (omega (arith, same))
@@ -138,10 +130,13 @@ device_counted_at_both : ¬ DeviceCall {T = Unit {0}} {E = Unit {0}} (counted 3 
 device_counted_at_both call = let same : 6 ≡ 5 = call.prints in absurd (omega (arith, same))
 
 print_failed : PrintCall {T = Unit {0}} {E = Unit {0}} (counted 3 5) (counted 3 6) (Err tt)
-print_failed = record { units = refl; references = refl; devices = refl; later = lit≤ tt; done = tt; failed = lit≤ tt }
+print_failed = record { units = refl; references = refl; devices = refl; later = lit≤ tt; done = tt; failed = refl }
 
 print_failed_uncounted : ¬ PrintCall {T = Unit {0}} {E = Unit {0}} (counted 3 5) (counted 3 5) (Err tt)
 print_failed_uncounted call = let rose : Rose 5 5 = call.failed in absurd (omega (arith, rose))
+
+print_failed_twice : ¬ PrintCall {T = Unit {0}} {E = Unit {0}} (counted 3 5) (counted 3 7) (Err tt)
+print_failed_twice call = let rose : Rose 5 7 = call.failed in absurd (omega (arith, rose))
 
 print_counted_at_both : ¬ PrintCall {T = Unit {0}} {E = Unit {0}} (counted 3 5) (counted 4 6) (Err tt)
 print_counted_at_both call = let same : 4 ≡ 3 = call.devices in absurd (omega (arith, same))
@@ -150,10 +145,13 @@ print_counted_though_done : ¬ PrintCall {T = Unit {0}} {E = Unit {0}} (counted 
 print_counted_though_done call = let same : 6 ≡ 5 = call.done in absurd (omega (arith, same))
 
 reported : ReportedCall (Unit {0}) (counted 3 5) (counted 4 5)
-reported = record { units = refl; references = refl; prints = refl; later = lit≤ tt; device = λ is. lit≤ tt; others = λ not. absurd (not tt) }
+reported = record { units = refl; references = refl; prints = refl; later = lit≤ tt; device = λ is. refl; others = λ not. absurd (not tt) }
 
 reported_uncounted : ¬ ReportedCall (Unit {0}) (counted 3 5) (counted 3 5)
 reported_uncounted call = stood_still (call.device tt)
+
+reported_twice : ¬ ReportedCall (Unit {0}) (counted 3 5) (counted 5 5)
+reported_twice call = rose_by_two (call.device tt)
 
 unreported_counted : ¬ ReportedCall ⊥ (counted 3 5) (counted 4 5)
 unreported_counted call = let same : 4 ≡ 3 = call.others (λ is. is) in absurd (omega (arith, same))
@@ -169,6 +167,20 @@ noted_falls call = absurd (omega (arith, call.later))
 
 noted_at_both : ¬ NotedCall (counted 3 5) (counted 4 6)
 noted_at_both call = let same : 6 ≡ 5 = call.prints in absurd (omega (arith, same))
+
+-- calls are counted by kind: one read at most, and else none
+abbrev made : ℕ → ℕ → ℕ → ℕ → Calls
+made reads writes syncs prints = record { reads = reads; writes = writes; syncs = syncs; prints = prints }
+
+one_read : CallsAtMost 1 0 0 0 (made 3 3 3 3) (made 4 3 3 3) × CallsAtMost 1 0 0 0 (made 3 3 3 3) (made 3 3 3 3)
+one_read = ((lit≤ tt, lit≤ tt, lit≤ tt, lit≤ tt), (lit≤ tt, lit≤ tt, lit≤ tt, lit≤ tt))
+
+no_other_call :
+    (¬ CallsAtMost 1 0 0 0 (made 3 3 3 3) (made 5 3 3 3))
+    × (¬ CallsAtMost 1 0 0 0 (made 3 3 3 3) (made 3 4 3 3))
+    × (¬ CallsAtMost 1 0 0 0 (made 3 3 3 3) (made 3 3 4 3))
+    × (¬ CallsAtMost 1 0 0 0 (made 3 3 3 3) (made 3 3 3 4))
+no_other_call = (λ calls. omega (arith, calls.0), λ calls. omega (arith, calls.1), λ calls. omega (arith, calls.2), λ calls. omega (arith, calls.3))
 
 -- past its type's end a count, which needn't rise there, doesn't fall either
 abbrev end : ℕ
@@ -219,6 +231,9 @@ attach_counts_a_missing_file call = let same : 4 ≡ 3 = call.others (λ is. abs
 
 attach_fails_uncounted : ¬ AttachCall (9 ∷ []) (counted 3 5) (counted 3 5) (Err Failed)
 attach_fails_uncounted call = stood_still (call.failed refl)
+
+attach_fails_twice : ¬ AttachCall (9 ∷ []) (counted 3 5) (counted 5 5) (Err Failed)
+attach_fails_twice call = rose_by_two (call.failed refl)
 
 attach_counts_at_both : ¬ AttachCall (9 ∷ []) (counted 3 5) (counted 4 6) (Err Failed)
 attach_counts_at_both call = let same : 6 ≡ 5 = call.prints in absurd (omega (arith, same))
@@ -384,6 +399,9 @@ missing_unit whole = absurd (cc ((whole 0 (lit< tt)).1))
 -- prefixes: none of the bytes, some and all; not more, nor from behind the first
 none_begins : IsPrefixOf [] (1 ∷ 2 ∷ [])
 none_begins = (1 ∷ 2 ∷ [], refl)
+
+some_begins : IsPrefixOf (1 ∷ []) (1 ∷ 2 ∷ [])
+some_begins = (2 ∷ [], refl)
 
 all_begins : IsPrefixOf (1 ∷ 2 ∷ []) (1 ∷ 2 ∷ [])
 all_begins = ([], refl)

@@ -220,13 +220,22 @@ abbrev counted : ℕ → ℕ → Facts
 counted dev print = record { units = []; references = []; dev_faults = dev; print_faults = print }
 
 either_rose : OutsideCalls (counted 3 5) (counted 3 6) fails
-either_rose = record { units = refl; references = refl; devices = lit≤ tt; prints = lit≤ tt; done = tt; failed = inr (lit≤ tt) }
+either_rose = record { units = refl; references = refl; devices = lit≤ tt; prints = lit≤ tt; done = tt; failed = inr (refl, refl) }
 
 neither_rose : ¬ OutsideCalls (counted 3 5) (counted 3 5) fails
-neither_rose calls = ⊎_elim (λ dev. absurd (omega (arith, dev))) (λ print. absurd (omega (arith, print))) calls.failed
+neither_rose calls = ⊎_elim (λ dev. absurd (omega (arith, dev.0))) (λ print. absurd (omega (arith, print.1))) calls.failed
+
+both_rose : ¬ OutsideCalls (counted 3 5) (counted 4 6) fails
+both_rose calls = ⊎_elim (λ dev. absurd (omega (arith, dev.1))) (λ print. absurd (omega (arith, print.0))) calls.failed
+
+device_rose_twice : ¬ OutsideCalls (counted 3 5) (counted 5 5) fails
+device_rose_twice calls = ⊎_elim (λ dev. absurd (omega (arith, dev.0))) (λ print. absurd (omega (arith, print.0))) calls.failed
+
+print_rose_twice : ¬ OutsideCalls (counted 3 5) (counted 3 7) fails
+print_rose_twice calls = ⊎_elim (λ dev. absurd (omega (arith, dev.1))) (λ print. absurd (omega (arith, print.1))) calls.failed
 
 both_at_the_end : OutsideCalls (counted (2 ^ 64 - 1) (2 ^ 64 - 1)) (counted (2 ^ 64 - 1) (2 ^ 64 - 1)) fails
-both_at_the_end = record { units = refl; references = refl; devices = lit≤ tt; prints = lit≤ tt; done = tt; failed = inl (lit≤ tt) }
+both_at_the_end = record { units = refl; references = refl; devices = lit≤ tt; prints = lit≤ tt; done = tt; failed = inl (refl, refl) }
 
 rose_though_done : ¬ OutsideCalls (counted 3 5) (counted 3 6) done
 rose_though_done calls = let same : 6 ≡ 5 = calls.done.1 in absurd (omega (arith, same))
@@ -234,11 +243,11 @@ rose_though_done calls = let same : 6 ≡ 5 = calls.done.1 in absurd (omega (ari
 device_rose_though_done : ¬ OutsideCalls (counted 3 5) (counted 4 5) done
 device_rose_though_done calls = let same : 4 ≡ 3 = calls.done.0 in absurd (omega (arith, same))
 
--- neither count fell, though the other rose; and the units and the hall stay
-device_fell : ¬ OutsideCalls (counted 3 5) (counted 2 6) fails
+-- neither count fell, not to its type's end either; and the units and the hall stay
+device_fell : ¬ OutsideCalls (counted (2 ^ 64) 5) (counted (2 ^ 64 - 1) 5) fails
 device_fell calls = absurd (omega (arith, calls.devices))
 
-print_fell : ¬ OutsideCalls (counted 3 5) (counted 4 4) fails
+print_fell : ¬ OutsideCalls (counted 3 (2 ^ 64)) (counted 3 (2 ^ 64 - 1)) fails
 print_fell calls = absurd (omega (arith, calls.prints))
 
 other_units : ¬ OutsideCalls (counted 3 5) (record (counted 3 5) { units = record { name = []; size = 0 } ∷ [] }) done

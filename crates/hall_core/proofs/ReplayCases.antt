@@ -51,7 +51,7 @@ events = refl
 event : event_of units pool text last ≡ wrote of_last
 event = refl
 
--- what a step needs: the unit, and not the offset; sizes that end behind the last byte
+-- what a step needs: the unit; sizes that end behind the last byte
 unit_of_last : unit_written last ≡ 1
 unit_of_last = refl
 

@@ -38,7 +38,7 @@ file_at_first [] place d first = absurd (omega (arith, first.inside))
 file_at_first (f ∷ files) zero d first = rw (same_name f.name) refl
 file_at_first (f ∷ files) (suc place) d first = rw (other_name f.name _ (first.before 0 (omega arith))) (file_at_first files place d (tail_first f files place first))
 
--- the size of a file at a place
+-- a file at a place, as a unit
 pub shape_at : (files : List File) (place : ℕ) (d : File) → place < length files → unit_of (shapes_of files) place ≡ attached_as (get_or files place d)
 shape_at files place d low = get_or-map attached_as files place d _ low
 

@@ -1,5 +1,5 @@
 -- What a hall in memory shows of itself.
-use Rattle.std.specs.Prelude.{◌≡◌, ◌↔◌, ◌⊎◌, ℕ, ◌+◌, ◌-◌, ◌^◌, ◌<◌, ◌≤◌, min, List, [], ◌∷◌, ◌++◌, length, take, Contains, Result, IsErrOf}
+use Rattle.std.specs.Prelude.{◌≡◌, ◌↔◌, ◌⊎◌, ℕ, ◌+◌, ◌<◌, ◌≤◌, List, [], ◌∷◌, ◌++◌, length, take, Contains, Result, IsErrOf}
 use Rattle.hall_core.specs.Facts.{Facts}
 use Rattle.hall_core.specs.Files.{File}
 use Rattle.hall_core.specs.Moments.{Meaning}
@@ -99,8 +99,3 @@ pub record IsExactCall {T : Type 0} (used : ℕ) (call : Call) (event : Event) (
   pub lacking : LacksRoom old used → KeepsRoom old new × KeepsRecord old new
   pub room : HasRoom old used → Records used call event old new
   pub setup : KeepsSetup old new
-
--- a count grows by one where the call failed, unless it stands at its type's end, and stays where it didn't
-pub record CountsFailure {T : Type 0} (before now : ℕ) (result : Result T HallErr) : Type 0 where
-  pub failed : IsErrOf result Failed → now ≡ min (before + 1) (2 ^ 64 - 1)
-  pub others : ¬ IsErrOf result Failed → now ≡ before

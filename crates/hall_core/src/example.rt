@@ -1,7 +1,7 @@
 //! An example of how calls of a hall compose: two writes in order, and then a line that tells of both.
 ghost use Rattle.std.specs.Prelude.{◌≡◌, ℕ, ◌+◌, ◌<◌, ◌≤◌, List, length, IsTrue, IfErr};
 ghost use Rattle.hall_core.specs.Example.{WritesInOrder};
-ghost use Rattle.hall_core.specs.Facts.{unit_of};
+ghost use Rattle.hall_core.specs.Facts.{CallsAtMost, unit_of};
 ghost use Rattle.hall_core.specs.Files.{File, written};
 ghost use Rattle.hall_core.specs.Moments.{IsDurable};
 ghost use Rattle.hall_core.specs.Steps.{OutsideCalls};
@@ -19,7 +19,7 @@ pub struct Edit<'a> {
 
 /// Writes twice to a unit, the second time once the first is durable, and prints a line once both are.
 ///
-/// Whatever is seen of the files, a stop at any moment leaves them as before, with the first write or
+/// Whatever number is seen of the files, a stop at any moment leaves them as before, with the first write or
 /// with both; and a byte of the line stands only with both. No other write may be pending. The error is
 /// `Failed`, and the count of device faults or that of print faults rose.
 pub fn write_twice_and_print<H: Hall>(
@@ -38,7 +38,8 @@ pub fn write_twice_and_print<H: Hall>(
         let once = written (H.meaning hall.old).state name first.entry.at first.entry.bytes.now in
         let twice = written once name second.entry.at second.entry.bytes.now in
         WritesInOrder view once twice line.now (H.meaning hall.old) (H.meaning hall.new) result }
-    ensures calls { OutsideCalls (H.facts hall.old) (H.facts hall.new) result }
+    ensures faults { OutsideCalls (H.facts hall.old) (H.facts hall.new) result }
+    ensures calls { CallsAtMost 0 2 2 1 (H.calls hall.old) (H.calls hall.new) }
     ensures error { IfErr result (λ e. e ≡ HallErr.Failed) }
 {
     hall.write(unit, first.at, first.bytes)?;

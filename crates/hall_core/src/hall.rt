@@ -1,6 +1,6 @@
 //! The trait of the outside, which a device and a test fixture implement alike.
 ghost use Rattle.std.specs.Prelude.{◌≡◌, ◌+◌, ◌<◌, ◌≤◌, [], ◌∷◌, ℕ, List, Bool, length, IsTrue, IsFalse, OnOk, IfErr, ◌-◌, ◌^◌, min};
-ghost use Rattle.hall_core.specs.Facts.{Facts, unit_of, IsAttached, DeviceCall, NotedCall, PrintCall, AttachCall, Rose};
+ghost use Rattle.hall_core.specs.Facts.{Calls, CallsAtMost, Facts, unit_of, IsAttached, DeviceCall, NotedCall, PrintCall, AttachCall, Rose};
 ghost use Rattle.hall_core.specs.Moments.{Meaning, LeftNow, IsDurable, Same};
 ghost use Rattle.hall_core.specs.Files.{File, HasBytesAt, AreWhole, Attaches, AfterWrite, AfterSync, AfterPrint};
 
@@ -20,7 +20,7 @@ pub enum HallErr {
 /// The count grows by one, and at 2^64 - 1 it stands still.
 pub fn fault(count: &mut u64) -> HallErr
     ensures error { result ≡ HallErr.Failed }
-    ensures count { count.new ≡ min (count.old + 1) (2 ^ 64 - 1) }
+    ensures count { Rose count.old count.new }
     ensures later { count.old ≤ count.new }
 {
     *count = count.saturating_add(1);
@@ -46,6 +46,9 @@ pub trait Hall {
     /// Its units, the references that lead to it, and its counts of faults.
     ghost facts: { Self → Facts };
 
+    /// Its calls, if it counts them: by none does a number rise but that of its kind, and that by at most one.
+    ghost calls: { Self → Calls };
+
     /// Attaches a file as the next unit, and gives the number of the unit.
     ///
     /// A unit keeps the size that its file has now. Of the errors, `Missing` says that there is no
@@ -55,7 +58,8 @@ pub trait Hall {
         requires few { length (facts self.old).units < 255 }
         requires once { ¬ IsAttached (facts self.old).units name.now }
         ensures told { IsTrue tells → Attaches name.now (meaning self.old) (meaning self.new) result }
-        ensures call { AttachCall name.now (facts self.old) (facts self.new) result };
+        ensures call { AttachCall name.now (facts self.old) (facts self.new) result }
+        ensures calls { CallsAtMost 0 0 0 0 (calls self.old) (calls self.new) };
 
     /// The size of a unit, in bytes.
     fn size(&self, unit: u8) -> u64
@@ -71,6 +75,7 @@ pub trait Hall {
         ensures bytes { IsTrue tells → OnOk result (HasBytesAt (meaning self.old).state (unit_of (facts self.old).units unit).name at buf.new) }
         ensures told { IsTrue tells → Same (meaning self.old) (meaning self.new) }
         ensures call { DeviceCall (facts self.old) (facts self.new) result }
+        ensures calls { CallsAtMost 1 0 0 0 (calls self.old) (calls self.new) }
         ensures error { IfErr result (λ e. e ≡ HallErr.Failed) };
 
     /// Writes the bytes over those of the unit, from the offset `at` on, which counts them from 0.
@@ -82,6 +87,7 @@ pub trait Hall {
         requires inside { at + length bytes.now ≤ (unit_of (facts self.old).units unit).size }
         ensures told { IsTrue tells → AfterWrite (unit_of (facts self.old).units unit).name at bytes.now (meaning self.old) (meaning self.new) result }
         ensures call { DeviceCall (facts self.old) (facts self.new) result }
+        ensures calls { CallsAtMost 0 1 0 0 (calls self.old) (calls self.new) }
         ensures error { IfErr result (λ e. e ≡ HallErr.Failed) };
 
     /// Makes the writes to all units durable.
@@ -90,6 +96,7 @@ pub trait Hall {
     fn sync(&mut self) -> Result<(), HallErr>
         ensures told { IsTrue tells → AfterSync (meaning self.old) (meaning self.new) result }
         ensures call { DeviceCall (facts self.old) (facts self.new) result }
+        ensures calls { CallsAtMost 0 0 1 0 (calls self.old) (calls self.new) }
         ensures error { IfErr result (λ e. e ≡ HallErr.Failed) };
 
     /// Prints the bytes, whatever they are.
@@ -98,6 +105,7 @@ pub trait Hall {
     fn print(&mut self, bytes: &[u8]) -> Result<(), HallErr>
         ensures told { IsTrue tells → AfterPrint bytes.now (meaning self.old) (meaning self.new) result }
         ensures call { PrintCall (facts self.old) (facts self.new) result }
+        ensures calls { CallsAtMost 0 0 0 1 (calls self.old) (calls self.new) }
         ensures error { IfErr result (λ e. e ≡ HallErr.Failed) };
 
     /// Notes that a track of a unit isn't as it was read before, or can't be as it is read.
@@ -108,6 +116,7 @@ pub trait Hall {
     fn differs(&mut self, unit: u8, track: u16)
         requires { unit < length (facts self.old).units }
         ensures rose { IsFalse tells → Rose (facts self.old).dev_faults (facts self.new).dev_faults }
+        ensures calls { CallsAtMost 0 0 0 0 (calls self.old) (calls self.new) }
         ensures call { NotedCall (facts self.old) (facts self.new) }
         ensures told { IsTrue tells → Same (meaning self.old) (meaning self.new) }
         ensures clock { IsTrue tells → (meaning self.new).clock ≡ (meaning self.old).clock }
@@ -135,6 +144,8 @@ impl<H: Hall> Hall for &mut H {
     ghost meaning = { λ h. H.meaning h.now };
 
     ghost facts = { λ h. record (H.facts h.now) { references = h.ghost_name ∷ (H.facts h.now).references } };
+
+    ghost calls = { λ h. H.calls h.now };
 
     ghost leaves_state = { λ h. H.leaves_state h.now };
 

@@ -33,7 +33,7 @@ pub struct Left {
 /// there is too little room answers `Failed`, raises its count of faults and does nothing else. None
 /// takes memory, so none answers `Memory`.
 ///
-/// A write that fails leaves what is read as it was, and is pending; a sync that fails leaves the
+/// A write that finds room and fails leaves what is read as it was, and is pending; a sync that fails leaves the
 /// pending writes; a print that fails prints nothing.
 #[derive(Debug, Drop)]
 pub struct MemHall {
@@ -269,11 +269,11 @@ impl MemHall {
 
 impl Hall for MemHall {
     ghost use Rattle.std.specs.Prelude.{List, [], ◌∷◌, OnOk, OnErr, IfErr, IsErrOf, None, is_ok, if◌then◌else◌};
-    ghost use Rattle.hall_core.specs.Facts.{unit_of, IsAttached, DeviceCall, PrintCall, AttachCall, NotedCall};
+    ghost use Rattle.hall_core.specs.Facts.{unit_of, IsAttached, DeviceCall, PrintCall, AttachCall, NotedCall, uncounted};
     ghost use Rattle.hall_core.specs.Files.{file_of, HasBytesAt, Attaches, AfterWrite, AfterSync, AfterPrint};
     ghost use Rattle.hall_core.specs.Moments.{Same};
     ghost use Rattle.hall_core.specs.History.{wrote, synced, printed, passed};
-    ghost use Rattle.hall_core.specs.Memory.{first_files, events_of, meaning_of, facts_of, IsExactCall, CountsFailure};
+    ghost use Rattle.hall_core.specs.Memory.{first_files, events_of, meaning_of, facts_of, IsExactCall};
     ghost use Rattle.hall_core.specs.Laws.{leaves_state as state_left, counts_now as now_counted, only_now as none_since, whole_units, none_pending as none_settled};
 
     ghost tells = { true };
@@ -281,6 +281,8 @@ impl Hall for MemHall {
     ghost meaning = { λ hall. meaning_of hall };
 
     ghost facts = { λ hall. facts_of hall };
+
+    ghost calls = { λ _. uncounted };
 
     ghost leaves_state = { λ hall. state_left hall };
 
@@ -298,7 +300,6 @@ impl Hall for MemHall {
         ensures told { Attaches name.now (meaning_of self.old) (meaning_of self.new) result }
         ensures call { AttachCall name.now (facts_of self.old) (facts_of self.new) result }
         ensures exact { IsExactCall (length name.now) Call.Attach passed self.old self.new result }
-        ensures count { CountsFailure (facts_of self.old).dev_faults (facts_of self.new).dev_faults result }
         ensures missing { ¬ IsErrOf result HallErr.Failed → file_of (meaning_of self.old).state name.now ≡ None → result ≡ Err HallErr.Missing }
     {
         if self.lacks_room(name.len()) {
@@ -329,7 +330,6 @@ impl Hall for MemHall {
         ensures call { DeviceCall (facts_of self.old) (facts_of self.new) result }
         ensures error { IfErr result (λ e. e ≡ HallErr.Failed) }
         ensures exact { IsExactCall 0 (Call.Read unit at) passed self.old self.new result }
-        ensures count { CountsFailure (facts_of self.old).dev_faults (facts_of self.new).dev_faults result }
         ensures kept { OnErr result (buf.new ≡ buf.old) }
     {
         if self.lacks_room(0) {
@@ -351,7 +351,6 @@ impl Hall for MemHall {
         ensures call { DeviceCall (facts_of self.old) (facts_of self.new) result }
         ensures error { IfErr result (λ e. e ≡ HallErr.Failed) }
         ensures exact { IsExactCall (length bytes.now) (Call.Write unit at) (wrote (record { name = (unit_of (facts_of self.old).units unit).name; at = at; bytes = bytes.now; is_done = is_ok result })) self.old self.new result }
-        ensures count { CountsFailure (facts_of self.old).dev_faults (facts_of self.new).dev_faults result }
     {
         if self.lacks_room(bytes.len()) {
             return Err(fault(&mut self.dev_faults));
@@ -369,7 +368,6 @@ impl Hall for MemHall {
         ensures call { DeviceCall (facts_of self.old) (facts_of self.new) result }
         ensures error { IfErr result (λ e. e ≡ HallErr.Failed) }
         ensures exact { IsExactCall 0 Call.Sync (if is_ok result then synced else passed) self.old self.new result }
-        ensures count { CountsFailure (facts_of self.old).dev_faults (facts_of self.new).dev_faults result }
     {
         if self.lacks_room(0) {
             return Err(fault(&mut self.dev_faults));
@@ -387,7 +385,6 @@ impl Hall for MemHall {
         ensures call { PrintCall (facts_of self.old) (facts_of self.new) result }
         ensures error { IfErr result (λ e. e ≡ HallErr.Failed) }
         ensures exact { IsExactCall (length bytes.now) Call.Print (if is_ok result then printed bytes.now else passed) self.old self.new result }
-        ensures count { CountsFailure (facts_of self.old).print_faults (facts_of self.new).print_faults result }
         ensures nothing { OnErr result ((meaning_of self.new).printed ≡ (meaning_of self.old).printed) }
     {
         if self.lacks_room(bytes.len()) {

@@ -1,6 +1,6 @@
 //! Calls of a hall that a stop leaves undone or done.
 ghost use Rattle.std.specs.Prelude.{◌≡◌, ◌⊎◌, ◌+◌, ◌<◌, ◌≤◌, length, IsTrue, OnErr};
-ghost use Rattle.hall_core.specs.Facts.{unit_of, DeviceCall};
+ghost use Rattle.hall_core.specs.Facts.{CallsAtMost, unit_of, DeviceCall};
 ghost use Rattle.hall_core.specs.Files.{written, IsPending};
 ghost use Rattle.hall_core.specs.Moments.{IsDurable, LeavesSame};
 ghost use Rattle.hall_core.specs.Steps.{StepTo};
@@ -32,6 +32,7 @@ pub fn write_through<H: Hall>(hall: &mut H, unit: u8, at: u64, bytes: &[u8]) -> 
     ensures told { IsTrue H.tells → StepTo (λ files. files) (written (H.meaning hall.old).state (unit_of (H.facts hall.old).units unit).name at bytes.now) (H.meaning hall.old) (H.meaning hall.new) result }
     ensures pending { IsTrue H.tells → OnErr result (IsPending (unit_of (H.facts hall.old).units unit).name at bytes.now (H.meaning hall.old) (H.meaning hall.new) ⊎ LeavesSame (H.meaning hall.old) (H.meaning hall.new)) }
     ensures call { DeviceCall (H.facts hall.old) (H.facts hall.new) result }
+    ensures calls { CallsAtMost 0 1 1 0 (H.calls hall.old) (H.calls hall.new) }
 {
     hall.write(unit, at, bytes)?;
     hall.sync()?;

@@ -50,7 +50,7 @@ module _ (s1 s2 s3 : Shelf) (v w : ℕ) (a b c : Dsn) (lawful : IsLawful s1) (fi
   at_1 : moment_at log now 1 ≡ held s2 []
   at_1 = ap (λ r. held (behind s3 r) []) back
 
-  -- from the last thing done to the first: from the first to the last, the rename back to a would be refused at s3
+  -- from the last thing done to the first: from the first to the last, the rename back to a would be refused at s3 where v is w
   at_0 : moment_at log now 0 ≡ held s1 []
   at_0 = ap (λ r. held (behind (behind s3 r) (step (behind s3 r) (Rename v b a))) []) back ∙ ap (λ r. held (behind s2 r) []) further_back
 

@@ -76,6 +76,12 @@ rename_applies log log' now after v old new lawful done noted =
       moments = subst (λ l. Elapses (meaning_after log now) (meaning_after l later) P) (sym noted) (elapses-more log (Renamed v old new) now later back P (inr done, refl));
     }
 
+-- a print is undone by the number of bytes before it
+print_undone : (now : Moment) (bytes text : List ℕ) (n : ℕ) → text ≡ now.text ++ bytes → n ≡ length now.text → before (Printed n) (record { shelf = now.shelf; text = text }) ≡ now
+print_undone now bytes text n is size =
+    let cut : take n text ≡ now.text = ap (λ l. take n l) is ∙ ap (λ k. take k (now.text ++ bytes)) size ∙ take-append_seam now.text bytes in
+    ap (λ p. record { shelf = now.shelf; text = p }) cut
+
 -- a print that is done, and is on the record
 pub print_prints : (log log' : List Done) (now : Moment) (bytes text : List ℕ) (n : ℕ) → text ≡ now.text ++ bytes → n ≡ length now.text → log' ≡ log ++ Printed n ∷ []
     → Prints {T = Unit {0}} true bytes (meaning_after log now) (meaning_after log' (record { shelf = now.shelf; text = text })) (Ok tt)
@@ -83,8 +89,7 @@ print_prints log log' now bytes text n is size noted =
     let later : Moment = record { shelf = now.shelf; text = text } in
     let P : Shelf → List ℕ → Type 0 = λ shelf p. (shelf ≡ now.shelf) × ((q : List ℕ) × IsPrefixOf q bytes × (IsTrue true → p ≡ now.text ++ q)) in
     let whole : IsPrefixOf bytes bytes = ([], append-nil bytes) in
-    let cut : take n text ≡ now.text = ap (λ l. take n l) is ∙ ap (λ k. take k (now.text ++ bytes)) size ∙ take-append_seam now.text bytes in
-    let back : before (Printed n) later ≡ now = ap (λ p. record { shelf = now.shelf; text = p }) cut in
+    let back : before (Printed n) later ≡ now = print_undone now bytes text n is size in
     record {
       shelf = refl;
       done = λ told. is;
@@ -92,3 +97,12 @@ print_prints log log' now bytes text n is size noted =
       prefix = (bytes, whole, λ told. is);
       moments = subst (λ l. Elapses (meaning_after log now) (meaning_after l later) P) (sym noted) (elapses-more log (Printed n) now later back P (refl, (bytes, whole, λ told. is)));
     }
+
+-- and a stop in it leaves all of the bytes, or none
+pub print_is_whole : (log log' : List Done) (now : Moment) (bytes text : List ℕ) (n : ℕ) → text ≡ now.text ++ bytes → n ≡ length now.text → log' ≡ log ++ Printed n ∷ []
+    → Elapses (meaning_after log now) (meaning_after log' (record { shelf = now.shelf; text = text })) (λ shelf p. (shelf ≡ now.shelf) × (p ≡ text))
+print_is_whole log log' now bytes text n is size noted =
+    let later : Moment = record { shelf = now.shelf; text = text } in
+    let P : Shelf → List ℕ → Type 0 = λ shelf p. (shelf ≡ now.shelf) × (p ≡ text) in
+    let back : before (Printed n) later ≡ now = print_undone now bytes text n is size in
+    subst (λ l. Elapses (meaning_after log now) (meaning_after l later) P) (sym noted) (elapses-more log (Printed n) now later back P (refl, refl))

@@ -81,7 +81,8 @@ impl MapMachine {
 }
 
 impl Machine for MapMachine {
-    ghost use Rattle.std.specs.Prelude.{true, IfErr, IsErrOf, refl};
+    ghost use Rattle.std.specs.Prelude.{true, IfErr, IsErrOf, OnOk, refl};
+    ghost use Rattle.hall_core.specs.Moments.{Elapses};
     ghost use Rattle.vol_model.specs.Calls.{Applies, MachineCall, Prints};
     ghost use Rattle.map_machine.specs.Held.{meaning_of, status_of};
     ghost use Rattle.map_machine.specs.Laws.{counts_now as now_counted, only_now as none_since};
@@ -122,6 +123,7 @@ impl Machine for MapMachine {
 
     fn print(&mut self, bytes: &[u8]) -> Result<(), MachErr>
         ensures shelf { Prints true bytes.now (meaning_of self.old) (meaning_of self.new) result }
+        ensures whole { OnOk result (Elapses (meaning_of self.old) (meaning_of self.new) (λ shelf text. (shelf ≡ (meaning_of self.old).state) × (text ≡ (meaning_of self.new).printed))) }
         ensures memory { IfErr result (λ e. e ≡ MachErr.Memory) }
     {
         if self.log.reserve(1).is_err() {

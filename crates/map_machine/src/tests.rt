@@ -88,7 +88,7 @@ fn volume(alloc: Global, plan: &Plan, names: &[(&str, u16)]) -> Result<Volume, F
     })
 }
 
-// A shelf of a volume with a catalog and one without.
+// A shelf of two volumes, one of them with a set named SYSCTLG.
 fn shelf(alloc: Global) -> Result<Shelf, Fail> {
     let mut volumes = Volumes::new(alloc);
     volumes.push(volume(

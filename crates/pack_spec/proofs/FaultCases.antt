@@ -32,7 +32,7 @@ dscb name format = name ∷ replicate 43 0 ++ (format ∷ replicate 95 0)
 abbrev zeros : List ℕ
 zeros = replicate 140 0
 
--- a data set of this name that counts so many extents of this type, from track to track of cylinder 0, the first of which ends on this head, and that leads to record 6
+-- a data set of this name that counts so many extents, from track to track of cylinder 0, the first of which has this type and ends on this head, and that leads to record 6
 abbrev set : ℕ → ℕ → ℕ → ℕ → List ℕ
 set name count kind last =
     name ∷ replicate 43 0 ++ (0xF1 ∷ replicate 14 0) ++ (count ∷ replicate 45 0)
@@ -140,7 +140,7 @@ each_slot :
 unfolding dscb_faults dscb_fault extents_fault has_types has_extents has_chain counted_extents first_extents further_extents format_3_of
 each_slot = (refl, refl, refl, refl)
 
--- each byte is its offset, but that of the format
+-- each byte is its offset
 abbrev numbered : List ℕ
 numbered = range_with_len 0 140
 

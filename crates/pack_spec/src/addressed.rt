@@ -1,5 +1,5 @@
 //! The slots of a VTOC with the addresses of their records.
-ghost use Rattle.std.specs.Prelude.{◌≡◌, ◌≢◌, ◌≤◌, ◌+◌, ◌*◌, ◌++◌, [], length, vec_len, Some, IfOk, IfErr, OnOk, OnErr, take, slice_get};
+ghost use Rattle.std.specs.Prelude.{◌≡◌, ◌≢◌, ◌≤◌, ◌+◌, ◌*◌, ◌++◌, ℕ, [], length, vec_len, Some, IfOk, IfErr, OnOk, OnErr, take, slice_get};
 ghost use Rattle.ckd_image.specs.Header.{HasGeometry};
 ghost use Rattle.pack_spec.specs.Slots.{addressed_from, record_address, slots_of_vtoc};
 ghost use Rattle.pack_spec.specs.Faults.{track_faults};
@@ -54,7 +54,7 @@ fn push_addressed(
 ) -> Result<(), AllocError>
     requires { length found.now ≤ 255 }
     ensures added { OnOk result (slots.new.items ≡ slots.old.items ++ addressed_from geometry track 1 found.now) }
-    ensures kept { OnErr result (take (length slots.old.items) slots.new.items ≡ slots.old.items) }
+    ensures kept { OnErr result ((count : ℕ) × (slots.new.items ≡ slots.old.items ++ addressed_from geometry track 1 (take count found.now))) }
 {
     for (index, bytes) in found.iter().enumerate() {
         slots.push(VtocSlot {

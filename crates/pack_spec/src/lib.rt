@@ -1,7 +1,7 @@
 //! What the image of a pack stands for: definitions, and a plain program that follows them.
 #![tactic(auto)]
 
-ghost use Rattle.std.specs.Prelude.{◌≡◌, ◌≢◌, [], Err, IfOk, IfErr, length, slice_range, take, unwrap_or};
+ghost use Rattle.std.specs.Prelude.{◌≡◌, ◌≢◌, [], Err, None, IfOk, IfErr, length, slice_range, take, unwrap_or};
 ghost use Rattle.ckd_image.specs.Header.{HasGeometry, geometry_of};
 ghost use Rattle.pack_spec.specs.Label.{label_of};
 ghost use Rattle.pack_spec.specs.Vtoc.{vtoc_of};
@@ -167,6 +167,7 @@ fn serial(alloc: Global, image: &[u8], geometry: Geometry) -> Result<Serial, Mou
     requires { HasGeometry (length image.now) geometry }
     ensures serial { IfOk result (λ serial. serial.bytes ≡ slice_range (unwrap_or (label_of image.now geometry) []) 4 10) }
     ensures refused { IfErr result (λ e. e ≢ MountErr.Memory → vtoc_of image.now geometry ≡ Err e) }
+    ensures unlabelled { IfErr result (λ e. e ≢ MountErr.Memory → label_of image.now geometry ≡ None) }
 {
     let Some(label) = label(alloc, image, geometry)? else {
         return Err(MountErr::NoLabel);

@@ -143,6 +143,10 @@ called facts = (
 failed : (facts : Facts) → facts.dev_faults ≡ 3 → ¬ TrackCall {T = ℕ} facts facts (Err Device)
 failed facts is call = let rose = call.device refl in absurd (omega (arith, is, rose))
 
+-- by one: a track that can't be read isn't read again
+failed_twice : (facts : Facts) → facts.dev_faults ≡ 3 → ¬ TrackCall {T = ℕ} facts (record facts { dev_faults = 5 }) (Err Device)
+failed_twice facts is call = let rose = call.device refl in absurd (omega (arith, is, rose))
+
 -- on an image without tracks no records stand
 nothing_read : (upto : Option ℕ) → records_on [] small upto 0 ≡ None
 unfolding records_on track_bytes records_of is_front

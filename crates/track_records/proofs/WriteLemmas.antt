@@ -10,7 +10,7 @@ use Rattle.hall_core.specs.Files.{File, AfterWrite}
 use Rattle.hall_core.specs.Moments.{Meaning}
 use Rattle.track_records.specs.Calls.{HasTrack}
 
-on_err : {T E : Type 0} (answer : Result T E) (P : Type 0) → P → OnErr answer P
+pub on_err : {T E : Type 0} (answer : Result T E) (P : Type 0) → P → OnErr answer P
 on_err (Ok x) P here = tt
 on_err (Err e) P here = here
 

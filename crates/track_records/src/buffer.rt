@@ -2,7 +2,7 @@
 ghost use Rattle.std.specs.Prelude.{◌≡◌, ◌≤◌, ◌+◌, ◌-◌, ◌++◌, [], length, true, Some, IsTrue, IfOk, IfErr, IfSome, OnOk, OnErr, slice_get};
 ghost use Rattle.std.specs.Option.{option_map};
 ghost use Rattle.ckd_image.specs.Reading.{front_record, is_record_at};
-ghost use Rattle.hall_core.specs.Facts.{DeviceCall, unit_of};
+ghost use Rattle.hall_core.specs.Facts.{CallsAtMost, DeviceCall, unit_of};
 ghost use Rattle.hall_core.specs.Files.{AfterWrite, image_of, patched};
 ghost use Rattle.hall_core.specs.Moments.{Same};
 ghost use Rattle.pack_spec.specs.Label.{records_on, track_bytes};
@@ -166,6 +166,7 @@ pub fn read_records<H: Hall>(
     ensures broken { IsTrue H.tells → IfErr result (λ e. IsBroken (image_of (H.meaning hall.old).state (H.facts hall.old) unit) buf.old.geometry upto track e) }
     ensures told { IsTrue H.tells → Same (H.meaning hall.old) (H.meaning hall.new) }
     ensures call { TrackCall (H.facts hall.old) (H.facts hall.new) result }
+    ensures calls { CallsAtMost 1 0 0 0 (H.calls hall.old) (H.calls hall.new) }
 {
     buf.unit = unit;
     buf.track = track;
@@ -201,6 +202,7 @@ fn fill<H: Hall>(
     ensures read { IsTrue H.tells → OnOk result (bytes.new.items ≡ track_bytes (image_of (H.meaning hall.old).state (H.facts hall.old) unit) geometry track) }
     ensures told { IsTrue H.tells → Same (H.meaning hall.old) (H.meaning hall.new) }
     ensures call { DeviceCall (H.facts hall.old) (H.facts hall.new) result }
+    ensures calls { CallsAtMost 1 0 0 0 (H.calls hall.old) (H.calls hall.new) }
 {
     let at = HEADER_LEN as u64 + u64::from(track) * u64::from(geometry.track_size);
     hall.read(unit, at, bytes)
@@ -225,6 +227,7 @@ pub fn update<H: Hall>(
     ensures record { let image = image_of (H.meaning hall.old).state (H.facts hall.old) buf.old.unit in IsTrue H.tells → OnOk result (StandsOn image buf.old → IsUpdated buf.old (r - 1) key.now payload.now image (image_of (H.meaning hall.new).state (H.facts hall.new) buf.old.unit) × StandsOn (image_of (H.meaning hall.new).state (H.facts hall.new) buf.old.unit) buf.new) }
     ensures buffer { buf.new ≡ record buf.old { records = with_parts (r - 1) key.now payload.now buf.old.records } }
     ensures call { DeviceCall (H.facts hall.old) (H.facts hall.new) result }
+    ensures calls { CallsAtMost 0 1 0 0 (H.calls hall.old) (H.calls hall.new) }
 {
     let place = buf.put(r, key, payload);
     let at = HEADER_LEN as u64

@@ -67,7 +67,7 @@ operands_are_three : (rename_of_operands (codes " RENAME DSNAME=J" ∷ codes "VO
 unfolding j k one byte_of char_faults code_page
 operands_are_three = (refl, refl, refl, refl)
 
--- a card of one statement and so many blanks, 41 columns before them
+-- a card of one statement and so many blanks, 37 columns before them
 card : ℕ → List ℕ
 card blanks = codes " RENAME DSNAME=J,VOL=2311=1,NEWNAME=K" ++ replicate blanks 32
 

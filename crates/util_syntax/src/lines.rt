@@ -1,5 +1,5 @@
 //! The lines that answer statements, and names as lines show them.
-ghost use Rattle.std.specs.Prelude.{◌≡◌, ◌++◌, is_ok, if◌then◌else◌, IfOk, OnOk, OnErr, take, length};
+ghost use Rattle.std.specs.Prelude.{◌≡◌, ◌++◌, ℕ, is_ok, if◌then◌else◌, IfOk, OnOk, OnErr, take};
 ghost use Rattle.ebcdic_names.specs.Names.{shown};
 ghost use Rattle.util_syntax.specs.Lines.{card_number, next_word, outcome_words, result_line};
 
@@ -57,7 +57,7 @@ pub fn push_name_in_ascii(text: &mut Vec<u8>, name: &[u8]) -> Result<(), AllocEr
 #[tactic(auto, unfolding(crate::specs::Lines::card_number))]
 fn push_card(line: &mut Vec<u8>, card: u32) -> Result<(), AllocError>
     ensures added { OnOk result (line.new.items ≡ line.old.items ++ card_number card) }
-    ensures kept { OnErr result (take (length line.old.items) line.new.items ≡ line.old.items) }
+    ensures kept { OnErr result ((count : ℕ) × (line.new.items ≡ line.old.items ++ take count (card_number card))) }
 {
     let mut buffer = Buffer::new();
     let digits = buffer.format(card);
@@ -68,7 +68,7 @@ fn push_card(line: &mut Vec<u8>, card: u32) -> Result<(), AllocError>
 // Adds a word behind a blank.
 fn push_word(line: &mut Vec<u8>, word: &[u8]) -> Result<(), AllocError>
     ensures added { OnOk result (line.new.items ≡ line.old.items ++ next_word word.now) }
-    ensures kept { OnErr result (take (length line.old.items) line.new.items ≡ line.old.items) }
+    ensures kept { OnErr result ((count : ℕ) × (line.new.items ≡ line.old.items ++ take count (next_word word.now))) }
 {
     line.push(b' ')?;
     line.extend_from_slice(word)

@@ -53,12 +53,12 @@ other_runs_are_sound = (refl, refl)
 abbrev counts : Bool → ℕ → ℕ → Status
 counts sound dev print = record { is_sound = sound; base = []; dev_faults = dev; print_faults = print }
 
--- the count of the fault that is answered rises, by one or more
+-- the count of the fault that is answered rises by one
 device_fault : MachineCall (counts true 3 5) (counts false 4 5) (fails Device)
-device_fault = record { base = refl; sound = refl; devices = lit≤ tt; prints = lit≤ tt; device = λ is. lit≤ tt; print = λ is. absurd (cc); no_device = λ other. absurd (other refl); no_print = λ other. refl }
+device_fault = record { base = refl; sound = refl; devices = lit≤ tt; prints = lit≤ tt; device = λ is. refl; print = λ is. absurd (cc); no_device = λ other. absurd (other refl); no_print = λ other. refl }
 
-print_fault : MachineCall (counts true 3 5) (counts false 3 7) (fails Print)
-print_fault = record { base = refl; sound = refl; devices = lit≤ tt; prints = lit≤ tt; device = λ is. absurd (cc); print = λ is. lit≤ tt; no_device = λ other. refl; no_print = λ other. absurd (other refl) }
+print_fault : MachineCall (counts true 3 5) (counts false 3 6) (fails Print)
+print_fault = record { base = refl; sound = refl; devices = lit≤ tt; prints = lit≤ tt; device = λ is. absurd (cc); print = λ is. refl; no_device = λ other. refl; no_print = λ other. absurd (other refl) }
 
 -- not where it stands still
 device_stood : ¬ MachineCall (counts true 3 5) (counts false 3 5) (fails Device)
@@ -67,9 +67,16 @@ device_stood call = let rose = call.device refl in absurd (omega (arith, rose))
 print_stood : ¬ MachineCall (counts true 3 5) (counts false 3 5) (fails Print)
 print_stood call = let rose = call.print refl in absurd (omega (arith, rose))
 
--- at its type's end it can't rise, and doesn't fall
+-- nor where it rises by two
+device_rose_twice : ¬ MachineCall (counts true 3 5) (counts false 5 5) (fails Device)
+device_rose_twice call = let rose = call.device refl in absurd (omega (arith, rose))
+
+print_rose_twice : ¬ MachineCall (counts true 3 5) (counts false 3 7) (fails Print)
+print_rose_twice call = let rose = call.print refl in absurd (omega (arith, rose))
+
+-- at its type's end it can't rise; and it never falls
 device_at_the_end : MachineCall (counts true (2 ^ 64 - 1) 5) (counts false (2 ^ 64 - 1) 5) (fails Device)
-device_at_the_end = record { base = refl; sound = refl; devices = lit≤ tt; prints = lit≤ tt; device = λ is. lit≤ tt; print = λ is. absurd (cc); no_device = λ other. absurd (other refl); no_print = λ other. refl }
+device_at_the_end = record { base = refl; sound = refl; devices = lit≤ tt; prints = lit≤ tt; device = λ is. refl; print = λ is. absurd (cc); no_device = λ other. absurd (other refl); no_print = λ other. refl }
 
 device_fell : ¬ MachineCall (counts true 3 5) (counts false 2 5) (fails Device)
 device_fell call = let rose = call.devices in absurd (omega (arith, rose))
@@ -78,7 +85,7 @@ device_fell call = let rose = call.devices in absurd (omega (arith, rose))
 both_rose : ¬ MachineCall (counts true 3 5) (counts false 4 6) (fails Device)
 both_rose call = let still = call.no_print (λ is. cc) in absurd (omega (arith, still))
 
-device_rose_for_print : ¬ MachineCall (counts true 3 5) (counts false 4 6) (fails Print)
+device_rose_for_print : ¬ MachineCall (counts true 3 5) (counts false 4 5) (fails Print)
 device_rose_for_print call = let still = call.no_device (λ is. cc) in absurd (omega (arith, still))
 
 -- with no fault no count rises
@@ -102,13 +109,19 @@ base_changed call = let never = call.base in cc
 
 -- of a run the same
 run_device_fault : RunCall (counts true 3 5) (counts false 4 5) (ends stop.Device)
-run_device_fault = record { base = refl; sound = refl; devices = lit≤ tt; prints = lit≤ tt; device = λ is. lit≤ tt; print = λ is. absurd (cc); no_device = λ other. absurd (other refl); no_print = λ other. refl }
+run_device_fault = record { base = refl; sound = refl; devices = lit≤ tt; prints = lit≤ tt; device = λ is. refl; print = λ is. absurd (cc); no_device = λ other. absurd (other refl); no_print = λ other. refl }
 
 run_device_stood : ¬ RunCall (counts true 3 5) (counts false 3 5) (ends stop.Device)
 run_device_stood call = let rose = call.device refl in absurd (omega (arith, rose))
 
 run_print_stood : ¬ RunCall (counts true 3 5) (counts false 3 5) (ends stop.Print)
 run_print_stood call = let rose = call.print refl in absurd (omega (arith, rose))
+
+run_device_rose_twice : ¬ RunCall (counts true 3 5) (counts false 5 5) (ends stop.Device)
+run_device_rose_twice call = let rose = call.device refl in absurd (omega (arith, rose))
+
+run_print_rose_twice : ¬ RunCall (counts true 3 5) (counts false 3 7) (ends stop.Print)
+run_print_rose_twice call = let rose = call.print refl in absurd (omega (arith, rose))
 
 run_both_rose : (¬ RunCall (counts true 3 5) (counts false 4 6) (ends stop.Print)) × (¬ RunCall (counts true 3 5) (counts false 4 6) (ends stop.Device))
 run_both_rose = (λ call. let still = call.no_device (λ is. cc) in absurd (omega (arith, still)), λ call. let still = call.no_print (λ is. cc) in absurd (omega (arith, still)))
@@ -160,11 +173,11 @@ module _ (s t u : Shelf) (r r' : Refusal) where
   not_refused_where_done : ¬ Answers (fails (Refused r)) (Ok t) s s
   not_refused_where_done answer = let never = answer.0 in cc
 
-  -- want of memory may come whatever the step is, also where it is refused
+  -- want of memory keeps the shelf, whatever the step is
   want_keeps_the_shelf : Answers (fails Memory) (Err r) s s × (Answers (fails Memory) (Ok t) s u → u ≡ s)
   want_keeps_the_shelf = (refl, λ answer. answer)
 
-  -- behind a fault of the device the shelf may be the one or the other
+  -- a fault of the device says nothing of the shelf
   fault_says_nothing : Answers (fails Device) (Ok t) s u
   fault_says_nothing = tt
 
@@ -295,7 +308,7 @@ module _ (op : Op) (s t u : Shelf) (r : Refusal) where
       absurd (omega (arith, head)))
       (prints.moments.moments 0 s (64 ∷ 66 ∷ []) (lit≤ tt) (inr (refl, refl)))
 
-  -- with want of memory nothing is printed, and a stop leaves no other shelf
+  -- with want of memory nothing is printed
   want_prints_nothing : {P : Shelf → List ℕ → Type 0} → ¬ Prints true (65 ∷ []) before (held s (64 ∷ 65 ∷ []) 1 P) (fails Memory)
   want_prints_nothing prints = let never = (prints.memory refl).printed in cc
 

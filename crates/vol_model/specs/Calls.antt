@@ -24,16 +24,20 @@ sound_after (Err Device) = false
 sound_after (Err Print) = false
 sound_after _ = true
 
--- A call of a machine: its base stays; it is sound then but after a fault; each count rose where its fault is reported, and else stands still.
-pub record MachineCall {T : Type 0} (old new : Status) (result : Result T MachErr) : Type 0 where
+-- Calls on a machine by which faults of the device and of the printer are reported or aren't: its base stays, it is sound then or isn't, and each count rose where its fault is reported, and else stands still.
+pub record ReportsFaults (is_sound : Bool) (device_fault print_fault : Type 0) (old new : Status) : Type 0 where
   pub base : new.base ≡ old.base
-  pub sound : new.is_sound ≡ sound_after result
+  pub sound : new.is_sound ≡ is_sound
   pub devices : old.dev_faults ≤ new.dev_faults
   pub prints : old.print_faults ≤ new.print_faults
-  pub device : IsErrOf result Device → Rose old.dev_faults new.dev_faults
-  pub print : IsErrOf result Print → Rose old.print_faults new.print_faults
-  pub no_device : ¬ IsErrOf result Device → new.dev_faults ≡ old.dev_faults
-  pub no_print : ¬ IsErrOf result Print → new.print_faults ≡ old.print_faults
+  pub device : device_fault → Rose old.dev_faults new.dev_faults
+  pub print : print_fault → Rose old.print_faults new.print_faults
+  pub no_device : ¬ device_fault → new.dev_faults ≡ old.dev_faults
+  pub no_print : ¬ print_fault → new.print_faults ≡ old.print_faults
+
+-- a call of a machine reports its faults in its answer
+abbrev pub MachineCall : {T : Type 0} → Status → Status → Result T MachErr → Type 0
+MachineCall old new result = ReportsFaults (sound_after result) (IsErrOf result Device) (IsErrOf result Print) old new
 
 -- What an operation answers, by the step of the shelf, and the shelf then: the one after it, or the one before. A fault of the device says nothing of the shelf, and a print fault doesn't come.
 abbrev pub Answers : {T : Type 0} → Result T MachErr → Result Shelf Refusal → Shelf → Shelf → Type 0

@@ -15,10 +15,10 @@ use crate::requests::Op;
 /// A shelf of volumes, and a place to print on.
 ///
 /// An operation is done as a whole or not at all, whatever stops it, and once it is answered no stop undoes it. A
-/// refusal, or want of memory, leaves all as it was. After a fault of a device or of the printer the machine isn't
+/// refusal, or want of memory, leaves all but the time as it was. After a fault of a device or of the printer the machine isn't
 /// sound any more, and takes no further call but `is_sound`.
 ///
-/// Clauses on the shelf hold where `tells` is true, and those on printed bytes where `tells_prints` is too. What
+/// Clauses on the shelf hold where `tells` is true, and those on what a print adds where `tells_prints` is too. What
 /// `status` tells is always known. Two laws, `counts_now` and `only_now`, ask for no `tells`: a machine that tells
 /// nothing has some meaning all the same, and gives one that meets them.
 pub trait Machine {
@@ -56,12 +56,13 @@ pub trait Machine {
 
     /// Prints the bytes.
     ///
-    /// It isn't refused. After `Print` or `Device` a prefix of the bytes is printed.
+    /// It isn't refused, and no device fails in it. After `Print` a prefix of the bytes is printed.
     fn print(&mut self, bytes: &[u8]) -> Result<(), MachErr>
         requires sound { IsTrue (status self.old).is_sound }
         ensures shelf { IsTrue tells → Prints tells_prints bytes.now (meaning self.old) (meaning self.new) result }
         ensures promise { IsTrue tells → Keeps (meaning self.old).clock [] (promise self.old) (promise self.new) }
         ensures call { MachineCall (status self.old) (status self.new) result }
+        ensures device { IsErrOf result MachErr.Device → ⊥ }
         ensures refused { (r : Refusal) → IsErrOf result (MachErr.Refused r) → ⊥ };
 
     /// The shelf of a sound machine is lawful.
@@ -73,7 +74,7 @@ pub trait Machine {
     /// A stop now may leave the shelf as it is.
     ghost leaves_state: { (m : Self) → IsTrue tells → (meaning m).left (meaning m).state };
 
-    /// One since any earlier moment may have left that too, as the printed bytes are now.
+    /// What a stop now leaves, one since any earlier moment may have left, with the printed bytes as they are now.
     ghost counts_now: { (m : Self) (t : ℕ) (shelf : Shelf) → t ≤ (meaning m).clock → (meaning m).left shelf → (meaning m).left_since t shelf (meaning m).printed };
 
     /// A stop since now leaves what one leaves now, and nothing else.

@@ -69,7 +69,7 @@ one_unit = refl
 a_2314 : (g : Geometry) → g ≡ record { device = D2314; cylinders = 200; track_size = 7680 } → numbers_of g ≡ 0x14 ∷ 200 ∷ 7680 ∷ []
 a_2314 g is = ap numbers_of is
 
--- a run asks for its file, and other words for none
+-- a run asks for its file, and so do names
 run_asks : file_asked (Run (codes "w.img")) ≡ codes "w.img"
 run_asks = refl
 

@@ -143,6 +143,13 @@ device_uncounted call = absurd (omega (arith, call.device refl))
 print_uncounted : ¬ OnFile w (facts [] 3 4) (facts [] 3 4) 24
 print_uncounted call = absurd (omega (arith, call.print refl))
 
+-- nor twice
+device_counted_twice : ¬ OnFile w (facts [] 3 4) (facts [] 5 4) 22
+device_counted_twice call = absurd (omega (arith, call.device refl))
+
+print_counted_twice : ¬ OnFile w (facts [] 3 4) (facts [] 3 6) 24
+print_counted_twice call = absurd (omega (arith, call.print refl))
+
 -- and none is counted that isn't reported
 device_unreported : ¬ OnFile w (facts [] 3 4) (facts [] 4 4) 21
 device_unreported call = absurd (omega (arith, call.reported.devices (λ is. absurd (omega (arith, is)))))

@@ -158,19 +158,23 @@ unprinted_and_changed left = apart left.files
 
 -- said whole, with its own status
 said : Does (Says 21 (codes "AB")) before (printing (codes "AB") (codes "AB")) 21
-said = record { ends = λ final. (refl, refl); unprinted = λ is. whole_printed; silent = λ is. absurd (omega (arith, is)); stops = whole_printed }
+said = record { ends = λ final. (refl, refl); unprinted = λ is. whole_printed; fault = λ is. absurd (omega (arith, is)); silent = λ is. absurd (omega (arith, is)); stops = whole_printed }
 
 -- or in part, with a fault
 said_in_part : Does (Says 21 (codes "AB")) before (printing (codes "AB") (codes "A")) 24
-said_in_part = record { ends = λ final. absurd (no_end 24 (omega arith) (omega arith) final); unprinted = λ is. part_printed; silent = λ is. absurd (omega (arith, is)); stops = part_printed }
+said_in_part = record { ends = λ final. absurd (no_end 24 (omega arith) (omega arith) final); unprinted = λ is. part_printed; fault = λ is. absurd (omega (arith, is)); silent = λ is. absurd (omega (arith, is)); stops = part_printed }
+
+-- none of it was printed where the device failed
+said_with_22 : (¬ Does (Says 21 (codes "AB")) before (printing (codes "AB") (codes "AB")) 22) × (¬ Does (Says 21 (codes "AB")) before (printing (codes "AB") (codes "A")) 22)
+said_with_22 = (λ does. absurd (omega (arith, ap length (does.fault refl))), λ does. absurd (omega (arith, ap length (does.fault refl))))
 
 -- or not at all, for want of memory
 said_nothing : Does (Says 21 (codes "AB")) before (printing (codes "AB") []) 25
-said_nothing = record { ends = λ final. absurd (no_end 25 (omega arith) (omega arith) final); unprinted = λ is. prints _ _ (begins_none (codes "AB")); silent = λ is. refl; stops = prints _ _ (begins_none (codes "AB")) }
+said_nothing = record { ends = λ final. absurd (no_end 25 (omega arith) (omega arith) final); unprinted = λ is. prints _ _ (begins_none (codes "AB")); fault = λ is. absurd (omega (arith, is)); silent = λ is. refl; stops = prints _ _ (begins_none (codes "AB")) }
 
 -- where another text stays as it was printed before
 said_nothing_behind : Does (Says 21 (codes "AB")) (at_rest files (codes "Z") 0) (printing_behind (codes "Z")) 25
-said_nothing_behind = record { ends = λ final. absurd (no_end 25 (omega arith) (omega arith) final); unprinted = λ is. prints_behind (codes "Z") ([], (codes "AB", refl), refl); silent = λ is. refl; stops = prints_behind (codes "Z") ([], (codes "AB", refl), refl) }
+said_nothing_behind = record { ends = λ final. absurd (no_end 25 (omega arith) (omega arith) final); unprinted = λ is. prints_behind (codes "Z") ([], (codes "AB", refl), refl); fault = λ is. absurd (omega (arith, is)); silent = λ is. refl; stops = prints_behind (codes "Z") ([], (codes "AB", refl), refl) }
 
 -- a part isn't the whole, nor another final status its own
 part_is_not_all : ¬ Does (Says 21 (codes "AB")) before (printing (codes "AB") (codes "A")) 21

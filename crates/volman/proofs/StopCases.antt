@@ -130,7 +130,7 @@ module _ (volume after : Volume) (op : Op) (image image' : List ℕ) (stands : v
   other_left : ¬ StopStands file volume (item op ∷ []) (at_rest (beside image 1) [] 0) (beside image' 2) []
   other_left stop = beside_stays volume (op ∷ []) image image' stop.changes
 
-  -- where an operation is to be done, the VTOC of the volume from before may be another; where none is, not a byte is: to stand for the volume isn't enough
+  -- an image that these operations may have left, and that stands for the volume from before, may be left; where there is no operation, not a byte is changed: to stand for the volume isn't enough
   same_volume : (image'' : List ℕ) → volume_of image'' ≡ Ok volume → Changes volume (op ∷ []) (pack image) (pack image'') → Stops (pack image'') []
   same_volume image'' stands'' changed'' = record {
     shelf = shelf_with volume;
@@ -217,7 +217,7 @@ module _ (volume after : Volume) (op : Op) (image image' : List ℕ) (stands : v
   line_is_not_safe : ¬ IsSafe (Works file volume (item op ∷ [])) before (at_rest (pack image) line 1)
   line_is_not_safe safe = line_without_operation (safe.stops (pack image) line (refl, refl))
 
-  -- one before the begin doesn't: there may have been other files
+  -- a stop before the begin doesn't count: there may have been other files
   before_the_begin : StopsInItems file volume (item op ∷ []) (at_rest (pack image) [] 1) (record done { left_since = λ t j p. ((t ≤ 0) × (j ≡ [])) ⊎ ((j ≡ pack image') × (p ≡ line)) })
   before_the_begin = record {
     later = omega arith;

@@ -180,7 +180,7 @@ nothing_told all = (record { why = λ other. absurd (other refl) }, record { why
 
 -- ---- what the program promises
 
--- Of a card that is no statement nothing but 26 is answered where the cards tell it, also where the file is missing.
+-- Of a card that is no statement 21 isn't answered where the cards tell it, also where the file is missing.
 other_deck : ¬ Headline (Some (Run w)) true (codes "X") before (printing (unit_line w mount.NoFile) (unit_line w mount.NoFile)) 21
 unfolding task_of rename_of
 other_deck headline =
@@ -190,23 +190,23 @@ other_deck headline =
     absurd (omega (arith, (does.ends (inl (omega arith))).0))
 
 -- a text that was said whole
-said_whole : (code : ℕ) (text : List ℕ) → code ≢ 25 → Does (Says code text) before (printing text text) code
-said_whole code text ample = record { ends = λ final. (refl, refl); unprinted = λ is. prints text text (text, ([], append-nil text), refl); silent = λ is. absurd (ample is); stops = prints text text (text, ([], append-nil text), refl) }
+said_whole : (code : ℕ) (text : List ℕ) → code ≢ 25 → code ≢ 22 → Does (Says code text) before (printing text text) code
+said_whole code text ample sound = record { ends = λ final. (refl, refl); unprinted = λ is. prints text text (text, ([], append-nil text), refl); fault = λ is. absurd (sound is); silent = λ is. absurd (ample is); stops = prints text text (text, ([], append-nil text), refl) }
 
 -- where they don't tell it, some deck was read, which may have been a statement
 untold_deck : (s : Rename) → Headline (Some (Run w)) false (codes "X") before (printing (unit_line w mount.NoFile) (unit_line w mount.NoFile)) 21
 unfolding task_of
-untold_deck s = record { deck = Some s; given = λ told. absurd (cc told); does = said_whole 21 (unit_line w mount.NoFile) (λ is. absurd (omega (arith, is))) }
+untold_deck s = record { deck = Some s; given = λ told. absurd (cc told); does = said_whole 21 (unit_line w mount.NoFile) (λ is. absurd (omega (arith, is))) (λ is. absurd (omega (arith, is))) }
 
 -- the names are said of no deck, whatever the cards hold
 names_of_no_deck : (input : List ℕ) → Headline (Some (Names w)) true input before (printing (unit_line w mount.NoFile) (unit_line w mount.NoFile)) 21
 unfolding task_of
-names_of_no_deck input = record { deck = deck_of input; given = λ told. refl; does = said_whole 21 (unit_line w mount.NoFile) (λ is. absurd (omega (arith, is))) }
+names_of_no_deck input = record { deck = deck_of input; given = λ told. refl; does = said_whole 21 (unit_line w mount.NoFile) (λ is. absurd (omega (arith, is))) (λ is. absurd (omega (arith, is))) }
 
--- words that are refused end with 20, and not with a condition code or the status of a file
+-- words that are refused may end with 20, and not with a condition code or the status of a file
 words_refused : (input : List ℕ) → Headline None true input before (printing words_line words_line) 20
 unfolding task_of
-words_refused input = record { deck = deck_of input; given = λ told. refl; does = said_whole 20 words_line (λ is. absurd (omega (arith, is))) }
+words_refused input = record { deck = deck_of input; given = λ told. refl; does = said_whole 20 words_line (λ is. absurd (omega (arith, is))) (λ is. absurd (omega (arith, is))) }
 
 words_with : (input text : List ℕ) (n : ℕ) → n ≤ 21 → n ≢ 20 → ¬ Headline None true input before (printing text text) n
 unfolding task_of

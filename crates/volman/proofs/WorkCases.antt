@@ -1,5 +1,5 @@
 -- What items on a pack leave when they are done, on cases that a near reading of Run.antt answers otherwise. Each comment names a wrong definition that the case tells from the right one.
-use Rattle.std.proofs.Common.{◌≡◌, ◌≢◌, ◌≤◌, ℕ, List, [], ◌∷◌, length, codes, inl, inr, refl, sym, ap, ◌∙◌, arith, length-append}
+use Rattle.std.proofs.Common.{◌≡◌, ◌≢◌, ◌≤◌, ℕ, List, [], ◌∷◌, length, codes, inl, inr, ⊎_elim, refl, sym, ap, ◌∙◌, arith, length-append}
 use Rattle.std.specs.Prelude.{◌⊎◌, Ok, Err}
 use Rattle.dadsm_ops.specs.Operations.{image_named}
 use Rattle.hall_core.specs.Files.{File}
@@ -132,19 +132,26 @@ module _ (volume after : Volume) (op : Op) (image image' : List ℕ) (stands : v
   ends_undone end = absurd (omega (arith, ap length end.printed))
 
   did : Does (Works file volume (item op ∷ [])) before done 0
-  did = record { ends = λ final. worked; unprinted = λ is. absurd (omega (arith, is)); silent = λ is. absurd (omega (arith, is)); stops = keeps volume after op image image' stands stands' steps changed apart }
+  did = record { ends = λ final. worked; unprinted = λ is. absurd (omega (arith, is)); fault = λ is. absurd (omega (arith, is)); silent = λ is. absurd (omega (arith, is)); stops = keeps volume after op image image' stands stands' steps changed apart }
 
   -- a fault may come when all is done, also that of the sync at the end
   did_and_failed : Does (Works file volume (item op ∷ [])) before done 22
-  did_and_failed = record { ends = λ final. absurd (no_end 22 (omega arith) (omega arith) final); unprinted = λ is. absurd (omega (arith, is)); silent = λ is. absurd (omega (arith, is)); stops = keeps volume after op image image' stands stands' steps changed apart }
+  did_and_failed = record { ends = λ final. absurd (no_end 22 (omega arith) (omega arith) final); unprinted = λ is. absurd (omega (arith, is)); fault = λ is. inr worked.printed; silent = λ is. absurd (omega (arith, is)); stops = keeps volume after op image image' stands stands' steps changed apart }
 
   -- also before anything is done
   undone_and_failed : Does (Works file volume (item op ∷ [])) before (at_rest (pack image) [] 1) 22
-  undone_and_failed = record { ends = λ final. absurd (no_end 22 (omega arith) (omega arith) final); unprinted = λ is. absurd (omega (arith, is)); silent = λ is. absurd (omega (arith, is)); stops = keeps_all volume after op image image' stands stands' steps changed apart }
+  undone_and_failed = record { ends = λ final. absurd (no_end 22 (omega arith) (omega arith) final); unprinted = λ is. absurd (omega (arith, is)); fault = λ is. inl refl; silent = λ is. absurd (omega (arith, is)); stops = keeps_all volume after op image image' stands stands' steps changed apart }
+
+  -- the line was printed whole then, or not at all
+  part_with_22 : ¬ Does (Works file volume (item op ∷ [])) before (at_rest (pack image') (codes "A") 1) 22
+  part_with_22 does = ⊎_elim (λ none. absurd (omega (arith, ap length none))) (λ all. absurd (omega (arith, ap length all))) (does.fault refl)
+
+  works_part_with_22 : ¬ WorksOn file volume (item op ∷ []) before (at_rest (pack image') (codes "A") 1) 22
+  works_part_with_22 works = ⊎_elim (λ none. absurd (omega (arith, ap length none))) (λ all. absurd (omega (arith, ap length all))) (works.fault refl)
 
   -- but one of the printer comes when the operation is done: what a stop leaves would allow it before that
   failed_in_print : Does (Works file volume (item op ∷ [])) before done 24
-  failed_in_print = record { ends = λ final. absurd (no_end 24 (omega arith) (omega arith) final); unprinted = λ is. whole_but_failed; silent = λ is. absurd (omega (arith, is)); stops = keeps volume after op image image' stands stands' steps changed apart }
+  failed_in_print = record { ends = λ final. absurd (no_end 24 (omega arith) (omega arith) final); unprinted = λ is. whole_but_failed; fault = λ is. absurd (omega (arith, is)); silent = λ is. absurd (omega (arith, is)); stops = keeps volume after op image image' stands stands' steps changed apart }
 
   undone_with_24 : ¬ Does (Works file volume (item op ∷ [])) before (at_rest (pack image) [] 1) 24
   undone_with_24 does = unprinted_undone (does.unprinted refl)
@@ -170,7 +177,7 @@ module _ (volume after : Volume) (op : Op) (image image' : List ℕ) (stands : v
   -- ---- on the shelf of a pack that was mounted before
 
   works : WorksOn file volume (item op ∷ []) before done 0
-  works = record { ends = λ final. worked; unprinted = λ is. absurd (omega (arith, is)); later = omega arith; stops = λ t early calm. stop_behind volume after op image image' stands stands' steps changed apart }
+  works = record { ends = λ final. worked; unprinted = λ is. absurd (omega (arith, is)); fault = λ is. absurd (omega (arith, is)); later = omega arith; stops = λ t early calm. stop_behind volume after op image image' stands stands' steps changed apart }
 
   works_without_line : ¬ WorksOn file volume (item op ∷ []) before (at_rest (pack image') [] 1) 0
   works_without_line all = line_missing (all.ends (inl (omega arith)))
@@ -179,6 +186,7 @@ module _ (volume after : Volume) (op : Op) (image image' : List ℕ) (stands : v
   works_but_print = record {
     ends = λ final. absurd (no_end 24 (omega arith) (omega arith) final);
     unprinted = λ is. whole_but_failed;
+    fault = λ is. absurd (omega (arith, is));
     later = omega arith;
     stops = λ t early calm. stop_behind volume after op image image' stands stands' steps changed apart;
   }
@@ -200,6 +208,7 @@ module _ (volume after : Volume) (op : Op) (image image' : List ℕ) (stands : v
   never_calm = record {
     ends = λ final. absurd (no_end 22 (omega arith) (omega arith) final);
     unprinted = λ is. absurd (omega (arith, is));
+    fault = λ is. inr worked.printed;
     later = omega arith;
     stops = λ t early calm files printed left. absurd (omega (arith, ap length (calm [] [] refl).0));
   }

@@ -139,6 +139,7 @@ pub nothing_worked : (file : List ℕ) (volume : Volume) (items : List Item) {ol
 nothing_worked file volume items {old} status stands_at have durable only same other = record {
   ends = λ final. absurd (other.0 final);
   unprinted = λ printer. absurd (other.1 printer);
+  fault = λ device. inl same.printed;
   silent = λ short. same.printed;
   stops = record {
     later = same.time.later;
@@ -168,6 +169,7 @@ worked_then file volume items {old} {mid} {new} status durable only same silent 
         durable = done.durable;
         changes = subst (λ (all : List File). ChangesNames file volume.geometry volume.vtoc (operations_of (events_of items)) all new.state) same.state done.changes;
       };
+  fault = λ device. ⊎_elim (λ none. inl (none ∙ same.printed)) (λ all. inr (all ∙ ap (λ (l : List ℕ). l ++ listing (events_of items)) same.printed)) (works.fault device);
   silent = λ short. silent short ∙ same.printed;
   stops = record {
     later = omega (arith, same.time.later, works.later);
@@ -291,11 +293,12 @@ worked_synced {name} {volume} {items} {m} synced ends done = record {
 }
 
 -- a run of an item that a fault ended
-pub works_failed : {name : List ℕ} {volume : Volume} {items : List Item} {m m' : Meaning (List File)} (status : ℕ) → IsCut status → m.clock ≤ m'.clock
+pub works_failed : {name : List ℕ} {volume : Volume} {items : List Item} {m m' : Meaning (List File)} (status : ℕ) → IsCut status → (status ≡ 22 → m'.printed ≡ m.printed) → m.clock ≤ m'.clock
     → ((t : ℕ) → t ≤ m.clock → IsCalmSince m t → (files : List File) (printed : List ℕ) → m'.left_since t files printed → StopStands name volume items m files printed) → WorksOn name volume items m m' status
-works_failed status other later stops = record {
+works_failed status other quiet later stops = record {
   ends = λ final. absurd (other.0 final);
   unprinted = λ printer. absurd (other.1 printer);
+  fault = λ device. inl (quiet device);
   later = later;
   stops = stops;
 }
@@ -306,6 +309,7 @@ pub works_unprinted : {name : List ℕ} {volume : Volume} {items : List Item} {m
 works_unprinted status is later done stops = record {
   ends = λ final. absurd (not_final status 24 is (omega arith) (omega arith) final);
   unprinted = λ _. done;
+  fault = λ (device : status ≡ 22). absurd (omega (arith, is, device));
   later = later;
   stops = stops;
 }
@@ -318,6 +322,7 @@ works_finished {name} {volume} {items} {m} {m'} {m''} status code which small co
       (λ (is : status ≡ code). subst (λ (n : ℕ). HasWorked name volume items m m'' n) (sym is) (worked_synced synced (λ (failed : status ≡ 22). omega (arith, is, failed, small)) done))
       (λ (failed : status ≡ 22). absurd (not_final status 22 failed (omega arith) (omega arith) final)) which;
   unprinted = λ (printer : status ≡ 24). ⊎_elim (λ (is : status ≡ code). absurd (omega (arith, is, printer, small))) (λ (failed : status ≡ 22). absurd (omega (arith, failed, printer))) which;
+  fault = λ device. inr (synced.printed ∙ done.printed);
   later = omega (arith, later, synced.moments.later);
   stops = stops_synced counts later synced stops;
 }
@@ -437,6 +442,7 @@ said_then : {code : ℕ} {text : List ℕ} {old mid new : Meaning (List File)} {
 said_then {code} {text} {old} {mid} {new} same does = record {
   ends = λ final. let end = does.ends final in (end.0, end.1 ∙ ap (λ (l : List ℕ). l ++ text) same.printed);
   unprinted = λ _. kept_then same does.stops;
+  fault = λ device. does.fault device ∙ same.printed;
   silent = λ short. does.silent short ∙ same.printed;
   stops = kept_then same does.stops;
 }

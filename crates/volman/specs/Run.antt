@@ -95,10 +95,20 @@ abbrev pub IsUnprinted : Task → Meaning (List File) → Meaning (List File) �
 IsUnprinted (Says code text) old new = KeepsFiles text old new
 IsUnprinted (Works file volume items) old new = HasWorkedUnprinted file volume items old new
 
--- A task is done where the status says so, and is safe whatever the status is. A run has one line, which comes last: so where the printer failed all else is done, and where memory ran out nothing was printed.
+-- none of a text was printed, or all of it
+abbrev pub IsNoneOrAll : List ℕ → Meaning (List File) → Meaning (List File) → Type 0
+IsNoneOrAll text old new = (new.printed ≡ old.printed) ⊎ (new.printed ≡ old.printed ++ text)
+
+-- what was printed where the device failed: nothing of a text, and of items no line or all of them
+abbrev pub IsFaulted : Task → Meaning (List File) → Meaning (List File) → Type 0
+IsFaulted (Says code text) old new = new.printed ≡ old.printed
+IsFaulted (Works file volume items) old new = IsNoneOrAll (listing (events_of items)) old new
+
+-- A task is done where the status says so, and is safe whatever the status is. A run has one line, which comes last: so where the printer failed all else is done, where the device failed the line was printed whole or not at all, and where memory ran out nothing was printed.
 pub record Does (task : Task) (old new : Meaning (List File)) (status : ℕ) : Type 0 where
   pub ends : IsFinal status → IsEnd task old new status
   pub unprinted : status ≡ 24 → IsUnprinted task old new
+  pub fault : status ≡ 22 → IsFaulted task old new
   pub silent : status ≡ 25 → new.printed ≡ old.printed
   pub stops : IsSafe task old new
 
@@ -117,10 +127,11 @@ pub record PrintsText (text : List ℕ) (old new : Meaning (List File)) (result 
 abbrev pub IsCalmSince : Meaning (List File) → ℕ → Type 0
 IsCalmSince m t = (files : List File) (printed : List ℕ) → m.left_since t files printed → (files ≡ m.state) × (printed ≡ m.printed)
 
--- Items on the shelf of a pack that was mounted: they are done where the status says so, and where it is that of the printer, but for their lines; and if a stop since a moment left nothing else than was there, then one since that moment leaves what one in the items may leave.
+-- Items on the shelf of a pack that was mounted: they are done where the status says so, and where it is that of the printer, but for their lines; where it is that of the device, none of these was printed, or all; and if a stop since a moment left nothing else than was there, then one since that moment leaves what one in the items may leave.
 pub record WorksOn (file : List ℕ) (volume : Volume) (items : List Item) (old new : Meaning (List File)) (status : ℕ) : Type 0 where
   pub ends : IsFinal status → HasWorked file volume items old new status
   pub unprinted : status ≡ 24 → HasWorkedUnprinted file volume items old new
+  pub fault : status ≡ 22 → IsNoneOrAll (listing (events_of items)) old new
   pub later : old.clock ≤ new.clock
   pub stops : (t : ℕ) → t ≤ old.clock → IsCalmSince old t → (files : List File) (printed : List ℕ) → new.left_since t files printed → StopStands file volume items old files printed
 

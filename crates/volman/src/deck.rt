@@ -1,5 +1,5 @@
 //! The deck of a run: one line with one statement.
-ghost use Rattle.std.specs.Prelude.{◌≡◌, ◌≤◌, ◌<◌, ◌++◌, [], take, length, IsTrue, IsErrOf, IfOk, IfErr, OnOk, OnErr, Some, None};
+ghost use Rattle.std.specs.Prelude.{◌≡◌, ◌≤◌, ◌<◌, ◌++◌, [], take, drop, length, IsTrue, IsErrOf, IfOk, IfErr, OnOk, OnErr, Some, None};
 ghost use Rattle.std.specs.Io.BufRead.{strip_last};
 ghost use Rattle.hall_core.specs.Facts.{Rose};
 ghost use Rattle.util_syntax.specs.Statement.{rename_of};
@@ -37,6 +37,7 @@ impl From<ReadFault> for DeckErr {
 pub fn read_deck<C: Cards>(cards: &mut C) -> Result<Rename, DeckErr>
     ensures deck { IsTrue C.tells → IfOk result (λ r. (deck_of (C.left cards.old) ≡ Some r) × (C.left cards.new ≡ [])) }
     ensures form { IsTrue C.tells → IsErrOf result DeckErr.Form → deck_of (C.left cards.old) ≡ None }
+    ensures rest { IsTrue C.tells → ¬ IsErrOf result DeckErr.Read → C.left cards.new ≡ drop 83 (C.left cards.old) }
     ensures taken { IsTrue C.tells → TakesAtMost 83 (C.left cards.old) (C.left cards.new) }
     ensures read { IsErrOf result DeckErr.Read → Rose (C.faults cards.old) (C.faults cards.new) }
     ensures others { ¬ IsErrOf result DeckErr.Read → C.faults cards.new ≡ C.faults cards.old }

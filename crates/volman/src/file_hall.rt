@@ -2,11 +2,11 @@
 //!
 //! What the system does can't be proved. It is taken on trust that reads give what the file holds,
 //! writes before them included; that a sync of a file's data makes every write before it durable; that
-//! a stop leaves each write since then whole or not at all; and that two names are two files. What is
-//! proved is what the hall answers and counts: each call of the system that fails is a fault, and is
-//! counted once.
+//! a stop leaves each write since then whole or not at all; that two names are two files, and that a
+//! file is missing where the system says so. What is proved is what the hall answers and counts: each
+//! call of the hall that answers `Failed` counts a fault, once, and else `differs` alone does.
 ghost use Rattle.std.specs.Prelude.{◌≡◌, ◌+◌, ◌-◌, ◌^◌, ◌<◌, ◌≤◌, ◌↔◌, min, length, refl, Err, IfOk, IfErr, OnOk, OnErr, IsErrOf, IsTrue, true, false, []};
-ghost use Rattle.hall_core.specs.Memory.{CountsFailure};
+ghost use Rattle.hall_core.specs.Facts.{Rose};
 ghost use Rattle.volman.specs.FileHall.{SaysMissing};
 
 use hall_core::{Hall, HallErr, fault};
@@ -74,7 +74,8 @@ fn opened(outcome: io::Result<(File, u64)>, faults: &mut u64) -> Result<(File, u
     ensures missing { IfErr outcome (λ e. SaysMissing e → result ≡ Err HallErr.Missing) }
     ensures failed { IfErr outcome (λ e. ¬ SaysMissing e → result ≡ Err HallErr.Failed) }
     ensures memory { ¬ IsErrOf result HallErr.Memory }
-    ensures count { CountsFailure faults.old faults.new result }
+    ensures count { IsErrOf result HallErr.Failed → Rose faults.old faults.new }
+    ensures others { ¬ IsErrOf result HallErr.Failed → faults.new ≡ faults.old }
     ensures later { faults.old ≤ faults.new }
 {
     match outcome {
@@ -87,7 +88,7 @@ fn opened(outcome: io::Result<(File, u64)>, faults: &mut u64) -> Result<(File, u
 // What a call of the system that is done or failed comes to; one that failed is counted once.
 fn counted(outcome: io::Result<()>, faults: &mut u64) -> Result<(), HallErr>
     ensures ok { OnOk outcome ((result ≡ Ok tt) × (faults.new ≡ faults.old)) }
-    ensures err { OnErr outcome ((result ≡ Err HallErr.Failed) × (faults.new ≡ min (faults.old + 1) (2 ^ 64 - 1))) }
+    ensures err { OnErr outcome ((result ≡ Err HallErr.Failed) × Rose faults.old faults.new) }
     ensures later { faults.old ≤ faults.new }
 {
     match outcome {
@@ -97,7 +98,7 @@ fn counted(outcome: io::Result<()>, faults: &mut u64) -> Result<(), HallErr>
 }
 
 impl<'a, R: Files<File = File> + Print> FileHall<'a, R> {
-    ghost use Rattle.std.specs.Prelude.{set, IsFalse};
+    ghost use Rattle.std.specs.Prelude.{map, set, IsFalse};
     ghost use Rattle.std.specs.List.{All};
     ghost use Rattle.volman.specs.FileHall.{facts_of, notes_of};
 
@@ -119,6 +120,7 @@ impl<'a, R: Files<File = File> + Print> FileHall<'a, R> {
         requires { unit < length self.old.units.items }
         ensures facts { facts_of self.new ≡ facts_of self.old }
         ensures notes { notes_of self.new ≡ set (notes_of self.old) unit is_written }
+        ensures files { map (λ (u : Unit). u.file) self.new.units.items ≡ map (λ (u : Unit). u.file) self.old.units.items }
         ensures len { length self.new.units.items ≡ length self.old.units.items }
     {
         self.units[unit].is_written = is_written;
@@ -139,6 +141,7 @@ impl<'a, R: Files<File = File> + Print> FileHall<'a, R> {
     fn set_synced(&mut self)
         ensures facts { facts_of self.new ≡ facts_of self.old }
         ensures notes { All IsFalse (notes_of self.new) }
+        ensures files { map (λ (u : Unit). u.file) self.new.units.items ≡ map (λ (u : Unit). u.file) self.old.units.items }
     {
         for unit in 0..self.units.len() {
             self.set_written(unit, false);
@@ -147,10 +150,10 @@ impl<'a, R: Files<File = File> + Print> FileHall<'a, R> {
 }
 
 impl<R: Files<File = File> + Print> Hall for FileHall<'_, R> {
-    ghost use Rattle.std.specs.Prelude.{◌++◌, ◌∷◌, set, IsFalse};
+    ghost use Rattle.std.specs.Prelude.{◌++◌, ◌∷◌, map, set, IsFalse};
     ghost use Rattle.std.specs.List.{All};
     ghost use Rattle.std.proofs.lemmas.Bool.{false≢true};
-    ghost use Rattle.hall_core.specs.Facts.{unit_of, IsAttached, DeviceCall, PrintCall, AttachCall, NotedCall, Rose};
+    ghost use Rattle.hall_core.specs.Facts.{unit_of, IsAttached, DeviceCall, PrintCall, AttachCall, NotedCall, Rose, uncounted, CallsAtMost};
     ghost use Rattle.hall_core.specs.Files.{untold, HasBytesAt, Attaches, AfterWrite, AfterSync, AfterPrint};
     ghost use Rattle.hall_core.specs.Moments.{Same};
     ghost use Rattle.volman.specs.FileHall.{facts_of, notes_of};
@@ -160,6 +163,8 @@ impl<R: Files<File = File> + Print> Hall for FileHall<'_, R> {
     ghost meaning = { λ _. untold };
 
     ghost facts = { λ hall. facts_of hall };
+
+    ghost calls = { λ _. uncounted };
 
     ghost leaves_state = { λ _. tt };
 
@@ -171,14 +176,14 @@ impl<R: Files<File = File> + Print> Hall for FileHall<'_, R> {
 
     ghost none_pending = { λ _ told. absurd (false≢true told) };
 
-    // Of the trait's clauses, those on content say nothing here. To these is added that each fault is
-    // counted once, and what becomes of the units' notes.
+    // Of the trait's clauses, those on content say nothing here. To these is added what becomes of the
+    // units' notes.
     fn attach(&mut self, name: &str) -> Result<u8, HallErr>
         requires few { length (facts_of self.old).units < 255 }
         requires once { ¬ IsAttached (facts_of self.old).units name.now }
         ensures told { IsTrue false → Attaches name.now untold untold result }
         ensures call { AttachCall name.now (facts_of self.old) (facts_of self.new) result }
-        ensures count { CountsFailure self.old.dev_faults self.new.dev_faults result }
+        ensures calls { CallsAtMost 0 0 0 0 uncounted uncounted }
         ensures notes { IfOk result (λ _. notes_of self.new ≡ notes_of self.old ++ false ∷ []) }
         ensures kept { OnErr result (notes_of self.new ≡ notes_of self.old) }
     {
@@ -207,8 +212,8 @@ impl<R: Files<File = File> + Print> Hall for FileHall<'_, R> {
         ensures bytes { IsTrue false → OnOk result (HasBytesAt untold.state (unit_of (facts_of self.old).units unit).name at buf.new) }
         ensures told { IsTrue false → Same untold untold }
         ensures call { DeviceCall (facts_of self.old) (facts_of self.new) result }
+        ensures calls { CallsAtMost 1 0 0 0 uncounted uncounted }
         ensures error { IfErr result (λ e. e ≡ HallErr.Failed) }
-        ensures count { CountsFailure self.old.dev_faults self.new.dev_faults result }
         ensures units { self.new.units ≡ self.old.units }
     {
         let outcome = self.units[unit as usize].file.read_exact_at(buf, at);
@@ -220,9 +225,10 @@ impl<R: Files<File = File> + Print> Hall for FileHall<'_, R> {
         requires inside { at + length bytes.now ≤ (unit_of (facts_of self.old).units unit).size }
         ensures told { IsTrue false → AfterWrite (unit_of (facts_of self.old).units unit).name at bytes.now untold untold result }
         ensures call { DeviceCall (facts_of self.old) (facts_of self.new) result }
+        ensures calls { CallsAtMost 0 1 0 0 uncounted uncounted }
         ensures error { IfErr result (λ e. e ≡ HallErr.Failed) }
-        ensures count { CountsFailure self.old.dev_faults self.new.dev_faults result }
         ensures notes { notes_of self.new ≡ set (notes_of self.old) unit true }
+        ensures files { map (λ (u : Unit). u.file) self.new.units.items ≡ map (λ (u : Unit). u.file) self.old.units.items }
     {
         self.set_written(unit as usize, true);
         let written = self.units[unit as usize].file.write_all_at(bytes, at);
@@ -232,9 +238,10 @@ impl<R: Files<File = File> + Print> Hall for FileHall<'_, R> {
     fn sync(&mut self) -> Result<(), HallErr>
         ensures told { IsTrue false → AfterSync untold untold result }
         ensures call { DeviceCall (facts_of self.old) (facts_of self.new) result }
+        ensures calls { CallsAtMost 0 0 1 0 uncounted uncounted }
         ensures error { IfErr result (λ e. e ≡ HallErr.Failed) }
-        ensures count { CountsFailure self.old.dev_faults self.new.dev_faults result }
         ensures synced { OnOk result (All IsFalse (notes_of self.new)) }
+        ensures files { map (λ (u : Unit). u.file) self.new.units.items ≡ map (λ (u : Unit). u.file) self.old.units.items }
         ensures kept { OnErr result (notes_of self.new ≡ notes_of self.old) }
     {
         let synced = self.sync_written();
@@ -246,8 +253,8 @@ impl<R: Files<File = File> + Print> Hall for FileHall<'_, R> {
     fn print(&mut self, bytes: &[u8]) -> Result<(), HallErr>
         ensures told { IsTrue false → AfterPrint bytes.now untold untold result }
         ensures call { PrintCall (facts_of self.old) (facts_of self.new) result }
+        ensures calls { CallsAtMost 0 0 0 1 uncounted uncounted }
         ensures error { IfErr result (λ e. e ≡ HallErr.Failed) }
-        ensures count { CountsFailure self.old.print_faults self.new.print_faults result }
         ensures units { self.new.units ≡ self.old.units }
     {
         let printed = self.rt.write_all(bytes);
@@ -258,10 +265,10 @@ impl<R: Files<File = File> + Print> Hall for FileHall<'_, R> {
         requires { unit < length (facts_of self.old).units }
         ensures rose { Rose (facts_of self.old).dev_faults (facts_of self.new).dev_faults }
         ensures call { NotedCall (facts_of self.old) (facts_of self.new) }
+        ensures calls { CallsAtMost 0 0 0 0 uncounted uncounted }
         ensures told { IsTrue false → Same untold untold }
         ensures clock { IsTrue false → untold.clock ≡ untold.clock }
         ensures facts { IsTrue false → facts_of self.new ≡ facts_of self.old }
-        ensures count { self.new.dev_faults ≡ min (self.old.dev_faults + 1) (2 ^ 64 - 1) }
         ensures units { self.new.units ≡ self.old.units }
     {
         let _ = fault(&mut self.dev_faults);

@@ -1,6 +1,6 @@
 //! The machine over the image of one pack.
 ghost use Rattle.std.specs.Prelude.{◌≡◌, true, IsTrue, Some, refl};
-ghost use Rattle.hall_core.specs.Facts.{unit_of};
+ghost use Rattle.hall_core.specs.Facts.{CallsAtMost, unit_of};
 ghost use Rattle.hall_core.specs.Files.{image_of};
 ghost use Rattle.hall_core.specs.Moments.{IsDurable};
 ghost use Rattle.hall_core.specs.Steps.{seen};
@@ -79,6 +79,7 @@ impl<H: Hall> PackMachine<H> {
         ensures promise { IsTrue H.tells → Keeps (H.meaning self.old.hall).clock (Op.Rename v old.now new.now ∷ []) (ChangesOnlyNames (unit_of (H.facts self.old.hall).units self.old.vol.unit).name self.old.vol.geometry self.old.vol.vtoc (H.meaning self.old.hall)) (ChangesOnlyNames (unit_of (H.facts self.new.hall).units self.new.vol.unit).name self.new.vol.geometry self.new.vol.vtoc (H.meaning self.new.hall)) }
         ensures idle { IsTrue H.tells → IsIdle (step (shelf_named (unit_of (H.facts self.old.hall).units self.old.vol.unit).name (H.meaning self.old.hall).state) (Op.Rename v old.now new.now)) result → Keeps (H.meaning self.old.hall).clock [] (ChangesOnlyNames (unit_of (H.facts self.old.hall).units self.old.vol.unit).name self.old.vol.geometry self.old.vol.vtoc (H.meaning self.old.hall)) (ChangesOnlyNames (unit_of (H.facts self.new.hall).units self.new.vol.unit).name self.new.vol.geometry self.new.vol.vtoc (H.meaning self.new.hall)) }
         ensures call { MachineCall (status_of self.old.is_sound (H.facts self.old.hall) self.old.vol) (status_of self.new.is_sound (H.facts self.new.hall) self.new.vol) result }
+        ensures calls { CallsAtMost 1 1 1 0 (H.calls self.old.hall) (H.calls self.new.hall) }
         ensures print { IsErrOf result MachErr.Print → ⊥ }
     {
         if v != 0 {

@@ -1,6 +1,6 @@
 //! A file, attached and read as a pack.
-ghost use Rattle.std.specs.Prelude.{◌≡◌, ◌≤◌, [], IsTrue, IsErrOf, IfOk, IfErr};
-ghost use Rattle.hall_core.specs.Facts.{Rose, unit_of};
+ghost use Rattle.std.specs.Prelude.{◌≡◌, ◌≤◌, ℕ, [], IsTrue, IsErrOf, IfOk, IfErr};
+ghost use Rattle.hall_core.specs.Facts.{CallsAtMost, Rose, unit_of};
 ghost use Rattle.hall_core.specs.Moments.{Same};
 ghost use Rattle.vtoc_index.specs.Index.{IsOfUnit};
 ghost use Rattle.volman.specs.Mount.{IsPackIn, RefusesFile};
@@ -25,6 +25,7 @@ pub fn mount<H: Hall>(alloc: Global, hall: &mut H, file: &str) -> Result<Vol, Mo
     ensures units { AttachesAtMost file.now (H.facts hall.old) (H.facts hall.new) }
     ensures references { (H.facts hall.new).references ≡ (H.facts hall.old).references }
     ensures prints { (H.facts hall.new).print_faults ≡ (H.facts hall.old).print_faults }
+    ensures calls { (reads : ℕ) × CallsAtMost reads 0 0 0 (H.calls hall.old) (H.calls hall.new) }
     ensures later { (H.facts hall.old).dev_faults ≤ (H.facts hall.new).dev_faults }
     ensures device { IsErrOf result MountErr.Device → Rose (H.facts hall.old).dev_faults (H.facts hall.new).dev_faults }
     ensures others { ¬ IsErrOf result MountErr.Device → (H.facts hall.new).dev_faults ≡ (H.facts hall.old).dev_faults }

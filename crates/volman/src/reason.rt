@@ -1,5 +1,5 @@
 //! Why a pack isn't mounted, in words.
-ghost use Rattle.std.specs.Prelude.{◌≡◌, ◌++◌, ◌∷◌, [], OnOk};
+ghost use Rattle.std.specs.Prelude.{◌≡◌, ◌++◌, ◌∷◌, [], length, take, OnErr, OnOk};
 ghost use Rattle.volman.specs.Lines.{image_reason, number_text, reason_of, with_numbers};
 
 use ckd_image::ImageErr;
@@ -12,7 +12,8 @@ use vtoc_index::MountErr;
 /// A header that is refused has its own reason.
 #[tactic(auto, unfolding(crate::specs::Lines::reason_of))]
 pub fn push_reason(text: &mut Vec<u8>, why: MountErr) -> Result<(), AllocError>
-    ensures { OnOk result (text.new.items ≡ text.old.items ++ reason_of why) }
+    ensures added { OnOk result (text.new.items ≡ text.old.items ++ reason_of why) }
+    ensures kept { OnErr result (take (length text.old.items) text.new.items ≡ text.old.items) }
 {
     match why {
         MountErr::NoFile => push_words(text, "NO-FILE", &[]),
@@ -36,7 +37,8 @@ pub fn push_reason(text: &mut Vec<u8>, why: MountErr) -> Result<(), AllocError>
 // Adds the reason for which a header is refused.
 #[tactic(auto, unfolding(crate::specs::Lines::image_reason))]
 fn push_image_reason(text: &mut Vec<u8>, why: ImageErr) -> Result<(), AllocError>
-    ensures { OnOk result (text.new.items ≡ text.old.items ++ image_reason why) }
+    ensures added { OnOk result (text.new.items ≡ text.old.items ++ image_reason why) }
+    ensures kept { OnErr result (take (length text.old.items) text.new.items ≡ text.old.items) }
 {
     match why {
         ImageErr::Compressed => push_words(text, "COMPRESSED", &[]),
@@ -51,28 +53,32 @@ fn push_image_reason(text: &mut Vec<u8>, why: ImageErr) -> Result<(), AllocError
 
 // Adds a word, and the number of a slot behind it.
 fn push_slot(text: &mut Vec<u8>, word: &str, slot: u32) -> Result<(), AllocError>
-    ensures { OnOk result (text.new.items ≡ text.old.items ++ with_numbers word.now (slot ∷ [])) }
+    ensures added { OnOk result (text.new.items ≡ text.old.items ++ with_numbers word.now (slot ∷ [])) }
+    ensures kept { OnErr result (take (length text.old.items) text.new.items ≡ text.old.items) }
 {
     push_words(text, word, &[u64::from(slot)])
 }
 
 // Adds a word, the number of a slot, and its format byte.
 fn push_dscb(text: &mut Vec<u8>, word: &str, slot: u32, byte: u8) -> Result<(), AllocError>
-    ensures { OnOk result (text.new.items ≡ text.old.items ++ with_numbers word.now (slot ∷ byte ∷ [])) }
+    ensures added { OnOk result (text.new.items ≡ text.old.items ++ with_numbers word.now (slot ∷ byte ∷ [])) }
+    ensures kept { OnErr result (take (length text.old.items) text.new.items ≡ text.old.items) }
 {
     push_words(text, word, &[u64::from(slot), u64::from(byte)])
 }
 
 // Adds a word, and the numbers of two slots.
 fn push_slots(text: &mut Vec<u8>, word: &str, slot: u32, other: u32) -> Result<(), AllocError>
-    ensures { OnOk result (text.new.items ≡ text.old.items ++ with_numbers word.now (slot ∷ other ∷ [])) }
+    ensures added { OnOk result (text.new.items ≡ text.old.items ++ with_numbers word.now (slot ∷ other ∷ [])) }
+    ensures kept { OnErr result (take (length text.old.items) text.new.items ≡ text.old.items) }
 {
     push_words(text, word, &[u64::from(slot), u64::from(other)])
 }
 
 // Adds a word, and numbers behind it.
 fn push_words(text: &mut Vec<u8>, word: &str, numbers: &[u64]) -> Result<(), AllocError>
-    ensures { OnOk result (text.new.items ≡ text.old.items ++ with_numbers word.now numbers.now) }
+    ensures added { OnOk result (text.new.items ≡ text.old.items ++ with_numbers word.now numbers.now) }
+    ensures kept { OnErr result (take (length text.old.items) text.new.items ≡ text.old.items) }
 {
     text.extend_from_slice(word.as_bytes())?;
     for number in numbers {
@@ -83,7 +89,8 @@ fn push_words(text: &mut Vec<u8>, word: &str, numbers: &[u64]) -> Result<(), All
 
 // Adds a number in decimal, behind a blank.
 fn push_number(text: &mut Vec<u8>, number: u64) -> Result<(), AllocError>
-    ensures { OnOk result (text.new.items ≡ text.old.items ++ number_text number) }
+    ensures added { OnOk result (text.new.items ≡ text.old.items ++ number_text number) }
+    ensures kept { OnErr result (take (length text.old.items) text.new.items ≡ text.old.items) }
 {
     text.push(b' ')?;
     text.extend_from_slice(Buffer::new().format(number).as_bytes())

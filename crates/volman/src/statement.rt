@@ -16,8 +16,9 @@ const FIRST_CARD: u32 = 1;
 /// Does a RENAME statement on the first card of a deck, whose volume has this number on the shelf if it is
 /// there, and prints the line that answers it. Gives its condition code: 0, or 8 where it is refused.
 ///
-/// An error comes where the machine has one. The line is printed once the operation is done: so where the print
-/// failed, the operation is done, and nothing but the print came behind it.
+/// An error comes where the machine has one, or where there is no memory for the line. The line is printed
+/// once the operation is done: so where the print failed, the operation is done, and nothing but the print
+/// came behind it; and where the device failed, nothing is printed.
 pub fn run_rename<M: Machine>(
     alloc: Global,
     machine: &mut M,
@@ -30,6 +31,7 @@ pub fn run_rename<M: Machine>(
     ensures code { IsTrue M.tells → IfOk result (λ code. code ≡ (item_of (M.meaning machine.old).state statement.now).code) }
     ensures small { IfOk result (λ code. code ≤ 16) }
     ensures silent { IsTrue M.tells → IsErrOf result Stop.Memory → (M.meaning machine.new).printed ≡ (M.meaning machine.old).printed }
+    ensures fault { IsTrue M.tells → IsErrOf result Stop.Device → (M.meaning machine.new).printed ≡ (M.meaning machine.old).printed }
     ensures print { IsTrue M.tells → IsErrOf result Stop.Print → (M.meaning machine.new).state ≡ shelf_behind (M.meaning machine.old).state (events_in (item_of (M.meaning machine.old).state statement.now)) }
     ensures line { IsTrue M.tells → IsErrOf result Stop.Print → (before : M) × OnlyPrints (M.status machine.old) (M.status before) (M.meaning before) (M.meaning machine.new) (M.promise before) (M.promise machine.new) }
     ensures promise { IsTrue M.tells → Keeps (M.meaning machine.old).clock (item_of (M.meaning machine.old).state statement.now).operations (M.promise machine.old) (M.promise machine.new) }
@@ -81,6 +83,7 @@ fn say<M: Machine>(machine: &mut M, line: &[u8]) -> Result<(), Stop>
     ensures runs { IsTrue M.tells → Runs M.tells_prints (Say line.now ∷ []) (M.meaning machine.old) (M.meaning machine.new) result }
     ensures shelf { IsTrue M.tells → (M.meaning machine.new).state ≡ (M.meaning machine.old).state }
     ensures silent { IsTrue M.tells → IsErrOf result Stop.Memory → (M.meaning machine.new).printed ≡ (M.meaning machine.old).printed }
+    ensures device { IsErrOf result Stop.Device → ⊥ }
     ensures promise { IsTrue M.tells → Keeps (M.meaning machine.old).clock [] (M.promise machine.old) (M.promise machine.new) }
     ensures call { RunCall (M.status machine.old) (M.status machine.new) result }
 {
@@ -88,7 +91,7 @@ fn say<M: Machine>(machine: &mut M, line: &[u8]) -> Result<(), Stop>
         Ok(()) => Ok(()),
         Err(MachErr::Refused(_)) => unreachable!(),
         Err(MachErr::Memory) => Err(Stop::Memory),
-        Err(MachErr::Device) => Err(Stop::Device),
+        Err(MachErr::Device) => unreachable!(),
         Err(MachErr::Print) => Err(Stop::Print),
     }
 }

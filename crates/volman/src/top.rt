@@ -1,6 +1,6 @@
 //! The top call: all that the program does.
-ghost use Rattle.std.specs.Prelude.{◌≡◌, ◌≢◌, ◌≤◌, ◌⊎◌, [], List, ℕ, map, string_bytes, IsTrue, IfOk, Some, None};
-ghost use Rattle.hall_core.specs.Facts.{Rose};
+ghost use Rattle.std.specs.Prelude.{◌≡◌, ◌≢◌, ◌≤◌, ◌⊎◌, [], List, ℕ, drop, map, string_bytes, IsTrue, IfOk, Some, None};
+ghost use Rattle.hall_core.specs.Facts.{CallsAtMost, Rose};
 ghost use Rattle.hall_core.specs.Files.{file_of};
 ghost use Rattle.volman.specs.Deck.{TakesAtMost, deck_of};
 ghost use Rattle.volman.specs.Lines.{names_listing, unit_line};
@@ -58,9 +58,10 @@ pub fn volman<C: Cards, H: Hall>(alloc: Global, words: &[String], cards: &mut C,
     ensures silent { IsTrue H.tells → ((file : List ℕ) → request_of (map string_bytes words.now) ≢ Some (Run file)) → (result ≡ 22) ⊎ (result ≡ 25) → (H.meaning hall.new).printed ≡ (H.meaning hall.old).printed }
     ensures durable { IsTrue H.tells → result ≢ 22 → IsDurable (H.meaning hall.new) }
 
-    // No card is left where a statement was done or refused; and where no statement is asked for, no
-    // card was read. Whatever the status, at most 83 bytes are taken: a deck that is refused takes no more.
-    ensures deck { IsTrue C.tells → (file : List ℕ) → request_of (map string_bytes words.now) ≡ Some (Run file) → result ≤ 16 → C.left cards.new ≡ [] }
+    // Where a statement is asked for and the cards could be read, 83 bytes are taken, or all where there are
+    // fewer, as of a deck that is a statement; and no more whatever the status. Else no card was read.
+    ensures deck { IsTrue C.tells → (file : List ℕ) → request_of (map string_bytes words.now) ≡ Some (Run file) → (statement : Rename) → deck_of (C.left cards.old) ≡ Some statement → result ≢ 23 → C.left cards.new ≡ [] }
+    ensures rest { IsTrue C.tells → (file : List ℕ) → request_of (map string_bytes words.now) ≡ Some (Run file) → result ≢ 23 → C.left cards.new ≡ drop 83 (C.left cards.old) }
     ensures taken { IsTrue C.tells → TakesAtMost 83 (C.left cards.old) (C.left cards.new) }
     ensures cards { ((file : List ℕ) → request_of (map string_bytes words.now) ≢ Some (Run file)) → cards.new ≡ cards.old }
 
@@ -87,6 +88,9 @@ pub fn volman<C: Cards, H: Hall>(alloc: Global, words: &[String], cards: &mut C,
     ensures references { (H.facts hall.new).references ≡ (H.facts hall.old).references }
     ensures units { AttachesAsked (request_of (map string_bytes words.now)) (H.facts hall.old) (H.facts hall.new) }
 
+    // Where no statement is asked for, nothing is written nor synced, and there is one print at most, over any hall.
+    ensures calls { ((file : List ℕ) → request_of (map string_bytes words.now) ≢ Some (Run file)) → (reads : ℕ) × CallsAtMost reads 0 0 1 (H.calls hall.old) (H.calls hall.new) }
+
     // The words come first, then the deck, then the file: none is attached where the words or the deck
     // are refused, or the cards couldn't be read.
     ensures unasked { IsUnasked result → (H.facts hall.new).units ≡ (H.facts hall.old).units }
@@ -111,6 +115,7 @@ fn end<H: Hall>(hall: &mut H, text: &[u8], status: Status) -> u8
     ensures print { result ≡ 24 → Rose (H.facts hall.old).print_faults (H.facts hall.new).print_faults }
     ensures reported { CountsReported result (H.facts hall.old) (H.facts hall.new) }
     ensures later { Later (H.facts hall.old) (H.facts hall.new) }
+    ensures calls { CallsAtMost 0 0 0 1 (H.calls hall.old) (H.calls hall.new) }
     ensures devices { (H.facts hall.new).dev_faults ≡ (H.facts hall.old).dev_faults }
     ensures references { (H.facts hall.new).references ≡ (H.facts hall.old).references }
     ensures units { (H.facts hall.new).units ≡ (H.facts hall.old).units }
@@ -127,6 +132,7 @@ fn names<H: Hall>(alloc: Global, hall: &mut H, file: &str) -> u8
     ensures does { IsTrue H.tells → Does (task_on file.now names_task (file_of (H.meaning hall.old).state file.now)) (H.meaning hall.old) (H.meaning hall.new) result }
     ensures files { IsTrue H.tells → LeavesFiles (H.meaning hall.old) (H.meaning hall.new) }
     ensures silent { IsTrue H.tells → (result ≡ 22) ⊎ (result ≡ 25) → (H.meaning hall.new).printed ≡ (H.meaning hall.old).printed }
+    ensures calls { (reads : ℕ) × CallsAtMost reads 0 0 1 (H.calls hall.old) (H.calls hall.new) }
     ensures call { OnFile file.now (H.facts hall.old) (H.facts hall.new) result }
 {
     match mount(alloc, hall, file) {
@@ -167,6 +173,7 @@ fn refuse<H: Hall>(alloc: Global, hall: &mut H, file: &str, why: MountErr) -> u8
     ensures print { result ≡ 24 → Rose (H.facts hall.old).print_faults (H.facts hall.new).print_faults }
     ensures prints { result ≢ 24 → (H.facts hall.new).print_faults ≡ (H.facts hall.old).print_faults }
     ensures later { Later (H.facts hall.old) (H.facts hall.new) }
+    ensures calls { CallsAtMost 0 0 0 1 (H.calls hall.old) (H.calls hall.new) }
     ensures devices { (H.facts hall.new).dev_faults ≡ (H.facts hall.old).dev_faults }
     ensures references { (H.facts hall.new).references ≡ (H.facts hall.old).references }
     ensures units { (H.facts hall.new).units ≡ (H.facts hall.old).units }

@@ -1,6 +1,6 @@
 //! A statement on a pack that is mounted.
 ghost use Rattle.std.specs.Prelude.{◌≡◌, ◌≤◌, ◌⊎◌, [], ◌∷◌, IsTrue, Ok};
-ghost use Rattle.hall_core.specs.Facts.{Rose, unit_of};
+ghost use Rattle.hall_core.specs.Facts.{CallsAtMost, Rose, unit_of};
 ghost use Rattle.hall_core.specs.Files.{image_of};
 ghost use Rattle.hall_core.specs.Moments.{IsDurable};
 ghost use Rattle.vol_model.specs.declared.contents.Volume.{Volume};
@@ -61,6 +61,7 @@ fn finish<H: Hall>(hall: &mut H, code: u8) -> u8
     ensures device { result ≡ 22 → Rose (H.facts hall.old).dev_faults (H.facts hall.new).dev_faults }
     ensures reported { CountsReported result (H.facts hall.old) (H.facts hall.new) }
     ensures later { Later (H.facts hall.old) (H.facts hall.new) }
+    ensures calls { CallsAtMost 0 0 1 0 (H.calls hall.old) (H.calls hall.new) }
     ensures prints { (H.facts hall.new).print_faults ≡ (H.facts hall.old).print_faults }
     ensures units { (H.facts hall.new).units ≡ (H.facts hall.old).units }
     ensures references { (H.facts hall.new).references ≡ (H.facts hall.old).references }

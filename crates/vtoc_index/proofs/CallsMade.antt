@@ -1,10 +1,10 @@
 -- What calls of a hall leave, one after another.
-use Rattle.std.proofs.Common.{◌≡◌, ◌≢◌, ◌⊎◌, ⊎_elim, ℕ, ◌+◌, ◌<◌, List, length, None, Some, refl, sym, ap, subst, ◌∙◌, arith}
+use Rattle.std.proofs.Common.{◌≡◌, ◌≢◌, ◌⊎◌, ⊎_elim, ℕ, ◌+◌, ◌<◌, List, length, None, Some, refl, sym, ap, subst, ◌∙◌, arith, ◌-◌}
 use Rattle.std.specs.Prelude.{Result, Ok, Err, IfErr, IfOk, IsErrOf, IsTrue, Bool, Option, option_and_then}
 use Rattle.ckd_image.specs.declared.header.Geometry.{Geometry}
 use Rattle.ckd_image.specs.Header.{HasGeometry}
 use Rattle.ckd_image.specs.Track.{Record}
-use Rattle.hall_core.specs.Facts.{Attached, Facts, Rose, unit_of}
+use Rattle.hall_core.specs.Facts.{Attached, Calls, CallsAtMost, Facts, Rose, unit_of}
 use Rattle.hall_core.specs.Files.{File}
 use Rattle.hall_core.specs.Moments.{Meaning, Same}
 use Rattle.pack_spec.specs.Label.{label_in, label_of, records_on}
@@ -130,8 +130,13 @@ buffer_read old new unit track records is = record { geometry = ap (λ (b : Buff
 pub stands_whole : (image : List ℕ) (b : Buffer) (g : Geometry) (track : ℕ) → b.geometry ≡ g → b.track ≡ track → records_on image g None track ≡ Some b.records → StandsOn image b
 stands_whole image b g track same at is = (None, ap (λ (x : Geometry). records_on image x None b.track) same ∙ ap (λ (t : ℕ). records_on image g None t) at ∙ is)
 
+-- reads behind reads
+pub reads_then : (some more : ℕ) (old mid new : Calls) → CallsAtMost some 0 0 0 old mid → CallsAtMost more 0 0 0 mid new → CallsAtMost (some + more) 0 0 0 old new
+reads_then some more old mid new first second = (omega (arith, first.0, second.0), omega (arith, first.1, second.1), omega (arith, first.2, second.2), omega (arith, first.3, second.3))
+
 -- what a loop over tracks keeps
-pub record KeepsReading (tells : Bool) (f0 f : Facts) (m0 m : Meaning (List File)) (image : List ℕ) (g : Geometry) (unit start len : ℕ) (b0 b : Buffer) (r0 r : ReadSlots) : Type 0 where
+pub record KeepsReading (tells : Bool) (c0 c : Calls) (f0 f : Facts) (m0 m : Meaning (List File)) (image : List ℕ) (g : Geometry) (unit start len : ℕ) (b0 b : Buffer) (r0 r : ReadSlots) : Type 0 where
+  pub calls : CallsAtMost (len - 1) 0 0 0 c0 c
   pub facts : FactsStay f0 f
   pub told : IsTrue tells → Same m0 m
   pub geometry : b.geometry ≡ g

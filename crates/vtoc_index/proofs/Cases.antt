@@ -221,7 +221,7 @@ nothing_read upto = refl
 not_held : (x : Record) → (¬ IsHeld [] (record { geometry = pack; unit = 0; track = 0; records = x ∷ [] })) × IsHeld [] (record { geometry = pack; unit = 0; track = 0; records = [] })
 not_held x = (λ is. elim is [ inl none ↦ cc | inr stands ↦ let some = sym (nothing_read stands.0) ∙ stands.1 in cc ], inl refl)
 
--- the slots of a track are counted from 1
+-- a track with one slot has a first, and no second
 has_slot : (image : List ℕ) (g : Geometry) (bytes : List ℕ) → slots_on image g 3 ≡ Some (bytes ∷ []) → HasSlot image g 3 1 × (¬ HasSlot image g 3 2)
 has_slot image g bytes is = (record { found = bytes ∷ []; slots = is; there = omega arith }, λ has. let found : has.found ≡ bytes ∷ [] = (let same = sym has.slots ∙ is in cc) in omega (arith, has.there, ap length found))
 

@@ -133,14 +133,14 @@ held_slot image b r has stands first low =
     same_lengths 1 (r - 1) 44 96 (drop 21 bytes) b.records of.records one.records_stand other.records_stand (omega (arith, first, low)) (slot_there (r - 1) of.records of.are there)
 
 -- a hall that tells nothing counts what differs as a fault of the device
-pub noted : {T E : Type 0} {tells : Bool} {old mid new : Facts} {e : E} → mid.units ≡ old.units → mid.references ≡ old.references → mid.print_faults ≡ old.print_faults → old.dev_faults ≤ mid.dev_faults → NotedCall mid new → (IsFalse tells → Rose mid.dev_faults new.dev_faults) → (IsTrue tells → ⊥) → DeviceCall {T = T} {E = E} old new (Err e)
-noted {tells = tells} {old = old} {mid = mid} {new = new} units references prints later call rose never = record {
+pub noted : {T E : Type 0} {tells : Bool} {old mid new : Facts} {e : E} → mid.units ≡ old.units → mid.references ≡ old.references → mid.print_faults ≡ old.print_faults → mid.dev_faults ≡ old.dev_faults → NotedCall mid new → (IsFalse tells → Rose mid.dev_faults new.dev_faults) → (IsTrue tells → ⊥) → DeviceCall {T = T} {E = E} old new (Err e)
+noted {tells = tells} {old = old} {mid = mid} {new = new} units references prints still call rose never = record {
   units = call.units ∙ units;
   references = call.references ∙ references;
   prints = call.prints ∙ prints;
-  later = omega (arith, later, call.later);
+  later = omega (arith, still, call.later);
   done = tt;
-  failed = omega (arith, later, risen tells rose never);
+  failed = omega (arith, still, risen tells rose never);
 }
   where
     risen : (b : Bool) → (IsFalse b → Rose mid.dev_faults new.dev_faults) → (IsTrue b → ⊥) → Rose mid.dev_faults new.dev_faults

@@ -244,7 +244,7 @@ module _ (v : Vol) where
   buffered x xs is mounted =
       subst (λ (buf : Buffer). buf.records ≢ [] → records_on image buf.geometry (Some (length buf.records)) buf.track ≡ Some buf.records) is (kept_of image v mounted).buffer (λ none. cc)
 
-  -- the buffer holds the records of another track, those of its track but the first, or one with another byte
+  -- the buffer holds the records of another track, or those of its track but the first
   buffer_holds_its_own_track : v.buf ≡ holding (slot_record first_track format_4 ∷ slot_record first_track format_5 ∷ []) → ¬ IsMounted image v
   unfolding records_on track_bytes records_of is_front records_up_to
   buffer_holds_its_own_track is mounted = let wrong : 0xC2 ≡ 4 = ap first_key (buffered _ _ is mounted) in omega (arith, wrong)
@@ -253,7 +253,7 @@ module _ (v : Vol) where
   unfolding records_on track_bytes records_of is_front records_up_to
   buffer_begins_with_the_first_record is mounted = let wrong : 0xC2 ≡ 0xC1 = ap first_key (buffered _ _ is mounted) in omega (arith, wrong)
 
-  -- each of these of an index that is kept
+  -- each of these, but those of the buffer, of an index that is kept
   kept_index_holds_the_image : IsKept image v → Holds v
   kept_index_holds_the_image kept = holds v (mounted_of image v kept)
 
@@ -312,7 +312,7 @@ each_track_is_whole v geometry run = (λ is. broken is.tracks, λ is. broken is.
         let faults : VtocTrack 2 ∷ [] ≡ [] = subst (λ (run : Run). track_faults second_is_broken one_cylinder run ≡ []) run (subst (λ (g : Geometry). track_faults second_is_broken g v.vtoc ≡ []) geometry none) in
         cc
 
--- Such an image has an index, but is none that is mounted.
+-- An image of which a slot alone breaks a rule has an index, but is none that is mounted.
 pub not_mounted : (broken : List ℕ) (e : MountErr) → volume_of broken ≡ Err e → (v : Vol) → ¬ IsMounted broken v
 not_mounted broken e is v mounted = let wrong = sym is ∙ mounted.volume in cc
 

@@ -1,7 +1,13 @@
 -- One slot of the small pack is put, computed. Each comment in small letters names what a near reading would let through.
-use Rattle.std.proofs.Common.{◌≡◌, ◌≢◌, ◌⊎◌, ⊎_elim, inl, inr, ℕ, List, [], ◌∷◌, ◌++◌, codes, drop, get_or, length, take, Some, None, refl, sym, ap, subst, ◌∙◌, arith}
+use Rattle.std.proofs.Common.{◌≡◌, ◌≢◌, ◌⊎◌, ◌≤◌, ◌<◌, ◌+◌, ◌*◌, ⊎_elim, inl, inr, ℕ, zero, suc, List, [], ◌∷◌, ◌++◌, codes, drop, get_or, length, take, replicate, Some, None, refl, sym, ap, subst, ◌∙◌, arith}
 use Rattle.std.specs.Prelude.{Result, Ok, Err, slice_get, unwrap_or}
 use Rattle.std.specs.Option.{option_map}
+use Rattle.std.proofs.lemmas.List.{drop_all}
+use Rattle.ckd_image.specs.declared.device.DiskType.TheVariants.{D2311}
+use Rattle.ckd_image.specs.declared.header.Geometry.{Geometry}
+use Rattle.ckd_image.specs.Writing.{new_track}
+use Rattle.pack_spec.specs.Written.{slot_record}
+use Rattle.vtoc_index.specs.Index.{firsts_of}
 use Rattle.ckd_image.specs.Reading.{is_front, records_of, records_to_end, records_up_to}
 use Rattle.dscb_codec.specs.declared.Dscb.{Dscb}
 use Rattle.dscb_codec.specs.declared.Dscb.TheVariants as formats
@@ -16,7 +22,7 @@ use Rattle.pack_spec.specs.Label.{label_in, label_of, records_on, track_bytes}
 use Rattle.pack_spec.specs.Slots.{slots_at, slots_of_vtoc}
 use Rattle.pack_spec.specs.Vtoc.{slots_on}
 use Rattle.pack_spec.specs.Written.{label_bytes}
-use Rattle.vtoc_index.specs.Contents.{AreDscbs}
+use Rattle.vtoc_index.specs.Contents.{AreDscbs, with_bytes}
 use Rattle.vtoc_index.specs.Index.{IsPut, place_of_slot}
 use Rattle.vtoc_index.specs.Puts.{AfterPut, IsReplaced}
 use Rattle.vtoc_index.specs.declared.vol.Vol.{Vol}
@@ -123,58 +129,132 @@ module _ (any : Vol) where
 abbrev bytes_at : ℕ → List VtocSlot → List ℕ
 bytes_at slot slots = unwrap_or (option_map (λ (s : VtocSlot). s.bytes) (slice_get slots slot)) []
 
--- an image that ends behind the end marker of its third track
-abbrev cut : List ℕ
-cut = take 9029 image
+-- tracks of so many bytes
+abbrev narrow : ℕ → Geometry
+narrow size = record { device = D2311; cylinders = 1; track_size = size }
 
--- One field at a time of what is said of an image with a slot: each other field holds here.
+-- B and another set in the one slot of the first and of the second track, and so many zeros behind these tracks
+abbrev narrow_pack : ℕ → List ℕ → ℕ → List ℕ
+narrow_pack size second behind =
+    replicate 512 0
+    ++ new_track 0 0 (slot_record (record { cylinder = 0; head = 0 }) (data_set b) ∷ []) size
+    ++ new_track 0 1 (slot_record first_track second ∷ []) size
+    ++ replicate behind 0
+
+-- three tracks, of which the first two end with their end markers, and the same with C in the second slot
+abbrev three : List ℕ
+three = narrow_pack 177 (data_set a) 177
+
+abbrev three_put : List ℕ
+three_put = narrow_pack 177 (data_set c) 177
+
+-- two tracks on which a slot more would have room, and the same cut behind the last end marker
+abbrev roomy : List ℕ
+roomy = narrow_pack 320 (data_set a) 0
+
+abbrev cut : List ℕ
+cut = take 1009 roomy
+
+-- behind its tracks an image has none
+none_behind : (size n : ℕ) (xs ys : List ℕ) → length xs ≤ 512 + n * size → length ys ≤ 512 + n * size → track_bytes ys (narrow size) n ≡ track_bytes xs (narrow size) n
+unfolding track_bytes
+none_behind size n xs ys few short = ap (take size) (drop_all (512 + n * size) ys short) ∙ sym (ap (take size) (drop_all (512 + n * size) xs few))
+
+-- all tracks but the second are the same where the first and the third are, and there are no more
+others_of_three : (xs ys : List ℕ) → length xs ≤ 1043 → length ys ≤ 1043 → track_bytes ys (narrow 177) 0 ≡ track_bytes xs (narrow 177) 0 → track_bytes ys (narrow 177) 2 ≡ track_bytes xs (narrow 177) 2
+    → (track : ℕ) → track ≢ 1 → track_bytes ys (narrow 177) track ≡ track_bytes xs (narrow 177) track
+others_of_three xs ys few short first third zero apart = first
+others_of_three xs ys few short first third (suc zero) apart = absurd (apart refl)
+others_of_three xs ys few short first third (suc (suc zero)) apart = third
+others_of_three xs ys few short first third (suc (suc (suc n))) apart = none_behind 177 (suc (suc (suc n))) xs ys (omega (arith, few)) (omega (arith, short))
+
+-- and where the first is, and there are two
+others_of_two : (xs ys : List ℕ) → length xs ≤ 1152 → length ys ≤ 1152 → track_bytes ys (narrow 320) 0 ≡ track_bytes xs (narrow 320) 0 → (track : ℕ) → track ≢ 1 → track_bytes ys (narrow 320) track ≡ track_bytes xs (narrow 320) track
+others_of_two xs ys few short first zero apart = first
+others_of_two xs ys few short first (suc zero) apart = absurd (apart refl)
+others_of_two xs ys few short first (suc (suc n)) apart = none_behind 320 (suc (suc n)) xs ys (omega (arith, few)) (omega (arith, short))
+
+-- One field at a time of what is said of an image with a slot: given that field, all of it holds here, and the field doesn't.
 module _ (any : Vol) where
-  -- a byte is another that belongs to no slot: in the count before the slot, or behind the last record of its track
-  nothing_else_is_written : (¬ IsPut (index any) 3 (data_set c) image (take 8873 put ++ 9 ∷ drop 8874 put)) × (¬ IsPut (index any) 3 (data_set c) image (take 12799 put ++ 9 ∷ drop 12800 put))
-  unfolding patched
+  -- an index of tracks of this size, so many of which are the VTOC, and of which the second is held to begin with this slot
+  abbrev narrow_index : ℕ → ℕ → ℕ → Vol
+  narrow_index size len second = record (index any) {
+    geometry = narrow size;
+    vtoc = record { start = 0; len = len };
+    firsts = record any.firsts { len = 2; cap = 2; items = 0 ∷ second ∷ []; ok = (refl, omega arith); small = omega arith };
+  }
+
+  abbrev v : Vol
+  v = narrow_index 177 2 1
+
+  -- a byte is another that belongs to no slot: in the count before the slot
+  abbrev count_changed : List ℕ
+  count_changed = take 710 three_put ++ 9 ∷ drop 711 three_put
+
+  nothing_else_is_written : (count_changed ≡ patched three (place_of_slot v 1) (data_set c) → IsPut v 1 (data_set c) three count_changed) × (¬ IsPut v 1 (data_set c) three count_changed)
+  unfolding patched label_of label_in records_on track_bytes records_of is_front records_to_end records_up_to slots_of_vtoc slots_at slots_on track_faults track_fault firsts_of
   nothing_else_is_written = (
-    λ is. let wrong : 9 ≡ 0 = ap (λ (l : List ℕ). get_or l 8873 1) is.written in omega (arith, wrong),
-    λ is. let wrong : 9 ≡ 0 = ap (λ (l : List ℕ). get_or l 12799 1) is.written in omega (arith, wrong),
+    λ written. record { there = omega arith; written = written; size = refl; header = refl; label = refl; slots = refl; tracks = refl; firsts = refl; others = others_of_three three count_changed (omega arith) (omega arith) refl refl },
+    λ is. let wrong : 9 ≡ 0 = ap (λ (l : List ℕ). get_or l 710 1) is.written in omega (arith, wrong),
   )
 
-  -- the image grows on the track of the slot, behind which none is
-  image_keeps_its_size : (cut ++ data_set c ≡ patched cut (place_of_slot (index any) 4) (data_set c)) × (¬ IsPut (index any) 4 (data_set c) cut (cut ++ data_set c))
-  unfolding patched
-  image_keeps_its_size = (refl, λ is. let wrong : 9169 ≡ 9029 = is.size in omega (arith, wrong))
+  -- the slot keeps its bytes, which are put behind the last end marker, where the image ends
+  image_keeps_its_size : (length (cut ++ data_set a) ≡ length cut → IsPut (narrow_index 320 2 0) 1 (data_set a) cut (cut ++ data_set a)) × (¬ IsPut (narrow_index 320 2 0) 1 (data_set a) cut (cut ++ data_set a))
+  unfolding patched label_of label_in records_on track_bytes records_of is_front records_to_end records_up_to slots_of_vtoc slots_at slots_on track_faults track_fault firsts_of
+  image_keeps_its_size = (
+    λ size. record { there = omega arith; written = refl; size = size; header = refl; label = refl; slots = refl; tracks = refl; firsts = refl; others = others_of_two cut (cut ++ data_set a) (omega arith) (omega arith) refl },
+    λ is. let wrong : 1149 ≡ 1009 = is.size in omega (arith, wrong),
+  )
 
   -- the bytes lack the last of a slot's, which stands there
-  slot_has_all_its_bytes : (image ≡ patched image (place_of_slot (index any) 3) (take 139 (data_set a))) × (¬ IsPut (index any) 3 (take 139 (data_set a)) image image)
-  unfolding patched slots_of_vtoc slots_at slots_on records_on track_bytes records_of is_front records_to_end
-  slot_has_all_its_bytes = (refl, λ is. let wrong : 140 ≡ 139 = ap (λ (slots : List VtocSlot). length (bytes_at 3 slots)) is.slots in omega (arith, wrong))
+  slot_has_all_its_bytes : (slots_of_vtoc three v.geometry v.vtoc ≡ with_bytes 1 (take 139 (data_set a)) (slots_of_vtoc three v.geometry v.vtoc) → IsPut v 1 (take 139 (data_set a)) three three) × (¬ IsPut v 1 (take 139 (data_set a)) three three)
+  unfolding patched slots_of_vtoc slots_at slots_on records_on track_bytes records_of is_front records_to_end track_faults track_fault
+  slot_has_all_its_bytes = (
+    λ slots. record { there = omega arith; written = refl; size = refl; header = refl; label = refl; slots = slots; tracks = refl; firsts = refl; others = λ track apart. refl },
+    λ is. let wrong : 140 ≡ 139 = ap (λ (slots : List VtocSlot). length (bytes_at 1 slots)) is.slots in omega (arith, wrong),
+  )
 
-  -- the VTOC has no track, and the label is written over
+  -- the VTOC goes on over a track that breaks the grammar, as it did before
+  tracks_are_whole : (track_faults three_put (narrow 177) (record { start = 0; len = 3 }) ≡ [] → IsPut (narrow_index 177 3 1) 1 (data_set c) three three_put) × (¬ IsPut (narrow_index 177 3 1) 1 (data_set c) three three_put)
+  unfolding patched label_of label_in records_on track_bytes records_of is_front records_to_end records_up_to slots_of_vtoc slots_at slots_on track_faults track_fault firsts_of
+  tracks_are_whole = (
+    λ tracks. record { there = omega arith; written = refl; size = refl; header = refl; label = refl; slots = refl; tracks = tracks; firsts = refl; others = others_of_three three three_put (omega arith) (omega arith) refl refl },
+    λ is. let broken : VtocTrack 2 ∷ [] ≡ [] = is.tracks in absurd (cc),
+  )
+
+  -- the slot keeps its bytes, which are put at the begin of the track behind the VTOC
+  abbrev behind : List ℕ
+  behind = patched three 866 (data_set a)
+
+  other_tracks_stay : (((track : ℕ) → track ≢ 1 → track_bytes behind (narrow 177) track ≡ track_bytes three (narrow 177) track) → IsPut (narrow_index 177 2 0) 1 (data_set a) three behind) × (¬ IsPut (narrow_index 177 2 0) 1 (data_set a) three behind)
+  unfolding patched label_of label_in records_on track_bytes records_of is_front records_to_end records_up_to slots_of_vtoc slots_at slots_on track_faults track_fault firsts_of
+  other_tracks_stay = (
+    λ others. record { there = omega arith; written = refl; size = refl; header = refl; label = refl; slots = refl; tracks = refl; firsts = refl; others = others },
+    λ is. let wrong : 0xC1 ≡ 0 = ap (λ (l : List ℕ). get_or l 0 1) (is.others 2 (λ same. omega (arith, same))) in omega (arith, wrong),
+  )
+
+  -- a slot of this number isn't there: no bytes are put, or those of a set behind the end marker
+  no_slot_is_there : ((2 < 2 → IsPut v 2 [] three three) × (¬ IsPut v 2 [] three three))
+      × (2 < 2 → IsPut (narrow_index 320 2 1) 2 (data_set c) roomy (patched roomy 1009 (data_set c))) × (¬ IsPut (narrow_index 320 2 1) 2 (data_set c) roomy (patched roomy 1009 (data_set c)))
+  unfolding patched label_of label_in records_on track_bytes records_of is_front records_to_end records_up_to slots_of_vtoc slots_at slots_on track_faults track_fault firsts_of
+  no_slot_is_there = (
+    (
+      λ there. record { there = there; written = refl; size = refl; header = refl; label = refl; slots = refl; tracks = refl; firsts = refl; others = λ track apart. refl },
+      λ is. omega (arith, is.there),
+    ),
+    λ there. record { there = there; written = refl; size = refl; header = refl; label = refl; slots = refl; tracks = refl; firsts = refl; others = others_of_two roomy (patched roomy 1009 (data_set c)) (omega arith) (omega arith) refl },
+    λ is. omega (arith, is.there),
+  )
+
+  -- so a DSCB isn't put behind the last slot, whatever is answered
+  none_is_put_behind_the_last : {T E : Type 0} (v' : Vol) (seen : List ℕ) (from to : Meaning (List File)) (result : Result T E) → ¬ AfterPut file (index any) 4 set_c v' image seen from to result
+  unfolding slots_of_vtoc slots_at slots_on records_on track_bytes records_of is_front records_to_end
+  none_is_put_behind_the_last v' seen from to result after = omega (arith, after.kept.there)
+
+  -- the VTOC has no track, and so no slot, and the label is written over
   label_stays : ¬ IsPut (record (index any) { vtoc = record { start = 0; len = 0 } }) 0 (data_set c) image (patched image 541 (data_set c))
   unfolding patched label_of label_in records_on track_bytes records_of is_front records_to_end records_up_to
   label_stays is = let gone : None ≡ Some (label_bytes pack01 first_track) = is.label in absurd (cc)
-
-  -- the VTOC goes on over a track that breaks the grammar, as it did before
-  tracks_are_whole : ¬ IsPut (record (index any) { vtoc = record { start = 1; len = 3 } }) 3 (data_set c) image put
-  unfolding track_faults track_fault slots_on records_on track_bytes records_of is_front records_to_end
-  tracks_are_whole is = let broken : VtocTrack 3 ∷ [] ≡ [] = is.tracks in absurd (cc)
-
-  -- the slot would stand on the track behind the VTOC
-  abbrev behind : List ℕ
-  behind = patched image 12877 (data_set c)
-
-  other_tracks_stay : (place_of_slot (index any) 30 ≡ 12877) × (¬ IsPut (index any) 30 (data_set c) image behind)
-  unfolding patched track_bytes
-  other_tracks_stay = (refl, λ is. let wrong : 0xC3 ≡ 0 = ap (λ (l : List ℕ). get_or l 77 1) (is.others 3 (λ same. omega (arith, same))) in omega (arith, wrong))
-
-  -- a DSCB isn't put on that track, whatever is answered
-  no_slot_is_put_behind_the_vtoc : {T E : Type 0} (v' : Vol) (seen : List ℕ) (from to : Meaning (List File)) (result : Result T E) → ¬ AfterPut file (index any) 30 set_c v' image seen from to result
-  no_slot_is_put_behind_the_vtoc v' seen from to result after =
-      other_tracks_stay.1
-      (subst (λ (bytes : List ℕ). IsPut (index any) 30 bytes image (patched image 12877 bytes)) (decoded_encoded set_c after.bytes (data_set c) after.size refl after.dscb c_stands) after.kept)
-
-  -- it is a slot that is there: at a number behind the last all else holds, for no bytes and for those of a set behind the end marker
-  no_slot_is_there : (¬ IsPut (index any) 4 [] cut cut) × (¬ IsPut (index any) 4 (data_set c) image (patched image 9029 (data_set c)))
-  unfolding slots_of_vtoc slots_at slots_on records_on track_bytes records_of is_front records_to_end
-  no_slot_is_there = (λ is. omega (arith, is.there), λ is. omega (arith, is.there))
 
 -- it is done, and other files are read
 module _ (any v' : Vol) (seen : List ℕ) (after : Meaning (List File)) where

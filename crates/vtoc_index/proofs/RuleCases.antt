@@ -114,7 +114,7 @@ pointer_leads_to_a_format_3 :
     × (slot_led_to (set_at 3 4 ∷ []) (counting 4) ≡ None)
 pointer_leads_to_a_format_3 = (refl, refl, refl, refl, refl, refl)
 
--- As many extents as are counted, first the set's own; those of the format 3 with its key's first; and none of another format.
+-- As many extents as are counted, where so many are there: first the set's own; those of the format 3 with its key's first; and none of another format.
 extents_are_counted :
     (counted_rows slots (counting 0) ≡ [])
     × (counted_rows slots (counting 2) ≡ row 1 ∷ row 2 ∷ [])

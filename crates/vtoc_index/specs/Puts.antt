@@ -15,7 +15,7 @@ use Rattle.vtoc_index.specs.Index.{IsIndexOf, IsPut, place_of_slot}
 abbrev pub IsHeld : List ℕ → Buffer → Type 0
 IsHeld image b = (b.records ≡ []) ⊎ StandsOn image b
 
--- all records of a track are slots, and the one of this number is there
+-- all records of a track are slots, and there are at least so many
 pub record HasSlot (image : List ℕ) (g : Geometry) (track r : ℕ) : Type 0 where
   pub found : List (List ℕ)
   pub slots : slots_on image g track ≡ Some found

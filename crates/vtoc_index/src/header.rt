@@ -1,7 +1,7 @@
 //! The header of a pack.
 ghost use Rattle.std.specs.Prelude.{◌≡◌, ◌<◌, length, take, IsTrue, IfOk, IfErr, IsErrOf, Ok};
 ghost use Rattle.ckd_image.specs.Header.{HasGeometry, geometry_of};
-ghost use Rattle.hall_core.specs.Facts.{unit_of};
+ghost use Rattle.hall_core.specs.Facts.{CallsAtMost, unit_of};
 ghost use Rattle.hall_core.specs.Files.{image_of};
 ghost use Rattle.hall_core.specs.Moments.{Same};
 ghost use Rattle.pack_spec.specs.Volume.{volume_of};
@@ -20,6 +20,7 @@ pub(crate) fn read_geometry<H: Hall>(hall: &mut H, unit: u8) -> Result<Geometry,
     ensures refused { IsTrue H.tells → IfErr result (Refuses (volume_of (image_of (H.meaning hall.old).state (H.facts hall.old) unit))) }
     ensures told { IsTrue H.tells → Same (H.meaning hall.old) (H.meaning hall.new) }
     ensures call { MountCall (H.facts hall.old) (H.facts hall.new) result }
+    ensures calls { CallsAtMost 1 0 0 0 (H.calls hall.old) (H.calls hall.new) }
     ensures file { IsErrOf result MountErr.NoFile → ⊥ }
 {
     let len = hall.size(unit);

@@ -2,7 +2,7 @@
 ghost use Rattle.std.specs.Prelude.{◌≡◌, ◌<◌, ◌≤◌, ◌-◌, length, IsTrue, IfOk, OnOk, IfErr, IfSome, IsErrOf, slice_range, None};
 ghost use Rattle.std.specs.Option.{option_copied};
 ghost use Rattle.ckd_image.specs.Header.{HasGeometry};
-ghost use Rattle.hall_core.specs.Facts.{unit_of};
+ghost use Rattle.hall_core.specs.Facts.{CallsAtMost, unit_of};
 ghost use Rattle.hall_core.specs.Files.{image_of};
 ghost use Rattle.hall_core.specs.Moments.{Same};
 ghost use Rattle.pack_spec.specs.Label.{address_at, are_label, is_keyed, label_in, label_of};
@@ -46,6 +46,7 @@ pub(crate) fn read_label<H: Hall>(
     ensures buffer { buf.new ≡ record buf.old { unit = unit; track = 0; records = buf.new.records } }
     ensures told { IsTrue H.tells → Same (H.meaning hall.old) (H.meaning hall.new) }
     ensures call { MountCall (H.facts hall.old) (H.facts hall.new) result }
+    ensures calls { CallsAtMost 1 0 0 0 (H.calls hall.old) (H.calls hall.new) }
     ensures file { IsErrOf result MountErr.NoFile → ⊥ }
 {
     match read_records(hall, unit, LABEL_TRACK, Some(LABEL_RECORD), buf) {

@@ -1,7 +1,7 @@
 //! The index of a VTOC, read with one read a track.
-ghost use Rattle.std.specs.Prelude.{◌≡◌, ◌≢◌, ◌≤◌, ◌<◌, ◌+◌, ◌⊎◌, length, IsTrue, IfOk, IfErr, OnOk, IsErrOf, Some, None, Ok, Err};
+ghost use Rattle.std.specs.Prelude.{◌≡◌, ◌≢◌, ◌≤◌, ◌<◌, ◌+◌, ◌⊎◌, length, IsTrue, IfOk, IfErr, OnOk, IsErrOf, Some, None, Ok, Err, ◌-◌, ℕ};
 ghost use Rattle.ckd_image.specs.Header.{HasGeometry};
-ghost use Rattle.hall_core.specs.Facts.{unit_of};
+ghost use Rattle.hall_core.specs.Facts.{CallsAtMost, unit_of};
 ghost use Rattle.hall_core.specs.Files.{image_of};
 ghost use Rattle.hall_core.specs.Moments.{Same};
 ghost use Rattle.pack_spec.specs.Label.{is_inside, records_on, track_of_address};
@@ -54,6 +54,8 @@ pub fn read_vtoc<H: Hall>(alloc: Global, hall: &mut H, unit: u8) -> Result<Vol, 
     ensures last { IfOk result (λ vol. vol.buf.track + 1 ≡ vol.vtoc.start + vol.vtoc.len) }
     ensures told { IsTrue H.tells → Same (H.meaning hall.old) (H.meaning hall.new) }
     ensures call { MountCall (H.facts hall.old) (H.facts hall.new) result }
+    ensures calls { (reads : ℕ) × CallsAtMost reads 0 0 0 (H.calls hall.old) (H.calls hall.new) }
+    ensures once { IfOk result (λ vol. CallsAtMost (vol.vtoc.len + 2) 0 0 0 (H.calls hall.old) (H.calls hall.new)) }
     ensures file { IsErrOf result MountErr.NoFile → ⊥ }
 {
     let geometry = read_geometry(hall, unit)?;
@@ -98,6 +100,8 @@ fn read_slots<H: Hall>(
     ensures buffer { OnOk result ((buf.new.geometry ≡ geometry) × (buf.new.unit ≡ unit)) }
     ensures told { IsTrue H.tells → Same (H.meaning hall.old) (H.meaning hall.new) }
     ensures call { MountCall (H.facts hall.old) (H.facts hall.new) result }
+    ensures calls { (reads : ℕ) × CallsAtMost reads 0 0 0 (H.calls hall.old) (H.calls hall.new) }
+    ensures once { IfOk result (λ p. CallsAtMost p.0.len 0 0 0 (H.calls hall.old) (H.calls hall.new)) }
     ensures file { IsErrOf result MountErr.NoFile → ⊥ }
 {
     let (vtoc, count) = read_first(hall, unit, geometry, at, buf)?;
@@ -127,6 +131,8 @@ fn read_first<H: Hall>(
     ensures left { buf.new ≡ record buf.old { unit = unit; track = track_of_address geometry at; records = buf.new.records } }
     ensures told { IsTrue H.tells → Same (H.meaning hall.old) (H.meaning hall.new) }
     ensures call { MountCall (H.facts hall.old) (H.facts hall.new) result }
+    ensures calls { CallsAtMost 2 0 0 0 (H.calls hall.old) (H.calls hall.new) }
+    ensures once { OnOk result (CallsAtMost 1 0 0 0 (H.calls hall.old) (H.calls hall.new)) }
     ensures file { IsErrOf result MountErr.NoFile → ⊥ }
 {
     match read_records(hall, unit, at.track(geometry), None, buf) {
@@ -156,6 +162,7 @@ fn why_broken<H: Hall>(
     ensures refused { let image = image_of (H.meaning hall.old).state (H.facts hall.old) unit in IsTrue H.tells → records_on image geometry None (track_of_address geometry at) ≡ None → Refuses (volume_within image geometry (vtoc_on image geometry at)) result }
     ensures told { IsTrue H.tells → Same (H.meaning hall.old) (H.meaning hall.new) }
     ensures call { MountCall {T = Unit {0}} (H.facts hall.old) (H.facts hall.new) (Err result) }
+    ensures calls { CallsAtMost 1 0 0 0 (H.calls hall.old) (H.calls hall.new) }
     ensures file { result ≢ MountErr.NoFile }
     ensures buffer { buf.new ≡ record buf.old { unit = unit; track = track_of_address geometry at; records = buf.new.records } }
 {
@@ -193,6 +200,7 @@ fn read_others<H: Hall>(
     ensures buffer { (buf.new.geometry ≡ geometry) × (buf.new.unit ≡ unit) }
     ensures told { IsTrue H.tells → Same (H.meaning hall.old) (H.meaning hall.new) }
     ensures call { MountCall (H.facts hall.old) (H.facts hall.new) result }
+    ensures calls { CallsAtMost (vtoc.len - 1) 0 0 0 (H.calls hall.old) (H.calls hall.new) }
     ensures file { IsErrOf result MountErr.NoFile → ⊥ }
 {
     for track in vtoc.start + 1..vtoc.start + vtoc.len {
@@ -216,6 +224,7 @@ fn read_track<H: Hall>(
     ensures refused { IsTrue H.tells → IfErr result (λ e. (e ≡ MountErr.Device) ⊎ ((e ≡ MountErr.VtocTrack track) × (slots_on (image_of (H.meaning hall.old).state (H.facts hall.old) unit) buf.old.geometry track ≡ None))) }
     ensures told { IsTrue H.tells → Same (H.meaning hall.old) (H.meaning hall.new) }
     ensures call { MountCall (H.facts hall.old) (H.facts hall.new) result }
+    ensures calls { CallsAtMost 1 0 0 0 (H.calls hall.old) (H.calls hall.new) }
     ensures file { IsErrOf result MountErr.NoFile → ⊥ }
 {
     match read_records(hall, unit, track, None, buf) {

@@ -21,8 +21,8 @@ use std::alloc::{AllocError, Global};
 
 /// The DSCBs in slots that break no rule.
 ///
-/// Otherwise it is the first rule that is broken: first come the formats of slots 0 and 1, then the
-/// rules on single slots in the order of these, then the names.
+/// Otherwise it is want of memory, or the first rule that is broken: first come the formats of slots 0
+/// and 1, then the rules on single slots in the order of these, then the names.
 pub(crate) fn dscbs_in(
     alloc: Global,
     geometry: Geometry,

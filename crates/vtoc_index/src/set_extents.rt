@@ -62,7 +62,7 @@ fn counted_rows(alloc: Global, slots: &[ReadSlot], set: &F1) -> Result<Vec<Exten
 // Puts the extents of a format 3 behind others.
 fn push_further(rows: &mut Vec<Extent>, slot: &ReadSlot) -> Result<(), AllocError>
     ensures added { OnOk result (rows.new.items ≡ rows.old.items ++ rows_in slot.now.content) }
-    ensures kept { OnErr result (take (length rows.old.items) rows.new.items ≡ rows.old.items) }
+    ensures kept { OnErr result ((count : ℕ) × (rows.new.items ≡ rows.old.items ++ take count (rows_in slot.now.content))) }
 {
     if let Ok(Dscb::F3(further)) = &slot.content {
         rows.extend_from_slice(&further.front)?;

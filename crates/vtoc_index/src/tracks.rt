@@ -47,7 +47,8 @@ impl ReadSlots {
     ) -> Result<(), MountErr>
         requires count { length buf.now.records ≡ count }
         requires few { length self.old.slots.items ≤ 65280 }
-        ensures kept { OnErr result ((take (length self.old.slots.items) self.new.slots.items ≡ self.old.slots.items) × (take (length self.old.firsts.items) self.new.firsts.items ≡ self.old.firsts.items)) }
+        ensures kept { OnErr result ((passed : ℕ) × Adds geometry track (take passed buf.now.records) self.old.slots.items self.new.slots.items) }
+        ensures begun { OnErr result ((self.new.firsts.items ≡ self.old.firsts.items) ⊎ (self.new.firsts.items ≡ self.old.firsts.items ++ length self.old.slots.items ∷ [])) }
         ensures firsts { OnOk result (self.new.firsts.items ≡ self.old.firsts.items ++ length self.old.slots.items ∷ []) }
         ensures slots { OnOk result (Adds geometry track buf.now.records self.old.slots.items self.new.slots.items) }
         ensures few { OnOk result ((more : ℕ) × (more ≤ 255) × (length self.new.slots.items ≡ length self.old.slots.items + more)) }
@@ -71,7 +72,7 @@ fn push_slots(
 ) -> Result<(), MountErr>
     requires { length buf.now.records ≡ count }
     ensures added { OnOk result (Adds geometry track buf.now.records slots.old.items slots.new.items) }
-    ensures kept { OnErr result (take (length slots.old.items) slots.new.items ≡ slots.old.items) }
+    ensures kept { OnErr result ((passed : ℕ) × Adds geometry track (take passed buf.now.records) slots.old.items slots.new.items) }
     ensures refused { IfErr result (λ e. (e ≡ MountErr.Memory) ⊎ ((e ≡ MountErr.VtocTrack track) × (slots_in buf.now.records ≡ None))) }
 {
     for passed in 0..count {

@@ -16,6 +16,7 @@ pub struct Odd {
 impl Hall for Odd {
     ghost use Rattle.std.proofs.lemmas.Bool.{false≢true};
     ghost use Rattle.std.specs.Prelude.{false, refl};
+    ghost use Rattle.hall_core.specs.Facts.{uncounted};
     ghost use Rattle.hall_core.specs.Files.{untold};
     ghost use Rattle.hall_core.specs.Memory.{facts_of};
 
@@ -24,6 +25,8 @@ impl Hall for Odd {
     ghost meaning = { λ _. untold };
 
     ghost facts = { λ h. record (facts_of h.hall) { dev_faults = h.faults } };
+
+    ghost calls = { λ _. uncounted };
 
     ghost leaves_state = { λ _. tt };
 

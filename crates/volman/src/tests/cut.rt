@@ -21,6 +21,8 @@ impl<H: Hall> Hall for Cut<H> {
 
     ghost facts = { λ h. record (H.facts h.hall) { print_faults = h.faults } };
 
+    ghost calls = { λ h. H.calls h.hall };
+
     ghost leaves_state = { λ h. H.leaves_state h.hall };
 
     ghost counts_now = { λ h. H.counts_now h.hall };

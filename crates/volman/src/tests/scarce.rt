@@ -18,6 +18,8 @@ impl<H: Hall> Hall for Scarce<H> {
 
     ghost facts = { λ h. H.facts h.hall };
 
+    ghost calls = { λ h. H.calls h.hall };
+
     ghost leaves_state = { λ h. H.leaves_state h.hall };
 
     ghost counts_now = { λ h. H.counts_now h.hall };

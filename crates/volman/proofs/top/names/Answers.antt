@@ -19,7 +19,7 @@ returns-in-Ok-names_text-clause-does g c told =
     on_pack names_task (c.in-Ok.ensures.mounted told) (λ volume stands mounted.
     let text : c.deref-in-Ok-names_text.result.now ≡ names_listing (names_of volume.sets) =
     c.deref-in-Ok-names_text.ensures.value ∙ listed.2 ∙ ap names_listing (listed_right _ c.in-Ok.vol volume listed.0 mounted stands lists) in
-    text_said 0 c.end.result (λ is. cc) (c.mount.ensures.told told)
+    text_said 0 c.end.result (λ is. cc) (λ is. cc) (c.mount.ensures.told told)
     (subst (λ (t : List ℕ). PrintsText t (M c.mount.new.hall) (M c.end.new.hall) c.end.result) text (c.end.ensures.told told)) c.end.ensures.which)
 
 pub returns-in-Ok-clause-does : goal.returns-in-Ok-clause-does

@@ -14,7 +14,7 @@ use Rattle.volman.proofs.top.volman.Goals as goal
 pub returns-in-None-clause-headline : goal.returns-in-None-clause-headline
 unfolding words_line
 returns-in-None-clause-headline g c told =
-    answered_words _ g.C.Cards.tells (g.C.Cards.left c.args.cards.now) c.end.result (sym c.in-None.ensures) (text_said 20 c.end.result (λ is. cc) (same_none _ (g.met.H.Hall.counts_now c.args.hall.now)) (c.end.ensures.told told) c.end.ensures.which)
+    answered_words _ g.C.Cards.tells (g.C.Cards.left c.args.cards.now) c.end.result (sym c.in-None.ensures) (text_said 20 c.end.result (λ is. cc) (λ is. cc) (same_none _ (g.met.H.Hall.counts_now c.args.hall.now)) (c.end.ensures.told told) c.end.ensures.which)
 
 pub returns-in-Some-Names-clause-headline : goal.returns-in-Some-Names-clause-headline
 returns-in-Some-Names-clause-headline g c told =
@@ -47,7 +47,7 @@ unfolding deck_line
 returns-in-Err-Form-clause-headline g c told =
     let asked = sym c.in-Some-Run.ensures ∙ ap (λ a. Some (request_in a)) c.in-Some-Run.field-0-is in
     answered_form _ c.in-Some-Run.file.now g.C.Cards.tells (g.C.Cards.left c.args.cards.now) c.end-in-Err-Form.result asked (λ tells. c.read_deck.ensures.form tells (c.in-Err-Form.is ∙ ap Err c.in-Err-Form.field-0-is))
-    (text_said 26 c.end-in-Err-Form.result (λ is. cc) (same_none _ (g.met.H.Hall.counts_now c.args.hall.now)) (c.end-in-Err-Form.ensures.told told) c.end-in-Err-Form.ensures.which)
+    (text_said 26 c.end-in-Err-Form.result (λ is. cc) (λ is. cc) (same_none _ (g.met.H.Hall.counts_now c.args.hall.now)) (c.end-in-Err-Form.ensures.told told) c.end-in-Err-Form.ensures.which)
 
 pub returns-in-Err-Read-clause-headline : goal.returns-in-Err-Read-clause-headline
 returns-in-Err-Read-clause-headline g c told =

@@ -8,7 +8,7 @@ use Rattle.vol_model.specs.Calls.{Keeps}
 use Rattle.vol_model.specs.Events.{Item, events_in, shelf_behind}
 use Rattle.vol_model.specs.Runs.{Runs}
 use Rattle.vol_model.specs.declared.answers.Stop.{Stop}
-use Rattle.vol_model.specs.declared.answers.Stop.TheVariants.{Print}
+use Rattle.vol_model.specs.declared.answers.Stop.TheVariants.{Device, Print}
 use Rattle.vtoc_index.specs.declared.vol.Vol.{Vol}
 use Rattle.vtoc_index.proofs.KeptLemmas.{mounted_of}
 use Rattle.volman.specs.Machine.{ChangesOnlyNames, shelf_in, shelf_named, shelf_with}
@@ -59,7 +59,9 @@ returns-clause-does g c told =
           subst (λ (n : ℕ). Synced (M new.hall) (M c.match-ran.hall) n) (sym w.status-is)
           (subst (λ h. Synced (M new.hall) (M h) w.finish-status.result) (sym w.hall-is) (subst (λ h. Synced (M h) (M w.finish-status.new.hall) w.finish-status.result) c.close-hall.ensures (w.finish-status.ensures.told told))) in
           works_finished c.match-ran.status code (⊎_elim (λ is. inl (w.status-is ∙ is)) (λ is. inr (w.status-is ∙ is)) w.finish-status.ensures.status) w.in-Ok.ensures.small counts later synced done stops
-      | in-Err-Device w ↦ at_close (works_failed c.match-ran.status (cut_by c.match-ran.status 22 (w.status-is ∙ w.code-status.ensures) (omega arith) (omega arith) (λ no. omega (arith, no))) runs.moments.later stops) w.hall-is
+      | in-Err-Device w ↦
+          let failed : IsErrOf ran Device = search rules in
+          at_close (works_failed c.match-ran.status (cut_by c.match-ran.status 22 (w.status-is ∙ w.code-status.ensures) (omega arith) (omega arith) (λ no. omega (arith, no))) (λ device. c.run_rename-ran.ensures.fault told failed) runs.moments.later stops) w.hall-is
       | in-Err-Print w ↦
           let failed : IsErrOf ran Print = search rules in
           let before = c.run_rename-ran.ensures.line told failed in
@@ -69,7 +71,7 @@ returns-clause-does g c told =
           let shelf = c.run_rename-ran.ensures.print told failed ∙ ap (λ (i : Item). shelf_behind (shelf_named name (M machine.hall).state) (events_in i)) shelf in
           let done = has_worked_unprinted name name' (M machine.hall) (M new.hall) machine.vol new.vol volume item mounted stands same_name base.geometry base.vtoc have promise told (g.met.H.Hall.only_now machine.hall) (g.met.H.Hall.counts_now new.hall) (g.met.H.Hall.leaves_state new.hall) (machine.durable sound told) durable shelf runs in
           at_close (works_unprinted c.match-ran.status (w.status-is ∙ w.code-status-in-Err-Print.ensures) runs.moments.later done stops) w.hall-is
-      | in-Err-Memory w ↦ at_close (works_failed c.match-ran.status (cut_by c.match-ran.status 25 (w.status-is ∙ w.code-status-in-Err-Memory.ensures) (omega arith) (omega arith) (λ no. omega (arith, no))) runs.moments.later stops) w.hall-is
+      | in-Err-Memory w ↦ at_close (works_failed c.match-ran.status (cut_by c.match-ran.status 25 (w.status-is ∙ w.code-status-in-Err-Memory.ensures) (omega arith) (omega arith) (λ no. omega (arith, no))) (λ (device : c.match-ran.status ≡ 22). let memory : c.match-ran.status ≡ 25 = w.status-is ∙ w.code-status-in-Err-Memory.ensures in absurd (omega (arith, memory, device))) runs.moments.later stops) w.hall-is
     ]
     in
     let at : (w : Vol) → machine.vol ≡ w → (volume : Volume) → volume_of (image_of (M machine.hall).state (F machine.hall) w.unit) ≡ Ok volume

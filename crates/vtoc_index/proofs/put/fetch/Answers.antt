@@ -19,6 +19,6 @@ pub returns-in-Err-BadCount-clause-call : goal.returns-in-Err-BadCount-clause-ca
 returns-in-Err-BadCount-clause-call g c =
     let was = c.in-Err-BadCount.ensures.call in
     let image = image_of (g.H.Hall.meaning c.args.hall.now).state (g.H.Hall.facts c.args.hall.now) c.args.unit in
-    noted was.units was.references was.prints was.later c.differs.ensures.call c.differs.ensures.rose
+    noted was.units was.references was.prints (was.others (λ is. cc)) c.differs.ensures.call c.differs.ensures.rose
     (λ told.
     slot_unbroken image c.args.buf.now.geometry c.args.place.track c.args.place.number (c.requires.there told) (broken_none image c.args.buf.now.geometry (Some c.args.place.number) c.args.place.track _ c.in-Err-BadCount.field-0-0 c.in-Err-BadCount.field-0-is (c.in-Err-BadCount.ensures.broken told)))

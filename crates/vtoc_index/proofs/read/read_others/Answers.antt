@@ -20,6 +20,7 @@ loop-track-init g c =
     let one : 1 ≡ start + 1 - start = omega arith in
     let image = image_of (g.H.Hall.meaning c.args.hall.now).state (g.H.Hall.facts c.args.hall.now) c.args.unit in
     record {
+      calls = (omega arith, omega arith, omega arith, omega arith);
       facts = stay_none _;
       told = λ told. same_none _ (g.met.H.Hall.counts_now c.args.hall.now);
       geometry = c.requires.buffer.0;
@@ -110,6 +111,12 @@ loop-track-preserved g c =
     let geometry : c.read_track.new.buf.geometry ≡ c.args.geometry = held.geometry ∙ l.invariant.geometry in
     let few = c.in_ok-add.ensures.few in
     record {
+      calls = (
+        omega (arith, l.invariant.calls.0, c.in_ok-count.ensures.calls.0, l.auto.track),
+        omega (arith, l.invariant.calls.1, c.in_ok-count.ensures.calls.1),
+        omega (arith, l.invariant.calls.2, c.in_ok-count.ensures.calls.2),
+        omega (arith, l.invariant.calls.3, c.in_ok-count.ensures.calls.3),
+      );
       facts = stay_more _ _ _ c.in_ok-count.count l.invariant.facts c.in_ok-count.ensures.call;
       told = λ told. same_then (l.invariant.told told) (c.in_ok-count.ensures.told told);
       geometry = geometry;
@@ -158,3 +165,29 @@ returns-clause-told g c told = c.loop-track.invariant.told told
 
 pub returns-clause-call : goal.returns-clause-call
 returns-clause-call g c = call_done _ _ tt c.loop-track.invariant.facts
+
+pub returns-in_err-count-clause-calls : goal.returns-in_err-count-clause-calls
+returns-in_err-count-clause-calls g c =
+    let l = c.loop-track in
+    let read = c.in_err-count.ensures.calls in (
+      omega (arith, l.invariant.calls.0, read.0, l.auto.track, c.loop-track-test.true),
+      omega (arith, l.invariant.calls.1, read.1),
+      omega (arith, l.invariant.calls.2, read.2),
+      omega (arith, l.invariant.calls.3, read.3),
+    )
+
+pub returns-in_err-add-clause-calls : goal.returns-in_err-add-clause-calls
+returns-in_err-add-clause-calls g c =
+    let l = c.loop-track in
+    let read = c.in_ok-count.ensures.calls in (
+      omega (arith, l.invariant.calls.0, read.0, l.auto.track, c.loop-track-test.true),
+      omega (arith, l.invariant.calls.1, read.1),
+      omega (arith, l.invariant.calls.2, read.2),
+      omega (arith, l.invariant.calls.3, read.3),
+    )
+
+pub returns-clause-calls : goal.returns-clause-calls
+returns-clause-calls g c =
+    let l = c.loop-track in
+    let calls = l.invariant.calls in
+    (omega (arith, calls.0, c.loop-track-test.false, l.auto.track, l.auto.track-end, c.requires.tracks.0), omega (arith, calls.1), omega (arith, calls.2), omega (arith, calls.3))

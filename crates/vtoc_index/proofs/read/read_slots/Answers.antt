@@ -1,11 +1,11 @@
-use Rattle.std.proofs.Common.{inl, refl, sym, ap, subst, ◌∙◌, ℕ, List, None}
+use Rattle.std.proofs.Common.{inl, refl, sym, ap, subst, ◌∙◌, ℕ, List, None, ◌+◌, ◌-◌}
 use Rattle.std.specs.Prelude.{Ok, Err}
 use Rattle.std.proofs.lemmas.Result.{err_from_is_err_and}
 use Rattle.hall_core.specs.Files.{image_of}
 use Rattle.pack_spec.specs.Volume.{volume_within}
 use Rattle.pack_spec.specs.declared.MountErr.TheVariants.{Memory}
 use Rattle.vtoc_index.specs.Reading.{AreTracksRead, vtoc_on}
-use Rattle.vtoc_index.proofs.CallsMade.{refuses_at, track_reason}
+use Rattle.vtoc_index.proofs.CallsMade.{refuses_at, track_reason, reads_then}
 use Rattle.vtoc_index.proofs.Images.{same_image}
 use Rattle.vtoc_index.proofs.Reasons.{refuses_same}
 use Rattle.vtoc_index.proofs.TracksRead.{first_refused, first_read, slots_are}
@@ -44,3 +44,9 @@ returns-clause-read g c told =
     let first = first_read image c.args.geometry vtoc.start c.read_first.new.buf.records c.new-found.result c.add.new.self c.new-found.ensures.slots c.new-found.ensures.firsts (c.in_ok-vtoc.ensures.read told) c.in_ok-add.ensures.firsts c.in_ok-add.ensures.slots in
     subst (λ (i : List ℕ). AreTracksRead i c.args.geometry vtoc.start vtoc.len c.read_others.new.found) same
     (c.in_ok-read_others.ensures.read told (subst (λ (i : List ℕ). AreTracksRead i c.args.geometry vtoc.start 1 c.add.new.self) (sym same) first))
+
+pub returns-in_err-read_others-clause-calls : goal.returns-in_err-read_others-clause-calls
+returns-in_err-read_others-clause-calls g c = let more = c.in_ok-vtoc.vtoc.len - 1 in (1 + more, reads_then 1 more (g.H.Hall.calls c.args.hall.now) (g.H.Hall.calls c.read_first.new.hall) (g.H.Hall.calls c.read_others.new.hall) c.in_ok-vtoc.ensures.once c.in_err-read_others.ensures.calls)
+
+pub returns-clause-calls : goal.returns-clause-calls
+returns-clause-calls g c = let more = c.in_ok-vtoc.vtoc.len - 1 in (1 + more, reads_then 1 more (g.H.Hall.calls c.args.hall.now) (g.H.Hall.calls c.read_first.new.hall) (g.H.Hall.calls c.read_others.new.hall) c.in_ok-vtoc.ensures.once c.in_ok-read_others.ensures.calls)

@@ -1,4 +1,4 @@
-use Rattle.std.proofs.Common.{◌≡◌, refl, sym, ap, subst, ◌∙◌, arith, ℕ, List, length}
+use Rattle.std.proofs.Common.{◌≡◌, refl, sym, ap, subst, ◌∙◌, arith, ℕ, List, length, ◌+◌}
 use Rattle.std.specs.Prelude.{Err}
 use Rattle.std.proofs.lemmas.Result.{err_from_is_err_and}
 use Rattle.hall_core.specs.Files.{image_of}
@@ -9,7 +9,7 @@ use Rattle.vtoc_index.specs.Contents.{AreRead}
 use Rattle.vtoc_index.specs.Index.{AreFirsts}
 use Rattle.vtoc_index.specs.Reading.{AreTracksRead, vtoc_on}
 use Rattle.vtoc_index.specs.declared.slots.ReadSlot.{ReadSlot}
-use Rattle.vtoc_index.proofs.CallsMade.{reason_at}
+use Rattle.vtoc_index.proofs.CallsMade.{reason_at, reads_then}
 use Rattle.vtoc_index.proofs.Images.{same_image}
 use Rattle.vtoc_index.proofs.Mounts.{label_reason, label_seen, mounted, outside_reason, slots_reason, vtoc_reason}
 use Rattle.vtoc_index.proofs.TracksRead.{AreRead-length, dscbs_many}
@@ -108,3 +108,13 @@ returns-clause-unit g c =
         buffer = c.in_ok-vtoc.ensures.buffer;
       },
     )
+
+pub returns-in_err-vtoc-clause-calls : goal.returns-in_err-vtoc-clause-calls
+returns-in_err-vtoc-clause-calls g c =
+    let slots = c.in_err-vtoc.ensures.calls in
+    (2 + slots.0, reads_then 2 slots.0 (g.H.Hall.calls c.args.hall.now) (g.H.Hall.calls c.read_label.new.hall) (g.H.Hall.calls c.read_slots.new.hall) (reads_then 1 1 (g.H.Hall.calls c.args.hall.now) (g.H.Hall.calls c.read_geometry.new.hall) (g.H.Hall.calls c.read_label.new.hall) c.in_ok-geometry.ensures.calls c.in_ok-label.ensures.calls) slots.1)
+
+pub returns-clause-calls : goal.returns-clause-calls
+returns-clause-calls g c =
+    let slots = c.in_ok-vtoc.ensures.calls in
+    (2 + slots.0, reads_then 2 slots.0 (g.H.Hall.calls c.args.hall.now) (g.H.Hall.calls c.read_label.new.hall) (g.H.Hall.calls c.read_slots.new.hall) (reads_then 1 1 (g.H.Hall.calls c.args.hall.now) (g.H.Hall.calls c.read_geometry.new.hall) (g.H.Hall.calls c.read_label.new.hall) c.in_ok-geometry.ensures.calls c.in_ok-label.ensures.calls) slots.1)

@@ -1,4 +1,5 @@
 use Rattle.std.proofs.Common.{[], List, ap}
+use Rattle.std.proofs.Math.Seq.{map-set_same}
 use Rattle.std.proofs.lemmas.List.{map-set}
 use Rattle.hall_core.specs.Facts.{Attached, Facts}
 use Rattle.volman.proofs.Units.{units_of-set}
@@ -14,3 +15,8 @@ returns-clause-facts g c =
 pub returns-clause-notes : goal.returns-clause-notes
 returns-clause-notes g c =
     map-set (λ (u : Unit). u.is_written) c.args.self.now.units.items c.args.unit (record c.index_mut.result.now { is_written = c.args.is_written })
+
+pub returns-clause-files : goal.returns-clause-files
+returns-clause-files g c =
+    let unit = c.index_mut.result.now in
+    map-set_same (λ (u : Unit). u.file) c.args.self.now.units.items c.args.unit (record unit { is_written = c.args.is_written }) unit (ap (λ (u : Unit). u.file) c.index_mut.ensures.value)
