@@ -1,9 +1,10 @@
 //! One slot of a VTOC, written and made durable.
-ghost use Rattle.std.specs.Prelude.{◌≡◌, ◌⊎◌, ◌<◌, length, slice_set, IsTrue, OnOk};
+ghost use Rattle.std.specs.Prelude.{◌≡◌, ◌⊎◌, ◌<◌, ◌+◌, length, slice_set, IsTrue, OnOk, OnErr};
 ghost use Rattle.hall_core.specs.Facts.{CallsAtMost, DeviceCall, unit_of};
 ghost use Rattle.hall_core.specs.Files.{AfterSync, image_of};
 ghost use Rattle.hall_core.specs.Moments.{IsDurable};
-ghost use Rattle.vtoc_index.specs.Index.{IsIndexOf, IsOfUnit};
+ghost use Rattle.track_records.specs.Updates.{HasLengths};
+ghost use Rattle.vtoc_index.specs.Index.{IsIndexOf, IsOfUnit, slots_in_front, track_index};
 ghost use Rattle.vtoc_index.specs.Puts.{IsReplaced};
 ghost use Rattle.dadsm_ops.specs.Through.{PutsThrough};
 
@@ -30,6 +31,8 @@ pub(crate) fn put_through<H: Hall>(
     ensures unit { IsOfUnit (H.facts hall.new).units vol.new }
     ensures call { DeviceCall (H.facts hall.old) (H.facts hall.new) result }
     ensures calls { CallsAtMost 1 1 1 0 (H.calls hall.old) (H.calls hall.new) }
+    ensures again { vol.old.buf.track ≡ vol.old.vtoc.start + track_index vol.old.firsts.items slot → slots_in_front vol.old.firsts.items slot < length vol.old.buf.records → CallsAtMost 0 1 1 0 (H.calls hall.old) (H.calls hall.new) }
+    ensures unwritten { OnErr result (¬ HasLengths vol.new.buf.records (slots_in_front vol.old.firsts.items slot) 44 96 → CallsAtMost 1 0 0 0 (H.calls hall.old) (H.calls hall.new)) }
 {
     put_slot(hall, vol, slot, dscb)?;
     make_durable(hall)

@@ -1,5 +1,5 @@
 -- Characters, names and serials on cases at which near readings of their definitions give something else.
-use Rattle.std.specs.Prelude.{ℕ, ◌≡◌, true, false, [], ◌∷◌, Some, None, Ok, Err, codes, replicate}
+use Rattle.std.specs.Prelude.{ℕ, ◌≡◌, true, false, [], ◌∷◌, Some, None, Ok, Err, codes, map, replicate}
 use Rattle.std.proofs.Common.{refl}
 use Rattle.ebcdic_names.specs.CodePage.{ascii_of, code_page, ebcdic_of}
 use Rattle.ebcdic_names.specs.Names.{are_blanks, begins_level, byte_of, char_faults, char_faults_from, continues_level, dsn_of, ends_level, is_digit, level_allows, level_fault, level_faults, levels, levels_faults, name8_of, name_fault, onto_first, padded, serial_allows, serial_fault, serial_faults, serial_of, shown, unless_fault, without_blanks}
@@ -12,6 +12,27 @@ characters :
     × (ascii_of 0x40 ≡ 32) × (ascii_of 0xC1 ≡ 65) × (ascii_of 0xA1 ≡ 126) × (ascii_of 0x4B ≡ 46) × (ascii_of 0x41 ≡ 46) × (ascii_of 0 ≡ 46)
 unfolding ascii_of code_page
 characters = (refl, refl, refl, refl, refl, refl, refl, refl, refl, refl, refl)
+
+-- the signs, in the order of their bytes, and the letters and digits in their runs
+signs :
+    (map ascii_of (0x4B ∷ 0x4C ∷ 0x4D ∷ 0x4E ∷ 0x4F ∷ 0x50 ∷ []) ≡ codes ".<(+|&")
+    × (map ascii_of (0x5A ∷ 0x5B ∷ 0x5C ∷ 0x5D ∷ 0x5E ∷ 0x60 ∷ 0x61 ∷ []) ≡ codes "!$*);-/")
+    × (map ascii_of (0x6B ∷ 0x6C ∷ 0x6D ∷ 0x6E ∷ 0x6F ∷ []) ≡ codes ",%_>?")
+    × (map ascii_of (0x79 ∷ 0x7A ∷ 0x7B ∷ 0x7C ∷ 0x7D ∷ 0x7E ∷ 0x7F ∷ []) ≡ codes "`:#@'=\"")
+    × (map ascii_of (0xB0 ∷ 0xBA ∷ 0xBB ∷ 0xC0 ∷ 0xD0 ∷ 0xE0 ∷ []) ≡ codes "^[]{}\\")
+unfolding ascii_of code_page
+signs = (refl, refl, refl, refl, refl)
+
+letters :
+    (map ascii_of (0x81 ∷ 0x82 ∷ 0x83 ∷ 0x84 ∷ 0x85 ∷ 0x86 ∷ 0x87 ∷ 0x88 ∷ 0x89 ∷ []) ≡ codes "abcdefghi")
+    × (map ascii_of (0x91 ∷ 0x92 ∷ 0x93 ∷ 0x94 ∷ 0x95 ∷ 0x96 ∷ 0x97 ∷ 0x98 ∷ 0x99 ∷ []) ≡ codes "jklmnopqr")
+    × (map ascii_of (0xA2 ∷ 0xA3 ∷ 0xA4 ∷ 0xA5 ∷ 0xA6 ∷ 0xA7 ∷ 0xA8 ∷ 0xA9 ∷ []) ≡ codes "stuvwxyz")
+    × (map ascii_of (0xC1 ∷ 0xC2 ∷ 0xC3 ∷ 0xC4 ∷ 0xC5 ∷ 0xC6 ∷ 0xC7 ∷ 0xC8 ∷ 0xC9 ∷ []) ≡ codes "ABCDEFGHI")
+    × (map ascii_of (0xD1 ∷ 0xD2 ∷ 0xD3 ∷ 0xD4 ∷ 0xD5 ∷ 0xD6 ∷ 0xD7 ∷ 0xD8 ∷ 0xD9 ∷ []) ≡ codes "JKLMNOPQR")
+    × (map ascii_of (0xE2 ∷ 0xE3 ∷ 0xE4 ∷ 0xE5 ∷ 0xE6 ∷ 0xE7 ∷ 0xE8 ∷ 0xE9 ∷ []) ≡ codes "STUVWXYZ")
+    × (map ascii_of (0xF0 ∷ 0xF1 ∷ 0xF2 ∷ 0xF3 ∷ 0xF4 ∷ 0xF5 ∷ 0xF6 ∷ 0xF7 ∷ 0xF8 ∷ 0xF9 ∷ []) ≡ codes "0123456789")
+unfolding ascii_of code_page
+letters = (refl, refl, refl, refl, refl, refl, refl)
 
 -- A to Z, @, # and $, and none of their neighbours
 begins :

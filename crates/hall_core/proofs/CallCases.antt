@@ -200,6 +200,16 @@ print_fails_with_other_bytes print =
     let head : 98 ≡ 97 = ap (λ (l : List ℕ). get_or l 0 0) (ap (λ (l : List ℕ). l ++ rest) is ∙ whole) in
     absurd (omega (arith, head))
 
+-- it adds to what was printed before, and doesn't put it away
+print_adds : AfterPrint ab (meaning_after files (printed (90 ∷ []) ∷ [])) (meaning_after files (printed (90 ∷ []) ∷ printed ab ∷ [])) done
+print_adds = print_done files (printed (90 ∷ []) ∷ []) ab
+
+print_puts_away : ¬ AfterPrint ab (meaning_after files (printed (90 ∷ []) ∷ [])) behind_print done
+print_puts_away print = let size : 2 ≡ 3 = ap length print.done in absurd (omega (arith, size))
+
+print_fails_and_puts_away : ¬ AfterPrint ab (meaning_after files (printed (90 ∷ []) ∷ [])) behind_half fails
+print_fails_and_puts_away print = let (q, part, is) = print.prefix in let head : 97 ≡ 90 = ap (λ (l : List ℕ). get_or l 0 0) is in absurd (omega (arith, head))
+
 print_writes : ¬ AfterPrint ab at_first (record behind_print { state = with_write files nine }) done
 print_writes print = differ (sym print.state)
 

@@ -3,7 +3,7 @@ use Rattle.std.proofs.Common.{◌≡◌, ◌≢◌, ◌<◌, ◌-◌, ◌^◌, �
 use Rattle.std.specs.Prelude.{Option, Ok, Err, String, Vec, string_bytes, unwrap_or}
 use Rattle.std.specs.declared.alloc.Global.{Global}
 use Rattle.hall_core.specs.declared.hall.HallErr.TheVariants.{Missing, Failed, Memory}
-use Rattle.hall_core.specs.Facts.{Attached, Calls, CallsAtMost, Facts, Rose, unit_of, IsAttached, DeviceCall, ReportedCall, NotedCall, PrintCall, AttachCall}
+use Rattle.hall_core.specs.Facts.{Attached, AttachesOnce, Calls, CallsAtMost, Facts, Rose, unit_of, IsAttached, DeviceCall, ReportedCall, NotedCall, PrintCall, AttachCall}
 use Rattle.hall_core.specs.Files.{File, file_of, image_of, HasBytesAt, patched, written, AreWhole, IsPrefixOf}
 use Rattle.hall_core.specs.Held.{file_of_pair, files_of, first_pairs, attached_as, shapes_of, units_at, IsFirst, AreFirst}
 
@@ -168,19 +168,50 @@ noted_falls call = absurd (omega (arith, call.later))
 noted_at_both : ¬ NotedCall (counted 3 5) (counted 4 6)
 noted_at_both call = let same : 6 ≡ 5 = call.prints in absurd (omega (arith, same))
 
--- calls are counted by kind: one read at most, and else none
-abbrev made : ℕ → ℕ → ℕ → ℕ → Calls
-made reads writes syncs prints = record { reads = reads; writes = writes; syncs = syncs; prints = prints }
+-- calls are counted by kind: of each kind as many as are allowed to it, and none where only another is
+abbrev made : ℕ → ℕ → ℕ → ℕ → ℕ → Calls
+made reads writes syncs prints attachments = record { reads = reads; writes = writes; syncs = syncs; prints = prints; attachments = attachments }
 
-one_read : CallsAtMost 1 0 0 0 (made 3 3 3 3) (made 4 3 3 3) × CallsAtMost 1 0 0 0 (made 3 3 3 3) (made 3 3 3 3)
-one_read = ((lit≤ tt, lit≤ tt, lit≤ tt, lit≤ tt), (lit≤ tt, lit≤ tt, lit≤ tt, lit≤ tt))
+one_read : CallsAtMost 1 0 0 0 (made 3 3 3 3 3) (made 4 3 3 3 3) × CallsAtMost 1 0 0 0 (made 3 3 3 3 3) (made 3 3 3 3 3)
+one_read = ((lit≤ tt, lit≤ tt, lit≤ tt, lit≤ tt, lit≤ tt), (lit≤ tt, lit≤ tt, lit≤ tt, lit≤ tt, lit≤ tt))
 
 no_other_call :
-    (¬ CallsAtMost 1 0 0 0 (made 3 3 3 3) (made 5 3 3 3))
-    × (¬ CallsAtMost 1 0 0 0 (made 3 3 3 3) (made 3 4 3 3))
-    × (¬ CallsAtMost 1 0 0 0 (made 3 3 3 3) (made 3 3 4 3))
-    × (¬ CallsAtMost 1 0 0 0 (made 3 3 3 3) (made 3 3 3 4))
-no_other_call = (λ calls. omega (arith, calls.0), λ calls. omega (arith, calls.1), λ calls. omega (arith, calls.2), λ calls. omega (arith, calls.3))
+    (¬ CallsAtMost 1 0 0 0 (made 3 3 3 3 3) (made 5 3 3 3 3))
+    × (¬ CallsAtMost 1 0 0 0 (made 3 3 3 3 3) (made 3 4 3 3 3))
+    × (¬ CallsAtMost 1 0 0 0 (made 3 3 3 3 3) (made 3 3 4 3 3))
+    × (¬ CallsAtMost 1 0 0 0 (made 3 3 3 3 3) (made 3 3 3 4 3))
+    × (¬ CallsAtMost 1 0 0 0 (made 3 3 3 3 3) (made 3 3 3 3 4))
+no_other_call = (λ calls. omega (arith, calls.0), λ calls. omega (arith, calls.1), λ calls. omega (arith, calls.2), λ calls. omega (arith, calls.3), λ calls. omega (arith, calls.4))
+
+one_write : CallsAtMost 0 1 0 0 (made 3 3 3 3 3) (made 3 4 3 3 3)
+one_write = (lit≤ tt, lit≤ tt, lit≤ tt, lit≤ tt, lit≤ tt)
+
+no_write_but_one : (¬ CallsAtMost 0 1 0 0 (made 3 3 3 3 3) (made 3 5 3 3 3)) × (¬ CallsAtMost 0 1 0 0 (made 3 3 3 3 3) (made 3 3 4 3 3))
+no_write_but_one = (λ calls. omega (arith, calls.1), λ calls. omega (arith, calls.2))
+
+one_sync : CallsAtMost 0 0 1 0 (made 3 3 3 3 3) (made 3 3 4 3 3)
+one_sync = (lit≤ tt, lit≤ tt, lit≤ tt, lit≤ tt, lit≤ tt)
+
+no_sync_but_one : (¬ CallsAtMost 0 0 1 0 (made 3 3 3 3 3) (made 3 3 5 3 3)) × (¬ CallsAtMost 0 0 1 0 (made 3 3 3 3 3) (made 3 3 3 4 3))
+no_sync_but_one = (λ calls. omega (arith, calls.2), λ calls. omega (arith, calls.3))
+
+one_print : CallsAtMost 0 0 0 1 (made 3 3 3 3 3) (made 3 3 3 4 3)
+one_print = (lit≤ tt, lit≤ tt, lit≤ tt, lit≤ tt, lit≤ tt)
+
+no_print_but_one : (¬ CallsAtMost 0 0 0 1 (made 3 3 3 3 3) (made 3 3 3 5 3)) × (¬ CallsAtMost 0 0 0 1 (made 3 3 3 3 3) (made 3 4 3 3 3))
+no_print_but_one = (λ calls. omega (arith, calls.3), λ calls. omega (arith, calls.1))
+
+-- an attachment, where it is allowed, beside the others, and no second
+one_attachment : AttachesOnce 0 0 0 0 (made 3 3 3 3 3) (made 3 3 3 3 4) × AttachesOnce 1 2 3 4 (made 3 3 3 3 3) (made 4 5 6 7 4)
+one_attachment = ((lit≤ tt, lit≤ tt, lit≤ tt, lit≤ tt, lit≤ tt), (lit≤ tt, lit≤ tt, lit≤ tt, lit≤ tt, lit≤ tt))
+
+no_other_attachment :
+    (¬ AttachesOnce 1 2 3 4 (made 3 3 3 3 3) (made 3 3 3 3 5))
+    × (¬ AttachesOnce 1 2 3 4 (made 3 3 3 3 3) (made 5 3 3 3 3))
+    × (¬ AttachesOnce 1 2 3 4 (made 3 3 3 3 3) (made 3 6 3 3 3))
+    × (¬ AttachesOnce 1 2 3 4 (made 3 3 3 3 3) (made 3 3 7 3 3))
+    × (¬ AttachesOnce 1 2 3 4 (made 3 3 3 3 3) (made 3 3 3 8 3))
+no_other_attachment = (λ calls. omega (arith, calls.4), λ calls. omega (arith, calls.0), λ calls. omega (arith, calls.1), λ calls. omega (arith, calls.2), λ calls. omega (arith, calls.3))
 
 -- past its type's end a count, which needn't rise there, doesn't fall either
 abbrev end : ℕ

@@ -266,6 +266,20 @@ line_behind_one has = ⊎_elim (λ either. absurd (cc either.1)) (λ both. absur
 first_is_missing : ¬ HasFirst 3 4 [] ab 2 []
 first_is_missing has = ⊎_elim (λ either. ⊎_elim (λ once. absurd (omega (arith, once))) (λ twice. absurd (omega (arith, twice))) either.0) (λ both. absurd (omega (arith, both.0))) has
 
+-- behind what was printed before, and not in its place
+line_behind_text : HasFirst 3 4 (90 ∷ []) ab 4 (90 ∷ 97 ∷ [])
+line_behind_text = inr (refl, (97 ∷ [], (98 ∷ [], refl), refl))
+
+line_in_place_of_text : ¬ HasFirst 3 4 (90 ∷ []) ab 4 (97 ∷ [])
+line_in_place_of_text has = ⊎_elim
+    (λ either. let head : 97 ≡ 90 = ap (λ (l : List ℕ). get_or l 0 0) either.1 in absurd (omega (arith, head)))
+    (λ both. let (q, part, is) = both.1 in let head : 97 ≡ 90 = ap (λ (l : List ℕ). get_or l 0 0) is in absurd (omega (arith, head)))
+    has
+
+ends_behind_text : (view : List File → ℕ) (once twice : List File) (new : Meaning (List File)) → WritesInOrder view once twice ab (record at_first { printed = 90 ∷ [] }) new done
+    → Exit (λ files. files) (IsInOrder view files once twice (90 ∷ []) ab) (record at_first { printed = 90 ∷ [] }) new twice (90 ∷ 97 ∷ 98 ∷ []) done
+ends_behind_text view once twice new in_order = in_order.exit
+
 before_both : IsInOrder second_byte (holds 1 2) (holds 1 3) (holds 1 4) [] ab (holds 1 2) []
 before_both = inl (inl refl, refl)
 

@@ -19,21 +19,34 @@ pub record Facts : Type 0 where
   pub dev_faults : ℕ
   pub print_faults : ℕ
 
--- how many reads, writes, syncs and prints were made
+-- how many reads, writes, syncs, prints and attachments were made
 pub record Calls : Type 0 where
   pub reads : ℕ
   pub writes : ℕ
   pub syncs : ℕ
   pub prints : ℕ
+  pub attachments : ℕ
 
 -- the calls of a hall that counts none
 abbrev pub uncounted : Calls
-uncounted = record { reads = 0; writes = 0; syncs = 0; prints = 0 }
+uncounted = record { reads = 0; writes = 0; syncs = 0; prints = 0; attachments = 0 }
 
--- at most so many more reads, writes, syncs and prints were made
+-- at most so many more reads, writes, syncs, prints and attachments were made
+abbrev pub MadeAtMost : ℕ → ℕ → ℕ → ℕ → ℕ → Calls → Calls → Type 0
+MadeAtMost reads writes syncs prints attachments old new =
+    (new.reads ≤ old.reads + reads)
+    × (new.writes ≤ old.writes + writes)
+    × (new.syncs ≤ old.syncs + syncs)
+    × (new.prints ≤ old.prints + prints)
+    × (new.attachments ≤ old.attachments + attachments)
+
+-- at most so many more reads, writes, syncs and prints, and no attachment
 abbrev pub CallsAtMost : ℕ → ℕ → ℕ → ℕ → Calls → Calls → Type 0
-CallsAtMost reads writes syncs prints old new =
-    (new.reads ≤ old.reads + reads) × (new.writes ≤ old.writes + writes) × (new.syncs ≤ old.syncs + syncs) × (new.prints ≤ old.prints + prints)
+CallsAtMost reads writes syncs prints old new = MadeAtMost reads writes syncs prints 0 old new
+
+-- at most so many more reads, writes, syncs and prints, and one attachment
+abbrev pub AttachesOnce : ℕ → ℕ → ℕ → ℕ → Calls → Calls → Type 0
+AttachesOnce reads writes syncs prints old new = MadeAtMost reads writes syncs prints 1 old new
 
 -- the attached file of a unit
 abbrev pub unit_of : List Attached → ℕ → Attached

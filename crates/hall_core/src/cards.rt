@@ -1,5 +1,5 @@
 //! The trait of a source of cards, which standard input and a test fixture implement alike.
-ghost use Rattle.std.specs.Prelude.{◌≡◌, ◌≤◌, ◌<◌, ℕ, List, Bool, length, IsTrue, IfOk, OnOk, OnErr};
+ghost use Rattle.std.specs.Prelude.{◌≡◌, ◌≤◌, ◌<◌, ◌+◌, ℕ, List, Bool, length, IsTrue, IfOk, OnOk, OnErr};
 ghost use Rattle.hall_core.specs.Facts.{Rose};
 ghost use Rattle.hall_core.specs.Cards.{GivesNext};
 
@@ -21,6 +21,9 @@ pub trait Cards {
     /// Its count of faults.
     ghost faults: { Self → ℕ };
 
+    /// How many reads were made, if it counts them: by one that number rises by one at most.
+    ghost reads: { Self → ℕ };
+
     /// Puts the next bytes to the front of the buffer and gives their number, which is 0 exactly at
     /// the end. It may be less than what fits, also before the end.
     ///
@@ -31,6 +34,7 @@ pub trait Cards {
         requires { 0 < length buf.old }
         ensures within { IfOk result (λ n. n ≤ length buf.old) }
         ensures told { IsTrue tells → GivesNext (left self.old) (left self.new) buf.new result }
+        ensures once { reads self.new ≤ reads self.old + 1 }
         ensures later { faults self.old ≤ faults self.new }
         ensures done { OnOk result (faults self.new ≡ faults self.old) }
         ensures failed { OnErr result (Rose (faults self.old) (faults self.new)) };

@@ -1,6 +1,6 @@
 //! The trait of the outside, which a device and a test fixture implement alike.
 ghost use Rattle.std.specs.Prelude.{◌≡◌, ◌+◌, ◌<◌, ◌≤◌, [], ◌∷◌, ℕ, List, Bool, length, IsTrue, IsFalse, OnOk, IfErr, ◌-◌, ◌^◌, min};
-ghost use Rattle.hall_core.specs.Facts.{Calls, CallsAtMost, Facts, unit_of, IsAttached, DeviceCall, NotedCall, PrintCall, AttachCall, Rose};
+ghost use Rattle.hall_core.specs.Facts.{AttachesOnce, Calls, CallsAtMost, Facts, unit_of, IsAttached, DeviceCall, NotedCall, PrintCall, AttachCall, Rose};
 ghost use Rattle.hall_core.specs.Moments.{Meaning, LeftNow, IsDurable, Same};
 ghost use Rattle.hall_core.specs.Files.{File, HasBytesAt, AreWhole, Attaches, AfterWrite, AfterSync, AfterPrint};
 
@@ -59,7 +59,7 @@ pub trait Hall {
         requires once { ¬ IsAttached (facts self.old).units name.now }
         ensures told { IsTrue tells → Attaches name.now (meaning self.old) (meaning self.new) result }
         ensures call { AttachCall name.now (facts self.old) (facts self.new) result }
-        ensures calls { CallsAtMost 0 0 0 0 (calls self.old) (calls self.new) };
+        ensures calls { AttachesOnce 0 0 0 0 (calls self.old) (calls self.new) };
 
     /// The size of a unit, in bytes.
     fn size(&self, unit: u8) -> u64

@@ -51,10 +51,13 @@ impl Cards for MemCards {
 
     ghost faults = { λ cards. faults_counted cards };
 
+    ghost reads = { λ cards. number_of_reads cards };
+
     fn read(&mut self, buf: &mut [u8]) -> Result<usize, ReadFault>
         requires { 0 < length buf.old }
         ensures within { IfOk result (λ n. n ≤ length buf.old) }
         ensures told { GivesNext (bytes_left self.old) (bytes_left self.new) buf.new result }
+        ensures once { number_of_reads self.new ≤ number_of_reads self.old + 1 }
         ensures later { faults_counted self.old ≤ faults_counted self.new }
         ensures done { OnOk result (faults_counted self.new ≡ faults_counted self.old) }
         ensures failed { OnErr result (Rose (faults_counted self.old) (faults_counted self.new)) }

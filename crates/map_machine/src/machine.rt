@@ -23,7 +23,7 @@ pub struct MapMachine {
 }
 
 impl MapMachine {
-    ghost use Rattle.std.specs.Prelude.{[], true, IsErrOf};
+    ghost use Rattle.std.specs.Prelude.{[], ◌+◌, true, IsErrOf, OnOk, OnErr};
     ghost use Rattle.vol_model.specs.Calls.{Applies};
     ghost use Rattle.vol_model.specs.declared.requests.Op.TheVariants.{Rename};
     ghost use Rattle.map_machine.specs.Held.{meaning_of, status_of};
@@ -61,6 +61,7 @@ impl MapMachine {
     // Gives a data set another name, unless that is refused.
     fn rename(&mut self, v: u8, old: &Dsn, new: &Dsn) -> Result<(), MachErr>
         ensures told { Applies (Rename v old.now new.now) (meaning_of self.old) (meaning_of self.new) result }
+        ensures time { (OnOk result ((meaning_of self.new).clock ≡ (meaning_of self.old).clock + 1)) × (OnErr result ((meaning_of self.new).clock ≡ (meaning_of self.old).clock)) }
         ensures device { IsErrOf result MachErr.Device → ⊥ }
         ensures print { IsErrOf result MachErr.Print → ⊥ }
     {
@@ -81,7 +82,8 @@ impl MapMachine {
 }
 
 impl Machine for MapMachine {
-    ghost use Rattle.std.specs.Prelude.{true, IfErr, IsErrOf, OnOk, refl};
+    ghost use Rattle.std.specs.Prelude.{◌+◌, true, IfErr, IsErrOf, OnErr, OnOk, refl};
+    ghost use Rattle.hall_core.specs.Facts.{CallsAtMost, uncounted};
     ghost use Rattle.hall_core.specs.Moments.{Elapses};
     ghost use Rattle.vol_model.specs.Calls.{Applies, MachineCall, Prints};
     ghost use Rattle.map_machine.specs.Held.{meaning_of, status_of};
@@ -94,6 +96,8 @@ impl Machine for MapMachine {
     ghost meaning = { λ machine. meaning_of machine };
 
     ghost status = { λ machine. status_of machine };
+
+    ghost calls = { λ machine. uncounted };
 
     ghost promise = { λ machine ops t files. Unit {0} };
 
@@ -113,6 +117,7 @@ impl Machine for MapMachine {
 
     fn apply(&mut self, op: &Op) -> Result<(), MachErr>
         ensures shelf { Applies op.now (meaning_of self.old) (meaning_of self.new) result }
+        ensures time { (OnOk result ((meaning_of self.new).clock ≡ (meaning_of self.old).clock + 1)) × (OnErr result ((meaning_of self.new).clock ≡ (meaning_of self.old).clock)) }
         ensures device { IsErrOf result MachErr.Device → ⊥ }
         ensures print { IsErrOf result MachErr.Print → ⊥ }
     {
@@ -124,6 +129,7 @@ impl Machine for MapMachine {
     fn print(&mut self, bytes: &[u8]) -> Result<(), MachErr>
         ensures shelf { Prints true bytes.now (meaning_of self.old) (meaning_of self.new) result }
         ensures whole { OnOk result (Elapses (meaning_of self.old) (meaning_of self.new) (λ shelf text. (shelf ≡ (meaning_of self.old).state) × (text ≡ (meaning_of self.new).printed))) }
+        ensures time { (OnOk result ((meaning_of self.new).clock ≡ (meaning_of self.old).clock + 1)) × (OnErr result ((meaning_of self.new).clock ≡ (meaning_of self.old).clock)) }
         ensures memory { IfErr result (λ e. e ≡ MachErr.Memory) }
     {
         if self.log.reserve(1).is_err() {

@@ -70,6 +70,13 @@ label :
 unfolding label_in
 label = (refl, refl, refl, refl, refl)
 
+-- three records, and no more: with a fourth behind them there is no label, whatever that is
+fourth_record :
+    (label_in (ipl_1 ∷ ipl_2 ∷ record_on 0 0 vol1 text ∷ record_on 0 0 [] (1 ∷ []) ∷ []) ≡ None)
+    × (label_in (ipl_1 ∷ ipl_2 ∷ record_on 0 0 vol1 text ∷ record_on 0 0 vol1 text ∷ []) ≡ None)
+unfolding label_in
+fourth_record = (refl, refl)
+
 -- the keys as text
 keys : (map ascii_of ipl1 ≡ codes "IPL1") × (map ascii_of ipl2 ≡ codes "IPL2") × (map ascii_of vol1 ≡ codes "VOL1")
 unfolding ascii_of code_page
@@ -115,6 +122,10 @@ slots :
     × (slots_in (parts 44 96 ∷ parts 44 95 ∷ []) ≡ None) × (slots_in [] ≡ Some [])
 slots = (refl, refl, refl, refl, refl, refl, refl, refl, refl, refl)
 
+-- one record, and no more: with a second behind it there is no first slot, whatever that is
+second_record : (first_slot (parts 44 96 ∷ parts 44 96 ∷ []) ≡ None) × (first_slot (parts 44 96 ∷ parts 45 95 ∷ []) ≡ None)
+second_record = (refl, refl)
+
 -- a slot with an extent at 105, from cylinder 3 and head 7 to a cylinder and a head
 abbrev extent_to : ℕ → ℕ → List ℕ
 extent_to cylinder head = replicate 107 9 ++ (0 ∷ 3 ∷ 0 ∷ 7 ∷ 0 ∷ cylinder ∷ 0 ∷ head ∷ replicate 25 9)
@@ -133,6 +144,14 @@ vtoc_extents :
     × (is_vtoc_extent pack (at 3 7) (extent_to 4 20) ≡ false)
     × (is_vtoc_extent (record { device = D2314; cylinders = 16; track_size = 7680 }) (at 3 7) (extent_to 16 3) ≡ false)
 vtoc_extents = (refl, refl, refl, refl, refl, refl, refl, refl)
+
+-- a slot with an extent at 105, from cylinder 3 and a head to the first track of cylinder 4
+abbrev extent_from : ℕ → List ℕ
+extent_from head = replicate 107 9 ++ (0 ∷ 3 ∷ 0 ∷ head ∷ 0 ∷ 4 ∷ 0 ∷ 0 ∷ replicate 25 9)
+
+-- a cylinder has no head 20; so no extent begins there, though the address is the same, and its track would be the one on which the extent ends
+outside : (is_vtoc_extent pack (at 3 19) (extent_from 19) ≡ true) × (is_vtoc_extent pack (at 3 20) (extent_from 20) ≡ false)
+outside = (refl, refl)
 
 -- it is counted with both ends; one that isn't taken is `BadVtoc`, and where no slot was read the track is named
 vtocs :
@@ -192,6 +211,24 @@ leads_astray = set_at 1 (set 4) ∷ slot_at 4 0xF3 ∷ slot_at 5 0xF5 ∷ []
 formats_3 : (format_3_of leads_on (set 4) ≡ Some (slot_at 5 0xF3)) × (format_3_of leads_astray (set 4) ≡ None) × (format_3_of leads_on (set 3) ≡ None)
 unfolding format_3_of
 formats_3 = (refl, refl, refl)
+
+-- a format 3 at this address
+abbrev format_3_at : List ℕ → VtocSlot
+format_3_at address = record { address = address; bytes = (slot_at 5 0xF3).bytes }
+
+-- record 5 on other tracks, each by one byte of CC or of HH
+abbrev elsewhere : List VtocSlot
+elsewhere =
+    format_3_at (1 ∷ 1 ∷ 0 ∷ 2 ∷ 5 ∷ [])
+    ∷ format_3_at (0 ∷ 2 ∷ 0 ∷ 2 ∷ 5 ∷ [])
+    ∷ format_3_at (0 ∷ 1 ∷ 1 ∷ 2 ∷ 5 ∷ [])
+    ∷ format_3_at (0 ∷ 1 ∷ 0 ∷ 3 ∷ 5 ∷ [])
+    ∷ []
+
+-- the address is compared whole, and not its R alone
+whole_addresses : (format_3_of elsewhere (set 4) ≡ None) × (format_3_of (elsewhere ++ (slot_at 5 0xF3 ∷ [])) (set 4) ≡ Some (slot_at 5 0xF3))
+unfolding format_3_of
+whole_addresses = (refl, refl)
 
 -- the first extents of a set are its own, and as many are taken as it counts; there are at most sixteen
 abbrev own : ℕ → ℕ → List ℕ
@@ -269,6 +306,26 @@ shared :
     × (is_shared [] (set 4) ≡ false)
 shared = (refl, refl, refl, refl)
 
+-- a slot of this format that counts four extents, and whose pointer is this
+abbrev chained_to : ℕ → List ℕ → VtocSlot
+chained_to format pointer = set_at 1 (replicate 44 0x40 ++ (format ∷ replicate 14 0) ++ (4 ∷ replicate 75 0) ++ pointer)
+
+-- a chained set that leads elsewhere shares no chain, by whatever part of its pointer
+led_elsewhere :
+    (is_shared (chained_to 0xF1 (0 ∷ 1 ∷ 0 ∷ 2 ∷ 5 ∷ []) ∷ []) (set 4) ≡ true)
+    × (is_shared (chained_to 0xF1 (0 ∷ 1 ∷ 0 ∷ 2 ∷ 6 ∷ []) ∷ []) (set 4) ≡ false)
+    × (is_shared (chained_to 0xF1 (0 ∷ 1 ∷ 0 ∷ 3 ∷ 5 ∷ []) ∷ []) (set 4) ≡ false)
+    × (is_shared (chained_to 0xF1 (0 ∷ 2 ∷ 0 ∷ 2 ∷ 5 ∷ []) ∷ []) (set 4) ≡ false)
+    × (is_shared (chained_to 0xF1 (0 ∷ 1 ∷ 0 ∷ 2 ∷ 6 ∷ []) ∷ chained_to 0xF1 (0 ∷ 1 ∷ 0 ∷ 2 ∷ 5 ∷ []) ∷ []) (set 4) ≡ true)
+led_elsewhere = (refl, refl, refl, refl, refl)
+
+-- nor does a slot of another format, though it counts as many extents and has the same pointer
+other_formats :
+    (is_shared (chained_to 0xF3 (0 ∷ 1 ∷ 0 ∷ 2 ∷ 5 ∷ []) ∷ []) (set 4) ≡ false)
+    × (is_shared (chained_to 0xF4 (0 ∷ 1 ∷ 0 ∷ 2 ∷ 5 ∷ []) ∷ []) (set 4) ≡ false)
+    × (is_shared (chained_to 0 (0 ∷ 1 ∷ 0 ∷ 2 ∷ 5 ∷ []) ∷ []) (set 4) ≡ false)
+other_formats = (refl, refl, refl)
+
 chains :
     (has_chain leads_on [] (set 4) ≡ true)
     × (has_chain leads_on (set_at 0 (set 4) ∷ []) (set 4) ≡ false)
@@ -286,6 +343,14 @@ faults_of_slots :
     × (fault_or (Some NoLabel) (Some BadVtoc) ≡ Some NoLabel)
     × (fault_or None (Some BadVtoc) ≡ Some BadVtoc)
 faults_of_slots = (refl, refl, refl, refl, refl, refl)
+
+-- where the bytes are no DSCB, the byte of that refusal is named; the format byte is neither named nor judged then
+named_bytes :
+    (slot_fault 7 (Some (Unsupported 0xF2)) 0xC7 ≡ Some (UnsupportedDscb 7 0xF2))
+    × (slot_fault 7 (Some (BadFormat 0xC7)) 0xF2 ≡ Some (BadDscb 7 0xC7))
+    × (slot_fault 7 (Some (Unsupported 0xF2)) 0xF4 ≡ Some (UnsupportedDscb 7 0xF2))
+    × (slot_fault 7 (Some (BadFormat 0xC7)) 0xF4 ≡ Some (BadDscb 7 0xC7))
+named_bytes = (refl, refl, refl, refl)
 
 data_sets : (is_data_set (set 0) ≡ true) × (is_data_set (slot_at 1 0xF3).bytes ≡ false)
 data_sets = (refl, refl)

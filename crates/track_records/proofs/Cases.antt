@@ -6,7 +6,7 @@ use Rattle.std.specs.Option.{option_map}
 use Rattle.ckd_image.specs.declared.device.DiskType.TheVariants.{D2311, D2314}
 use Rattle.ckd_image.specs.declared.header.Geometry.{Geometry}
 use Rattle.ckd_image.specs.Reading.{is_front, records_of, records_to_end, records_up_to}
-use Rattle.ckd_image.specs.Track.{Record, end_marker}
+use Rattle.ckd_image.specs.Track.{BreaksAt, Record, end_marker}
 use Rattle.hall_core.specs.Facts.{Attached, Facts}
 use Rattle.hall_core.specs.Files.{patched}
 use Rattle.pack_spec.specs.Label.{records_on, track_bytes}
@@ -156,6 +156,13 @@ nothing_read upto = refl
 nothing_stands : (¬ StandsOn [] (record { geometry = small; unit = 0; track = 0; records = [] })) × IsBroken [] small None 0 Device × (¬ IsBroken [] small None 0 (BadCount 1))
 unfolding track_bytes
 nothing_stands = (λ stands. let some = sym (nothing_read stands.0) ∙ stands.1 in cc, tt, λ broken. omega (arith, broken.1.inside))
+
+-- track 25 is head 5 of cylinder 2, which the grammar asks for, up to the record that was; and a buffer of any unit is one of its track
+broken_on_its_track : (image : List ℕ) → IsBroken image small (Some 3) 25 (BadCount 7) → (records_on image small (Some 3) 25 ≡ None) × BreaksAt 2 5 (Some 3) (track_bytes image small 25) 7
+broken_on_its_track image broken = broken
+
+stands_on_its_track : (image : List ℕ) → StandsOn image (record { geometry = small; unit = 7; track = 25; records = [] }) → (upto : Option ℕ) × (records_on image small upto 25 ≡ Some [])
+stands_on_its_track image stands = stands
 
 -- a write of a record keeps the image's length and its header
 not_updated : (image : List ℕ) → (¬ IsUpdated buffer 0 (65 ∷ 66 ∷ []) (97 ∷ 98 ∷ 99 ∷ []) image (0 ∷ image)) × (¬ IsUpdated buffer 0 (65 ∷ 66 ∷ []) (97 ∷ 98 ∷ 99 ∷ []) (0 ∷ image) (1 ∷ image))

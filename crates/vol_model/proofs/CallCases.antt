@@ -255,6 +255,20 @@ module _ (op : Op) (s t u : Shelf) (r : Refusal) where
   want_leaves_the_same : Applies op before (record (held s (64 ∷ []) 1 (just s (64 ∷ []))) { left = λ shelf. Unit {0} }) (fails Memory) → u ≡ s
   want_leaves_the_same applies = ((applies.idle (inr refl)).left u).0 tt
 
+  -- and a stop since leaves no shelf behind the step, which it may leave where the operation is done or a fault came
+  want_leaves_no_step : step s op ≡ Ok t → Applies op before (held s (64 ∷ []) 1 (either (just s (64 ∷ [])) (just t (64 ∷ [])))) (fails Memory) → t ≡ s
+  want_leaves_no_step is applies = ⊎_elim (λ was. was.0) (λ stays. stays.0) (((applies.idle (inr refl)).time.since 0 t (64 ∷ []) (lit≤ tt)).0 (inr (refl, refl)))
+
+  -- a stop since may leave all that a stop left before: where the step is refused, and where memory ran out
+  abbrev before_any : Meaning Shelf
+  before_any = record before { left = λ shelf. Unit {0} }
+
+  refused_leaves_what_was_left : step s op ≡ Err r → {answer : Answer} → Applies op before_any (record (held s (64 ∷ []) 1 (just s (64 ∷ []))) { left = λ shelf. Unit {0} }) answer → u ≡ s
+  refused_leaves_what_was_left is applies = (((applies.idle (inl (r, is))).time.since 0 u (64 ∷ []) (lit≤ tt)).1 (inr (tt, refl))).0
+
+  want_leaves_what_was_left : Applies op before_any (record (held s (64 ∷ []) 1 (just s (64 ∷ []))) { left = λ shelf. Unit {0} }) (fails Memory) → u ≡ s
+  want_leaves_what_was_left applies = (((applies.idle (inr refl)).time.since 0 u (64 ∷ []) (lit≤ tt)).1 (inr (tt, refl))).0
+
   -- what is done is the step, and what is refused is its refusal
   other_shelf_is_done : step s op ≡ Ok t → {P : Shelf → List ℕ → Type 0} → Applies op before (held u (64 ∷ []) 1 P) done → t ≡ u
   other_shelf_is_done is applies = let same = sym is ∙ applies.answer in cc
@@ -311,6 +325,18 @@ module _ (op : Op) (s t u : Shelf) (r : Refusal) where
   -- with want of memory nothing is printed
   want_prints_nothing : {P : Shelf → List ℕ → Type 0} → ¬ Prints true (65 ∷ []) before (held s (64 ∷ 65 ∷ []) 1 P) (fails Memory)
   want_prints_nothing prints = let never = (prints.memory refl).printed in cc
+
+  -- nor on a machine that doesn't tell its text
+  untold_want_prints_nothing : {P : Shelf → List ℕ → Type 0} → ¬ Prints false (65 ∷ []) before (held s (64 ∷ 65 ∷ []) 1 P) (fails Memory)
+  untold_want_prints_nothing prints = let never = (prints.memory refl).printed in cc
+
+  -- that the text stays isn't all: a stop then leaves no other shelf than before
+  want_in_a_print_leaves_the_same : Prints true (65 ∷ []) before (record (held s (64 ∷ []) 1 (just s (64 ∷ []))) { left = λ shelf. Unit {0} }) (fails Memory) → u ≡ s
+  want_in_a_print_leaves_the_same prints = ((prints.memory refl).left u).0 tt
+
+  -- nor does a stop since leave a byte of the line, which it may leave where the print fails otherwise
+  want_leaves_no_text : ¬ Prints true (65 ∷ []) before (held s (64 ∷ []) 1 (either (just s (64 ∷ [])) (just s (64 ∷ 65 ∷ [])))) (fails Memory)
+  want_leaves_no_text prints = ⊎_elim (λ was. let never = was.1 in cc) (λ stays. let never = stays.1 in cc) (((prints.memory refl).time.since 0 s (64 ∷ 65 ∷ []) (lit≤ tt)).0 (inr (refl, refl)))
 
   -- a print keeps the shelf, also at a stop
   print_keeps_the_shelf : {answer : Answer} → Prints true (65 ∷ []) before (held t (64 ∷ []) 1 (either (just s (64 ∷ [])) (just u (64 ∷ [])))) answer → (t ≡ s) × (u ≡ s)

@@ -1,6 +1,7 @@
 //! The machine on which every utility works: a shelf of volumes, changed by one operation at a time, and a place to
 //! print on.
 ghost use Rattle.std.specs.Prelude.{◌≡◌, ◌≤◌, ℕ, List, [], ◌∷◌, Bool, IsTrue, IsErrOf};
+ghost use Rattle.hall_core.specs.Facts.{Calls, CallsAtMost};
 ghost use Rattle.hall_core.specs.Files.{File};
 ghost use Rattle.hall_core.specs.Moments.{Meaning, LeftNow, IsDurable};
 ghost use Rattle.vol_model.specs.declared.contents.Shelf.{Shelf};
@@ -15,8 +16,8 @@ use crate::requests::Op;
 /// A shelf of volumes, and a place to print on.
 ///
 /// An operation is done as a whole or not at all, whatever stops it, and once it is answered no stop undoes it. A
-/// refusal, or want of memory, leaves all but the time as it was. After a fault of a device or of the printer the machine isn't
-/// sound any more, and takes no further call but `is_sound`.
+/// refusal, or want of memory, leaves all but the time as it was. After a fault of a device or of the printer the
+/// machine isn't sound any more, and takes no further call but `is_sound`.
 ///
 /// Clauses on the shelf hold where `tells` is true, and those on what a print adds where `tells_prints` is too. What
 /// `status` tells is always known. Two laws, `counts_now` and `only_now`, ask for no `tells`: a machine that tells
@@ -34,6 +35,9 @@ pub trait Machine {
     /// Whether it is sound, what it stands on, and its counts of faults.
     ghost status: { Self → Status };
 
+    /// The calls of the hall on which it stands, if that counts them.
+    ghost calls: { Self → Calls };
+
     /// What it promises besides of every stop since a moment, by the operations that were begun since, and the files on
     /// which it stood then.
     ghost promise: { Self → List requests.Op → ℕ → List File → Type 0 };
@@ -44,24 +48,31 @@ pub trait Machine {
 
     /// Does an operation.
     ///
-    /// `Refused` carries the first reason, by the order of `Refusal`. A rename is judged by the names in the VTOC alone, so
-    /// no fault, nor want of memory, comes in place of its refusal.
+    /// `Refused` carries the first reason, by the order of `Refusal`. A rename is judged by the names in the VTOC
+    /// alone, so no fault, nor want of memory, comes in place of its refusal. It makes at most one read, one write and
+    /// one sync of the hall below; none where it is refused; and no write nor sync where memory is wanting.
     fn apply(&mut self, op: &Op) -> Result<(), MachErr>
         requires sound { IsTrue (status self.old).is_sound }
         ensures shelf { IsTrue tells → Applies op.now (meaning self.old) (meaning self.new) result }
         ensures promise { IsTrue tells → Keeps (meaning self.old).clock (op.now ∷ []) (promise self.old) (promise self.new) }
         ensures idle { IsTrue tells → IsIdle (step (meaning self.old).state op.now) result → Keeps (meaning self.old).clock [] (promise self.old) (promise self.new) }
         ensures call { MachineCall (status self.old) (status self.new) result }
+        ensures calls { CallsAtMost 1 1 1 0 (calls self.old) (calls self.new) }
+        ensures memory { IsErrOf result MachErr.Memory → CallsAtMost 1 0 0 0 (calls self.old) (calls self.new) }
+        ensures refused { (r : Refusal) → IsErrOf result (MachErr.Refused r) → CallsAtMost 0 0 0 0 (calls self.old) (calls self.new) }
         ensures print { IsErrOf result MachErr.Print → ⊥ };
 
     /// Prints the bytes.
     ///
-    /// It isn't refused, and no device fails in it. After `Print` a prefix of the bytes is printed.
+    /// It isn't refused, and no device fails in it. After `Print` a prefix of the bytes is printed. It makes at most
+    /// one print of the hall below, and none where memory is wanting.
     fn print(&mut self, bytes: &[u8]) -> Result<(), MachErr>
         requires sound { IsTrue (status self.old).is_sound }
         ensures shelf { IsTrue tells → Prints tells_prints bytes.now (meaning self.old) (meaning self.new) result }
         ensures promise { IsTrue tells → Keeps (meaning self.old).clock [] (promise self.old) (promise self.new) }
         ensures call { MachineCall (status self.old) (status self.new) result }
+        ensures calls { CallsAtMost 0 0 0 1 (calls self.old) (calls self.new) }
+        ensures memory { IsErrOf result MachErr.Memory → CallsAtMost 0 0 0 0 (calls self.old) (calls self.new) }
         ensures device { IsErrOf result MachErr.Device → ⊥ }
         ensures refused { (r : Refusal) → IsErrOf result (MachErr.Refused r) → ⊥ };
 

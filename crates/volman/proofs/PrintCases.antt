@@ -1,9 +1,9 @@
 -- What a print leaves, on cases that a near reading of Run.antt answers otherwise. Each comment names a wrong definition that the case tells from the right one.
-use Rattle.std.proofs.Common.{◌≡◌, ◌≤◌, ℕ, List, [], ◌++◌, length, codes, get_or, inl, inr, ⊎_elim, refl, ap, ◌∙◌, arith, length-append}
+use Rattle.std.proofs.Common.{◌≡◌, ◌≢◌, ◌≤◌, ℕ, List, [], ◌++◌, length, codes, get_or, inl, inr, ⊎_elim, refl, ap, ◌∙◌, arith, length-append}
 use Rattle.std.specs.Prelude.{◌⊎◌}
 use Rattle.hall_core.specs.Files.{File}
 use Rattle.hall_core.specs.Moments.{Meaning}
-use Rattle.volman.specs.Run.{AddsPrefix, Does, IsEnd, IsFinal, IsSafe, IsUnprinted, KeepsFiles, PrintsText}
+use Rattle.volman.specs.Run.{AddsPrefix, Does, IsEnd, IsFaulted, IsFinal, IsNoneOrAll, IsSafe, IsUnprinted, KeepsFiles, PrintsText}
 use Rattle.volman.specs.Task.{Says}
 use Rattle.volman.proofs.MomentCases.{apart, at_rest, files, others}
 
@@ -167,6 +167,35 @@ said_in_part = record { ends = λ final. absurd (no_end 24 (omega arith) (omega 
 -- none of it was printed where the device failed
 said_with_22 : (¬ Does (Says 21 (codes "AB")) before (printing (codes "AB") (codes "AB")) 22) × (¬ Does (Says 21 (codes "AB")) before (printing (codes "AB") (codes "A")) 22)
 said_with_22 = (λ does. absurd (omega (arith, ap length (does.fault refl))), λ does. absurd (omega (arith, ap length (does.fault refl))))
+
+-- what was printed before stays then, and is neither put away nor printed over
+faulted_behind : IsFaulted (Says 21 (codes "AB")) (at_rest files (codes "Z") 0) (at_rest files (codes "Z") 1)
+faulted_behind = refl
+
+faulted_and_put_away : ¬ IsFaulted (Says 21 (codes "AB")) (at_rest files (codes "Z") 0) (at_rest files [] 1)
+faulted_and_put_away stays = absurd (omega (arith, ap length stays))
+
+-- none of a text or all of it, behind what was printed before: not in its place, nor in front of it, nor the end alone, nor twice
+none_or_all : IsNoneOrAll (codes "AB") (at_rest files (codes "Z") 0) (at_rest files (codes "Z") 1) × IsNoneOrAll (codes "AB") (at_rest files (codes "Z") 0) (at_rest files (codes "ZAB") 1)
+none_or_all = (inl refl, inr refl)
+
+none_nor_all : (text : List ℕ) → text ≢ codes "Z" → text ≢ codes "ZAB" → ¬ IsNoneOrAll (codes "AB") (at_rest files (codes "Z") 0) (at_rest files text 1)
+none_nor_all text some part printed = ⊎_elim some part printed
+
+put_away : ¬ IsNoneOrAll (codes "AB") (at_rest files (codes "Z") 0) (at_rest files [] 1)
+put_away = none_nor_all [] (λ is. absurd (omega (arith, ap length is))) (λ is. absurd (omega (arith, ap length is)))
+
+printed_over : ¬ IsNoneOrAll (codes "AB") (at_rest files (codes "Z") 0) (at_rest files (codes "AB") 1)
+printed_over = none_nor_all (codes "AB") (λ is. absurd (omega (arith, ap length is))) (λ is. absurd (omega (arith, ap length is)))
+
+printed_in_front : ¬ IsNoneOrAll (codes "AB") (at_rest files (codes "Z") 0) (at_rest files (codes "ABZ") 1)
+printed_in_front = none_nor_all (codes "ABZ") (λ is. absurd (omega (arith, ap length is))) (λ is. let first : 65 ≡ 90 = ap (λ (l : List ℕ). get_or l 0 0) is in absurd (omega (arith, first)))
+
+end_printed : ¬ IsNoneOrAll (codes "AB") (at_rest files (codes "Z") 0) (at_rest files (codes "ZB") 1)
+end_printed = none_nor_all (codes "ZB") (λ is. absurd (omega (arith, ap length is))) (λ is. absurd (omega (arith, ap length is)))
+
+printed_twice : ¬ IsNoneOrAll (codes "AB") (at_rest files (codes "Z") 0) (at_rest files (codes "ZABAB") 1)
+printed_twice = none_nor_all (codes "ZABAB") (λ is. absurd (omega (arith, ap length is))) (λ is. absurd (omega (arith, ap length is)))
 
 -- or not at all, for want of memory
 said_nothing : Does (Says 21 (codes "AB")) before (printing (codes "AB") []) 25

@@ -11,7 +11,7 @@ use Rattle.vol_model.specs.Shelf.{step}
 use Rattle.vol_model.specs.declared.contents.Volume.{Volume}
 use Rattle.vol_model.specs.declared.requests.Op.{Op}
 use Rattle.volman.specs.Machine.{shelf_with}
-use Rattle.volman.specs.Run.{Does, HasWorked, HasWorkedUnprinted, IsEnd, IsUnprinted, WorksOn}
+use Rattle.volman.specs.Run.{Does, HasWorked, HasWorkedUnprinted, IsEnd, IsFaulted, IsUnprinted, WorksOn}
 use Rattle.volman.specs.Task.{Works}
 use Rattle.volman.proofs.MomentCases.{at_rest}
 use Rattle.volman.proofs.PrintCases.{no_end}
@@ -148,6 +148,16 @@ module _ (volume after : Volume) (op : Op) (image image' : List ℕ) (stands : v
 
   works_part_with_22 : ¬ WorksOn file volume (item op ∷ []) before (at_rest (pack image') (codes "A") 1) 22
   works_part_with_22 works = ⊎_elim (λ none. absurd (omega (arith, ap length none))) (λ all. absurd (omega (arith, ap length all))) (works.fault refl)
+
+  -- behind what was printed before, which stays: the line alone isn't all of it, nor nothing none
+  faulted_behind : IsFaulted (Works file volume (item op ∷ [])) (at_rest (pack image) (codes "Z") 0) (at_rest (pack image') (codes "Z") 1) × IsFaulted (Works file volume (item op ∷ [])) (at_rest (pack image) (codes "Z") 0) (at_rest (pack image') (codes "ZA\n") 1)
+  faulted_behind = (inl refl, inr refl)
+
+  faulted_in_its_place : ¬ IsFaulted (Works file volume (item op ∷ [])) (at_rest (pack image) (codes "Z") 0) (at_rest (pack image') line 1)
+  faulted_in_its_place printed = ⊎_elim (λ none. absurd (omega (arith, ap length none))) (λ all. absurd (omega (arith, ap length all))) printed
+
+  faulted_and_put_away : ¬ IsFaulted (Works file volume (item op ∷ [])) (at_rest (pack image) (codes "Z") 0) (at_rest (pack image') [] 1)
+  faulted_and_put_away printed = ⊎_elim (λ none. absurd (omega (arith, ap length none))) (λ all. absurd (omega (arith, ap length all))) printed
 
   -- but one of the printer comes when the operation is done: what a stop leaves would allow it before that
   failed_in_print : Does (Works file volume (item op ∷ [])) before done 24

@@ -150,10 +150,10 @@ impl<'a, R: Files<File = File> + Print> FileHall<'a, R> {
 }
 
 impl<R: Files<File = File> + Print> Hall for FileHall<'_, R> {
-    ghost use Rattle.std.specs.Prelude.{◌++◌, ◌∷◌, map, set, IsFalse};
+    ghost use Rattle.std.specs.Prelude.{◌++◌, ◌∷◌, map, set, take, IsFalse};
     ghost use Rattle.std.specs.List.{All};
     ghost use Rattle.std.proofs.lemmas.Bool.{false≢true};
-    ghost use Rattle.hall_core.specs.Facts.{unit_of, IsAttached, DeviceCall, PrintCall, AttachCall, NotedCall, Rose, uncounted, CallsAtMost};
+    ghost use Rattle.hall_core.specs.Facts.{unit_of, IsAttached, DeviceCall, PrintCall, AttachCall, NotedCall, Rose, uncounted, AttachesOnce, CallsAtMost};
     ghost use Rattle.hall_core.specs.Files.{untold, HasBytesAt, Attaches, AfterWrite, AfterSync, AfterPrint};
     ghost use Rattle.hall_core.specs.Moments.{Same};
     ghost use Rattle.volman.specs.FileHall.{facts_of, notes_of};
@@ -176,14 +176,15 @@ impl<R: Files<File = File> + Print> Hall for FileHall<'_, R> {
 
     ghost none_pending = { λ _ told. absurd (false≢true told) };
 
-    // Of the trait's clauses, those on content say nothing here. To these is added what becomes of the
-    // units' notes.
+    // Of the trait's clauses, those on content say nothing here. To these is added that the units before stay,
+    // with their files, and what becomes of the units' notes.
     fn attach(&mut self, name: &str) -> Result<u8, HallErr>
         requires few { length (facts_of self.old).units < 255 }
         requires once { ¬ IsAttached (facts_of self.old).units name.now }
         ensures told { IsTrue false → Attaches name.now untold untold result }
         ensures call { AttachCall name.now (facts_of self.old) (facts_of self.new) result }
-        ensures calls { CallsAtMost 0 0 0 0 uncounted uncounted }
+        ensures calls { AttachesOnce 0 0 0 0 uncounted uncounted }
+        ensures before { take (length self.old.units.items) self.new.units.items ≡ self.old.units.items }
         ensures notes { IfOk result (λ _. notes_of self.new ≡ notes_of self.old ++ false ∷ []) }
         ensures kept { OnErr result (notes_of self.new ≡ notes_of self.old) }
     {

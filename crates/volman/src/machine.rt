@@ -80,6 +80,8 @@ impl<H: Hall> PackMachine<H> {
         ensures idle { IsTrue H.tells → IsIdle (step (shelf_named (unit_of (H.facts self.old.hall).units self.old.vol.unit).name (H.meaning self.old.hall).state) (Op.Rename v old.now new.now)) result → Keeps (H.meaning self.old.hall).clock [] (ChangesOnlyNames (unit_of (H.facts self.old.hall).units self.old.vol.unit).name self.old.vol.geometry self.old.vol.vtoc (H.meaning self.old.hall)) (ChangesOnlyNames (unit_of (H.facts self.new.hall).units self.new.vol.unit).name self.new.vol.geometry self.new.vol.vtoc (H.meaning self.new.hall)) }
         ensures call { MachineCall (status_of self.old.is_sound (H.facts self.old.hall) self.old.vol) (status_of self.new.is_sound (H.facts self.new.hall) self.new.vol) result }
         ensures calls { CallsAtMost 1 1 1 0 (H.calls self.old.hall) (H.calls self.new.hall) }
+        ensures refused { (r : Refusal) → IsErrOf result (MachErr.Refused r) → CallsAtMost 0 0 0 0 (H.calls self.old.hall) (H.calls self.new.hall) }
+        ensures memory { IsErrOf result MachErr.Memory → ⊥ }
         ensures print { IsErrOf result MachErr.Print → ⊥ }
     {
         if v != 0 {
@@ -105,6 +107,8 @@ impl<H: Hall> Machine for PackMachine<H> {
     ghost meaning = { λ m. seen (shelf_named (unit_of (H.facts m.hall).units m.vol.unit).name) (H.meaning m.hall) };
 
     ghost status = { λ m. status_of m.is_sound (H.facts m.hall) m.vol };
+
+    ghost calls = { λ m. H.calls m.hall };
 
     ghost promise = { λ m ops t files. ChangesOnlyNames (unit_of (H.facts m.hall).units m.vol.unit).name m.vol.geometry m.vol.vtoc (H.meaning m.hall) ops t files };
 

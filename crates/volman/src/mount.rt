@@ -1,7 +1,9 @@
 //! A file, attached and read as a pack.
-ghost use Rattle.std.specs.Prelude.{◌≡◌, ◌≤◌, ℕ, [], IsTrue, IsErrOf, IfOk, IfErr};
-ghost use Rattle.hall_core.specs.Facts.{CallsAtMost, Rose, unit_of};
+ghost use Rattle.std.specs.Prelude.{◌≡◌, ◌≤◌, ◌+◌, [], IsTrue, IsErrOf, IfOk, IfErr};
+ghost use Rattle.hall_core.specs.Facts.{AttachesOnce, Rose, unit_of};
 ghost use Rattle.hall_core.specs.Moments.{Same};
+ghost use Rattle.dadsm_ops.specs.Operations.{image_named};
+ghost use Rattle.vtoc_index.specs.Calls.{reads_to_mount};
 ghost use Rattle.vtoc_index.specs.Index.{IsOfUnit};
 ghost use Rattle.volman.specs.Mount.{IsPackIn, RefusesFile};
 ghost use Rattle.volman.specs.Run.{AttachesAtMost};
@@ -23,9 +25,12 @@ pub fn mount<H: Hall>(alloc: Global, hall: &mut H, file: &str) -> Result<Vol, Mo
     ensures unit { IfOk result (λ vol. IsOfUnit (H.facts hall.new).units vol × ((unit_of (H.facts hall.new).units vol.unit).name ≡ file.now)) }
     ensures told { IsTrue H.tells → Same (H.meaning hall.old) (H.meaning hall.new) }
     ensures units { AttachesAtMost file.now (H.facts hall.old) (H.facts hall.new) }
+    ensures missing { IsErrOf result MountErr.NoFile → ((H.facts hall.new).units ≡ (H.facts hall.old).units) × AttachesOnce 0 0 0 0 (H.calls hall.old) (H.calls hall.new) }
     ensures references { (H.facts hall.new).references ≡ (H.facts hall.old).references }
     ensures prints { (H.facts hall.new).print_faults ≡ (H.facts hall.old).print_faults }
-    ensures calls { (reads : ℕ) × CallsAtMost reads 0 0 0 (H.calls hall.old) (H.calls hall.new) }
+    ensures calls { AttachesOnce 259 0 0 0 (H.calls hall.old) (H.calls hall.new) }
+    ensures reads { IsTrue H.tells → AttachesOnce (reads_to_mount (image_named (H.meaning hall.old).state file.now)) 0 0 0 (H.calls hall.old) (H.calls hall.new) }
+    ensures once { IfOk result (λ vol. AttachesOnce (vol.vtoc.len + 2) 0 0 0 (H.calls hall.old) (H.calls hall.new)) }
     ensures later { (H.facts hall.old).dev_faults ≤ (H.facts hall.new).dev_faults }
     ensures device { IsErrOf result MountErr.Device → Rose (H.facts hall.old).dev_faults (H.facts hall.new).dev_faults }
     ensures others { ¬ IsErrOf result MountErr.Device → (H.facts hall.new).dev_faults ≡ (H.facts hall.old).dev_faults }

@@ -1,5 +1,5 @@
 //! Why a pack isn't mounted, in words.
-ghost use Rattle.std.specs.Prelude.{◌≡◌, ◌++◌, ◌∷◌, [], length, take, OnErr, OnOk};
+ghost use Rattle.std.specs.Prelude.{◌≡◌, ◌++◌, ◌∷◌, [], ℕ, take, OnErr, OnOk};
 ghost use Rattle.volman.specs.Lines.{image_reason, number_text, reason_of, with_numbers};
 
 use ckd_image::ImageErr;
@@ -13,7 +13,7 @@ use vtoc_index::MountErr;
 #[tactic(auto, unfolding(crate::specs::Lines::reason_of))]
 pub fn push_reason(text: &mut Vec<u8>, why: MountErr) -> Result<(), AllocError>
     ensures added { OnOk result (text.new.items ≡ text.old.items ++ reason_of why) }
-    ensures kept { OnErr result (take (length text.old.items) text.new.items ≡ text.old.items) }
+    ensures kept { OnErr result ((count : ℕ) × (text.new.items ≡ text.old.items ++ take count (reason_of why))) }
 {
     match why {
         MountErr::NoFile => push_words(text, "NO-FILE", &[]),
@@ -38,7 +38,7 @@ pub fn push_reason(text: &mut Vec<u8>, why: MountErr) -> Result<(), AllocError>
 #[tactic(auto, unfolding(crate::specs::Lines::image_reason))]
 fn push_image_reason(text: &mut Vec<u8>, why: ImageErr) -> Result<(), AllocError>
     ensures added { OnOk result (text.new.items ≡ text.old.items ++ image_reason why) }
-    ensures kept { OnErr result (take (length text.old.items) text.new.items ≡ text.old.items) }
+    ensures kept { OnErr result ((count : ℕ) × (text.new.items ≡ text.old.items ++ take count (image_reason why))) }
 {
     match why {
         ImageErr::Compressed => push_words(text, "COMPRESSED", &[]),
@@ -54,7 +54,7 @@ fn push_image_reason(text: &mut Vec<u8>, why: ImageErr) -> Result<(), AllocError
 // Adds a word, and the number of a slot behind it.
 fn push_slot(text: &mut Vec<u8>, word: &str, slot: u32) -> Result<(), AllocError>
     ensures added { OnOk result (text.new.items ≡ text.old.items ++ with_numbers word.now (slot ∷ [])) }
-    ensures kept { OnErr result (take (length text.old.items) text.new.items ≡ text.old.items) }
+    ensures kept { OnErr result ((count : ℕ) × (text.new.items ≡ text.old.items ++ take count (with_numbers word.now (slot ∷ [])))) }
 {
     push_words(text, word, &[u64::from(slot)])
 }
@@ -62,7 +62,7 @@ fn push_slot(text: &mut Vec<u8>, word: &str, slot: u32) -> Result<(), AllocError
 // Adds a word, the number of a slot, and its format byte.
 fn push_dscb(text: &mut Vec<u8>, word: &str, slot: u32, byte: u8) -> Result<(), AllocError>
     ensures added { OnOk result (text.new.items ≡ text.old.items ++ with_numbers word.now (slot ∷ byte ∷ [])) }
-    ensures kept { OnErr result (take (length text.old.items) text.new.items ≡ text.old.items) }
+    ensures kept { OnErr result ((count : ℕ) × (text.new.items ≡ text.old.items ++ take count (with_numbers word.now (slot ∷ byte ∷ [])))) }
 {
     push_words(text, word, &[u64::from(slot), u64::from(byte)])
 }
@@ -70,7 +70,7 @@ fn push_dscb(text: &mut Vec<u8>, word: &str, slot: u32, byte: u8) -> Result<(), 
 // Adds a word, and the numbers of two slots.
 fn push_slots(text: &mut Vec<u8>, word: &str, slot: u32, other: u32) -> Result<(), AllocError>
     ensures added { OnOk result (text.new.items ≡ text.old.items ++ with_numbers word.now (slot ∷ other ∷ [])) }
-    ensures kept { OnErr result (take (length text.old.items) text.new.items ≡ text.old.items) }
+    ensures kept { OnErr result ((count : ℕ) × (text.new.items ≡ text.old.items ++ take count (with_numbers word.now (slot ∷ other ∷ [])))) }
 {
     push_words(text, word, &[u64::from(slot), u64::from(other)])
 }
@@ -78,7 +78,7 @@ fn push_slots(text: &mut Vec<u8>, word: &str, slot: u32, other: u32) -> Result<(
 // Adds a word, and numbers behind it.
 fn push_words(text: &mut Vec<u8>, word: &str, numbers: &[u64]) -> Result<(), AllocError>
     ensures added { OnOk result (text.new.items ≡ text.old.items ++ with_numbers word.now numbers.now) }
-    ensures kept { OnErr result (take (length text.old.items) text.new.items ≡ text.old.items) }
+    ensures kept { OnErr result ((count : ℕ) × (text.new.items ≡ text.old.items ++ take count (with_numbers word.now numbers.now))) }
 {
     text.extend_from_slice(word.as_bytes())?;
     for number in numbers {
@@ -90,7 +90,7 @@ fn push_words(text: &mut Vec<u8>, word: &str, numbers: &[u64]) -> Result<(), All
 // Adds a number in decimal, behind a blank.
 fn push_number(text: &mut Vec<u8>, number: u64) -> Result<(), AllocError>
     ensures added { OnOk result (text.new.items ≡ text.old.items ++ number_text number) }
-    ensures kept { OnErr result (take (length text.old.items) text.new.items ≡ text.old.items) }
+    ensures kept { OnErr result ((count : ℕ) × (text.new.items ≡ text.old.items ++ take count (number_text number))) }
 {
     text.push(b' ')?;
     text.extend_from_slice(Buffer::new().format(number).as_bytes())

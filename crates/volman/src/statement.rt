@@ -1,5 +1,6 @@
 //! A RENAME statement on any machine.
-ghost use Rattle.std.specs.Prelude.{◌≡◌, ◌≤◌, [], ◌∷◌, map, IsErrOf, IsTrue, IfOk};
+ghost use Rattle.std.specs.Prelude.{◌≡◌, ◌≤◌, ◌⊎◌, [], ◌∷◌, map, IsErrOf, IsTrue, IfOk, OnErr};
+ghost use Rattle.hall_core.specs.Facts.{CallsAtMost};
 ghost use Rattle.vol_model.specs.Calls.{Keeps};
 ghost use Rattle.vol_model.specs.Events.{Do, Say, events_in, shelf_behind};
 ghost use Rattle.vol_model.specs.Runs.{Runs, RunCall};
@@ -35,6 +36,9 @@ pub fn run_rename<M: Machine>(
     ensures print { IsTrue M.tells → IsErrOf result Stop.Print → (M.meaning machine.new).state ≡ shelf_behind (M.meaning machine.old).state (events_in (item_of (M.meaning machine.old).state statement.now)) }
     ensures line { IsTrue M.tells → IsErrOf result Stop.Print → (before : M) × OnlyPrints (M.status machine.old) (M.status before) (M.meaning before) (M.meaning machine.new) (M.promise before) (M.promise machine.new) }
     ensures promise { IsTrue M.tells → Keeps (M.meaning machine.old).clock (item_of (M.meaning machine.old).state statement.now).operations (M.promise machine.old) (M.promise machine.new) }
+    ensures calls { CallsAtMost 1 1 1 1 (M.calls machine.old) (M.calls machine.new) }
+    ensures refused { IfOk result (λ code. code ≡ 8 → CallsAtMost 0 0 0 1 (M.calls machine.old) (M.calls machine.new)) }
+    ensures unprinted { (IsErrOf result Stop.Device) ⊎ (IsErrOf result Stop.Memory) → CallsAtMost 1 1 1 0 (M.calls machine.old) (M.calls machine.new) }
     ensures call { RunCall (M.status machine.old) (M.status machine.new) result }
 {
     let outcome = rename(machine, volume, statement)?;
@@ -57,6 +61,8 @@ fn rename<M: Machine>(
     ensures code { IsTrue M.tells → IfOk result (λ outcome. (item_on (M.meaning machine.old).state statement.now volume).code ≡ code_for outcome) }
     ensures printed { IsTrue M.tells → (M.meaning machine.new).printed ≡ (M.meaning machine.old).printed }
     ensures promise { IsTrue M.tells → Keeps (M.meaning machine.old).clock (item_on (M.meaning machine.old).state statement.now volume).operations (M.promise machine.old) (M.promise machine.new) }
+    ensures calls { CallsAtMost 1 1 1 0 (M.calls machine.old) (M.calls machine.new) }
+    ensures refused { IfOk result (λ outcome. OnErr outcome (CallsAtMost 0 0 0 0 (M.calls machine.old) (M.calls machine.new))) }
     ensures print { IsErrOf result Stop.Print → ⊥ }
     ensures call { RunCall (M.status machine.old) (M.status machine.new) result }
 {
@@ -83,6 +89,8 @@ fn say<M: Machine>(machine: &mut M, line: &[u8]) -> Result<(), Stop>
     ensures runs { IsTrue M.tells → Runs M.tells_prints (Say line.now ∷ []) (M.meaning machine.old) (M.meaning machine.new) result }
     ensures shelf { IsTrue M.tells → (M.meaning machine.new).state ≡ (M.meaning machine.old).state }
     ensures silent { IsTrue M.tells → IsErrOf result Stop.Memory → (M.meaning machine.new).printed ≡ (M.meaning machine.old).printed }
+    ensures calls { CallsAtMost 0 0 0 1 (M.calls machine.old) (M.calls machine.new) }
+    ensures memory { IsErrOf result Stop.Memory → CallsAtMost 0 0 0 0 (M.calls machine.old) (M.calls machine.new) }
     ensures device { IsErrOf result Stop.Device → ⊥ }
     ensures promise { IsTrue M.tells → Keeps (M.meaning machine.old).clock [] (M.promise machine.old) (M.promise machine.new) }
     ensures call { RunCall (M.status machine.old) (M.status machine.new) result }

@@ -1,14 +1,16 @@
 //! The top call: all that the program does.
-ghost use Rattle.std.specs.Prelude.{◌≡◌, ◌≢◌, ◌≤◌, ◌⊎◌, [], List, ℕ, drop, map, string_bytes, IsTrue, IfOk, Some, None};
-ghost use Rattle.hall_core.specs.Facts.{CallsAtMost, Rose};
+ghost use Rattle.std.specs.Prelude.{◌≡◌, ◌≢◌, ◌≤◌, ◌+◌, ◌⊎◌, [], List, ℕ, drop, map, string_bytes, IsTrue, IfOk, Some, None};
+ghost use Rattle.hall_core.specs.Facts.{AttachesOnce, CallsAtMost, Rose};
 ghost use Rattle.hall_core.specs.Files.{file_of};
+ghost use Rattle.dadsm_ops.specs.Operations.{image_named};
+ghost use Rattle.vtoc_index.specs.Calls.{reads_to_mount};
 ghost use Rattle.volman.specs.Deck.{TakesAtMost, deck_of};
 ghost use Rattle.volman.specs.Lines.{names_listing, unit_line};
 ghost use Rattle.volman.specs.Names.{IsListing, names_in};
 ghost use Rattle.hall_core.specs.Moments.{IsDurable};
 ghost use Rattle.volman.specs.Run.{AttachesAsked, CountsReported, Does, Headline, IsStatus, IsUnasked, IsUnbegun, Later, LeavesFiles, OnFile, PrintsText, code_of};
 ghost use Rattle.volman.specs.Task.{Says, names_task, statement_task, task_on};
-ghost use Rattle.volman.specs.Words.{Run, request_of};
+ghost use Rattle.volman.specs.Words.{Names, Run, request_of};
 
 use crate::deck::{DeckErr, read_deck};
 use crate::mount::mount;
@@ -63,6 +65,7 @@ pub fn volman<C: Cards, H: Hall>(alloc: Global, words: &[String], cards: &mut C,
     ensures deck { IsTrue C.tells → (file : List ℕ) → request_of (map string_bytes words.now) ≡ Some (Run file) → (statement : Rename) → deck_of (C.left cards.old) ≡ Some statement → result ≢ 23 → C.left cards.new ≡ [] }
     ensures rest { IsTrue C.tells → (file : List ℕ) → request_of (map string_bytes words.now) ≡ Some (Run file) → result ≢ 23 → C.left cards.new ≡ drop 83 (C.left cards.old) }
     ensures taken { IsTrue C.tells → TakesAtMost 83 (C.left cards.old) (C.left cards.new) }
+    ensures reads { C.reads cards.new ≤ C.reads cards.old + 83 }
     ensures cards { ((file : List ℕ) → request_of (map string_bytes words.now) ≢ Some (Run file)) → cards.new ≡ cards.old }
 
     // Causes of every status, over any hall and any cards: the words are refused only where they ask for
@@ -88,13 +91,31 @@ pub fn volman<C: Cards, H: Hall>(alloc: Global, words: &[String], cards: &mut C,
     ensures references { (H.facts hall.new).references ≡ (H.facts hall.old).references }
     ensures units { AttachesAsked (request_of (map string_bytes words.now)) (H.facts hall.old) (H.facts hall.new) }
 
-    // Where no statement is asked for, nothing is written nor synced, and there is one print at most, over any hall.
-    ensures calls { ((file : List ℕ) → request_of (map string_bytes words.now) ≢ Some (Run file)) → (reads : ℕ) × CallsAtMost reads 0 0 1 (H.calls hall.old) (H.calls hall.new) }
+    // Over any hall there is at most one attachment, and 259 reads to mount a pack, of its header, its label and a VTOC
+    // of at most 257 tracks; for a statement one read more, one write and two syncs; and one print. Nothing is written
+    // nor synced where no statement is asked for, nor where one isn't begun; and nothing is written for a statement
+    // that is refused. With a fault of the printer there is no sync behind the print, and where memory ran out no print.
+    ensures calls { AttachesOnce 260 1 2 1 (H.calls hall.old) (H.calls hall.new) }
+    ensures no_statement { ((file : List ℕ) → request_of (map string_bytes words.now) ≢ Some (Run file)) → AttachesOnce 259 0 0 1 (H.calls hall.old) (H.calls hall.new) }
+    ensures unlisted { ((file : List ℕ) → request_of (map string_bytes words.now) ≢ Some (Run file)) → (result ≡ 22) ⊎ (result ≡ 25) → AttachesOnce 259 0 0 0 (H.calls hall.old) (H.calls hall.new) }
+    ensures unbegun { IsUnbegun result → AttachesOnce 259 0 0 1 (H.calls hall.old) (H.calls hall.new) }
+    ensures unwritten { result ≡ 8 → AttachesOnce 259 0 1 1 (H.calls hall.old) (H.calls hall.new) }
+    ensures unsaid { result ≡ 24 → AttachesOnce 260 1 1 1 (H.calls hall.old) (H.calls hall.new) }
+    ensures unprinted { result ≡ 25 → AttachesOnce 260 1 1 0 (H.calls hall.old) (H.calls hall.new) }
+
+    // Over a hall that tells, there are no more reads than the image in the file takes to be mounted or refused, and
+    // one more for a statement that isn't refused.
+    ensures reads_names { IsTrue H.tells → (file : List ℕ) → request_of (map string_bytes words.now) ≡ Some (Names file) → AttachesOnce (reads_to_mount (image_named (H.meaning hall.old).state file)) 0 0 1 (H.calls hall.old) (H.calls hall.new) }
+    ensures reads_refused { IsTrue H.tells → (file : List ℕ) → request_of (map string_bytes words.now) ≡ Some (Run file) → result ≡ 8 → AttachesOnce (reads_to_mount (image_named (H.meaning hall.old).state file)) 0 1 1 (H.calls hall.old) (H.calls hall.new) }
+    ensures reads_run { IsTrue H.tells → (file : List ℕ) → request_of (map string_bytes words.now) ≡ Some (Run file) → AttachesOnce (reads_to_mount (image_named (H.meaning hall.old).state file) + 1) 1 2 1 (H.calls hall.old) (H.calls hall.new) }
 
     // The words come first, then the deck, then the file: none is attached where the words or the deck
-    // are refused, or the cards couldn't be read.
+    // are refused, or the cards couldn't be read, and nothing but a print is done then.
     ensures unasked { IsUnasked result → (H.facts hall.new).units ≡ (H.facts hall.old).units }
+    ensures unattached { IsUnasked result → CallsAtMost 0 0 0 1 (H.calls hall.old) (H.calls hall.new) }
+    ensures refused_words { request_of (map string_bytes words.now) ≡ None → CallsAtMost 0 0 0 1 (H.calls hall.old) (H.calls hall.new) }
     ensures refused_deck { IsTrue C.tells → (file : List ℕ) → request_of (map string_bytes words.now) ≡ Some (Run file) → deck_of (C.left cards.old) ≡ None → (H.facts hall.new).units ≡ (H.facts hall.old).units }
+    ensures undecked { IsTrue C.tells → (file : List ℕ) → request_of (map string_bytes words.now) ≡ Some (Run file) → deck_of (C.left cards.old) ≡ None → CallsAtMost 0 0 0 1 (H.calls hall.old) (H.calls hall.new) }
 {
     match action_of(words) {
         None => end(hall, WORDS_LINE, Status::Words),
@@ -132,7 +153,9 @@ fn names<H: Hall>(alloc: Global, hall: &mut H, file: &str) -> u8
     ensures does { IsTrue H.tells → Does (task_on file.now names_task (file_of (H.meaning hall.old).state file.now)) (H.meaning hall.old) (H.meaning hall.new) result }
     ensures files { IsTrue H.tells → LeavesFiles (H.meaning hall.old) (H.meaning hall.new) }
     ensures silent { IsTrue H.tells → (result ≡ 22) ⊎ (result ≡ 25) → (H.meaning hall.new).printed ≡ (H.meaning hall.old).printed }
-    ensures calls { (reads : ℕ) × CallsAtMost reads 0 0 1 (H.calls hall.old) (H.calls hall.new) }
+    ensures calls { AttachesOnce 259 0 0 1 (H.calls hall.old) (H.calls hall.new) }
+    ensures unprinted { (result ≡ 22) ⊎ (result ≡ 25) → AttachesOnce 259 0 0 0 (H.calls hall.old) (H.calls hall.new) }
+    ensures reads { IsTrue H.tells → AttachesOnce (reads_to_mount (image_named (H.meaning hall.old).state file.now)) 0 0 1 (H.calls hall.old) (H.calls hall.new) }
     ensures call { OnFile file.now (H.facts hall.old) (H.facts hall.new) result }
 {
     match mount(alloc, hall, file) {
@@ -150,6 +173,13 @@ fn run<H: Hall>(alloc: Global, hall: &mut H, file: &str, statement: &Rename) -> 
     ensures does { IsTrue H.tells → Does (task_on file.now (statement_task file.now statement.now) (file_of (H.meaning hall.old).state file.now)) (H.meaning hall.old) (H.meaning hall.new) result }
     ensures refused { IsTrue H.tells → result ≡ 21 → LeavesFiles (H.meaning hall.old) (H.meaning hall.new) }
     ensures durable { IsTrue H.tells → result ≡ 25 → IsDurable (H.meaning hall.new) }
+    ensures calls { AttachesOnce 260 1 2 1 (H.calls hall.old) (H.calls hall.new) }
+    ensures unbegun { result ≡ 21 → AttachesOnce 259 0 0 1 (H.calls hall.old) (H.calls hall.new) }
+    ensures unwritten { result ≡ 8 → AttachesOnce 259 0 1 1 (H.calls hall.old) (H.calls hall.new) }
+    ensures unsaid { result ≡ 24 → AttachesOnce 260 1 1 1 (H.calls hall.old) (H.calls hall.new) }
+    ensures unprinted { result ≡ 25 → AttachesOnce 260 1 1 0 (H.calls hall.old) (H.calls hall.new) }
+    ensures reads_refused { IsTrue H.tells → result ≡ 8 → AttachesOnce (reads_to_mount (image_named (H.meaning hall.old).state file.now)) 0 1 1 (H.calls hall.old) (H.calls hall.new) }
+    ensures reads { IsTrue H.tells → AttachesOnce (reads_to_mount (image_named (H.meaning hall.old).state file.now) + 1) 1 2 1 (H.calls hall.old) (H.calls hall.new) }
     ensures call { OnFile file.now (H.facts hall.old) (H.facts hall.new) result }
 {
     match mount(alloc, hall, file) {

@@ -35,6 +35,10 @@ pub fn run_statement<H: Hall>(alloc: Global, statement: &Rename, vol: Vol, hall:
     ensures status { (result.0 ≤ 16) ⊎ ((result.0 ≡ 22) ⊎ ((result.0 ≡ 24) ⊎ (result.0 ≡ 25))) }
     ensures device { result.0 ≡ 22 → Rose (H.facts hall).dev_faults (H.facts result.1).dev_faults }
     ensures print { result.0 ≡ 24 → Rose (H.facts hall).print_faults (H.facts result.1).print_faults }
+    ensures calls { CallsAtMost 1 1 2 1 (H.calls hall) (H.calls result.1) }
+    ensures refused { result.0 ≡ 8 → CallsAtMost 0 0 1 1 (H.calls hall) (H.calls result.1) }
+    ensures unsaid { result.0 ≡ 24 → CallsAtMost 1 1 1 1 (H.calls hall) (H.calls result.1) }
+    ensures unprinted { result.0 ≡ 25 → CallsAtMost 1 1 1 0 (H.calls hall) (H.calls result.1) }
     ensures reported { CountsReported result.0 (H.facts hall) (H.facts result.1) }
     ensures later { Later (H.facts hall) (H.facts result.1) }
     ensures units { (H.facts result.1).units ≡ (H.facts hall).units }

@@ -1,5 +1,5 @@
 -- What calls of a hall leave, one after another.
-use Rattle.std.proofs.Common.{◌≡◌, ◌≢◌, ◌⊎◌, ⊎_elim, ℕ, ◌+◌, ◌<◌, List, length, None, Some, refl, sym, ap, subst, ◌∙◌, arith, ◌-◌}
+use Rattle.std.proofs.Common.{◌≡◌, ◌≢◌, ◌⊎◌, ⊎_elim, ℕ, ◌+◌, ◌<◌, ◌≤◌, List, [], ◌++◌, length, append-nil, append_assoc, None, Some, refl, sym, ap, subst, ◌∙◌, arith, ◌-◌}
 use Rattle.std.specs.Prelude.{Result, Ok, Err, IfErr, IfOk, IsErrOf, IsTrue, Bool, Option, option_and_then}
 use Rattle.ckd_image.specs.declared.header.Geometry.{Geometry}
 use Rattle.ckd_image.specs.Header.{HasGeometry}
@@ -132,7 +132,21 @@ stands_whole image b g track same at is = (None, ap (λ (x : Geometry). records_
 
 -- reads behind reads
 pub reads_then : (some more : ℕ) (old mid new : Calls) → CallsAtMost some 0 0 0 old mid → CallsAtMost more 0 0 0 mid new → CallsAtMost (some + more) 0 0 0 old new
-reads_then some more old mid new first second = (omega (arith, first.0, second.0), omega (arith, first.1, second.1), omega (arith, first.2, second.2), omega (arith, first.3, second.3))
+reads_then some more old mid new first second = (omega (arith, first.0, second.0), omega (arith, first.1, second.1), omega (arith, first.2, second.2), omega (arith, first.3, second.3), omega (arith, first.4, second.4))
+
+-- fewer reads than are allowed
+pub reads_within : (reads most : ℕ) (old new : Calls) → reads ≤ most → CallsAtMost reads 0 0 0 old new → CallsAtMost most 0 0 0 old new
+reads_within reads most old new few calls = (omega (arith, few, calls.0), calls.1, calls.2, calls.3, calls.4)
+
+-- a list begins with another
+abbrev pub BeginsWith : {A : Type 0} → List A → List A → Type 0
+BeginsWith {A} old new = (more : List A) × (new ≡ old ++ more)
+
+pub begins_same : {A : Type 0} (old : List A) → BeginsWith old old
+begins_same old = ([], sym (append-nil old))
+
+pub begins_further : {A : Type 0} (old mid new more : List A) → BeginsWith old mid → new ≡ mid ++ more → BeginsWith old new
+begins_further old mid new more begins is = (begins.0 ++ more, is ∙ ap (λ l. l ++ more) begins.1 ∙ append_assoc old begins.0 more)
 
 -- what a loop over tracks keeps
 pub record KeepsReading (tells : Bool) (c0 c : Calls) (f0 f : Facts) (m0 m : Meaning (List File)) (image : List ℕ) (g : Geometry) (unit start len : ℕ) (b0 b : Buffer) (r0 r : ReadSlots) : Type 0 where
@@ -142,6 +156,8 @@ pub record KeepsReading (tells : Bool) (c0 c : Calls) (f0 f : Facts) (m0 m : Mea
   pub geometry : b.geometry ≡ g
   pub unit_is : b.unit ≡ unit
   pub numbers : AreNumbered len r
+  pub slots : BeginsWith r0.slots.items r.slots.items
+  pub firsts : BeginsWith r0.firsts.items r.firsts.items
   pub last : b0.track ≡ start → b.track + 1 ≡ start + len
   pub read : IsTrue tells → AreTracksRead image g start 1 r0 → AreTracksRead image g start len r
   pub stands : IsTrue tells → StandsOn image b0 → StandsOn image b

@@ -1,6 +1,6 @@
 -- Definitions on cases at which near readings of them give something else.
 use Rattle.std.proofs.Common.{◌≡◌, ◌≢◌, ◌+◌, inl, inr, ℕ, List, [], ◌∷◌, ◌++◌, get_or, length, replicate, Some, None, refl, sym, ap, subst, ◌∙◌, arith}
-use Rattle.std.specs.Prelude.{Option, Ok, Err}
+use Rattle.std.specs.Prelude.{Option, Result, Ok, Err}
 use Rattle.std.specs.List.{range_with_len}
 use Rattle.ckd_image.specs.declared.device.DiskType.TheVariants.{D2311, D2314}
 use Rattle.ckd_image.specs.declared.header.Geometry.{Geometry}
@@ -10,6 +10,7 @@ use Rattle.ckd_image.specs.Reading.{records_of, is_front}
 use Rattle.ckd_image.specs.Track.{Record}
 use Rattle.dscb_codec.specs.declared.Dscb.{Dscb}
 use Rattle.dscb_codec.specs.declared.Dscb.TheVariants as formats
+use Rattle.dscb_codec.specs.declared.DscbErr.{DscbErr}
 use Rattle.dscb_codec.specs.declared.DscbErr.TheVariants.{Unsupported, BadFormat}
 use Rattle.dscb_codec.specs.declared.F1.{F1}
 use Rattle.dscb_codec.specs.Layout.{refusal_of}
@@ -149,6 +150,41 @@ no_slots_added g track old new = (λ adds. let none = adds.are_slots in cc, reco
 -- two cylinders of ten heads
 pack : Geometry
 pack = record { device = D2311; cylinders = 2; track_size = 4096 }
+
+-- a slot as it was read on track 12, which is head 2 of cylinder 1
+abbrev read_on_12 : ℕ → Result Dscb DscbErr → ReadSlot
+read_on_12 r content = record { address = 0 ∷ 1 ∷ 0 ∷ 2 ∷ r ∷ []; content = content }
+
+-- a slot of another track, which was read before
+abbrev read_before : ReadSlot
+read_before = record { address = 0 ∷ 1 ∷ 0 ∷ 1 ∷ 7 ∷ []; content = Ok formats.F0 }
+
+-- the slots of a track are added behind those before, in their order, and the first of them is R1 there
+slots_are_added : Adds pack 12 (slot 44 96 ∷ record { address = []; key = replicate 44 0; «data» = replicate 96 0 } ∷ []) (read_before ∷ []) (read_before ∷ read_on_12 1 (Err (BadFormat 2)) ∷ read_on_12 2 (Ok formats.F0) ∷ [])
+unfolding pack slot
+slots_are_added = record {
+  bytes = (replicate 44 1 ++ replicate 96 2) ∷ replicate 140 0 ∷ [];
+  slots = read_on_12 1 (Err (BadFormat 2)) ∷ read_on_12 2 (Ok formats.F0) ∷ [];
+  are_slots = refl;
+  added = refl;
+  read = (record { address = refl; content = refl }, (record { address = refl; content = (refl, refl, tt) }, tt));
+}
+
+-- they don't stand in front of those before
+not_added_in_front : ¬ Adds pack 12 (slot 44 96 ∷ []) (read_before ∷ []) (read_on_12 1 (Err (BadFormat 2)) ∷ read_before ∷ [])
+not_added_in_front adds =
+    let wrong : 1 ≡ 7 = ap (λ (xs : List ReadSlot). get_or (get_or xs 0 read_before).address 4 0) adds.added in
+    absurd (omega (arith, wrong))
+
+-- the first has no other number, and isn't R1 of another track
+added_otherwise : (x : ReadSlot) → x.address ≢ 0 ∷ 1 ∷ 0 ∷ 2 ∷ 1 ∷ [] → ¬ Adds pack 12 (slot 44 96 ∷ []) [] (x ∷ [])
+unfolding pack slot
+added_otherwise x other adds =
+    let is : Some ((replicate 44 1 ++ replicate 96 2) ∷ []) ≡ Some adds.bytes = adds.are_slots in
+    let one : (replicate 44 1 ++ replicate 96 2) ∷ [] ≡ adds.bytes = cc in
+    let slots : x ∷ [] ≡ adds.slots = adds.added in
+    let read = subst (λ (xs : List ReadSlot). AreRead xs (addressed_from pack 12 1 adds.bytes)) (sym slots) adds.read in
+    other (subst (λ (bytes : List (List ℕ)). AreRead (x ∷ []) (addressed_from pack 12 1 bytes)) (sym one) read).0.address
 
 -- the VTOC goes to the last track at most
 extents :

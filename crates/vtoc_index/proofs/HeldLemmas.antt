@@ -1,5 +1,5 @@
 -- A buffer that holds a slot of its track.
-use Rattle.std.proofs.Common.{◌≡◌, ◌⊎◌, inl, inr, ⊎_elim, ◌<◌, ◌≤◌, ◌-◌, ◌/◌, ◌%◌, ℕ, zero, suc, Bool, true, false, cond, IsTrue, List, [], ◌∷◌, length, take, drop, Option, Some, None, refl, sym, ◌∙◌, ap, arith}
+use Rattle.std.proofs.Common.{◌≡◌, ◌⊎◌, inl, inr, ⊎_elim, ◌<◌, ◌≤◌, ◌-◌, ◌/◌, ◌%◌, ℕ, zero, suc, Bool, true, false, cond, IsTrue, List, [], ◌∷◌, length, take, drop, Option, Some, None, refl, sym, subst, ◌∙◌, ap, arith}
 use Rattle.std.specs.Prelude.{nat_le, ◌&&◌, ◌==◌, slice_get, slice_index, Err}
 use Rattle.std.specs.Option.{option_map}
 use Rattle.std.specs.Bool.{IsFalse}
@@ -13,7 +13,7 @@ use Rattle.hall_core.specs.Facts.{Facts, Rose, DeviceCall, NotedCall}
 use Rattle.pack_spec.specs.Label.{heads_of, records_on, track_bytes}
 use Rattle.pack_spec.specs.Vtoc.{slot_bytes}
 use Rattle.track_records.specs.Buffers.{Buffer}
-use Rattle.track_records.specs.Updates.{HasLengths}
+use Rattle.track_records.specs.Updates.{HasLengths, with_parts}
 use Rattle.track_records.specs.Written.{StandsOn}
 use Rattle.track_records.proofs.StandLemmas.{stand}
 use Rattle.track_records.proofs.UpdateLemmas.{has_lengths}
@@ -146,3 +146,13 @@ noted {tells = tells} {old = old} {mid = mid} {new = new} units references print
     risen : (b : Bool) → (IsFalse b → Rose mid.dev_faults new.dev_faults) → (IsTrue b → ⊥) → Rose mid.dev_faults new.dev_faults
     risen true up none = absurd (none refl)
     risen false up none = up refl
+
+-- a record with other parts of its lengths has these lengths
+lengths_held : (k : ℕ) (key content : List ℕ) (xs : List Record) → HasLengths xs k 44 96 → 44 ≡ length key → 96 ≡ length content → HasLengths (with_parts k key content xs) k 44 96
+lengths_held k key content [] has long wide = absurd has
+lengths_held zero key content (x ∷ xs) has long wide = (long, wide)
+lengths_held (suc k) key content (x ∷ xs) has long wide = lengths_held k key content xs has long wide
+
+pub still_slot : (old new : List Record) (n k : ℕ) (key content : List ℕ) → n ≡ k → HasLengths old n 44 96 → 44 ≡ length key → 96 ≡ length content → new ≡ with_parts n key content old → HasLengths new k 44 96
+still_slot old new n k key content at has long wide is =
+    subst (λ (l : List Record). HasLengths l k 44 96) (sym is) (subst (λ (m : ℕ). HasLengths (with_parts n key content old) m 44 96) at (lengths_held n key content old has long wide))

@@ -14,6 +14,7 @@ mod FirstSlots
 mod TracksRead
 mod SlotsRead
 mod CallsMade
+mod ReadsMade
 mod Mounts
 pub mod NameLemmas
 pub mod Firsts

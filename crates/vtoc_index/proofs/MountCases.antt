@@ -26,6 +26,7 @@ use Rattle.vol_model.specs.declared.contents.Body.TheVariants.{Other}
 use Rattle.vol_model.specs.declared.contents.DataSet.{DataSet}
 use Rattle.vol_model.specs.declared.contents.Run.{Run}
 use Rattle.vol_model.specs.Order.{in_order, rank}
+use Rattle.vtoc_index.specs.Calls.{reads_to_mount, vtoc_reads}
 use Rattle.vtoc_index.specs.Contents.{AreDscbs}
 use Rattle.vtoc_index.specs.Index.{IsIndexOf, IsMounted, IsOfUnit, IsReason, firsts_of, place_of_slot, serial_on, slots_before}
 use Rattle.vtoc_index.specs.Kept.{IsKept}
@@ -286,6 +287,42 @@ format_4_stands_behind_slot_0 = refl
 byte_stands_behind_the_last_track : IsReason (image ++ 0 ∷ []) (Image (BadLength 41473))
 unfolding volume_of geometry_of geometry_on
 byte_stands_behind_the_last_track = refl
+
+-- Two reads lead to the VTOC, and each of its two tracks takes one: neither is left out, nor is another track read.
+reads_of_the_image : reads_to_mount image ≡ 4
+unfolding reads_to_mount geometry_of geometry_on vtoc_of vtoc_at label_of label_in records_on track_bytes records_of is_front records_to_end records_up_to
+reads_of_the_image = refl
+
+-- By the header alone an image is refused behind one read, and for want of a label, or by the address in it, behind two.
+reads_of_a_byte_too_many : reads_to_mount (image ++ 0 ∷ []) ≡ 1
+unfolding reads_to_mount geometry_of geometry_on
+reads_of_a_byte_too_many = refl
+
+reads_without_a_label : reads_to_mount (header_bytes one_cylinder ++ replicate 40960 0) ≡ 2
+unfolding reads_to_mount geometry_of geometry_on label_of records_on track_bytes records_of is_front
+reads_without_a_label = refl
+
+reads_of_a_label_that_leads_outside : reads_to_mount (header_bytes one_cylinder ++ new_track 0 0 (label_records pack01 (record { cylinder = 0; head = 10 })) 4096 ++ replicate 36864 0) ≡ 2
+unfolding reads_to_mount geometry_of geometry_on label_of label_in records_on track_bytes records_of is_front records_up_to
+reads_of_a_label_that_leads_outside = refl
+
+-- A track without a slot is read once where its records are, and twice where it breaks the grammar; and no other behind it.
+reads_of_a_track_without_slots : reads_to_mount (header_bytes one_cylinder ++ new_track 0 0 (label_records pack01 first_track) 4096 ++ new_track 0 1 [] 4096 ++ replicate 32768 0) ≡ 3
+unfolding reads_to_mount geometry_of geometry_on vtoc_of vtoc_at label_of label_in records_on track_bytes records_of is_front records_to_end records_up_to
+reads_of_a_track_without_slots = refl
+
+reads_of_a_track_of_zeros : reads_to_mount (header_bytes one_cylinder ++ new_track 0 0 (label_records pack01 first_track) 4096 ++ replicate 36864 0) ≡ 4
+unfolding reads_to_mount geometry_of geometry_on vtoc_of vtoc_at label_of label_in records_on track_bytes records_of is_front records_to_end records_up_to
+reads_of_a_track_of_zeros = refl
+
+-- So it is whatever the extent; behind a first track that is read, each other takes one.
+reads_by_extents :
+    (vtoc_reads None (Ok (record { start = 1; len = 5 })) ≡ 2)
+    × (vtoc_reads None (Err BadVtoc) ≡ 2)
+    × (vtoc_reads (Some []) (Err BadVtoc) ≡ 1)
+    × (vtoc_reads (Some []) (Ok (record { start = 7; len = 1 })) ≡ 1)
+    × (vtoc_reads (Some []) (Ok (record { start = 7; len = 257 })) ≡ 257)
+reads_by_extents = (refl, refl, refl, refl, refl)
 
 -- An image whose VTOC has a second track of zeros: what can be read of it is held, but that track breaks a rule.
 abbrev second_is_broken : List ℕ

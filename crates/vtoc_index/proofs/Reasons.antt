@@ -73,7 +73,7 @@ label_there (Some content) x is = (content, (refl, is))
 pub is_label : (given there : Option (List ℕ)) (x : Label) → given ≡ there → IsLabel given x → IsLabel there x
 is_label given there x same is = subst (λ (l : Option (List ℕ)). IsLabel l x) same is
 
-chosen : {A : Type 0} (b c : Bool) (u v : A) → b ≡ c → cond b u v ≡ cond c u v
+pub chosen : {A : Type 0} (b c : Bool) (u v : A) → b ≡ c → cond b u v ≡ cond c u v
 chosen b c u v is = ap (λ x. cond x u v) is
 
 -- it leads outside the image

@@ -1,5 +1,5 @@
 -- What a slot as it was read holds, computed where near readings give something else.
-use Rattle.std.proofs.Common.{◌≡◌, ℕ, true, false, List, [], ◌∷◌, ◌++◌, get_or, length, replicate, take, Some, None, refl, ap, arith}
+use Rattle.std.proofs.Common.{◌≡◌, ℕ, true, false, List, [], ◌∷◌, ◌++◌, get_or, length, map, replicate, take, Some, None, refl, ap, arith}
 use Rattle.std.specs.Prelude.{Result, Ok, Err}
 use Rattle.dscb_codec.specs.declared.Dscb.{Dscb}
 use Rattle.dscb_codec.specs.declared.Dscb.TheVariants as formats
@@ -114,6 +114,23 @@ pointer_leads_to_a_format_3 :
     × (slot_led_to (set_at 3 4 ∷ []) (counting 4) ≡ None)
 pointer_leads_to_a_format_3 = (refl, refl, refl, refl, refl, refl)
 
+-- R3 where one byte of the cylinder or of the head is another
+abbrev elsewhere : List (List ℕ)
+elsewhere = (1 ∷ 0 ∷ 0 ∷ 2 ∷ 3 ∷ []) ∷ (0 ∷ 1 ∷ 0 ∷ 2 ∷ 3 ∷ []) ∷ (0 ∷ 0 ∷ 1 ∷ 2 ∷ 3 ∷ []) ∷ (0 ∷ 0 ∷ 0 ∷ 1 ∷ 3 ∷ []) ∷ []
+
+abbrev further_at : List ℕ → ReadSlot
+further_at address = record { address = address; content = Ok (formats.F3 further) }
+
+abbrev leading_to : List ℕ → ReadSlot
+leading_to address = read 1 (Ok (formats.F1 (record (counting 4) { pointer = address })))
+
+-- It leads to one track alone: the same R of another cylinder or head is another slot.
+pointer_has_a_cylinder_and_a_head :
+    (map (λ address. is_led_to (counting 4) (further_at address)) elsewhere ≡ replicate 4 false)
+    × (slot_led_to (map further_at elsewhere) (counting 4) ≡ None)
+    × (slot_led_to (map further_at elsewhere ++ slots) (counting 4) ≡ Some (read 3 (Ok (formats.F3 further))))
+pointer_has_a_cylinder_and_a_head = (refl, refl, refl)
+
 -- As many extents as are counted, where so many are there: first the set's own; those of the format 3 with its key's first; and none of another format.
 extents_are_counted :
     (counted_rows slots (counting 0) ≡ [])
@@ -139,3 +156,10 @@ chain_is_the_first_to_lead_there :
     × (has_own_chain [] [] (counting 4) ≡ false)
     × (has_own_chain [] (set_at 1 5 ∷ []) (counting 3) ≡ true)
 chain_is_the_first_to_lead_there = (refl, refl, refl, refl, refl, refl, refl, refl, refl, refl)
+
+-- A set that leads to the same R of another cylinder or head leads elsewhere.
+chain_is_shared_on_one_track :
+    (map (λ address. leads_along (counting 4) (leading_to address).content) elsewhere ≡ replicate 4 false)
+    × (has_own_chain slots (map leading_to elsewhere) (counting 4) ≡ true)
+    × (has_own_chain slots (map leading_to (elsewhere ++ place 3 ∷ [])) (counting 4) ≡ false)
+chain_is_shared_on_one_track = (refl, refl, refl)

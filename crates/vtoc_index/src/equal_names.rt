@@ -1,5 +1,5 @@
 //! The names of data sets in several slots.
-ghost use Rattle.std.specs.Prelude.{◌≡◌, ◌≢◌, ℕ, ◌≤◌, List, Some, None, Ok, length, option_and_then, slice_get, IfOk, OnOk, if◌then◌else◌};
+ghost use Rattle.std.specs.Prelude.{◌≡◌, ◌≢◌, ℕ, ◌≤◌, List, Some, None, Ok, length, option_and_then, slice_get, IfOk, OnErr, OnOk, if◌then◌else◌};
 ghost use Rattle.std.specs.BTreeMap.{get};
 ghost use Rattle.std.specs.Cmp.Lexicographic.{slice_cmp};
 ghost use Rattle.std.specs.Ordering.{nat_cmp};
@@ -41,6 +41,7 @@ fn note_name(
     number: u32,
 ) -> Result<Option<u32>, AllocError>
     ensures before { IfOk result (λ other. other ≡ option_and_then (get (slice_cmp nat_cmp) lowest.old) (name_in slot.now.content)) }
+    ensures kept { OnErr result ((name : List ℕ) → get (slice_cmp nat_cmp) lowest.new name ≡ get (slice_cmp nat_cmp) lowest.old name) }
     ensures noted { OnOk result ((name : List ℕ) → get (slice_cmp nat_cmp) lowest.new name ≡ (if is_named_content name slot.now.content then Some number else get (slice_cmp nat_cmp) lowest.old name)) }
 {
     match name_of(slot) {

@@ -21,6 +21,7 @@ pub(crate) fn read_geometry<H: Hall>(hall: &mut H, unit: u8) -> Result<Geometry,
     ensures told { IsTrue H.tells → Same (H.meaning hall.old) (H.meaning hall.new) }
     ensures call { MountCall (H.facts hall.old) (H.facts hall.new) result }
     ensures calls { CallsAtMost 1 0 0 0 (H.calls hall.old) (H.calls hall.new) }
+    ensures short { (unit_of (H.facts hall.old).units unit).size < 512 → CallsAtMost 0 0 0 0 (H.calls hall.old) (H.calls hall.new) }
     ensures file { IsErrOf result MountErr.NoFile → ⊥ }
 {
     let len = hall.size(unit);

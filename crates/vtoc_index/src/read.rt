@@ -1,5 +1,5 @@
 //! The index of a VTOC, read with one read a track.
-ghost use Rattle.std.specs.Prelude.{◌≡◌, ◌≢◌, ◌≤◌, ◌<◌, ◌+◌, ◌⊎◌, length, IsTrue, IfOk, IfErr, OnOk, IsErrOf, Some, None, Ok, Err, ◌-◌, ℕ};
+ghost use Rattle.std.specs.Prelude.{◌≡◌, ◌≢◌, ◌≤◌, ◌<◌, ◌+◌, ◌⊎◌, length, IsTrue, IfOk, IfErr, OnOk, IsErrOf, Some, None, Ok, Err, ◌-◌, ◌++◌, ℕ, List};
 ghost use Rattle.ckd_image.specs.Header.{HasGeometry};
 ghost use Rattle.hall_core.specs.Facts.{CallsAtMost, unit_of};
 ghost use Rattle.hall_core.specs.Files.{image_of};
@@ -10,8 +10,9 @@ ghost use Rattle.pack_spec.specs.Volume.{volume_within};
 ghost use Rattle.pack_spec.specs.Vtoc.{slots_on};
 ghost use Rattle.track_records.specs.Calls.{HasTrack};
 ghost use Rattle.track_records.specs.Written.{StandsOn};
-ghost use Rattle.vtoc_index.specs.Calls.{MountCall};
+ghost use Rattle.vtoc_index.specs.Calls.{MountCall, first_track_reads, reads_to_mount, vtoc_reads};
 ghost use Rattle.vtoc_index.specs.Index.{IsMounted, IsOfUnit, IsReason};
+ghost use Rattle.vtoc_index.specs.declared.slots.ReadSlot.{ReadSlot};
 ghost use Rattle.vtoc_index.specs.Reading.{AreNumbered, AreTracksRead, IsExtent, Refuses, vtoc_on};
 
 use crate::header::read_geometry;
@@ -54,7 +55,9 @@ pub fn read_vtoc<H: Hall>(alloc: Global, hall: &mut H, unit: u8) -> Result<Vol, 
     ensures last { IfOk result (λ vol. vol.buf.track + 1 ≡ vol.vtoc.start + vol.vtoc.len) }
     ensures told { IsTrue H.tells → Same (H.meaning hall.old) (H.meaning hall.new) }
     ensures call { MountCall (H.facts hall.old) (H.facts hall.new) result }
-    ensures calls { (reads : ℕ) × CallsAtMost reads 0 0 0 (H.calls hall.old) (H.calls hall.new) }
+    ensures calls { CallsAtMost 259 0 0 0 (H.calls hall.old) (H.calls hall.new) }
+    ensures reads { IsTrue H.tells → CallsAtMost (reads_to_mount (image_of (H.meaning hall.old).state (H.facts hall.old) unit)) 0 0 0 (H.calls hall.old) (H.calls hall.new) }
+    ensures short { (unit_of (H.facts hall.old).units unit).size < 512 → CallsAtMost 0 0 0 0 (H.calls hall.old) (H.calls hall.new) }
     ensures once { IfOk result (λ vol. CallsAtMost (vol.vtoc.len + 2) 0 0 0 (H.calls hall.old) (H.calls hall.new)) }
     ensures file { IsErrOf result MountErr.NoFile → ⊥ }
 {
@@ -97,10 +100,12 @@ fn read_slots<H: Hall>(
     ensures refused { let image = image_of (H.meaning hall.old).state (H.facts hall.old) unit in IsTrue H.tells → IfErr result (Refuses (volume_within image geometry (vtoc_on image geometry at))) }
     ensures numbers { IfOk result (λ p. IsExtent geometry at p.0 × AreNumbered p.0.len p.1) }
     ensures last { IfOk result (λ p. buf.new.track + 1 ≡ p.0.start + p.0.len) }
-    ensures buffer { OnOk result ((buf.new.geometry ≡ geometry) × (buf.new.unit ≡ unit)) }
+    ensures buffer { (buf.new.geometry ≡ geometry) × (buf.new.unit ≡ unit) }
     ensures told { IsTrue H.tells → Same (H.meaning hall.old) (H.meaning hall.new) }
     ensures call { MountCall (H.facts hall.old) (H.facts hall.new) result }
-    ensures calls { (reads : ℕ) × CallsAtMost reads 0 0 0 (H.calls hall.old) (H.calls hall.new) }
+    ensures calls { CallsAtMost 257 0 0 0 (H.calls hall.old) (H.calls hall.new) }
+    ensures reads { let image = image_of (H.meaning hall.old).state (H.facts hall.old) unit in IsTrue H.tells → CallsAtMost (vtoc_reads (records_on image geometry None (track_of_address geometry at)) (vtoc_on image geometry at)) 0 0 0 (H.calls hall.old) (H.calls hall.new) }
+    ensures stops { let image = image_of (H.meaning hall.old).state (H.facts hall.old) unit in IsTrue H.tells → (t : ℕ) → IsErrOf result (MountErr.VtocTrack t) → CallsAtMost ((t - track_of_address geometry at) + first_track_reads (records_on image geometry None (track_of_address geometry at))) 0 0 0 (H.calls hall.old) (H.calls hall.new) }
     ensures once { IfOk result (λ p. CallsAtMost p.0.len 0 0 0 (H.calls hall.old) (H.calls hall.new)) }
     ensures file { IsErrOf result MountErr.NoFile → ⊥ }
 {
@@ -132,6 +137,7 @@ fn read_first<H: Hall>(
     ensures told { IsTrue H.tells → Same (H.meaning hall.old) (H.meaning hall.new) }
     ensures call { MountCall (H.facts hall.old) (H.facts hall.new) result }
     ensures calls { CallsAtMost 2 0 0 0 (H.calls hall.old) (H.calls hall.new) }
+    ensures reads { let image = image_of (H.meaning hall.old).state (H.facts hall.old) unit in IsTrue H.tells → CallsAtMost (first_track_reads (records_on image geometry None (track_of_address geometry at))) 0 0 0 (H.calls hall.old) (H.calls hall.new) }
     ensures once { OnOk result (CallsAtMost 1 0 0 0 (H.calls hall.old) (H.calls hall.new)) }
     ensures file { IsErrOf result MountErr.NoFile → ⊥ }
 {
@@ -195,12 +201,14 @@ fn read_others<H: Hall>(
     ensures read { let image = image_of (H.meaning hall.old).state (H.facts hall.old) unit in IsTrue H.tells → AreTracksRead image geometry vtoc.start 1 found.old → OnOk result (AreTracksRead image geometry vtoc.start vtoc.len found.new) }
     ensures refused { let image = image_of (H.meaning hall.old).state (H.facts hall.old) unit in IsTrue H.tells → AreTracksRead image geometry vtoc.start 1 found.old → IfErr result (Refuses (volume_within image geometry (Ok vtoc))) }
     ensures stands { let image = image_of (H.meaning hall.old).state (H.facts hall.old) unit in IsTrue H.tells → StandsOn image buf.old → OnOk result (StandsOn image buf.new) }
+    ensures begun { ((slots : List ReadSlot) × (found.new.slots.items ≡ found.old.slots.items ++ slots)) × ((firsts : List ℕ) × (found.new.firsts.items ≡ found.old.firsts.items ++ firsts)) }
     ensures numbers { OnOk result (AreNumbered vtoc.len found.new) }
     ensures last { buf.old.track ≡ vtoc.start → OnOk result (buf.new.track + 1 ≡ vtoc.start + vtoc.len) }
     ensures buffer { (buf.new.geometry ≡ geometry) × (buf.new.unit ≡ unit) }
     ensures told { IsTrue H.tells → Same (H.meaning hall.old) (H.meaning hall.new) }
     ensures call { MountCall (H.facts hall.old) (H.facts hall.new) result }
     ensures calls { CallsAtMost (vtoc.len - 1) 0 0 0 (H.calls hall.old) (H.calls hall.new) }
+    ensures stops { (t : ℕ) → IsErrOf result (MountErr.VtocTrack t) → CallsAtMost (t - vtoc.start) 0 0 0 (H.calls hall.old) (H.calls hall.new) }
     ensures file { IsErrOf result MountErr.NoFile → ⊥ }
 {
     for track in vtoc.start + 1..vtoc.start + vtoc.len {
@@ -219,6 +227,7 @@ fn read_track<H: Hall>(
 ) -> Result<u8, MountErr>
     requires { HasTrack (H.facts hall.old).units unit buf.old.geometry track }
     ensures count { IfOk result (λ n. length buf.new.records ≡ n) }
+    ensures which { IfErr result (λ e. (e ≡ MountErr.Device) ⊎ (e ≡ MountErr.VtocTrack track)) }
     ensures buffer { buf.new ≡ record buf.old { unit = unit; track = track; records = buf.new.records } }
     ensures read { IsTrue H.tells → OnOk result (records_on (image_of (H.meaning hall.old).state (H.facts hall.old) unit) buf.old.geometry None track ≡ Some buf.new.records) }
     ensures refused { IsTrue H.tells → IfErr result (λ e. (e ≡ MountErr.Device) ⊎ ((e ≡ MountErr.VtocTrack track) × (slots_on (image_of (H.meaning hall.old).state (H.facts hall.old) unit) buf.old.geometry track ≡ None))) }

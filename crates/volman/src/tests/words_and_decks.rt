@@ -183,6 +183,8 @@ impl<C: Cards> Cards for Single<C> {
 
     ghost faults = { λ single. C.faults single.cards };
 
+    ghost reads = { λ single. C.reads single.cards };
+
     fn read(&mut self, buf: &mut [u8]) -> Result<usize, ReadFault> {
         self.cards.read(&mut buf[..1])
     }

@@ -1,4 +1,7 @@
-use Rattle.std.proofs.Common.{List, ap, inl, inr}
+use Rattle.std.proofs.Common.{List, ap, arith, drop, inl, inr, length-drop, length-take, refl, take}
+use Rattle.track_records.proofs.WriteLemmas.{on_err}
+use Rattle.vtoc_index.specs.Index.{slots_in_front}
+use Rattle.vtoc_index.proofs.HeldLemmas.{still_slot}
 use Rattle.hall_core.specs.Facts.{Attached, unit_of}
 use Rattle.vtoc_index.specs.declared.vol.Vol.{Vol}
 use Rattle.dadsm_ops.specs.Operations.{image_named}
@@ -23,3 +26,13 @@ returns-in_err-put_slot-clause-slots g c = inl (ap (λ (v : Vol). v.slots.items)
 
 pub returns-clause-slots : goal.returns-clause-slots
 returns-clause-slots g c = inr c.in_ok-put_slot.ensures.index.done.items
+
+-- behind a write the buffer has a slot there, so that this says nothing of it
+pub returns-in_err-put_slot-clause-unwritten : goal.returns-in_err-put_slot-clause-unwritten
+returns-in_err-put_slot-clause-unwritten g c = on_err c.from_residual.result _ c.in_err-put_slot.ensures.unwritten
+
+pub returns-clause-unwritten : goal.returns-clause-unwritten
+returns-clause-unwritten g c =
+    let (bytes, fields, size, (records, has, is)) = c.in_ok-put_slot.ensures.slot in
+    on_err c.make_durable.result _
+    (λ none. absurd (none (still_slot records c.put_slot.new.vol.buf.records (slots_in_front c.args.vol.now.firsts.items c.args.slot) (slots_in_front c.args.vol.now.firsts.items c.args.slot) (take 44 bytes) (drop 44 bytes) refl has (omega (arith, size, length-take 44 bytes)) (omega (arith, size, length-drop 44 bytes)) is)))

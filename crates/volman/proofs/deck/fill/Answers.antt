@@ -14,4 +14,5 @@ loop-count-preserved g c =
       length_stays = same ∙ c.loop-count.invariant.length_stays;
       next = λ tells. read_on bytes c.read.new.buf _ _ _ count c.in_ok-given.given c.loop-count.invariant.inside within (c.loop-count.invariant.next tells) (c.in_ok-given.ensures.told tells).next;
       faults = c.in_ok-given.ensures.done ∙ c.loop-count.invariant.faults;
+      reads = omega (arith, c.loop-count.invariant.reads, c.in_ok-given.ensures.once);
     }

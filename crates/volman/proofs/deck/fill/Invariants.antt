@@ -1,4 +1,4 @@
-use Rattle.std.proofs.Common.{length, ◌-◌, ◌≡◌, ◌≤◌, ◌++◌, take, IsTrue}
+use Rattle.std.proofs.Common.{length, ◌-◌, ◌+◌, ◌≡◌, ◌≤◌, ◌++◌, take, IsTrue}
 use Rattle.volman.proofs.deck.fill.Given as goal
 
 abbrev pub invariant-loop-count : goal.invariant-loop-count
@@ -7,6 +7,7 @@ invariant-loop-count g l = record {
   length_stays : length l.bytes ≡ length l.initial.bytes;
   next : IsTrue g.C.Cards.tells → g.C.Cards.left l.initial.cards ≡ take l.count l.bytes ++ g.C.Cards.left l.cards;
   faults : g.C.Cards.faults l.cards ≡ g.C.Cards.faults l.initial.cards;
+  reads : g.C.Cards.reads l.cards ≤ g.C.Cards.reads l.initial.cards + l.count;
 }
 
 abbrev pub decreases-loop-count : goal.decreases-loop-count

@@ -1,9 +1,16 @@
-use Rattle.std.proofs.Common.{sym, subst}
+use Rattle.std.proofs.Common.{rules, ◌≡◌, List, ℕ, [], ◌∷◌, Ok, ap, sym, subst, ◌∙◌}
 use Rattle.hall_core.proofs.MomentLemmas.{durable_same, same_none}
+use Rattle.hall_core.specs.Facts.{unit_of}
+use Rattle.hall_core.specs.Files.{File, file_of}
 use Rattle.hall_core.specs.Moments.{Same}
-use Rattle.volman.specs.Task.{statement_task}
+use Rattle.dadsm_ops.specs.Operations.{image_named}
+use Rattle.pack_spec.specs.Volume.{volume_of}
+use Rattle.volman.specs.Machine.{shelf_with}
+use Rattle.volman.specs.Run.{Does, WorksOn}
+use Rattle.volman.specs.Statement.{item_of}
+use Rattle.volman.specs.Task.{statement_task, task_on}
 use Rattle.volman.proofs.Tasks.{durable_left}
-use Rattle.volman.proofs.Works.{nothing_stated, refused_file}
+use Rattle.volman.proofs.Works.{nothing_stated, on_pack, refused_file, worked_then}
 use Rattle.volman.proofs.top.run.Goals as goal
 
 pub returns-in-Err-clause-does : goal.returns-in-Err-clause-does
@@ -20,3 +27,20 @@ pub returns-in-Err-clause-durable : goal.returns-in-Err-clause-durable
 returns-in-Err-clause-durable g c told short =
     let hall = c.args.hall.now in
     durable_left (g.H.Hall.meaning c.mount.new.hall) (g.H.Hall.meaning c.refuse.new.hall) (c.refuse.ensures.files told) (durable_same (c.mount.ensures.told told) (g.met.H.Hall.none_pending hall told c.requires))
+
+pub returns-in-Ok-clause-does : goal.returns-in-Ok-clause-does
+returns-in-Ok-clause-does g c told =
+    let M = g.H.Hall.meaning in
+    let hall = c.args.hall.now in
+    let mid = c.mount.new.hall in
+    let statement = c.args.statement.now in
+    let status = c.run_statement-status.result.0 in
+    let ended = c.run_statement-status.result.1.now in
+    let name = c.in-Ok.ensures.unit.1 in
+    let behind : Does (task_on c.args.file.now (statement_task c.args.file.now statement) (file_of (M hall).state c.args.file.now)) (M hall) (M ended) status =
+    on_pack (statement_task c.args.file.now statement) (c.in-Ok.ensures.mounted told) (λ volume stands mounted.
+    let there : volume_of (image_named (M mid).state (unit_of (g.H.Hall.facts mid).units c.in-Ok.vol.unit).name) ≡ Ok volume = ap (λ (n : List ℕ). volume_of (image_named (M mid).state n)) name ∙ ap (λ (files : List File). volume_of (image_named files c.args.file.now)) (c.mount.ensures.told told).state ∙ stands in
+    let works = c.run_statement-status.ensures.does told volume there in
+    worked_then c.args.file.now volume (item_of (shelf_with volume) statement ∷ []) status (g.met.H.Hall.none_pending hall told c.requires) (g.met.H.Hall.only_now hall) (c.mount.ensures.told told)
+    (c.run_statement-status.ensures.silent told) (subst (λ (n : List ℕ). WorksOn n volume (item_of (shelf_with volume) statement ∷ []) (M mid) (M ended) status) name works)) in
+    search (rules, behind)

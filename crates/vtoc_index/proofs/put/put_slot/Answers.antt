@@ -1,18 +1,20 @@
-use Rattle.std.proofs.Common.{◌≡◌, ◌+◌, ◌-◌, ◌++◌, List, length, IsTrue, refl, rules, inr, ℕ, ap, subst, sym, ◌∙◌, arith, take}
+use Rattle.std.proofs.Common.{◌≡◌, ◌+◌, ◌-◌, ◌++◌, List, length, IsTrue, refl, rules, inr, ℕ, ap, subst, sym, ◌∙◌, arith, take, length-take, length-drop}
 use Rattle.std.proofs.lemmas.List.{take-append-drop}
 use Rattle.std.proofs.lemmas.Result.{IfOk-from_err}
 use Rattle.ckd_image.specs.declared.header.Geometry.{Geometry}
 use Rattle.hall_core.specs.Facts.{Attached, unit_of}
 use Rattle.hall_core.specs.Files.{image_of, patched}
 use Rattle.track_records.specs.Buffers.{Buffer}
+use Rattle.track_records.specs.Updates.{HasLengths, with_parts}
 use Rattle.track_records.specs.Written.{StandsOn, place_of}
 use Rattle.track_records.proofs.UpdateLemmas.{lengths_there}
-use Rattle.track_records.proofs.WriteLemmas.{same_write, write_done, write_failed}
+use Rattle.track_records.proofs.WriteLemmas.{on_err, same_write, write_done, write_failed}
 use Rattle.vtoc_index.specs.Index.{IsPut, place_of_slot}
 use Rattle.vtoc_index.specs.Puts.{HasSlot, IsHeld, IsReplaced}
 use Rattle.std.specs.Vec.{with_item}
 use Rattle.dscb_codec.specs.declared.Dscb.{Dscb}
 use Rattle.vtoc_index.proofs.BegunLemmas.{after_same, not_begun, same_image}
+use Rattle.vtoc_index.proofs.HeldLemmas.{still_slot}
 use Rattle.vtoc_index.proofs.PutLaw.{front_of, held_place, index_put, slot_found, slot_put, track_of}
 use Rattle.vtoc_index.proofs.put.put_slot.Given.{Over}
 use Rattle.vtoc_index.proofs.put.put_slot.Goals as goal
@@ -125,3 +127,35 @@ returns-clause-told g c told =
       kept = slot_put image v c.args.slot bytes index c.requires.slot size;
       done = (law, index_put image put v (record v { slots = with_item v.slots c.args.slot c.args.dscb.now; buf = c.update.new.buf }) c.args.slot c.args.dscb.now bytes index law c.encode-bytes.ensures.fields (replaced g w c.args.dscb.now) held);
     }
+
+-- behind a write that failed the buffer has a slot there, so that this says nothing of it
+pub returns-in_err-update-clause-unwritten : goal.returns-in_err-update-clause-unwritten
+returns-in_err-update-clause-unwritten g c =
+    let w = (goal.at.returns-in_err-update-clause-unwritten g c).After-update in
+    let size : length c.encode-bytes.result ≡ 140 = search rules in
+    on_err c.from_residual-in_err-update.result _
+    (λ none.
+    absurd
+    (none
+    (still_slot c.hold.new.buf.records c.update.new.buf.records (c.place_of-place.result.number - 1) (front_of c.args.vol.now c.args.slot) c.split_at.result.0.now c.split_at.result.1.now (front_is g w) w.in_ok-hold.ensures.lengths
+    (omega (arith, size, ap length c.split_at.ensures.front, length-take 44 c.encode-bytes.result))
+    (omega (arith, size, ap length c.split_at.ensures.back, length-drop 44 c.encode-bytes.result))
+    (ap (λ (x : Buffer). x.records) c.update.ensures.buffer))))
+
+pub returns-clause-slot : goal.returns-clause-slot
+returns-clause-slot g c =
+    let w = (goal.at.returns-clause-slot g c).After-update in
+    let number = front_is g w in
+    let size : length c.encode-bytes.result ≡ 140 = search rules in (
+      c.encode-bytes.result,
+      c.encode-bytes.ensures.fields,
+      size,
+      (
+        c.hold.new.buf.records,
+        subst (λ (n : ℕ). HasLengths c.hold.new.buf.records n 44 96) number w.in_ok-hold.ensures.lengths,
+        ap (λ (x : Buffer). x.records) c.update.ensures.buffer
+            ∙ ap (λ (n : ℕ). with_parts n c.split_at.result.0.now c.split_at.result.1.now c.hold.new.buf.records) number
+            ∙ ap (λ (l : List ℕ). with_parts (front_of c.args.vol.now c.args.slot) l c.split_at.result.1.now c.hold.new.buf.records) c.split_at.ensures.front
+            ∙ ap (λ (l : List ℕ). with_parts (front_of c.args.vol.now c.args.slot) (take 44 c.encode-bytes.result) l c.hold.new.buf.records) c.split_at.ensures.back,
+      ),
+    )

@@ -1,4 +1,4 @@
-use Rattle.std.proofs.Common.{◌≡◌, ◌≢◌, ◌+◌, ◌-◌, ◌<◌, inl, inr, ⊎_elim, refl, sym, ap, subst, ◌∙◌, arith, ℕ, List, None}
+use Rattle.std.proofs.Common.{◌≡◌, ◌≢◌, ◌+◌, ◌-◌, ◌<◌, inl, inr, ⊎_elim, refl, sym, ap, subst, ◌∙◌, arith, ℕ, List, [], append-nil, None}
 use Rattle.std.specs.Prelude.{Ok, Err}
 use Rattle.std.proofs.lemmas.Result.{err_from_is_err_and}
 use Rattle.ckd_image.specs.declared.header.Geometry.{Geometry}
@@ -9,7 +9,7 @@ use Rattle.pack_spec.specs.Vtoc.{slots_on}
 use Rattle.pack_spec.specs.Volume.{volume_within}
 use Rattle.pack_spec.specs.declared.MountErr.TheVariants.{Device, Memory, VtocTrack}
 use Rattle.vtoc_index.specs.Reading.{AreNumbered, AreTracksRead}
-use Rattle.vtoc_index.proofs.CallsMade.{buffer_read, call_done, call_fails, call_stays, has_track, refuses_at, not_device, stands_whole, stay_more, stay_none, track_reason}
+use Rattle.vtoc_index.proofs.CallsMade.{begins_further, begins_same, buffer_read, call_done, call_fails, call_stays, has_track, refuses_at, not_device, stands_whole, stay_more, stay_none, track_reason}
 use Rattle.vtoc_index.proofs.Images.{same_image}
 use Rattle.vtoc_index.proofs.TracksRead.{numbered_more, read_more, slots_are, track_refused}
 use Rattle.vtoc_index.proofs.read.read_others.Goals as goal
@@ -20,12 +20,14 @@ loop-track-init g c =
     let one : 1 ≡ start + 1 - start = omega arith in
     let image = image_of (g.H.Hall.meaning c.args.hall.now).state (g.H.Hall.facts c.args.hall.now) c.args.unit in
     record {
-      calls = (omega arith, omega arith, omega arith, omega arith);
+      calls = (omega arith, omega arith, omega arith, omega arith, omega arith);
       facts = stay_none _;
       told = λ told. same_none _ (g.met.H.Hall.counts_now c.args.hall.now);
       geometry = c.requires.buffer.0;
       unit_is = c.requires.buffer.1;
       numbers = subst (λ (n : ℕ). AreNumbered n c.args.found.now) one c.requires.numbers;
+      slots = begins_same c.args.found.now.slots.items;
+      firsts = begins_same c.args.found.now.firsts.items;
       last = λ is. omega (arith, is);
       read = λ told first. subst (λ (n : ℕ). AreTracksRead image c.args.geometry start n c.args.found.now) one first;
       stands = λ told stands. stands;
@@ -116,12 +118,15 @@ loop-track-preserved g c =
         omega (arith, l.invariant.calls.1, c.in_ok-count.ensures.calls.1),
         omega (arith, l.invariant.calls.2, c.in_ok-count.ensures.calls.2),
         omega (arith, l.invariant.calls.3, c.in_ok-count.ensures.calls.3),
+        omega (arith, l.invariant.calls.4, c.in_ok-count.ensures.calls.4),
       );
       facts = stay_more _ _ _ c.in_ok-count.count l.invariant.facts c.in_ok-count.ensures.call;
       told = λ told. same_then (l.invariant.told told) (c.in_ok-count.ensures.told told);
       geometry = geometry;
       unit_is = held.unit_is;
       numbers = subst (λ (n : ℕ). AreNumbered n c.add.new.self) next (numbered_more c.args.geometry l.track (l.track - start) few.0 c.read_track.new.buf.records l.found c.add.new.self l.invariant.numbers c.in_ok-add.ensures.firsts few.1 few.2 c.in_ok-add.ensures.slots);
+      slots = begins_further _ _ _ c.in_ok-add.ensures.slots.slots l.invariant.slots c.in_ok-add.ensures.slots.added;
+      firsts = begins_further _ _ _ _ l.invariant.firsts c.in_ok-add.ensures.firsts;
       last = λ _. omega (arith, held.track_is, l.auto.track);
       read = λ told first.
           let seen = image_of (g.H.Hall.meaning l.hall).state (g.H.Hall.facts l.hall) c.args.unit in
@@ -174,6 +179,7 @@ returns-in_err-count-clause-calls g c =
       omega (arith, l.invariant.calls.1, read.1),
       omega (arith, l.invariant.calls.2, read.2),
       omega (arith, l.invariant.calls.3, read.3),
+      omega (arith, l.invariant.calls.4, read.4),
     )
 
 pub returns-in_err-add-clause-calls : goal.returns-in_err-add-clause-calls
@@ -184,10 +190,24 @@ returns-in_err-add-clause-calls g c =
       omega (arith, l.invariant.calls.1, read.1),
       omega (arith, l.invariant.calls.2, read.2),
       omega (arith, l.invariant.calls.3, read.3),
+      omega (arith, l.invariant.calls.4, read.4),
     )
 
 pub returns-clause-calls : goal.returns-clause-calls
 returns-clause-calls g c =
     let l = c.loop-track in
     let calls = l.invariant.calls in
-    (omega (arith, calls.0, c.loop-track-test.false, l.auto.track, l.auto.track-end, c.requires.tracks.0), omega (arith, calls.1), omega (arith, calls.2), omega (arith, calls.3))
+    (omega (arith, calls.0, c.loop-track-test.false, l.auto.track, l.auto.track-end, c.requires.tracks.0), omega (arith, calls.1), omega (arith, calls.2), omega (arith, calls.3), omega (arith, calls.4))
+
+-- what was found before stands in front, whatever comes
+pub returns-in_err-count-clause-begun : goal.returns-in_err-count-clause-begun
+returns-in_err-count-clause-begun g c = (c.loop-track.invariant.slots, c.loop-track.invariant.firsts)
+
+pub returns-in_err-add-clause-begun : goal.returns-in_err-add-clause-begun
+returns-in_err-add-clause-begun g c =
+    let l = c.loop-track in
+    let kept = c.in_err-add.ensures.kept in
+    (begins_further _ _ _ kept.1.slots l.invariant.slots kept.1.added, ⊎_elim (λ same. begins_further _ _ _ [] l.invariant.firsts (same ∙ sym (append-nil l.found.firsts.items))) (λ more. begins_further _ _ _ _ l.invariant.firsts more) c.in_err-add.ensures.begun)
+
+pub returns-clause-begun : goal.returns-clause-begun
+returns-clause-begun g c = (c.loop-track.invariant.slots, c.loop-track.invariant.firsts)

@@ -1,11 +1,11 @@
-use Rattle.std.proofs.Common.{inl, refl, sym, ap, subst, ◌∙◌, ℕ, List, None, ◌+◌, ◌-◌}
+use Rattle.std.proofs.Common.{inl, refl, sym, ap, subst, ◌∙◌, arith, ℕ, List, None, ◌+◌, ◌-◌}
 use Rattle.std.specs.Prelude.{Ok, Err}
 use Rattle.std.proofs.lemmas.Result.{err_from_is_err_and}
 use Rattle.hall_core.specs.Files.{image_of}
 use Rattle.pack_spec.specs.Volume.{volume_within}
 use Rattle.pack_spec.specs.declared.MountErr.TheVariants.{Memory}
 use Rattle.vtoc_index.specs.Reading.{AreTracksRead, vtoc_on}
-use Rattle.vtoc_index.proofs.CallsMade.{refuses_at, track_reason, reads_then}
+use Rattle.vtoc_index.proofs.CallsMade.{refuses_at, track_reason, reads_then, reads_within}
 use Rattle.vtoc_index.proofs.Images.{same_image}
 use Rattle.vtoc_index.proofs.Reasons.{refuses_same}
 use Rattle.vtoc_index.proofs.TracksRead.{first_refused, first_read, slots_are}
@@ -46,7 +46,13 @@ returns-clause-read g c told =
     (c.in_ok-read_others.ensures.read told (subst (λ (i : List ℕ). AreTracksRead i c.args.geometry vtoc.start 1 c.add.new.self) (sym same) first))
 
 pub returns-in_err-read_others-clause-calls : goal.returns-in_err-read_others-clause-calls
-returns-in_err-read_others-clause-calls g c = let more = c.in_ok-vtoc.vtoc.len - 1 in (1 + more, reads_then 1 more (g.H.Hall.calls c.args.hall.now) (g.H.Hall.calls c.read_first.new.hall) (g.H.Hall.calls c.read_others.new.hall) c.in_ok-vtoc.ensures.once c.in_err-read_others.ensures.calls)
+returns-in_err-read_others-clause-calls g c =
+    let more = c.in_ok-vtoc.vtoc.len - 1 in
+    let extent = c.in_ok-vtoc.ensures.numbers.0 in
+    reads_within (1 + more) 257 (g.H.Hall.calls c.args.hall.now) (g.H.Hall.calls c.read_others.new.hall) (omega (arith, extent.some, extent.few)) (reads_then 1 more (g.H.Hall.calls c.args.hall.now) (g.H.Hall.calls c.read_first.new.hall) (g.H.Hall.calls c.read_others.new.hall) c.in_ok-vtoc.ensures.once c.in_err-read_others.ensures.calls)
 
 pub returns-clause-calls : goal.returns-clause-calls
-returns-clause-calls g c = let more = c.in_ok-vtoc.vtoc.len - 1 in (1 + more, reads_then 1 more (g.H.Hall.calls c.args.hall.now) (g.H.Hall.calls c.read_first.new.hall) (g.H.Hall.calls c.read_others.new.hall) c.in_ok-vtoc.ensures.once c.in_ok-read_others.ensures.calls)
+returns-clause-calls g c =
+    let more = c.in_ok-vtoc.vtoc.len - 1 in
+    let extent = c.in_ok-vtoc.ensures.numbers.0 in
+    reads_within (1 + more) 257 (g.H.Hall.calls c.args.hall.now) (g.H.Hall.calls c.read_others.new.hall) (omega (arith, extent.some, extent.few)) (reads_then 1 more (g.H.Hall.calls c.args.hall.now) (g.H.Hall.calls c.read_first.new.hall) (g.H.Hall.calls c.read_others.new.hall) c.in_ok-vtoc.ensures.once c.in_ok-read_others.ensures.calls)

@@ -1,4 +1,4 @@
-use Rattle.std.proofs.Common.{◌≡◌, refl, sym, ap, subst, ◌∙◌, arith, ℕ, List, length, ◌+◌}
+use Rattle.std.proofs.Common.{◌≡◌, refl, sym, ap, subst, ◌∙◌, arith, ℕ, List, length}
 use Rattle.std.specs.Prelude.{Err}
 use Rattle.std.proofs.lemmas.Result.{err_from_is_err_and}
 use Rattle.hall_core.specs.Files.{image_of}
@@ -12,6 +12,7 @@ use Rattle.vtoc_index.specs.declared.slots.ReadSlot.{ReadSlot}
 use Rattle.vtoc_index.proofs.CallsMade.{reason_at, reads_then}
 use Rattle.vtoc_index.proofs.Images.{same_image}
 use Rattle.vtoc_index.proofs.Mounts.{label_reason, label_seen, mounted, outside_reason, slots_reason, vtoc_reason}
+use Rattle.vtoc_index.proofs.ReadsMade.{image_of_vtoc, one_of_image, two_of_image}
 use Rattle.vtoc_index.proofs.TracksRead.{AreRead-length, dscbs_many}
 use Rattle.vtoc_index.proofs.read.read_vtoc.Goals as goal
 
@@ -111,10 +112,57 @@ returns-clause-unit g c =
 
 pub returns-in_err-vtoc-clause-calls : goal.returns-in_err-vtoc-clause-calls
 returns-in_err-vtoc-clause-calls g c =
-    let slots = c.in_err-vtoc.ensures.calls in
-    (2 + slots.0, reads_then 2 slots.0 (g.H.Hall.calls c.args.hall.now) (g.H.Hall.calls c.read_label.new.hall) (g.H.Hall.calls c.read_slots.new.hall) (reads_then 1 1 (g.H.Hall.calls c.args.hall.now) (g.H.Hall.calls c.read_geometry.new.hall) (g.H.Hall.calls c.read_label.new.hall) c.in_ok-geometry.ensures.calls c.in_ok-label.ensures.calls) slots.1)
+    reads_then 2 257 (g.H.Hall.calls c.args.hall.now) (g.H.Hall.calls c.read_label.new.hall) (g.H.Hall.calls c.read_slots.new.hall) (reads_then 1 1 (g.H.Hall.calls c.args.hall.now) (g.H.Hall.calls c.read_geometry.new.hall) (g.H.Hall.calls c.read_label.new.hall) c.in_ok-geometry.ensures.calls c.in_ok-label.ensures.calls) c.in_err-vtoc.ensures.calls
 
 pub returns-clause-calls : goal.returns-clause-calls
 returns-clause-calls g c =
-    let slots = c.in_ok-vtoc.ensures.calls in
-    (2 + slots.0, reads_then 2 slots.0 (g.H.Hall.calls c.args.hall.now) (g.H.Hall.calls c.read_label.new.hall) (g.H.Hall.calls c.read_slots.new.hall) (reads_then 1 1 (g.H.Hall.calls c.args.hall.now) (g.H.Hall.calls c.read_geometry.new.hall) (g.H.Hall.calls c.read_label.new.hall) c.in_ok-geometry.ensures.calls c.in_ok-label.ensures.calls) slots.1)
+    reads_then 2 257 (g.H.Hall.calls c.args.hall.now) (g.H.Hall.calls c.read_label.new.hall) (g.H.Hall.calls c.read_slots.new.hall) (reads_then 1 1 (g.H.Hall.calls c.args.hall.now) (g.H.Hall.calls c.read_geometry.new.hall) (g.H.Hall.calls c.read_label.new.hall) c.in_ok-geometry.ensures.calls c.in_ok-label.ensures.calls) c.in_ok-vtoc.ensures.calls
+
+-- the reads that each answer takes
+pub returns-in_err-geometry-clause-reads : goal.returns-in_err-geometry-clause-reads
+returns-in_err-geometry-clause-reads g c told = one_of_image (image_of (g.H.Hall.meaning c.args.hall.now).state (g.H.Hall.facts c.args.hall.now) c.args.unit) (g.H.Hall.calls c.args.hall.now) (g.H.Hall.calls c.read_geometry.new.hall) c.in_err-geometry.ensures.calls
+
+pub returns-in_err-buf-clause-reads : goal.returns-in_err-buf-clause-reads
+returns-in_err-buf-clause-reads g c told = one_of_image (image_of (g.H.Hall.meaning c.args.hall.now).state (g.H.Hall.facts c.args.hall.now) c.args.unit) (g.H.Hall.calls c.args.hall.now) (g.H.Hall.calls c.read_geometry.new.hall) c.in_ok-geometry.ensures.calls
+
+pub returns-in_err-label-clause-reads : goal.returns-in_err-label-clause-reads
+returns-in_err-label-clause-reads g c told = two_of_image (image_of (g.H.Hall.meaning c.args.hall.now).state (g.H.Hall.facts c.args.hall.now) c.args.unit) c.in_ok-geometry.geometry (g.H.Hall.calls c.args.hall.now) (g.H.Hall.calls c.read_label.new.hall) (c.in_ok-geometry.ensures.read told) (reads_then 1 1 (g.H.Hall.calls c.args.hall.now) (g.H.Hall.calls c.read_geometry.new.hall) (g.H.Hall.calls c.read_label.new.hall) c.in_ok-geometry.ensures.calls c.in_err-label.ensures.calls)
+
+pub returns-then-not-is_inside-clause-reads : goal.returns-then-not-is_inside-clause-reads
+returns-then-not-is_inside-clause-reads g c told = two_of_image (image_of (g.H.Hall.meaning c.args.hall.now).state (g.H.Hall.facts c.args.hall.now) c.args.unit) c.in_ok-geometry.geometry (g.H.Hall.calls c.args.hall.now) (g.H.Hall.calls c.read_label.new.hall) (c.in_ok-geometry.ensures.read told) (reads_then 1 1 (g.H.Hall.calls c.args.hall.now) (g.H.Hall.calls c.read_geometry.new.hall) (g.H.Hall.calls c.read_label.new.hall) c.in_ok-geometry.ensures.calls c.in_ok-label.ensures.calls)
+
+pub returns-in_err-vtoc-clause-reads : goal.returns-in_err-vtoc-clause-reads
+returns-in_err-vtoc-clause-reads g c told =
+    let geometry = c.in_ok-geometry.geometry in
+    let image = image_of (g.H.Hall.meaning c.args.hall.now).state (g.H.Hall.facts c.args.hall.now) c.args.unit in
+    let seen = image_of (g.H.Hall.meaning c.read_geometry.new.hall).state (g.H.Hall.facts c.read_geometry.new.hall) c.args.unit in
+    let same : seen ≡ image = same_image (g.H.Hall.meaning c.read_geometry.new.hall).state (g.H.Hall.meaning c.args.hall.now).state (g.H.Hall.facts c.read_geometry.new.hall) (g.H.Hall.facts c.args.hall.now) c.args.unit (c.in_ok-geometry.ensures.told told).state c.in_ok-geometry.ensures.call.units in
+    let alike : c.in_ok-buf.buf.geometry ≡ geometry = ap (λ (b : Buffer). b.geometry) c.in_ok-buf.ensures in
+    let label = label_seen image seen geometry c.in_ok-buf.buf.geometry c.in_ok-label.label same alike (c.in_ok-label.ensures.label told) in
+    let later = image_of (g.H.Hall.meaning c.read_label.new.hall).state (g.H.Hall.facts c.read_label.new.hall) c.args.unit in
+    let still : later ≡ image = same_image (g.H.Hall.meaning c.read_label.new.hall).state (g.H.Hall.meaning c.read_geometry.new.hall).state (g.H.Hall.facts c.read_label.new.hall) (g.H.Hall.facts c.read_geometry.new.hall) c.args.unit (c.in_ok-label.ensures.told told).state c.in_ok-label.ensures.call.units ∙ same in
+    image_of_vtoc image later geometry c.in_ok-label.label (g.H.Hall.calls c.args.hall.now) (g.H.Hall.calls c.read_label.new.hall) (g.H.Hall.calls c.read_slots.new.hall) still (c.in_ok-geometry.ensures.read told) label (sym c.if-not-is_inside.ensures) (reads_then 1 1 (g.H.Hall.calls c.args.hall.now) (g.H.Hall.calls c.read_geometry.new.hall) (g.H.Hall.calls c.read_label.new.hall) c.in_ok-geometry.ensures.calls c.in_ok-label.ensures.calls) (c.in_err-vtoc.ensures.reads told)
+
+pub returns-in_err-slots-clause-reads : goal.returns-in_err-slots-clause-reads
+returns-in_err-slots-clause-reads g c told =
+    let geometry = c.in_ok-geometry.geometry in
+    let image = image_of (g.H.Hall.meaning c.args.hall.now).state (g.H.Hall.facts c.args.hall.now) c.args.unit in
+    let seen = image_of (g.H.Hall.meaning c.read_geometry.new.hall).state (g.H.Hall.facts c.read_geometry.new.hall) c.args.unit in
+    let same : seen ≡ image = same_image (g.H.Hall.meaning c.read_geometry.new.hall).state (g.H.Hall.meaning c.args.hall.now).state (g.H.Hall.facts c.read_geometry.new.hall) (g.H.Hall.facts c.args.hall.now) c.args.unit (c.in_ok-geometry.ensures.told told).state c.in_ok-geometry.ensures.call.units in
+    let alike : c.in_ok-buf.buf.geometry ≡ geometry = ap (λ (b : Buffer). b.geometry) c.in_ok-buf.ensures in
+    let label = label_seen image seen geometry c.in_ok-buf.buf.geometry c.in_ok-label.label same alike (c.in_ok-label.ensures.label told) in
+    let later = image_of (g.H.Hall.meaning c.read_label.new.hall).state (g.H.Hall.facts c.read_label.new.hall) c.args.unit in
+    let still : later ≡ image = same_image (g.H.Hall.meaning c.read_label.new.hall).state (g.H.Hall.meaning c.read_geometry.new.hall).state (g.H.Hall.facts c.read_label.new.hall) (g.H.Hall.facts c.read_geometry.new.hall) c.args.unit (c.in_ok-label.ensures.told told).state c.in_ok-label.ensures.call.units ∙ same in
+    image_of_vtoc image later geometry c.in_ok-label.label (g.H.Hall.calls c.args.hall.now) (g.H.Hall.calls c.read_label.new.hall) (g.H.Hall.calls c.read_slots.new.hall) still (c.in_ok-geometry.ensures.read told) label (sym c.if-not-is_inside.ensures) (reads_then 1 1 (g.H.Hall.calls c.args.hall.now) (g.H.Hall.calls c.read_geometry.new.hall) (g.H.Hall.calls c.read_label.new.hall) c.in_ok-geometry.ensures.calls c.in_ok-label.ensures.calls) (c.in_ok-vtoc.ensures.reads told)
+
+pub returns-clause-reads : goal.returns-clause-reads
+returns-clause-reads g c told =
+    let geometry = c.in_ok-geometry.geometry in
+    let image = image_of (g.H.Hall.meaning c.args.hall.now).state (g.H.Hall.facts c.args.hall.now) c.args.unit in
+    let seen = image_of (g.H.Hall.meaning c.read_geometry.new.hall).state (g.H.Hall.facts c.read_geometry.new.hall) c.args.unit in
+    let same : seen ≡ image = same_image (g.H.Hall.meaning c.read_geometry.new.hall).state (g.H.Hall.meaning c.args.hall.now).state (g.H.Hall.facts c.read_geometry.new.hall) (g.H.Hall.facts c.args.hall.now) c.args.unit (c.in_ok-geometry.ensures.told told).state c.in_ok-geometry.ensures.call.units in
+    let alike : c.in_ok-buf.buf.geometry ≡ geometry = ap (λ (b : Buffer). b.geometry) c.in_ok-buf.ensures in
+    let label = label_seen image seen geometry c.in_ok-buf.buf.geometry c.in_ok-label.label same alike (c.in_ok-label.ensures.label told) in
+    let later = image_of (g.H.Hall.meaning c.read_label.new.hall).state (g.H.Hall.facts c.read_label.new.hall) c.args.unit in
+    let still : later ≡ image = same_image (g.H.Hall.meaning c.read_label.new.hall).state (g.H.Hall.meaning c.read_geometry.new.hall).state (g.H.Hall.facts c.read_label.new.hall) (g.H.Hall.facts c.read_geometry.new.hall) c.args.unit (c.in_ok-label.ensures.told told).state c.in_ok-label.ensures.call.units ∙ same in
+    image_of_vtoc image later geometry c.in_ok-label.label (g.H.Hall.calls c.args.hall.now) (g.H.Hall.calls c.read_label.new.hall) (g.H.Hall.calls c.read_slots.new.hall) still (c.in_ok-geometry.ensures.read told) label (sym c.if-not-is_inside.ensures) (reads_then 1 1 (g.H.Hall.calls c.args.hall.now) (g.H.Hall.calls c.read_geometry.new.hall) (g.H.Hall.calls c.read_label.new.hall) c.in_ok-geometry.ensures.calls c.in_ok-label.ensures.calls) (c.in_ok-vtoc.ensures.reads told)

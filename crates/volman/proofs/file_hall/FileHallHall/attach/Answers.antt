@@ -1,5 +1,6 @@
-use Rattle.std.proofs.Common.{◌≡◌, ◌++◌, ◌∷◌, [], length, false, refl, ap, ◌∙◌, arith, rules}
+use Rattle.std.proofs.Common.{◌≡◌, ◌++◌, ◌∷◌, [], length, false, refl, ap, ◌∙◌, arith, rules, take}
 use Rattle.std.specs.Prelude.{string_bytes}
+use Rattle.std.proofs.Math.Seq.{take-append_seam}
 use Rattle.std.proofs.lemmas.List.{length-map}
 use Rattle.volman.specs.FileHall.{units_of}
 use Rattle.volman.proofs.Units.{units_of-push}
@@ -22,3 +23,10 @@ returns-clause-call g c =
       others = λ _. uncounted;
       memory = λ e. absurd (cc e);
     }
+
+-- the units before stand in front of the new one
+pub returns-clause-before : goal.returns-clause-before
+returns-clause-before g c =
+    let old = c.args.self.now.units.items in
+    let pushed : c.push.new.self.items ≡ old ++ record { name = c.in_ok-name_copy.name_copy; file = c.in_ok-file.file; size = c.in_ok-file.size; is_written = false } ∷ [] = search rules in
+    ap (take (length old)) pushed ∙ take-append_seam old _
