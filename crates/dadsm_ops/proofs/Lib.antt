@@ -2,6 +2,7 @@ pub mod Cases
 pub mod ChangedLists
 pub mod DoneCases
 pub mod FoundSets
+pub mod HeldCases
 pub mod OneOutcome
 pub mod Operating
 pub mod OperationCases

@@ -1,7 +1,8 @@
 -- A set under its new name, put and made durable: what the operation on the volume is then.
-use Rattle.std.proofs.Common.{◌≡◌, ◌⊎◌, ⊎_elim, inl, inr, ℕ, List, length, Some, refl, sym, ap, subst, ◌∙◌, get_or}
+use Rattle.std.proofs.Common.{◌≡◌, ◌⊎◌, ⊎_elim, inl, inr, ℕ, List, length, Some, refl, sym, ap, subst, ◌∙◌, get_or, ◌+◌, arith}
 use Rattle.std.specs.Prelude.{Result, Ok, Err, slice_get, slice_set}
-use Rattle.std.proofs.lemmas.Option.{get_or_from_slice_get}
+use Rattle.std.proofs.lemmas.List.{get_or-set_same, length-set}
+use Rattle.std.proofs.lemmas.Option.{get_or_from_slice_get, slice_get-get_or}
 use Rattle.dscb_codec.specs.declared.Dscb.{Dscb}
 use Rattle.dscb_codec.specs.declared.Dscb.TheVariants as formats
 use Rattle.dscb_codec.specs.declared.F1.{F1}
@@ -14,11 +15,11 @@ use Rattle.pack_spec.specs.Volume.{volume_of}
 use Rattle.vol_model.specs.Shelf.{rename_on}
 use Rattle.vol_model.specs.declared.answers.StoreErr.TheVariants.{Device}
 use Rattle.vol_model.specs.declared.contents.Volume.{Volume}
-use Rattle.vtoc_index.specs.Index.{IsMounted, IsPut}
-use Rattle.vtoc_index.specs.Puts.{IsReplaced}
+use Rattle.vtoc_index.specs.Index.{IsMounted, IsPut, slots_in_front, track_index}
+use Rattle.vtoc_index.specs.Puts.{HoldsDscb, IsReplaced}
 use Rattle.vtoc_index.specs.declared.vol.Vol.{Vol}
 use Rattle.vtoc_index.proofs.NameLemmas.{named_alike}
-use Rattle.dadsm_ops.specs.Naming.{HaveName, IsToRename, PutsName, RenamesEntry, under_name}
+use Rattle.dadsm_ops.specs.Naming.{HaveName, HoldsRenamed, IsToRename, PutsName, RenamesEntry, under_name}
 use Rattle.dadsm_ops.specs.Operations.{Operates, image_named}
 use Rattle.dadsm_ops.specs.Through.{HaveSlot, PutsThrough}
 use Rattle.dadsm_ops.proofs.FoundSets.{FoundSet, set_found}
@@ -39,6 +40,23 @@ renames_entry old new items items' slot x d found read is put =
       dscb = x;
       held = set.set ∙ ap Some (sym (read ∙ get_or_from_slice_get items slot (formats.F1 set.f) x set.set));
       slots = put ∙ ap (slice_set items slot) is;
+    }
+
+-- the buffer holds the DSCB that the slot has then
+pub holds_renamed : (old new : List ℕ) (v v' : Vol) (slot : ℕ) (d : Dscb) → IsToRename v.slots.items old new slot → v'.slots.items ≡ slice_set v.slots.items slot d → v'.buf.track ≡ v.vtoc.start + track_index v.firsts.items slot → HoldsDscb (slots_in_front v.firsts.items slot) d v'.buf.records → HoldsRenamed old new v v'
+holds_renamed old new v v' slot d found put track held =
+    let items = v.slots.items in
+    let low = (set_found old items slot found.found).low in
+    record {
+      slot = slot;
+      found = found;
+      dscb = d;
+      named =
+          ap (λ (l : List Dscb). slice_get l slot) put
+          ∙ slice_get-get_or (slice_set items slot d) slot d (omega (arith, low, length-set items slot d))
+          ∙ ap Some (get_or-set_same items slot d d low);
+      track = track;
+      held = held;
     }
 
 -- the same, where the slots may be as before

@@ -1,13 +1,15 @@
 -- What gives a data set another name, in the slots of a VTOC (System Control Blocks GC28-6628).
-use Rattle.std.specs.Prelude.{◌≡◌, ◌⊎◌, ℕ, ◌||◌, false, if◌then◌else◌, List, [], ◌∷◌, ◌++◌, drop, position, slice_get, Option, Some, None, is_none, is_some, slice_set, Result, Ok, Err}
+use Rattle.std.specs.Prelude.{◌≡◌, ◌⊎◌, ℕ, ◌+◌, ◌≤◌, ◌||◌, false, if◌then◌else◌, List, [], ◌∷◌, ◌++◌, drop, length, position, slice_get, Option, Some, None, is_none, is_some, slice_set, Result, Ok, Err, OnErr}
 use Rattle.dscb_codec.specs.declared.Dscb.{Dscb}
 use Rattle.dscb_codec.specs.declared.Dscb.TheVariants.{F1}
 use Rattle.ebcdic_names.specs.declared.names.Dsn.{Dsn}
+use Rattle.hall_core.specs.Facts.{Calls, CallsAtMost}
 use Rattle.hall_core.specs.Files.{File}
 use Rattle.hall_core.specs.Moments.{Meaning}
 use Rattle.hall_core.specs.Steps.{StepTo}
 use Rattle.pack_spec.specs.declared.addressed.VtocSlot.{VtocSlot}
 use Rattle.pack_spec.specs.Slots.{slots_of_vtoc}
+use Rattle.track_records.specs.Updates.{HasLengths}
 use Rattle.vol_model.specs.Shelf.{is_catalog}
 use Rattle.vol_model.specs.declared.answers.StoreErr.{StoreErr}
 use Rattle.vol_model.specs.declared.answers.StoreErr.TheVariants.{Refused, Memory, Device}
@@ -16,7 +18,8 @@ use Rattle.vol_model.specs.declared.refusals.Refusal.TheVariants.{NoSet, SetExis
 use Rattle.vol_model.specs.declared.requests.Op.{Op}
 use Rattle.vol_model.specs.declared.requests.Op.TheVariants.{Rename}
 use Rattle.vtoc_index.specs.Contents.{is_set_named}
-use Rattle.vtoc_index.specs.Index.{IsMounted}
+use Rattle.vtoc_index.specs.Index.{IsMounted, slots_in_front, track_index}
+use Rattle.vtoc_index.specs.Puts.{HoldsDscb, HoldsSlot}
 use Rattle.vtoc_index.specs.declared.vol.Vol.{Vol}
 use Rattle.dadsm_ops.specs.Operations.{image_named}
 use Rattle.dadsm_ops.specs.Through.{HaveSlot}
@@ -53,6 +56,21 @@ pub record RenamesEntry (old new : List ℕ) (before after : List Dscb) : Type 0
   pub dscb : Dscb
   pub held : slice_get before slot ≡ Some dscb
   pub slots : after ≡ slice_set before slot (under_name new dscb)
+
+-- The buffer holds the track on which the slot of the old name stands, and the slot's record there the DSCB that the index has now.
+pub record HoldsRenamed (old new : List ℕ) (before after : Vol) : Type 0 where
+  pub slot : ℕ
+  pub found : IsToRename before.slots.items old new slot
+  pub dscb : Dscb
+  pub named : slice_get after.slots.items slot ≡ Some dscb
+  pub track : after.buf.track ≡ before.vtoc.start + track_index before.firsts.items slot
+  pub held : HoldsDscb (slots_in_front before.firsts.items slot) dscb after.buf.records
+
+-- The calls of a rename, by the slot of the old name: no read where the buffer holds it, no write nor sync where no slot is found there, and no more of the track in the buffer behind it than up to the slot.
+pub record RenameCalls {T E : Type 0} (old new : List ℕ) (before after : Vol) (calls calls' : Calls) (result : Result T E) : Type 0 where
+  pub again : (slot : ℕ) → IsToRename before.slots.items old new slot → HoldsSlot before slot → CallsAtMost 0 1 1 0 calls calls'
+  pub few : (slot : ℕ) → IsToRename before.slots.items old new slot → ¬ HoldsSlot before slot → length after.buf.records ≤ slots_in_front before.firsts.items slot + 1
+  pub unwritten : OnErr result ((slot : ℕ) → IsToRename before.slots.items old new slot → ¬ HasLengths after.buf.records (slots_in_front before.firsts.items slot) 44 96 → CallsAtMost 1 0 0 0 calls calls')
 
 -- the bytes of a slot, under another name: the name is the key, 44 bytes in front, and the other 96 stay
 abbrev pub named_bytes : List ℕ → List ℕ → List ℕ

@@ -1,5 +1,5 @@
 //! Another name for a data set.
-ghost use Rattle.std.specs.Prelude.{◌≡◌, ◌⊎◌, ◌≤◌, ℕ, List, length, IsTrue, IfOk, IfErr, IsErrOf, OnOk, Some, Ok, Err};
+ghost use Rattle.std.specs.Prelude.{◌≡◌, ◌⊎◌, ◌≤◌, ℕ, List, length, IsTrue, IfOk, IfErr, IsErrOf, OnOk, OnErr, Some, Ok, Err};
 ghost use Rattle.hall_core.specs.Facts.{CallsAtMost, unit_of};
 ghost use Rattle.hall_core.specs.Files.{image_of};
 ghost use Rattle.hall_core.specs.Moments.{IsDurable};
@@ -7,8 +7,9 @@ ghost use Rattle.pack_spec.specs.Volume.{volume_of};
 ghost use Rattle.vol_model.specs.Shelf.{rename_on};
 ghost use Rattle.vol_model.specs.declared.contents.Volume.{Volume};
 ghost use Rattle.vtoc_index.specs.Index.{IsMounted, IsOfUnit};
-ghost use Rattle.dadsm_ops.specs.Naming.{IsToRename, RenamesEntry, WritesName, refusal_answered, refusal_in, under_name};
+ghost use Rattle.dadsm_ops.specs.Naming.{HoldsRenamed, IsToRename, RenameCalls, RenamesEntry, WritesName, refusal_answered, refusal_in, under_name};
 ghost use Rattle.dadsm_ops.specs.Operations.{Operates, StoreCall};
+ghost use Rattle.dadsm_ops.specs.Through.{IsBeforeOr};
 
 use crate::through::put_through;
 use dscb_codec::{Dscb, F1};
@@ -27,8 +28,8 @@ use vtoc_index::{Vol, find};
 /// It is refused, in this order, where the volume has no set of the old name (`NoSet`), where it has one
 /// of the new name (`SetExists`), and where either name is SYSCTLG (`WrongKind`); then nothing is called,
 /// and the index is as before. It takes no memory, so `Memory` never comes. `Device` comes only where
-/// the count of its faults rose. The index is that of the new image after `Ok`. After `Device` it may be that
-/// of no image, and has the slots as before or with the set under the new name.
+/// the count of its faults rose. The index is that of the new image after `Ok`. After `Device` it has the slots
+/// as before, and may be that of no image; or it has the set under the new name, and is that of the image.
 pub fn rename<H: Hall>(hall: &mut H, vol: &mut Vol, old: &Dsn, new: &Dsn) -> Result<(), StoreErr>
     requires unit { IsOfUnit (H.facts hall.old).units vol.old }
     requires mounted { IsTrue H.tells → IsMounted (image_of (H.meaning hall.old).state (H.facts hall.old) vol.old.unit) vol.old }
@@ -38,12 +39,15 @@ pub fn rename<H: Hall>(hall: &mut H, vol: &mut Vol, old: &Dsn, new: &Dsn) -> Res
     ensures unit { IsOfUnit (H.facts hall.new).units vol.new }
     ensures index { vol.new ≡ record vol.old { slots = vol.new.slots; buf = vol.new.buf } }
     ensures entry { OnOk result (RenamesEntry old.now.bytes new.now.bytes vol.old.slots.items vol.new.slots.items) }
+    ensures held { OnOk result (HoldsRenamed old.now.bytes new.now.bytes vol.old vol.new) }
     ensures slots { (vol.new.slots.items ≡ vol.old.slots.items) ⊎ RenamesEntry old.now.bytes new.now.bytes vol.old.slots.items vol.new.slots.items }
+    ensures ahead { IsTrue H.tells → OnErr result (IsBeforeOr vol.old (image_of (H.meaning hall.new).state (H.facts hall.new) vol.old.unit) vol.new) }
     ensures refused { (r : Refusal) → IsErrOf result (StoreErr.Refused r) → (hall.new ≡ hall.old) × (vol.new ≡ vol.old) }
     ensures reason { refusal_answered result ≡ refusal_in vol.old.slots.items old.now.bytes new.now.bytes }
     ensures memory { IsErrOf result StoreErr.Memory → ⊥ }
     ensures call { StoreCall (H.facts hall.old) (H.facts hall.new) result }
     ensures calls { CallsAtMost 1 1 1 0 (H.calls hall.old) (H.calls hall.new) }
+    ensures again { RenameCalls old.now.bytes new.now.bytes vol.old vol.new (H.calls hall.old) (H.calls hall.new) result }
 {
     let slot = slot_to_rename(vol, old, new).map_err(StoreErr::Refused)?;
     let dscb = under_name(&vol.slots[slot as usize], new);

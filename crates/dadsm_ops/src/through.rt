@@ -1,19 +1,20 @@
 //! One slot of a VTOC, written and made durable.
-ghost use Rattle.std.specs.Prelude.{◌≡◌, ◌⊎◌, ◌<◌, ◌+◌, length, slice_set, IsTrue, OnOk, OnErr};
+ghost use Rattle.std.specs.Prelude.{◌≡◌, ◌⊎◌, ◌<◌, ◌≤◌, ◌+◌, length, slice_set, IsTrue, OnOk, OnErr};
 ghost use Rattle.hall_core.specs.Facts.{CallsAtMost, DeviceCall, unit_of};
 ghost use Rattle.hall_core.specs.Files.{AfterSync, image_of};
 ghost use Rattle.hall_core.specs.Moments.{IsDurable};
 ghost use Rattle.track_records.specs.Updates.{HasLengths};
 ghost use Rattle.vtoc_index.specs.Index.{IsIndexOf, IsOfUnit, slots_in_front, track_index};
-ghost use Rattle.vtoc_index.specs.Puts.{IsReplaced};
-ghost use Rattle.dadsm_ops.specs.Through.{PutsThrough};
+ghost use Rattle.vtoc_index.specs.Puts.{HoldsDscb, HoldsSlot, IsReplaced};
+ghost use Rattle.dadsm_ops.specs.Through.{IsBeforeOr, PutsThrough};
 
 use dscb_codec::Dscb;
 use hall_core::{Device, Hall};
 use vtoc_index::{Vol, put_slot};
 
 // Puts a DSCB into a slot by one write, and makes it durable. After an error the write is pending, done,
-// or not begun, and the index, with the slot as it was or with the DSCB, may be that of no image any more.
+// or not begun, and the index, with the slot as it was, may be that of no image any more; with the DSCB it
+// is that of the image.
 pub(crate) fn put_through<H: Hall>(
     hall: &mut H,
     vol: &mut Vol,
@@ -27,11 +28,15 @@ pub(crate) fn put_through<H: Hall>(
     ensures told { IsTrue H.tells → PutsThrough (unit_of (H.facts hall.old).units vol.old.unit).name vol.old slot dscb.now vol.new (H.meaning hall.old) (H.meaning hall.new) result }
     ensures index { OnOk result (IsReplaced slot dscb.now vol.old vol.new) }
     ensures slots { (vol.new.slots.items ≡ vol.old.slots.items) ⊎ (vol.new.slots.items ≡ slice_set vol.old.slots.items slot dscb.now) }
+    ensures ahead { IsTrue H.tells → OnErr result (IsBeforeOr vol.old (image_of (H.meaning hall.new).state (H.facts hall.new) vol.old.unit) vol.new) }
     ensures others { vol.new ≡ record vol.old { slots = vol.new.slots; buf = vol.new.buf } }
     ensures unit { IsOfUnit (H.facts hall.new).units vol.new }
+    ensures track { vol.new.buf.track ≡ vol.old.vtoc.start + track_index vol.old.firsts.items slot }
+    ensures slot { OnOk result (HoldsDscb (slots_in_front vol.old.firsts.items slot) dscb.now vol.new.buf.records) }
     ensures call { DeviceCall (H.facts hall.old) (H.facts hall.new) result }
     ensures calls { CallsAtMost 1 1 1 0 (H.calls hall.old) (H.calls hall.new) }
-    ensures again { vol.old.buf.track ≡ vol.old.vtoc.start + track_index vol.old.firsts.items slot → slots_in_front vol.old.firsts.items slot < length vol.old.buf.records → CallsAtMost 0 1 1 0 (H.calls hall.old) (H.calls hall.new) }
+    ensures again { HoldsSlot vol.old slot → CallsAtMost 0 1 1 0 (H.calls hall.old) (H.calls hall.new) }
+    ensures few { ¬ HoldsSlot vol.old slot → length vol.new.buf.records ≤ slots_in_front vol.old.firsts.items slot + 1 }
     ensures unwritten { OnErr result (¬ HasLengths vol.new.buf.records (slots_in_front vol.old.firsts.items slot) 44 96 → CallsAtMost 1 0 0 0 (H.calls hall.old) (H.calls hall.new)) }
 {
     put_slot(hall, vol, slot, dscb)?;

@@ -285,7 +285,11 @@ impl fmt::Display for Dsn {
 
     ghost styled_output = { λ name _. Some (shown name.bytes) };
 
-    fn fmt<W: fmt::Write>(&self, f: &mut fmt::Formatter<W>) -> fmt::Result {
+    fn fmt<W: fmt::Write>(&self, f: &mut fmt::Formatter<W>) -> fmt::Result
+        ensures writes { DisplaysOnOk W.write_str_gives f.old result (Some (shown self.now.bytes)) f.new }
+        ensures styled { WritesStyledOnOk W.write_str_gives f.old result (shown self.now.bytes) f.new }
+        ensures blank { shown self.now.bytes ≡ [] → IsOk result }
+    {
         write_characters(&self.bytes, f)
     }
 }
@@ -295,7 +299,11 @@ impl fmt::Display for Name8 {
 
     ghost styled_output = { λ name _. Some (shown name.bytes) };
 
-    fn fmt<W: fmt::Write>(&self, f: &mut fmt::Formatter<W>) -> fmt::Result {
+    fn fmt<W: fmt::Write>(&self, f: &mut fmt::Formatter<W>) -> fmt::Result
+        ensures writes { DisplaysOnOk W.write_str_gives f.old result (Some (shown self.now.bytes)) f.new }
+        ensures styled { WritesStyledOnOk W.write_str_gives f.old result (shown self.now.bytes) f.new }
+        ensures blank { shown self.now.bytes ≡ [] → IsOk result }
+    {
         write_characters(&self.bytes, f)
     }
 }
@@ -305,7 +313,11 @@ impl fmt::Display for Serial {
 
     ghost styled_output = { λ serial _. Some (shown serial.bytes) };
 
-    fn fmt<W: fmt::Write>(&self, f: &mut fmt::Formatter<W>) -> fmt::Result {
+    fn fmt<W: fmt::Write>(&self, f: &mut fmt::Formatter<W>) -> fmt::Result
+        ensures writes { DisplaysOnOk W.write_str_gives f.old result (Some (shown self.now.bytes)) f.new }
+        ensures styled { WritesStyledOnOk W.write_str_gives f.old result (shown self.now.bytes) f.new }
+        ensures blank { shown self.now.bytes ≡ [] → IsOk result }
+    {
         write_characters(&self.bytes, f)
     }
 }

@@ -85,7 +85,7 @@ impl Machine for MapMachine {
     ghost use Rattle.std.specs.Prelude.{◌+◌, true, IfErr, IsErrOf, OnErr, OnOk, refl};
     ghost use Rattle.hall_core.specs.Facts.{CallsAtMost, uncounted};
     ghost use Rattle.hall_core.specs.Moments.{Elapses};
-    ghost use Rattle.vol_model.specs.Calls.{Applies, MachineCall, Prints};
+    ghost use Rattle.vol_model.specs.Calls.{Applies, MachineCall, Prints, asked_nothing};
     ghost use Rattle.map_machine.specs.Held.{meaning_of, status_of};
     ghost use Rattle.map_machine.specs.Laws.{counts_now as now_counted, only_now as none_since};
 
@@ -98,6 +98,8 @@ impl Machine for MapMachine {
     ghost status = { λ machine. status_of machine };
 
     ghost calls = { λ machine. uncounted };
+
+    ghost asked = { λ machine. asked_nothing };
 
     ghost promise = { λ machine ops t files. Unit {0} };
 

@@ -12,7 +12,7 @@ use Rattle.vol_model.specs.declared.refusals.Refusal.{Refusal}
 use Rattle.vol_model.specs.declared.requests.Op.{Op}
 use Rattle.vol_model.specs.declared.requests.Op.TheVariants.{Rename}
 use Rattle.vol_model.specs.Shelf.{step}
-use Rattle.vol_model.specs.Calls.{Status, sound_after, MachineCall, Answers, IsIdle, IsJudgedInMemory, Applies, Prints, Keeps}
+use Rattle.vol_model.specs.Calls.{Asked, AsksAtMost, Status, sound_after, MachineCall, Answers, IsIdle, IsJudgedInMemory, Applies, Prints, Keeps}
 use Rattle.vol_model.specs.Events.{Do, Say, StopsIn, behind}
 use Rattle.vol_model.specs.Runs.{Runs, RunCall, sound_behind}
 
@@ -34,6 +34,17 @@ finished = Ok tt
 
 abbrev ends : Stop → Outcome
 ends e = Err e
+
+-- what was asked for so often
+abbrev asked : ℕ → ℕ → Asked
+asked operations prints = record { operations = operations; prints = prints }
+
+-- one operation is one at most, and no print; and one print is no operation
+asked_once : AsksAtMost 1 0 (asked 3 3) (asked 4 3) × AsksAtMost 1 0 (asked 3 3) (asked 3 3) × AsksAtMost 0 1 (asked 3 3) (asked 3 4)
+asked_once = ((lit≤ tt, lit≤ tt), (lit≤ tt, lit≤ tt), (lit≤ tt, lit≤ tt))
+
+asked_no_more : (¬ AsksAtMost 1 0 (asked 3 3) (asked 5 3)) × (¬ AsksAtMost 1 0 (asked 3 3) (asked 3 4)) × (¬ AsksAtMost 0 1 (asked 3 3) (asked 4 3)) × (¬ AsksAtMost 0 1 (asked 3 3) (asked 3 5))
+asked_no_more = (λ most. omega (arith, most.0), λ most. omega (arith, most.1), λ most. omega (arith, most.0), λ most. omega (arith, most.1))
 
 -- both faults end it, not that of the device alone
 faults_are_not_sound : (sound_after (fails Device) ≡ false) × (sound_after (fails Print) ≡ false)

@@ -1,5 +1,5 @@
 -- What the calls of a machine leave, in this project's profile.
-use Rattle.std.specs.Prelude.{◌≡◌, ◌⊎◌, ℕ, ◌≤◌, Bool, true, false, List, ◌++◌, Result, Ok, Err, OnOk, IsErrOf, IsTrue}
+use Rattle.std.specs.Prelude.{◌≡◌, ◌⊎◌, ℕ, ◌+◌, ◌≤◌, Bool, true, false, List, ◌++◌, Result, Ok, Err, OnOk, IsErrOf, IsTrue}
 use Rattle.hall_core.specs.Facts.{Rose}
 use Rattle.hall_core.specs.Files.{File, IsPrefixOf}
 use Rattle.hall_core.specs.Moments.{Meaning, Elapses, Same}
@@ -17,6 +17,19 @@ pub record Status : Type 0 where
   pub base : List (List ℕ)
   pub dev_faults : ℕ
   pub print_faults : ℕ
+
+-- what a machine was asked for so far
+pub record Asked : Type 0 where
+  pub operations : ℕ
+  pub prints : ℕ
+
+-- what one was asked for that counts nothing
+abbrev pub asked_nothing : Asked
+asked_nothing = record { operations = 0; prints = 0 }
+
+-- at most so many more operations and prints are asked for
+abbrev pub AsksAtMost : ℕ → ℕ → Asked → Asked → Type 0
+AsksAtMost operations prints old new = (new.operations ≤ old.operations + operations) × (new.prints ≤ old.prints + prints)
 
 -- after a fault a machine isn't sound, and after each other answer it is
 abbrev pub sound_after : {T : Type 0} → Result T MachErr → Bool

@@ -6,7 +6,7 @@ ghost use Rattle.hall_core.specs.Files.{File};
 ghost use Rattle.hall_core.specs.Moments.{Meaning, LeftNow, IsDurable};
 ghost use Rattle.vol_model.specs.declared.contents.Shelf.{Shelf};
 ghost use Rattle.vol_model.specs.declared.requests.Op as requests;
-ghost use Rattle.vol_model.specs.Calls.{Status, MachineCall, Applies, IsIdle, Prints, Keeps};
+ghost use Rattle.vol_model.specs.Calls.{Asked, AsksAtMost, Status, MachineCall, Applies, IsIdle, Prints, Keeps};
 ghost use Rattle.vol_model.specs.Shelf.{IsLawful, step};
 
 use crate::answers::MachErr;
@@ -38,6 +38,9 @@ pub trait Machine {
     /// The calls of the hall on which it stands, if that counts them.
     ghost calls: { Self → Calls };
 
+    /// The operations and prints it was asked for so far, if it counts them.
+    ghost asked: { Self → Asked };
+
     /// What it promises besides of every stop since a moment, by the operations that were begun since, and the files on
     /// which it stood then.
     ghost promise: { Self → List requests.Op → ℕ → List File → Type 0 };
@@ -50,7 +53,8 @@ pub trait Machine {
     ///
     /// `Refused` carries the first reason, by the order of `Refusal`. A rename is judged by the names in the VTOC
     /// alone, so no fault, nor want of memory, comes in place of its refusal. It makes at most one read, one write and
-    /// one sync of the hall below; none where it is refused; and no write nor sync where memory is wanting.
+    /// one sync of the hall below; none where it is refused; and no write nor sync where memory is wanting. It counts
+    /// as one operation.
     fn apply(&mut self, op: &Op) -> Result<(), MachErr>
         requires sound { IsTrue (status self.old).is_sound }
         ensures shelf { IsTrue tells → Applies op.now (meaning self.old) (meaning self.new) result }
@@ -60,12 +64,13 @@ pub trait Machine {
         ensures calls { CallsAtMost 1 1 1 0 (calls self.old) (calls self.new) }
         ensures memory { IsErrOf result MachErr.Memory → CallsAtMost 1 0 0 0 (calls self.old) (calls self.new) }
         ensures refused { (r : Refusal) → IsErrOf result (MachErr.Refused r) → CallsAtMost 0 0 0 0 (calls self.old) (calls self.new) }
+        ensures once { AsksAtMost 1 0 (asked self.old) (asked self.new) }
         ensures print { IsErrOf result MachErr.Print → ⊥ };
 
     /// Prints the bytes.
     ///
     /// It isn't refused, and no device fails in it. After `Print` a prefix of the bytes is printed. It makes at most
-    /// one print of the hall below, and none where memory is wanting.
+    /// one print of the hall below, and none where memory is wanting. It counts as one print.
     fn print(&mut self, bytes: &[u8]) -> Result<(), MachErr>
         requires sound { IsTrue (status self.old).is_sound }
         ensures shelf { IsTrue tells → Prints tells_prints bytes.now (meaning self.old) (meaning self.new) result }
@@ -73,6 +78,7 @@ pub trait Machine {
         ensures call { MachineCall (status self.old) (status self.new) result }
         ensures calls { CallsAtMost 0 0 0 1 (calls self.old) (calls self.new) }
         ensures memory { IsErrOf result MachErr.Memory → CallsAtMost 0 0 0 0 (calls self.old) (calls self.new) }
+        ensures once { AsksAtMost 0 1 (asked self.old) (asked self.new) }
         ensures device { IsErrOf result MachErr.Device → ⊥ }
         ensures refused { (r : Refusal) → IsErrOf result (MachErr.Refused r) → ⊥ };
 

@@ -1,5 +1,5 @@
 -- Definitions on cases that a near reading answers otherwise.
-use Rattle.std.proofs.Common.{◌≡◌, ◌≤◌, ℕ, List, [], ◌∷◌, get_or, length, replicate, refl, inl, inr, ⊎_elim, ap, arith, length-append}
+use Rattle.std.proofs.Common.{◌≡◌, ◌≢◌, ◌≤◌, ℕ, List, [], ◌∷◌, get_or, length, replicate, refl, inl, inr, ⊎_elim, ap, arith, length-append}
 use Rattle.std.specs.Prelude.{◌⊎◌, Err, codes}
 use Rattle.ckd_image.specs.declared.header.Geometry.{Geometry}
 use Rattle.ckd_image.specs.declared.device.DiskType.TheVariants.{D2314}
@@ -21,22 +21,22 @@ refusals_final = (inl (omega arith), (inl (omega arith), inr refl))
 faults_not_final : (n : ℕ) → 22 ≤ n → n ≤ 25 → ¬ IsFinal n
 faults_not_final n low high final = ⊎_elim (λ (few : n ≤ 21). omega (arith, low, few)) (λ (deck : n ≡ 26). omega (arith, high, deck)) final
 
--- 16 and 20 are statuses, what stands between them and behind 26 is none
-statuses : IsStatus 0 × (IsStatus 16 × (IsStatus 20 × IsStatus 26))
-statuses = (inl (omega arith), (inl (omega arith), (inr (omega arith, omega arith), inr (omega arith, omega arith))))
+-- 0, 8 and 20 to 26 are statuses; what stands between them is none, nor is what stands behind 26, or another condition code
+statuses : IsStatus 0 × (IsStatus 8 × (IsStatus 20 × IsStatus 26))
+statuses = (inl (inl refl), (inl (inr refl), (inr (omega arith, omega arith), inr (omega arith, omega arith))))
 
-no_statuses : (IsStatus 17 → ⊥) × ((IsStatus 19 → ⊥) × (IsStatus 27 → ⊥))
-no_statuses = (
-  λ is. ⊎_elim (λ (few : 17 ≤ 16). omega (arith, few)) (λ (high : (20 ≤ 17) × (17 ≤ 26)). omega (arith, high.0)) is,
-  (
-    λ is. ⊎_elim (λ (few : 19 ≤ 16). omega (arith, few)) (λ (high : (20 ≤ 19) × (19 ≤ 26)). omega (arith, high.0)) is,
-    λ is. ⊎_elim (λ (few : 27 ≤ 16). omega (arith, few)) (λ (high : (20 ≤ 27) × (27 ≤ 26)). omega (arith, high.1)) is,
-  ),
-)
+no_statuses : (¬ IsStatus 4) × (¬ IsStatus 12) × (¬ IsStatus 16) × (¬ IsStatus 19) × (¬ IsStatus 27)
+no_statuses = (none 4 (omega arith) (omega arith) (omega arith), none 12 (omega arith) (omega arith) (omega arith), none 16 (omega arith) (omega arith) (omega arith), none 19 (omega arith) (omega arith) (omega arith), last)
+  where
+    none : (n : ℕ) → 1 ≤ n → n ≢ 8 → n ≤ 19 → ¬ IsStatus n
+    none n some other low is = ⊎_elim (λ code. ⊎_elim (λ zero. omega (arith, some, zero)) (λ eight. other eight) code) (λ (high : (20 ≤ n) × (n ≤ 26)). omega (arith, low, high.0)) is
+
+    last : ¬ IsStatus 27
+    last is = ⊎_elim (λ (code : (27 ≡ 0) ⊎ (27 ≡ 8)). omega (arith, code)) (λ (high : (20 ≤ 27) × (27 ≤ 26)). omega (arith, high.1)) is
 
 -- each that the program has a word for is one
 words_are_statuses : (s : Status) → IsStatus (code_of s)
-words_are_statuses status.Done = inl (omega arith)
+words_are_statuses status.Done = inl (inl refl)
 words_are_statuses status.Words = inr (omega arith, omega arith)
 words_are_statuses status.Unit = inr (omega arith, omega arith)
 words_are_statuses status.Device = inr (omega arith, omega arith)

@@ -3,6 +3,7 @@ use Rattle.std.proofs.Common.{◌≡◌, ◌≢◌, ◌≤◌, ◌<◌, ℕ, Lis
 use Rattle.std.specs.Prelude.{◌⊎◌, ◌-◌, ◌^◌}
 use Rattle.hall_core.specs.Facts.{Attached, Facts, Rose}
 use Rattle.volman.specs.Run.{AttachesAsked, AttachesAtMost, CountsReported, Later, OnFile}
+use Rattle.volman.specs.Statement.{IsCode}
 use Rattle.volman.specs.Words.{Names, Run}
 
 -- an attached file
@@ -125,7 +126,7 @@ print_failed = record {
 }
 
 -- with a condition code, the file refused, or want of memory the counts stand still
-without_fault : (n : ℕ) → (n ≤ 16) ⊎ ((n ≡ 21) ⊎ (n ≡ 25)) → OnFile w (facts [] 3 4) (facts [] 3 4) n
+without_fault : (n : ℕ) → IsCode n ⊎ ((n ≡ 21) ⊎ (n ≡ 25)) → OnFile w (facts [] 3 4) (facts [] 3 4) n
 without_fault n which = record {
   which = ⊎_elim (λ few. inl few) (λ more. ⊎_elim (λ refused. inr (inl refused)) (λ memory. inr (inr (inr (inr memory)))) more) which;
   device = λ is. absurd (omega (arith, is, which));

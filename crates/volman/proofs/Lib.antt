@@ -19,3 +19,4 @@ mod CountCases
 mod TaskCases
 mod WordCases
 mod HallCases
+mod IndexCases

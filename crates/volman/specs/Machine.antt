@@ -1,11 +1,12 @@
 -- The shelf that the machine over one image holds, and what it promises besides.
-use Rattle.std.specs.Prelude.{ℕ, Bool, List, [], ◌∷◌, Result, Ok, Err}
+use Rattle.std.specs.Prelude.{◌≡◌, ◌⊎◌, ◌==◌, ℕ, Bool, if◌then◌else◌, List, [], ◌∷◌, Option, Some, Result, Ok, Err, IsErrOf, OnOk}
 use Rattle.std.proofs.Common.{subst, sym}
 use Rattle.ckd_image.specs.Device.{row_of}
 use Rattle.ckd_image.specs.declared.header.Geometry.{Geometry}
-use Rattle.dadsm_ops.specs.Naming.{RenamesSome}
+use Rattle.dadsm_ops.specs.Naming.{HoldsRenamed, RenameCalls, RenamesEntry, RenamesSome, refusal_in}
 use Rattle.dadsm_ops.specs.Operations.{ChangesVtoc, image_named}
-use Rattle.hall_core.specs.Facts.{Attached, Facts}
+use Rattle.dscb_codec.specs.declared.Dscb.{Dscb}
+use Rattle.hall_core.specs.Facts.{Attached, Calls, Facts}
 use Rattle.hall_core.specs.Files.{File}
 use Rattle.hall_core.specs.Moments.{Meaning}
 use Rattle.pack_spec.specs.declared.MountErr.{MountErr}
@@ -13,10 +14,15 @@ use Rattle.pack_spec.specs.Volume.{volume_of}
 use Rattle.pack_spec.proofs.Lawful.{lawful_single}
 use Rattle.vol_model.specs.Calls.{Status}
 use Rattle.vol_model.specs.Shelf.{IsLawful}
+use Rattle.vol_model.specs.declared.answers.MachErr.{MachErr}
+use Rattle.vol_model.specs.declared.answers.MachErr.TheVariants.{Refused}
 use Rattle.vol_model.specs.declared.contents.Run.{Run}
 use Rattle.vol_model.specs.declared.contents.Shelf.{Shelf}
 use Rattle.vol_model.specs.declared.contents.Volume.{Volume}
+use Rattle.vol_model.specs.declared.refusals.Refusal.{Refusal}
+use Rattle.vol_model.specs.declared.refusals.Refusal.TheVariants.{NoVolume}
 use Rattle.vol_model.specs.declared.requests.Op.{Op}
+use Rattle.vol_model.specs.declared.requests.Op.TheVariants.{Rename}
 use Rattle.vtoc_index.specs.declared.vol.Vol.{Vol}
 use Rattle.vtoc_index.specs.Kept.{IsKept}
 use Rattle.vtoc_index.proofs.KeptLemmas.{mounted_of}
@@ -60,6 +66,30 @@ pub record ChangesNames (name : List ℕ) (g : Geometry) (vtoc : Run) (ops : Lis
 -- since that moment every stop leaves files that differ from these in the names alone that some of these operations gave to data sets of one image
 abbrev pub ChangesOnlyNames : List ℕ → Geometry → Run → Meaning (List File) → List Op → ℕ → List File → Type 0
 ChangesOnlyNames name g vtoc m ops t files = (j : List File) (p : List ℕ) → m.left_since t j p → ChangesNames name g vtoc ops files j
+
+-- the slots of an index before and behind an operation that is done
+abbrev pub ChangesSlots : Op → List Dscb → List Dscb → Type 0
+ChangesSlots (Rename v old new) before after = RenamesEntry old.bytes new.bytes before after
+
+-- the buffer of an index behind an operation that is done
+abbrev pub HoldsChanged : Op → Vol → Vol → Type 0
+HoldsChanged (Rename v old new) before after = HoldsRenamed old.bytes new.bytes before after
+
+-- why an operation is refused, by the DSCBs in the slots of the only volume, whose number is 0
+abbrev pub refusal_by : Op → List Dscb → Option Refusal
+refusal_by (Rename v old new) slots = if v == 0 then refusal_in slots old.bytes new.bytes else Some NoVolume
+
+-- An index behind an operation, whatever came of it: where it is done, with the slots changed and held so; after a fault, with the slots as before or changed so; and as before where it is refused, as it is where these slots have a reason, and only there. Nothing but slots and buffer changes.
+pub record KeepsIndex {T : Type 0} (op : Op) (old new : Vol) (result : Result T MachErr) : Type 0 where
+  pub done : OnOk result (ChangesSlots op old.slots.items new.slots.items × HoldsChanged op old new)
+  pub refused : (r : Refusal) → IsErrOf result (Refused r) → (refusal_by op old.slots.items ≡ Some r) × (new ≡ old)
+  pub reason : (r : Refusal) → refusal_by op old.slots.items ≡ Some r → IsErrOf result (Refused r)
+  pub slots : (new.slots.items ≡ old.slots.items) ⊎ ChangesSlots op old.slots.items new.slots.items
+  pub others : new ≡ record old { slots = new.slots; buf = new.buf }
+
+-- the calls of an operation on the only volume, whose number is 0, by what the buffer of its index holds
+abbrev pub OperationCalls : {T : Type 0} → Op → Vol → Vol → Calls → Calls → Result T MachErr → Type 0
+OperationCalls (Rename v old new) before after calls calls' result = v ≡ 0 → RenameCalls old.bytes new.bytes before after calls calls' result
 
 -- the shelf of a mounted image is lawful
 pub lawful_in : (image : List ℕ) (v : Vol) → IsKept image v → IsLawful (shelf_in (volume_of image))

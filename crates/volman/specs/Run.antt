@@ -12,6 +12,7 @@ use Rattle.vol_model.specs.Events as events
 use Rattle.vol_model.specs.Events.{Item, StandsIn, events_of, listing, operations_of, shelf_behind}
 use Rattle.volman.specs.Deck.{deck_of}
 use Rattle.volman.specs.Machine.{ChangesNames, shelf_with}
+use Rattle.volman.specs.Statement.{IsCode}
 use Rattle.volman.specs.Task.{Task, Says, Works, task_of}
 use Rattle.volman.specs.Words.{Request, Names, Run}
 use Rattle.volman.specs.declared.status.Status.{Status}
@@ -30,7 +31,7 @@ code_of Deck = 26
 
 -- a number with which the program ends: a condition code, or the number of a refusal or a fault
 abbrev pub IsStatus : ℕ → Type 0
-IsStatus n = (n ≤ 16) ⊎ ((20 ≤ n) × (n ≤ 26))
+IsStatus n = IsCode n ⊎ ((20 ≤ n) × (n ≤ 26))
 
 -- a status with which all was done that is to be done: a condition code, or a refusal
 abbrev pub IsFinal : ℕ → Type 0
@@ -168,7 +169,7 @@ AttachesAsked (Some request) old new = AttachesAtMost (file_asked request) old n
 
 -- Calls over a file: each count rose where its fault is reported, and else stands still; at most the file was attached.
 pub record OnFile (file : List ℕ) (old new : Facts) (status : ℕ) : Type 0 where
-  pub which : (status ≤ 16) ⊎ ((status ≡ 21) ⊎ ((status ≡ 22) ⊎ ((status ≡ 24) ⊎ (status ≡ 25))))
+  pub which : IsCode status ⊎ ((status ≡ 21) ⊎ ((status ≡ 22) ⊎ ((status ≡ 24) ⊎ (status ≡ 25))))
   pub device : status ≡ 22 → Rose old.dev_faults new.dev_faults
   pub print : status ≡ 24 → Rose old.print_faults new.print_faults
   pub reported : CountsReported status old new

@@ -1,5 +1,5 @@
 -- What a RENAME statement does on a shelf, and the line that answers it, by Utilities GC28-6586 and this project's profile.
-use Rattle.std.specs.Prelude.{◌≡◌, ℕ, ◌≤◌, List, [], ◌∷◌, codes, IsTrue, Option, Some, None, Result, Ok, Err}
+use Rattle.std.specs.Prelude.{◌≡◌, ◌⊎◌, ℕ, ◌≤◌, List, [], ◌∷◌, codes, IsTrue, Option, Some, None, Result, Ok, Err}
 use Rattle.hall_core.specs.Files.{File}
 use Rattle.hall_core.specs.Moments.{Meaning}
 use Rattle.util_syntax.specs.declared.statement.Rename.{Rename}
@@ -21,6 +21,10 @@ answer_line s outcome = result_line 1 (codes "RENAME") s.old.bytes outcome
 abbrev pub code_for : Result (Unit {0}) Refusal → ℕ
 code_for (Ok done) = 0
 code_for (Err r) = 8
+
+-- a condition code: that of a statement that is done, or of one that is refused
+abbrev pub IsCode : ℕ → Type 0
+IsCode n = (n ≡ 0) ⊎ (n ≡ 8)
 
 -- a statement that does these operations and comes to this
 abbrev pub item_with : Rename → List Op → Result (Unit {0}) Refusal → Item

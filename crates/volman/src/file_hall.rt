@@ -277,11 +277,11 @@ impl<R: Files<File = File> + Print> Hall for FileHall<'_, R> {
 }
 
 #[cfg(test)]
-mod closed;
+mod failing;
 
 #[cfg(test)]
 mod tests {
-    use super::closed::Closed;
+    use super::failing::Failing;
     use super::*;
     use std::fs;
     use std::test::Fail;
@@ -390,12 +390,31 @@ mod tests {
         Ok(())
     }
 
+    // What fails is the look at the name, or else both openings of the file, to write and to read alone.
     #[test]
-    fn closed_output_is_a_print_fault(rt: HostRuntime) {
-        let mut hall = FileHall::new(rt.alloc(), &Closed);
+    fn a_failed_open_is_a_fault_and_is_not_tried_again(rt: HostRuntime) -> Result<(), Fail> {
+        let name = "file_hall_opens.tmp";
+        fs::write(&rt, name, "01234567")?;
+        for (faults, calls) in [(0..1, 1), (1..3, 3)] {
+            let system = Failing::new(&rt, faults);
+            let mut hall = FileHall::new(rt.alloc(), &system);
+            assert_eq!(rt; hall.attach(name), Err(HallErr::Failed));
+            assert_eq!(rt; (system.calls(), hall.dev_faults), (calls, 1));
+            assert_eq!(rt; hall.attach(name), Ok(0));
+        }
+        fs::remove_file(&rt, name)?;
+        Ok(())
+    }
+
+    #[test]
+    fn a_failed_print_is_a_fault_and_is_not_tried_again(rt: HostRuntime) {
+        let system = Failing::new(&rt, 0..2);
+        let mut hall = FileHall::new(rt.alloc(), &system);
         for faults in 1..3 {
             assert_eq!(rt; hall.print(b"printed\n"), Err(HallErr::Failed));
+            assert_eq!(rt; system.calls(), faults);
             assert_eq!(rt; (hall.dev_faults, hall.print_faults), (0, faults));
         }
+        assert_eq!(rt; hall.print(b"printed\n"), Ok(()));
     }
 }

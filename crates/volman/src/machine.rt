@@ -1,15 +1,17 @@
 //! The machine over the image of one pack.
-ghost use Rattle.std.specs.Prelude.{◌≡◌, true, IsTrue, Some, refl};
+ghost use Rattle.std.specs.Prelude.{◌≡◌, ◌≢◌, [], ◌∷◌, true, IsTrue, IfErr, IsErrOf, OnErr, Some, None, refl};
+ghost use Rattle.dadsm_ops.specs.Through.{IsBeforeOr};
 ghost use Rattle.hall_core.specs.Facts.{CallsAtMost, unit_of};
 ghost use Rattle.hall_core.specs.Files.{image_of};
 ghost use Rattle.hall_core.specs.Moments.{IsDurable};
 ghost use Rattle.hall_core.specs.Steps.{seen};
 ghost use Rattle.hall_core.proofs.MomentLemmas.{durable_seen, counts_now_seen, only_now_seen};
+ghost use Rattle.vol_model.specs.Calls.{Applies, IsIdle, Keeps, MachineCall, Prints, asked_nothing};
 ghost use Rattle.vol_model.specs.Shelf.{number_of, step};
 ghost use Rattle.vtoc_index.specs.Index.{IsMounted, IsOfUnit};
 ghost use Rattle.vtoc_index.specs.Kept.{IsKept};
 ghost use Rattle.vtoc_index.proofs.KeptProps.{kept_props};
-ghost use Rattle.volman.specs.Machine.{ChangesOnlyNames, lawful_in, shelf_named, status_of};
+ghost use Rattle.volman.specs.Machine.{ChangesOnlyNames, KeepsIndex, OperationCalls, lawful_in, shelf_named, status_of};
 
 use dadsm_ops::rename;
 use ebcdic_names::{Dsn, Serial};
@@ -58,7 +60,9 @@ impl<H: Hall> PackMachine<H> {
     /// but one.
     pub fn number_of(&self, serial: &Serial) -> Option<u8>
         requires { self.now.is_sound ≡ true }
-        ensures { IsTrue H.tells → result ≡ number_of (shelf_named (unit_of (H.facts self.now.hall).units self.now.vol.unit).name (H.meaning self.now.hall).state) serial.now.bytes }
+        ensures there { self.now.vol.serial ≡ serial.now → result ≡ Some 0 }
+        ensures absent { self.now.vol.serial ≢ serial.now → result ≡ None }
+        ensures told { IsTrue H.tells → result ≡ number_of (shelf_named (unit_of (H.facts self.now.hall).units self.now.vol.unit).name (H.meaning self.now.hall).state) serial.now.bytes }
     {
         if self.vol.serial == *serial {
             Some(0)
@@ -69,9 +73,6 @@ impl<H: Hall> PackMachine<H> {
 }
 
 impl<H: Hall> PackMachine<H> {
-    ghost use Rattle.std.specs.Prelude.{[], ◌∷◌, IsErrOf};
-    ghost use Rattle.vol_model.specs.Calls.{Applies, IsIdle, Keeps, MachineCall};
-
     // Gives a data set of the volume of this number another name.
     fn rename(&mut self, v: u8, old: &Dsn, new: &Dsn) -> Result<(), MachErr>
         requires sound { IsTrue self.old.is_sound }
@@ -82,6 +83,9 @@ impl<H: Hall> PackMachine<H> {
         ensures calls { CallsAtMost 1 1 1 0 (H.calls self.old.hall) (H.calls self.new.hall) }
         ensures refused { (r : Refusal) → IsErrOf result (MachErr.Refused r) → CallsAtMost 0 0 0 0 (H.calls self.old.hall) (H.calls self.new.hall) }
         ensures memory { IsErrOf result MachErr.Memory → ⊥ }
+        ensures index { KeepsIndex (Op.Rename v old.now new.now) self.old.vol self.new.vol result }
+        ensures again { OperationCalls (Op.Rename v old.now new.now) self.old.vol self.new.vol (H.calls self.old.hall) (H.calls self.new.hall) result }
+        ensures ahead { IsTrue H.tells → OnErr result (IsBeforeOr self.old.vol (image_of (H.meaning self.new.hall).state (H.facts self.new.hall) self.old.vol.unit) self.new.vol) }
         ensures print { IsErrOf result MachErr.Print → ⊥ }
     {
         if v != 0 {
@@ -110,6 +114,8 @@ impl<H: Hall> Machine for PackMachine<H> {
 
     ghost calls = { λ m. H.calls m.hall };
 
+    ghost asked = { λ m. asked_nothing };
+
     ghost promise = { λ m ops t files. ChangesOnlyNames (unit_of (H.facts m.hall).units m.vol.unit).name m.vol.geometry m.vol.vtoc (H.meaning m.hall) ops t files };
 
     ghost lawful = { λ m told sound. lawful_in _ _ (m.kept sound told) };
@@ -126,13 +132,34 @@ impl<H: Hall> Machine for PackMachine<H> {
         self.is_sound
     }
 
-    fn apply(&mut self, op: &Op) -> Result<(), MachErr> {
+    fn apply(&mut self, op: &Op) -> Result<(), MachErr>
+        requires sound { IsTrue self.old.is_sound }
+        ensures shelf { IsTrue H.tells → Applies op.now (seen (shelf_named (unit_of (H.facts self.old.hall).units self.old.vol.unit).name) (H.meaning self.old.hall)) (seen (shelf_named (unit_of (H.facts self.new.hall).units self.new.vol.unit).name) (H.meaning self.new.hall)) result }
+        ensures promise { IsTrue H.tells → Keeps (H.meaning self.old.hall).clock (op.now ∷ []) (ChangesOnlyNames (unit_of (H.facts self.old.hall).units self.old.vol.unit).name self.old.vol.geometry self.old.vol.vtoc (H.meaning self.old.hall)) (ChangesOnlyNames (unit_of (H.facts self.new.hall).units self.new.vol.unit).name self.new.vol.geometry self.new.vol.vtoc (H.meaning self.new.hall)) }
+        ensures idle { IsTrue H.tells → IsIdle (step (shelf_named (unit_of (H.facts self.old.hall).units self.old.vol.unit).name (H.meaning self.old.hall).state) op.now) result → Keeps (H.meaning self.old.hall).clock [] (ChangesOnlyNames (unit_of (H.facts self.old.hall).units self.old.vol.unit).name self.old.vol.geometry self.old.vol.vtoc (H.meaning self.old.hall)) (ChangesOnlyNames (unit_of (H.facts self.new.hall).units self.new.vol.unit).name self.new.vol.geometry self.new.vol.vtoc (H.meaning self.new.hall)) }
+        ensures call { MachineCall (status_of self.old.is_sound (H.facts self.old.hall) self.old.vol) (status_of self.new.is_sound (H.facts self.new.hall) self.new.vol) result }
+        ensures calls { CallsAtMost 1 1 1 0 (H.calls self.old.hall) (H.calls self.new.hall) }
+        ensures refused { (r : Refusal) → IsErrOf result (MachErr.Refused r) → CallsAtMost 0 0 0 0 (H.calls self.old.hall) (H.calls self.new.hall) }
+        ensures memory { IsErrOf result MachErr.Memory → ⊥ }
+        ensures index { KeepsIndex op.now self.old.vol self.new.vol result }
+        ensures again { OperationCalls op.now self.old.vol self.new.vol (H.calls self.old.hall) (H.calls self.new.hall) result }
+        ensures ahead { IsTrue H.tells → OnErr result (IsBeforeOr self.old.vol (image_of (H.meaning self.new.hall).state (H.facts self.new.hall) self.old.vol.unit) self.new.vol) }
+        ensures print { IsErrOf result MachErr.Print → ⊥ }
+    {
         match op {
             Op::Rename { v, old, new } => self.rename(*v, old, new),
         }
     }
 
-    fn print(&mut self, bytes: &[u8]) -> Result<(), MachErr> {
+    fn print(&mut self, bytes: &[u8]) -> Result<(), MachErr>
+        requires sound { IsTrue self.old.is_sound }
+        ensures shelf { IsTrue H.tells → Prints H.tells bytes.now (seen (shelf_named (unit_of (H.facts self.old.hall).units self.old.vol.unit).name) (H.meaning self.old.hall)) (seen (shelf_named (unit_of (H.facts self.new.hall).units self.new.vol.unit).name) (H.meaning self.new.hall)) result }
+        ensures promise { IsTrue H.tells → Keeps (H.meaning self.old.hall).clock [] (ChangesOnlyNames (unit_of (H.facts self.old.hall).units self.old.vol.unit).name self.old.vol.geometry self.old.vol.vtoc (H.meaning self.old.hall)) (ChangesOnlyNames (unit_of (H.facts self.new.hall).units self.new.vol.unit).name self.new.vol.geometry self.new.vol.vtoc (H.meaning self.new.hall)) }
+        ensures call { MachineCall (status_of self.old.is_sound (H.facts self.old.hall) self.old.vol) (status_of self.new.is_sound (H.facts self.new.hall) self.new.vol) result }
+        ensures calls { CallsAtMost 0 0 0 1 (H.calls self.old.hall) (H.calls self.new.hall) }
+        ensures index { self.new.vol ≡ self.old.vol }
+        ensures error { IfErr result (λ e. e ≡ MachErr.Print) }
+    {
         match self.hall.print(bytes) {
             Ok(()) => Ok(()),
             Err(_) => {

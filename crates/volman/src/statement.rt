@@ -1,11 +1,11 @@
 //! A RENAME statement on any machine.
-ghost use Rattle.std.specs.Prelude.{◌≡◌, ◌≤◌, ◌⊎◌, [], ◌∷◌, map, IsErrOf, IsTrue, IfOk, OnErr};
+ghost use Rattle.std.specs.Prelude.{◌≡◌, ◌⊎◌, [], ◌∷◌, map, None, IsErrOf, IsTrue, IfOk, OnErr};
 ghost use Rattle.hall_core.specs.Facts.{CallsAtMost};
-ghost use Rattle.vol_model.specs.Calls.{Keeps};
+ghost use Rattle.vol_model.specs.Calls.{AsksAtMost, Keeps};
 ghost use Rattle.vol_model.specs.Events.{Do, Say, events_in, shelf_behind};
 ghost use Rattle.vol_model.specs.Runs.{Runs, RunCall};
 ghost use Rattle.vol_model.specs.Shelf.{number_of};
-ghost use Rattle.volman.specs.Statement.{OnlyPrints, answer_line, code_for, item_of, item_on};
+ghost use Rattle.volman.specs.Statement.{IsCode, OnlyPrints, answer_line, code_for, item_of, item_on};
 
 use std::alloc::Global;
 use util_syntax::{Rename, result_line};
@@ -17,9 +17,11 @@ const FIRST_CARD: u32 = 1;
 /// Does a RENAME statement on the first card of a deck, whose volume has this number on the shelf if it is
 /// there, and prints the line that answers it. Gives its condition code: 0, or 8 where it is refused.
 ///
-/// An error comes where the machine has one, or where there is no memory for the line. The line is printed
-/// once the operation is done: so where the print failed, the operation is done, and nothing but the print
-/// came behind it; and where the device failed, nothing is printed.
+/// The machine is asked for the operation once, and not where there is no such volume, and for one print.
+/// An error comes where
+/// the machine has one, or where there is no memory for the line. The line is printed once the operation is
+/// done: so where the print failed, the operation is done, and nothing but the print came behind it; and
+/// where the device failed, nothing is printed.
 pub fn run_rename<M: Machine>(
     alloc: Global,
     machine: &mut M,
@@ -30,7 +32,7 @@ pub fn run_rename<M: Machine>(
     requires volume { IsTrue M.tells → volume ≡ number_of (M.meaning machine.old).state statement.now.serial.bytes }
     ensures runs { IsTrue M.tells → Runs M.tells_prints (events_in (item_of (M.meaning machine.old).state statement.now)) (M.meaning machine.old) (M.meaning machine.new) result }
     ensures code { IsTrue M.tells → IfOk result (λ code. code ≡ (item_of (M.meaning machine.old).state statement.now).code) }
-    ensures small { IfOk result (λ code. code ≤ 16) }
+    ensures codes { IfOk result IsCode }
     ensures silent { IsTrue M.tells → IsErrOf result Stop.Memory → (M.meaning machine.new).printed ≡ (M.meaning machine.old).printed }
     ensures fault { IsTrue M.tells → IsErrOf result Stop.Device → (M.meaning machine.new).printed ≡ (M.meaning machine.old).printed }
     ensures print { IsTrue M.tells → IsErrOf result Stop.Print → (M.meaning machine.new).state ≡ shelf_behind (M.meaning machine.old).state (events_in (item_of (M.meaning machine.old).state statement.now)) }
@@ -38,6 +40,8 @@ pub fn run_rename<M: Machine>(
     ensures promise { IsTrue M.tells → Keeps (M.meaning machine.old).clock (item_of (M.meaning machine.old).state statement.now).operations (M.promise machine.old) (M.promise machine.new) }
     ensures calls { CallsAtMost 1 1 1 1 (M.calls machine.old) (M.calls machine.new) }
     ensures refused { IfOk result (λ code. code ≡ 8 → CallsAtMost 0 0 0 1 (M.calls machine.old) (M.calls machine.new)) }
+    ensures once { AsksAtMost 1 1 (M.asked machine.old) (M.asked machine.new) }
+    ensures unasked { volume ≡ None → AsksAtMost 0 1 (M.asked machine.old) (M.asked machine.new) }
     ensures unprinted { (IsErrOf result Stop.Device) ⊎ (IsErrOf result Stop.Memory) → CallsAtMost 1 1 1 0 (M.calls machine.old) (M.calls machine.new) }
     ensures call { RunCall (M.status machine.old) (M.status machine.new) result }
 {
@@ -63,6 +67,8 @@ fn rename<M: Machine>(
     ensures promise { IsTrue M.tells → Keeps (M.meaning machine.old).clock (item_on (M.meaning machine.old).state statement.now volume).operations (M.promise machine.old) (M.promise machine.new) }
     ensures calls { CallsAtMost 1 1 1 0 (M.calls machine.old) (M.calls machine.new) }
     ensures refused { IfOk result (λ outcome. OnErr outcome (CallsAtMost 0 0 0 0 (M.calls machine.old) (M.calls machine.new))) }
+    ensures once { AsksAtMost 1 0 (M.asked machine.old) (M.asked machine.new) }
+    ensures unasked { volume ≡ None → AsksAtMost 0 0 (M.asked machine.old) (M.asked machine.new) }
     ensures print { IsErrOf result Stop.Print → ⊥ }
     ensures call { RunCall (M.status machine.old) (M.status machine.new) result }
 {
@@ -91,6 +97,7 @@ fn say<M: Machine>(machine: &mut M, line: &[u8]) -> Result<(), Stop>
     ensures silent { IsTrue M.tells → IsErrOf result Stop.Memory → (M.meaning machine.new).printed ≡ (M.meaning machine.old).printed }
     ensures calls { CallsAtMost 0 0 0 1 (M.calls machine.old) (M.calls machine.new) }
     ensures memory { IsErrOf result Stop.Memory → CallsAtMost 0 0 0 0 (M.calls machine.old) (M.calls machine.new) }
+    ensures once { AsksAtMost 0 1 (M.asked machine.old) (M.asked machine.new) }
     ensures device { IsErrOf result Stop.Device → ⊥ }
     ensures promise { IsTrue M.tells → Keeps (M.meaning machine.old).clock [] (M.promise machine.old) (M.promise machine.new) }
     ensures call { RunCall (M.status machine.old) (M.status machine.new) result }

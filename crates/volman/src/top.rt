@@ -1,5 +1,5 @@
 //! The top call: all that the program does.
-ghost use Rattle.std.specs.Prelude.{◌≡◌, ◌≢◌, ◌≤◌, ◌+◌, ◌⊎◌, [], List, ℕ, drop, map, string_bytes, IsTrue, IfOk, Some, None};
+ghost use Rattle.std.specs.Prelude.{◌≡◌, ◌≢◌, ◌≤◌, ◌+◌, ◌⊎◌, [], List, ℕ, drop, length, map, string_bytes, IsTrue, IfOk, Some, None};
 ghost use Rattle.hall_core.specs.Facts.{AttachesOnce, CallsAtMost, Rose};
 ghost use Rattle.hall_core.specs.Files.{file_of};
 ghost use Rattle.dadsm_ops.specs.Operations.{image_named};
@@ -61,11 +61,13 @@ pub fn volman<C: Cards, H: Hall>(alloc: Global, words: &[String], cards: &mut C,
     ensures durable { IsTrue H.tells → result ≢ 22 → IsDurable (H.meaning hall.new) }
 
     // Where a statement is asked for and the cards could be read, 83 bytes are taken, or all where there are
-    // fewer, as of a deck that is a statement; and no more whatever the status. Else no card was read.
+    // fewer, as of a deck that is a statement; and no more whatever the status, and one read at most gave none. Else
+    // no card was read.
     ensures deck { IsTrue C.tells → (file : List ℕ) → request_of (map string_bytes words.now) ≡ Some (Run file) → (statement : Rename) → deck_of (C.left cards.old) ≡ Some statement → result ≢ 23 → C.left cards.new ≡ [] }
     ensures rest { IsTrue C.tells → (file : List ℕ) → request_of (map string_bytes words.now) ≡ Some (Run file) → result ≢ 23 → C.left cards.new ≡ drop 83 (C.left cards.old) }
     ensures taken { IsTrue C.tells → TakesAtMost 83 (C.left cards.old) (C.left cards.new) }
     ensures reads { C.reads cards.new ≤ C.reads cards.old + 83 }
+    ensures ends { IsTrue C.tells → C.reads cards.new + length (C.left cards.new) ≤ C.reads cards.old + length (C.left cards.old) + 1 }
     ensures cards { ((file : List ℕ) → request_of (map string_bytes words.now) ≢ Some (Run file)) → cards.new ≡ cards.old }
 
     // Causes of every status, over any hall and any cards: the words are refused only where they ask for
@@ -80,6 +82,7 @@ pub fn volman<C: Cards, H: Hall>(alloc: Global, words: &[String], cards: &mut C,
     ensures read { result ≡ 23 → Rose (C.faults cards.old) (C.faults cards.new) }
     ensures unread { result ≡ 23 → hall.new ≡ hall.old }
     ensures status { IsStatus result }
+    ensures statement { result ≡ 8 → (file : List ℕ) × (request_of (map string_bytes words.now) ≡ Some (Run file)) }
 
     // And a count rose only where its fault is reported.
     ensures reported { CountsReported result (H.facts hall.old) (H.facts hall.new) }
@@ -156,6 +159,7 @@ fn names<H: Hall>(alloc: Global, hall: &mut H, file: &str) -> u8
     ensures calls { AttachesOnce 259 0 0 1 (H.calls hall.old) (H.calls hall.new) }
     ensures unprinted { (result ≡ 22) ⊎ (result ≡ 25) → AttachesOnce 259 0 0 0 (H.calls hall.old) (H.calls hall.new) }
     ensures reads { IsTrue H.tells → AttachesOnce (reads_to_mount (image_named (H.meaning hall.old).state file.now)) 0 0 1 (H.calls hall.old) (H.calls hall.new) }
+    ensures code { result ≢ 8 }
     ensures call { OnFile file.now (H.facts hall.old) (H.facts hall.new) result }
 {
     match mount(alloc, hall, file) {

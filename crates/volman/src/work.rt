@@ -8,7 +8,7 @@ ghost use Rattle.pack_spec.specs.Volume.{volume_of};
 ghost use Rattle.vtoc_index.specs.Index.{IsMounted, IsOfUnit};
 ghost use Rattle.volman.specs.Machine.{shelf_with};
 ghost use Rattle.volman.specs.Run.{CountsReported, Later, Synced, WorksOn};
-ghost use Rattle.volman.specs.Statement.{item_of};
+ghost use Rattle.volman.specs.Statement.{IsCode, item_of};
 
 use crate::machine::PackMachine;
 use crate::statement::run_rename;
@@ -32,7 +32,7 @@ pub fn run_statement<H: Hall>(alloc: Global, statement: &Rename, vol: Vol, hall:
     ensures does { IsTrue H.tells → (volume : Volume) → volume_of (image_of (H.meaning hall).state (H.facts hall) vol.unit) ≡ Ok volume → WorksOn (unit_of (H.facts hall).units vol.unit).name volume (item_of (shelf_with volume) statement.now ∷ []) (H.meaning hall) (H.meaning result.1) result.0 }
     ensures durable { IsTrue H.tells → result.0 ≡ 25 → IsDurable (H.meaning result.1) }
     ensures silent { IsTrue H.tells → result.0 ≡ 25 → (H.meaning result.1).printed ≡ (H.meaning hall).printed }
-    ensures status { (result.0 ≤ 16) ⊎ ((result.0 ≡ 22) ⊎ ((result.0 ≡ 24) ⊎ (result.0 ≡ 25))) }
+    ensures status { IsCode result.0 ⊎ ((result.0 ≡ 22) ⊎ ((result.0 ≡ 24) ⊎ (result.0 ≡ 25))) }
     ensures device { result.0 ≡ 22 → Rose (H.facts hall).dev_faults (H.facts result.1).dev_faults }
     ensures print { result.0 ≡ 24 → Rose (H.facts hall).print_faults (H.facts result.1).print_faults }
     ensures calls { CallsAtMost 1 1 2 1 (H.calls hall) (H.calls result.1) }

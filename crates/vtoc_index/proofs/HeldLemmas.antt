@@ -9,6 +9,7 @@ use Rattle.std.proofs.lemmas.Slice.Eq.{bytes_eq-Decides}
 use Rattle.ckd_image.specs.declared.header.Geometry.{Geometry}
 use Rattle.ckd_image.specs.Track.{Record, end_marker}
 use Rattle.ckd_image.specs.Reading.{records_of, records_behind, records_up_to, records_to_end, is_front, is_at_end, is_record_at, front_record, record_length}
+use Rattle.dscb_codec.specs.declared.Dscb.{Dscb}
 use Rattle.hall_core.specs.Facts.{Facts, Rose, DeviceCall, NotedCall}
 use Rattle.pack_spec.specs.Label.{heads_of, records_on, track_bytes}
 use Rattle.pack_spec.specs.Vtoc.{slot_bytes}
@@ -17,7 +18,7 @@ use Rattle.track_records.specs.Updates.{HasLengths, with_parts}
 use Rattle.track_records.specs.Written.{StandsOn}
 use Rattle.track_records.proofs.StandLemmas.{stand}
 use Rattle.track_records.proofs.UpdateLemmas.{has_lengths}
-use Rattle.vtoc_index.specs.Puts.{HasSlot}
+use Rattle.vtoc_index.specs.Puts.{HasSlot, HoldsDscb}
 use Rattle.vtoc_index.proofs.TrackPut.{slot_records, slot_there, same_lengths}
 
 -- a record whose key and data were measured
@@ -152,6 +153,30 @@ lengths_held : (k : ℕ) (key content : List ℕ) (xs : List Record) → HasLeng
 lengths_held k key content [] has long wide = absurd has
 lengths_held zero key content (x ∷ xs) has long wide = (long, wide)
 lengths_held (suc k) key content (x ∷ xs) has long wide = lengths_held k key content xs has long wide
+
+-- and they are as many as before
+pub count_kept : (k : ℕ) (key content : List ℕ) (xs : List Record) → length (with_parts k key content xs) ≡ length xs
+count_kept k key content [] = refl
+count_kept zero key content (x ∷ xs) = refl
+count_kept (suc k) key content (x ∷ xs) = ap suc (count_kept k key content xs)
+
+-- the key and the data that a record got
+pub key_put : (k : ℕ) (key content : List ℕ) (before : List Record) → HasLengths before k 44 96 → option_map (λ (x : Record). x.key) (slice_get (with_parts k key content before) k) ≡ Some key
+key_put k key content [] has = absurd has
+key_put zero key content (x ∷ xs) has = refl
+key_put (suc k) key content (x ∷ xs) has = key_put k key content xs has
+
+pub data_put : (k : ℕ) (key content : List ℕ) (before : List Record) → HasLengths before k 44 96 → option_map (λ (x : Record). x.data) (slice_get (with_parts k key content before) k) ≡ Some content
+data_put k key content [] has = absurd has
+data_put zero key content (x ∷ xs) has = refl
+data_put (suc k) key content (x ∷ xs) has = data_put k key content xs has
+
+-- a record that got a DSCB has its bytes
+pub key_held : (k : ℕ) (d : Dscb) (records : List Record) (held : HoldsDscb k d records) → option_map (λ (x : Record). x.key) (slice_get records k) ≡ Some (take 44 held.bytes)
+key_held k d records held = ap (λ (l : List Record). option_map (λ (x : Record). x.key) (slice_get l k)) held.put ∙ key_put k (take 44 held.bytes) (drop 44 held.bytes) held.before held.lengths
+
+pub data_held : (k : ℕ) (d : Dscb) (records : List Record) (held : HoldsDscb k d records) → option_map (λ (x : Record). x.data) (slice_get records k) ≡ Some (drop 44 held.bytes)
+data_held k d records held = ap (λ (l : List Record). option_map (λ (x : Record). x.data) (slice_get l k)) held.put ∙ data_put k (take 44 held.bytes) (drop 44 held.bytes) held.before held.lengths
 
 pub still_slot : (old new : List Record) (n k : ℕ) (key content : List ℕ) → n ≡ k → HasLengths old n 44 96 → 44 ≡ length key → 96 ≡ length content → new ≡ with_parts n key content old → HasLengths new k 44 96
 still_slot old new n k key content at has long wide is =

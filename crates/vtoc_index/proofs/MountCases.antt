@@ -26,7 +26,7 @@ use Rattle.vol_model.specs.declared.contents.Body.TheVariants.{Other}
 use Rattle.vol_model.specs.declared.contents.DataSet.{DataSet}
 use Rattle.vol_model.specs.declared.contents.Run.{Run}
 use Rattle.vol_model.specs.Order.{in_order, rank}
-use Rattle.vtoc_index.specs.Calls.{reads_to_mount, vtoc_reads}
+use Rattle.vtoc_index.specs.Calls.{reads_to_mount, tracks_to_read, vtoc_reads}
 use Rattle.vtoc_index.specs.Contents.{AreDscbs}
 use Rattle.vtoc_index.specs.Index.{IsIndexOf, IsMounted, IsOfUnit, IsReason, firsts_of, place_of_slot, serial_on, slots_before}
 use Rattle.vtoc_index.specs.Kept.{IsKept}
@@ -290,7 +290,7 @@ byte_stands_behind_the_last_track = refl
 
 -- Two reads lead to the VTOC, and each of its two tracks takes one: neither is left out, nor is another track read.
 reads_of_the_image : reads_to_mount image ≡ 4
-unfolding reads_to_mount geometry_of geometry_on vtoc_of vtoc_at label_of label_in records_on track_bytes records_of is_front records_to_end records_up_to
+unfolding reads_to_mount geometry_of geometry_on vtoc_of vtoc_at label_of label_in slots_on records_on track_bytes records_of is_front records_to_end records_up_to
 reads_of_the_image = refl
 
 -- By the header alone an image is refused behind one read, and for want of a label, or by the address in it, behind two.
@@ -315,14 +315,34 @@ reads_of_a_track_of_zeros : reads_to_mount (header_bytes one_cylinder ++ new_tra
 unfolding reads_to_mount geometry_of geometry_on vtoc_of vtoc_at label_of label_in records_on track_bytes records_of is_front records_to_end records_up_to
 reads_of_a_track_of_zeros = refl
 
--- So it is whatever the extent; behind a first track that is read, each other takes one.
+-- A first track whose second record is no slot is read once, since its grammar is good, and the good track behind it isn't read.
+reads_of_a_record_that_is_no_slot : reads_to_mount (pack_of pack01 (format_4 ∷ take 139 format_5 ∷ []) (data_set b ∷ data_set a ∷ [])) ≡ 3
+unfolding reads_to_mount geometry_of geometry_on vtoc_of vtoc_at label_of label_in slots_on records_on track_bytes records_of is_front records_to_end records_up_to
+reads_of_a_record_that_is_no_slot = refl
+
+-- Where the second track breaks a rule, it is read, but not the third.
+reads_of_a_third_track : reads_to_mount (pack_of pack01 ((take 105 format_4 ++ extent 1 3 ++ replicate 25 0) ∷ format_5 ∷ []) (data_set b ∷ take 139 (data_set a) ∷ [])) ≡ 4
+unfolding reads_to_mount geometry_of geometry_on vtoc_of vtoc_at label_of label_in slots_on records_on track_bytes records_of is_front records_to_end records_up_to
+reads_of_a_third_track = refl
+
+-- The tracks of a run are counted from its own first, whichever that is on the pack: the first that breaks a rule is counted, and none behind it. Track 0, with the label, and track 3, of zeros, break one.
+tracks_are_read_up_to_the_first_that_breaks_a_rule :
+    (tracks_to_read image one_cylinder two_tracks ≡ 2)
+    × (tracks_to_read image one_cylinder (record { start = 1; len = 1 }) ≡ 1)
+    × (tracks_to_read image one_cylinder (record { start = 1; len = 3 }) ≡ 3)
+    × (tracks_to_read image one_cylinder (record { start = 1; len = 9 }) ≡ 3)
+    × (tracks_to_read image one_cylinder (record { start = 2; len = 8 }) ≡ 2)
+    × (tracks_to_read image one_cylinder (record { start = 0; len = 3 }) ≡ 1)
+unfolding slots_on records_on track_bytes records_of is_front records_to_end
+tracks_are_read_up_to_the_first_that_breaks_a_rule = (refl, refl, refl, refl, refl, refl)
+
+-- They aren't asked where the first track has no records, or the extent is bad.
 reads_by_extents :
-    (vtoc_reads None (Ok (record { start = 1; len = 5 })) ≡ 2)
-    × (vtoc_reads None (Err BadVtoc) ≡ 2)
-    × (vtoc_reads (Some []) (Err BadVtoc) ≡ 1)
-    × (vtoc_reads (Some []) (Ok (record { start = 7; len = 1 })) ≡ 1)
-    × (vtoc_reads (Some []) (Ok (record { start = 7; len = 257 })) ≡ 257)
-reads_by_extents = (refl, refl, refl, refl, refl)
+    (vtoc_reads image one_cylinder None (Ok (record { start = 1; len = 2 })) ≡ 2)
+    × (vtoc_reads image one_cylinder None (Ok (record { start = 1; len = 3 })) ≡ 2)
+    × (vtoc_reads image one_cylinder None (Err BadVtoc) ≡ 2)
+    × (vtoc_reads image one_cylinder (Some []) (Err BadVtoc) ≡ 1)
+reads_by_extents = (refl, refl, refl, refl)
 
 -- An image whose VTOC has a second track of zeros: what can be read of it is held, but that track breaks a rule.
 abbrev second_is_broken : List ℕ
@@ -331,6 +351,10 @@ second_is_broken =
     ++ new_track 0 0 (label_records pack01 first_track) 4096
     ++ new_track 0 1 (map (slot_record first_track) (format_4 ∷ format_5 ∷ [])) 4096
     ++ replicate 32768 0
+
+reads_of_a_second_track_of_zeros : reads_to_mount second_is_broken ≡ 4
+unfolding reads_to_mount geometry_of geometry_on vtoc_of vtoc_at label_of label_in slots_on records_on track_bytes records_of is_front records_to_end records_up_to
+reads_of_a_second_track_of_zeros = refl
 
 broken_slots_are_read : slots_of_vtoc second_is_broken one_cylinder two_tracks ≡ slot_on 1 1 format_4 ∷ slot_on 1 2 format_5 ∷ []
 unfolding slots_of_vtoc slots_at slots_on records_on track_bytes records_of is_front records_to_end

@@ -1,5 +1,5 @@
 -- One slot of the small pack is put, computed. Each comment in small letters names what a near reading would let through.
-use Rattle.std.proofs.Common.{◌≡◌, ◌≢◌, ◌⊎◌, ◌≤◌, ◌<◌, ◌+◌, ◌*◌, ⊎_elim, inl, inr, ℕ, zero, suc, List, [], ◌∷◌, ◌++◌, codes, drop, get_or, length, take, replicate, Some, None, refl, sym, ap, subst, ◌∙◌, arith}
+use Rattle.std.proofs.Common.{◌≡◌, ◌≢◌, ◌⊎◌, ◌≤◌, ◌<◌, ◌+◌, ◌*◌, ⊎_elim, inl, inr, ℕ, zero, suc, List, [], ◌∷◌, ◌++◌, codes, drop, get_or, length, length-drop, take, replicate, Option, Some, None, refl, sym, ap, subst, ◌∙◌, arith}
 use Rattle.std.specs.Prelude.{Result, Ok, Err, slice_get, unwrap_or}
 use Rattle.std.specs.Option.{option_map}
 use Rattle.std.proofs.lemmas.List.{drop_all}
@@ -8,6 +8,7 @@ use Rattle.ckd_image.specs.declared.header.Geometry.{Geometry}
 use Rattle.ckd_image.specs.Writing.{new_track}
 use Rattle.pack_spec.specs.Written.{slot_record}
 use Rattle.vtoc_index.specs.Index.{firsts_of}
+use Rattle.ckd_image.specs.Track.{Record}
 use Rattle.ckd_image.specs.Reading.{is_front, records_of, records_to_end, records_up_to}
 use Rattle.dscb_codec.specs.declared.Dscb.{Dscb}
 use Rattle.dscb_codec.specs.declared.Dscb.TheVariants as formats
@@ -24,8 +25,9 @@ use Rattle.pack_spec.specs.Vtoc.{slots_on}
 use Rattle.pack_spec.specs.Written.{label_bytes}
 use Rattle.vtoc_index.specs.Contents.{AreDscbs, with_bytes}
 use Rattle.vtoc_index.specs.Index.{IsPut, place_of_slot}
-use Rattle.vtoc_index.specs.Puts.{AfterPut, IsReplaced}
+use Rattle.vtoc_index.specs.Puts.{AfterPut, HoldsDscb, HoldsSlot, IsReplaced}
 use Rattle.vtoc_index.specs.declared.vol.Vol.{Vol}
+use Rattle.vtoc_index.proofs.HeldLemmas.{data_held, key_held}
 use Rattle.vtoc_index.proofs.MountCases.{index_is_mounted}
 use Rattle.vtoc_index.proofs.PutLaw.{index_put, slot_put}
 use Rattle.vtoc_index.proofs.SmallPack.{a, all_stand, b, c, data_set, f1, f4, f5, first_track, format_4, format_5, image, index, one_cylinder, pack01, set_bytes, slot_on, two_tracks, with_sets}
@@ -124,6 +126,74 @@ module _ (any : Vol) where
     kept = slot_is_put;
     done = tt;
   }
+
+-- a record of which the first so many of a set's bytes are the key, and the others and these the data
+record_of : ℕ → List ℕ → List ℕ → Record
+record_of size name behind = record { address = 0 ∷ 0 ∷ 0 ∷ 1 ∷ []; key = take size (data_set name); «data» = drop size (data_set name) ++ behind }
+
+-- The record of a number, counted from 0, holds the set, whatever that in front of it does.
+set_is_held : HoldsDscb 1 set_c (record_of 44 b [] ∷ record_of 44 c [] ∷ [])
+unfolding record_of
+set_is_held = record {
+  bytes = data_set c;
+  dscb = c_stands;
+  size = refl;
+  before = record_of 44 b [] ∷ record_of 44 b [] ∷ [];
+  lengths = (refl, refl);
+  put = refl;
+}
+
+same_some : {x y : List ℕ} → Some x ≡ Some y → x ≡ y
+same_some is = cc
+
+-- So it doesn't where the set is in the record in front, and that of the number has another; or where there is no such record.
+record_of_the_number_holds_it : (¬ HoldsDscb 1 set_c (record_of 44 c [] ∷ record_of 44 b [] ∷ [])) × (¬ HoldsDscb 2 set_c (record_of 44 b [] ∷ record_of 44 c [] ∷ []))
+unfolding record_of
+record_of_the_number_holds_it = (
+  λ held.
+      let key : take 44 (data_set b) ≡ c = same_some (key_held 1 set_c (record_of 44 c [] ∷ record_of 44 b [] ∷ []) held) ∙ held.dscb.0 in
+      let wrong : 0xC2 ≡ 0xC3 = ap (λ (bytes : List ℕ). get_or bytes 0 0) key in
+      omega (arith, wrong),
+  λ held. let none : ◌≡◌ {A = Option (List ℕ)} None (Some (take 44 held.bytes)) = key_held 2 set_c (record_of 44 b [] ∷ record_of 44 c [] ∷ []) held in absurd (cc),
+)
+
+-- The slots of two sets stand as the first two records of the second track of the VTOC, and the buffer holds one where it holds that track up to it.
+module _ (any : Vol) where
+  -- the index, with this track and these records in its buffer
+  abbrev with_buffer : ℕ → List Record → Vol
+  with_buffer track records = record (index any) { buf = record (index any).buf { track = track; records = records } }
+
+  both_sets : List Record
+  both_sets = record_of 44 b [] ∷ record_of 44 a [] ∷ []
+
+  slots_are_held : HoldsSlot (with_buffer 2 both_sets) 3 × HoldsSlot (with_buffer 2 both_sets) 2 × HoldsSlot (with_buffer 2 (record_of 44 b [] ∷ [])) 2
+  unfolding both_sets
+  slots_are_held = ((refl, omega arith), (refl, omega arith), (refl, omega arith))
+
+  -- the track has the slot's number within the VTOC, or the slot is one of the track before
+  track_of_the_slot_is_held : (¬ HoldsSlot (with_buffer 1 both_sets) 3) × (¬ HoldsSlot (with_buffer 2 both_sets) 1)
+  track_of_the_slot_is_held = (
+    λ holds. let wrong : 1 ≡ 2 = holds.0 in omega (arith, wrong),
+    λ holds. let wrong : 2 ≡ 1 = holds.0 in omega (arith, wrong),
+  )
+
+  -- it is held up to the slot before, or nothing of it
+  slot_itself_is_held : (¬ HoldsSlot (with_buffer 2 (record_of 44 b [] ∷ [])) 3) × (¬ HoldsSlot (index any) 2)
+  slot_itself_is_held = (
+    λ holds. let wrong : 1 < 1 = holds.1 in omega (arith, wrong),
+    λ holds. let wrong : 0 < 0 = holds.1 in omega (arith, wrong),
+  )
+
+-- Key and data are as long as those of a slot.
+record_is_as_long_as_a_slot : (¬ HoldsDscb 0 set_c (record_of 45 c [] ∷ [])) × (¬ HoldsDscb 0 set_c (record_of 44 c (0 ∷ []) ∷ []))
+unfolding record_of
+record_is_as_long_as_a_slot = (
+  λ held. let key : take 45 (data_set c) ≡ c = same_some (key_held 0 set_c (record_of 45 c [] ∷ []) held) ∙ held.dscb.0 in let wrong : 45 ≡ 44 = ap length key in omega (arith, wrong),
+  λ held.
+      let content : drop 44 (data_set c) ++ 0 ∷ [] ≡ drop 44 held.bytes = same_some (data_held 0 set_c (record_of 44 c (0 ∷ []) ∷ []) held) in
+      let size : 97 ≡ length (drop 44 held.bytes) = ap length content in
+      omega (arith, size, length-drop 44 held.bytes, held.size),
+)
 
 -- the bytes of a slot
 abbrev bytes_at : ℕ → List VtocSlot → List ℕ

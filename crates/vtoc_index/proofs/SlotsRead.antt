@@ -112,13 +112,9 @@ so_far_all g track passed records old new high done = record {
   read = done.read;
 }
 
--- those of the records that were passed
-pub so_far_some : (g : Geometry) (track passed : ℕ) (records : List Record) (old new : List ReadSlot) → AddsSoFar g track records passed old new → (count : ℕ) × Adds g track (take count records) old new
-so_far_some g track passed records old new done = (passed, record { bytes = done.bytes; slots = done.slots; are_slots = done.are_slots; added = done.added; read = done.read })
-
--- none, where nothing was read
-pub none_added : (g : Geometry) (track : ℕ) (records : List Record) (old : List ReadSlot) → (count : ℕ) × Adds g track (take count records) old old
-none_added g track records old = so_far_some g track 0 records old old (so_far_none g track records old)
+-- all of the records
+pub all_added : (g : Geometry) (track : ℕ) (records : List Record) (old new : List ReadSlot) → Adds g track records old new → (count : ℕ) × Adds g track (take count records) old new
+all_added g track records old new adds = (length records, subst (λ (l : List Record). Adds g track l old new) (sym (take_all (length records) records (omega arith))) adds)
 
 -- as many slots are added as there are records
 pub adds_few : (g : Geometry) (track count : ℕ) (records : List Record) (old new : List ReadSlot) → length records ≡ count → Adds g track records old new → length new ≡ length old + count

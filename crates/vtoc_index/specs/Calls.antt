@@ -1,5 +1,6 @@
 -- What the reading of a VTOC leaves of a hall, and how many reads it takes, in this project's profile.
-use Rattle.std.specs.Prelude.{ℕ, ◌+◌, ◌-◌, List, length, take, Option, Some, None, Result, Ok, Err, IsErrOf, if◌then◌else◌}
+use Rattle.std.specs.Prelude.{ℕ, ◌+◌, List, length, position, take, is_none, Option, Some, None, Result, Ok, Err, IsErrOf, if◌then◌else◌}
+use Rattle.std.specs.Option.{option_map_or}
 use Rattle.ckd_image.specs.declared.header.Geometry.{Geometry}
 use Rattle.ckd_image.specs.declared.header.ImageErr.{ImageErr}
 use Rattle.ckd_image.specs.Header.{geometry_of}
@@ -7,7 +8,8 @@ use Rattle.ckd_image.specs.Track.{Record}
 use Rattle.hall_core.specs.Facts.{Facts, ReportedCall}
 use Rattle.vol_model.specs.declared.contents.Run.{Run}
 use Rattle.pack_spec.specs.Label.{address_at, is_inside, label_of, records_on, track_of_address}
-use Rattle.pack_spec.specs.Vtoc.{vtoc_of}
+use Rattle.pack_spec.specs.Slots.{tracks_in}
+use Rattle.pack_spec.specs.Vtoc.{slots_on, vtoc_of}
 use Rattle.pack_spec.specs.declared.MountErr.{MountErr}
 use Rattle.pack_spec.specs.declared.MountErr.TheVariants.{Device}
 
@@ -20,16 +22,20 @@ abbrev pub first_track_reads : Option (List Record) → ℕ
 first_track_reads None = 2
 first_track_reads (Some records) = 1
 
--- the reads of a VTOC, by its first track and its extent: one for each other track behind a first that is read
-abbrev pub vtoc_reads : Option (List Record) → Result Run MountErr → ℕ
-vtoc_reads (Some records) (Ok vtoc) = 1 + (vtoc.len - 1)
-vtoc_reads first extent = first_track_reads first
+-- the tracks of a VTOC that are read: up to the first that breaks a rule and with it, or all
+abbrev pub tracks_to_read : List ℕ → Geometry → Run → ℕ
+tracks_to_read image g vtoc = option_map_or (λ before. before + 1) (position (λ track. is_none (slots_on image g track)) (tracks_in vtoc)) vtoc.len
+
+-- the reads of a VTOC, by its first track and its extent: one for each track to read where the first has records and the extent is good
+abbrev pub vtoc_reads : List ℕ → Geometry → Option (List Record) → Result Run MountErr → ℕ
+vtoc_reads image g (Some records) (Ok vtoc) = tracks_to_read image g vtoc
+vtoc_reads image g first extent = first_track_reads first
 
 -- the reads behind that of the label, which are of the VTOC where the label leads into the image
 abbrev pub reads_behind_label : List ℕ → Geometry → Option (List ℕ) → ℕ
 reads_behind_label image g None = 0
 reads_behind_label image g (Some label) =
-    if is_inside g (address_at 11 label) then vtoc_reads (records_on image g None (track_of_address g (address_at 11 label))) (vtoc_of image g) else 0
+    if is_inside g (address_at 11 label) then vtoc_reads image g (records_on image g None (track_of_address g (address_at 11 label))) (vtoc_of image g) else 0
 
 -- the reads behind that of the header, of which the first is of the label's track
 abbrev pub reads_behind_header : List ℕ → Result Geometry ImageErr → ℕ

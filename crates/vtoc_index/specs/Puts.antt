@@ -1,15 +1,17 @@
 -- What a write of one slot of a VTOC leaves of the image and of the index, in this project's profile.
-use Rattle.std.specs.Prelude.{◌≡◌, ◌⊎◌, ℕ, ◌≤◌, List, [], length, Some, Result, OnOk, OnErr, slice_set}
+use Rattle.std.specs.Prelude.{◌≡◌, ◌⊎◌, ℕ, ◌+◌, ◌≤◌, ◌<◌, List, [], length, take, drop, Some, Result, OnOk, OnErr, slice_set}
 use Rattle.dscb_codec.specs.declared.Dscb.{Dscb}
 use Rattle.dscb_codec.specs.Layout.{IsDscb}
+use Rattle.ckd_image.specs.Track.{Record}
 use Rattle.ckd_image.specs.declared.header.Geometry.{Geometry}
 use Rattle.hall_core.specs.Files.{File, AfterWrite, patched}
 use Rattle.hall_core.specs.Moments.{Meaning}
 use Rattle.pack_spec.specs.Vtoc.{slots_on}
 use Rattle.track_records.specs.Buffers.{Buffer}
+use Rattle.track_records.specs.Updates.{HasLengths, with_parts}
 use Rattle.track_records.specs.Written.{StandsOn}
 use Rattle.vtoc_index.specs.declared.vol.Vol.{Vol}
-use Rattle.vtoc_index.specs.Index.{IsIndexOf, IsPut, place_of_slot}
+use Rattle.vtoc_index.specs.Index.{IsIndexOf, IsPut, place_of_slot, slots_in_front, track_index}
 
 -- the buffer holds no record, or those of its track of the image
 abbrev pub IsHeld : List ℕ → Buffer → Type 0
@@ -34,10 +36,23 @@ pub record IsReplaced (slot : ℕ) (d : Dscb) (old new : Vol) : Type 0 where
   pub geometry : new.buf.geometry ≡ old.buf.geometry
   pub unit : new.buf.unit ≡ old.buf.unit
 
+-- the buffer of an index holds the track of this slot, and that up to the slot
+abbrev pub HoldsSlot : Vol → ℕ → Type 0
+HoldsSlot v slot = (v.buf.track ≡ v.vtoc.start + track_index v.firsts.items slot) × (slots_in_front v.firsts.items slot < length v.buf.records)
+
 -- where a slot is put, the index holds the DSCB, and after an error what it held
 pub record IsWith {T E : Type 0} (slot : ℕ) (d : Dscb) (old new : Vol) (result : Result T E) : Type 0 where
   pub done : OnOk result (IsReplaced slot d old new)
   pub failed : OnErr result (SameBut old new)
+
+-- The record of this number in a buffer, counted from 0, got the bytes of this DSCB over those of a slot.
+pub record HoldsDscb (k : ℕ) (d : Dscb) (records : List Record) : Type 0 where
+  pub bytes : List ℕ
+  pub dscb : IsDscb d bytes
+  pub size : length bytes ≡ 140
+  pub before : List Record
+  pub lengths : HasLengths before k 44 96
+  pub put : records ≡ with_parts k (take 44 bytes) (drop 44 bytes) before
 
 -- A DSCB is put into a slot by one write of its bytes at the slot's place and nothing else, which, where it is kept, leaves the image with that slot and otherwise as before. Where it is done, the image is so, and the index is the image's.
 pub record AfterPut {T E : Type 0} (name : List ℕ) (v : Vol) (slot : ℕ) (d : Dscb) (v' : Vol) (image put : List ℕ) (old new : Meaning (List File)) (result : Result T E) : Type 0 where

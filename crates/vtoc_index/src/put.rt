@@ -1,15 +1,13 @@
 //! One slot of a VTOC, written over.
-ghost use Rattle.std.specs.Prelude.{◌≡◌, ◌<◌, ◌≤◌, ◌+◌, ◌-◌, ℕ, List, length, filter, take, drop, nat_le, slice_index, IsOk, IsTrue, OnOk, OnErr};
-ghost use Rattle.ckd_image.specs.Track.{Record};
-ghost use Rattle.dscb_codec.specs.Layout.{IsDscb};
+ghost use Rattle.std.specs.Prelude.{◌≡◌, ◌<◌, ◌≤◌, ◌+◌, ◌-◌, [], length, filter, nat_le, slice_index, IsOk, IsTrue, OnOk, OnErr};
 ghost use Rattle.hall_core.specs.Facts.{CallsAtMost, DeviceCall, unit_of};
 ghost use Rattle.hall_core.specs.Files.{image_of};
 ghost use Rattle.hall_core.specs.Moments.{Same};
 ghost use Rattle.track_records.specs.Calls.{HasTrack};
-ghost use Rattle.track_records.specs.Updates.{HasLengths, with_parts};
+ghost use Rattle.track_records.specs.Updates.{HasLengths};
 ghost use Rattle.track_records.specs.Written.{StandsOn};
 ghost use Rattle.vtoc_index.specs.Index.{AreFirsts, IsIndexOf, IsOfUnit, slots_in_front, track_index};
-ghost use Rattle.vtoc_index.specs.Puts.{AfterPut, HasSlot, IsHeld, IsWith};
+ghost use Rattle.vtoc_index.specs.Puts.{AfterPut, HasSlot, HoldsDscb, HoldsSlot, IsHeld, IsWith};
 
 use crate::vol::Vol;
 use dscb_codec::{Dscb, encode};
@@ -43,10 +41,11 @@ pub fn put_slot<H: Hall>(hall: &mut H, vol: &mut Vol, slot: u32, dscb: &Dscb) ->
     ensures held { vol.new.buf.track ≡ vol.old.vtoc.start + track_index vol.old.firsts.items slot }
     ensures unit { IsOfUnit (H.facts hall.new).units vol.new }
     ensures call { DeviceCall (H.facts hall.old) (H.facts hall.new) result }
-    ensures slot { OnOk result ((bytes : List ℕ) × IsDscb dscb.now bytes × (length bytes ≡ 140) × ((records : List Record) × HasLengths records (slots_in_front vol.old.firsts.items slot) 44 96 × (vol.new.buf.records ≡ with_parts (slots_in_front vol.old.firsts.items slot) (take 44 bytes) (drop 44 bytes) records))) }
+    ensures slot { OnOk result (HoldsDscb (slots_in_front vol.old.firsts.items slot) dscb.now vol.new.buf.records) }
     ensures calls { CallsAtMost 1 1 0 0 (H.calls hall.old) (H.calls hall.new) }
     ensures unwritten { OnErr result (¬ HasLengths vol.new.buf.records (slots_in_front vol.old.firsts.items slot) 44 96 → CallsAtMost 1 0 0 0 (H.calls hall.old) (H.calls hall.new)) }
-    ensures again { vol.old.buf.track ≡ vol.old.vtoc.start + track_index vol.old.firsts.items slot → slots_in_front vol.old.firsts.items slot < length vol.old.buf.records → CallsAtMost 0 1 0 0 (H.calls hall.old) (H.calls hall.new) }
+    ensures again { HoldsSlot vol.old slot → CallsAtMost 0 1 0 0 (H.calls hall.old) (H.calls hall.new) }
+    ensures few { ¬ HoldsSlot vol.old slot → length vol.new.buf.records ≤ slots_in_front vol.old.firsts.items slot + 1 }
 {
     let place = place_of(vol, slot);
     let bytes = encode(dscb);
@@ -105,6 +104,8 @@ fn hold<H: Hall>(hall: &mut H, unit: u8, place: Place, buf: &mut TrackBuf) -> Re
     ensures kept { (buf.new.geometry ≡ buf.old.geometry) × (buf.new.unit ≡ buf.old.unit) }
     ensures track { buf.new.track ≡ place.track }
     ensures lengths { OnOk result (HasLengths buf.new.records (place.number - 1) 44 96) }
+    ensures failed { OnErr result (¬ HasLengths buf.new.records (place.number - 1) 44 96) }
+    ensures few { (buf.old.track ≡ place.track → place.number ≤ length buf.old.records → ⊥) → length buf.new.records ≤ place.number }
     ensures again { buf.old.track ≡ place.track → place.number ≤ length buf.old.records → (buf.new ≡ buf.old) × CallsAtMost 0 0 0 0 (H.calls hall.old) (H.calls hall.new) }
     ensures stands { IsTrue H.tells → OnOk result (StandsOn (image_of (H.meaning hall.new).state (H.facts hall.new) unit) buf.new) }
     ensures told { IsTrue H.tells → Same (H.meaning hall.old) (H.meaning hall.new) }
@@ -129,6 +130,7 @@ fn fetch<H: Hall>(hall: &mut H, unit: u8, place: Place, buf: &mut TrackBuf) -> R
     requires held { IsTrue H.tells → IsHeld (image_of (H.meaning hall.old).state (H.facts hall.old) unit) buf.old }
     ensures buffer { buf.new ≡ record buf.old { track = place.track; records = buf.new.records } }
     ensures few { (buf.old.track ≡ place.track → place.number ≤ length buf.old.records → ⊥) → OnOk result (length buf.new.records ≡ place.number) }
+    ensures none { OnErr result (buf.new.records ≡ []) }
     ensures again { buf.old.track ≡ place.track → place.number ≤ length buf.old.records → IsOk result × ((buf.new ≡ buf.old) × CallsAtMost 0 0 0 0 (H.calls hall.old) (H.calls hall.new)) }
     ensures stands { IsTrue H.tells → OnOk result ((place.number ≤ length buf.new.records) × StandsOn (image_of (H.meaning hall.old).state (H.facts hall.old) unit) buf.new) }
     ensures told { IsTrue H.tells → Same (H.meaning hall.old) (H.meaning hall.new) }

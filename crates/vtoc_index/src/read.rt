@@ -10,7 +10,7 @@ ghost use Rattle.pack_spec.specs.Volume.{volume_within};
 ghost use Rattle.pack_spec.specs.Vtoc.{slots_on};
 ghost use Rattle.track_records.specs.Calls.{HasTrack};
 ghost use Rattle.track_records.specs.Written.{StandsOn};
-ghost use Rattle.vtoc_index.specs.Calls.{MountCall, first_track_reads, reads_to_mount, vtoc_reads};
+ghost use Rattle.vtoc_index.specs.Calls.{MountCall, first_track_reads, reads_to_mount, tracks_to_read, vtoc_reads};
 ghost use Rattle.vtoc_index.specs.Index.{IsMounted, IsOfUnit, IsReason};
 ghost use Rattle.vtoc_index.specs.declared.slots.ReadSlot.{ReadSlot};
 ghost use Rattle.vtoc_index.specs.Reading.{AreNumbered, AreTracksRead, IsExtent, Refuses, vtoc_on};
@@ -40,9 +40,9 @@ const FIRST_SLOT: u8 = 1;
 /// faults rose.
 ///
 /// On a pack that mounts, the header, the label's track and each track of the VTOC, which are counted
-/// from 0 over the volume, are read once, in this order; one that breaks a rule is read up to that.
-/// Where the first track of the VTOC breaks the grammar, it is read again for its first slot. All
-/// memory of the index is taken here.
+/// from 0 over the volume, are read once, in this order; one that breaks a rule is read up to that, so
+/// that no track is read behind the first of the VTOC that breaks one. Where the first track of the VTOC
+/// breaks the grammar, it is read again for its first slot. All memory of the index is taken here.
 ///
 /// Label and DSCBs follow System Control Blocks, GC28-6628; the rules and their order are this project's
 /// profile.
@@ -104,8 +104,7 @@ fn read_slots<H: Hall>(
     ensures told { IsTrue H.tells → Same (H.meaning hall.old) (H.meaning hall.new) }
     ensures call { MountCall (H.facts hall.old) (H.facts hall.new) result }
     ensures calls { CallsAtMost 257 0 0 0 (H.calls hall.old) (H.calls hall.new) }
-    ensures reads { let image = image_of (H.meaning hall.old).state (H.facts hall.old) unit in IsTrue H.tells → CallsAtMost (vtoc_reads (records_on image geometry None (track_of_address geometry at)) (vtoc_on image geometry at)) 0 0 0 (H.calls hall.old) (H.calls hall.new) }
-    ensures stops { let image = image_of (H.meaning hall.old).state (H.facts hall.old) unit in IsTrue H.tells → (t : ℕ) → IsErrOf result (MountErr.VtocTrack t) → CallsAtMost ((t - track_of_address geometry at) + first_track_reads (records_on image geometry None (track_of_address geometry at))) 0 0 0 (H.calls hall.old) (H.calls hall.new) }
+    ensures reads { let image = image_of (H.meaning hall.old).state (H.facts hall.old) unit in IsTrue H.tells → CallsAtMost (vtoc_reads image geometry (records_on image geometry None (track_of_address geometry at)) (vtoc_on image geometry at)) 0 0 0 (H.calls hall.old) (H.calls hall.new) }
     ensures once { IfOk result (λ p. CallsAtMost p.0.len 0 0 0 (H.calls hall.old) (H.calls hall.new)) }
     ensures file { IsErrOf result MountErr.NoFile → ⊥ }
 {
@@ -183,7 +182,7 @@ fn why_broken<H: Hall>(
     }
 }
 
-// Reads the tracks of the VTOC behind its first, and adds their slots.
+// Reads the tracks of the VTOC behind its first, and adds their slots; none behind one that isn't added.
 fn read_others<H: Hall>(
     hall: &mut H,
     unit: u8,
@@ -208,6 +207,8 @@ fn read_others<H: Hall>(
     ensures told { IsTrue H.tells → Same (H.meaning hall.old) (H.meaning hall.new) }
     ensures call { MountCall (H.facts hall.old) (H.facts hall.new) result }
     ensures calls { CallsAtMost (vtoc.len - 1) 0 0 0 (H.calls hall.old) (H.calls hall.new) }
+    ensures reads { let image = image_of (H.meaning hall.old).state (H.facts hall.old) unit in IsTrue H.tells → AreTracksRead image geometry vtoc.start 1 found.old → CallsAtMost (tracks_to_read image geometry vtoc - 1) 0 0 0 (H.calls hall.old) (H.calls hall.new) }
+    ensures far { CallsAtMost ((length found.new.firsts.items - length found.old.firsts.items) + 1) 0 0 0 (H.calls hall.old) (H.calls hall.new) }
     ensures stops { (t : ℕ) → IsErrOf result (MountErr.VtocTrack t) → CallsAtMost (t - vtoc.start) 0 0 0 (H.calls hall.old) (H.calls hall.new) }
     ensures file { IsErrOf result MountErr.NoFile → ⊥ }
 {

@@ -37,7 +37,7 @@ impl ReadSlots {
 
     // Adds the slots of a track, so many, where the buffer holds its records.
     //
-    // After an error some may have been added.
+    // After an error some may have been added, but the track isn't counted.
     pub(crate) fn add(
         &mut self,
         geometry: Geometry,
@@ -48,17 +48,18 @@ impl ReadSlots {
         requires count { length buf.now.records ≡ count }
         requires few { length self.old.slots.items ≤ 65280 }
         ensures kept { OnErr result ((passed : ℕ) × Adds geometry track (take passed buf.now.records) self.old.slots.items self.new.slots.items) }
-        ensures begun { OnErr result ((self.new.firsts.items ≡ self.old.firsts.items) ⊎ (self.new.firsts.items ≡ self.old.firsts.items ++ length self.old.slots.items ∷ [])) }
+        ensures uncounted { OnErr result (self.new.firsts.items ≡ self.old.firsts.items) }
         ensures firsts { OnOk result (self.new.firsts.items ≡ self.old.firsts.items ++ length self.old.slots.items ∷ []) }
         ensures slots { OnOk result (Adds geometry track buf.now.records self.old.slots.items self.new.slots.items) }
         ensures few { OnOk result ((more : ℕ) × (more ≤ 255) × (length self.new.slots.items ≡ length self.old.slots.items + more)) }
         ensures refused { IfErr result (λ e. (e ≡ MountErr.Memory) ⊎ ((e ≡ MountErr.VtocTrack track) × (slots_in buf.now.records ≡ None))) }
     {
         let first = self.slots.len() as u32;
+        push_slots(&mut self.slots, geometry, track, buf, count)?;
         let Ok(()) = self.firsts.push(first) else {
             return Err(MountErr::Memory);
         };
-        push_slots(&mut self.slots, geometry, track, buf, count)
+        Ok(())
     }
 }
 

@@ -1,7 +1,7 @@
 use Rattle.std.proofs.Common.{inr, rules}
 use Rattle.hall_core.specs.Facts.{unit_of}
 use Rattle.dadsm_ops.specs.Naming.{IsToRename}
-use Rattle.dadsm_ops.proofs.Renaming.{may_rename_entry, puts_name, puts_name_not, renames, renames_entry, renames_not}
+use Rattle.dadsm_ops.proofs.Renaming.{holds_renamed, may_rename_entry, puts_name, puts_name_not, renames, renames_entry, renames_not}
 use Rattle.dadsm_ops.proofs.naming.rename.Goals as goal
 
 pub returns-in-Ok-clause-told : goal.returns-in-Ok-clause-told
@@ -43,6 +43,12 @@ returns-in-Ok-clause-entry g c =
     let v = c.args.vol.now in
     let found : IsToRename v.slots.items c.args.old.now.bytes c.args.new.now.bytes c.in_ok-slot.slot = search rules in
     renames_entry c.args.old.now.bytes c.args.new.now.bytes v.slots.items c.put_through.new.vol.slots.items c.in_ok-slot.slot c.index.result.now c.under_name-dscb.result found c.index.ensures c.under_name-dscb.ensures.exact c.in-Ok.ensures.index.items
+
+pub returns-in-Ok-clause-held : goal.returns-in-Ok-clause-held
+returns-in-Ok-clause-held g c =
+    let v = c.args.vol.now in
+    let found : IsToRename v.slots.items c.args.old.now.bytes c.args.new.now.bytes c.in_ok-slot.slot = search rules in
+    holds_renamed c.args.old.now.bytes c.args.new.now.bytes v c.put_through.new.vol c.in_ok-slot.slot c.under_name-dscb.result found c.in-Ok.ensures.index.items c.in-Ok.ensures.track c.in-Ok.ensures.slot
 
 pub returns-in-Ok-clause-slots : goal.returns-in-Ok-clause-slots
 returns-in-Ok-clause-slots g c = inr (returns-in-Ok-clause-entry g c)

@@ -1,8 +1,10 @@
-use Rattle.std.proofs.Common.{List, ap, arith, drop, inl, inr, length-drop, length-take, refl, take}
+use Rattle.std.proofs.Common.{◌≡◌, ◌⊎◌, List, ap, arith, ℕ, subst, sym, drop, inl, inr, length-drop, length-take, refl, take}
 use Rattle.track_records.proofs.WriteLemmas.{on_err}
-use Rattle.vtoc_index.specs.Index.{slots_in_front}
+use Rattle.vtoc_index.specs.Index.{IsIndexOf, slots_in_front}
+use Rattle.vtoc_index.proofs.BegunLemmas.{same_image}
 use Rattle.vtoc_index.proofs.HeldLemmas.{still_slot}
 use Rattle.hall_core.specs.Facts.{Attached, unit_of}
+use Rattle.hall_core.specs.Files.{image_of}
 use Rattle.vtoc_index.specs.declared.vol.Vol.{Vol}
 use Rattle.dadsm_ops.specs.Operations.{image_named}
 use Rattle.dadsm_ops.proofs.Writes.{put_fails, put_synced}
@@ -27,12 +29,34 @@ returns-in_err-put_slot-clause-slots g c = inl (ap (λ (v : Vol). v.slots.items)
 pub returns-clause-slots : goal.returns-clause-slots
 returns-clause-slots g c = inr c.in_ok-put_slot.ensures.index.done.items
 
+pub returns-in_err-put_slot-clause-ahead : goal.returns-in_err-put_slot-clause-ahead
+returns-in_err-put_slot-clause-ahead g c told = on_err c.from_residual.result _ (inl (ap (λ (v : Vol). v.slots.items) c.in_err-put_slot.ensures.index.failed.others))
+
+-- a failed sync leaves the image with the slot, and so its index
+pub returns-clause-ahead : goal.returns-clause-ahead
+returns-clause-ahead g c told =
+    let unit = c.args.vol.now.unit in
+    let mid = c.put_slot.new in
+    let hall = c.make_durable.new.hall in
+    let after = image_of (g.H.Hall.meaning hall).state (g.H.Hall.facts hall) unit in
+    let sync = c.make_durable.ensures in
+    let same = same_image (g.H.Hall.meaning mid.hall).state (g.H.Hall.meaning hall).state (g.H.Hall.facts mid.hall) (g.H.Hall.facts hall) unit unit (sync.told told).state sync.call.units refl in
+    let put = (c.in_ok-put_slot.ensures.told told).done.1 in
+    on_err c.make_durable.result ((mid.vol.slots.items ≡ c.args.vol.now.slots.items) ⊎ IsIndexOf after mid.vol) (inr (subst (λ (image : List ℕ). IsIndexOf image mid.vol) (sym same) put))
+
 -- behind a write the buffer has a slot there, so that this says nothing of it
 pub returns-in_err-put_slot-clause-unwritten : goal.returns-in_err-put_slot-clause-unwritten
 returns-in_err-put_slot-clause-unwritten g c = on_err c.from_residual.result _ c.in_err-put_slot.ensures.unwritten
 
 pub returns-clause-unwritten : goal.returns-clause-unwritten
 returns-clause-unwritten g c =
-    let (bytes, fields, size, (records, has, is)) = c.in_ok-put_slot.ensures.slot in
+    let held = c.in_ok-put_slot.ensures.slot in
+    let front = slots_in_front c.args.vol.now.firsts.items c.args.slot in
     on_err c.make_durable.result _
-    (λ none. absurd (none (still_slot records c.put_slot.new.vol.buf.records (slots_in_front c.args.vol.now.firsts.items c.args.slot) (slots_in_front c.args.vol.now.firsts.items c.args.slot) (take 44 bytes) (drop 44 bytes) refl has (omega (arith, size, length-take 44 bytes)) (omega (arith, size, length-drop 44 bytes)) is)))
+    (λ none.
+    absurd
+    (none
+    (still_slot held.before c.put_slot.new.vol.buf.records front front (take 44 held.bytes) (drop 44 held.bytes) refl held.lengths
+    (omega (arith, held.size, length-take 44 held.bytes))
+    (omega (arith, held.size, length-drop 44 held.bytes))
+    held.put)))

@@ -31,7 +31,7 @@ returns-in-Ok-clause-durable g c told other =
     let hall = c.args.hall.now in
     let stated : IsFinal c.run.result ⊎ (c.run.result ≡ 24) → IsDurable (g.H.Hall.meaning c.run.new.hall) =
     stated_durable c.in-Some-Run.file.now c.in-Ok.statement (file_of (g.H.Hall.meaning hall).state c.in-Some-Run.file.now) c.run.result (g.met.H.Hall.none_pending hall told c.requires) (c.run.ensures.does told) in
-    ⊎_elim (λ (low : c.run.result ≤ 16). stated (inl (inl (omega (arith, low)))))
+    ⊎_elim (λ code. stated (inl (inl (omega (arith, code)))))
     (⊎_elim (λ (unit : c.run.result ≡ 21). stated (inl (inl (omega (arith, unit)))))
     (⊎_elim (λ (device : c.run.result ≡ 22). absurd (other device))
     (⊎_elim (λ (printer : c.run.result ≡ 24). stated (inr printer)) (c.run.ensures.durable told))))

@@ -58,7 +58,7 @@ returns-clause-does g c told =
           let synced : Synced (M new.hall) (M c.match-ran.hall) c.match-ran.status =
           subst (λ (n : ℕ). Synced (M new.hall) (M c.match-ran.hall) n) (sym w.status-is)
           (subst (λ h. Synced (M new.hall) (M h) w.finish-status.result) (sym w.hall-is) (subst (λ h. Synced (M h) (M w.finish-status.new.hall) w.finish-status.result) c.close-hall.ensures (w.finish-status.ensures.told told))) in
-          works_finished c.match-ran.status code (⊎_elim (λ is. inl (w.status-is ∙ is)) (λ is. inr (w.status-is ∙ is)) w.finish-status.ensures.status) w.in-Ok.ensures.small counts later synced done stops
+          works_finished c.match-ran.status code (⊎_elim (λ is. inl (w.status-is ∙ is)) (λ is. inr (w.status-is ∙ is)) w.finish-status.ensures.status) (omega (arith, w.in-Ok.ensures.codes)) counts later synced done stops
       | in-Err-Device w ↦
           let failed : IsErrOf ran Device = search rules in
           at_close (works_failed c.match-ran.status (cut_by c.match-ran.status 22 (w.status-is ∙ w.code-status.ensures) (omega arith) (omega arith) (λ no. omega (arith, no))) (λ device. c.run_rename-ran.ensures.fault told failed) runs.moments.later stops) w.hall-is
@@ -95,4 +95,13 @@ returns-clause-units g c =
       | in-Err-Device w ↦ ap (λ h. (F h).units) w.hall-is ∙ closed
       | in-Err-Print w ↦ ap (λ h. (F h).units) w.hall-is ∙ closed
       | in-Err-Memory w ↦ ap (λ h. (F h).units) w.hall-is ∙ closed
+    ]
+
+pub returns-clause-reported : goal.returns-clause-reported
+returns-clause-reported g c =
+    elim c.match-ran.branch [
+      | in-Ok w ↦ search rules
+      | in-Err-Device w ↦ search rules
+      | in-Err-Print w ↦ search rules
+      | in-Err-Memory w ↦ search rules
     ]

@@ -1,4 +1,4 @@
-use Rattle.std.proofs.Common.{◌≡◌, ◌+◌, ◌-◌, ◌++◌, List, length, IsTrue, refl, rules, inr, ℕ, ap, subst, sym, ◌∙◌, arith, take, length-take, length-drop}
+use Rattle.std.proofs.Common.{◌≡◌, ◌≤◌, ◌+◌, ◌-◌, ◌++◌, List, length, IsTrue, refl, rules, inr, ℕ, ap, subst, sym, ◌∙◌, arith, take, length-take, length-drop}
 use Rattle.std.proofs.lemmas.List.{take-append-drop}
 use Rattle.std.proofs.lemmas.Result.{IfOk-from_err}
 use Rattle.ckd_image.specs.declared.header.Geometry.{Geometry}
@@ -10,11 +10,11 @@ use Rattle.track_records.specs.Written.{StandsOn, place_of}
 use Rattle.track_records.proofs.UpdateLemmas.{lengths_there}
 use Rattle.track_records.proofs.WriteLemmas.{on_err, same_write, write_done, write_failed}
 use Rattle.vtoc_index.specs.Index.{IsPut, place_of_slot}
-use Rattle.vtoc_index.specs.Puts.{HasSlot, IsHeld, IsReplaced}
+use Rattle.vtoc_index.specs.Puts.{HasSlot, HoldsSlot, IsHeld, IsReplaced}
 use Rattle.std.specs.Vec.{with_item}
 use Rattle.dscb_codec.specs.declared.Dscb.{Dscb}
 use Rattle.vtoc_index.proofs.BegunLemmas.{after_same, not_begun, same_image}
-use Rattle.vtoc_index.proofs.HeldLemmas.{still_slot}
+use Rattle.vtoc_index.proofs.HeldLemmas.{count_kept, still_slot}
 use Rattle.vtoc_index.proofs.PutLaw.{front_of, held_place, index_put, slot_found, slot_put, track_of}
 use Rattle.vtoc_index.proofs.put.put_slot.Given.{Over}
 use Rattle.vtoc_index.proofs.put.put_slot.Goals as goal
@@ -146,16 +146,29 @@ pub returns-clause-slot : goal.returns-clause-slot
 returns-clause-slot g c =
     let w = (goal.at.returns-clause-slot g c).After-update in
     let number = front_is g w in
-    let size : length c.encode-bytes.result ≡ 140 = search rules in (
-      c.encode-bytes.result,
-      c.encode-bytes.ensures.fields,
-      size,
-      (
-        c.hold.new.buf.records,
-        subst (λ (n : ℕ). HasLengths c.hold.new.buf.records n 44 96) number w.in_ok-hold.ensures.lengths,
-        ap (λ (x : Buffer). x.records) c.update.ensures.buffer
-            ∙ ap (λ (n : ℕ). with_parts n c.split_at.result.0.now c.split_at.result.1.now c.hold.new.buf.records) number
-            ∙ ap (λ (l : List ℕ). with_parts (front_of c.args.vol.now c.args.slot) l c.split_at.result.1.now c.hold.new.buf.records) c.split_at.ensures.front
-            ∙ ap (λ (l : List ℕ). with_parts (front_of c.args.vol.now c.args.slot) (take 44 c.encode-bytes.result) l c.hold.new.buf.records) c.split_at.ensures.back,
-      ),
-    )
+    record {
+      bytes = c.encode-bytes.result;
+      dscb = c.encode-bytes.ensures.fields;
+      size = search rules;
+      before = c.hold.new.buf.records;
+      lengths = subst (λ (n : ℕ). HasLengths c.hold.new.buf.records n 44 96) number w.in_ok-hold.ensures.lengths;
+      put =
+          ap (λ (x : Buffer). x.records) c.update.ensures.buffer
+          ∙ ap (λ (n : ℕ). with_parts n c.split_at.result.0.now c.split_at.result.1.now c.hold.new.buf.records) number
+          ∙ ap (λ (l : List ℕ). with_parts (front_of c.args.vol.now c.args.slot) l c.split_at.result.1.now c.hold.new.buf.records) c.split_at.ensures.front
+          ∙ ap (λ (l : List ℕ). with_parts (front_of c.args.vol.now c.args.slot) (take 44 c.encode-bytes.result) l c.hold.new.buf.records) c.split_at.ensures.back;
+    }
+
+-- where the buffer holds no slot, it holds no more than up to the slot then, and a write leaves it as many records
+few_then : (g : Over) (c : After-update g) → ¬ HoldsSlot c.args.vol.now c.args.slot → length c.update.new.buf.records ≤ front_of c.args.vol.now c.args.slot + 1
+few_then g c not =
+    let place = c.place_of-place in
+    let low = c.in_ok-hold.ensures.few (λ track number. not (track ∙ place.ensures.track, omega (arith, number, place.ensures.number))) in
+    let same : length c.update.new.buf.records ≡ length c.hold.new.buf.records = ap (λ (x : Buffer). length x.records) c.update.ensures.buffer ∙ count_kept (place.result.number - 1) c.split_at.result.0.now c.split_at.result.1.now c.hold.new.buf.records in
+    omega (arith, low, same, place.ensures.number)
+
+pub returns-in_err-update-clause-few : goal.returns-in_err-update-clause-few
+returns-in_err-update-clause-few g c = few_then g (goal.at.returns-in_err-update-clause-few g c).After-update
+
+pub returns-clause-few : goal.returns-clause-few
+returns-clause-few g c = few_then g (goal.at.returns-clause-few g c).After-update

@@ -1,4 +1,4 @@
-use Rattle.std.proofs.Common.{◌≡◌, ◌≢◌, ◌+◌, ◌-◌, ◌<◌, inl, inr, ⊎_elim, refl, sym, ap, subst, ◌∙◌, arith, ℕ, List, [], append-nil, None}
+use Rattle.std.proofs.Common.{◌≡◌, ◌≢◌, ◌+◌, ◌-◌, ◌<◌, inl, inr, ⊎_elim, refl, sym, ap, subst, ◌∙◌, arith, ◌≤◌, ℕ, List, [], length, append-nil, None}
 use Rattle.std.specs.Prelude.{Ok, Err}
 use Rattle.std.proofs.lemmas.Result.{err_from_is_err_and}
 use Rattle.ckd_image.specs.declared.header.Geometry.{Geometry}
@@ -8,9 +8,11 @@ use Rattle.pack_spec.specs.Label.{records_on}
 use Rattle.pack_spec.specs.Vtoc.{slots_on}
 use Rattle.pack_spec.specs.Volume.{volume_within}
 use Rattle.pack_spec.specs.declared.MountErr.TheVariants.{Device, Memory, VtocTrack}
+use Rattle.vtoc_index.specs.Calls.{tracks_to_read}
 use Rattle.vtoc_index.specs.Reading.{AreNumbered, AreTracksRead}
-use Rattle.vtoc_index.proofs.CallsMade.{begins_further, begins_same, buffer_read, call_done, call_fails, call_stays, has_track, refuses_at, not_device, stands_whole, stay_more, stay_none, track_reason}
+use Rattle.vtoc_index.proofs.CallsMade.{begins_further, begins_same, buffer_read, call_done, call_fails, call_stays, has_track, refuses_at, not_device, reads_then, reads_within, stands_whole, stay_more, stay_none, track_reason}
 use Rattle.vtoc_index.proofs.Images.{same_image}
+use Rattle.vtoc_index.proofs.ReadsMade.{good_are_read}
 use Rattle.vtoc_index.proofs.TracksRead.{numbered_more, read_more, slots_are, track_refused}
 use Rattle.vtoc_index.proofs.read.read_others.Goals as goal
 
@@ -207,7 +209,58 @@ pub returns-in_err-add-clause-begun : goal.returns-in_err-add-clause-begun
 returns-in_err-add-clause-begun g c =
     let l = c.loop-track in
     let kept = c.in_err-add.ensures.kept in
-    (begins_further _ _ _ kept.1.slots l.invariant.slots kept.1.added, ⊎_elim (λ same. begins_further _ _ _ [] l.invariant.firsts (same ∙ sym (append-nil l.found.firsts.items))) (λ more. begins_further _ _ _ _ l.invariant.firsts more) c.in_err-add.ensures.begun)
+    (begins_further _ _ _ kept.1.slots l.invariant.slots kept.1.added, begins_further _ _ _ [] l.invariant.firsts (c.in_err-add.ensures.uncounted ∙ sym (append-nil l.found.firsts.items)))
 
 pub returns-clause-begun : goal.returns-clause-begun
 returns-clause-begun g c = (c.loop-track.invariant.slots, c.loop-track.invariant.firsts)
+
+-- the reads, by the tracks that break no rule
+pub returns-in_err-count-clause-reads : goal.returns-in_err-count-clause-reads
+returns-in_err-count-clause-reads g c told first =
+    let l = c.loop-track in
+    let start = c.args.vtoc.start in
+    let len = c.args.vtoc.len in
+    let image = image_of (g.H.Hall.meaning c.args.hall.now).state (g.H.Hall.facts c.args.hall.now) c.args.unit in
+    let good : l.track - start + 1 ≤ tracks_to_read image c.args.geometry c.args.vtoc = good_are_read image c.args.geometry start (l.track - start) len (l.track - start + 1) (l.invariant.read told first).tracks (omega (arith, l.auto.track, c.loop-track-test.true)) (omega arith) (omega (arith, l.auto.track, c.loop-track-test.true)) in
+    reads_within (l.track - start - 1 + 1) (tracks_to_read image c.args.geometry c.args.vtoc - 1) (g.H.Hall.calls c.args.hall.now) (g.H.Hall.calls c.read_track.new.hall) (omega (arith, good, l.auto.track))
+    (reads_then (l.track - start - 1) 1 (g.H.Hall.calls c.args.hall.now) (g.H.Hall.calls l.hall) (g.H.Hall.calls c.read_track.new.hall) l.invariant.calls c.in_err-count.ensures.calls)
+
+pub returns-in_err-add-clause-reads : goal.returns-in_err-add-clause-reads
+returns-in_err-add-clause-reads g c told first =
+    let l = c.loop-track in
+    let start = c.args.vtoc.start in
+    let len = c.args.vtoc.len in
+    let image = image_of (g.H.Hall.meaning c.args.hall.now).state (g.H.Hall.facts c.args.hall.now) c.args.unit in
+    let good : l.track - start + 1 ≤ tracks_to_read image c.args.geometry c.args.vtoc = good_are_read image c.args.geometry start (l.track - start) len (l.track - start + 1) (l.invariant.read told first).tracks (omega (arith, l.auto.track, c.loop-track-test.true)) (omega arith) (omega (arith, l.auto.track, c.loop-track-test.true)) in
+    reads_within (l.track - start - 1 + 1) (tracks_to_read image c.args.geometry c.args.vtoc - 1) (g.H.Hall.calls c.args.hall.now) (g.H.Hall.calls c.read_track.new.hall) (omega (arith, good, l.auto.track))
+    (reads_then (l.track - start - 1) 1 (g.H.Hall.calls c.args.hall.now) (g.H.Hall.calls l.hall) (g.H.Hall.calls c.read_track.new.hall) l.invariant.calls c.in_ok-count.ensures.calls)
+
+pub returns-clause-reads : goal.returns-clause-reads
+returns-clause-reads g c told first =
+    let l = c.loop-track in
+    let start = c.args.vtoc.start in
+    let len = c.args.vtoc.len in
+    let image = image_of (g.H.Hall.meaning c.args.hall.now).state (g.H.Hall.facts c.args.hall.now) c.args.unit in
+    let good : l.track - start ≤ tracks_to_read image c.args.geometry c.args.vtoc = good_are_read image c.args.geometry start (l.track - start) len (l.track - start) (l.invariant.read told first).tracks (omega (arith, l.auto.track, l.auto.track-end, c.requires.tracks.0)) (omega arith) (omega (arith, l.auto.track, l.auto.track-end, c.requires.tracks.0)) in
+    reads_within (l.track - start - 1) (tracks_to_read image c.args.geometry c.args.vtoc - 1) (g.H.Hall.calls c.args.hall.now) (g.H.Hall.calls l.hall) (omega (arith, good)) l.invariant.calls
+
+-- and by those that were added
+pub returns-in_err-count-clause-far : goal.returns-in_err-count-clause-far
+returns-in_err-count-clause-far g c =
+    let l = c.loop-track in
+    let n = l.track - c.args.vtoc.start in
+    reads_within (n - 1 + 1) (length l.found.firsts.items - length c.args.found.now.firsts.items + 1) (g.H.Hall.calls c.args.hall.now) (g.H.Hall.calls c.read_track.new.hall) (omega (arith, l.invariant.numbers.tracks, c.requires.numbers.tracks))
+    (reads_then (n - 1) 1 (g.H.Hall.calls c.args.hall.now) (g.H.Hall.calls l.hall) (g.H.Hall.calls c.read_track.new.hall) l.invariant.calls c.in_err-count.ensures.calls)
+
+pub returns-in_err-add-clause-far : goal.returns-in_err-add-clause-far
+returns-in_err-add-clause-far g c =
+    let l = c.loop-track in
+    let n = l.track - c.args.vtoc.start in
+    reads_within (n - 1 + 1) (length c.add.new.self.firsts.items - length c.args.found.now.firsts.items + 1) (g.H.Hall.calls c.args.hall.now) (g.H.Hall.calls c.read_track.new.hall) (omega (arith, l.invariant.numbers.tracks, c.requires.numbers.tracks, ap length c.in_err-add.ensures.uncounted))
+    (reads_then (n - 1) 1 (g.H.Hall.calls c.args.hall.now) (g.H.Hall.calls l.hall) (g.H.Hall.calls c.read_track.new.hall) l.invariant.calls c.in_ok-count.ensures.calls)
+
+pub returns-clause-far : goal.returns-clause-far
+returns-clause-far g c =
+    let l = c.loop-track in
+    let n = l.track - c.args.vtoc.start in
+    reads_within (n - 1) (length l.found.firsts.items - length c.args.found.now.firsts.items + 1) (g.H.Hall.calls c.args.hall.now) (g.H.Hall.calls l.hall) (omega (arith, l.invariant.numbers.tracks, c.requires.numbers.tracks)) l.invariant.calls

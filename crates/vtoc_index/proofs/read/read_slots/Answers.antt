@@ -1,12 +1,16 @@
 use Rattle.std.proofs.Common.{inl, refl, sym, ap, subst, ◌∙◌, arith, ℕ, List, None, ◌+◌, ◌-◌}
 use Rattle.std.specs.Prelude.{Ok, Err}
 use Rattle.std.proofs.lemmas.Result.{err_from_is_err_and}
+use Rattle.hall_core.specs.Facts.{CallsAtMost}
 use Rattle.hall_core.specs.Files.{image_of}
+use Rattle.pack_spec.specs.Label.{records_on, track_of_address}
 use Rattle.pack_spec.specs.Volume.{volume_within}
 use Rattle.pack_spec.specs.declared.MountErr.TheVariants.{Memory}
+use Rattle.vtoc_index.specs.Calls.{first_track_reads, tracks_to_read, vtoc_reads}
 use Rattle.vtoc_index.specs.Reading.{AreTracksRead, vtoc_on}
 use Rattle.vtoc_index.proofs.CallsMade.{refuses_at, track_reason, reads_then, reads_within}
 use Rattle.vtoc_index.proofs.Images.{same_image}
+use Rattle.vtoc_index.proofs.ReadsMade.{first_is_read, first_reads, tracks_are_read}
 use Rattle.vtoc_index.proofs.Reasons.{refuses_same}
 use Rattle.vtoc_index.proofs.TracksRead.{first_refused, first_read, slots_are}
 use Rattle.vtoc_index.proofs.read.read_slots.Goals as goal
@@ -56,3 +60,53 @@ returns-clause-calls g c =
     let more = c.in_ok-vtoc.vtoc.len - 1 in
     let extent = c.in_ok-vtoc.ensures.numbers.0 in
     reads_within (1 + more) 257 (g.H.Hall.calls c.args.hall.now) (g.H.Hall.calls c.read_others.new.hall) (omega (arith, extent.some, extent.few)) (reads_then 1 more (g.H.Hall.calls c.args.hall.now) (g.H.Hall.calls c.read_first.new.hall) (g.H.Hall.calls c.read_others.new.hall) c.in_ok-vtoc.ensures.once c.in_ok-read_others.ensures.calls)
+
+-- the reads that each answer takes
+pub returns-in_err-vtoc-clause-reads : goal.returns-in_err-vtoc-clause-reads
+returns-in_err-vtoc-clause-reads g c told =
+    let at = c.args.at in
+    let image = image_of (g.H.Hall.meaning c.args.hall.now).state (g.H.Hall.facts c.args.hall.now) c.args.unit in
+    let first = first_track_reads (records_on image c.args.geometry None (track_of_address c.args.geometry at)) in
+    reads_within first (vtoc_reads image c.args.geometry (records_on image c.args.geometry None (track_of_address c.args.geometry at)) (vtoc_on image c.args.geometry at)) (g.H.Hall.calls c.args.hall.now) (g.H.Hall.calls c.read_first.new.hall) (first_reads image c.args.geometry at) (c.in_err-vtoc.ensures.reads told)
+
+pub returns-in_err-add-clause-reads : goal.returns-in_err-add-clause-reads
+returns-in_err-add-clause-reads g c told =
+    let at = c.args.at in
+    let image = image_of (g.H.Hall.meaning c.args.hall.now).state (g.H.Hall.facts c.args.hall.now) c.args.unit in
+    let vtoc = c.in_ok-vtoc.vtoc in
+    let extent = c.in_ok-vtoc.ensures.numbers.0 in
+    let all = tracks_are_read image c.args.geometry at vtoc c.read_first.new.buf.records extent.begins (c.in_ok-vtoc.ensures.read told) (c.in_ok-vtoc.ensures.extent told) in
+    let some = first_is_read image c.args.geometry vtoc extent.some in
+    reads_within 1 (vtoc_reads image c.args.geometry (records_on image c.args.geometry None (track_of_address c.args.geometry at)) (vtoc_on image c.args.geometry at)) (g.H.Hall.calls c.args.hall.now) (g.H.Hall.calls c.read_first.new.hall) (omega (arith, some, all)) c.in_ok-vtoc.ensures.once
+
+pub returns-in_err-read_others-clause-reads : goal.returns-in_err-read_others-clause-reads
+returns-in_err-read_others-clause-reads g c told =
+    let at = c.args.at in
+    let image = image_of (g.H.Hall.meaning c.args.hall.now).state (g.H.Hall.facts c.args.hall.now) c.args.unit in
+    let vtoc = c.in_ok-vtoc.vtoc in
+    let extent = c.in_ok-vtoc.ensures.numbers.0 in
+    let all = tracks_are_read image c.args.geometry at vtoc c.read_first.new.buf.records extent.begins (c.in_ok-vtoc.ensures.read told) (c.in_ok-vtoc.ensures.extent told) in
+    let some = first_is_read image c.args.geometry vtoc extent.some in
+    let same = same_image (g.H.Hall.meaning c.read_first.new.hall).state (g.H.Hall.meaning c.args.hall.now).state (g.H.Hall.facts c.read_first.new.hall) (g.H.Hall.facts c.args.hall.now) c.args.unit (c.in_ok-vtoc.ensures.told told).state c.in_ok-vtoc.ensures.call.units in
+    let first = first_read image c.args.geometry vtoc.start c.read_first.new.buf.records c.new-found.result c.add.new.self c.new-found.ensures.slots c.new-found.ensures.firsts (c.in_ok-vtoc.ensures.read told) c.in_ok-add.ensures.firsts c.in_ok-add.ensures.slots in
+    let more = tracks_to_read image c.args.geometry vtoc - 1 in
+    reads_within (1 + more) (vtoc_reads image c.args.geometry (records_on image c.args.geometry None (track_of_address c.args.geometry at)) (vtoc_on image c.args.geometry at)) (g.H.Hall.calls c.args.hall.now) (g.H.Hall.calls c.read_others.new.hall) (omega (arith, some, all))
+    (reads_then 1 more (g.H.Hall.calls c.args.hall.now) (g.H.Hall.calls c.read_first.new.hall) (g.H.Hall.calls c.read_others.new.hall) c.in_ok-vtoc.ensures.once
+    (subst (λ (i : List ℕ). CallsAtMost (tracks_to_read i c.args.geometry vtoc - 1) 0 0 0 (g.H.Hall.calls c.read_first.new.hall) (g.H.Hall.calls c.read_others.new.hall)) same
+    (c.in_err-read_others.ensures.reads told (subst (λ (i : List ℕ). AreTracksRead i c.args.geometry vtoc.start 1 c.add.new.self) (sym same) first))))
+
+pub returns-clause-reads : goal.returns-clause-reads
+returns-clause-reads g c told =
+    let at = c.args.at in
+    let image = image_of (g.H.Hall.meaning c.args.hall.now).state (g.H.Hall.facts c.args.hall.now) c.args.unit in
+    let vtoc = c.in_ok-vtoc.vtoc in
+    let extent = c.in_ok-vtoc.ensures.numbers.0 in
+    let all = tracks_are_read image c.args.geometry at vtoc c.read_first.new.buf.records extent.begins (c.in_ok-vtoc.ensures.read told) (c.in_ok-vtoc.ensures.extent told) in
+    let some = first_is_read image c.args.geometry vtoc extent.some in
+    let same = same_image (g.H.Hall.meaning c.read_first.new.hall).state (g.H.Hall.meaning c.args.hall.now).state (g.H.Hall.facts c.read_first.new.hall) (g.H.Hall.facts c.args.hall.now) c.args.unit (c.in_ok-vtoc.ensures.told told).state c.in_ok-vtoc.ensures.call.units in
+    let first = first_read image c.args.geometry vtoc.start c.read_first.new.buf.records c.new-found.result c.add.new.self c.new-found.ensures.slots c.new-found.ensures.firsts (c.in_ok-vtoc.ensures.read told) c.in_ok-add.ensures.firsts c.in_ok-add.ensures.slots in
+    let more = tracks_to_read image c.args.geometry vtoc - 1 in
+    reads_within (1 + more) (vtoc_reads image c.args.geometry (records_on image c.args.geometry None (track_of_address c.args.geometry at)) (vtoc_on image c.args.geometry at)) (g.H.Hall.calls c.args.hall.now) (g.H.Hall.calls c.read_others.new.hall) (omega (arith, some, all))
+    (reads_then 1 more (g.H.Hall.calls c.args.hall.now) (g.H.Hall.calls c.read_first.new.hall) (g.H.Hall.calls c.read_others.new.hall) c.in_ok-vtoc.ensures.once
+    (subst (λ (i : List ℕ). CallsAtMost (tracks_to_read i c.args.geometry vtoc - 1) 0 0 0 (g.H.Hall.calls c.read_first.new.hall) (g.H.Hall.calls c.read_others.new.hall)) same
+    (c.in_ok-read_others.ensures.reads told (subst (λ (i : List ℕ). AreTracksRead i c.args.geometry vtoc.start 1 c.add.new.self) (sym same) first))))

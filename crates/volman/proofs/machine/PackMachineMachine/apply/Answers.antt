@@ -2,15 +2,18 @@
 use Rattle.std.specs.Prelude.{◌≡◌, ℕ, List, [], ◌∷◌, Result}
 use Rattle.std.proofs.Common.{rules, subst, sym}
 use Rattle.ebcdic_names.specs.declared.names.Dsn.{Dsn}
-use Rattle.hall_core.specs.Facts.{unit_of}
+use Rattle.hall_core.specs.Facts.{Calls, unit_of}
 use Rattle.hall_core.specs.Files.{File}
-use Rattle.vol_model.specs.Calls.{IsIdle, Keeps}
+use Rattle.hall_core.specs.Moments.{Meaning}
+use Rattle.hall_core.specs.Steps.{seen}
+use Rattle.vol_model.specs.Calls.{Applies, IsIdle, Keeps}
 use Rattle.vol_model.specs.Shelf.{step}
 use Rattle.vol_model.specs.declared.answers.MachErr.{MachErr}
 use Rattle.vol_model.specs.declared.contents.Shelf.{Shelf}
 use Rattle.vol_model.specs.declared.requests.Op.{Op}
 use Rattle.vol_model.specs.declared.requests.Op.TheVariants.{Rename}
-use Rattle.volman.specs.Machine.{ChangesOnlyNames}
+use Rattle.vtoc_index.specs.declared.vol.Vol.{Vol}
+use Rattle.volman.specs.Machine.{ChangesOnlyNames, KeepsIndex, OperationCalls, shelf_named}
 use Rattle.volman.proofs.machine.PackMachineMachine.apply.Goals as goal
 
 for_rename : {T : Type 0} {result : Result T MachErr} (shelf : Shelf) (v : ℕ) (old new : Dsn) (op : Op) → op ≡ Rename v old new → IsIdle (step shelf op) result → IsIdle (step shelf (Rename v old new)) result
@@ -18,6 +21,31 @@ for_rename {result = result} shelf v old new op is = subst (λ (o : Op). IsIdle 
 
 begun_as : {clock : ℕ} (v : ℕ) (from to : Dsn) (op : Op) → op ≡ Rename v from to → (old new : List Op → ℕ → List File → Type 0) → Keeps clock (Rename v from to ∷ []) old new → Keeps clock (op ∷ []) old new
 begun_as {clock} v from to op is old new = subst (λ (o : Op). Keeps clock (o ∷ []) old new) (sym is)
+
+applies_as : {T : Type 0} {result : Result T MachErr} (v : ℕ) (from to : Dsn) (op : Op) → op ≡ Rename v from to → (old new : Meaning Shelf) → Applies (Rename v from to) old new result → Applies op old new result
+applies_as {result = result} v from to op is old new = subst (λ (o : Op). Applies o old new result) (sym is)
+
+pub returns-clause-shelf : goal.returns-clause-shelf
+returns-clause-shelf g c told =
+    let F = g.H.Hall.facts in
+    let machine = c.args.self.now in
+    let new = c.rename.new.self in
+    applies_as _ _ _ c.args.op.now (search rules)
+    (seen (shelf_named (unit_of (F machine.hall).units machine.vol.unit).name) (g.H.Hall.meaning machine.hall))
+    (seen (shelf_named (unit_of (F new.hall).units new.vol.unit).name) (g.H.Hall.meaning new.hall))
+    (c.rename.ensures.shelf told)
+
+index_as : {T : Type 0} {result : Result T MachErr} (v : ℕ) (from to : Dsn) (op : Op) → op ≡ Rename v from to → (old new : Vol) → KeepsIndex (Rename v from to) old new result → KeepsIndex op old new result
+index_as {result = result} v from to op is old new = subst (λ (o : Op). KeepsIndex o old new result) (sym is)
+
+pub returns-clause-index : goal.returns-clause-index
+returns-clause-index g c = index_as _ _ _ c.args.op.now (search rules) c.args.self.now.vol c.rename.new.self.vol c.rename.ensures.index
+
+calls_as : {T : Type 0} {result : Result T MachErr} (v : ℕ) (from to : Dsn) (op : Op) → op ≡ Rename v from to → (old new : Vol) (made after : Calls) → OperationCalls (Rename v from to) old new made after result → OperationCalls op old new made after result
+calls_as {result = result} v from to op is old new made after = subst (λ (o : Op). OperationCalls o old new made after result) (sym is)
+
+pub returns-clause-again : goal.returns-clause-again
+returns-clause-again g c = calls_as _ _ _ c.args.op.now (search rules) c.args.self.now.vol c.rename.new.self.vol (g.H.Hall.calls c.args.self.now.hall) (g.H.Hall.calls c.rename.new.self.hall) c.rename.ensures.again
 
 pub returns-clause-promise : goal.returns-clause-promise
 returns-clause-promise g c told =

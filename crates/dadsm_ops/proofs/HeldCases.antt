@@ -1,0 +1,205 @@
+-- The buffer behind a rename on the small pack, in which A, in the fourth slot, becomes C, and the calls of it. Each comment names what a near reading would let through.
+use Rattle.std.proofs.Common.{◌≡◌, ◌≤◌, ◌<◌, ◌+◌, ⊎_elim, inl, ℕ, List, [], ◌∷◌, drop, get_or, take, Option, Some, None, refl, sym, ap, subst, ◌∙◌, arith}
+use Rattle.std.specs.Prelude.{Ok, Err, slice_get}
+use Rattle.std.specs.Option.{option_map}
+use Rattle.ckd_image.specs.Track.{Record}
+use Rattle.dscb_codec.specs.declared.Dscb.{Dscb}
+use Rattle.dscb_codec.specs.declared.Dscb.TheVariants as formats
+use Rattle.hall_core.specs.Facts.{Calls, CallsAtMost, uncounted}
+use Rattle.track_records.specs.Updates.{HasLengths}
+use Rattle.vtoc_index.specs.Contents.{AreDscbs}
+use Rattle.vtoc_index.specs.Index.{slots_in_front, track_index}
+use Rattle.vtoc_index.specs.Puts.{HoldsDscb, HoldsSlot}
+use Rattle.vtoc_index.specs.declared.vol.Vol.{Vol}
+use Rattle.vtoc_index.proofs.HeldLemmas.{key_held}
+use Rattle.vtoc_index.proofs.PutCases.{c_stands}
+use Rattle.vtoc_index.proofs.SmallPack.{a, b, c, data_set, f1, f4, f5, four_slots, image, index, slots_are_read}
+use Rattle.dadsm_ops.specs.Naming.{HoldsRenamed, IsToRename, RenameCalls}
+use Rattle.dadsm_ops.specs.Through.{IsBeforeOr}
+
+-- a record with the bytes of a set
+set_record : List ℕ → Record
+set_record name = record { address = []; key = take 44 (data_set name); «data» = drop 44 (data_set name) }
+
+module _ (any : Vol) where
+  -- an index behind it, with a set of this name in the fourth slot, this track in the buffer, and these records
+  later : List ℕ → ℕ → List Record → Vol
+  later name track records = record (index any) {
+    slots = record (index any).slots { items = formats.F4 f4 ∷ formats.F5 f5 ∷ formats.F1 (f1 b) ∷ formats.F1 (f1 name) ∷ [] };
+    buf = record (index any).buf { track = track; records = records };
+  }
+
+  -- The second track of the VTOC is held, and the set in its second record.
+  renamed_set_is_held : HoldsRenamed a c (index any) (later c 2 (set_record b ∷ set_record c ∷ []))
+  unfolding later set_record
+  renamed_set_is_held = record {
+    slot = 3;
+    found = record { found = refl; absent = refl; others = refl };
+    dscb = formats.F1 (f1 c);
+    named = refl;
+    track = refl;
+    held = record {
+      bytes = data_set c;
+      dscb = c_stands;
+      size = refl;
+      before = set_record b ∷ set_record a ∷ [];
+      lengths = (refl, refl);
+      put = refl;
+    };
+  }
+
+  slot_is_the_fourth : (after : Vol) (holds : HoldsRenamed a c (index any) after) → 3 ≡ holds.slot
+  slot_is_the_fourth after holds = let found : Some 3 ≡ Some holds.slot = holds.found.found in cc
+
+  -- The track is the slot's, and not the first one.
+  track_is_that_of_the_slot : ¬ HoldsRenamed a c (index any) (later c 1 (set_record b ∷ set_record c ∷ []))
+  unfolding later
+  track_is_that_of_the_slot holds =
+      let wrong : 1 ≡ 2 = subst (λ (slot : ℕ). 1 ≡ 1 + track_index (0 ∷ 2 ∷ []) slot) (sym (slot_is_the_fourth _ holds)) holds.track in
+      omega (arith, wrong)
+
+  -- the key of the slot's record, by the name that the index has
+  key_there : (name : List ℕ) (track : ℕ) (records : List Record) → HoldsRenamed a c (index any) (later name track records) → option_map (λ (x : Record). x.key) (slice_get records 1) ≡ Some name
+  unfolding later
+  key_there name track records holds =
+      let after = later name track records in
+      let slot = sym (slot_is_the_fourth after holds) in
+      let named : Some (formats.F1 (f1 name)) ≡ Some holds.dscb = subst (λ (n : ℕ). slice_get after.slots.items n ≡ Some holds.dscb) slot holds.named in
+      let set : holds.dscb ≡ formats.F1 (f1 name) = cc in
+      let held = subst (λ (n : ℕ). HoldsDscb (slots_in_front (0 ∷ 2 ∷ []) n) (formats.F1 (f1 name)) records) slot (subst (λ (d : Dscb). HoldsDscb (slots_in_front (0 ∷ 2 ∷ []) holds.slot) d records) set holds.held) in
+      key_held 1 (formats.F1 (f1 name)) records held ∙ ap Some held.dscb.0
+
+  same_first : (x y : List ℕ) → Some x ≡ Some y → get_or x 0 0 ≡ get_or y 0 0
+  same_first x y is = let same : x ≡ y = cc in ap (λ (bytes : List ℕ). get_or bytes 0 0) same
+
+  -- The record is the slot's and not the one in front, it has the name that the index has, and it is there.
+  record_has_the_name :
+      (¬ HoldsRenamed a c (index any) (later c 2 (set_record c ∷ set_record b ∷ [])))
+      × (¬ HoldsRenamed a c (index any) (later a 2 (set_record b ∷ set_record c ∷ [])))
+      × (¬ HoldsRenamed a c (index any) (later c 2 []))
+  unfolding set_record
+  record_has_the_name = (
+    λ holds. let wrong : 0xC2 ≡ 0xC3 = same_first (take 44 (data_set b)) c (key_there c 2 (set_record c ∷ set_record b ∷ []) holds) in omega (arith, wrong),
+    λ holds. let wrong : 0xC3 ≡ 0xC1 = same_first (take 44 (data_set c)) a (key_there a 2 (set_record b ∷ set_record c ∷ []) holds) in omega (arith, wrong),
+    λ holds. let none : ◌≡◌ {A = Option (List ℕ)} None (Some c) = key_there c 2 [] holds in absurd (cc),
+  )
+
+  -- an index before it, with this track and these records in the buffer
+  before : ℕ → List Record → Vol
+  before track records = record (index any) { buf = record (index any).buf { track = track; records = records } }
+
+  both_sets : List Record
+  both_sets = set_record b ∷ set_record a ∷ []
+
+  -- so many reads, writes and syncs
+  calls_of : ℕ → ℕ → ℕ → Calls
+  calls_of reads writes syncs = record uncounted { reads = reads; writes = writes; syncs = syncs }
+
+  -- what a rename of A to C is answered with, once it is done, or where the device failed
+  abbrev Done : Vol → Vol → Calls → Type 0
+  Done from to calls = RenameCalls {T = ℕ} {E = ℕ} a c from to uncounted calls (Ok 1)
+
+  abbrev Fails : Vol → Vol → Calls → Type 0
+  Fails from to calls = RenameCalls {T = ℕ} {E = ℕ} a c from to uncounted calls (Err 1)
+
+  to_rename : IsToRename (index any).slots.items a c 3
+  to_rename = record { found = refl; absent = refl; others = refl }
+
+  renames_the_fourth : (slot : ℕ) → IsToRename (index any).slots.items a c slot → 3 ≡ slot
+  renames_the_fourth slot is = let found : Some 3 ≡ Some slot = is.found in cc
+
+  -- of any slot that is renamed, what holds of the fourth
+  of_slot : (P : ℕ → Type 0) → P 3 → (slot : ℕ) → IsToRename (index any).slots.items a c slot → P slot
+  of_slot P fourth slot is = subst P (renames_the_fourth slot is) fourth
+
+  -- Where the buffer holds the slot, it is written and made durable, and what else the buffer has of the track stays.
+  no_read_where_it_is_held : Done (before 2 (set_record b ∷ set_record a ∷ set_record b ∷ [])) (later c 2 (set_record b ∷ set_record c ∷ set_record b ∷ [])) (calls_of 0 1 1)
+  unfolding before later calls_of
+  no_read_where_it_is_held = record {
+    again = λ slot is held. (omega arith, omega arith, omega arith, omega arith, omega arith);
+    few = of_slot (λ (slot : ℕ). ¬ HoldsSlot (before 2 (set_record b ∷ set_record a ∷ set_record b ∷ [])) slot → 3 ≤ slots_in_front (0 ∷ 2 ∷ []) slot + 1) (λ none. absurd (none (refl, omega arith)));
+    unwritten = tt;
+  }
+
+  -- the track is read again
+  read_where_it_is_held : ¬ Done (before 2 both_sets) (later c 2 (set_record b ∷ set_record c ∷ [])) (calls_of 1 1 1)
+  unfolding before both_sets calls_of
+  read_where_it_is_held calls = let wrong : 1 ≤ 0 = (calls.again 3 to_rename (refl, omega arith)).0 in omega (arith, wrong)
+
+  -- Where it holds the slot before it alone, the track is read, and up to the slot.
+  one_read_where_it_is_not : Done (before 2 (set_record b ∷ [])) (later c 2 (set_record b ∷ set_record c ∷ [])) (calls_of 1 1 1)
+  unfolding before later calls_of
+  one_read_where_it_is_not = record {
+    again = of_slot (λ (slot : ℕ). HoldsSlot (before 2 (set_record b ∷ [])) slot → CallsAtMost 0 1 1 0 uncounted (calls_of 1 1 1)) (λ held. let wrong : 1 < 1 = held.1 in absurd (omega (arith, wrong)));
+    few = of_slot (λ (slot : ℕ). ¬ HoldsSlot (before 2 (set_record b ∷ [])) slot → 2 ≤ slots_in_front (0 ∷ 2 ∷ []) slot + 1) (λ none. omega arith);
+    unwritten = tt;
+  }
+
+  -- it is read to its end, on which a third record stands
+  read_up_to_the_slot : ¬ Done (before 2 (set_record b ∷ [])) (later c 2 (set_record b ∷ set_record c ∷ set_record b ∷ [])) (calls_of 1 1 1)
+  unfolding before later
+  read_up_to_the_slot calls =
+      let wrong : 3 ≤ 2 = calls.few 3 to_rename (λ held. let none : 1 < 1 = held.1 in omega (arith, none)) in
+      omega (arith, wrong)
+
+  -- Where it holds two records of another track, it is so too.
+  read_up_to_the_slot_of_the_track : ¬ Done (before 1 both_sets) (later c 2 (set_record b ∷ set_record c ∷ set_record b ∷ [])) (calls_of 1 1 1)
+  unfolding before later
+  read_up_to_the_slot_of_the_track calls =
+      let wrong : 3 ≤ 2 = calls.few 3 to_rename (λ held. let none : 1 ≡ 2 = held.0 in omega (arith, none)) in
+      omega (arith, wrong)
+
+  -- Where no slot is found there, the one read is made and nothing else.
+  nothing_is_written_over_no_slot : Fails (index any) (later a 2 []) (calls_of 1 0 0)
+  unfolding later calls_of
+  nothing_is_written_over_no_slot = record {
+    again = of_slot (λ (slot : ℕ). HoldsSlot (index any) slot → CallsAtMost 0 1 1 0 uncounted (calls_of 1 0 0)) (λ held. let wrong : 1 < 0 = held.1 in absurd (omega (arith, wrong)));
+    few = of_slot (λ (slot : ℕ). ¬ HoldsSlot (index any) slot → 0 ≤ slots_in_front (0 ∷ 2 ∷ []) slot + 1) (λ none. omega arith);
+    unwritten = λ slot is none. (omega arith, omega arith, omega arith, omega arith, omega arith);
+  }
+
+  -- a write is made over no record, or over one that is no slot, or a sync is
+  write_over_no_slot :
+      (¬ Fails (index any) (later a 2 []) (calls_of 1 1 0))
+      × (¬ Fails (index any) (later a 2 (set_record b ∷ [])) (calls_of 1 1 0))
+      × (¬ Fails (index any) (later a 2 (set_record b ∷ record { address = []; key = []; «data» = data_set a } ∷ [])) (calls_of 1 1 0))
+      × (¬ Fails (index any) (later a 2 []) (calls_of 1 0 1))
+  unfolding later calls_of
+  write_over_no_slot = (
+    λ calls. let wrong : 1 ≤ 0 = (calls.unwritten 3 to_rename (λ has. has)).1 in omega (arith, wrong),
+    λ calls. let wrong : 1 ≤ 0 = (calls.unwritten 3 to_rename (λ has. has)).1 in omega (arith, wrong),
+    λ calls. let wrong : 1 ≤ 0 = (calls.unwritten 3 to_rename (λ has. let none : 44 ≡ 0 = has.0 in omega (arith, none))).1 in omega (arith, wrong),
+    λ calls. let wrong : 1 ≤ 0 = (calls.unwritten 3 to_rename (λ has. has)).2 in omega (arith, wrong),
+  )
+
+  -- Where a slot is found, a write or a sync may fail.
+  write_over_the_slot_may_fail : Fails (index any) (later a 2 (set_record b ∷ set_record c ∷ [])) (calls_of 1 1 1)
+  unfolding later calls_of set_record
+  write_over_the_slot_may_fail = record {
+    again = of_slot (λ (slot : ℕ). HoldsSlot (index any) slot → CallsAtMost 0 1 1 0 uncounted (calls_of 1 1 1)) (λ held. let wrong : 1 < 0 = held.1 in absurd (omega (arith, wrong)));
+    few = of_slot (λ (slot : ℕ). ¬ HoldsSlot (index any) slot → 2 ≤ slots_in_front (0 ∷ 2 ∷ []) slot + 1) (λ none. omega arith);
+    unwritten = of_slot (λ (slot : ℕ). ¬ HasLengths (set_record b ∷ set_record c ∷ []) (slots_in_front (0 ∷ 2 ∷ []) slot) 44 96 → CallsAtMost 1 0 0 0 uncounted (calls_of 1 1 1)) (λ none. absurd (none (refl, refl)));
+  }
+
+  -- The buffer alone may be another; but C isn't in the index where it isn't on the image.
+  name_in_the_index_is_on_the_image : IsBeforeOr (index any) image (later a 1 []) × (¬ IsBeforeOr (index any) image (later c 2 []))
+  unfolding later
+  name_in_the_index_is_on_the_image = (
+    inl refl,
+    λ stands.
+        ⊎_elim
+        (λ same. let wrong : 0xC3 ≡ 0xC1 = ap (λ (all : List Dscb). letter all 3) same in omega (arith, wrong))
+        (λ is.
+        let dscbs : AreDscbs (later c 2 []).slots.items four_slots = subst (AreDscbs (later c 2 []).slots.items) slots_are_read is.slots in
+        let wrong : 0xC1 ≡ 0xC3 = ap (λ (bytes : List ℕ). get_or bytes 0 0) dscbs.1.1.1.0.0 in
+        omega (arith, wrong))
+        stands,
+  )
+    where
+      -- the first letter of the name in a slot, or 0 where the slot has no set
+      letter : List Dscb → ℕ → ℕ
+      letter all slot = of (get_or all slot formats.F0)
+        where
+          of : Dscb → ℕ
+          of (formats.F1 set) = get_or set.name 0 0
+          of d = 0
