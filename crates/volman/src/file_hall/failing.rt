@@ -7,17 +7,17 @@ use std::fs::{File, Files, Metadata, OpenOptions};
 use std::io::{Error, ErrorKind, Print, Result};
 use std::ops::Range;
 
-/// Another system, which the calls of some numbers don't reach.
+// Another system, which the calls of some numbers don't reach.
 #[derive(Drop)]
-pub struct Failing<'a, R> {
+pub(super) struct Failing<'a, R> {
     rt: &'a R,
     faults: Range<u64>,
     calls: Cell<u64>,
 }
 
 impl<'a, R> Failing<'a, R> {
-    /// The system of which the calls of these numbers, counted from 0, fail.
-    pub fn new(rt: &'a R, faults: Range<u64>) -> Failing<'a, R> {
+    // The system of which the calls of these numbers, counted from 0, fail.
+    pub(super) fn new(rt: &'a R, faults: Range<u64>) -> Failing<'a, R> {
         Failing {
             rt,
             faults,
@@ -25,8 +25,8 @@ impl<'a, R> Failing<'a, R> {
         }
     }
 
-    /// The number of calls that were made.
-    pub fn calls(&self) -> u64 {
+    // The number of calls that were made.
+    pub(super) fn calls(&self) -> u64 {
         self.calls.get()
     }
 
