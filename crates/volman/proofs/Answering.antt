@@ -1,6 +1,6 @@
 -- What a statement leaves: its operations come first, and then its lines.
 use Rattle.std.specs.Prelude.{◌⊎◌, Option, Some, Result, Ok, Err, IsErr}
-use Rattle.std.proofs.Common.{◌≡◌, ◌≤◌, arith, inl, inr, ⊎_elim, ℕ, Bool, List, [], ◌∷◌, ◌++◌, map, refl, sym, ◌∙◌, ap, subst}
+use Rattle.std.proofs.Common.{◌≡◌, ◌≢◌, ◌≤◌, arith, inl, inr, ⊎_elim, ℕ, Bool, true, false, List, [], ◌∷◌, ◌++◌, map, refl, sym, ◌∙◌, ap, subst}
 use Rattle.std.proofs.lemmas.List.{append-nil}
 use Rattle.hall_core.specs.Files.{File}
 use Rattle.hall_core.specs.Moments.{Meaning}
@@ -8,12 +8,14 @@ use Rattle.hall_core.proofs.MomentLemmas.{elapses_weaker}
 use Rattle.util_syntax.specs.declared.statement.Rename.{Rename}
 use Rattle.vol_model.specs.declared.answers.MachErr.{MachErr}
 use Rattle.vol_model.specs.declared.contents.Shelf.{Shelf}
+use Rattle.vol_model.specs.declared.contents.Volume.{Volume}
 use Rattle.vol_model.specs.declared.refusals.Refusal.{Refusal}
 use Rattle.vol_model.specs.declared.requests.Op.{Op}
 use Rattle.vol_model.specs.Calls.{Applies, Keeps}
 use Rattle.vol_model.specs.Events.{Event, Do, Say, Item, StopsIn, after_operations, behind, events_in, operations_of, shelf_behind}
 use Rattle.vol_model.specs.Runs.{Runs}
-use Rattle.vol_model.specs.Shelf.{number_of, step}
+use Rattle.vol_model.specs.Shelf.{IsLawful, has_set, number_of, step}
+use Rattle.vol_model.proofs.Steps.{renames_of, undone}
 use Rattle.vol_model.proofs.Stops.{EventsAreDone, left_in_earlier_events, left_in_later_events, events_are_done_in_turn}
 use Rattle.volman.specs.Statement.{item_by, item_of, item_on, operation_on}
 
@@ -99,3 +101,14 @@ unprinted {old = old} new s v line found said first same =
     ∙ first.shelf
     ∙ ap (λ (ops : List Op). after_operations old.state ops) (with_line (item_on old.state s v).operations line)
     ∙ ap (λ (es : List Event). shelf_behind old.state es) (events_found old.state s v line found said)
+
+-- ---- the shelf behind a statement that is done
+
+-- of a lawful shelf it is another one
+pub changed : (shelf : Shelf) (s : Rename) (v : ℕ) → IsLawful shelf → step shelf (operation_on s v) ≢ Ok shelf
+changed shelf s v lawful done =
+    let there = renames_of shelf shelf v s.old s.new done in
+    let back = renames_of shelf shelf v s.new s.old (undone shelf shelf v s.old s.new lawful done) in
+    let same : there.volume ≡ back.volume = cc in
+    let both : false ≡ true = sym there.no_new ∙ ap (λ (volume : Volume). has_set volume s.new.bytes) same ∙ back.has_old in
+    cc both

@@ -1,5 +1,5 @@
 -- What a run may do to the facts of a hall, on cases that a near reading answers otherwise.
-use Rattle.std.proofs.Common.{◌≡◌, ◌≢◌, ◌≤◌, ◌<◌, ℕ, List, [], ◌∷◌, codes, length, get_or, None, Some, inl, inr, ⊎_elim, refl, ap, arith}
+use Rattle.std.proofs.Common.{◌≡◌, ◌≢◌, ◌<◌, ℕ, List, [], ◌∷◌, codes, length, get_or, None, Some, inl, inr, ⊎_elim, refl, ap, arith}
 use Rattle.std.specs.Prelude.{◌⊎◌, ◌-◌, ◌^◌}
 use Rattle.hall_core.specs.Facts.{Attached, Facts, Rose}
 use Rattle.volman.specs.Run.{AttachesAsked, AttachesAtMost, CountsReported, Later, OnFile}

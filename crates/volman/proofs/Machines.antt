@@ -361,6 +361,12 @@ same_base old new v v' is = record {
       ap (λ (n : ℕ). record v'.vtoc { start = n }) start ∙ ap (λ (n : ℕ). record v.vtoc { len = n }) len;
 }
 
+-- and its unit has the name that it had
+pub same_unit_name : (old new : Facts) (v v' : Vol) → base_of new v' ≡ base_of old v → (unit_of new.units v'.unit).name ≡ (unit_of old.units v.unit).name
+same_unit_name old new v v' is =
+    let base = same_base old new v v' is in
+    ap (λ (us : List Attached). (unit_of us v'.unit).name) base.units ∙ ap (λ (u : ℕ). (unit_of old.units u).name) base.unit
+
 -- the volume of a mounted image has the geometry and the VTOC of its index
 pub same_plan : (image : List ℕ) (v : Vol) (volume : Volume) → IsMounted image v → volume_of image ≡ Ok volume → (v.geometry ≡ volume.geometry) × (v.vtoc ≡ volume.vtoc)
 unfolding volume_with

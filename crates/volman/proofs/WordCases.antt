@@ -1,5 +1,5 @@
 -- Words, decks, names and lines, on cases that a near reading of their definitions answers otherwise.
-use Rattle.std.proofs.Common.{◌≡◌, ℕ, zero, suc, true, false, List, [], ◌∷◌, ◌++◌, length, codes, get_or, Some, None, refl, ap, arith, length-append}
+use Rattle.std.proofs.Common.{◌≡◌, ℕ, zero, suc, true, false, List, [], ◌∷◌, ◌++◌, length, codes, get_or, Some, None, Err, alloc_error, refl, ap, arith, length-append}
 use Rattle.std.specs.Cmp.Lexicographic.{slice_cmp}
 use Rattle.std.specs.Fmt.{digits}
 use Rattle.std.specs.List.Sorted.{IsSorted}
@@ -18,7 +18,7 @@ use Rattle.vol_model.specs.declared.contents.DataSet.{DataSet}
 use Rattle.volman.specs.Deck.{TakesAtMost, deck_of, line_of}
 use Rattle.volman.specs.Lines.{deck_line, image_reason, line, name_line, names_listing, number_text, reason_of, unit_line, with_numbers, words_line}
 use Rattle.volman.specs.Names.{IsListing, names_in, names_of, set_name}
-use Rattle.volman.specs.Words.{Names, Run, is_date, is_day, is_file_word, names_request, request_of, run_request, value_of}
+use Rattle.volman.specs.Words.{Names, Run, asked_in, is_date, is_day, is_file_word, names_request, request_of, run_request, value_of}
 
 -- ---- words
 
@@ -66,6 +66,10 @@ words = (refl, refl, refl, refl, refl, refl, refl)
 -- fewer words ask for nothing, and so does one behind the file
 other_counts : (request_of [] ≡ None) × (request_of (codes "volman" ∷ []) ≡ None) × (request_of (codes "volman" ∷ codes "names" ∷ []) ≡ None) × (request_of (codes "volman" ∷ codes "run" ∷ codes "--date" ∷ codes "75032" ∷ codes "w.img" ∷ codes "x.img" ∷ []) ≡ None)
 other_counts = (refl, refl, refl, refl)
+
+-- lost words ask for nothing
+lost_words : asked_in (Err alloc_error) ≡ None
+lost_words = refl
 
 -- ---- a deck's line
 

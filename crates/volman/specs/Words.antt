@@ -1,8 +1,10 @@
 -- What the words of the command line ask for, in this project's profile.
-use Rattle.std.specs.Prelude.{ℕ, ◌+◌, ◌-◌, ◌*◌, Bool, false, ◌==◌, ◌&&◌, not, nat_le, List, [], ◌∷◌, codes, Option, Some, None, if◌then◌else◌}
+use Rattle.std.specs.Prelude.{ℕ, ◌+◌, ◌-◌, ◌*◌, Bool, false, ◌==◌, ◌&&◌, not, nat_le, List, [], ◌∷◌, codes, map, Option, Some, None, Result, Ok, Err, String, Vec, string_bytes, if◌then◌else◌}
 use Rattle.std.specs.Char.{is_ascii_digit}
 use Rattle.std.specs.List.{list_all}
 use Rattle.std.specs.Str.{bytes_eq}
+use Rattle.std.specs.declared.alloc.AllocError.{AllocError}
+use Rattle.std.specs.declared.alloc.Global.{Global}
 
 -- what is asked for: the names on the pack in a file, or a deck run over it
 pub data Request : Type 0 where
@@ -43,3 +45,8 @@ abbrev pub request_of : List (List ℕ) → Option Request
 request_of (program ∷ action ∷ file ∷ []) = names_request action file
 request_of (program ∷ action ∷ option ∷ date ∷ file ∷ []) = run_request action option date file
 request_of _ = None
+
+-- what is asked for by the words, and nothing where there was no memory for them
+abbrev pub asked_in : Result (Vec (String Global) Global) AllocError → Option Request
+asked_in (Ok words) = request_of (map string_bytes words.items)
+asked_in (Err _) = None

@@ -277,12 +277,9 @@ impl<R: Files<File = File> + Print> Hall for FileHall<'_, R> {
 }
 
 #[cfg(test)]
-mod failing;
-
-#[cfg(test)]
 mod tests {
-    use super::failing::Failing;
     use super::*;
+    use crate::system::System;
     use std::fs;
     use std::test::Fail;
 
@@ -396,7 +393,7 @@ mod tests {
         let name = "file_hall_opens.tmp";
         fs::write(&rt, name, "01234567")?;
         for (faults, calls) in [(0..1, 1), (1..3, 3)] {
-            let system = Failing::new(&rt, faults);
+            let system = System::new(rt.alloc(), &rt, &[], None, faults);
             let mut hall = FileHall::new(rt.alloc(), &system);
             assert_eq!(rt; hall.attach(name), Err(HallErr::Failed));
             assert_eq!(rt; (system.calls(), hall.dev_faults), (calls, 1));
@@ -408,7 +405,7 @@ mod tests {
 
     #[test]
     fn a_failed_print_is_a_fault_and_is_not_tried_again(rt: HostRuntime) {
-        let system = Failing::new(&rt, 0..2);
+        let system = System::new(rt.alloc(), &rt, &[], None, 0..2);
         let mut hall = FileHall::new(rt.alloc(), &system);
         for faults in 1..3 {
             assert_eq!(rt; hall.print(b"printed\n"), Err(HallErr::Failed));

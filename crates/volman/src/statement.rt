@@ -1,5 +1,5 @@
 //! A RENAME statement on any machine.
-ghost use Rattle.std.specs.Prelude.{◌≡◌, ◌⊎◌, [], ◌∷◌, map, None, IsErrOf, IsTrue, IfOk, OnErr};
+ghost use Rattle.std.specs.Prelude.{◌≡◌, ◌≢◌, ◌⊎◌, [], ◌∷◌, map, None, IsErrOf, IsTrue, IfOk, OnOk, OnErr};
 ghost use Rattle.hall_core.specs.Facts.{CallsAtMost};
 ghost use Rattle.vol_model.specs.Calls.{AsksAtMost, Keeps};
 ghost use Rattle.vol_model.specs.Events.{Do, Say, events_in, shelf_behind};
@@ -18,10 +18,10 @@ const FIRST_CARD: u32 = 1;
 /// there, and prints the line that answers it. Gives its condition code: 0, or 8 where it is refused.
 ///
 /// The machine is asked for the operation once, and not where there is no such volume, and for one print.
-/// An error comes where
-/// the machine has one, or where there is no memory for the line. The line is printed once the operation is
-/// done: so where the print failed, the operation is done, and nothing but the print came behind it; and
-/// where the device failed, nothing is printed.
+/// An error comes where the machine has one, or where there is no memory for the line. The line is printed
+/// once the operation is done: so where the print failed, the operation is done, and nothing but the print came
+/// behind it; where the device failed, nothing is printed; and where memory ran out and the shelf is as before,
+/// nothing was written nor synced.
 pub fn run_rename<M: Machine>(
     alloc: Global,
     machine: &mut M,
@@ -43,6 +43,7 @@ pub fn run_rename<M: Machine>(
     ensures once { AsksAtMost 1 1 (M.asked machine.old) (M.asked machine.new) }
     ensures unasked { volume ≡ None → AsksAtMost 0 1 (M.asked machine.old) (M.asked machine.new) }
     ensures unprinted { (IsErrOf result Stop.Device) ⊎ (IsErrOf result Stop.Memory) → CallsAtMost 1 1 1 0 (M.calls machine.old) (M.calls machine.new) }
+    ensures unchanged { IsTrue M.tells → IsErrOf result Stop.Memory → (M.meaning machine.new).state ≡ (M.meaning machine.old).state → CallsAtMost 1 0 0 0 (M.calls machine.old) (M.calls machine.new) }
     ensures call { RunCall (M.status machine.old) (M.status machine.new) result }
 {
     let outcome = rename(machine, volume, statement)?;
@@ -67,6 +68,8 @@ fn rename<M: Machine>(
     ensures promise { IsTrue M.tells → Keeps (M.meaning machine.old).clock (item_on (M.meaning machine.old).state statement.now volume).operations (M.promise machine.old) (M.promise machine.new) }
     ensures calls { CallsAtMost 1 1 1 0 (M.calls machine.old) (M.calls machine.new) }
     ensures refused { IfOk result (λ outcome. OnErr outcome (CallsAtMost 0 0 0 0 (M.calls machine.old) (M.calls machine.new))) }
+    ensures changed { IsTrue M.tells → IfOk result (λ outcome. OnOk outcome ((M.meaning machine.new).state ≢ (M.meaning machine.old).state)) }
+    ensures memory { IsErrOf result Stop.Memory → CallsAtMost 1 0 0 0 (M.calls machine.old) (M.calls machine.new) }
     ensures once { AsksAtMost 1 0 (M.asked machine.old) (M.asked machine.new) }
     ensures unasked { volume ≡ None → AsksAtMost 0 0 (M.asked machine.old) (M.asked machine.new) }
     ensures print { IsErrOf result Stop.Print → ⊥ }

@@ -6,6 +6,7 @@ mod broken;
 mod cut;
 mod machines;
 mod packs;
+mod program;
 mod run;
 mod scarce;
 mod stops;
@@ -87,7 +88,7 @@ fn status<H: Hall>(alloc: Global, words: &[&str], hall: &mut H) -> Result<u8, Al
     let mut fails = Vec::new(alloc);
     fails.push(0)?;
     let mut cards = MemCards::new(Vec::new(alloc), fails);
-    Ok(volman(alloc, &owned, &mut cards, hall))
+    Ok(volman(alloc, Ok(owned), &mut cards, hall))
 }
 
 // The words, the call that is to fail, whether memory runs out, and the status.

@@ -1,5 +1,5 @@
 //! The top call: all that the program does.
-ghost use Rattle.std.specs.Prelude.{◌≡◌, ◌≢◌, ◌≤◌, ◌+◌, ◌⊎◌, [], List, ℕ, drop, length, map, string_bytes, IsTrue, IfOk, Some, None};
+ghost use Rattle.std.specs.Prelude.{◌≡◌, ◌≢◌, ◌≤◌, ◌+◌, ◌⊎◌, [], List, ℕ, drop, length, map, string_bytes, IsTrue, IfOk, OnErr, Some, None};
 ghost use Rattle.hall_core.specs.Facts.{AttachesOnce, CallsAtMost, Rose};
 ghost use Rattle.hall_core.specs.Files.{file_of};
 ghost use Rattle.dadsm_ops.specs.Operations.{image_named};
@@ -10,7 +10,7 @@ ghost use Rattle.volman.specs.Names.{IsListing, names_in};
 ghost use Rattle.hall_core.specs.Moments.{IsDurable};
 ghost use Rattle.volman.specs.Run.{AttachesAsked, CountsReported, Does, Headline, IsStatus, IsUnasked, IsUnbegun, Later, LeavesFiles, OnFile, PrintsText, code_of};
 ghost use Rattle.volman.specs.Task.{Says, names_task, statement_task, task_on};
-ghost use Rattle.volman.specs.Words.{Names, Run, request_of};
+ghost use Rattle.volman.specs.Words.{Names, Run, asked_in, request_of};
 
 use crate::deck::{DeckErr, read_deck};
 use crate::mount::mount;
@@ -28,10 +28,11 @@ use vtoc_index::MountErr;
 /// Does what the words ask for, over the files of a hall, and gives the status with which the program
 /// ends.
 ///
-/// The words are those of the command line, the program's name first. `names FILE` prints the names of
-/// the data sets on a pack, in the order of their EBCDIC bytes, a line each; it reads no cards.
-/// `run --date yyddd FILE` reads a deck of one RENAME statement from the cards, does it on the pack, and
-/// prints the line that answers it. The order is: words, deck, file, image, statement.
+/// The words are those of the command line, the program's name first; where there was no memory for them
+/// nothing is called. `names FILE` prints the names of the data sets on a pack, in the order of their EBCDIC
+/// bytes, a line each; it reads no cards. `run --date yyddd FILE` reads a deck of one RENAME statement from
+/// the cards, does it on the pack, and prints the line that answers it. The order is: words, deck, file,
+/// image, statement.
 ///
 /// | status | where | printed |
 /// |---|---|---|
@@ -44,7 +45,12 @@ use vtoc_index::MountErr;
 /// | 24 | the printer failed | nothing more |
 /// | 25 | memory ran out | nothing more |
 /// | 26 | any other deck | `VOLMAN DECK FORM` |
-pub fn volman<C: Cards, H: Hall>(alloc: Global, words: &[String], cards: &mut C, hall: &mut H) -> u8
+pub fn volman<C: Cards, H: Hall>(
+    alloc: Global,
+    words: Result<Vec<String>, AllocError>,
+    cards: &mut C,
+    hall: &mut H,
+) -> u8
     requires { (H.facts hall.old).units ≡ [] }
 
     // Run without a stop: with a condition code, or the status of a refusal, all that the words and the
@@ -52,37 +58,39 @@ pub fn volman<C: Cards, H: Hall>(alloc: Global, words: &[String], cards: &mut C,
     // Run stopped at any moment: whatever the status, a stop at any moment of the call leaves what a prefix
     // of the operations leaves, all that are reported and none that can't have begun; and nothing at all is
     // changed where no statement is to be done.
-    ensures headline { IsTrue H.tells → Headline (request_of (map string_bytes words.now)) C.tells (C.left cards.old) (H.meaning hall.old) (H.meaning hall.new) result }
+    ensures headline { IsTrue H.tells → Headline (asked_in words) C.tells (C.left cards.old) (H.meaning hall.old) (H.meaning hall.new) result }
 
     // Where nothing was begun the files stay; a fault while names are read prints nothing; and behind all
     // but a fault of the device no write is pending.
     ensures untouched { IsTrue H.tells → IsUnbegun result → LeavesFiles (H.meaning hall.old) (H.meaning hall.new) }
-    ensures silent { IsTrue H.tells → ((file : List ℕ) → request_of (map string_bytes words.now) ≢ Some (Run file)) → (result ≡ 22) ⊎ (result ≡ 25) → (H.meaning hall.new).printed ≡ (H.meaning hall.old).printed }
+    ensures silent { IsTrue H.tells → ((file : List ℕ) → asked_in words ≢ Some (Run file)) → (result ≡ 22) ⊎ (result ≡ 25) → (H.meaning hall.new).printed ≡ (H.meaning hall.old).printed }
     ensures durable { IsTrue H.tells → result ≢ 22 → IsDurable (H.meaning hall.new) }
 
     // Where a statement is asked for and the cards could be read, 83 bytes are taken, or all where there are
     // fewer, as of a deck that is a statement; and no more whatever the status, and one read at most gave none. Else
     // no card was read.
-    ensures deck { IsTrue C.tells → (file : List ℕ) → request_of (map string_bytes words.now) ≡ Some (Run file) → (statement : Rename) → deck_of (C.left cards.old) ≡ Some statement → result ≢ 23 → C.left cards.new ≡ [] }
-    ensures rest { IsTrue C.tells → (file : List ℕ) → request_of (map string_bytes words.now) ≡ Some (Run file) → result ≢ 23 → C.left cards.new ≡ drop 83 (C.left cards.old) }
+    ensures deck { IsTrue C.tells → (file : List ℕ) → asked_in words ≡ Some (Run file) → (statement : Rename) → deck_of (C.left cards.old) ≡ Some statement → result ≢ 23 → C.left cards.new ≡ [] }
+    ensures rest { IsTrue C.tells → (file : List ℕ) → asked_in words ≡ Some (Run file) → result ≢ 23 → C.left cards.new ≡ drop 83 (C.left cards.old) }
     ensures taken { IsTrue C.tells → TakesAtMost 83 (C.left cards.old) (C.left cards.new) }
     ensures reads { C.reads cards.new ≤ C.reads cards.old + 83 }
     ensures ends { IsTrue C.tells → C.reads cards.new + length (C.left cards.new) ≤ C.reads cards.old + length (C.left cards.old) + 1 }
-    ensures cards { ((file : List ℕ) → request_of (map string_bytes words.now) ≢ Some (Run file)) → cards.new ≡ cards.old }
+    ensures cards { ((file : List ℕ) → asked_in words ≢ Some (Run file)) → cards.new ≡ cards.old }
 
     // Causes of every status, over any hall and any cards: the words are refused only where they ask for
-    // nothing, and a fault is reported only where its count rose in this call.
-    ensures words { result ≡ 20 → request_of (map string_bytes words.now) ≡ None }
-    ensures refused { request_of (map string_bytes words.now) ≡ None → (result ≡ 20) ⊎ (result ≡ 24) }
+    // nothing, and a fault is reported only where its count rose in this call. Nothing at all is done where there was no
+    // memory for the words.
+    ensures words { result ≡ 20 → asked_in words ≡ None }
+    ensures refused { IfOk words (λ words. request_of (map string_bytes words.items) ≡ None → (result ≡ 20) ⊎ (result ≡ 24)) }
+    ensures lost { OnErr words ((result ≡ 25) × (cards.new ≡ cards.old) × (hall.new ≡ hall.old)) }
     ensures form { result ≡ 26 → IsTrue C.tells → deck_of (C.left cards.old) ≡ None }
-    ensures formless { IsTrue C.tells → (file : List ℕ) → request_of (map string_bytes words.now) ≡ Some (Run file) → deck_of (C.left cards.old) ≡ None → (result ≡ 26) ⊎ ((result ≡ 23) ⊎ (result ≡ 24)) }
-    ensures asked { result ≡ 26 → (file : List ℕ) × (request_of (map string_bytes words.now) ≡ Some (Run file)) }
+    ensures formless { IsTrue C.tells → (file : List ℕ) → asked_in words ≡ Some (Run file) → deck_of (C.left cards.old) ≡ None → (result ≡ 26) ⊎ ((result ≡ 23) ⊎ (result ≡ 24)) }
+    ensures asked { result ≡ 26 → (file : List ℕ) × (asked_in words ≡ Some (Run file)) }
     ensures device { result ≡ 22 → Rose (H.facts hall.old).dev_faults (H.facts hall.new).dev_faults }
     ensures print { result ≡ 24 → Rose (H.facts hall.old).print_faults (H.facts hall.new).print_faults }
     ensures read { result ≡ 23 → Rose (C.faults cards.old) (C.faults cards.new) }
     ensures unread { result ≡ 23 → hall.new ≡ hall.old }
     ensures status { IsStatus result }
-    ensures statement { result ≡ 8 → (file : List ℕ) × (request_of (map string_bytes words.now) ≡ Some (Run file)) }
+    ensures statement { result ≡ 8 → (file : List ℕ) × (asked_in words ≡ Some (Run file)) }
 
     // And a count rose only where its fault is reported.
     ensures reported { CountsReported result (H.facts hall.old) (H.facts hall.new) }
@@ -92,35 +100,40 @@ pub fn volman<C: Cards, H: Hall>(alloc: Global, words: &[String], cards: &mut C,
 
     // It is the same hall, with at most the file that the words name.
     ensures references { (H.facts hall.new).references ≡ (H.facts hall.old).references }
-    ensures units { AttachesAsked (request_of (map string_bytes words.now)) (H.facts hall.old) (H.facts hall.new) }
+    ensures units { AttachesAsked (asked_in words) (H.facts hall.old) (H.facts hall.new) }
 
     // Over any hall there is at most one attachment, and 259 reads to mount a pack, of its header, its label and a VTOC
     // of at most 257 tracks; for a statement one read more, one write and two syncs; and one print. Nothing is written
     // nor synced where no statement is asked for, nor where one isn't begun; and nothing is written for a statement
-    // that is refused. With a fault of the printer there is no sync behind the print, and where memory ran out no print.
+    // that is refused. With a fault of the printer there is no sync behind the print, and where memory ran out no print,
+    // nor, over a hall that tells, a write or a sync unless a file is changed.
     ensures calls { AttachesOnce 260 1 2 1 (H.calls hall.old) (H.calls hall.new) }
-    ensures no_statement { ((file : List ℕ) → request_of (map string_bytes words.now) ≢ Some (Run file)) → AttachesOnce 259 0 0 1 (H.calls hall.old) (H.calls hall.new) }
-    ensures unlisted { ((file : List ℕ) → request_of (map string_bytes words.now) ≢ Some (Run file)) → (result ≡ 22) ⊎ (result ≡ 25) → AttachesOnce 259 0 0 0 (H.calls hall.old) (H.calls hall.new) }
+    ensures no_statement { ((file : List ℕ) → asked_in words ≢ Some (Run file)) → AttachesOnce 259 0 0 1 (H.calls hall.old) (H.calls hall.new) }
+    ensures unlisted { ((file : List ℕ) → asked_in words ≢ Some (Run file)) → (result ≡ 22) ⊎ (result ≡ 25) → AttachesOnce 259 0 0 0 (H.calls hall.old) (H.calls hall.new) }
     ensures unbegun { IsUnbegun result → AttachesOnce 259 0 0 1 (H.calls hall.old) (H.calls hall.new) }
     ensures unwritten { result ≡ 8 → AttachesOnce 259 0 1 1 (H.calls hall.old) (H.calls hall.new) }
     ensures unsaid { result ≡ 24 → AttachesOnce 260 1 1 1 (H.calls hall.old) (H.calls hall.new) }
     ensures unprinted { result ≡ 25 → AttachesOnce 260 1 1 0 (H.calls hall.old) (H.calls hall.new) }
+    ensures unchanged { IsTrue H.tells → result ≡ 25 → (H.meaning hall.new).state ≡ (H.meaning hall.old).state → AttachesOnce 260 0 0 0 (H.calls hall.old) (H.calls hall.new) }
 
     // Over a hall that tells, there are no more reads than the image in the file takes to be mounted or refused, and
     // one more for a statement that isn't refused.
-    ensures reads_names { IsTrue H.tells → (file : List ℕ) → request_of (map string_bytes words.now) ≡ Some (Names file) → AttachesOnce (reads_to_mount (image_named (H.meaning hall.old).state file)) 0 0 1 (H.calls hall.old) (H.calls hall.new) }
-    ensures reads_refused { IsTrue H.tells → (file : List ℕ) → request_of (map string_bytes words.now) ≡ Some (Run file) → result ≡ 8 → AttachesOnce (reads_to_mount (image_named (H.meaning hall.old).state file)) 0 1 1 (H.calls hall.old) (H.calls hall.new) }
-    ensures reads_run { IsTrue H.tells → (file : List ℕ) → request_of (map string_bytes words.now) ≡ Some (Run file) → AttachesOnce (reads_to_mount (image_named (H.meaning hall.old).state file) + 1) 1 2 1 (H.calls hall.old) (H.calls hall.new) }
+    ensures reads_names { IsTrue H.tells → (file : List ℕ) → asked_in words ≡ Some (Names file) → AttachesOnce (reads_to_mount (image_named (H.meaning hall.old).state file)) 0 0 1 (H.calls hall.old) (H.calls hall.new) }
+    ensures reads_refused { IsTrue H.tells → (file : List ℕ) → asked_in words ≡ Some (Run file) → result ≡ 8 → AttachesOnce (reads_to_mount (image_named (H.meaning hall.old).state file)) 0 1 1 (H.calls hall.old) (H.calls hall.new) }
+    ensures reads_run { IsTrue H.tells → (file : List ℕ) → asked_in words ≡ Some (Run file) → AttachesOnce (reads_to_mount (image_named (H.meaning hall.old).state file) + 1) 1 2 1 (H.calls hall.old) (H.calls hall.new) }
 
     // The words come first, then the deck, then the file: none is attached where the words or the deck
     // are refused, or the cards couldn't be read, and nothing but a print is done then.
     ensures unasked { IsUnasked result → (H.facts hall.new).units ≡ (H.facts hall.old).units }
     ensures unattached { IsUnasked result → CallsAtMost 0 0 0 1 (H.calls hall.old) (H.calls hall.new) }
-    ensures refused_words { request_of (map string_bytes words.now) ≡ None → CallsAtMost 0 0 0 1 (H.calls hall.old) (H.calls hall.new) }
-    ensures refused_deck { IsTrue C.tells → (file : List ℕ) → request_of (map string_bytes words.now) ≡ Some (Run file) → deck_of (C.left cards.old) ≡ None → (H.facts hall.new).units ≡ (H.facts hall.old).units }
-    ensures undecked { IsTrue C.tells → (file : List ℕ) → request_of (map string_bytes words.now) ≡ Some (Run file) → deck_of (C.left cards.old) ≡ None → CallsAtMost 0 0 0 1 (H.calls hall.old) (H.calls hall.new) }
+    ensures refused_words { asked_in words ≡ None → CallsAtMost 0 0 0 1 (H.calls hall.old) (H.calls hall.new) }
+    ensures refused_deck { IsTrue C.tells → (file : List ℕ) → asked_in words ≡ Some (Run file) → deck_of (C.left cards.old) ≡ None → (H.facts hall.new).units ≡ (H.facts hall.old).units }
+    ensures undecked { IsTrue C.tells → (file : List ℕ) → asked_in words ≡ Some (Run file) → deck_of (C.left cards.old) ≡ None → CallsAtMost 0 0 0 1 (H.calls hall.old) (H.calls hall.new) }
 {
-    match action_of(words) {
+    let Ok(words) = words else {
+        return Status::Memory.code();
+    };
+    match action_of(&words) {
         None => end(hall, WORDS_LINE, Status::Words),
         Some(Action::Names { file }) => names(alloc, hall, file),
         Some(Action::Run { file }) => match read_deck(cards) {
@@ -182,6 +195,7 @@ fn run<H: Hall>(alloc: Global, hall: &mut H, file: &str, statement: &Rename) -> 
     ensures unwritten { result ≡ 8 → AttachesOnce 259 0 1 1 (H.calls hall.old) (H.calls hall.new) }
     ensures unsaid { result ≡ 24 → AttachesOnce 260 1 1 1 (H.calls hall.old) (H.calls hall.new) }
     ensures unprinted { result ≡ 25 → AttachesOnce 260 1 1 0 (H.calls hall.old) (H.calls hall.new) }
+    ensures unchanged { IsTrue H.tells → result ≡ 25 → (H.meaning hall.new).state ≡ (H.meaning hall.old).state → AttachesOnce 260 0 0 0 (H.calls hall.old) (H.calls hall.new) }
     ensures reads_refused { IsTrue H.tells → result ≡ 8 → AttachesOnce (reads_to_mount (image_named (H.meaning hall.old).state file.now)) 0 1 1 (H.calls hall.old) (H.calls hall.new) }
     ensures reads { IsTrue H.tells → AttachesOnce (reads_to_mount (image_named (H.meaning hall.old).state file.now) + 1) 1 2 1 (H.calls hall.old) (H.calls hall.new) }
     ensures call { OnFile file.now (H.facts hall.old) (H.facts hall.new) result }

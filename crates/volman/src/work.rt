@@ -39,6 +39,7 @@ pub fn run_statement<H: Hall>(alloc: Global, statement: &Rename, vol: Vol, hall:
     ensures refused { result.0 ≡ 8 → CallsAtMost 0 0 1 1 (H.calls hall) (H.calls result.1) }
     ensures unsaid { result.0 ≡ 24 → CallsAtMost 1 1 1 1 (H.calls hall) (H.calls result.1) }
     ensures unprinted { result.0 ≡ 25 → CallsAtMost 1 1 1 0 (H.calls hall) (H.calls result.1) }
+    ensures unchanged { IsTrue H.tells → result.0 ≡ 25 → (H.meaning result.1).state ≡ (H.meaning hall).state → CallsAtMost 1 0 0 0 (H.calls hall) (H.calls result.1) }
     ensures reported { CountsReported result.0 (H.facts hall) (H.facts result.1) }
     ensures later { Later (H.facts hall) (H.facts result.1) }
     ensures units { (H.facts result.1).units ≡ (H.facts hall).units }

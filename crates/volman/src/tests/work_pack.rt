@@ -72,7 +72,7 @@ pub(crate) fn run<H: Hall>(
         owned.push(String::from_str(alloc, word)?)?;
     }
     let mut cards = MemCards::new(deck.as_bytes().to_vec(alloc)?, fails.to_vec(alloc)?);
-    Ok(volman(alloc, &owned, &mut cards, hall))
+    Ok(volman(alloc, Ok(owned), &mut cards, hall))
 }
 
 /// The image mounts, and these names are listed.

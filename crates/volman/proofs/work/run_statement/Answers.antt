@@ -1,5 +1,5 @@
 use Rattle.std.proofs.Common.{◌≡◌, ◌∙◌, inl, inr, ⊎_elim, ℕ, ◌≤◌, List, [], ◌∷◌, Ok, IsErrOf, sym, ap, subst, arith, rules}
-use Rattle.hall_core.specs.Facts.{Attached, unit_of}
+use Rattle.hall_core.specs.Facts.{CallsAtMost, unit_of}
 use Rattle.hall_core.specs.Files.{File, image_of}
 use Rattle.hall_core.specs.Steps.{seen}
 use Rattle.pack_spec.specs.Volume.{volume_of}
@@ -8,13 +8,13 @@ use Rattle.vol_model.specs.Calls.{Keeps}
 use Rattle.vol_model.specs.Events.{Item, events_in, shelf_behind}
 use Rattle.vol_model.specs.Runs.{Runs}
 use Rattle.vol_model.specs.declared.answers.Stop.{Stop}
-use Rattle.vol_model.specs.declared.answers.Stop.TheVariants.{Device, Print}
+use Rattle.vol_model.specs.declared.answers.Stop.TheVariants.{Device, Memory, Print}
 use Rattle.vtoc_index.specs.declared.vol.Vol.{Vol}
 use Rattle.vtoc_index.proofs.KeptLemmas.{mounted_of}
 use Rattle.volman.specs.Machine.{ChangesOnlyNames, shelf_in, shelf_named, shelf_with}
 use Rattle.volman.specs.Run.{IsCalmSince, StopStands, Synced, WorksOn}
 use Rattle.volman.specs.Statement.{item_of}
-use Rattle.volman.proofs.Machines.{same_base}
+use Rattle.volman.proofs.Machines.{same_base, same_unit_name}
 use Rattle.volman.proofs.Works.{cut_by, durable_behind, has_worked, has_worked_unprinted, have_line, stops_worked, works_failed, works_finished, works_unprinted}
 use Rattle.volman.proofs.work.run_statement.Goals as goal
 use Rattle.volman.proofs.work.run_statement.Goals.{in-Ok, in-Err-Device, in-Err-Print, in-Err-Memory}
@@ -30,7 +30,7 @@ returns-clause-does g c told =
     let base = same_base (F machine.hall) (F new.hall) machine.vol new.vol c.run_rename-ran.ensures.call.base in
     let name : List ℕ = (unit_of (F machine.hall).units machine.vol.unit).name in
     let name' : List ℕ = (unit_of (F new.hall).units new.vol.unit).name in
-    let same_name : name' ≡ name = ap (λ (us : List Attached). (unit_of us new.vol.unit).name) base.units ∙ ap (λ (u : ℕ). (unit_of (F machine.hall).units u).name) base.unit in
+    let named : name' ≡ name = same_unit_name (F machine.hall) (F new.hall) machine.vol new.vol c.run_rename-ran.ensures.call.base in
     let mounted = mounted_of _ _ (machine.kept sound told) in
     let on_machine : (volume : Volume) → volume_of (image_of (M machine.hall).state (F machine.hall) machine.vol.unit) ≡ Ok volume
     → WorksOn name volume (item_of (shelf_with volume) c.args.statement.now ∷ []) (M machine.hall) (M c.match-ran.hall) c.match-ran.status = λ volume stands.
@@ -42,7 +42,7 @@ returns-clause-does g c told =
     let runs : Runs g.H.Hall.tells (events_in item) (seen (shelf_named name) (M machine.hall)) (seen (shelf_named name') (M new.hall)) ran =
     subst (λ (i : Item). Runs g.H.Hall.tells (events_in i) (seen (shelf_named name) (M machine.hall)) (seen (shelf_named name') (M new.hall)) ran) shelf (c.run_rename-ran.ensures.runs told) in
     let stops : (t : ℕ) → t ≤ (M machine.hall).clock → IsCalmSince (M machine.hall) t → (files : List File) (printed : List ℕ) → (M new.hall).left_since t files printed → StopStands name volume (item ∷ []) (M machine.hall) files printed =
-    stops_worked name name' (M machine.hall) (M new.hall) machine.vol new.vol volume item mounted stands same_name base.geometry base.vtoc have promise told runs in
+    stops_worked name name' (M machine.hall) (M new.hall) machine.vol new.vol volume item mounted stands named base.geometry base.vtoc have promise told runs in
     let at_close : WorksOn name volume (item ∷ []) (M machine.hall) (M new.hall) c.match-ran.status → c.match-ran.hall ≡ c.close-hall.result → WorksOn name volume (item ∷ []) (M machine.hall) (M c.match-ran.hall) c.match-ran.status =
     λ works is. subst (λ h. WorksOn name volume (item ∷ []) (M machine.hall) (M h) c.match-ran.status) (sym (is ∙ c.close-hall.ensures)) works in
     elim c.match-ran.branch [
@@ -53,7 +53,7 @@ returns-clause-does g c told =
           let only = g.met.H.Hall.only_now machine.hall in
           let counts = g.met.H.Hall.counts_now new.hall in
           let later = runs.moments.later in
-          let done = has_worked name name' (M machine.hall) (M new.hall) machine.vol new.vol volume item mounted stands same_name base.geometry base.vtoc have promise code told only counts (g.met.H.Hall.leaves_state new.hall)
+          let done = has_worked name name' (M machine.hall) (M new.hall) machine.vol new.vol volume item mounted stands named base.geometry base.vtoc have promise code told only counts (g.met.H.Hall.leaves_state new.hall)
           (machine.durable sound told) (new.durable w.in-Ok.ensures.call.sound told) later (w.in-Ok.ensures.code told ∙ ap (λ (i : Item). i.code) shelf) ran_ok in
           let synced : Synced (M new.hall) (M c.match-ran.hall) c.match-ran.status =
           subst (λ (n : ℕ). Synced (M new.hall) (M c.match-ran.hall) n) (sym w.status-is)
@@ -69,7 +69,7 @@ returns-clause-does g c told =
           let prints = before.1 in
           let durable = durable_behind (M new.hall) (g.met.H.Hall.only_now mid.hall) (mid.durable prints.sound told) (g.met.H.Hall.counts_now new.hall) (g.met.H.Hall.leaves_state new.hall) prints.later prints.promise in
           let shelf = c.run_rename-ran.ensures.print told failed ∙ ap (λ (i : Item). shelf_behind (shelf_named name (M machine.hall).state) (events_in i)) shelf in
-          let done = has_worked_unprinted name name' (M machine.hall) (M new.hall) machine.vol new.vol volume item mounted stands same_name base.geometry base.vtoc have promise told (g.met.H.Hall.only_now machine.hall) (g.met.H.Hall.counts_now new.hall) (g.met.H.Hall.leaves_state new.hall) (machine.durable sound told) durable shelf runs in
+          let done = has_worked_unprinted name name' (M machine.hall) (M new.hall) machine.vol new.vol volume item mounted stands named base.geometry base.vtoc have promise told (g.met.H.Hall.only_now machine.hall) (g.met.H.Hall.counts_now new.hall) (g.met.H.Hall.leaves_state new.hall) (machine.durable sound told) durable shelf runs in
           at_close (works_unprinted c.match-ran.status (w.status-is ∙ w.code-status-in-Err-Print.ensures) runs.moments.later done stops) w.hall-is
       | in-Err-Memory w ↦ at_close (works_failed c.match-ran.status (cut_by c.match-ran.status 25 (w.status-is ∙ w.code-status-in-Err-Memory.ensures) (omega arith) (omega arith) (λ no. omega (arith, no))) (λ (device : c.match-ran.status ≡ 22). let memory : c.match-ran.status ≡ 25 = w.status-is ∙ w.code-status-in-Err-Memory.ensures in absurd (omega (arith, memory, device))) runs.moments.later stops) w.hall-is
     ]
@@ -104,4 +104,28 @@ returns-clause-reported g c =
       | in-Err-Device w ↦ search rules
       | in-Err-Print w ↦ search rules
       | in-Err-Memory w ↦ search rules
+    ]
+
+pub returns-clause-unchanged : goal.returns-clause-unchanged
+returns-clause-unchanged g c told memory same =
+    let machine = c.open-machine.result in
+    let new = c.run_rename-ran.new.machine in
+    let M = g.H.Hall.meaning in
+    let F = g.H.Hall.facts in
+    let calls = g.H.Hall.calls in
+    let ran = c.run_rename-ran.result in
+    let name : List ℕ = (unit_of (F machine.hall).units machine.vol.unit).name in
+    let name' : List ℕ = (unit_of (F new.hall).units new.vol.unit).name in
+    let named : name' ≡ name = same_unit_name (F machine.hall) (F new.hall) machine.vol new.vol c.run_rename-ran.ensures.call.base in
+    elim c.match-ran.branch [
+      | in-Ok w ↦ search rules
+      | in-Err-Device w ↦ search rules
+      | in-Err-Print w ↦ search rules
+      | in-Err-Memory w ↦
+          let failed : IsErrOf ran Memory = search rules in
+          let closed : c.match-ran.hall ≡ new.hall = w.hall-is ∙ c.close-hall.ensures in
+          let files : (M new.hall).state ≡ (M machine.hall).state = ap (λ h. (M h).state) (sym closed) ∙ same ∙ ap (λ h. (M h).state) (sym c.open-machine.ensures.hall) in
+          let shelf : shelf_named name' (M new.hall).state ≡ shelf_named name (M machine.hall).state = ap (λ n. shelf_named n (M new.hall).state) named ∙ ap (shelf_named name) files in
+          let few : CallsAtMost 1 0 0 0 (calls machine.hall) (calls new.hall) = c.run_rename-ran.ensures.unchanged told failed shelf in
+          subst (λ h. CallsAtMost 1 0 0 0 (calls c.args.hall) (calls h)) (sym closed) (subst (λ h. CallsAtMost 1 0 0 0 (calls h) (calls new.hall)) c.open-machine.ensures.hall few)
     ]
