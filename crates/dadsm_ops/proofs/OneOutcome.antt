@@ -13,10 +13,10 @@ use Rattle.pack_spec.specs.Slots.{slots_of_vtoc}
 use Rattle.pack_spec.specs.Vtoc.{vtoc_of}
 use Rattle.vol_model.specs.declared.contents.Run.{Run}
 use Rattle.vtoc_index.specs.Contents.{is_set_named}
-use Rattle.vtoc_index.specs.Index.{IsMounted, firsts_of, place_of_slot}
+use Rattle.vtoc_index.specs.Index.{IsMounted, firsts_of, place_of_slot, serial_on}
 use Rattle.vtoc_index.specs.declared.vol.Vol.{Vol}
 use Rattle.vtoc_index.proofs.NameLemmas.{named_alike}
-use Rattle.dadsm_ops.specs.Naming.{RenamesSet, named_bytes}
+use Rattle.dadsm_ops.specs.Naming.{IsToRename, RenamesSet, named_bytes}
 use Rattle.dadsm_ops.specs.Operations.{image_named}
 
 -- of an image two indices have the same geometry, VTOC and first slots, and find the same
@@ -24,13 +24,13 @@ module _ (image : List ℕ) (v w : Vol) (one : IsMounted image v) (other : IsMou
   same_geometry : v.geometry ≡ w.geometry
   same_geometry = let same : ◌≡◌ {A = Result Geometry ImageErr} (Ok v.geometry) (Ok w.geometry) = sym one.index.header ∙ other.index.header in cc
 
-  same_vtoc : v.vtoc ≡ w.vtoc
+  pub same_vtoc : v.vtoc ≡ w.vtoc
   same_vtoc = let same : ◌≡◌ {A = Result Run MountErr} (Ok v.vtoc) (Ok w.vtoc) = sym one.vtoc ∙ ap (vtoc_of image) same_geometry ∙ other.vtoc in cc
 
   same_slots : slots_of_vtoc image v.geometry v.vtoc ≡ slots_of_vtoc image w.geometry w.vtoc
   same_slots = ap (λ (g : Geometry). slots_of_vtoc image g v.vtoc) same_geometry ∙ ap (slots_of_vtoc image w.geometry) same_vtoc
 
-  same_firsts : v.firsts.items ≡ w.firsts.items
+  pub same_firsts : v.firsts.items ≡ w.firsts.items
   same_firsts = one.index.firsts ∙ ap (λ (g : Geometry). firsts_of image g v.vtoc) same_geometry ∙ ap (firsts_of image w.geometry) same_vtoc ∙ sym other.index.firsts
 
   same_place : (slot : ℕ) → place_of_slot v slot ≡ place_of_slot w slot
@@ -44,6 +44,20 @@ module _ (image : List ℕ) (v w : Vol) (one : IsMounted image v) (other : IsMou
       named_alike name v.slots.items (slots_of_vtoc image v.geometry v.vtoc) one.index.slots
       ∙ ap (position (is_named name)) same_slots
       ∙ sym (named_alike name w.slots.items (slots_of_vtoc image w.geometry w.vtoc) other.index.slots)
+
+  -- the serial is one, and the slot of a set that is to be renamed
+  pub same_serial : v.serial ≡ w.serial
+  same_serial =
+      let same : Some v.serial.bytes ≡ Some w.serial.bytes = sym one.index.serial ∙ ap (λ (g : Geometry). serial_on image g) same_geometry ∙ other.index.serial in
+      let bytes : v.serial.bytes ≡ w.serial.bytes = cc in
+      ap (λ (b : List ℕ). record { bytes = b }) bytes
+
+  pub same_to_rename : (old new : List ℕ) (slot : ℕ) → IsToRename v.slots.items old new slot → IsToRename w.slots.items old new slot
+  same_to_rename old new slot here = record {
+    found = sym (same_found old) ∙ here.found;
+    absent = sym (same_found new) ∙ here.absent;
+    others = here.others;
+  }
 
 -- so a rename leads to one list of files
 pub renames_once : (file : List ℕ) (old new : Dsn) (before one other : List File) → RenamesSet file old new before one → RenamesSet file old new before other → one ≡ other

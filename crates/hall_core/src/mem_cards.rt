@@ -53,11 +53,15 @@ impl Cards for MemCards {
 
     ghost reads = { λ cards. number_of_reads cards };
 
+    ghost empty_reads = { λ _. 0 };
+
     fn read(&mut self, buf: &mut [u8]) -> Result<usize, ReadFault>
         requires { 0 < length buf.old }
         ensures within { IfOk result (λ n. n ≤ length buf.old) }
         ensures told { GivesNext (bytes_left self.old) (bytes_left self.new) buf.new result }
         ensures once { number_of_reads self.new ≤ number_of_reads self.old + 1 }
+        ensures empty { 0 ≤ 0 + 1 }
+        ensures given { IfOk result (λ n. 0 < n → 0 ≤ 0) }
         ensures later { faults_counted self.old ≤ faults_counted self.new }
         ensures done { OnOk result (faults_counted self.new ≡ faults_counted self.old) }
         ensures failed { OnErr result (Rose (faults_counted self.old) (faults_counted self.new)) }

@@ -101,6 +101,8 @@ impl Machine for MapMachine {
 
     ghost asked = { λ machine. asked_nothing };
 
+    ghost holds = { λ machine op. Unit {0} };
+
     ghost promise = { λ machine ops t files. Unit {0} };
 
     ghost lawful = { λ machine told sound. machine.lawful };

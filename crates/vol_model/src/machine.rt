@@ -41,6 +41,9 @@ pub trait Machine {
     /// The operations and prints it was asked for so far, if it counts them.
     ghost asked: { Self → Asked };
 
+    /// Whether it holds all that an operation has to read, so that this makes no read of the hall.
+    ghost holds: { Self → requests.Op → Type 0 };
+
     /// What it promises besides of every stop since a moment, by the operations that were begun since, and the files on
     /// which it stood then.
     ghost promise: { Self → List requests.Op → ℕ → List File → Type 0 };
@@ -53,8 +56,8 @@ pub trait Machine {
     ///
     /// `Refused` carries the first reason, by the order of `Refusal`. A rename is judged by the names in the VTOC
     /// alone, so no fault, nor want of memory, comes in place of its refusal. It makes at most one read, one write and
-    /// one sync of the hall below; none where it is refused; and no write nor sync where memory is wanting. It counts
-    /// as one operation.
+    /// one sync of the hall below; no read where the machine holds what it has to read; none of them where it is refused;
+    /// and no write nor sync where memory is wanting. It counts as one operation.
     fn apply(&mut self, op: &Op) -> Result<(), MachErr>
         requires sound { IsTrue (status self.old).is_sound }
         ensures shelf { IsTrue tells → Applies op.now (meaning self.old) (meaning self.new) result }
@@ -62,6 +65,7 @@ pub trait Machine {
         ensures idle { IsTrue tells → IsIdle (step (meaning self.old).state op.now) result → Keeps (meaning self.old).clock [] (promise self.old) (promise self.new) }
         ensures call { MachineCall (status self.old) (status self.new) result }
         ensures calls { CallsAtMost 1 1 1 0 (calls self.old) (calls self.new) }
+        ensures held { holds self.old op.now → CallsAtMost 0 1 1 0 (calls self.old) (calls self.new) }
         ensures memory { IsErrOf result MachErr.Memory → CallsAtMost 1 0 0 0 (calls self.old) (calls self.new) }
         ensures refused { (r : Refusal) → IsErrOf result (MachErr.Refused r) → CallsAtMost 0 0 0 0 (calls self.old) (calls self.new) }
         ensures once { AsksAtMost 1 0 (asked self.old) (asked self.new) }

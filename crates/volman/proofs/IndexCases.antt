@@ -1,22 +1,26 @@
 -- An index behind a rename on the small pack, in which A, in the fourth slot, becomes C, as `KeepsIndex` of Machine.antt has it. Each comment names what a near reading would let through.
-use Rattle.std.proofs.Common.{◌≡◌, ◌≤◌, ⊎_elim, inl, inr, ℕ, List, [], ◌∷◌, drop, get_or, take, Option, Some, None, refl, sym, ap, subst, ◌∙◌, arith}
+use Rattle.std.proofs.Common.{◌≡◌, ◌≤◌, ◌<◌, ◌+◌, ⊎_elim, inl, inr, ℕ, List, [], ◌∷◌, drop, get_or, take, Option, Some, None, refl, sym, ap, subst, ◌∙◌, arith}
 use Rattle.std.specs.Prelude.{Result, Ok, Err, IsErrOf, slice_get, slice_set}
 use Rattle.ckd_image.specs.Track.{Record}
 use Rattle.dscb_codec.specs.declared.Dscb.{Dscb}
 use Rattle.dscb_codec.specs.declared.Dscb.TheVariants as formats
+use Rattle.ebcdic_names.specs.declared.names.Serial.{Serial}
 use Rattle.hall_core.specs.Facts.{Calls, uncounted}
+use Rattle.util_syntax.specs.declared.statement.Rename.{Rename as Statement}
 use Rattle.vol_model.specs.declared.answers.MachErr.{MachErr}
 use Rattle.vol_model.specs.declared.answers.MachErr.TheVariants.{Refused, Device}
 use Rattle.vol_model.specs.declared.refusals.Refusal.{Refusal}
 use Rattle.vol_model.specs.declared.refusals.Refusal.TheVariants.{NoSet, NoVolume, SetExists}
 use Rattle.vol_model.specs.declared.requests.Op.{Op}
 use Rattle.vol_model.specs.declared.requests.Op.TheVariants.{Rename}
+use Rattle.vtoc_index.specs.Index.{slots_in_front, track_index}
 use Rattle.vtoc_index.specs.declared.vol.Vol.{Vol}
 use Rattle.vtoc_index.proofs.HeldLemmas.{key_held}
 use Rattle.vtoc_index.proofs.PutCases.{c_stands}
-use Rattle.vtoc_index.proofs.SmallPack.{a, b, c, data_set, f1, f4, f5, index}
+use Rattle.vtoc_index.proofs.SmallPack.{a, b, c, data_set, f1, f4, f5, index, pack01}
 use Rattle.dadsm_ops.specs.Naming.{HoldsRenamed, RenamesEntry, under_name}
-use Rattle.volman.specs.Machine.{KeepsIndex, OperationCalls, refusal_by}
+use Rattle.volman.specs.Mount.{IsOnLastTrack}
+use Rattle.volman.specs.Machine.{HoldsFor, KeepsIndex, OperationCalls, refusal_by}
 
 -- A becomes C, on the volume of this number; C has no set, and B is there
 abbrev op : ℕ → List ℕ → List ℕ → Op
@@ -157,4 +161,56 @@ module _ (any : Vol) where
   calls_go_by_the_buffer = (
     λ calls. let wrong : 1 ≤ 0 = ((calls refl).again 3 (record { found = refl; absent = refl; others = refl }) (refl, omega arith)).0 in omega (arith, wrong),
     λ is. absurd (omega (arith, is)),
+  )
+
+  -- ---- what is held for an operation
+
+  -- the index with these records of the second track in its buffer
+  abbrev with_records : List Record → Vol
+  with_records records = record (index any) { buf = record (index any).buf { records = records } }
+
+  abbrev both_sets : List Record
+  both_sets = set_record b ∷ set_record a ∷ []
+
+  -- The slot of the set is held, on the only volume; not where the buffer ends before it, or has another track, nor is one for a set that isn't there.
+  set_is_held_for_its_rename :
+      HoldsFor (op 0 a c) (with_records both_sets)
+      × (¬ HoldsFor (op 0 a c) (with_records (set_record b ∷ [])))
+      × (¬ HoldsFor (op 0 a c) elsewhere)
+      × (¬ HoldsFor (op 1 a c) (with_records both_sets))
+      × (¬ HoldsFor (op 0 c a) (with_records both_sets))
+  set_is_held_for_its_rename = (
+    (refl, (3, record { found = refl; absent = refl; others = refl }, (refl, omega arith))),
+    λ holds.
+        let found : Some 3 ≡ Some holds.1.0 = holds.1.1.found in
+        let slot : 3 ≡ holds.1.0 = cc in
+        let wrong : 1 < 1 = subst (λ (k : ℕ). slots_in_front (0 ∷ 2 ∷ []) k < 1) (sym slot) holds.1.2.1 in
+        omega (arith, wrong),
+    λ holds.
+        let found : Some 3 ≡ Some holds.1.0 = holds.1.1.found in
+        let slot : 3 ≡ holds.1.0 = cc in
+        let wrong : 1 ≡ 2 = subst (λ (k : ℕ). 1 ≡ 1 + track_index (0 ∷ 2 ∷ []) k) (sym slot) holds.1.2.0 in
+        omega (arith, wrong),
+    λ holds. let wrong : 1 ≡ 0 = holds.0 in omega (arith, wrong),
+    λ holds. let none : ◌≡◌ {A = Option ℕ} None (Some holds.1.0) = holds.1.1.found in absurd (cc),
+  )
+
+  -- that A becomes C on the pack of this serial
+  abbrev statement : List ℕ → Statement
+  statement serial = record { old = record { bytes = a }; serial = record { bytes = serial }; new = record { bytes = c } }
+
+  -- the index with all slots on the first track
+  abbrev on_the_first : Vol
+  on_the_first = record (index any) { firsts = record (index any).firsts { items = 0 ∷ 4 ∷ [] } }
+
+  -- The set is on the last track, and not on one before it; and the pack is the one of that serial.
+  set_is_on_the_last_track : IsOnLastTrack (statement pack01) (index any) × (¬ IsOnLastTrack (statement pack01) on_the_first) × (¬ IsOnLastTrack (statement []) (index any))
+  set_is_on_the_last_track = (
+    record { serial = refl; slot = 3; found = record { found = refl; absent = refl; others = refl }; last = refl },
+    λ on.
+        let found : Some 3 ≡ Some on.slot = on.found.found in
+        let slot : 3 ≡ on.slot = cc in
+        let wrong : 1 ≡ 2 = subst (λ (k : ℕ). track_index (0 ∷ 4 ∷ []) k + 1 ≡ 2) (sym slot) on.last in
+        omega (arith, wrong),
+    λ on. let wrong : pack01 ≡ [] = ap (λ (serial : Serial). serial.bytes) on.serial in absurd (cc),
   )

@@ -3,7 +3,7 @@ use Rattle.std.specs.Prelude.{◌≡◌, ◌⊎◌, ◌==◌, ℕ, Bool, if◌th
 use Rattle.std.proofs.Common.{subst, sym}
 use Rattle.ckd_image.specs.Device.{row_of}
 use Rattle.ckd_image.specs.declared.header.Geometry.{Geometry}
-use Rattle.dadsm_ops.specs.Naming.{HoldsRenamed, RenameCalls, RenamesEntry, RenamesSome, refusal_in}
+use Rattle.dadsm_ops.specs.Naming.{HoldsRenamed, IsToRename, RenameCalls, RenamesEntry, RenamesSome, refusal_in}
 use Rattle.dadsm_ops.specs.Operations.{ChangesVtoc, image_named}
 use Rattle.dscb_codec.specs.declared.Dscb.{Dscb}
 use Rattle.hall_core.specs.Facts.{Attached, Calls, Facts}
@@ -25,6 +25,7 @@ use Rattle.vol_model.specs.declared.requests.Op.{Op}
 use Rattle.vol_model.specs.declared.requests.Op.TheVariants.{Rename}
 use Rattle.vtoc_index.specs.declared.vol.Vol.{Vol}
 use Rattle.vtoc_index.specs.Kept.{IsKept}
+use Rattle.vtoc_index.specs.Puts.{HoldsSlot}
 use Rattle.vtoc_index.proofs.KeptLemmas.{mounted_of}
 use Rattle.vtoc_index.proofs.LawfulVolumes.{lawful_mounted}
 
@@ -90,6 +91,10 @@ pub record KeepsIndex {T : Type 0} (op : Op) (old new : Vol) (result : Result T 
 -- the calls of an operation on the only volume, whose number is 0, by what the buffer of its index holds
 abbrev pub OperationCalls : {T : Type 0} → Op → Vol → Vol → Calls → Calls → Result T MachErr → Type 0
 OperationCalls (Rename v old new) before after calls calls' result = v ≡ 0 → RenameCalls old.bytes new.bytes before after calls calls' result
+
+-- the buffer of an index holds the slot that an operation on the only volume changes, so that it isn't read
+abbrev pub HoldsFor : Op → Vol → Type 0
+HoldsFor (Rename v old new) vol = (v ≡ 0) × ((slot : ℕ) × IsToRename vol.slots.items old.bytes new.bytes slot × HoldsSlot vol slot)
 
 -- the shelf of a mounted image is lawful
 pub lawful_in : (image : List ℕ) (v : Vol) → IsKept image v → IsLawful (shelf_in (volume_of image))

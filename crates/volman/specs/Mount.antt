@@ -1,11 +1,13 @@
 -- What is found in a file that is to be mounted.
-use Rattle.std.specs.Prelude.{◌≡◌, ◌≢◌, ℕ, List, Some}
+use Rattle.std.specs.Prelude.{◌≡◌, ◌≢◌, ℕ, ◌+◌, List, Some}
+use Rattle.dadsm_ops.specs.Naming.{IsToRename}
 use Rattle.hall_core.specs.Files.{File, file_of}
 use Rattle.pack_spec.specs.declared.MountErr.{MountErr}
 use Rattle.pack_spec.specs.declared.MountErr.TheVariants.{Memory, Device}
+use Rattle.util_syntax.specs.declared.statement.Rename.{Rename}
 use Rattle.vol_model.specs.declared.contents.Volume.{Volume}
 use Rattle.vtoc_index.specs.declared.vol.Vol.{Vol}
-use Rattle.vtoc_index.specs.Index.{IsMounted}
+use Rattle.vtoc_index.specs.Index.{IsMounted, track_index}
 use Rattle.volman.specs.Lines.{unit_line}
 use Rattle.volman.specs.Task.{Task, Says, task_on}
 
@@ -14,6 +16,13 @@ pub record IsPackIn (file : List ℕ) (files : List File) (v : Vol) : Type 0 whe
   pub image : List ℕ
   pub there : file_of files file ≡ Some image
   pub mounted : IsMounted image v
+
+-- An index has the serial that a statement names, and on the last track of its VTOC the slot that the statement changes.
+pub record IsOnLastTrack (s : Rename) (v : Vol) : Type 0 where
+  pub serial : v.serial ≡ s.serial
+  pub slot : ℕ
+  pub found : IsToRename v.slots.items s.old.bytes s.new.bytes slot
+  pub last : track_index v.firsts.items slot + 1 ≡ v.vtoc.len
 
 -- Whatever was to be done, this is why the file is refused; want of memory and a fault of the device say nothing of it.
 pub record RefusesFile (file : List ℕ) (files : List File) (e : MountErr) : Type 0 where

@@ -42,6 +42,7 @@ pub fn read_deck<C: Cards>(cards: &mut C) -> Result<Rename, DeckErr>
     ensures taken { IsTrue C.tells → TakesAtMost 83 (C.left cards.old) (C.left cards.new) }
     ensures reads { C.reads cards.new ≤ C.reads cards.old + 83 }
     ensures ends { IsTrue C.tells → C.reads cards.new + length (C.left cards.new) ≤ C.reads cards.old + length (C.left cards.old) + 1 }
+    ensures empty { C.empty_reads cards.new ≤ C.empty_reads cards.old + 1 }
     ensures read { IsErrOf result DeckErr.Read → Rose (C.faults cards.old) (C.faults cards.new) }
     ensures others { ¬ IsErrOf result DeckErr.Read → C.faults cards.new ≡ C.faults cards.old }
     ensures later { C.faults cards.old ≤ C.faults cards.new }
@@ -59,6 +60,7 @@ fn fill<C: Cards>(cards: &mut C, bytes: &mut [u8]) -> Result<usize, ReadFault>
     ensures taken { IsTrue C.tells → TakesAtMost (length bytes.old) (C.left cards.old) (C.left cards.new) }
     ensures reads { C.reads cards.new ≤ C.reads cards.old + length bytes.old }
     ensures ends { IsTrue C.tells → C.reads cards.new + length (C.left cards.new) ≤ C.reads cards.old + length (C.left cards.old) + 1 }
+    ensures empty { C.empty_reads cards.new ≤ C.empty_reads cards.old + 1 }
     ensures done { OnOk result (C.faults cards.new ≡ C.faults cards.old) }
     ensures failed { OnErr result (Rose (C.faults cards.old) (C.faults cards.new)) }
     ensures later { C.faults cards.old ≤ C.faults cards.new }

@@ -127,8 +127,10 @@ impl<'a, R: Files<File = File> + Print> FileHall<'a, R> {
     }
 
     // Makes the data of each unit durable that may have been written since the last sync, and of no
-    // other.
-    fn sync_written(&self) -> io::Result<()> {
+    // other: where there is none the system isn't asked, and so can't fail.
+    fn sync_written(&self) -> io::Result<()>
+        ensures none { All IsFalse (notes_of self.now) → result ≡ Ok tt }
+    {
         for unit in &self.units {
             if unit.is_written {
                 unit.file.sync_data()?;
@@ -241,6 +243,7 @@ impl<R: Files<File = File> + Print> Hall for FileHall<'_, R> {
         ensures call { DeviceCall (facts_of self.old) (facts_of self.new) result }
         ensures calls { CallsAtMost 0 0 1 0 uncounted uncounted }
         ensures error { IfErr result (λ e. e ≡ HallErr.Failed) }
+        ensures none { All IsFalse (notes_of self.old) → result ≡ Ok tt }
         ensures synced { OnOk result (All IsFalse (notes_of self.new)) }
         ensures files { map (λ (u : Unit). u.file) self.new.units.items ≡ map (λ (u : Unit). u.file) self.old.units.items }
         ensures kept { OnErr result (notes_of self.new ≡ notes_of self.old) }

@@ -11,7 +11,7 @@ ghost use Rattle.vol_model.specs.Shelf.{number_of, step};
 ghost use Rattle.vtoc_index.specs.Index.{IsMounted, IsOfUnit};
 ghost use Rattle.vtoc_index.specs.Kept.{IsKept};
 ghost use Rattle.vtoc_index.proofs.KeptProps.{kept_props};
-ghost use Rattle.volman.specs.Machine.{ChangesOnlyNames, KeepsIndex, OperationCalls, lawful_in, shelf_named, status_of};
+ghost use Rattle.volman.specs.Machine.{ChangesOnlyNames, HoldsFor, KeepsIndex, OperationCalls, lawful_in, shelf_named, status_of};
 
 use dadsm_ops::rename;
 use ebcdic_names::{Dsn, Serial};
@@ -81,6 +81,7 @@ impl<H: Hall> PackMachine<H> {
         ensures idle { IsTrue H.tells → IsIdle (step (shelf_named (unit_of (H.facts self.old.hall).units self.old.vol.unit).name (H.meaning self.old.hall).state) (Op.Rename v old.now new.now)) result → Keeps (H.meaning self.old.hall).clock [] (ChangesOnlyNames (unit_of (H.facts self.old.hall).units self.old.vol.unit).name self.old.vol.geometry self.old.vol.vtoc (H.meaning self.old.hall)) (ChangesOnlyNames (unit_of (H.facts self.new.hall).units self.new.vol.unit).name self.new.vol.geometry self.new.vol.vtoc (H.meaning self.new.hall)) }
         ensures call { MachineCall (status_of self.old.is_sound (H.facts self.old.hall) self.old.vol) (status_of self.new.is_sound (H.facts self.new.hall) self.new.vol) result }
         ensures calls { CallsAtMost 1 1 1 0 (H.calls self.old.hall) (H.calls self.new.hall) }
+        ensures held { HoldsFor (Op.Rename v old.now new.now) self.old.vol → CallsAtMost 0 1 1 0 (H.calls self.old.hall) (H.calls self.new.hall) }
         ensures refused { (r : Refusal) → IsErrOf result (MachErr.Refused r) → CallsAtMost 0 0 0 0 (H.calls self.old.hall) (H.calls self.new.hall) }
         ensures memory { IsErrOf result MachErr.Memory → ⊥ }
         ensures index { KeepsIndex (Op.Rename v old.now new.now) self.old.vol self.new.vol result }
@@ -116,6 +117,8 @@ impl<H: Hall> Machine for PackMachine<H> {
 
     ghost asked = { λ m. asked_nothing };
 
+    ghost holds = { λ m op. HoldsFor op m.vol };
+
     ghost promise = { λ m ops t files. ChangesOnlyNames (unit_of (H.facts m.hall).units m.vol.unit).name m.vol.geometry m.vol.vtoc (H.meaning m.hall) ops t files };
 
     ghost lawful = { λ m told sound. lawful_in _ _ (m.kept sound told) };
@@ -139,6 +142,7 @@ impl<H: Hall> Machine for PackMachine<H> {
         ensures idle { IsTrue H.tells → IsIdle (step (shelf_named (unit_of (H.facts self.old.hall).units self.old.vol.unit).name (H.meaning self.old.hall).state) op.now) result → Keeps (H.meaning self.old.hall).clock [] (ChangesOnlyNames (unit_of (H.facts self.old.hall).units self.old.vol.unit).name self.old.vol.geometry self.old.vol.vtoc (H.meaning self.old.hall)) (ChangesOnlyNames (unit_of (H.facts self.new.hall).units self.new.vol.unit).name self.new.vol.geometry self.new.vol.vtoc (H.meaning self.new.hall)) }
         ensures call { MachineCall (status_of self.old.is_sound (H.facts self.old.hall) self.old.vol) (status_of self.new.is_sound (H.facts self.new.hall) self.new.vol) result }
         ensures calls { CallsAtMost 1 1 1 0 (H.calls self.old.hall) (H.calls self.new.hall) }
+        ensures held { HoldsFor op.now self.old.vol → CallsAtMost 0 1 1 0 (H.calls self.old.hall) (H.calls self.new.hall) }
         ensures refused { (r : Refusal) → IsErrOf result (MachErr.Refused r) → CallsAtMost 0 0 0 0 (H.calls self.old.hall) (H.calls self.new.hall) }
         ensures memory { IsErrOf result MachErr.Memory → ⊥ }
         ensures index { KeepsIndex op.now self.old.vol self.new.vol result }

@@ -5,6 +5,7 @@ ghost use Rattle.hall_core.specs.Moments.{Same};
 ghost use Rattle.dadsm_ops.specs.Operations.{image_named};
 ghost use Rattle.vtoc_index.specs.Calls.{reads_to_mount};
 ghost use Rattle.vtoc_index.specs.Index.{IsOfUnit};
+ghost use Rattle.vtoc_index.specs.Puts.{HoldsItsTrack};
 ghost use Rattle.volman.specs.Mount.{IsPackIn, RefusesFile};
 ghost use Rattle.volman.specs.Run.{AttachesAtMost};
 
@@ -16,13 +17,16 @@ use vtoc_index::{MountErr, Vol, read_vtoc};
 ///
 /// `NoFile` comes where the file is missing, `Device` where the device failed, and `Memory` where memory
 /// ran out; any other error is the first rule of mounting that the image breaks. Nothing but the time
-/// changes, also behind an error, but that the file may be attached then.
+/// changes, also behind an error, but that the file may be attached then. The index holds the last track of
+/// the VTOC, which was read last.
 #[tactic(auto, using(hall_core::proofs::MomentLemmas::same_then))]
 pub fn mount<H: Hall>(alloc: Global, hall: &mut H, file: &str) -> Result<Vol, MountErr>
     requires { (H.facts hall.old).units ≡ [] }
     ensures mounted { IsTrue H.tells → IfOk result (IsPackIn file.now (H.meaning hall.old).state) }
     ensures refused { IsTrue H.tells → IfErr result (RefusesFile file.now (H.meaning hall.old).state) }
     ensures unit { IfOk result (λ vol. IsOfUnit (H.facts hall.new).units vol × ((unit_of (H.facts hall.new).units vol.unit).name ≡ file.now)) }
+    ensures last { IfOk result (λ vol. vol.buf.track + 1 ≡ vol.vtoc.start + vol.vtoc.len) }
+    ensures held { IfOk result HoldsItsTrack }
     ensures told { IsTrue H.tells → Same (H.meaning hall.old) (H.meaning hall.new) }
     ensures units { AttachesAtMost file.now (H.facts hall.old) (H.facts hall.new) }
     ensures missing { IsErrOf result MountErr.NoFile → ((H.facts hall.new).units ≡ (H.facts hall.old).units) × AttachesOnce 0 0 0 0 (H.calls hall.old) (H.calls hall.new) }

@@ -1,11 +1,11 @@
 //! A RENAME statement on any machine.
-ghost use Rattle.std.specs.Prelude.{◌≡◌, ◌≢◌, ◌⊎◌, [], ◌∷◌, map, None, IsErrOf, IsTrue, IfOk, OnOk, OnErr};
+ghost use Rattle.std.specs.Prelude.{◌≡◌, ◌≢◌, ◌⊎◌, [], ◌∷◌, ℕ, map, Some, None, IsErrOf, IsTrue, IfOk, OnOk, OnErr};
 ghost use Rattle.hall_core.specs.Facts.{CallsAtMost};
 ghost use Rattle.vol_model.specs.Calls.{AsksAtMost, Keeps};
 ghost use Rattle.vol_model.specs.Events.{Do, Say, events_in, shelf_behind};
 ghost use Rattle.vol_model.specs.Runs.{Runs, RunCall};
 ghost use Rattle.vol_model.specs.Shelf.{number_of};
-ghost use Rattle.volman.specs.Statement.{IsCode, OnlyPrints, answer_line, code_for, item_of, item_on};
+ghost use Rattle.volman.specs.Statement.{IsCode, OnlyPrints, answer_line, code_for, item_of, item_on, operation_on};
 
 use std::alloc::Global;
 use util_syntax::{Rename, result_line};
@@ -39,6 +39,7 @@ pub fn run_rename<M: Machine>(
     ensures line { IsTrue M.tells → IsErrOf result Stop.Print → (before : M) × OnlyPrints (M.status machine.old) (M.status before) (M.meaning before) (M.meaning machine.new) (M.promise before) (M.promise machine.new) }
     ensures promise { IsTrue M.tells → Keeps (M.meaning machine.old).clock (item_of (M.meaning machine.old).state statement.now).operations (M.promise machine.old) (M.promise machine.new) }
     ensures calls { CallsAtMost 1 1 1 1 (M.calls machine.old) (M.calls machine.new) }
+    ensures held { (v : ℕ) → volume ≡ Some v → M.holds machine.old (operation_on statement.now v) → CallsAtMost 0 1 1 1 (M.calls machine.old) (M.calls machine.new) }
     ensures refused { IfOk result (λ code. code ≡ 8 → CallsAtMost 0 0 0 1 (M.calls machine.old) (M.calls machine.new)) }
     ensures once { AsksAtMost 1 1 (M.asked machine.old) (M.asked machine.new) }
     ensures unasked { volume ≡ None → AsksAtMost 0 1 (M.asked machine.old) (M.asked machine.new) }
@@ -67,6 +68,7 @@ fn rename<M: Machine>(
     ensures printed { IsTrue M.tells → (M.meaning machine.new).printed ≡ (M.meaning machine.old).printed }
     ensures promise { IsTrue M.tells → Keeps (M.meaning machine.old).clock (item_on (M.meaning machine.old).state statement.now volume).operations (M.promise machine.old) (M.promise machine.new) }
     ensures calls { CallsAtMost 1 1 1 0 (M.calls machine.old) (M.calls machine.new) }
+    ensures held { (v : ℕ) → volume ≡ Some v → M.holds machine.old (operation_on statement.now v) → CallsAtMost 0 1 1 0 (M.calls machine.old) (M.calls machine.new) }
     ensures refused { IfOk result (λ outcome. OnErr outcome (CallsAtMost 0 0 0 0 (M.calls machine.old) (M.calls machine.new))) }
     ensures changed { IsTrue M.tells → IfOk result (λ outcome. OnOk outcome ((M.meaning machine.new).state ≢ (M.meaning machine.old).state)) }
     ensures memory { IsErrOf result Stop.Memory → CallsAtMost 1 0 0 0 (M.calls machine.old) (M.calls machine.new) }

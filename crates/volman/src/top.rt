@@ -4,8 +4,11 @@ ghost use Rattle.hall_core.specs.Facts.{AttachesOnce, CallsAtMost, Rose};
 ghost use Rattle.hall_core.specs.Files.{file_of};
 ghost use Rattle.dadsm_ops.specs.Operations.{image_named};
 ghost use Rattle.vtoc_index.specs.Calls.{reads_to_mount};
+ghost use Rattle.vtoc_index.specs.Index.{IsMounted};
+ghost use Rattle.vtoc_index.specs.declared.vol.Vol.{Vol};
 ghost use Rattle.volman.specs.Deck.{TakesAtMost, deck_of};
 ghost use Rattle.volman.specs.Lines.{names_listing, unit_line};
+ghost use Rattle.volman.specs.Mount.{IsOnLastTrack};
 ghost use Rattle.volman.specs.Names.{IsListing, names_in};
 ghost use Rattle.hall_core.specs.Moments.{IsDurable};
 ghost use Rattle.volman.specs.Run.{AttachesAsked, CountsReported, Does, Headline, IsStatus, IsUnasked, IsUnbegun, Later, LeavesFiles, OnFile, PrintsText, code_of};
@@ -74,6 +77,7 @@ pub fn volman<C: Cards, H: Hall>(
     ensures taken { IsTrue C.tells → TakesAtMost 83 (C.left cards.old) (C.left cards.new) }
     ensures reads { C.reads cards.new ≤ C.reads cards.old + 83 }
     ensures ends { IsTrue C.tells → C.reads cards.new + length (C.left cards.new) ≤ C.reads cards.old + length (C.left cards.old) + 1 }
+    ensures empty { C.empty_reads cards.new ≤ C.empty_reads cards.old + 1 }
     ensures cards { ((file : List ℕ) → asked_in words ≢ Some (Run file)) → cards.new ≡ cards.old }
 
     // Causes of every status, over any hall and any cards: the words are refused only where they ask for
@@ -117,10 +121,11 @@ pub fn volman<C: Cards, H: Hall>(
     ensures unchanged { IsTrue H.tells → result ≡ 25 → (H.meaning hall.new).state ≡ (H.meaning hall.old).state → AttachesOnce 260 0 0 0 (H.calls hall.old) (H.calls hall.new) }
 
     // Over a hall that tells, there are no more reads than the image in the file takes to be mounted or refused, and
-    // one more for a statement that isn't refused.
+    // one more for a statement that isn't refused, but where its slot is on the last track of the VTOC.
     ensures reads_names { IsTrue H.tells → (file : List ℕ) → asked_in words ≡ Some (Names file) → AttachesOnce (reads_to_mount (image_named (H.meaning hall.old).state file)) 0 0 1 (H.calls hall.old) (H.calls hall.new) }
     ensures reads_refused { IsTrue H.tells → (file : List ℕ) → asked_in words ≡ Some (Run file) → result ≡ 8 → AttachesOnce (reads_to_mount (image_named (H.meaning hall.old).state file)) 0 1 1 (H.calls hall.old) (H.calls hall.new) }
     ensures reads_run { IsTrue H.tells → (file : List ℕ) → asked_in words ≡ Some (Run file) → AttachesOnce (reads_to_mount (image_named (H.meaning hall.old).state file) + 1) 1 2 1 (H.calls hall.old) (H.calls hall.new) }
+    ensures reads_held { IsTrue H.tells → IsTrue C.tells → (file : List ℕ) → asked_in words ≡ Some (Run file) → (statement : Rename) → deck_of (C.left cards.old) ≡ Some statement → (vol : Vol) → IsMounted (image_named (H.meaning hall.old).state file) vol → IsOnLastTrack statement vol → AttachesOnce (reads_to_mount (image_named (H.meaning hall.old).state file)) 1 2 1 (H.calls hall.old) (H.calls hall.new) }
 
     // The words come first, then the deck, then the file: none is attached where the words or the deck
     // are refused, or the cards couldn't be read, and nothing but a print is done then.
@@ -198,6 +203,7 @@ fn run<H: Hall>(alloc: Global, hall: &mut H, file: &str, statement: &Rename) -> 
     ensures unchanged { IsTrue H.tells → result ≡ 25 → (H.meaning hall.new).state ≡ (H.meaning hall.old).state → AttachesOnce 260 0 0 0 (H.calls hall.old) (H.calls hall.new) }
     ensures reads_refused { IsTrue H.tells → result ≡ 8 → AttachesOnce (reads_to_mount (image_named (H.meaning hall.old).state file.now)) 0 1 1 (H.calls hall.old) (H.calls hall.new) }
     ensures reads { IsTrue H.tells → AttachesOnce (reads_to_mount (image_named (H.meaning hall.old).state file.now) + 1) 1 2 1 (H.calls hall.old) (H.calls hall.new) }
+    ensures held { IsTrue H.tells → (vol : Vol) → IsMounted (image_named (H.meaning hall.old).state file.now) vol → IsOnLastTrack statement.now vol → AttachesOnce (reads_to_mount (image_named (H.meaning hall.old).state file.now)) 1 2 1 (H.calls hall.old) (H.calls hall.new) }
     ensures call { OnFile file.now (H.facts hall.old) (H.facts hall.new) result }
 {
     match mount(alloc, hall, file) {

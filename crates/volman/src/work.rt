@@ -1,11 +1,13 @@
 //! A statement on a pack that is mounted.
-ghost use Rattle.std.specs.Prelude.{◌≡◌, ◌≤◌, ◌⊎◌, [], ◌∷◌, IsTrue, Ok};
+ghost use Rattle.std.specs.Prelude.{◌≡◌, ◌≤◌, ◌⊎◌, ℕ, [], ◌∷◌, IsTrue, Ok};
 ghost use Rattle.hall_core.specs.Facts.{CallsAtMost, Rose, unit_of};
 ghost use Rattle.hall_core.specs.Files.{image_of};
 ghost use Rattle.hall_core.specs.Moments.{IsDurable};
 ghost use Rattle.vol_model.specs.declared.contents.Volume.{Volume};
 ghost use Rattle.pack_spec.specs.Volume.{volume_of};
+ghost use Rattle.dadsm_ops.specs.Naming.{IsToRename};
 ghost use Rattle.vtoc_index.specs.Index.{IsMounted, IsOfUnit};
+ghost use Rattle.vtoc_index.specs.Puts.{HoldsSlot};
 ghost use Rattle.volman.specs.Machine.{shelf_with};
 ghost use Rattle.volman.specs.Run.{CountsReported, Later, Synced, WorksOn};
 ghost use Rattle.volman.specs.Statement.{IsCode, item_of};
@@ -36,6 +38,7 @@ pub fn run_statement<H: Hall>(alloc: Global, statement: &Rename, vol: Vol, hall:
     ensures device { result.0 ≡ 22 → Rose (H.facts hall).dev_faults (H.facts result.1).dev_faults }
     ensures print { result.0 ≡ 24 → Rose (H.facts hall).print_faults (H.facts result.1).print_faults }
     ensures calls { CallsAtMost 1 1 2 1 (H.calls hall) (H.calls result.1) }
+    ensures held { vol.serial ≡ statement.now.serial → (slot : ℕ) → IsToRename vol.slots.items statement.now.old.bytes statement.now.new.bytes slot → HoldsSlot vol slot → CallsAtMost 0 1 2 1 (H.calls hall) (H.calls result.1) }
     ensures refused { result.0 ≡ 8 → CallsAtMost 0 0 1 1 (H.calls hall) (H.calls result.1) }
     ensures unsaid { result.0 ≡ 24 → CallsAtMost 1 1 1 1 (H.calls hall) (H.calls result.1) }
     ensures unprinted { result.0 ≡ 25 → CallsAtMost 1 1 1 0 (H.calls hall) (H.calls result.1) }

@@ -19,7 +19,7 @@ use Rattle.pack_spec.specs.declared.MountErr.{MountErr}
 use Rattle.pack_spec.specs.declared.MountErr.TheVariants.{Memory, Device, VtocTrack}
 use Rattle.vtoc_index.specs.Calls.{MountCall}
 use Rattle.vtoc_index.specs.Index.{IsReason}
-use Rattle.vtoc_index.specs.Reading.{AreNumbered, AreTracksRead, Refuses}
+use Rattle.vtoc_index.specs.Reading.{AreNumbered, AreTracksRead, LastTrackHas, Refuses}
 use Rattle.vtoc_index.specs.declared.tracks.ReadSlots.{ReadSlots}
 
 -- a track that is reported broken has no records
@@ -159,5 +159,6 @@ pub record KeepsReading (tells : Bool) (c0 c : Calls) (f0 f : Facts) (m0 m : Mea
   pub slots : BeginsWith r0.slots.items r.slots.items
   pub firsts : BeginsWith r0.firsts.items r.firsts.items
   pub last : b0.track ≡ start → b.track + 1 ≡ start + len
+  pub held : LastTrackHas (length b0.records) r0 → LastTrackHas (length b.records) r
   pub read : IsTrue tells → AreTracksRead image g start 1 r0 → AreTracksRead image g start len r
   pub stands : IsTrue tells → StandsOn image b0 → StandsOn image b

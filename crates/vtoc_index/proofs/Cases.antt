@@ -1,5 +1,5 @@
 -- Definitions on cases at which near readings of them give something else.
-use Rattle.std.proofs.Common.{◌≡◌, ◌≢◌, ◌+◌, inl, inr, ℕ, List, [], ◌∷◌, ◌++◌, get_or, length, replicate, Some, None, refl, sym, ap, subst, ◌∙◌, arith}
+use Rattle.std.proofs.Common.{◌≡◌, ◌≢◌, ◌+◌, ◌-◌, inl, inr, ℕ, List, [], ◌∷◌, ◌++◌, get_or, length, replicate, Some, None, refl, sym, ap, subst, ◌∙◌, arith}
 use Rattle.std.specs.Prelude.{Option, Result, Ok, Err}
 use Rattle.std.specs.List.{range_with_len}
 use Rattle.ckd_image.specs.declared.device.DiskType.TheVariants.{D2311, D2314}
@@ -29,7 +29,7 @@ use Rattle.vtoc_index.specs.Contents.{AreDscbs, AreRead, IsContent, IsRead, with
 use Rattle.vtoc_index.specs.Index.{AreFirsts, IsIndexOf, IsOfUnit, IsPut, IsReason, firsts_of, place_of_slot, serial_on, slots_in_front, track_index}
 use Rattle.vtoc_index.specs.Kept.{IsKept}
 use Rattle.vtoc_index.specs.Puts.{HasSlot, IsHeld, IsReplaced, IsWith, SameBut}
-use Rattle.vtoc_index.specs.Reading.{Adds, AreNumbered, AreTracksRead, IsExtent, IsLabel, Refuses, Says, record_number, slot_of}
+use Rattle.vtoc_index.specs.Reading.{Adds, AreNumbered, AreTracksRead, IsExtent, IsLabel, LastTrackHas, Refuses, Says, record_number, slot_of}
 use Rattle.vtoc_index.specs.Rules.{HasExtentsOf}
 use Rattle.vtoc_index.specs.declared.label.Label.{Label}
 use Rattle.vtoc_index.specs.declared.slots.ReadSlot.{ReadSlot}
@@ -226,6 +226,12 @@ numbered_otherwise f found = (
   λ is are. let first = rw is at are.firsts in omega (arith, first.0),
   λ is are. read_from_no_bytes f are.read.0 (subst (λ (xs : List ReadSlot). AreRead xs are.read.0) is are.read.1),
 )
+
+-- the last track has the slots from its first on, and neither all slots nor those before it
+last_track : (found : ReadSlots) → length found.slots.items ≡ 5 → found.firsts.items ≡ 0 ∷ 2 ∷ [] → LastTrackHas 3 found × (¬ LastTrackHas 5 found) × (¬ LastTrackHas 2 found)
+last_track found many firsts =
+    let first : get_or found.firsts.items (length found.firsts.items - 1) 0 ≡ 2 = ap (λ (l : List ℕ). get_or l (length l - 1) 0) firsts in
+    (omega (arith, many, first), λ has. omega (arith, many, first, has), λ has. omega (arith, many, first, has))
 
 -- the fields of a format 1 that lead to its extents
 extents_are : (f : F1) → HasExtentsOf f (range_with_len 0 140) → (f.extents ≡ 59) × (f.runs ≡ range_with_len 105 10 ∷ range_with_len 115 10 ∷ range_with_len 125 10 ∷ []) × (f.pointer ≡ 135 ∷ 136 ∷ 137 ∷ 138 ∷ 139 ∷ [])

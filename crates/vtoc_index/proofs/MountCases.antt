@@ -293,6 +293,11 @@ reads_of_the_image : reads_to_mount image ≡ 4
 unfolding reads_to_mount geometry_of geometry_on vtoc_of vtoc_at label_of label_in slots_on records_on track_bytes records_of is_front records_to_end records_up_to
 reads_of_the_image = refl
 
+-- An image that is too short for a header is refused behind none, and one of the header alone behind one.
+reads_of_a_short_image : (reads_to_mount (take 511 image) ≡ 0) × (reads_to_mount (take 512 image) ≡ 1)
+unfolding reads_to_mount geometry_of geometry_on
+reads_of_a_short_image = (refl, refl)
+
 -- By the header alone an image is refused behind one read, and for want of a label, or by the address in it, behind two.
 reads_of_a_byte_too_many : reads_to_mount (image ++ 0 ∷ []) ≡ 1
 unfolding reads_to_mount geometry_of geometry_on

@@ -24,8 +24,8 @@ use Rattle.pack_spec.specs.Slots.{slots_at, slots_of_vtoc}
 use Rattle.pack_spec.specs.Vtoc.{slots_on}
 use Rattle.pack_spec.specs.Written.{label_bytes}
 use Rattle.vtoc_index.specs.Contents.{AreDscbs, with_bytes}
-use Rattle.vtoc_index.specs.Index.{IsPut, place_of_slot}
-use Rattle.vtoc_index.specs.Puts.{AfterPut, HoldsDscb, HoldsSlot, IsReplaced}
+use Rattle.vtoc_index.specs.Index.{IsPut, place_of_slot, slots_in_front, track_index}
+use Rattle.vtoc_index.specs.Puts.{AfterPut, HoldsDscb, HoldsItsTrack, HoldsSlot, IsReplaced}
 use Rattle.vtoc_index.specs.declared.vol.Vol.{Vol}
 use Rattle.vtoc_index.proofs.HeldLemmas.{data_held, key_held}
 use Rattle.vtoc_index.proofs.MountCases.{index_is_mounted}
@@ -182,6 +182,40 @@ module _ (any : Vol) where
   slot_itself_is_held = (
     λ holds. let wrong : 1 < 1 = holds.1 in omega (arith, wrong),
     λ holds. let wrong : 0 < 0 = holds.1 in omega (arith, wrong),
+  )
+
+  -- It holds its track where it holds each slot of that, on the second as on the first. Behind the VTOC there is none.
+  each_slot_of_the_track_is_held : HoldsItsTrack (with_buffer 2 both_sets) × HoldsItsTrack (with_buffer 1 both_sets) × HoldsItsTrack (with_buffer 3 [])
+  unfolding both_sets
+  each_slot_of_the_track_is_held = (second, first, behind)
+    where
+      second : (slot : ℕ) → slot < 4 → 2 ≡ 1 + track_index (0 ∷ 2 ∷ []) slot → slots_in_front (0 ∷ 2 ∷ []) slot < 2
+      second zero below at = omega (arith, at)
+      second (suc zero) below at = omega (arith, at)
+      second (suc (suc zero)) below at = omega arith
+      second (suc (suc (suc zero))) below at = omega arith
+      second (suc (suc (suc (suc k)))) below at = absurd (omega arith)
+
+      first : (slot : ℕ) → slot < 4 → 1 ≡ 1 + track_index (0 ∷ 2 ∷ []) slot → slots_in_front (0 ∷ 2 ∷ []) slot < 2
+      first zero below at = omega arith
+      first (suc zero) below at = omega arith
+      first (suc (suc zero)) below at = omega (arith, at)
+      first (suc (suc (suc zero))) below at = omega (arith, at)
+      first (suc (suc (suc (suc k)))) below at = absurd (omega arith)
+
+      behind : (slot : ℕ) → slot < 4 → 3 ≡ 1 + track_index (0 ∷ 2 ∷ []) slot → slots_in_front (0 ∷ 2 ∷ []) slot < 0
+      behind zero below at = omega (arith, at)
+      behind (suc zero) below at = omega (arith, at)
+      behind (suc (suc zero)) below at = omega (arith, at)
+      behind (suc (suc (suc zero))) below at = omega (arith, at)
+      behind (suc (suc (suc (suc k)))) below at = absurd (omega arith)
+
+  -- the last slot of the track is missing, or all of them are
+  track_is_held_to_its_last_slot : (¬ HoldsItsTrack (with_buffer 2 (record_of 44 b [] ∷ []))) × (¬ HoldsItsTrack (with_buffer 1 (record_of 44 b [] ∷ []))) × (¬ HoldsItsTrack (index any))
+  track_is_held_to_its_last_slot = (
+    λ holds. let wrong : 1 < 1 = holds 3 (omega arith) refl in omega (arith, wrong),
+    λ holds. let wrong : 1 < 1 = holds 1 (omega arith) refl in omega (arith, wrong),
+    λ holds. let wrong : 0 < 0 = holds 2 (omega arith) refl in omega (arith, wrong),
   )
 
 -- Key and data are as long as those of a slot.

@@ -1,9 +1,11 @@
 -- How many reads mount an image, as far as it is known where they are made.
-use Rattle.std.proofs.Common.{◌≡◌, ◌≤◌, ℕ, zero, suc, ◌+◌, ◌-◌, Bool, true, false, List, [], length, take, Option, Some, None, refl, sym, ap, subst, ◌∙◌, arith}
+use Rattle.std.proofs.Common.{◌≡◌, ◌≤◌, ◌<◌, ℕ, zero, suc, ◌+◌, ◌-◌, Bool, true, false, List, [], length, take, Option, Some, None, refl, sym, ap, subst, ◌∙◌, arith}
 use Rattle.std.specs.Prelude.{Ok, Err, cond, is_none, nat_lt, not, option_and_then}
 use Rattle.std.specs.List.{cons_option, filter_map, position_or_len, range_with_len}
 use Rattle.std.specs.Option.{option_map_or}
+use Rattle.std.proofs.lemmas.Bool.Decides.{nat_tests}
 use Rattle.ckd_image.specs.declared.header.Geometry.{Geometry}
+use Rattle.ckd_image.specs.declared.header.ImageErr.TheVariants.{BadMagic}
 use Rattle.ckd_image.specs.Header.{geometry_of}
 use Rattle.ckd_image.specs.Track.{Record}
 use Rattle.hall_core.specs.Facts.{Calls, CallsAtMost}
@@ -14,10 +16,11 @@ use Rattle.pack_spec.specs.Vtoc.{first_slot, is_vtoc_extent, slots_on, vtoc_by, 
 use Rattle.pack_spec.specs.declared.address.Address.{Address}
 use Rattle.pack_spec.specs.declared.MountErr.{MountErr}
 use Rattle.pack_spec.specs.declared.MountErr.TheVariants.{BadVtoc, VtocTrack}
-use Rattle.vtoc_index.specs.Calls.{first_track_reads, reads_behind_header, reads_behind_label, reads_to_mount, tracks_to_read, vtoc_reads}
+use Rattle.vtoc_index.specs.Calls.{first_track_reads, header_reads, reads_behind_header, reads_behind_label, reads_to_mount, tracks_to_read, vtoc_reads}
 use Rattle.vtoc_index.specs.Reading.{IsLabel, vtoc_on}
 use Rattle.vtoc_index.specs.declared.label.Label.{Label}
 use Rattle.vtoc_index.proofs.CallsMade.{reads_then, reads_within}
+use Rattle.vtoc_index.proofs.Images.{short_refused}
 use Rattle.vtoc_index.proofs.Reasons.{chosen, label_there, vtoc_inside}
 
 -- a track that breaks a rule
@@ -79,14 +82,39 @@ tracks_are_read image g at vtoc x begins read extent =
     (ap (λ o. vtoc_reads image g o (vtoc_on image g at)) (ap (λ (t : ℕ). records_on image g None t) (sym begins) ∙ read)
     ∙ ap (λ r. vtoc_reads image g (Some x) r) extent)
 
--- the header is read, and where it is one, the label's track
-pub one_of_image : (image : List ℕ) (old new : Calls) → CallsAtMost 1 0 0 0 old new → CallsAtMost (reads_to_mount image) 0 0 0 old new
-unfolding reads_to_mount
-one_of_image image old new calls = reads_within 1 (reads_to_mount image) old new (omega arith) calls
+-- a header that gives a geometry was read
+header_there : (bytes : List ℕ) (len : ℕ) (g : Geometry) → geometry_of bytes len ≡ Ok g → header_reads len ≡ 1
+header_there bytes len g is = by_test (nat_lt len 512) refl
+  where
+    by_test : (b : Bool) → nat_lt len 512 ≡ b → header_reads len ≡ 1
+    by_test true test =
+        let short : len < 512 = grind (arith, nat_tests) in
+        let no : Err BadMagic ≡ Ok g = sym (short_refused bytes len short) ∙ is in
+        absurd (cc no)
+    by_test false test = ap (λ b. cond b 0 1) test
 
+-- a file has a header to read, or is too short for one and isn't read
+pub header_of_image : (image : List ℕ) (size : ℕ) (old new : Calls) → length image ≡ size → (size < 512 → CallsAtMost 0 0 0 0 old new) → CallsAtMost 1 0 0 0 old new → CallsAtMost (reads_to_mount image) 0 0 0 old new
+unfolding reads_to_mount
+header_of_image image size old new long unread calls = by_test (nat_lt (length image) 512) refl
+  where
+    by_test : (b : Bool) → nat_lt (length image) 512 ≡ b → CallsAtMost (header_reads (length image) + reads_behind_header image (geometry_of (take 512 image) (length image))) 0 0 0 old new
+    by_test true test =
+        let short : length image < 512 = grind (arith, nat_tests) in
+        reads_within 0 (header_reads (length image) + reads_behind_header image (geometry_of (take 512 image) (length image))) old new (omega arith) (unread (omega (arith, long, short)))
+    by_test false test =
+        let there : header_reads (length image) ≡ 1 = ap (λ b. cond b 0 1) test in
+        reads_within 1 (header_reads (length image) + reads_behind_header image (geometry_of (take 512 image) (length image))) old new (omega (arith, there)) calls
+
+-- where it gives a geometry, the label's track is read too
 two_at_least : (image : List ℕ) (g : Geometry) → geometry_of (take 512 image) (length image) ≡ Ok g → 2 ≤ reads_to_mount image
 unfolding reads_to_mount
-two_at_least image g header = subst (λ r. 2 ≤ 1 + reads_behind_header image r) (sym header) (omega arith)
+two_at_least image g header =
+    let there = header_there (take 512 image) (length image) g header in
+    subst (λ r. 2 ≤ header_reads (length image) + reads_behind_header image r) (sym header) (omega (arith, there))
+
+pub one_of_image : (image : List ℕ) (g : Geometry) (old new : Calls) → geometry_of (take 512 image) (length image) ≡ Ok g → CallsAtMost 1 0 0 0 old new → CallsAtMost (reads_to_mount image) 0 0 0 old new
+one_of_image image g old new header calls = reads_within 1 (reads_to_mount image) old new (omega (arith, two_at_least image g header)) calls
 
 pub two_of_image : (image : List ℕ) (g : Geometry) (old new : Calls) → geometry_of (take 512 image) (length image) ≡ Ok g → CallsAtMost 2 0 0 0 old new → CallsAtMost (reads_to_mount image) 0 0 0 old new
 two_of_image image g old new header calls = reads_within 2 (reads_to_mount image) old new (two_at_least image g header) calls
@@ -98,7 +126,8 @@ unfolding reads_to_mount
 vtoc_is_read image g x header label inside =
     let there = label_there (label_of image g) x label in
     let reads = λ (a : Address). vtoc_reads image g (records_on image g None (track_of_address g a)) (vtoc_of image g) in
-    ap (λ r. 1 + reads_behind_header image r) header
+    ap (λ (n : ℕ). n + reads_behind_header image (geometry_of (take 512 image) (length image))) (header_there (take 512 image) (length image) g header)
+    ∙ ap (λ r. 1 + reads_behind_header image r) header
     ∙ ap (λ o. 1 + (1 + reads_behind_label image g o)) there.1.0
     ∙ ap (λ (a : Address). 1 + (1 + cond (is_inside g a) (reads a) 0)) (sym there.1.1.vtoc)
     ∙ ap (λ (n : ℕ). 1 + (1 + n)) (chosen (is_inside g x.vtoc) true (reads x.vtoc) 0 inside)

@@ -1,6 +1,7 @@
 -- The slots of the tracks of a VTOC, a track after another.
-use Rattle.std.proofs.Common.{◌≡◌, ℕ, zero, suc, ◌+◌, ◌-◌, ◌<◌, ◌≤◌, List, [], ◌∷◌, ◌++◌, length, Option, Some, None, refl, sym, ap, subst, ◌∙◌, arith, length-append}
+use Rattle.std.proofs.Common.{◌≡◌, ℕ, zero, suc, ◌+◌, ◌-◌, ◌<◌, ◌≤◌, List, [], ◌∷◌, ◌++◌, length, Option, Some, None, refl, sym, ap, subst, ◌∙◌, arith, get_or, length-append}
 use Rattle.std.specs.Prelude.{Ok, Err, option_and_then}
+use Rattle.std.proofs.Math.Seq.{get_or-append_seam}
 use Rattle.std.proofs.lemmas.List.{append-nil}
 use Rattle.std.proofs.lemmas.List.FromFn.{map-range_with_len_more}
 use Rattle.std.proofs.lemmas.List.Elements.{filter_map-append}
@@ -21,7 +22,7 @@ use Rattle.pack_spec.specs.Volume.{volume_within}
 use Rattle.pack_spec.proofs.Volumes.{within-track}
 use Rattle.vtoc_index.specs.Contents.{AreDscbs, AreRead}
 use Rattle.vtoc_index.specs.Index.{AreFirsts, firsts_of, slots_before}
-use Rattle.vtoc_index.specs.Reading.{Adds, AreNumbered, AreTracksRead, IsExtent, vtoc_on}
+use Rattle.vtoc_index.specs.Reading.{Adds, AreNumbered, AreTracksRead, IsExtent, LastTrackHas, vtoc_on}
 use Rattle.vtoc_index.specs.declared.slots.ReadSlot.{ReadSlot}
 use Rattle.vtoc_index.specs.declared.tracks.ReadSlots.{ReadSlots}
 
@@ -178,3 +179,12 @@ numbered_more g track len more records old new before firsts few added adds = re
     subst (λ (l : List ReadSlot). AreRead l (before.read.0 ++ addressed_from g track 1 adds.bytes)) (sym adds.added) (AreRead-append old.slots.items adds.slots before.read.0 (addressed_from g track 1 adds.bytes) before.read.1 adds.read),
   );
 }
+
+-- the track that was added is the last, and what was added stands on it
+pub last_of : (old new : ReadSlots) (count : ℕ) → new.firsts.items ≡ old.firsts.items ++ length old.slots.items ∷ [] → length new.slots.items ≡ length old.slots.items + count → LastTrackHas count new
+last_of old new count firsts many =
+    let front = old.firsts.items in
+    let first = length old.slots.items in
+    let at : length new.firsts.items - 1 ≡ length front = omega (arith, ap length firsts, length-append front (first ∷ [])) in
+    let number : get_or new.firsts.items (length new.firsts.items - 1) 0 ≡ first = ap (λ (i : ℕ). get_or new.firsts.items i 0) at ∙ ap (λ (l : List ℕ). get_or l (length front) 0) firsts ∙ get_or-append_seam front first [] 0 in
+    omega (arith, many, number)

@@ -1,5 +1,5 @@
 -- What the reading of a VTOC leaves of a hall, and how many reads it takes, in this project's profile.
-use Rattle.std.specs.Prelude.{ℕ, ◌+◌, List, length, position, take, is_none, Option, Some, None, Result, Ok, Err, IsErrOf, if◌then◌else◌}
+use Rattle.std.specs.Prelude.{ℕ, ◌+◌, nat_lt, List, length, position, take, is_none, Option, Some, None, Result, Ok, Err, IsErrOf, if◌then◌else◌}
 use Rattle.std.specs.Option.{option_map_or}
 use Rattle.ckd_image.specs.declared.header.Geometry.{Geometry}
 use Rattle.ckd_image.specs.declared.header.ImageErr.{ImageErr}
@@ -42,6 +42,10 @@ abbrev pub reads_behind_header : List ℕ → Result Geometry ImageErr → ℕ
 reads_behind_header image (Err e) = 0
 reads_behind_header image (Ok g) = 1 + reads_behind_label image g (label_of image g)
 
+-- the reads of the header of an image of this length: none where it is too short for one
+abbrev pub header_reads : ℕ → ℕ
+header_reads len = if nat_lt len 512 then 0 else 1
+
 -- the most reads that find the index of an image, or the first rule of mounting that it breaks
 unfoldable pub reads_to_mount : List ℕ → ℕ
-reads_to_mount image = 1 + reads_behind_header image (geometry_of (take 512 image) (length image))
+reads_to_mount image = header_reads (length image) + reads_behind_header image (geometry_of (take 512 image) (length image))

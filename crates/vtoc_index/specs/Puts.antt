@@ -40,6 +40,10 @@ pub record IsReplaced (slot : ℕ) (d : Dscb) (old new : Vol) : Type 0 where
 abbrev pub HoldsSlot : Vol → ℕ → Type 0
 HoldsSlot v slot = (v.buf.track ≡ v.vtoc.start + track_index v.firsts.items slot) × (slots_in_front v.firsts.items slot < length v.buf.records)
 
+-- the buffer of an index holds each slot of the track that is in it
+abbrev pub HoldsItsTrack : Vol → Type 0
+HoldsItsTrack v = (slot : ℕ) → slot < length v.slots.items → v.buf.track ≡ v.vtoc.start + track_index v.firsts.items slot → slots_in_front v.firsts.items slot < length v.buf.records
+
 -- where a slot is put, the index holds the DSCB, and after an error what it held
 pub record IsWith {T E : Type 0} (slot : ℕ) (d : Dscb) (old new : Vol) (result : Result T E) : Type 0 where
   pub done : OnOk result (IsReplaced slot d old new)

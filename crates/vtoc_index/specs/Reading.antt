@@ -1,5 +1,5 @@
 -- What the reading of a VTOC finds of it, a step at a time (System Control Blocks GC28-6628); what is promised of the whole stands in `Index`.
-use Rattle.std.specs.Prelude.{◌≡◌, ◌≢◌, ℕ, ◌+◌, ◌*◌, ◌≤◌, List, [], ◌++◌, length, Option, Some, None, Result, Err, option_and_then, slice_get, slice_range, unwrap_or, if◌then◌else◌}
+use Rattle.std.specs.Prelude.{◌≡◌, ◌≢◌, ℕ, ◌+◌, ◌-◌, ◌*◌, ◌≤◌, List, [], ◌++◌, length, Option, Some, None, Result, Err, option_and_then, slice_get, slice_index_or, slice_range, unwrap_or, if◌then◌else◌}
 use Rattle.ckd_image.specs.declared.header.Geometry.{Geometry}
 use Rattle.ckd_image.specs.Track.{Record}
 use Rattle.vol_model.specs.declared.contents.Run.{Run}
@@ -65,6 +65,10 @@ pub record AreNumbered (len : ℕ) (found : ReadSlots) : Type 0 where
   pub firsts : AreFirsts 0 found.firsts.items (length found.slots.items)
   pub few : length found.slots.items ≤ len * 255
   pub read : (given : List VtocSlot) × AreRead found.slots.items given
+
+-- so many slots stand on the last track: those from its first on
+abbrev pub LastTrackHas : ℕ → ReadSlots → Type 0
+LastTrackHas count found = length found.slots.items ≡ slice_index_or found.firsts.items (length found.firsts.items - 1) 0 + count
 
 -- so many tracks from this one on: none breaks the rules, these are their slots, and these are numbered so
 pub record AreTracksRead (image : List ℕ) (g : Geometry) (start len : ℕ) (found : ReadSlots) : Type 0 where

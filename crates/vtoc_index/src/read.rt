@@ -13,7 +13,8 @@ ghost use Rattle.track_records.specs.Written.{StandsOn};
 ghost use Rattle.vtoc_index.specs.Calls.{MountCall, first_track_reads, reads_to_mount, tracks_to_read, vtoc_reads};
 ghost use Rattle.vtoc_index.specs.Index.{IsMounted, IsOfUnit, IsReason};
 ghost use Rattle.vtoc_index.specs.declared.slots.ReadSlot.{ReadSlot};
-ghost use Rattle.vtoc_index.specs.Reading.{AreNumbered, AreTracksRead, IsExtent, Refuses, vtoc_on};
+ghost use Rattle.vtoc_index.specs.Puts.{HoldsItsTrack};
+ghost use Rattle.vtoc_index.specs.Reading.{AreNumbered, AreTracksRead, IsExtent, LastTrackHas, Refuses, vtoc_on};
 
 use crate::header::read_geometry;
 use crate::label::read_label;
@@ -53,6 +54,7 @@ pub fn read_vtoc<H: Hall>(alloc: Global, hall: &mut H, unit: u8) -> Result<Vol, 
     ensures refused { IsTrue H.tells → IfErr result (IsReason (image_of (H.meaning hall.old).state (H.facts hall.old) unit)) }
     ensures unit { IfOk result (λ vol. (vol.unit ≡ unit) × IsOfUnit (H.facts hall.old).units vol) }
     ensures last { IfOk result (λ vol. vol.buf.track + 1 ≡ vol.vtoc.start + vol.vtoc.len) }
+    ensures held { IfOk result HoldsItsTrack }
     ensures told { IsTrue H.tells → Same (H.meaning hall.old) (H.meaning hall.new) }
     ensures call { MountCall (H.facts hall.old) (H.facts hall.new) result }
     ensures calls { CallsAtMost 259 0 0 0 (H.calls hall.old) (H.calls hall.new) }
@@ -100,6 +102,7 @@ fn read_slots<H: Hall>(
     ensures refused { let image = image_of (H.meaning hall.old).state (H.facts hall.old) unit in IsTrue H.tells → IfErr result (Refuses (volume_within image geometry (vtoc_on image geometry at))) }
     ensures numbers { IfOk result (λ p. IsExtent geometry at p.0 × AreNumbered p.0.len p.1) }
     ensures last { IfOk result (λ p. buf.new.track + 1 ≡ p.0.start + p.0.len) }
+    ensures held { IfOk result (λ p. LastTrackHas (length buf.new.records) p.1) }
     ensures buffer { (buf.new.geometry ≡ geometry) × (buf.new.unit ≡ unit) }
     ensures told { IsTrue H.tells → Same (H.meaning hall.old) (H.meaning hall.new) }
     ensures call { MountCall (H.facts hall.old) (H.facts hall.new) result }
@@ -203,6 +206,7 @@ fn read_others<H: Hall>(
     ensures begun { ((slots : List ReadSlot) × (found.new.slots.items ≡ found.old.slots.items ++ slots)) × ((firsts : List ℕ) × (found.new.firsts.items ≡ found.old.firsts.items ++ firsts)) }
     ensures numbers { OnOk result (AreNumbered vtoc.len found.new) }
     ensures last { buf.old.track ≡ vtoc.start → OnOk result (buf.new.track + 1 ≡ vtoc.start + vtoc.len) }
+    ensures held { LastTrackHas (length buf.old.records) found.old → OnOk result (LastTrackHas (length buf.new.records) found.new) }
     ensures buffer { (buf.new.geometry ≡ geometry) × (buf.new.unit ≡ unit) }
     ensures told { IsTrue H.tells → Same (H.meaning hall.old) (H.meaning hall.new) }
     ensures call { MountCall (H.facts hall.old) (H.facts hall.new) result }

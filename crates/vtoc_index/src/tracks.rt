@@ -52,6 +52,7 @@ impl ReadSlots {
         ensures firsts { OnOk result (self.new.firsts.items ≡ self.old.firsts.items ++ length self.old.slots.items ∷ []) }
         ensures slots { OnOk result (Adds geometry track buf.now.records self.old.slots.items self.new.slots.items) }
         ensures few { OnOk result ((more : ℕ) × (more ≤ 255) × (length self.new.slots.items ≡ length self.old.slots.items + more)) }
+        ensures many { OnOk result (length self.new.slots.items ≡ length self.old.slots.items + length buf.now.records) }
         ensures refused { IfErr result (λ e. (e ≡ MountErr.Memory) ⊎ ((e ≡ MountErr.VtocTrack track) × (slots_in buf.now.records ≡ None))) }
     {
         let first = self.slots.len() as u32;

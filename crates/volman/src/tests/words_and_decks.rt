@@ -185,6 +185,8 @@ impl<C: Cards> Cards for Single<C> {
 
     ghost reads = { λ single. C.reads single.cards };
 
+    ghost empty_reads = { λ single. C.empty_reads single.cards };
+
     fn read(&mut self, buf: &mut [u8]) -> Result<usize, ReadFault> {
         self.cards.read(&mut buf[..1])
     }

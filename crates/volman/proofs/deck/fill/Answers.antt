@@ -1,4 +1,4 @@
-use Rattle.std.proofs.Common.{length, ◌-◌, ◌≡◌, ◌≤◌, ℕ, arith, ◌∙◌, length-take, length-drop}
+use Rattle.std.proofs.Common.{length, ◌-◌, ◌≡◌, ◌≤◌, ◌<◌, ℕ, arith, rules, ◌∙◌, length-take, length-drop}
 use Rattle.volman.proofs.DeckLemmas.{read_on, put-length}
 use Rattle.volman.proofs.deck.fill.Goals as goal
 
@@ -15,4 +15,5 @@ loop-count-preserved g c =
       next = λ tells. read_on bytes c.read.new.buf _ _ _ count c.in_ok-given.given c.loop-count.invariant.inside within (c.loop-count.invariant.next tells) (c.in_ok-given.ensures.told tells).next;
       faults = c.in_ok-given.ensures.done ∙ c.loop-count.invariant.faults;
       reads = omega (arith, c.loop-count.invariant.reads, c.in_ok-given.ensures.once);
+      empty = let some : 0 < c.in_ok-given.given = search rules in omega (arith, c.loop-count.invariant.empty, c.in_ok-given.ensures.given some);
     }

@@ -8,6 +8,7 @@ invariant-loop-count g l = record {
   next : IsTrue g.C.Cards.tells → g.C.Cards.left l.initial.cards ≡ take l.count l.bytes ++ g.C.Cards.left l.cards;
   faults : g.C.Cards.faults l.cards ≡ g.C.Cards.faults l.initial.cards;
   reads : g.C.Cards.reads l.cards ≤ g.C.Cards.reads l.initial.cards + l.count;
+  empty : g.C.Cards.empty_reads l.cards ≤ g.C.Cards.empty_reads l.initial.cards;
 }
 
 abbrev pub decreases-loop-count : goal.decreases-loop-count

@@ -1,10 +1,17 @@
-use Rattle.std.proofs.Common.{rules, ◌≡◌, List, ℕ, [], ◌∷◌, Ok, ap, sym, subst, ◌∙◌}
+use Rattle.std.proofs.Common.{rules, arith, ◌≡◌, ◌<◌, ◌+◌, List, ℕ, [], ◌∷◌, length, Option, Ok, ap, sym, subst, ◌∙◌}
+use Rattle.std.specs.Prelude.{unwrap_or}
+use Rattle.std.proofs.lemmas.List.Quantifiers.{position-Some}
+use Rattle.dscb_codec.specs.declared.Dscb.TheVariants.{F0}
 use Rattle.hall_core.proofs.MomentLemmas.{durable_same, same_none}
 use Rattle.hall_core.specs.Facts.{unit_of}
 use Rattle.hall_core.specs.Files.{File, file_of}
 use Rattle.hall_core.specs.Moments.{Same}
 use Rattle.dadsm_ops.specs.Operations.{image_named}
+use Rattle.dadsm_ops.proofs.OneOutcome.{same_firsts, same_serial, same_to_rename, same_vtoc}
 use Rattle.pack_spec.specs.Volume.{volume_of}
+use Rattle.vol_model.specs.declared.contents.Run.{Run as VtocRun}
+use Rattle.vtoc_index.specs.Contents.{is_set_named}
+use Rattle.vtoc_index.specs.Index.{IsMounted, track_index}
 use Rattle.volman.specs.Machine.{shelf_with}
 use Rattle.volman.specs.Run.{Does, WorksOn}
 use Rattle.volman.specs.Statement.{item_of}
@@ -44,3 +51,18 @@ returns-in-Ok-clause-does g c told =
     worked_then c.args.file.now volume (item_of (shelf_with volume) statement ∷ []) status (g.met.H.Hall.none_pending hall told c.requires) (g.met.H.Hall.only_now hall) (c.mount.ensures.told told)
     (c.run_statement-status.ensures.silent told) (subst (λ (n : List ℕ). WorksOn n volume (item_of (shelf_with volume) statement ∷ []) (M mid) (M ended) status) name works)) in
     search (rules, behind)
+
+pub returns-in-Ok-clause-held : goal.returns-in-Ok-clause-held
+returns-in-Ok-clause-held g c told vol mounted on =
+    let statement = c.args.statement.now in
+    let found = c.in-Ok.vol in
+    let pack = c.in-Ok.ensures.mounted told in
+    let other = subst (λ (image : List ℕ). IsMounted image vol) (ap (λ (o : Option (List ℕ)). unwrap_or o []) pack.there) mounted in
+    let serial : found.serial ≡ statement.serial = sym (same_serial pack.image vol found other pack.mounted) ∙ on.serial in
+    let named = same_to_rename pack.image vol found other pack.mounted statement.old.bytes statement.new.bytes on.slot on.found in
+    let low : on.slot < length found.slots.items = (position-Some (is_set_named statement.old.bytes) found.slots.items on.slot F0 named.found).0 in
+    let last : track_index found.firsts.items on.slot + 1 ≡ found.vtoc.len =
+    ap (λ (firsts : List ℕ). track_index firsts on.slot + 1) (sym (same_firsts pack.image vol found other pack.mounted)) ∙ on.last ∙ ap (λ (run : VtocRun). run.len) (same_vtoc pack.image vol found other pack.mounted) in
+    let at : found.buf.track ≡ found.vtoc.start + track_index found.firsts.items on.slot = omega (arith, c.in-Ok.ensures.last, last) in
+    let few = c.run_statement-status.ensures.held serial on.slot named (at, c.in-Ok.ensures.held on.slot low at) in
+    search (rules, few)

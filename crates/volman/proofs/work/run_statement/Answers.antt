@@ -1,4 +1,4 @@
-use Rattle.std.proofs.Common.{◌≡◌, ◌∙◌, inl, inr, ⊎_elim, ℕ, ◌≤◌, List, [], ◌∷◌, Ok, IsErrOf, sym, ap, subst, arith, rules}
+use Rattle.std.proofs.Common.{◌≡◌, ◌∙◌, inl, inr, ⊎_elim, ℕ, ◌≤◌, List, [], ◌∷◌, Ok, IsErrOf, refl, sym, ap, subst, arith, rules}
 use Rattle.hall_core.specs.Facts.{CallsAtMost, unit_of}
 use Rattle.hall_core.specs.Files.{File, image_of}
 use Rattle.hall_core.specs.Steps.{seen}
@@ -11,9 +11,9 @@ use Rattle.vol_model.specs.declared.answers.Stop.{Stop}
 use Rattle.vol_model.specs.declared.answers.Stop.TheVariants.{Device, Memory, Print}
 use Rattle.vtoc_index.specs.declared.vol.Vol.{Vol}
 use Rattle.vtoc_index.proofs.KeptLemmas.{mounted_of}
-use Rattle.volman.specs.Machine.{ChangesOnlyNames, shelf_in, shelf_named, shelf_with}
+use Rattle.volman.specs.Machine.{ChangesOnlyNames, HoldsFor, shelf_in, shelf_named, shelf_with}
 use Rattle.volman.specs.Run.{IsCalmSince, StopStands, Synced, WorksOn}
-use Rattle.volman.specs.Statement.{item_of}
+use Rattle.volman.specs.Statement.{item_of, operation_on}
 use Rattle.volman.proofs.Machines.{same_base, same_unit_name}
 use Rattle.volman.proofs.Works.{cut_by, durable_behind, has_worked, has_worked_unprinted, have_line, stops_worked, works_failed, works_finished, works_unprinted}
 use Rattle.volman.proofs.work.run_statement.Goals as goal
@@ -128,4 +128,19 @@ returns-clause-unchanged g c told memory same =
           let shelf : shelf_named name' (M new.hall).state ≡ shelf_named name (M machine.hall).state = ap (λ n. shelf_named n (M new.hall).state) named ∙ ap (shelf_named name) files in
           let few : CallsAtMost 1 0 0 0 (calls machine.hall) (calls new.hall) = c.run_rename-ran.ensures.unchanged told failed shelf in
           subst (λ h. CallsAtMost 1 0 0 0 (calls c.args.hall) (calls h)) (sym closed) (subst (λ h. CallsAtMost 1 0 0 0 (calls h) (calls new.hall)) c.open-machine.ensures.hall few)
+    ]
+
+pub returns-clause-held : goal.returns-clause-held
+returns-clause-held g c serial slot found here =
+    let machine = c.open-machine.result in
+    let vol = c.open-machine.ensures.vol in
+    let statement = c.args.statement.now in
+    let there = c.number_of-volume.ensures.there (ap (λ (v : Vol). v.serial) vol ∙ serial) in
+    let holds : HoldsFor (operation_on statement 0) machine.vol = subst (HoldsFor (operation_on statement 0)) (sym vol) (refl, (slot, found, here)) in
+    let few : CallsAtMost 0 1 1 1 (g.H.Hall.calls machine.hall) (g.H.Hall.calls c.run_rename-ran.new.machine.hall) = c.run_rename-ran.ensures.held 0 there holds in
+    elim c.match-ran.branch [
+      | in-Ok w ↦ search (rules, few)
+      | in-Err-Device w ↦ search (rules, few)
+      | in-Err-Print w ↦ search (rules, few)
+      | in-Err-Memory w ↦ search (rules, few)
     ]

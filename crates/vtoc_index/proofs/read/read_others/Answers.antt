@@ -13,7 +13,7 @@ use Rattle.vtoc_index.specs.Reading.{AreNumbered, AreTracksRead}
 use Rattle.vtoc_index.proofs.CallsMade.{begins_further, begins_same, buffer_read, call_done, call_fails, call_stays, has_track, refuses_at, not_device, reads_then, reads_within, stands_whole, stay_more, stay_none, track_reason}
 use Rattle.vtoc_index.proofs.Images.{same_image}
 use Rattle.vtoc_index.proofs.ReadsMade.{good_are_read}
-use Rattle.vtoc_index.proofs.TracksRead.{numbered_more, read_more, slots_are, track_refused}
+use Rattle.vtoc_index.proofs.TracksRead.{last_of, numbered_more, read_more, slots_are, track_refused}
 use Rattle.vtoc_index.proofs.read.read_others.Goals as goal
 
 pub loop-track-init : goal.loop-track-init
@@ -31,6 +31,7 @@ loop-track-init g c =
       slots = begins_same c.args.found.now.slots.items;
       firsts = begins_same c.args.found.now.firsts.items;
       last = λ is. omega (arith, is);
+      held = λ held. held;
       read = λ told first. subst (λ (n : ℕ). AreTracksRead image c.args.geometry start n c.args.found.now) one first;
       stands = λ told stands. stands;
     }
@@ -130,6 +131,7 @@ loop-track-preserved g c =
       slots = begins_further _ _ _ c.in_ok-add.ensures.slots.slots l.invariant.slots c.in_ok-add.ensures.slots.added;
       firsts = begins_further _ _ _ _ l.invariant.firsts c.in_ok-add.ensures.firsts;
       last = λ _. omega (arith, held.track_is, l.auto.track);
+      held = λ _. last_of l.found c.add.new.self (length c.read_track.new.buf.records) c.in_ok-add.ensures.firsts c.in_ok-add.ensures.many;
       read = λ told first.
           let seen = image_of (g.H.Hall.meaning l.hall).state (g.H.Hall.facts l.hall) c.args.unit in
           let same = same_image (g.H.Hall.meaning l.hall).state (g.H.Hall.meaning c.args.hall.now).state (g.H.Hall.facts l.hall) (g.H.Hall.facts c.args.hall.now) c.args.unit (l.invariant.told told).state l.invariant.facts.units in

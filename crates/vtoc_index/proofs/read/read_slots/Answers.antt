@@ -1,4 +1,4 @@
-use Rattle.std.proofs.Common.{inl, refl, sym, ap, subst, ◌∙◌, arith, ℕ, List, None, ◌+◌, ◌-◌}
+use Rattle.std.proofs.Common.{inl, refl, sym, ap, subst, ◌∙◌, arith, ℕ, List, length, None, ◌+◌, ◌-◌}
 use Rattle.std.specs.Prelude.{Ok, Err}
 use Rattle.std.proofs.lemmas.Result.{err_from_is_err_and}
 use Rattle.hall_core.specs.Facts.{CallsAtMost}
@@ -12,7 +12,7 @@ use Rattle.vtoc_index.proofs.CallsMade.{refuses_at, track_reason, reads_then, re
 use Rattle.vtoc_index.proofs.Images.{same_image}
 use Rattle.vtoc_index.proofs.ReadsMade.{first_is_read, first_reads, tracks_are_read}
 use Rattle.vtoc_index.proofs.Reasons.{refuses_same}
-use Rattle.vtoc_index.proofs.TracksRead.{first_refused, first_read, slots_are}
+use Rattle.vtoc_index.proofs.TracksRead.{first_refused, first_read, last_of, slots_are}
 use Rattle.vtoc_index.proofs.read.read_slots.Goals as goal
 
 pub returns-in_err-add-clause-refused : goal.returns-in_err-add-clause-refused
@@ -48,6 +48,9 @@ returns-clause-read g c told =
     let first = first_read image c.args.geometry vtoc.start c.read_first.new.buf.records c.new-found.result c.add.new.self c.new-found.ensures.slots c.new-found.ensures.firsts (c.in_ok-vtoc.ensures.read told) c.in_ok-add.ensures.firsts c.in_ok-add.ensures.slots in
     subst (λ (i : List ℕ). AreTracksRead i c.args.geometry vtoc.start vtoc.len c.read_others.new.found) same
     (c.in_ok-read_others.ensures.read told (subst (λ (i : List ℕ). AreTracksRead i c.args.geometry vtoc.start 1 c.add.new.self) (sym same) first))
+
+pub returns-clause-held : goal.returns-clause-held
+returns-clause-held g c = c.in_ok-read_others.ensures.held (last_of c.new-found.result c.add.new.self (length c.read_first.new.buf.records) c.in_ok-add.ensures.firsts c.in_ok-add.ensures.many)
 
 pub returns-in_err-read_others-clause-calls : goal.returns-in_err-read_others-clause-calls
 returns-in_err-read_others-clause-calls g c =

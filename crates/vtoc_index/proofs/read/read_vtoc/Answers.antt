@@ -1,6 +1,7 @@
 use Rattle.std.proofs.Common.{◌≡◌, refl, sym, ap, subst, ◌∙◌, arith, ℕ, List, length}
 use Rattle.std.specs.Prelude.{Err}
 use Rattle.std.proofs.lemmas.Result.{err_from_is_err_and}
+use Rattle.hall_core.specs.Facts.{unit_of}
 use Rattle.hall_core.specs.Files.{image_of}
 use Rattle.pack_spec.specs.Slots.{slots_of_vtoc}
 use Rattle.track_records.specs.Buffers.{Buffer}
@@ -10,9 +11,10 @@ use Rattle.vtoc_index.specs.Index.{AreFirsts}
 use Rattle.vtoc_index.specs.Reading.{AreTracksRead, vtoc_on}
 use Rattle.vtoc_index.specs.declared.slots.ReadSlot.{ReadSlot}
 use Rattle.vtoc_index.proofs.CallsMade.{reason_at, reads_then}
-use Rattle.vtoc_index.proofs.Images.{same_image}
+use Rattle.vtoc_index.proofs.Firsts.{before_last}
+use Rattle.vtoc_index.proofs.Images.{image_length, same_image}
 use Rattle.vtoc_index.proofs.Mounts.{label_reason, label_seen, mounted, outside_reason, slots_reason, vtoc_reason}
-use Rattle.vtoc_index.proofs.ReadsMade.{image_of_vtoc, one_of_image, two_of_image}
+use Rattle.vtoc_index.proofs.ReadsMade.{header_of_image, image_of_vtoc, one_of_image, two_of_image}
 use Rattle.vtoc_index.proofs.TracksRead.{AreRead-length, dscbs_many}
 use Rattle.vtoc_index.proofs.read.read_vtoc.Goals as goal
 
@@ -110,6 +112,16 @@ returns-clause-unit g c =
       },
     )
 
+-- so the last track has as many as the buffer has records
+pub returns-clause-held : goal.returns-clause-held
+returns-clause-held g c slot below at =
+    let found = c.in_ok-vtoc.found in
+    let numbers = c.in_ok-vtoc.ensures.numbers.1 in
+    let read = subst (λ (l : List ReadSlot). AreRead l numbers.read.0) (sym c.deref.ensures.value) numbers.read.1 in
+    let held = (c.in_ok-slots.ensures.dscbs numbers.read.0 read).0 in
+    let many : length c.in_ok-slots.slots.items ≡ length found.slots.items = dscbs_many c.in_ok-slots.slots.items numbers.read.0 held ∙ sym (AreRead-length found.slots.items numbers.read.0 numbers.read.1) in
+    before_last found.firsts.items (length found.slots.items) (length c.read_slots.new.buf.records) slot numbers.firsts c.in_ok-vtoc.ensures.held (omega (arith, below, many)) (omega (arith, at, numbers.tracks, c.in_ok-vtoc.ensures.last))
+
 pub returns-in_err-vtoc-clause-calls : goal.returns-in_err-vtoc-clause-calls
 returns-in_err-vtoc-clause-calls g c =
     reads_then 2 257 (g.H.Hall.calls c.args.hall.now) (g.H.Hall.calls c.read_label.new.hall) (g.H.Hall.calls c.read_slots.new.hall) (reads_then 1 1 (g.H.Hall.calls c.args.hall.now) (g.H.Hall.calls c.read_geometry.new.hall) (g.H.Hall.calls c.read_label.new.hall) c.in_ok-geometry.ensures.calls c.in_ok-label.ensures.calls) c.in_err-vtoc.ensures.calls
@@ -120,10 +132,14 @@ returns-clause-calls g c =
 
 -- the reads that each answer takes
 pub returns-in_err-geometry-clause-reads : goal.returns-in_err-geometry-clause-reads
-returns-in_err-geometry-clause-reads g c told = one_of_image (image_of (g.H.Hall.meaning c.args.hall.now).state (g.H.Hall.facts c.args.hall.now) c.args.unit) (g.H.Hall.calls c.args.hall.now) (g.H.Hall.calls c.read_geometry.new.hall) c.in_err-geometry.ensures.calls
+returns-in_err-geometry-clause-reads g c told =
+    let m = g.H.Hall.meaning c.args.hall.now in
+    let f = g.H.Hall.facts c.args.hall.now in
+    let long = image_length m.state f.units c.args.unit (g.met.H.Hall.whole c.args.hall.now told) c.requires in
+    header_of_image (image_of m.state f c.args.unit) (unit_of f.units c.args.unit).size (g.H.Hall.calls c.args.hall.now) (g.H.Hall.calls c.read_geometry.new.hall) long c.in_err-geometry.ensures.short c.in_err-geometry.ensures.calls
 
 pub returns-in_err-buf-clause-reads : goal.returns-in_err-buf-clause-reads
-returns-in_err-buf-clause-reads g c told = one_of_image (image_of (g.H.Hall.meaning c.args.hall.now).state (g.H.Hall.facts c.args.hall.now) c.args.unit) (g.H.Hall.calls c.args.hall.now) (g.H.Hall.calls c.read_geometry.new.hall) c.in_ok-geometry.ensures.calls
+returns-in_err-buf-clause-reads g c told = one_of_image (image_of (g.H.Hall.meaning c.args.hall.now).state (g.H.Hall.facts c.args.hall.now) c.args.unit) c.in_ok-geometry.geometry (g.H.Hall.calls c.args.hall.now) (g.H.Hall.calls c.read_geometry.new.hall) (c.in_ok-geometry.ensures.read told) c.in_ok-geometry.ensures.calls
 
 pub returns-in_err-label-clause-reads : goal.returns-in_err-label-clause-reads
 returns-in_err-label-clause-reads g c told = two_of_image (image_of (g.H.Hall.meaning c.args.hall.now).state (g.H.Hall.facts c.args.hall.now) c.args.unit) c.in_ok-geometry.geometry (g.H.Hall.calls c.args.hall.now) (g.H.Hall.calls c.read_label.new.hall) (c.in_ok-geometry.ensures.read told) (reads_then 1 1 (g.H.Hall.calls c.args.hall.now) (g.H.Hall.calls c.read_geometry.new.hall) (g.H.Hall.calls c.read_label.new.hall) c.in_ok-geometry.ensures.calls c.in_err-label.ensures.calls)

@@ -13,7 +13,7 @@ use Rattle.vol_model.specs.declared.contents.Shelf.{Shelf}
 use Rattle.vol_model.specs.declared.requests.Op.{Op}
 use Rattle.vol_model.specs.declared.requests.Op.TheVariants.{Rename}
 use Rattle.vtoc_index.specs.declared.vol.Vol.{Vol}
-use Rattle.volman.specs.Machine.{ChangesOnlyNames, KeepsIndex, OperationCalls, shelf_named}
+use Rattle.volman.specs.Machine.{ChangesOnlyNames, HoldsFor, KeepsIndex, OperationCalls, shelf_named}
 use Rattle.volman.proofs.machine.PackMachineMachine.apply.Goals as goal
 
 for_rename : {T : Type 0} {result : Result T MachErr} (shelf : Shelf) (v : ℕ) (old new : Dsn) (op : Op) → op ≡ Rename v old new → IsIdle (step shelf op) result → IsIdle (step shelf (Rename v old new)) result
@@ -46,6 +46,12 @@ calls_as {result = result} v from to op is old new made after = subst (λ (o : O
 
 pub returns-clause-again : goal.returns-clause-again
 returns-clause-again g c = calls_as _ _ _ c.args.op.now (search rules) c.args.self.now.vol c.rename.new.self.vol (g.H.Hall.calls c.args.self.now.hall) (g.H.Hall.calls c.rename.new.self.hall) c.rename.ensures.again
+
+held_as : (v : ℕ) (from to : Dsn) (op : Op) → op ≡ Rename v from to → (vol : Vol) → HoldsFor op vol → HoldsFor (Rename v from to) vol
+held_as v from to op is vol = subst (λ (o : Op). HoldsFor o vol) is
+
+pub returns-clause-held : goal.returns-clause-held
+returns-clause-held g c holds = c.rename.ensures.held (held_as _ _ _ c.args.op.now (search rules) c.args.self.now.vol holds)
 
 pub returns-clause-promise : goal.returns-clause-promise
 returns-clause-promise g c told =
