@@ -14,7 +14,7 @@ use Rattle.vtoc_index.specs.declared.vol.Vol.{Vol}
 use Rattle.vtoc_index.proofs.HeldLemmas.{key_held}
 use Rattle.vtoc_index.proofs.PutCases.{c_stands}
 use Rattle.vtoc_index.proofs.SmallPack.{a, b, c, data_set, f1, f4, f5, four_slots, image, index, slots_are_read}
-use Rattle.dadsm_ops.specs.Naming.{HoldsRenamed, IsToRename, RenameCalls}
+use Rattle.dadsm_ops.specs.Naming.{HoldsRenamed, IsToRename, RenameCalls, RenamesEntry}
 use Rattle.dadsm_ops.specs.Through.{IsBeforeOr}
 
 -- a record with the bytes of a set
@@ -29,10 +29,14 @@ module _ (any : Vol) where
     buf = record (index any).buf { track = track; records = records };
   }
 
-  -- The second track of the VTOC is held, and the set in its second record.
-  renamed_set_is_held : HoldsRenamed a c (index any) (later c 2 (set_record b ∷ set_record c ∷ []))
-  unfolding later set_record
-  renamed_set_is_held = record {
+  -- an index before it, with this track and these records in the buffer
+  before : ℕ → List Record → Vol
+  before track records = record (index any) { buf = record (index any).buf { track = track; records = records } }
+
+  -- The second track of the VTOC is held, whatever was before, and the set in its second record, whatever stands behind that.
+  renamed_set_is_held : (track : ℕ) (held more : List Record) → HoldsRenamed a c (before track held) (later c 2 (set_record b ∷ set_record c ∷ more))
+  unfolding before later set_record
+  renamed_set_is_held track held more = record {
     slot = 3;
     found = record { found = refl; absent = refl; others = refl };
     dscb = formats.F1 (f1 c);
@@ -42,7 +46,7 @@ module _ (any : Vol) where
       bytes = data_set c;
       dscb = c_stands;
       size = refl;
-      before = set_record b ∷ set_record a ∷ [];
+      before = set_record b ∷ set_record a ∷ more;
       lengths = (refl, refl);
       put = refl;
     };
@@ -84,10 +88,6 @@ module _ (any : Vol) where
     λ holds. let none : ◌≡◌ {A = Option (List ℕ)} None (Some c) = key_there c 2 [] holds in absurd (cc),
   )
 
-  -- an index before it, with this track and these records in the buffer
-  before : ℕ → List Record → Vol
-  before track records = record (index any) { buf = record (index any).buf { track = track; records = records } }
-
   both_sets : List Record
   both_sets = set_record b ∷ set_record a ∷ []
 
@@ -112,12 +112,17 @@ module _ (any : Vol) where
   of_slot : (P : ℕ → Type 0) → P 3 → (slot : ℕ) → IsToRename (index any).slots.items a c slot → P slot
   of_slot P fourth slot is = subst P (renames_the_fourth slot is) fourth
 
+  renames_entry : (track : ℕ) (held records : List Record) → RenamesEntry a c (before track held).slots.items (later c 2 records).slots.items
+  unfolding before later
+  renames_entry track held records = record { slot = 3; found = to_rename; dscb = formats.F1 (f1 a); held = refl; slots = refl }
+
   -- Where the buffer holds the slot, it is written and made durable, and what else the buffer has of the track stays.
   no_read_where_it_is_held : Done (before 2 (set_record b ∷ set_record a ∷ set_record b ∷ [])) (later c 2 (set_record b ∷ set_record c ∷ set_record b ∷ [])) (calls_of 0 1 1)
   unfolding before later calls_of
   no_read_where_it_is_held = record {
     again = λ slot is held. (omega arith, omega arith, omega arith, omega arith, omega arith);
     few = of_slot (λ (slot : ℕ). ¬ HoldsSlot (before 2 (set_record b ∷ set_record a ∷ set_record b ∷ [])) slot → 3 ≤ slots_in_front (0 ∷ 2 ∷ []) slot + 1) (λ none. absurd (none (refl, omega arith)));
+    synced = λ more. (renames_entry 2 (set_record b ∷ set_record a ∷ set_record b ∷ []) (set_record b ∷ set_record c ∷ set_record b ∷ []), renamed_set_is_held 2 (set_record b ∷ set_record a ∷ set_record b ∷ []) (set_record b ∷ []));
     unwritten = tt;
   }
 
@@ -132,6 +137,7 @@ module _ (any : Vol) where
   one_read_where_it_is_not = record {
     again = of_slot (λ (slot : ℕ). HoldsSlot (before 2 (set_record b ∷ [])) slot → CallsAtMost 0 1 1 0 uncounted (calls_of 1 1 1)) (λ held. let wrong : 1 < 1 = held.1 in absurd (omega (arith, wrong)));
     few = of_slot (λ (slot : ℕ). ¬ HoldsSlot (before 2 (set_record b ∷ [])) slot → 2 ≤ slots_in_front (0 ∷ 2 ∷ []) slot + 1) (λ none. omega arith);
+    synced = λ more. (renames_entry 2 (set_record b ∷ []) (set_record b ∷ set_record c ∷ []), renamed_set_is_held 2 (set_record b ∷ []) []);
     unwritten = tt;
   }
 
@@ -155,6 +161,7 @@ module _ (any : Vol) where
   nothing_is_written_over_no_slot = record {
     again = of_slot (λ (slot : ℕ). HoldsSlot (index any) slot → CallsAtMost 0 1 1 0 uncounted (calls_of 1 0 0)) (λ held. let wrong : 1 < 0 = held.1 in absurd (omega (arith, wrong)));
     few = of_slot (λ (slot : ℕ). ¬ HoldsSlot (index any) slot → 0 ≤ slots_in_front (0 ∷ 2 ∷ []) slot + 1) (λ none. omega arith);
+    synced = λ (more : 0 < 0). absurd (omega (arith, more));
     unwritten = λ slot is none. (omega arith, omega arith, omega arith, omega arith, omega arith);
   }
 
@@ -172,14 +179,33 @@ module _ (any : Vol) where
     λ calls. let wrong : 1 ≤ 0 = (calls.unwritten 3 to_rename (λ has. has)).2 in omega (arith, wrong),
   )
 
-  -- Where a slot is found, a write or a sync may fail.
-  write_over_the_slot_may_fail : Fails (index any) (later a 2 (set_record b ∷ set_record c ∷ [])) (calls_of 1 1 1)
+  -- Where a slot is found, a write may fail behind which the index is as it was, or a sync behind which it has C.
+  write_over_the_slot_may_fail : Fails (index any) (later a 2 (set_record b ∷ set_record a ∷ [])) (calls_of 1 1 0) × Fails (before 2 []) (later c 2 (set_record b ∷ set_record c ∷ [])) (calls_of 1 1 1)
+  unfolding before later calls_of set_record
+  write_over_the_slot_may_fail = (
+    record {
+      again = of_slot (λ (slot : ℕ). HoldsSlot (index any) slot → CallsAtMost 0 1 1 0 uncounted (calls_of 1 1 0)) (λ held. let wrong : 1 < 0 = held.1 in absurd (omega (arith, wrong)));
+      few = of_slot (λ (slot : ℕ). ¬ HoldsSlot (index any) slot → 2 ≤ slots_in_front (0 ∷ 2 ∷ []) slot + 1) (λ none. omega arith);
+      synced = λ (more : 0 < 0). absurd (omega (arith, more));
+      unwritten = of_slot (λ (slot : ℕ). ¬ HasLengths (set_record b ∷ set_record a ∷ []) (slots_in_front (0 ∷ 2 ∷ []) slot) 44 96 → CallsAtMost 1 0 0 0 uncounted (calls_of 1 1 0)) (λ none. absurd (none (refl, refl)));
+    },
+    record {
+      again = of_slot (λ (slot : ℕ). HoldsSlot (before 2 []) slot → CallsAtMost 0 1 1 0 uncounted (calls_of 1 1 1)) (λ held. let wrong : 1 < 0 = held.1 in absurd (omega (arith, wrong)));
+      few = of_slot (λ (slot : ℕ). ¬ HoldsSlot (before 2 []) slot → 2 ≤ slots_in_front (0 ∷ 2 ∷ []) slot + 1) (λ none. omega arith);
+      synced = λ more. (renames_entry 2 [] (set_record b ∷ set_record c ∷ []), renamed_set_is_held 2 [] []);
+      unwritten = of_slot (λ (slot : ℕ). ¬ HasLengths (set_record b ∷ set_record c ∷ []) (slots_in_front (0 ∷ 2 ∷ []) slot) 44 96 → CallsAtMost 1 0 0 0 uncounted (calls_of 1 1 1)) (λ none. absurd (none (refl, refl)));
+    },
+  )
+
+  -- Behind a sync that failed, A is in the index again, or in the buffer alone.
+  old_name_is_put_back :
+      (¬ Fails (index any) (later a 2 (set_record b ∷ set_record c ∷ [])) (calls_of 1 1 1))
+      × (¬ Fails (index any) (later c 2 (set_record c ∷ set_record b ∷ [])) (calls_of 1 1 1))
   unfolding later calls_of set_record
-  write_over_the_slot_may_fail = record {
-    again = of_slot (λ (slot : ℕ). HoldsSlot (index any) slot → CallsAtMost 0 1 1 0 uncounted (calls_of 1 1 1)) (λ held. let wrong : 1 < 0 = held.1 in absurd (omega (arith, wrong)));
-    few = of_slot (λ (slot : ℕ). ¬ HoldsSlot (index any) slot → 2 ≤ slots_in_front (0 ∷ 2 ∷ []) slot + 1) (λ none. omega arith);
-    unwritten = of_slot (λ (slot : ℕ). ¬ HasLengths (set_record b ∷ set_record c ∷ []) (slots_in_front (0 ∷ 2 ∷ []) slot) 44 96 → CallsAtMost 1 0 0 0 uncounted (calls_of 1 1 1)) (λ none. absurd (none (refl, refl)));
-  }
+  old_name_is_put_back = (
+    λ calls. let wrong : 0xC3 ≡ 0xC1 = same_first (take 44 (data_set c)) a (key_there a 2 (set_record b ∷ set_record c ∷ []) (calls.synced (omega arith)).1) in omega (arith, wrong),
+    λ calls. let wrong : 0xC2 ≡ 0xC3 = same_first (take 44 (data_set b)) c (key_there c 2 (set_record c ∷ set_record b ∷ []) (calls.synced (omega arith)).1) in omega (arith, wrong),
+  )
 
   -- The buffer alone may be another; but C isn't in the index where it isn't on the image.
   name_in_the_index_is_on_the_image : IsBeforeOr (index any) image (later a 1 []) × (¬ IsBeforeOr (index any) image (later c 2 []))

@@ -1,6 +1,6 @@
 -- A set under its new name, put and made durable: what the operation on the volume is then.
 use Rattle.std.proofs.Common.{◌≡◌, ◌⊎◌, ⊎_elim, inl, inr, ℕ, List, length, Some, refl, sym, ap, subst, ◌∙◌, get_or, ◌+◌, arith}
-use Rattle.std.specs.Prelude.{Result, Ok, Err, slice_get, slice_set}
+use Rattle.std.specs.Prelude.{◌≤◌, ◌<◌, Result, Ok, Err, OnErr, slice_get, slice_set}
 use Rattle.std.proofs.lemmas.List.{get_or-set_same, length-set}
 use Rattle.std.proofs.lemmas.Option.{get_or_from_slice_get, slice_get-get_or}
 use Rattle.dscb_codec.specs.declared.Dscb.{Dscb}
@@ -8,18 +8,20 @@ use Rattle.dscb_codec.specs.declared.Dscb.TheVariants as formats
 use Rattle.dscb_codec.specs.declared.F1.{F1}
 use Rattle.dscb_codec.specs.Layout.{IsDscb}
 use Rattle.ebcdic_names.specs.declared.names.Dsn.{Dsn}
+use Rattle.hall_core.specs.Facts.{Calls, CallsAtMost}
 use Rattle.hall_core.specs.Files.{File}
 use Rattle.hall_core.specs.Moments.{Meaning}
 use Rattle.hall_core.proofs.StepLemmas.{done_step, failed_step}
 use Rattle.pack_spec.specs.Volume.{volume_of}
+use Rattle.track_records.specs.Updates.{HasLengths}
 use Rattle.vol_model.specs.Shelf.{rename_on}
 use Rattle.vol_model.specs.declared.answers.StoreErr.TheVariants.{Device}
 use Rattle.vol_model.specs.declared.contents.Volume.{Volume}
 use Rattle.vtoc_index.specs.Index.{IsMounted, IsPut, slots_in_front, track_index}
-use Rattle.vtoc_index.specs.Puts.{HoldsDscb, IsReplaced}
+use Rattle.vtoc_index.specs.Puts.{HoldsDscb, HoldsSlot, IsReplaced}
 use Rattle.vtoc_index.specs.declared.vol.Vol.{Vol}
 use Rattle.vtoc_index.proofs.NameLemmas.{named_alike}
-use Rattle.dadsm_ops.specs.Naming.{HaveName, HoldsRenamed, IsToRename, PutsName, RenamesEntry, under_name}
+use Rattle.dadsm_ops.specs.Naming.{HaveName, HoldsRenamed, IsToRename, PutsName, RenameCalls, RenamesEntry, under_name}
 use Rattle.dadsm_ops.specs.Operations.{Operates, image_named}
 use Rattle.dadsm_ops.specs.Through.{HaveSlot, PutsThrough}
 use Rattle.dadsm_ops.proofs.FoundSets.{FoundSet, set_found}
@@ -58,6 +60,32 @@ holds_renamed old new v v' slot d found put track held =
       track = track;
       held = held;
     }
+
+-- the calls of a rename, by those of the put: the slot of the old name is the one that is put
+pub rename_calls :
+    {T E : Type 0} (result : Result T E) (old new : List ℕ) (v v' : Vol) (slot : ℕ) (calls calls' : Calls)
+    → IsToRename v.slots.items old new slot
+    → (HoldsSlot v slot → CallsAtMost 0 1 1 0 calls calls')
+    → (¬ HoldsSlot v slot → length v'.buf.records ≤ slots_in_front v.firsts.items slot + 1)
+    → (calls.syncs < calls'.syncs → RenamesEntry old new v.slots.items v'.slots.items × HoldsRenamed old new v v')
+    → OnErr result (¬ HasLengths v'.buf.records (slots_in_front v.firsts.items slot) 44 96 → CallsAtMost 1 0 0 0 calls calls')
+    → RenameCalls old new v v' calls calls' result
+rename_calls result old new v v' slot calls calls' found again few synced unwritten = record {
+  again = λ s is. subst (λ (n : ℕ). HoldsSlot v n → CallsAtMost 0 1 1 0 calls calls') (same s is) again;
+  few = λ s is. subst (λ (n : ℕ). ¬ HoldsSlot v n → length v'.buf.records ≤ slots_in_front v.firsts.items n + 1) (same s is) few;
+  synced = synced;
+  unwritten = on_slots result unwritten;
+}
+  where
+    same : (s : ℕ) → IsToRename v.slots.items old new s → slot ≡ s
+    same s is = let both : Some slot ≡ Some s = sym found.found ∙ is.found in cc
+
+    Unwritten : ℕ → Type 0
+    Unwritten n = ¬ HasLengths v'.buf.records (slots_in_front v.firsts.items n) 44 96 → CallsAtMost 1 0 0 0 calls calls'
+
+    on_slots : {T E : Type 0} (r : Result T E) → OnErr r (Unwritten slot) → OnErr r ((s : ℕ) → IsToRename v.slots.items old new s → Unwritten s)
+    on_slots (Ok x) none = tt
+    on_slots (Err e) none = λ s is. subst Unwritten (same s is) none
 
 -- the same, where the slots may be as before
 pub may_rename_entry : (old new : List ℕ) (items items' : List Dscb) (slot : ℕ) (x d : Dscb) → IsToRename items old new slot → x ≡ get_or items slot x → d ≡ under_name new x → (items' ≡ items) ⊎ (items' ≡ slice_set items slot d) → (items' ≡ items) ⊎ RenamesEntry old new items items'

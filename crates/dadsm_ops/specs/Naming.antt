@@ -1,5 +1,5 @@
 -- What gives a data set another name, in the slots of a VTOC (System Control Blocks GC28-6628).
-use Rattle.std.specs.Prelude.{◌≡◌, ◌⊎◌, ℕ, ◌+◌, ◌≤◌, ◌||◌, false, if◌then◌else◌, List, [], ◌∷◌, ◌++◌, drop, length, position, slice_get, Option, Some, None, is_none, is_some, slice_set, Result, Ok, Err, OnErr}
+use Rattle.std.specs.Prelude.{◌≡◌, ◌⊎◌, ℕ, ◌+◌, ◌<◌, ◌≤◌, ◌||◌, false, if◌then◌else◌, List, [], ◌∷◌, ◌++◌, drop, length, position, slice_get, Option, Some, None, is_none, is_some, slice_set, Result, Ok, Err, OnErr}
 use Rattle.dscb_codec.specs.declared.Dscb.{Dscb}
 use Rattle.dscb_codec.specs.declared.Dscb.TheVariants.{F1}
 use Rattle.ebcdic_names.specs.declared.names.Dsn.{Dsn}
@@ -66,10 +66,11 @@ pub record HoldsRenamed (old new : List ℕ) (before after : Vol) : Type 0 where
   pub track : after.buf.track ≡ before.vtoc.start + track_index before.firsts.items slot
   pub held : HoldsDscb (slots_in_front before.firsts.items slot) dscb after.buf.records
 
--- The calls of a rename, by the slot of the old name: no read where the buffer holds it, no write nor sync where no slot is found there, and no more of the track in the buffer behind it than up to the slot.
+-- The calls of a rename, by the slot of the old name: no read where the buffer holds it, no write nor sync where no slot is found there, and no more of the track in the buffer behind it than up to the slot; and no sync but where the index has the new name, done or failed.
 pub record RenameCalls {T E : Type 0} (old new : List ℕ) (before after : Vol) (calls calls' : Calls) (result : Result T E) : Type 0 where
   pub again : (slot : ℕ) → IsToRename before.slots.items old new slot → HoldsSlot before slot → CallsAtMost 0 1 1 0 calls calls'
   pub few : (slot : ℕ) → IsToRename before.slots.items old new slot → ¬ HoldsSlot before slot → length after.buf.records ≤ slots_in_front before.firsts.items slot + 1
+  pub synced : calls.syncs < calls'.syncs → RenamesEntry old new before.slots.items after.slots.items × HoldsRenamed old new before after
   pub unwritten : OnErr result ((slot : ℕ) → IsToRename before.slots.items old new slot → ¬ HasLengths after.buf.records (slots_in_front before.firsts.items slot) 44 96 → CallsAtMost 1 0 0 0 calls calls')
 
 -- the bytes of a slot, under another name: the name is the key, 44 bytes in front, and the other 96 stay

@@ -47,6 +47,7 @@ pub fn rename<H: Hall>(hall: &mut H, vol: &mut Vol, old: &Dsn, new: &Dsn) -> Res
     ensures memory { IsErrOf result StoreErr.Memory → ⊥ }
     ensures call { StoreCall (H.facts hall.old) (H.facts hall.new) result }
     ensures calls { CallsAtMost 1 1 1 0 (H.calls hall.old) (H.calls hall.new) }
+    ensures behind { OnOk result (H.behind_sync hall.new) }
     ensures again { RenameCalls old.now.bytes new.now.bytes vol.old vol.new (H.calls hall.old) (H.calls hall.new) result }
 {
     let slot = slot_to_rename(vol, old, new).map_err(StoreErr::Refused)?;

@@ -14,7 +14,7 @@ use vtoc_index::{Vol, put_slot};
 
 // Puts a DSCB into a slot by one write, and makes it durable. After an error the write is pending, done,
 // or not begun, and the index, with the slot as it was, may be that of no image any more; with the DSCB it
-// is that of the image.
+// is that of the image, as it is where the write was done and a sync asked for.
 pub(crate) fn put_through<H: Hall>(
     hall: &mut H,
     vol: &mut Vol,
@@ -33,8 +33,10 @@ pub(crate) fn put_through<H: Hall>(
     ensures unit { IsOfUnit (H.facts hall.new).units vol.new }
     ensures track { vol.new.buf.track ≡ vol.old.vtoc.start + track_index vol.old.firsts.items slot }
     ensures slot { OnOk result (HoldsDscb (slots_in_front vol.old.firsts.items slot) dscb.now vol.new.buf.records) }
+    ensures synced { (H.calls hall.old).syncs < (H.calls hall.new).syncs → (vol.new.slots.items ≡ slice_set vol.old.slots.items slot dscb.now) × HoldsDscb (slots_in_front vol.old.firsts.items slot) dscb.now vol.new.buf.records }
     ensures call { DeviceCall (H.facts hall.old) (H.facts hall.new) result }
     ensures calls { CallsAtMost 1 1 1 0 (H.calls hall.old) (H.calls hall.new) }
+    ensures behind { OnOk result (H.behind_sync hall.new) }
     ensures again { HoldsSlot vol.old slot → CallsAtMost 0 1 1 0 (H.calls hall.old) (H.calls hall.new) }
     ensures few { ¬ HoldsSlot vol.old slot → length vol.new.buf.records ≤ slots_in_front vol.old.firsts.items slot + 1 }
     ensures unwritten { OnErr result (¬ HasLengths vol.new.buf.records (slots_in_front vol.old.firsts.items slot) 44 96 → CallsAtMost 1 0 0 0 (H.calls hall.old) (H.calls hall.new)) }
@@ -48,6 +50,7 @@ fn make_durable<H: Hall>(hall: &mut H) -> Result<(), Device>
     ensures told { IsTrue H.tells → AfterSync (H.meaning hall.old) (H.meaning hall.new) result }
     ensures call { DeviceCall (H.facts hall.old) (H.facts hall.new) result }
     ensures calls { CallsAtMost 0 0 1 0 (H.calls hall.old) (H.calls hall.new) }
+    ensures behind { OnOk result (H.behind_sync hall.new) }
 {
     hall.sync()?;
     Ok(())

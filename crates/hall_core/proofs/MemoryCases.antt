@@ -3,14 +3,16 @@ use Rattle.std.proofs.Common.{◌≡◌, ◌≢◌, ◌-◌, ◌^◌, ⊎_elim, 
 use Rattle.std.specs.Prelude.{Ok, Err, Contains, true, take, String, Vec}
 use Rattle.std.specs.declared.alloc.Global.{Global}
 use Rattle.hall_core.specs.declared.hall.HallErr.TheVariants.{Failed, Memory}
+use Rattle.hall_core.specs.declared.mem_hall.step.Call.{Call}
 use Rattle.hall_core.specs.declared.mem_hall.step.Call.TheVariants.{Sync}
+use Rattle.hall_core.specs.declared.mem_hall.step.Call.TheVariants as kinds
 use Rattle.hall_core.specs.declared.mem_hall.step.Step.TheVariants.{Write, Print}
 use Rattle.hall_core.specs.declared.mem_hall.MemHall.{MemHall}
 use Rattle.hall_core.specs.declared.mem_cards.MemCards.{MemCards}
 use Rattle.hall_core.specs.Facts.{unit_of}
 use Rattle.hall_core.specs.Held.{attached_as, file_of_pair}
 use Rattle.hall_core.specs.History.{Event, after_all, new_disk, printed, synced, wrote}
-use Rattle.hall_core.specs.Memory.{calls_of, disk_at, events_of, facts_of, failing_calls, first_files, meaning_of, number_of_calls, calls_left, bytes_left, LacksRoom, HasRoom, NextCallFails, KeepsAllButRoom, KeepsRecord, KeepsRoom, KeepsSetup, Records, IsExactCall}
+use Rattle.hall_core.specs.Memory.{EndsInSync, calls_of, disk_at, events_of, facts_of, failing_calls, first_files, meaning_of, number_of_calls, calls_left, bytes_left, LacksRoom, HasRoom, NextCallFails, KeepsAllButRoom, KeepsRecord, KeepsRoom, KeepsSetup, Records, IsExactCall}
 use Rattle.hall_core.specs.MemoryCards.{IsNextRead, bytes_left as bytes_to_come, failing_reads, faults_counted, number_of_reads}
 
 -- room for one call, and for five bytes: five may be used, and not six
@@ -47,6 +49,27 @@ module _ (hall : MemHall) (failing : failing_calls hall ≡ 4 ∷ 2 ∷ []) wher
       of_three (zero, low, is) = absurd (omega (arith, is))
       of_three (suc zero, low, is) = absurd (omega (arith, is))
       of_three (suc (suc k), low, is) = absurd (omega arith)
+
+-- The last call is a sync: not one before it, nor is one where there was no call.
+module _ (hall : MemHall) where
+  sync_is_the_last_call : calls_of hall ≡ kinds.Print ∷ Sync ∷ [] → EndsInSync hall
+  sync_is_the_last_call calls = (kinds.Print ∷ [], calls)
+
+  print_is_the_last_call : calls_of hall ≡ Sync ∷ kinds.Print ∷ [] → ¬ EndsInSync hall
+  print_is_the_last_call calls ends = of ends.0 (sym ends.1 ∙ calls)
+    where
+      of : (before : List Call) → before ++ Sync ∷ [] ≢ Sync ∷ kinds.Print ∷ []
+      of [] is = absurd (cc is)
+      of (x ∷ []) is = absurd (cc is)
+      of (x ∷ y ∷ []) is = absurd (cc is)
+      of (x ∷ y ∷ z ∷ rest) is = absurd (cc is)
+
+  no_call_is_the_last : calls_of hall ≡ [] → ¬ EndsInSync hall
+  no_call_is_the_last calls ends = of ends.0 (sym ends.1 ∙ calls)
+    where
+      of : (before : List Call) → before ++ Sync ∷ [] ≢ []
+      of [] is = absurd (cc is)
+      of (x ∷ rest) is = absurd (cc is)
 
 -- a call uses one call of the room, and just its bytes
 module _ (old new : MemHall) (calls : calls_left old ≡ 3) (bytes : bytes_left old ≡ 5) where

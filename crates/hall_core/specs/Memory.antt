@@ -9,6 +9,7 @@ use Rattle.hall_core.specs.Replay.{events_at}
 use Rattle.hall_core.specs.declared.hall.HallErr.{HallErr}
 use Rattle.hall_core.specs.declared.hall.HallErr.TheVariants.{Failed, Memory}
 use Rattle.hall_core.specs.declared.mem_hall.step.Call.{Call}
+use Rattle.hall_core.specs.declared.mem_hall.step.Call.TheVariants.{Sync}
 use Rattle.hall_core.specs.declared.mem_hall.MemHall.{MemHall}
 
 -- the files that it was given
@@ -34,6 +35,10 @@ disk_at hall moment = after_all (new_disk (first_files hall)) (take moment (even
 -- the record of its calls
 abbrev pub calls_of : MemHall → List Call
 calls_of hall = hall.calls.items
+
+-- the last call on its record is a sync
+abbrev pub EndsInSync : MemHall → Type 0
+EndsInSync hall = (before : List Call) × (calls_of hall ≡ before ++ Sync ∷ [])
 
 -- at which numbers its calls fail
 abbrev pub failing_calls : MemHall → List ℕ

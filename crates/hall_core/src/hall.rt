@@ -49,6 +49,9 @@ pub trait Hall {
     /// Its calls, if it counts them: by none does a number rise but that of its kind, and that by at most one.
     ghost calls: { Self → Calls };
 
+    /// What holds behind a sync that is done, as long as no other call comes.
+    ghost behind_sync: { Self → Type 0 };
+
     /// Attaches a file as the next unit, and gives the number of the unit.
     ///
     /// A unit keeps the size that its file has now. Of the errors, `Missing` says that there is no
@@ -97,6 +100,7 @@ pub trait Hall {
         ensures told { IsTrue tells → AfterSync (meaning self.old) (meaning self.new) result }
         ensures call { DeviceCall (facts self.old) (facts self.new) result }
         ensures calls { CallsAtMost 0 0 1 0 (calls self.old) (calls self.new) }
+        ensures behind { OnOk result (behind_sync self.new) }
         ensures error { IfErr result (λ e. e ≡ HallErr.Failed) };
 
     /// Prints the bytes, whatever they are.
@@ -146,6 +150,8 @@ impl<H: Hall> Hall for &mut H {
     ghost facts = { λ h. record (H.facts h.now) { references = h.ghost_name ∷ (H.facts h.now).references } };
 
     ghost calls = { λ h. H.calls h.now };
+
+    ghost behind_sync = { λ h. H.behind_sync h.now };
 
     ghost leaves_state = { λ h. H.leaves_state h.now };
 

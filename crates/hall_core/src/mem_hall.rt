@@ -273,7 +273,7 @@ impl Hall for MemHall {
     ghost use Rattle.hall_core.specs.Files.{file_of, HasBytesAt, Attaches, AfterWrite, AfterSync, AfterPrint};
     ghost use Rattle.hall_core.specs.Moments.{Same};
     ghost use Rattle.hall_core.specs.History.{wrote, synced, printed, passed};
-    ghost use Rattle.hall_core.specs.Memory.{first_files, events_of, meaning_of, facts_of, IsExactCall};
+    ghost use Rattle.hall_core.specs.Memory.{EndsInSync, first_files, events_of, meaning_of, facts_of, IsExactCall};
     ghost use Rattle.hall_core.specs.Laws.{leaves_state as state_left, counts_now as now_counted, only_now as none_since, whole_units, none_pending as none_settled};
 
     ghost tells = { true };
@@ -283,6 +283,8 @@ impl Hall for MemHall {
     ghost facts = { λ hall. facts_of hall };
 
     ghost calls = { λ _. uncounted };
+
+    ghost behind_sync = { λ hall. EndsInSync hall };
 
     ghost leaves_state = { λ hall. state_left hall };
 
@@ -366,6 +368,7 @@ impl Hall for MemHall {
     fn sync(&mut self) -> Result<(), HallErr>
         ensures told { AfterSync (meaning_of self.old) (meaning_of self.new) result }
         ensures call { DeviceCall (facts_of self.old) (facts_of self.new) result }
+        ensures behind { OnOk result (EndsInSync self.new) }
         ensures error { IfErr result (λ e. e ≡ HallErr.Failed) }
         ensures exact { IsExactCall 0 Call.Sync (if is_ok result then synced else passed) self.old self.new result }
     {

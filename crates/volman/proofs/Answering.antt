@@ -7,6 +7,7 @@ use Rattle.hall_core.specs.Moments.{Meaning}
 use Rattle.hall_core.proofs.MomentLemmas.{elapses_weaker}
 use Rattle.util_syntax.specs.declared.statement.Rename.{Rename}
 use Rattle.vol_model.specs.declared.answers.MachErr.{MachErr}
+use Rattle.vol_model.specs.declared.answers.MachErr.TheVariants.{Refused}
 use Rattle.vol_model.specs.declared.contents.Shelf.{Shelf}
 use Rattle.vol_model.specs.declared.contents.Volume.{Volume}
 use Rattle.vol_model.specs.declared.refusals.Refusal.{Refusal}
@@ -68,6 +69,15 @@ device_failed {T' = T'} {E' = E'} {tells = tells} {old = old} {new = new} s foun
     by_step : (r : Result Shelf Refusal) → step old.state (operation_on s v) ≡ r → (shelf : Shelf) → (shelf ≡ old.state) ⊎ (step old.state (operation_on s v) ≡ Ok shelf) → StopsIn old.state (map Do (item_by s (operation_on s v) r).operations) shelf []
     by_step (Ok after) at shelf = ⊎_elim (λ before. inl (before, refl)) (λ done. inr (ap (behind old.state) (sym done), refl))
     by_step (Err r) at shelf = ⊎_elim (λ before. (before, refl)) (λ done. let never = sym at ∙ done in absurd (cc never))
+
+-- where a statement has nothing to do its operation was refused, and no fault came in the refusal's place
+pub refused_idle : {T : Type 0} {old new : Meaning Shelf} {result : Result T MachErr} (s : Rename) (found : Option ℕ) (v : ℕ) → found ≡ Some v → Applies (operation_on s v) old new result → (item_on old.state s found).operations ≡ [] → (r : Refusal) × (result ≡ Err (Refused r))
+refused_idle {T} {old} {new} {result} s found v is run idle =
+    by_step (step old.state (operation_on s v)) refl (subst (λ (o : Option ℕ). (item_on old.state s o).operations ≡ []) is idle)
+  where
+    by_step : (r : Result Shelf Refusal) → step old.state (operation_on s v) ≡ r → (item_by s (operation_on s v) r).operations ≡ [] → (r : Refusal) × (result ≡ Err (Refused r))
+    by_step (Ok after) at some = absurd (cc some)
+    by_step (Err r) at none = (r, run.refused tt r at)
 
 -- the events of a statement that is answered by a line
 events_found : (shelf : Shelf) (s : Rename) (v : Option ℕ) (line : List ℕ) → v ≡ number_of shelf s.serial.bytes → (item_on shelf s v).lines ≡ line ∷ [] → map Do (item_on shelf s v).operations ++ Say line ∷ [] ≡ events_in (item_of shelf s)

@@ -168,6 +168,8 @@ impl<R: Files<File = File> + Print> Hall for FileHall<'_, R> {
 
     ghost calls = { λ _. uncounted };
 
+    ghost behind_sync = { λ hall. All IsFalse (notes_of hall) };
+
     ghost leaves_state = { λ _. tt };
 
     ghost counts_now = { λ _ _ _ _ _. refl };
@@ -244,7 +246,7 @@ impl<R: Files<File = File> + Print> Hall for FileHall<'_, R> {
         ensures calls { CallsAtMost 0 0 1 0 uncounted uncounted }
         ensures error { IfErr result (λ e. e ≡ HallErr.Failed) }
         ensures none { All IsFalse (notes_of self.old) → result ≡ Ok tt }
-        ensures synced { OnOk result (All IsFalse (notes_of self.new)) }
+        ensures behind { OnOk result (All IsFalse (notes_of self.new)) }
         ensures files { map (λ (u : Unit). u.file) self.new.units.items ≡ map (λ (u : Unit). u.file) self.old.units.items }
         ensures kept { OnErr result (notes_of self.new ≡ notes_of self.old) }
     {

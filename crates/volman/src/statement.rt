@@ -21,7 +21,8 @@ const FIRST_CARD: u32 = 1;
 /// An error comes where the machine has one, or where there is no memory for the line. The line is printed
 /// once the operation is done: so where the print failed, the operation is done, and nothing but the print came
 /// behind it; where the device failed, nothing is printed; and where memory ran out and the shelf is as before,
-/// nothing was written nor synced.
+/// nothing was written nor synced. Where the statement is to be refused, nothing but the print is called, whatever comes
+/// of that.
 pub fn run_rename<M: Machine>(
     alloc: Global,
     machine: &mut M,
@@ -41,6 +42,7 @@ pub fn run_rename<M: Machine>(
     ensures calls { CallsAtMost 1 1 1 1 (M.calls machine.old) (M.calls machine.new) }
     ensures held { (v : ℕ) → volume ≡ Some v → M.holds machine.old (operation_on statement.now v) → CallsAtMost 0 1 1 1 (M.calls machine.old) (M.calls machine.new) }
     ensures refused { IfOk result (λ code. code ≡ 8 → CallsAtMost 0 0 0 1 (M.calls machine.old) (M.calls machine.new)) }
+    ensures idle { IsTrue M.tells → (item_of (M.meaning machine.old).state statement.now).operations ≡ [] → CallsAtMost 0 0 0 1 (M.calls machine.old) (M.calls machine.new) }
     ensures once { AsksAtMost 1 1 (M.asked machine.old) (M.asked machine.new) }
     ensures unasked { volume ≡ None → AsksAtMost 0 1 (M.asked machine.old) (M.asked machine.new) }
     ensures unprinted { (IsErrOf result Stop.Device) ⊎ (IsErrOf result Stop.Memory) → CallsAtMost 1 1 1 0 (M.calls machine.old) (M.calls machine.new) }
@@ -70,6 +72,7 @@ fn rename<M: Machine>(
     ensures calls { CallsAtMost 1 1 1 0 (M.calls machine.old) (M.calls machine.new) }
     ensures held { (v : ℕ) → volume ≡ Some v → M.holds machine.old (operation_on statement.now v) → CallsAtMost 0 1 1 0 (M.calls machine.old) (M.calls machine.new) }
     ensures refused { IfOk result (λ outcome. OnErr outcome (CallsAtMost 0 0 0 0 (M.calls machine.old) (M.calls machine.new))) }
+    ensures idle { IsTrue M.tells → (item_on (M.meaning machine.old).state statement.now volume).operations ≡ [] → CallsAtMost 0 0 0 0 (M.calls machine.old) (M.calls machine.new) }
     ensures changed { IsTrue M.tells → IfOk result (λ outcome. OnOk outcome ((M.meaning machine.new).state ≢ (M.meaning machine.old).state)) }
     ensures memory { IsErrOf result Stop.Memory → CallsAtMost 1 0 0 0 (M.calls machine.old) (M.calls machine.new) }
     ensures once { AsksAtMost 1 0 (M.asked machine.old) (M.asked machine.new) }

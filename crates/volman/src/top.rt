@@ -1,17 +1,21 @@
 //! The top call: all that the program does.
-ghost use Rattle.std.specs.Prelude.{◌≡◌, ◌≢◌, ◌≤◌, ◌+◌, ◌⊎◌, [], List, ℕ, drop, length, map, string_bytes, IsTrue, IfOk, OnErr, Some, None};
+ghost use Rattle.std.specs.Prelude.{◌≡◌, ◌≢◌, ◌≤◌, ◌+◌, ◌⊎◌, [], List, ℕ, drop, length, map, string_bytes, IsTrue, IfOk, OnErr, Some, None, Ok};
 ghost use Rattle.hall_core.specs.Facts.{AttachesOnce, CallsAtMost, Rose};
 ghost use Rattle.hall_core.specs.Files.{file_of};
 ghost use Rattle.dadsm_ops.specs.Operations.{image_named};
+ghost use Rattle.pack_spec.specs.Volume.{volume_of};
+ghost use Rattle.vol_model.specs.declared.contents.Volume.{Volume};
 ghost use Rattle.vtoc_index.specs.Calls.{reads_to_mount};
 ghost use Rattle.vtoc_index.specs.Index.{IsMounted};
 ghost use Rattle.vtoc_index.specs.declared.vol.Vol.{Vol};
 ghost use Rattle.volman.specs.Deck.{TakesAtMost, deck_of};
 ghost use Rattle.volman.specs.Lines.{names_listing, unit_line};
+ghost use Rattle.volman.specs.Machine.{shelf_with};
 ghost use Rattle.volman.specs.Mount.{IsOnLastTrack};
 ghost use Rattle.volman.specs.Names.{IsListing, names_in};
 ghost use Rattle.hall_core.specs.Moments.{IsDurable};
 ghost use Rattle.volman.specs.Run.{AttachesAsked, CountsReported, Does, Headline, IsStatus, IsUnasked, IsUnbegun, Later, LeavesFiles, OnFile, PrintsText, code_of};
+ghost use Rattle.volman.specs.Statement.{IsCode, item_of};
 ghost use Rattle.volman.specs.Task.{Says, names_task, statement_task, task_on};
 ghost use Rattle.volman.specs.Words.{Names, Run, asked_in, request_of};
 
@@ -106,6 +110,9 @@ pub fn volman<C: Cards, H: Hall>(
     ensures references { (H.facts hall.new).references ≡ (H.facts hall.old).references }
     ensures units { AttachesAsked (asked_in words) (H.facts hall.old) (H.facts hall.new) }
 
+    // A condition code comes behind a sync, which is the last call.
+    ensures behind { (file : List ℕ) → asked_in words ≡ Some (Run file) → IsCode result → H.behind_sync hall.new }
+
     // Over any hall there is at most one attachment, and 259 reads to mount a pack, of its header, its label and a VTOC
     // of at most 257 tracks; for a statement one read more, one write and two syncs; and one print. Nothing is written
     // nor synced where no statement is asked for, nor where one isn't begun; and nothing is written for a statement
@@ -126,6 +133,10 @@ pub fn volman<C: Cards, H: Hall>(
     ensures reads_refused { IsTrue H.tells → (file : List ℕ) → asked_in words ≡ Some (Run file) → result ≡ 8 → AttachesOnce (reads_to_mount (image_named (H.meaning hall.old).state file)) 0 1 1 (H.calls hall.old) (H.calls hall.new) }
     ensures reads_run { IsTrue H.tells → (file : List ℕ) → asked_in words ≡ Some (Run file) → AttachesOnce (reads_to_mount (image_named (H.meaning hall.old).state file) + 1) 1 2 1 (H.calls hall.old) (H.calls hall.new) }
     ensures reads_held { IsTrue H.tells → IsTrue C.tells → (file : List ℕ) → asked_in words ≡ Some (Run file) → (statement : Rename) → deck_of (C.left cards.old) ≡ Some statement → (vol : Vol) → IsMounted (image_named (H.meaning hall.old).state file) vol → IsOnLastTrack statement vol → AttachesOnce (reads_to_mount (image_named (H.meaning hall.old).state file)) 1 2 1 (H.calls hall.old) (H.calls hall.new) }
+
+    // Over halls and cards that tell, a statement that the pack refuses takes one sync at most besides, whatever comes
+    // of it, and that behind the print.
+    ensures idle { IsTrue H.tells → IsTrue C.tells → (file : List ℕ) → asked_in words ≡ Some (Run file) → (statement : Rename) → deck_of (C.left cards.old) ≡ Some statement → (volume : Volume) → volume_of (image_named (H.meaning hall.old).state file) ≡ Ok volume → (item_of (shelf_with volume) statement).operations ≡ [] → AttachesOnce (reads_to_mount (image_named (H.meaning hall.old).state file)) 0 1 1 (H.calls hall.old) (H.calls hall.new) × (result ≡ 24 → AttachesOnce (reads_to_mount (image_named (H.meaning hall.old).state file)) 0 0 1 (H.calls hall.old) (H.calls hall.new)) }
 
     // The words come first, then the deck, then the file: none is attached where the words or the deck
     // are refused, or the cards couldn't be read, and nothing but a print is done then.
@@ -198,12 +209,14 @@ fn run<H: Hall>(alloc: Global, hall: &mut H, file: &str, statement: &Rename) -> 
     ensures calls { AttachesOnce 260 1 2 1 (H.calls hall.old) (H.calls hall.new) }
     ensures unbegun { result ≡ 21 → AttachesOnce 259 0 0 1 (H.calls hall.old) (H.calls hall.new) }
     ensures unwritten { result ≡ 8 → AttachesOnce 259 0 1 1 (H.calls hall.old) (H.calls hall.new) }
+    ensures behind { IsCode result → H.behind_sync hall.new }
     ensures unsaid { result ≡ 24 → AttachesOnce 260 1 1 1 (H.calls hall.old) (H.calls hall.new) }
     ensures unprinted { result ≡ 25 → AttachesOnce 260 1 1 0 (H.calls hall.old) (H.calls hall.new) }
     ensures unchanged { IsTrue H.tells → result ≡ 25 → (H.meaning hall.new).state ≡ (H.meaning hall.old).state → AttachesOnce 260 0 0 0 (H.calls hall.old) (H.calls hall.new) }
     ensures reads_refused { IsTrue H.tells → result ≡ 8 → AttachesOnce (reads_to_mount (image_named (H.meaning hall.old).state file.now)) 0 1 1 (H.calls hall.old) (H.calls hall.new) }
     ensures reads { IsTrue H.tells → AttachesOnce (reads_to_mount (image_named (H.meaning hall.old).state file.now) + 1) 1 2 1 (H.calls hall.old) (H.calls hall.new) }
     ensures held { IsTrue H.tells → (vol : Vol) → IsMounted (image_named (H.meaning hall.old).state file.now) vol → IsOnLastTrack statement.now vol → AttachesOnce (reads_to_mount (image_named (H.meaning hall.old).state file.now)) 1 2 1 (H.calls hall.old) (H.calls hall.new) }
+    ensures idle { IsTrue H.tells → (volume : Volume) → volume_of (image_named (H.meaning hall.old).state file.now) ≡ Ok volume → (item_of (shelf_with volume) statement.now).operations ≡ [] → AttachesOnce (reads_to_mount (image_named (H.meaning hall.old).state file.now)) 0 1 1 (H.calls hall.old) (H.calls hall.new) × (result ≡ 24 → AttachesOnce (reads_to_mount (image_named (H.meaning hall.old).state file.now)) 0 0 1 (H.calls hall.old) (H.calls hall.new)) }
     ensures call { OnFile file.now (H.facts hall.old) (H.facts hall.new) result }
 {
     match mount(alloc, hall, file) {

@@ -1,5 +1,5 @@
 //! A statement on a pack that is mounted.
-ghost use Rattle.std.specs.Prelude.{◌≡◌, ◌≤◌, ◌⊎◌, ℕ, [], ◌∷◌, IsTrue, Ok};
+ghost use Rattle.std.specs.Prelude.{◌≡◌, ◌≢◌, ◌≤◌, ◌⊎◌, ℕ, [], ◌∷◌, IsTrue, Ok};
 ghost use Rattle.hall_core.specs.Facts.{CallsAtMost, Rose, unit_of};
 ghost use Rattle.hall_core.specs.Files.{image_of};
 ghost use Rattle.hall_core.specs.Moments.{IsDurable};
@@ -25,8 +25,9 @@ use vtoc_index::Vol;
 /// the hall: the condition code, 0 or 8, or the status of a fault of the device, 22, of the printer, 24, or
 /// of want of memory, 25.
 ///
-/// No write is pending before. Behind a fault the hall is one that a stop may leave; behind one of the printer
-/// the statement is done, and no write is pending; behind want of memory it may be done, and nothing was printed.
+/// No write is pending before. The sync comes behind the line, and is the last call where a condition code is given.
+/// Behind a fault the hall is one that a stop may leave; behind one of the printer the statement is done, and no write
+/// is pending; behind want of memory it may be done, and nothing was printed.
 pub fn run_statement<H: Hall>(alloc: Global, statement: &Rename, vol: Vol, hall: H) -> (u8, H)
     requires unit { IsOfUnit (H.facts hall).units vol }
     requires mounted { IsTrue H.tells → IsMounted (image_of (H.meaning hall).state (H.facts hall) vol.unit) vol }
@@ -40,6 +41,8 @@ pub fn run_statement<H: Hall>(alloc: Global, statement: &Rename, vol: Vol, hall:
     ensures calls { CallsAtMost 1 1 2 1 (H.calls hall) (H.calls result.1) }
     ensures held { vol.serial ≡ statement.now.serial → (slot : ℕ) → IsToRename vol.slots.items statement.now.old.bytes statement.now.new.bytes slot → HoldsSlot vol slot → CallsAtMost 0 1 2 1 (H.calls hall) (H.calls result.1) }
     ensures refused { result.0 ≡ 8 → CallsAtMost 0 0 1 1 (H.calls hall) (H.calls result.1) }
+    ensures idle { IsTrue H.tells → (volume : Volume) → volume_of (image_of (H.meaning hall).state (H.facts hall) vol.unit) ≡ Ok volume → (item_of (shelf_with volume) statement.now).operations ≡ [] → CallsAtMost 0 0 1 1 (H.calls hall) (H.calls result.1) × (result.0 ≡ 24 → CallsAtMost 0 0 0 1 (H.calls hall) (H.calls result.1)) }
+    ensures behind { IsCode result.0 → H.behind_sync result.1 }
     ensures unsaid { result.0 ≡ 24 → CallsAtMost 1 1 1 1 (H.calls hall) (H.calls result.1) }
     ensures unprinted { result.0 ≡ 25 → CallsAtMost 1 1 1 0 (H.calls hall) (H.calls result.1) }
     ensures unchanged { IsTrue H.tells → result.0 ≡ 25 → (H.meaning result.1).state ≡ (H.meaning hall).state → CallsAtMost 1 0 0 0 (H.calls hall) (H.calls result.1) }
@@ -70,6 +73,7 @@ fn finish<H: Hall>(hall: &mut H, code: u8) -> u8
     ensures reported { CountsReported result (H.facts hall.old) (H.facts hall.new) }
     ensures later { Later (H.facts hall.old) (H.facts hall.new) }
     ensures calls { CallsAtMost 0 0 1 0 (H.calls hall.old) (H.calls hall.new) }
+    ensures behind { result ≢ 22 → H.behind_sync hall.new }
     ensures prints { (H.facts hall.new).print_faults ≡ (H.facts hall.old).print_faults }
     ensures units { (H.facts hall.new).units ≡ (H.facts hall.old).units }
     ensures references { (H.facts hall.new).references ≡ (H.facts hall.old).references }

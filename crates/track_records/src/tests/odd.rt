@@ -28,6 +28,8 @@ impl Hall for Odd {
 
     ghost calls = { λ _. uncounted };
 
+    ghost behind_sync = { λ _. Unit {0} };
+
     ghost leaves_state = { λ _. tt };
 
     ghost counts_now = { λ _ _ _ _ _. refl };

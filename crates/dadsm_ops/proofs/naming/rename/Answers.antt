@@ -1,7 +1,7 @@
 use Rattle.std.proofs.Common.{inr, rules}
 use Rattle.hall_core.specs.Facts.{unit_of}
 use Rattle.dadsm_ops.specs.Naming.{IsToRename}
-use Rattle.dadsm_ops.proofs.Renaming.{holds_renamed, may_rename_entry, puts_name, puts_name_not, renames, renames_entry, renames_not}
+use Rattle.dadsm_ops.proofs.Renaming.{holds_renamed, may_rename_entry, puts_name, puts_name_not, rename_calls, renames, renames_entry, renames_not}
 use Rattle.dadsm_ops.proofs.naming.rename.Goals as goal
 
 pub returns-in-Ok-clause-told : goal.returns-in-Ok-clause-told
@@ -58,3 +58,21 @@ returns-in-Err-clause-slots g c =
     let v = c.args.vol.now in
     let found : IsToRename v.slots.items c.args.old.now.bytes c.args.new.now.bytes c.in_ok-slot.slot = search rules in
     may_rename_entry c.args.old.now.bytes c.args.new.now.bytes v.slots.items c.put_through.new.vol.slots.items c.in_ok-slot.slot c.index.result.now c.under_name-dscb.result found c.index.ensures c.under_name-dscb.ensures.exact c.in-Err.ensures.slots
+
+pub returns-in-Ok-clause-again : goal.returns-in-Ok-clause-again
+returns-in-Ok-clause-again g c =
+    let v = c.args.vol.now in
+    let put = c.in-Ok.ensures in
+    let found : IsToRename v.slots.items c.args.old.now.bytes c.args.new.now.bytes c.in_ok-slot.slot = search rules in
+    rename_calls _ c.args.old.now.bytes c.args.new.now.bytes v c.put_through.new.vol c.in_ok-slot.slot (g.H.Hall.calls c.args.hall.now) (g.H.Hall.calls c.put_through.new.hall) found put.again put.few (λ more. (returns-in-Ok-clause-entry g c, returns-in-Ok-clause-held g c)) tt
+
+pub returns-in-Err-clause-again : goal.returns-in-Err-clause-again
+returns-in-Err-clause-again g c =
+    let v = c.args.vol.now in
+    let put = c.in-Err.ensures in
+    let found : IsToRename v.slots.items c.args.old.now.bytes c.args.new.now.bytes c.in_ok-slot.slot = search rules in
+    rename_calls _ c.args.old.now.bytes c.args.new.now.bytes v c.put_through.new.vol c.in_ok-slot.slot (g.H.Hall.calls c.args.hall.now) (g.H.Hall.calls c.put_through.new.hall) found put.again put.few
+    (λ more.
+    let put_there = put.synced more in
+    (renames_entry c.args.old.now.bytes c.args.new.now.bytes v.slots.items c.put_through.new.vol.slots.items c.in_ok-slot.slot c.index.result.now c.under_name-dscb.result found c.index.ensures c.under_name-dscb.ensures.exact put_there.0, holds_renamed c.args.old.now.bytes c.args.new.now.bytes v c.put_through.new.vol c.in_ok-slot.slot c.under_name-dscb.result found put_there.0 put.track put_there.1))
+    put.unwritten

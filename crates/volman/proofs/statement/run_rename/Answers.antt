@@ -1,4 +1,4 @@
-use Rattle.std.proofs.Common.{◌≡◌, refl, sym, ◌∙◌, ap, List, ℕ, [], ◌∷◌}
+use Rattle.std.proofs.Common.{◌≡◌, refl, rules, sym, ◌∙◌, ap, List, ℕ, [], ◌∷◌}
 use Rattle.vol_model.specs.Events.{Item}
 use Rattle.volman.specs.Statement.{answer_line, item_on}
 use Rattle.volman.proofs.Answering.{item_found, promise_found, promise_then, ends_before_line, ends_in_line, answered, unprinted}
@@ -56,3 +56,27 @@ returns-in_err-say-clause-print g c told failed =
     let said : c.deref.result.now ≡ answer_line c.args.statement.now c.in_ok-outcome.outcome = c.deref.ensures.value ∙ c.in-Ok.ensures in
     unprinted (g.M.Machine.meaning c.say.new.machine) c.args.statement.now c.args.volume c.deref.result.now (c.requires.volume told)
     (c.in_ok-outcome.ensures.lines told ∙ ap (λ (line : List ℕ). line ∷ []) (sym said)) (c.in_ok-outcome.ensures.runs told) (c.say.ensures.shelf told)
+
+pub returns-in_err-outcome-clause-idle : goal.returns-in_err-outcome-clause-idle
+returns-in_err-outcome-clause-idle g c told none =
+    let found = item_found (g.M.Machine.meaning c.args.machine.now).state c.args.statement.now c.args.volume (c.requires.volume told) in
+    let few = c.rename.ensures.idle told (ap (λ (item : Item). item.operations) found ∙ none) in
+    search (rules, few)
+
+pub returns-in_default-clause-idle : goal.returns-in_default-clause-idle
+returns-in_default-clause-idle g c told none =
+    let found = item_found (g.M.Machine.meaning c.args.machine.now).state c.args.statement.now c.args.volume (c.requires.volume told) in
+    let few = c.rename.ensures.idle told (ap (λ (item : Item). item.operations) found ∙ none) in
+    search (rules, few)
+
+pub returns-in_err-say-clause-idle : goal.returns-in_err-say-clause-idle
+returns-in_err-say-clause-idle g c told none =
+    let found = item_found (g.M.Machine.meaning c.args.machine.now).state c.args.statement.now c.args.volume (c.requires.volume told) in
+    let few = c.rename.ensures.idle told (ap (λ (item : Item). item.operations) found ∙ none) in
+    search (rules, few)
+
+pub returns-clause-idle : goal.returns-clause-idle
+returns-clause-idle g c told none =
+    let found = item_found (g.M.Machine.meaning c.args.machine.now).state c.args.statement.now c.args.volume (c.requires.volume told) in
+    let few = c.rename.ensures.idle told (ap (λ (item : Item). item.operations) found ∙ none) in
+    search (rules, few)

@@ -66,3 +66,12 @@ returns-in-Ok-clause-held g c told vol mounted on =
     let at : found.buf.track ≡ found.vtoc.start + track_index found.firsts.items on.slot = omega (arith, c.in-Ok.ensures.last, last) in
     let few = c.run_statement-status.ensures.held serial on.slot named (at, c.in-Ok.ensures.held on.slot low at) in
     search (rules, few)
+
+pub returns-in-Ok-clause-idle : goal.returns-in-Ok-clause-idle
+returns-in-Ok-clause-idle g c told volume stands none =
+    let M = g.H.Hall.meaning in
+    let mid = c.mount.new.hall in
+    let there : volume_of (image_named (M mid).state (unit_of (g.H.Hall.facts mid).units c.in-Ok.vol.unit).name) ≡ Ok volume =
+    ap (λ (n : List ℕ). volume_of (image_named (M mid).state n)) c.in-Ok.ensures.unit.1 ∙ ap (λ (files : List File). volume_of (image_named files c.args.file.now)) (c.mount.ensures.told told).state ∙ stands in
+    let few = c.run_statement-status.ensures.idle told volume there none in
+    (search (rules, few), λ is. search (rules, few, is))

@@ -144,3 +144,21 @@ returns-clause-held g c serial slot found here =
       | in-Err-Print w ↦ search (rules, few)
       | in-Err-Memory w ↦ search (rules, few)
     ]
+
+pub returns-clause-idle : goal.returns-clause-idle
+returns-clause-idle g c told volume stands none =
+    let machine = c.open-machine.result in
+    let opened = c.open-machine.ensures in
+    let M = g.H.Hall.meaning in
+    let F = g.H.Hall.facts in
+    let calls = g.H.Hall.calls in
+    let statement = c.args.statement.now in
+    let mounted : volume_of (image_of (M machine.hall).state (F machine.hall) machine.vol.unit) ≡ Ok volume =
+    ap (λ h. volume_of (image_of (M h).state (F h) machine.vol.unit)) opened.hall ∙ ap (λ (v : Vol). volume_of (image_of (M c.args.hall).state (F c.args.hall) v.unit)) opened.vol ∙ stands in
+    let few : CallsAtMost 0 0 0 1 (calls machine.hall) (calls c.run_rename-ran.new.machine.hall) = c.run_rename-ran.ensures.idle told (ap (λ r. (item_of (shelf_in r) statement).operations) mounted ∙ none) in
+    elim c.match-ran.branch [
+      | in-Ok w ↦ (search (rules, few), λ is. search (rules, few, is))
+      | in-Err-Device w ↦ (search (rules, few), λ is. search (rules, few, is))
+      | in-Err-Print w ↦ (search (rules, few), λ is. search (rules, few, is))
+      | in-Err-Memory w ↦ (search (rules, few), λ is. search (rules, few, is))
+    ]
