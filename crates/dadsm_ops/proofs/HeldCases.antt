@@ -1,11 +1,13 @@
 -- The buffer behind a rename on the small pack, in which A, in the fourth slot, becomes C, and the calls of it. Each comment names what a near reading would let through.
-use Rattle.std.proofs.Common.{◌≡◌, ◌≤◌, ◌<◌, ◌+◌, ⊎_elim, inl, ℕ, List, [], ◌∷◌, drop, get_or, take, Option, Some, None, refl, sym, ap, subst, ◌∙◌, arith}
+use Rattle.std.proofs.Common.{◌≡◌, ◌≤◌, ◌<◌, ◌+◌, ⊎_elim, inl, inr, ℕ, List, [], ◌∷◌, drop, get_or, take, Option, Some, None, refl, sym, ap, subst, ◌∙◌, arith}
 use Rattle.std.specs.Prelude.{Ok, Err, slice_get}
 use Rattle.std.specs.Option.{option_map}
 use Rattle.ckd_image.specs.Track.{Record}
 use Rattle.dscb_codec.specs.declared.Dscb.{Dscb}
 use Rattle.dscb_codec.specs.declared.Dscb.TheVariants as formats
+use Rattle.dscb_codec.specs.Layout.{IsDscb}
 use Rattle.hall_core.specs.Facts.{Calls, CallsAtMost, uncounted}
+use Rattle.hall_core.specs.Made.{HallCall, Printing, Syncing, Writing}
 use Rattle.track_records.specs.Updates.{HasLengths}
 use Rattle.vtoc_index.specs.Contents.{AreDscbs}
 use Rattle.vtoc_index.specs.Index.{slots_in_front, track_index}
@@ -14,7 +16,7 @@ use Rattle.vtoc_index.specs.declared.vol.Vol.{Vol}
 use Rattle.vtoc_index.proofs.HeldLemmas.{key_held}
 use Rattle.vtoc_index.proofs.PutCases.{c_stands}
 use Rattle.vtoc_index.proofs.SmallPack.{a, b, c, data_set, f1, f4, f5, four_slots, image, index, slots_are_read}
-use Rattle.dadsm_ops.specs.Naming.{HoldsRenamed, IsToRename, RenameCalls, RenamesEntry}
+use Rattle.dadsm_ops.specs.Naming.{HoldsRenamed, IsRenameCall, IsToRename, RenameCalls, RenamesEntry, under_name}
 use Rattle.dadsm_ops.specs.Through.{IsBeforeOr}
 
 -- a record with the bytes of a set
@@ -206,6 +208,40 @@ module _ (any : Vol) where
     λ calls. let wrong : 0xC3 ≡ 0xC1 = same_first (take 44 (data_set c)) a (key_there a 2 (set_record b ∷ set_record c ∷ []) (calls.synced (omega arith)).1) in omega (arith, wrong),
     λ calls. let wrong : 0xC2 ≡ 0xC3 = same_first (take 44 (data_set b)) c (key_there c 2 (set_record c ∷ set_record b ∷ []) (calls.synced (omega arith)).1) in omega (arith, wrong),
   )
+
+  -- A rename makes a sync, and what puts the slot of A with its DSCB under C.
+  calls_of_a_rename : IsRenameCall a c (index any) (later c 2 both_sets).buf Syncing × IsRenameCall a c (index any) (later c 2 both_sets).buf (Writing 0 8881 (data_set c)) × (¬ IsRenameCall a c (index any) (later c 2 both_sets).buf (Printing []))
+  unfolding later both_sets set_record
+  calls_of_a_rename = (
+    inl refl,
+    inr (record { slot = 3; found = to_rename; dscb = formats.F1 (f1 a); held = refl; puts = inr (inr (record { bytes = data_set c; dscb = c_stands; size = refl; at = 8881; place = refl; behind = omega arith; inside = omega arith; writes = refl })) }),
+    ⊎_elim (λ is. cc is) (λ names. ⊎_elim (λ is. cc is) (⊎_elim (λ is. let no = is.0 in cc no) (λ is. let no = is.writes in cc no)) names.puts),
+  )
+
+  -- What is written is the DSCB under C: not the one of A, and not where B stands.
+  old_name_is_written : ¬ IsRenameCall a c (index any) (later c 2 both_sets).buf (Writing 0 8881 (data_set a))
+  unfolding later both_sets set_record
+  old_name_is_written =
+      ⊎_elim
+      (λ is. cc is)
+      (λ names.
+      let slot = sym (renames_the_fourth names.slot names.found) in
+      let held : Some (formats.F1 (f1 a)) ≡ Some names.dscb = subst (λ (n : ℕ). slice_get (index any).slots.items n ≡ Some names.dscb) slot names.held in
+      let dscb : names.dscb ≡ formats.F1 (f1 a) = cc in
+      ⊎_elim
+      (λ is. cc is)
+      (⊎_elim
+      (λ is. let no = is.0 in cc no)
+      (λ is.
+      let bytes : data_set a ≡ is.bytes = ap (λ (call : HallCall). bytes_in call) is.writes in
+      let stands : IsDscb (formats.F1 (f1 c)) is.bytes = subst (λ (d : Dscb). IsDscb (under_name c d) is.bytes) dscb is.dscb in
+      let wrong : 0xC1 ≡ 0xC3 = ap (λ (l : List ℕ). get_or (take 44 l) 0 0) bytes ∙ ap (λ (l : List ℕ). get_or l 0 0) stands.0 in
+      omega (arith, wrong)))
+      names.puts)
+    where
+      bytes_in : HallCall → List ℕ
+      bytes_in (Writing unit at bytes) = bytes
+      bytes_in call = []
 
   -- The buffer alone may be another; but C isn't in the index where it isn't on the image.
   name_in_the_index_is_on_the_image : IsBeforeOr (index any) image (later a 1 []) × (¬ IsBeforeOr (index any) image (later c 2 []))

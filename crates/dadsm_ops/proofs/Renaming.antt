@@ -10,18 +10,20 @@ use Rattle.dscb_codec.specs.Layout.{IsDscb}
 use Rattle.ebcdic_names.specs.declared.names.Dsn.{Dsn}
 use Rattle.hall_core.specs.Facts.{Calls, CallsAtMost}
 use Rattle.hall_core.specs.Files.{File}
+use Rattle.hall_core.specs.Made.{HallCall, Syncing}
 use Rattle.hall_core.specs.Moments.{Meaning}
 use Rattle.hall_core.proofs.StepLemmas.{done_step, failed_step}
 use Rattle.pack_spec.specs.Volume.{volume_of}
+use Rattle.track_records.specs.Buffers.{Buffer}
 use Rattle.track_records.specs.Updates.{HasLengths}
 use Rattle.vol_model.specs.Shelf.{rename_on}
 use Rattle.vol_model.specs.declared.answers.StoreErr.TheVariants.{Device}
 use Rattle.vol_model.specs.declared.contents.Volume.{Volume}
 use Rattle.vtoc_index.specs.Index.{IsMounted, IsPut, slots_in_front, track_index}
-use Rattle.vtoc_index.specs.Puts.{HoldsDscb, HoldsSlot, IsReplaced}
+use Rattle.vtoc_index.specs.Puts.{HoldsDscb, HoldsSlot, IsPutCall, IsReplaced}
 use Rattle.vtoc_index.specs.declared.vol.Vol.{Vol}
 use Rattle.vtoc_index.proofs.NameLemmas.{named_alike}
-use Rattle.dadsm_ops.specs.Naming.{HaveName, HoldsRenamed, IsToRename, PutsName, RenameCalls, RenamesEntry, under_name}
+use Rattle.dadsm_ops.specs.Naming.{HaveName, HoldsRenamed, IsRenameCall, IsToRename, PutsName, RenameCalls, RenamesEntry, under_name}
 use Rattle.dadsm_ops.specs.Operations.{Operates, image_named}
 use Rattle.dadsm_ops.specs.Through.{HaveSlot, PutsThrough}
 use Rattle.dadsm_ops.proofs.FoundSets.{FoundSet, set_found}
@@ -60,6 +62,14 @@ holds_renamed old new v v' slot d found put track held =
       track = track;
       held = held;
     }
+
+-- a call that is made for the slot of the old name is one of the rename
+pub named_call : (old new : List ℕ) (v : Vol) (buf : Buffer) (slot : ℕ) (x d : Dscb) → IsToRename v.slots.items old new slot → x ≡ get_or v.slots.items slot x → d ≡ under_name new x → (call : HallCall) → IsPutCall v slot d buf call ⊎ (call ≡ Syncing) → IsRenameCall old new v buf call
+named_call old new v buf slot x d found read named call =
+    let items = v.slots.items in
+    let set = set_found old items slot found.found in
+    let held : slice_get items slot ≡ Some x = set.set ∙ ap Some (sym (read ∙ get_or_from_slice_get items slot (formats.F1 set.f) x set.set)) in
+    ⊎_elim (λ puts. inr (record { slot = slot; found = found; dscb = x; held = held; puts = subst (λ (y : Dscb). IsPutCall v slot y buf call) named puts })) inl
 
 -- the calls of a rename, by those of the put: the slot of the old name is the one that is put
 pub rename_calls :

@@ -5,10 +5,12 @@ use Rattle.dscb_codec.specs.declared.Dscb.TheVariants.{F1}
 use Rattle.ebcdic_names.specs.declared.names.Dsn.{Dsn}
 use Rattle.hall_core.specs.Facts.{Calls, CallsAtMost}
 use Rattle.hall_core.specs.Files.{File}
+use Rattle.hall_core.specs.Made.{HallCall, Syncing}
 use Rattle.hall_core.specs.Moments.{Meaning}
 use Rattle.hall_core.specs.Steps.{StepTo}
 use Rattle.pack_spec.specs.declared.addressed.VtocSlot.{VtocSlot}
 use Rattle.pack_spec.specs.Slots.{slots_of_vtoc}
+use Rattle.track_records.specs.Buffers.{Buffer}
 use Rattle.track_records.specs.Updates.{HasLengths}
 use Rattle.vol_model.specs.Shelf.{is_catalog}
 use Rattle.vol_model.specs.declared.answers.StoreErr.{StoreErr}
@@ -19,7 +21,7 @@ use Rattle.vol_model.specs.declared.requests.Op.{Op}
 use Rattle.vol_model.specs.declared.requests.Op.TheVariants.{Rename}
 use Rattle.vtoc_index.specs.Contents.{is_set_named}
 use Rattle.vtoc_index.specs.Index.{IsMounted, slots_in_front, track_index}
-use Rattle.vtoc_index.specs.Puts.{HoldsDscb, HoldsSlot}
+use Rattle.vtoc_index.specs.Puts.{HoldsDscb, HoldsSlot, IsPutCall}
 use Rattle.vtoc_index.specs.declared.vol.Vol.{Vol}
 use Rattle.dadsm_ops.specs.Operations.{image_named}
 use Rattle.dadsm_ops.specs.Through.{HaveSlot}
@@ -72,6 +74,18 @@ pub record RenameCalls {T E : Type 0} (old new : List ℕ) (before after : Vol) 
   pub few : (slot : ℕ) → IsToRename before.slots.items old new slot → ¬ HoldsSlot before slot → length after.buf.records ≤ slots_in_front before.firsts.items slot + 1
   pub synced : calls.syncs < calls'.syncs → RenamesEntry old new before.slots.items after.slots.items × HoldsRenamed old new before after
   pub unwritten : OnErr result ((slot : ℕ) → IsToRename before.slots.items old new slot → ¬ HasLengths after.buf.records (slots_in_front before.firsts.items slot) 44 96 → CallsAtMost 1 0 0 0 calls calls')
+
+-- A call that puts the slot of the old name, with its DSCB under the new one.
+pub record PutsSlotNamed (old new : List ℕ) (before : Vol) (buf : Buffer) (call : HallCall) : Type 0 where
+  pub slot : ℕ
+  pub found : IsToRename before.slots.items old new slot
+  pub dscb : Dscb
+  pub held : slice_get before.slots.items slot ≡ Some dscb
+  pub puts : IsPutCall before slot (under_name new dscb) buf call
+
+-- a call of a rename, by the index before and the buffer behind: a sync, or one that puts the slot under its new name
+abbrev pub IsRenameCall : List ℕ → List ℕ → Vol → Buffer → HallCall → Type 0
+IsRenameCall old new before buf call = (call ≡ Syncing) ⊎ PutsSlotNamed old new before buf call
 
 -- the bytes of a slot, under another name: the name is the key, 44 bytes in front, and the other 96 stay
 abbrev pub named_bytes : List ℕ → List ℕ → List ℕ

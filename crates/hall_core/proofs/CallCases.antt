@@ -1,5 +1,5 @@
 -- What calls may do to what a hall means, on cases at which near readings of the definitions say otherwise.
-use Rattle.std.proofs.Common.{◌≡◌, ◌⊎◌, ⊎_elim, inl, inr, ℕ, List, [], ◌∷◌, ◌++◌, ◌∙◌, length, get_or, refl, sym, ap, arith, lit≤, true}
+use Rattle.std.proofs.Common.{◌≡◌, ◌≤◌, ◌⊎◌, ⊎_elim, inl, inr, ℕ, List, [], ◌∷◌, ◌++◌, ◌∙◌, length, get_or, refl, sym, ap, arith, lit≤, true}
 use Rattle.std.specs.Prelude.{Ok, Err, Result}
 use Rattle.hall_core.specs.declared.hall.HallErr.{HallErr}
 use Rattle.hall_core.specs.declared.hall.HallErr.TheVariants.{Missing, Failed, Memory}
@@ -7,6 +7,7 @@ use Rattle.hall_core.specs.Cards.{GivesNext}
 use Rattle.hall_core.specs.Files.{File, patched, written, Attaches, IsPending, AfterWrite, AfterSync, AfterPrint, untold}
 use Rattle.hall_core.specs.History.{wrote, synced, printed, passed, with_write, with_writes, meaning_after}
 use Rattle.hall_core.specs.HistoryLaws.{nothing_kept, since_now}
+use Rattle.hall_core.specs.Made.{HallCall, MakesOnly, Attaching, Noting, Printing, Reading, Syncing, Writing}
 use Rattle.hall_core.specs.Moments.{Meaning}
 use Rattle.hall_core.proofs.CallLemmas.{same_passed, write_done, write_failed, write_lacking, sync_done, sync_failed, print_done, print_failed}
 use Rattle.hall_core.proofs.StepLemmas.{write_leaves}
@@ -279,3 +280,24 @@ other_is_given gives = let head : 1 ≡ 2 = ap (λ (l : List ℕ). get_or l 0 0)
 
 failure_takes_one : ¬ Gives (1 ∷ 2 ∷ []) (2 ∷ []) (1 ∷ []) (Err tt)
 failure_takes_one gives = let size : 1 ≡ 2 = ap length gives.failed in absurd (omega (arith, size))
+
+-- ---- calls by what they are made with
+
+-- one sync was made
+synced_once : HallCall → ℕ
+synced_once Syncing = 1
+synced_once call = 0
+
+-- Where it may be made, nothing else was; where another may be, it wasn't.
+sync_alone_is_made : MakesOnly (λ call. call ≡ Syncing) (λ call. 0) synced_once
+unfolding synced_once
+sync_alone_is_made (Attaching name) other = omega arith
+sync_alone_is_made (Reading unit at len) other = omega arith
+sync_alone_is_made (Writing unit at bytes) other = omega arith
+sync_alone_is_made Syncing other = absurd (other refl)
+sync_alone_is_made (Printing bytes) other = omega arith
+sync_alone_is_made (Noting unit track) other = omega arith
+
+other_call_is_made : ¬ MakesOnly (λ call. call ≡ Printing []) (λ call. 0) synced_once
+unfolding synced_once
+other_call_is_made only = let wrong : 1 ≤ 0 = only Syncing (λ is. cc is) in omega (arith, wrong)

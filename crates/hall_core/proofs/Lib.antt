@@ -12,6 +12,7 @@ mod ReplayCases
 mod ReplayLemmas
 mod UnitLemmas
 pub mod EarlierLemmas
+pub mod MadeLemmas
 pub mod MomentLemmas
 pub mod StageLemmas
 pub mod StepLemmas

@@ -28,6 +28,10 @@ pub trait Cards {
     /// bytes it doesn't rise.
     ghost empty_reads: { Self → ℕ };
 
+    /// How many reads filled the buffer, if it counts them: by one that number rises by one at most, and by one that
+    /// gives fewer bytes than fit it doesn't rise.
+    ghost full_reads: { Self → ℕ };
+
     /// Puts the next bytes to the front of the buffer and gives their number, which is 0 exactly at
     /// the end. It may be less than what fits, also before the end.
     ///
@@ -41,6 +45,8 @@ pub trait Cards {
         ensures once { reads self.new ≤ reads self.old + 1 }
         ensures empty { empty_reads self.new ≤ empty_reads self.old + 1 }
         ensures given { IfOk result (λ n. 0 < n → empty_reads self.new ≤ empty_reads self.old) }
+        ensures full { full_reads self.new ≤ full_reads self.old + 1 }
+        ensures part { IfOk result (λ n. n < length buf.old → full_reads self.new ≤ full_reads self.old) }
         ensures later { faults self.old ≤ faults self.new }
         ensures done { OnOk result (faults self.new ≡ faults self.old) }
         ensures failed { OnErr result (Rose (faults self.old) (faults self.new)) };

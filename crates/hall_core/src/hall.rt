@@ -1,6 +1,7 @@
 //! The trait of the outside, which a device and a test fixture implement alike.
 ghost use Rattle.std.specs.Prelude.{◌≡◌, ◌+◌, ◌<◌, ◌≤◌, [], ◌∷◌, ℕ, List, Bool, length, IsTrue, IsFalse, OnOk, IfErr, ◌-◌, ◌^◌, min};
 ghost use Rattle.hall_core.specs.Facts.{AttachesOnce, Calls, CallsAtMost, Facts, unit_of, IsAttached, DeviceCall, NotedCall, PrintCall, AttachCall, Rose};
+ghost use Rattle.hall_core.specs.Made.{HallCall, MakesOnly, Attaching, Reading, Writing, Syncing, Printing, Noting};
 ghost use Rattle.hall_core.specs.Moments.{Meaning, LeftNow, IsDurable, Same};
 ghost use Rattle.hall_core.specs.Files.{File, HasBytesAt, AreWhole, Attaches, AfterWrite, AfterSync, AfterPrint};
 
@@ -49,6 +50,9 @@ pub trait Hall {
     /// Its calls, if it counts them: by none does a number rise but that of its kind, and that by at most one.
     ghost calls: { Self → Calls };
 
+    /// How often each call was made with just these arguments, if it counts that: by none does a number rise but its own.
+    ghost made: { Self → HallCall → ℕ };
+
     /// What holds behind a sync that is done, as long as no other call comes.
     ghost behind_sync: { Self → Type 0 };
 
@@ -62,7 +66,8 @@ pub trait Hall {
         requires once { ¬ IsAttached (facts self.old).units name.now }
         ensures told { IsTrue tells → Attaches name.now (meaning self.old) (meaning self.new) result }
         ensures call { AttachCall name.now (facts self.old) (facts self.new) result }
-        ensures calls { AttachesOnce 0 0 0 0 (calls self.old) (calls self.new) };
+        ensures calls { AttachesOnce 0 0 0 0 (calls self.old) (calls self.new) }
+        ensures made { MakesOnly (λ call. call ≡ Attaching name.now) (made self.old) (made self.new) };
 
     /// The size of a unit, in bytes.
     fn size(&self, unit: u8) -> u64
@@ -79,6 +84,7 @@ pub trait Hall {
         ensures told { IsTrue tells → Same (meaning self.old) (meaning self.new) }
         ensures call { DeviceCall (facts self.old) (facts self.new) result }
         ensures calls { CallsAtMost 1 0 0 0 (calls self.old) (calls self.new) }
+        ensures made { MakesOnly (λ call. call ≡ Reading unit at (length buf.old)) (made self.old) (made self.new) }
         ensures error { IfErr result (λ e. e ≡ HallErr.Failed) };
 
     /// Writes the bytes over those of the unit, from the offset `at` on, which counts them from 0.
@@ -91,6 +97,7 @@ pub trait Hall {
         ensures told { IsTrue tells → AfterWrite (unit_of (facts self.old).units unit).name at bytes.now (meaning self.old) (meaning self.new) result }
         ensures call { DeviceCall (facts self.old) (facts self.new) result }
         ensures calls { CallsAtMost 0 1 0 0 (calls self.old) (calls self.new) }
+        ensures made { MakesOnly (λ call. call ≡ Writing unit at bytes.now) (made self.old) (made self.new) }
         ensures error { IfErr result (λ e. e ≡ HallErr.Failed) };
 
     /// Makes the writes to all units durable.
@@ -100,6 +107,7 @@ pub trait Hall {
         ensures told { IsTrue tells → AfterSync (meaning self.old) (meaning self.new) result }
         ensures call { DeviceCall (facts self.old) (facts self.new) result }
         ensures calls { CallsAtMost 0 0 1 0 (calls self.old) (calls self.new) }
+        ensures made { MakesOnly (λ call. call ≡ Syncing) (made self.old) (made self.new) }
         ensures behind { OnOk result (behind_sync self.new) }
         ensures error { IfErr result (λ e. e ≡ HallErr.Failed) };
 
@@ -110,6 +118,7 @@ pub trait Hall {
         ensures told { IsTrue tells → AfterPrint bytes.now (meaning self.old) (meaning self.new) result }
         ensures call { PrintCall (facts self.old) (facts self.new) result }
         ensures calls { CallsAtMost 0 0 0 1 (calls self.old) (calls self.new) }
+        ensures made { MakesOnly (λ call. call ≡ Printing bytes.now) (made self.old) (made self.new) }
         ensures error { IfErr result (λ e. e ≡ HallErr.Failed) };
 
     /// Notes that a track of a unit isn't as it was read before, or can't be as it is read.
@@ -121,6 +130,7 @@ pub trait Hall {
         requires { unit < length (facts self.old).units }
         ensures rose { IsFalse tells → Rose (facts self.old).dev_faults (facts self.new).dev_faults }
         ensures calls { CallsAtMost 0 0 0 0 (calls self.old) (calls self.new) }
+        ensures made { MakesOnly (λ call. call ≡ Noting unit track) (made self.old) (made self.new) }
         ensures call { NotedCall (facts self.old) (facts self.new) }
         ensures told { IsTrue tells → Same (meaning self.old) (meaning self.new) }
         ensures clock { IsTrue tells → (meaning self.new).clock ≡ (meaning self.old).clock }
@@ -150,6 +160,8 @@ impl<H: Hall> Hall for &mut H {
     ghost facts = { λ h. record (H.facts h.now) { references = h.ghost_name ∷ (H.facts h.now).references } };
 
     ghost calls = { λ h. H.calls h.now };
+
+    ghost made = { λ h. H.made h.now };
 
     ghost behind_sync = { λ h. H.behind_sync h.now };
 

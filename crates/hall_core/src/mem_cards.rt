@@ -55,6 +55,8 @@ impl Cards for MemCards {
 
     ghost empty_reads = { λ _. 0 };
 
+    ghost full_reads = { λ _. 0 };
+
     fn read(&mut self, buf: &mut [u8]) -> Result<usize, ReadFault>
         requires { 0 < length buf.old }
         ensures within { IfOk result (λ n. n ≤ length buf.old) }
@@ -62,6 +64,8 @@ impl Cards for MemCards {
         ensures once { number_of_reads self.new ≤ number_of_reads self.old + 1 }
         ensures empty { 0 ≤ 0 + 1 }
         ensures given { IfOk result (λ n. 0 < n → 0 ≤ 0) }
+        ensures full { 0 ≤ 0 + 1 }
+        ensures part { IfOk result (λ n. n < length buf.old → 0 ≤ 0) }
         ensures later { faults_counted self.old ≤ faults_counted self.new }
         ensures done { OnOk result (faults_counted self.new ≡ faults_counted self.old) }
         ensures failed { OnErr result (Rose (faults_counted self.old) (faults_counted self.new)) }

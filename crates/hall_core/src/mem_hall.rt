@@ -284,6 +284,8 @@ impl Hall for MemHall {
 
     ghost calls = { λ _. uncounted };
 
+    ghost made = { λ _ _. 0 };
+
     ghost behind_sync = { λ hall. EndsInSync hall };
 
     ghost leaves_state = { λ hall. state_left hall };

@@ -2,6 +2,7 @@
 ghost use Rattle.std.specs.Prelude.{◌≡◌, ◌⊎◌, ◌+◌, ◌<◌, ◌≤◌, length, IsTrue, OnOk, OnErr};
 ghost use Rattle.hall_core.specs.Facts.{CallsAtMost, unit_of, DeviceCall};
 ghost use Rattle.hall_core.specs.Files.{written, IsPending};
+ghost use Rattle.hall_core.specs.Made.{MakesOnly, Syncing, Writing};
 ghost use Rattle.hall_core.specs.Moments.{IsDurable, LeavesSame};
 ghost use Rattle.hall_core.specs.Steps.{StepTo};
 
@@ -33,6 +34,7 @@ pub fn write_through<H: Hall>(hall: &mut H, unit: u8, at: u64, bytes: &[u8]) -> 
     ensures pending { IsTrue H.tells → OnErr result (IsPending (unit_of (H.facts hall.old).units unit).name at bytes.now (H.meaning hall.old) (H.meaning hall.new) ⊎ LeavesSame (H.meaning hall.old) (H.meaning hall.new)) }
     ensures call { DeviceCall (H.facts hall.old) (H.facts hall.new) result }
     ensures calls { CallsAtMost 0 1 1 0 (H.calls hall.old) (H.calls hall.new) }
+    ensures made { MakesOnly (λ call. (call ≡ Writing unit at bytes.now) ⊎ (call ≡ Syncing)) (H.made hall.old) (H.made hall.new) }
     ensures synced { OnOk result (H.behind_sync hall.new) }
 {
     hall.write(unit, at, bytes)?;

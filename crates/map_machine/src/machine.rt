@@ -99,6 +99,10 @@ impl Machine for MapMachine {
 
     ghost calls = { λ machine. uncounted };
 
+    ghost made = { λ machine call. 0 };
+
+    ghost may_make = { λ machine op call. ⊥ };
+
     ghost asked = { λ machine. asked_nothing };
 
     ghost holds = { λ machine op. Unit {0} };

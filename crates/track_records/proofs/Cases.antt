@@ -9,10 +9,11 @@ use Rattle.ckd_image.specs.Reading.{is_front, records_of, records_to_end, record
 use Rattle.ckd_image.specs.Track.{BreaksAt, Record, end_marker}
 use Rattle.hall_core.specs.Facts.{Attached, Facts}
 use Rattle.hall_core.specs.Files.{patched}
+use Rattle.hall_core.specs.Made.{Reading}
 use Rattle.pack_spec.specs.Label.{records_on, track_bytes}
 use Rattle.pack_spec.specs.Views.{tracks_of}
 use Rattle.track_records.specs.Buffers.{Buffer, records_at, are_places, places_from, IsPartOf, IsContentOf}
-use Rattle.track_records.specs.Calls.{HasTrack, TrackCall}
+use Rattle.track_records.specs.Calls.{HasTrack, TrackCall, track_read}
 use Rattle.track_records.specs.Reads.{IsBroken}
 use Rattle.track_records.specs.declared.error.TrackErr.TheVariants.{BadCount, Device}
 use Rattle.track_records.specs.Updates.{length_of, offset_of, with_parts, HasLengths, StandFrom}
@@ -37,6 +38,10 @@ lengths = (refl, refl, refl)
 -- a record stands behind those before it, whatever its own length is
 offsets : (offset_of three 0 ≡ 0) × (offset_of three 1 ≡ 13) × (offset_of three 2 ≡ 27) × (offset_of three 3 ≡ 36)
 offsets = (refl, refl, refl, refl)
+
+-- the read of the fourth track of a unit: all of it, behind the header and three tracks
+fourth_track_read : track_read 1 (record { device = D2314; cylinders = 2; track_size = 7680 }) 3 ≡ Reading 1 23552 7680
+fourth_track_read = refl
 
 -- one record has the new parts, and past the last none
 middle_changed : with_parts 1 (1 ∷ []) (2 ∷ []) three ≡ first ∷ record second { key = 1 ∷ []; «data» = 2 ∷ [] } ∷ third ∷ []

@@ -1,8 +1,9 @@
 -- What reads and writes of tracks leave of a hall, in this project's profile.
-use Rattle.std.specs.Prelude.{ℕ, ◌<◌, List, length, Result, IsErrOf}
+use Rattle.std.specs.Prelude.{ℕ, ◌+◌, ◌*◌, ◌<◌, List, length, Result, IsErrOf}
 use Rattle.ckd_image.specs.declared.header.Geometry.{Geometry}
 use Rattle.ckd_image.specs.Header.{HasGeometry}
 use Rattle.hall_core.specs.Facts.{Facts, Attached, ReportedCall, unit_of}
+use Rattle.hall_core.specs.Made.{HallCall, Reading}
 use Rattle.pack_spec.specs.Views.{tracks_of}
 use Rattle.track_records.specs.declared.error.TrackErr.{TrackErr}
 use Rattle.track_records.specs.declared.error.TrackErr.TheVariants.{Device}
@@ -12,6 +13,10 @@ pub record HasTrack (units : List Attached) (unit : ℕ) (g : Geometry) (track :
   pub attached : unit < length units
   pub whole : HasGeometry (unit_of units unit).size g
   pub inside : track < tracks_of g
+
+-- the read of a track: all of its bytes, behind the header and the tracks before it
+abbrev pub track_read : ℕ → Geometry → ℕ → HallCall
+track_read unit g track = Reading unit (512 + track * g.track_size) g.track_size
 
 -- a read of a track, which answers a fault of the device as one
 abbrev pub TrackCall : {T : Type 0} → Facts → Facts → Result T TrackErr → Type 0

@@ -1,13 +1,14 @@
 //! A buffer for the records of one track, and what reads and writes them.
-ghost use Rattle.std.specs.Prelude.{◌≡◌, ◌≤◌, ◌+◌, ◌-◌, ◌++◌, [], length, true, Some, IsTrue, IfOk, IfErr, IfSome, OnOk, OnErr, slice_get};
+ghost use Rattle.std.specs.Prelude.{◌≡◌, ◌≤◌, ◌+◌, ◌*◌, ◌-◌, ◌++◌, [], length, true, Some, IsTrue, IfOk, IfErr, IfSome, OnOk, OnErr, slice_get};
 ghost use Rattle.std.specs.Option.{option_map};
 ghost use Rattle.ckd_image.specs.Reading.{front_record, is_record_at};
 ghost use Rattle.hall_core.specs.Facts.{CallsAtMost, DeviceCall, unit_of};
 ghost use Rattle.hall_core.specs.Files.{AfterWrite, image_of, patched};
+ghost use Rattle.hall_core.specs.Made.{MakesOnly, Writing};
 ghost use Rattle.hall_core.specs.Moments.{Same};
 ghost use Rattle.pack_spec.specs.Label.{records_on, track_bytes};
 ghost use Rattle.track_records.specs.Buffers.{IsContentOf, IsPartOf};
-ghost use Rattle.track_records.specs.Calls.{HasTrack, TrackCall};
+ghost use Rattle.track_records.specs.Calls.{HasTrack, TrackCall, track_read};
 ghost use Rattle.track_records.specs.Reads.{IsBroken};
 ghost use Rattle.track_records.specs.Updates.{HasLengths, offset_of, with_parts};
 ghost use Rattle.track_records.specs.Written.{place_of, IsUpdated, StandsOn};
@@ -167,6 +168,7 @@ pub fn read_records<H: Hall>(
     ensures told { IsTrue H.tells → Same (H.meaning hall.old) (H.meaning hall.new) }
     ensures call { TrackCall (H.facts hall.old) (H.facts hall.new) result }
     ensures calls { CallsAtMost 1 0 0 0 (H.calls hall.old) (H.calls hall.new) }
+    ensures made { MakesOnly (λ call. call ≡ track_read unit buf.old.geometry track) (H.made hall.old) (H.made hall.new) }
 {
     buf.unit = unit;
     buf.track = track;
@@ -203,6 +205,7 @@ fn fill<H: Hall>(
     ensures told { IsTrue H.tells → Same (H.meaning hall.old) (H.meaning hall.new) }
     ensures call { DeviceCall (H.facts hall.old) (H.facts hall.new) result }
     ensures calls { CallsAtMost 1 0 0 0 (H.calls hall.old) (H.calls hall.new) }
+    ensures made { MakesOnly (λ call. call ≡ track_read unit geometry track) (H.made hall.old) (H.made hall.new) }
 {
     let at = HEADER_LEN as u64 + u64::from(track) * u64::from(geometry.track_size);
     hall.read(unit, at, bytes)
@@ -228,6 +231,8 @@ pub fn update<H: Hall>(
     ensures buffer { buf.new ≡ record buf.old { records = with_parts (r - 1) key.now payload.now buf.old.records } }
     ensures call { DeviceCall (H.facts hall.old) (H.facts hall.new) result }
     ensures calls { CallsAtMost 0 1 0 0 (H.calls hall.old) (H.calls hall.new) }
+    ensures inside { place_of buf.old (r - 1) + length (key.now ++ payload.now) ≤ 512 + (buf.old.track + 1) * buf.old.geometry.track_size }
+    ensures made { MakesOnly (λ call. call ≡ Writing buf.old.unit (place_of buf.old (r - 1)) (key.now ++ payload.now)) (H.made hall.old) (H.made hall.new) }
 {
     let place = buf.put(r, key, payload);
     let at = HEADER_LEN as u64

@@ -3,6 +3,7 @@
 ghost use Rattle.std.specs.Prelude.{◌≡◌, ◌≤◌, ℕ, List, [], ◌∷◌, Bool, IsTrue, IsErrOf};
 ghost use Rattle.hall_core.specs.Facts.{Calls, CallsAtMost};
 ghost use Rattle.hall_core.specs.Files.{File};
+ghost use Rattle.hall_core.specs.Made.{HallCall, MakesOnly, Printing};
 ghost use Rattle.hall_core.specs.Moments.{Meaning, LeftNow, IsDurable};
 ghost use Rattle.vol_model.specs.declared.contents.Shelf.{Shelf};
 ghost use Rattle.vol_model.specs.declared.requests.Op as requests;
@@ -38,6 +39,12 @@ pub trait Machine {
     /// The calls of the hall on which it stands, if that counts them.
     ghost calls: { Self → Calls };
 
+    /// How often each call of that hall was made with just its arguments, if it counts that.
+    ghost made: { Self → HallCall → ℕ };
+
+    /// Whether a call of that hall is one that an operation may make, by what it holds before.
+    ghost may_make: { Self → requests.Op → HallCall → Type 0 };
+
     /// The operations and prints it was asked for so far, if it counts them.
     ghost asked: { Self → Asked };
 
@@ -57,7 +64,7 @@ pub trait Machine {
     /// `Refused` carries the first reason, by the order of `Refusal`. A rename is judged by the names in the VTOC
     /// alone, so no fault, nor want of memory, comes in place of its refusal. It makes at most one read, one write and
     /// one sync of the hall below; no read where the machine holds what it has to read; none of them where it is refused;
-    /// and no write nor sync where memory is wanting. It counts as one operation.
+    /// and no write nor sync where memory is wanting; and none that isn't the operation's. It counts as one operation.
     fn apply(&mut self, op: &Op) -> Result<(), MachErr>
         requires sound { IsTrue (status self.old).is_sound }
         ensures shelf { IsTrue tells → Applies op.now (meaning self.old) (meaning self.new) result }
@@ -65,6 +72,7 @@ pub trait Machine {
         ensures idle { IsTrue tells → IsIdle (step (meaning self.old).state op.now) result → Keeps (meaning self.old).clock [] (promise self.old) (promise self.new) }
         ensures call { MachineCall (status self.old) (status self.new) result }
         ensures calls { CallsAtMost 1 1 1 0 (calls self.old) (calls self.new) }
+        ensures made { MakesOnly (may_make self.old op.now) (made self.old) (made self.new) }
         ensures held { holds self.old op.now → CallsAtMost 0 1 1 0 (calls self.old) (calls self.new) }
         ensures memory { IsErrOf result MachErr.Memory → CallsAtMost 1 0 0 0 (calls self.old) (calls self.new) }
         ensures refused { (r : Refusal) → IsErrOf result (MachErr.Refused r) → CallsAtMost 0 0 0 0 (calls self.old) (calls self.new) }
@@ -81,6 +89,7 @@ pub trait Machine {
         ensures promise { IsTrue tells → Keeps (meaning self.old).clock [] (promise self.old) (promise self.new) }
         ensures call { MachineCall (status self.old) (status self.new) result }
         ensures calls { CallsAtMost 0 0 0 1 (calls self.old) (calls self.new) }
+        ensures made { MakesOnly (λ call. call ≡ Printing bytes.now) (made self.old) (made self.new) }
         ensures memory { IsErrOf result MachErr.Memory → CallsAtMost 0 0 0 0 (calls self.old) (calls self.new) }
         ensures once { AsksAtMost 0 1 (asked self.old) (asked self.new) }
         ensures device { IsErrOf result MachErr.Device → ⊥ }

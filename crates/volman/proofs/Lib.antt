@@ -6,6 +6,7 @@ mod Works
 mod WordLemmas
 mod DeckLemmas
 mod Answering
+mod CallsMade
 mod Reported
 mod Promised
 mod Cases
@@ -20,3 +21,4 @@ mod TaskCases
 mod WordCases
 mod HallCases
 mod IndexCases
+mod MadeCases

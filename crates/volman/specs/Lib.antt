@@ -9,3 +9,4 @@ pub mod Statement
 pub mod Task
 pub mod Mount
 pub mod Run
+pub mod Made

@@ -3,11 +3,12 @@ use Rattle.std.specs.Prelude.{◌≡◌, ◌⊎◌, ◌==◌, ℕ, Bool, if◌th
 use Rattle.std.proofs.Common.{subst, sym}
 use Rattle.ckd_image.specs.Device.{row_of}
 use Rattle.ckd_image.specs.declared.header.Geometry.{Geometry}
-use Rattle.dadsm_ops.specs.Naming.{HoldsRenamed, IsToRename, RenameCalls, RenamesEntry, RenamesSome, refusal_in}
+use Rattle.dadsm_ops.specs.Naming.{HoldsRenamed, IsRenameCall, IsToRename, RenameCalls, RenamesEntry, RenamesSome, refusal_in}
 use Rattle.dadsm_ops.specs.Operations.{ChangesVtoc, image_named}
 use Rattle.dscb_codec.specs.declared.Dscb.{Dscb}
 use Rattle.hall_core.specs.Facts.{Attached, Calls, Facts}
 use Rattle.hall_core.specs.Files.{File}
+use Rattle.hall_core.specs.Made.{HallCall}
 use Rattle.hall_core.specs.Moments.{Meaning}
 use Rattle.pack_spec.specs.declared.MountErr.{MountErr}
 use Rattle.pack_spec.specs.Volume.{volume_of}
@@ -23,6 +24,7 @@ use Rattle.vol_model.specs.declared.refusals.Refusal.{Refusal}
 use Rattle.vol_model.specs.declared.refusals.Refusal.TheVariants.{NoVolume}
 use Rattle.vol_model.specs.declared.requests.Op.{Op}
 use Rattle.vol_model.specs.declared.requests.Op.TheVariants.{Rename}
+use Rattle.track_records.specs.Buffers.{Buffer}
 use Rattle.vtoc_index.specs.declared.vol.Vol.{Vol}
 use Rattle.vtoc_index.specs.Kept.{IsKept}
 use Rattle.vtoc_index.specs.Puts.{HoldsSlot}
@@ -91,6 +93,14 @@ pub record KeepsIndex {T : Type 0} (op : Op) (old new : Vol) (result : Result T 
 -- the calls of an operation on the only volume, whose number is 0, by what the buffer of its index holds
 abbrev pub OperationCalls : {T : Type 0} → Op → Vol → Vol → Calls → Calls → Result T MachErr → Type 0
 OperationCalls (Rename v old new) before after calls calls' result = v ≡ 0 → RenameCalls old.bytes new.bytes before after calls calls' result
+
+-- a call of an operation on the only volume, whose number is 0, by the index before and the buffer behind; one on another volume makes none
+abbrev pub IsOperationCall : Op → Vol → Buffer → HallCall → Type 0
+IsOperationCall (Rename v old new) before buf call = (v ≡ 0) × IsRenameCall old.bytes new.bytes before buf call
+
+-- a call that an operation may make, by the index before, whatever its buffer is behind
+abbrev pub MayMake : Op → Vol → HallCall → Type 0
+MayMake op before call = (buf : Buffer) × IsOperationCall op before buf call
 
 -- the buffer of an index holds the slot that an operation on the only volume changes, so that it isn't read
 abbrev pub HoldsFor : Op → Vol → Type 0

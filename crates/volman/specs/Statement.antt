@@ -1,6 +1,7 @@
 -- What a RENAME statement does on a shelf, and the line that answers it, by Utilities GC28-6586 and this project's profile.
 use Rattle.std.specs.Prelude.{◌≡◌, ◌⊎◌, ℕ, ◌≤◌, List, [], ◌∷◌, codes, IsTrue, Option, Some, None, Result, Ok, Err}
 use Rattle.hall_core.specs.Files.{File}
+use Rattle.hall_core.specs.Made.{HallCall, Printing}
 use Rattle.hall_core.specs.Moments.{Meaning}
 use Rattle.util_syntax.specs.declared.statement.Rename.{Rename}
 use Rattle.util_syntax.specs.Lines.{result_line}
@@ -16,6 +17,10 @@ use Rattle.vol_model.specs.Shelf.{number_of, step}
 -- the line that answers a statement on the first card
 abbrev pub answer_line : Rename → Result (Unit {0}) Refusal → List ℕ
 answer_line s outcome = result_line 1 (codes "RENAME") s.old.bytes outcome
+
+-- the print of a line that answers it
+abbrev pub IsAnswerPrint : Rename → HallCall → Type 0
+IsAnswerPrint s call = (outcome : Result (Unit {0}) Refusal) × (call ≡ Printing (answer_line s outcome))
 
 -- its condition code
 abbrev pub code_for : Result (Unit {0}) Refusal → ℕ

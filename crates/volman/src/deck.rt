@@ -34,7 +34,7 @@ impl From<ReadFault> for DeckErr {
 ///
 /// The line ends with a line feed, or a carriage return and a line feed, or where the cards end. A deck of
 /// 83 bytes or more is refused with `Form` after 83 bytes, and takes no more cards. The cards are read 83 times at
-/// most, and once at most without giving a byte. It takes no memory.
+/// most: once at most without giving a byte, and once at most with as many as fit. It takes no memory.
 pub fn read_deck<C: Cards>(cards: &mut C) -> Result<Rename, DeckErr>
     ensures deck { IsTrue C.tells → IfOk result (λ r. (deck_of (C.left cards.old) ≡ Some r) × (C.left cards.new ≡ [])) }
     ensures form { IsTrue C.tells → IsErrOf result DeckErr.Form → deck_of (C.left cards.old) ≡ None }
@@ -43,6 +43,7 @@ pub fn read_deck<C: Cards>(cards: &mut C) -> Result<Rename, DeckErr>
     ensures reads { C.reads cards.new ≤ C.reads cards.old + 83 }
     ensures ends { IsTrue C.tells → C.reads cards.new + length (C.left cards.new) ≤ C.reads cards.old + length (C.left cards.old) + 1 }
     ensures empty { C.empty_reads cards.new ≤ C.empty_reads cards.old + 1 }
+    ensures full { C.full_reads cards.new ≤ C.full_reads cards.old + 1 }
     ensures read { IsErrOf result DeckErr.Read → Rose (C.faults cards.old) (C.faults cards.new) }
     ensures others { ¬ IsErrOf result DeckErr.Read → C.faults cards.new ≡ C.faults cards.old }
     ensures later { C.faults cards.old ≤ C.faults cards.new }
@@ -61,6 +62,7 @@ fn fill<C: Cards>(cards: &mut C, bytes: &mut [u8]) -> Result<usize, ReadFault>
     ensures reads { C.reads cards.new ≤ C.reads cards.old + length bytes.old }
     ensures ends { IsTrue C.tells → C.reads cards.new + length (C.left cards.new) ≤ C.reads cards.old + length (C.left cards.old) + 1 }
     ensures empty { C.empty_reads cards.new ≤ C.empty_reads cards.old + 1 }
+    ensures full { C.full_reads cards.new ≤ C.full_reads cards.old + 1 }
     ensures done { OnOk result (C.faults cards.new ≡ C.faults cards.old) }
     ensures failed { OnErr result (Rose (C.faults cards.old) (C.faults cards.new)) }
     ensures later { C.faults cards.old ≤ C.faults cards.new }

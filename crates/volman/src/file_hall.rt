@@ -168,6 +168,8 @@ impl<R: Files<File = File> + Print> Hall for FileHall<'_, R> {
 
     ghost calls = { λ _. uncounted };
 
+    ghost made = { λ _ _. 0 };
+
     ghost behind_sync = { λ hall. All IsFalse (notes_of hall) };
 
     ghost leaves_state = { λ _. tt };

@@ -1,8 +1,9 @@
 //! The machine over the image of one pack.
-ghost use Rattle.std.specs.Prelude.{◌≡◌, ◌≢◌, [], ◌∷◌, true, IsTrue, IfErr, IsErrOf, OnErr, Some, None, refl};
+ghost use Rattle.std.specs.Prelude.{◌≡◌, ◌≢◌, [], ◌∷◌, true, IsTrue, IfErr, IfSome, IsErrOf, OnErr, Some, None, refl};
 ghost use Rattle.dadsm_ops.specs.Through.{IsBeforeOr};
 ghost use Rattle.hall_core.specs.Facts.{CallsAtMost, unit_of};
 ghost use Rattle.hall_core.specs.Files.{image_of};
+ghost use Rattle.hall_core.specs.Made.{MakesOnly, Printing};
 ghost use Rattle.hall_core.specs.Moments.{IsDurable};
 ghost use Rattle.hall_core.specs.Steps.{seen};
 ghost use Rattle.hall_core.proofs.MomentLemmas.{durable_seen, counts_now_seen, only_now_seen};
@@ -11,7 +12,7 @@ ghost use Rattle.vol_model.specs.Shelf.{number_of, step};
 ghost use Rattle.vtoc_index.specs.Index.{IsMounted, IsOfUnit};
 ghost use Rattle.vtoc_index.specs.Kept.{IsKept};
 ghost use Rattle.vtoc_index.proofs.KeptProps.{kept_props};
-ghost use Rattle.volman.specs.Machine.{ChangesOnlyNames, HoldsFor, KeepsIndex, OperationCalls, lawful_in, shelf_named, status_of};
+ghost use Rattle.volman.specs.Machine.{ChangesOnlyNames, HoldsFor, IsOperationCall, KeepsIndex, MayMake, OperationCalls, lawful_in, shelf_named, status_of};
 
 use dadsm_ops::rename;
 use ebcdic_names::{Dsn, Serial};
@@ -62,6 +63,7 @@ impl<H: Hall> PackMachine<H> {
         requires { self.now.is_sound ≡ true }
         ensures there { self.now.vol.serial ≡ serial.now → result ≡ Some 0 }
         ensures absent { self.now.vol.serial ≢ serial.now → result ≡ None }
+        ensures found { IfSome result (λ v. (v ≡ 0) × (self.now.vol.serial ≡ serial.now)) }
         ensures told { IsTrue H.tells → result ≡ number_of (shelf_named (unit_of (H.facts self.now.hall).units self.now.vol.unit).name (H.meaning self.now.hall).state) serial.now.bytes }
     {
         if self.vol.serial == *serial {
@@ -81,6 +83,7 @@ impl<H: Hall> PackMachine<H> {
         ensures idle { IsTrue H.tells → IsIdle (step (shelf_named (unit_of (H.facts self.old.hall).units self.old.vol.unit).name (H.meaning self.old.hall).state) (Op.Rename v old.now new.now)) result → Keeps (H.meaning self.old.hall).clock [] (ChangesOnlyNames (unit_of (H.facts self.old.hall).units self.old.vol.unit).name self.old.vol.geometry self.old.vol.vtoc (H.meaning self.old.hall)) (ChangesOnlyNames (unit_of (H.facts self.new.hall).units self.new.vol.unit).name self.new.vol.geometry self.new.vol.vtoc (H.meaning self.new.hall)) }
         ensures call { MachineCall (status_of self.old.is_sound (H.facts self.old.hall) self.old.vol) (status_of self.new.is_sound (H.facts self.new.hall) self.new.vol) result }
         ensures calls { CallsAtMost 1 1 1 0 (H.calls self.old.hall) (H.calls self.new.hall) }
+        ensures made { MakesOnly (IsOperationCall (Op.Rename v old.now new.now) self.old.vol self.new.vol.buf) (H.made self.old.hall) (H.made self.new.hall) }
         ensures held { HoldsFor (Op.Rename v old.now new.now) self.old.vol → CallsAtMost 0 1 1 0 (H.calls self.old.hall) (H.calls self.new.hall) }
         ensures refused { (r : Refusal) → IsErrOf result (MachErr.Refused r) → CallsAtMost 0 0 0 0 (H.calls self.old.hall) (H.calls self.new.hall) }
         ensures memory { IsErrOf result MachErr.Memory → ⊥ }
@@ -115,6 +118,10 @@ impl<H: Hall> Machine for PackMachine<H> {
 
     ghost calls = { λ m. H.calls m.hall };
 
+    ghost made = { λ m. H.made m.hall };
+
+    ghost may_make = { λ m op call. MayMake op m.vol call };
+
     ghost asked = { λ m. asked_nothing };
 
     ghost holds = { λ m op. HoldsFor op m.vol };
@@ -142,6 +149,8 @@ impl<H: Hall> Machine for PackMachine<H> {
         ensures idle { IsTrue H.tells → IsIdle (step (shelf_named (unit_of (H.facts self.old.hall).units self.old.vol.unit).name (H.meaning self.old.hall).state) op.now) result → Keeps (H.meaning self.old.hall).clock [] (ChangesOnlyNames (unit_of (H.facts self.old.hall).units self.old.vol.unit).name self.old.vol.geometry self.old.vol.vtoc (H.meaning self.old.hall)) (ChangesOnlyNames (unit_of (H.facts self.new.hall).units self.new.vol.unit).name self.new.vol.geometry self.new.vol.vtoc (H.meaning self.new.hall)) }
         ensures call { MachineCall (status_of self.old.is_sound (H.facts self.old.hall) self.old.vol) (status_of self.new.is_sound (H.facts self.new.hall) self.new.vol) result }
         ensures calls { CallsAtMost 1 1 1 0 (H.calls self.old.hall) (H.calls self.new.hall) }
+        ensures made { MakesOnly (MayMake op.now self.old.vol) (H.made self.old.hall) (H.made self.new.hall) }
+        ensures put { MakesOnly (IsOperationCall op.now self.old.vol self.new.vol.buf) (H.made self.old.hall) (H.made self.new.hall) }
         ensures held { HoldsFor op.now self.old.vol → CallsAtMost 0 1 1 0 (H.calls self.old.hall) (H.calls self.new.hall) }
         ensures refused { (r : Refusal) → IsErrOf result (MachErr.Refused r) → CallsAtMost 0 0 0 0 (H.calls self.old.hall) (H.calls self.new.hall) }
         ensures memory { IsErrOf result MachErr.Memory → ⊥ }
@@ -161,6 +170,7 @@ impl<H: Hall> Machine for PackMachine<H> {
         ensures promise { IsTrue H.tells → Keeps (H.meaning self.old.hall).clock [] (ChangesOnlyNames (unit_of (H.facts self.old.hall).units self.old.vol.unit).name self.old.vol.geometry self.old.vol.vtoc (H.meaning self.old.hall)) (ChangesOnlyNames (unit_of (H.facts self.new.hall).units self.new.vol.unit).name self.new.vol.geometry self.new.vol.vtoc (H.meaning self.new.hall)) }
         ensures call { MachineCall (status_of self.old.is_sound (H.facts self.old.hall) self.old.vol) (status_of self.new.is_sound (H.facts self.new.hall) self.new.vol) result }
         ensures calls { CallsAtMost 0 0 0 1 (H.calls self.old.hall) (H.calls self.new.hall) }
+        ensures made { MakesOnly (λ call. call ≡ Printing bytes.now) (H.made self.old.hall) (H.made self.new.hall) }
         ensures index { self.new.vol ≡ self.old.vol }
         ensures error { IfErr result (λ e. e ≡ MachErr.Print) }
     {

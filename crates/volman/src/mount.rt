@@ -1,11 +1,13 @@
 //! A file, attached and read as a pack.
-ghost use Rattle.std.specs.Prelude.{◌≡◌, ◌≤◌, ◌+◌, [], IsTrue, IsErrOf, IfOk, IfErr};
+ghost use Rattle.std.specs.Prelude.{◌≡◌, ◌⊎◌, ◌≤◌, ◌+◌, [], IsTrue, IsErrOf, IfOk, IfErr};
 ghost use Rattle.hall_core.specs.Facts.{AttachesOnce, Rose, unit_of};
+ghost use Rattle.hall_core.specs.Made.{MakesOnly};
 ghost use Rattle.hall_core.specs.Moments.{Same};
 ghost use Rattle.dadsm_ops.specs.Operations.{image_named};
 ghost use Rattle.vtoc_index.specs.Calls.{reads_to_mount};
 ghost use Rattle.vtoc_index.specs.Index.{IsOfUnit};
 ghost use Rattle.vtoc_index.specs.Puts.{HoldsItsTrack};
+ghost use Rattle.volman.specs.Made.{IsMountCall};
 ghost use Rattle.volman.specs.Mount.{IsPackIn, RefusesFile};
 ghost use Rattle.volman.specs.Run.{AttachesAtMost};
 
@@ -33,6 +35,7 @@ pub fn mount<H: Hall>(alloc: Global, hall: &mut H, file: &str) -> Result<Vol, Mo
     ensures references { (H.facts hall.new).references ≡ (H.facts hall.old).references }
     ensures prints { (H.facts hall.new).print_faults ≡ (H.facts hall.old).print_faults }
     ensures calls { AttachesOnce 259 0 0 0 (H.calls hall.old) (H.calls hall.new) }
+    ensures made { MakesOnly (IsMountCall file.now (H.facts hall.new).units) (H.made hall.old) (H.made hall.new) }
     ensures reads { IsTrue H.tells → AttachesOnce (reads_to_mount (image_named (H.meaning hall.old).state file.now)) 0 0 0 (H.calls hall.old) (H.calls hall.new) }
     ensures once { IfOk result (λ vol. AttachesOnce (vol.vtoc.len + 2) 0 0 0 (H.calls hall.old) (H.calls hall.new)) }
     ensures later { (H.facts hall.old).dev_faults ≤ (H.facts hall.new).dev_faults }

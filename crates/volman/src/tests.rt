@@ -4,6 +4,7 @@ ghost use Rattle.hall_core.specs.Memory.{facts_of};
 
 mod broken;
 mod cut;
+mod fickle;
 mod machines;
 mod packs;
 mod program;

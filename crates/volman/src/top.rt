@@ -2,6 +2,7 @@
 ghost use Rattle.std.specs.Prelude.{◌≡◌, ◌≢◌, ◌≤◌, ◌+◌, ◌⊎◌, [], List, ℕ, drop, length, map, string_bytes, IsTrue, IfOk, OnErr, Some, None, Ok};
 ghost use Rattle.hall_core.specs.Facts.{AttachesOnce, CallsAtMost, Rose};
 ghost use Rattle.hall_core.specs.Files.{file_of};
+ghost use Rattle.hall_core.specs.Made.{MakesOnly, Printing};
 ghost use Rattle.dadsm_ops.specs.Operations.{image_named};
 ghost use Rattle.pack_spec.specs.Volume.{volume_of};
 ghost use Rattle.vol_model.specs.declared.contents.Volume.{Volume};
@@ -11,6 +12,7 @@ ghost use Rattle.vtoc_index.specs.declared.vol.Vol.{Vol};
 ghost use Rattle.volman.specs.Deck.{TakesAtMost, deck_of};
 ghost use Rattle.volman.specs.Lines.{names_listing, unit_line};
 ghost use Rattle.volman.specs.Machine.{shelf_with};
+ghost use Rattle.volman.specs.Made.{IsNamesCall, IsProgramCall, IsRefusalPrint, IsRunCall};
 ghost use Rattle.volman.specs.Mount.{IsOnLastTrack};
 ghost use Rattle.volman.specs.Names.{IsListing, names_in};
 ghost use Rattle.hall_core.specs.Moments.{IsDurable};
@@ -82,6 +84,7 @@ pub fn volman<C: Cards, H: Hall>(
     ensures reads { C.reads cards.new ≤ C.reads cards.old + 83 }
     ensures ends { IsTrue C.tells → C.reads cards.new + length (C.left cards.new) ≤ C.reads cards.old + length (C.left cards.old) + 1 }
     ensures empty { C.empty_reads cards.new ≤ C.empty_reads cards.old + 1 }
+    ensures full { C.full_reads cards.new ≤ C.full_reads cards.old + 1 }
     ensures cards { ((file : List ℕ) → asked_in words ≢ Some (Run file)) → cards.new ≡ cards.old }
 
     // Causes of every status, over any hall and any cards: the words are refused only where they ask for
@@ -119,6 +122,7 @@ pub fn volman<C: Cards, H: Hall>(
     // that is refused. With a fault of the printer there is no sync behind the print, and where memory ran out no print,
     // nor, over a hall that tells, a write or a sync unless a file is changed.
     ensures calls { AttachesOnce 260 1 2 1 (H.calls hall.old) (H.calls hall.new) }
+    ensures made { MakesOnly (IsProgramCall (asked_in words) (λ deck. IsTrue C.tells → deck_of (C.left cards.old) ≡ deck) (H.facts hall.new).units) (H.made hall.old) (H.made hall.new) }
     ensures no_statement { ((file : List ℕ) → asked_in words ≢ Some (Run file)) → AttachesOnce 259 0 0 1 (H.calls hall.old) (H.calls hall.new) }
     ensures unlisted { ((file : List ℕ) → asked_in words ≢ Some (Run file)) → (result ≡ 22) ⊎ (result ≡ 25) → AttachesOnce 259 0 0 0 (H.calls hall.old) (H.calls hall.new) }
     ensures unbegun { IsUnbegun result → AttachesOnce 259 0 0 1 (H.calls hall.old) (H.calls hall.new) }
@@ -169,6 +173,7 @@ fn end<H: Hall>(hall: &mut H, text: &[u8], status: Status) -> u8
     ensures reported { CountsReported result (H.facts hall.old) (H.facts hall.new) }
     ensures later { Later (H.facts hall.old) (H.facts hall.new) }
     ensures calls { CallsAtMost 0 0 0 1 (H.calls hall.old) (H.calls hall.new) }
+    ensures made { MakesOnly (λ call. call ≡ Printing text.now) (H.made hall.old) (H.made hall.new) }
     ensures devices { (H.facts hall.new).dev_faults ≡ (H.facts hall.old).dev_faults }
     ensures references { (H.facts hall.new).references ≡ (H.facts hall.old).references }
     ensures units { (H.facts hall.new).units ≡ (H.facts hall.old).units }
@@ -186,6 +191,7 @@ fn names<H: Hall>(alloc: Global, hall: &mut H, file: &str) -> u8
     ensures files { IsTrue H.tells → LeavesFiles (H.meaning hall.old) (H.meaning hall.new) }
     ensures silent { IsTrue H.tells → (result ≡ 22) ⊎ (result ≡ 25) → (H.meaning hall.new).printed ≡ (H.meaning hall.old).printed }
     ensures calls { AttachesOnce 259 0 0 1 (H.calls hall.old) (H.calls hall.new) }
+    ensures made { MakesOnly (IsNamesCall file.now (H.facts hall.new).units) (H.made hall.old) (H.made hall.new) }
     ensures unprinted { (result ≡ 22) ⊎ (result ≡ 25) → AttachesOnce 259 0 0 0 (H.calls hall.old) (H.calls hall.new) }
     ensures reads { IsTrue H.tells → AttachesOnce (reads_to_mount (image_named (H.meaning hall.old).state file.now)) 0 0 1 (H.calls hall.old) (H.calls hall.new) }
     ensures code { result ≢ 8 }
@@ -207,6 +213,7 @@ fn run<H: Hall>(alloc: Global, hall: &mut H, file: &str, statement: &Rename) -> 
     ensures refused { IsTrue H.tells → result ≡ 21 → LeavesFiles (H.meaning hall.old) (H.meaning hall.new) }
     ensures durable { IsTrue H.tells → result ≡ 25 → IsDurable (H.meaning hall.new) }
     ensures calls { AttachesOnce 260 1 2 1 (H.calls hall.old) (H.calls hall.new) }
+    ensures made { MakesOnly (IsRunCall file.now statement.now (H.facts hall.new).units) (H.made hall.old) (H.made hall.new) }
     ensures unbegun { result ≡ 21 → AttachesOnce 259 0 0 1 (H.calls hall.old) (H.calls hall.new) }
     ensures unwritten { result ≡ 8 → AttachesOnce 259 0 1 1 (H.calls hall.old) (H.calls hall.new) }
     ensures behind { IsCode result → H.behind_sync hall.new }
@@ -241,6 +248,7 @@ fn refuse<H: Hall>(alloc: Global, hall: &mut H, file: &str, why: MountErr) -> u8
     ensures prints { result ≢ 24 → (H.facts hall.new).print_faults ≡ (H.facts hall.old).print_faults }
     ensures later { Later (H.facts hall.old) (H.facts hall.new) }
     ensures calls { CallsAtMost 0 0 0 1 (H.calls hall.old) (H.calls hall.new) }
+    ensures made { MakesOnly (IsRefusalPrint file.now why) (H.made hall.old) (H.made hall.new) }
     ensures devices { (H.facts hall.new).dev_faults ≡ (H.facts hall.old).dev_faults }
     ensures references { (H.facts hall.new).references ≡ (H.facts hall.old).references }
     ensures units { (H.facts hall.new).units ≡ (H.facts hall.old).units }

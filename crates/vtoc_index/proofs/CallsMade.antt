@@ -6,18 +6,20 @@ use Rattle.ckd_image.specs.Header.{HasGeometry}
 use Rattle.ckd_image.specs.Track.{Record}
 use Rattle.hall_core.specs.Facts.{Attached, Calls, CallsAtMost, Facts, Rose, unit_of}
 use Rattle.hall_core.specs.Files.{File}
+use Rattle.hall_core.specs.Made.{HallCall, MakesOnly}
 use Rattle.hall_core.specs.Moments.{Meaning, Same}
+use Rattle.hall_core.proofs.MadeLemmas.{makes_then}
 use Rattle.pack_spec.specs.Label.{label_in, label_of, records_on}
 use Rattle.pack_spec.specs.Views.{tracks_of}
 use Rattle.track_records.specs.Buffers.{Buffer}
-use Rattle.track_records.specs.Calls.{HasTrack}
+use Rattle.track_records.specs.Calls.{HasTrack, track_read}
 use Rattle.track_records.specs.Reads.{IsBroken}
 use Rattle.track_records.specs.Written.{StandsOn}
 use Rattle.track_records.specs.declared.error.TrackErr.{TrackErr}
 use Rattle.track_records.specs.declared.error.TrackErr.TheVariants as track_errors
 use Rattle.pack_spec.specs.declared.MountErr.{MountErr}
 use Rattle.pack_spec.specs.declared.MountErr.TheVariants.{Memory, Device, VtocTrack}
-use Rattle.vtoc_index.specs.Calls.{MountCall}
+use Rattle.vtoc_index.specs.Calls.{IsTrackRead, MountCall}
 use Rattle.vtoc_index.specs.Index.{IsReason}
 use Rattle.vtoc_index.specs.Reading.{AreNumbered, AreTracksRead, LastTrackHas, Refuses}
 use Rattle.vtoc_index.specs.declared.tracks.ReadSlots.{ReadSlots}
@@ -148,9 +150,23 @@ begins_same old = ([], sym (append-nil old))
 pub begins_further : {A : Type 0} (old mid new more : List A) → BeginsWith old mid → new ≡ mid ++ more → BeginsWith old new
 begins_further old mid new more begins is = (begins.0 ++ more, is ∙ ap (λ l. l ++ more) begins.1 ∙ append_assoc old begins.0 more)
 
+-- the tracks that were read, with one more
+pub track_more :
+    (unit : ℕ) (g g' : Geometry) (from track to to' : ℕ) {h0 h h' : HallCall → ℕ}
+    → MakesOnly (IsTrackRead unit g from to) h0 h
+    → MakesOnly (λ call. call ≡ track_read unit g' track) h h'
+    → g' ≡ g
+    → from ≤ track
+    → track < to'
+    → to ≤ to'
+    → MakesOnly (IsTrackRead unit g from to') h0 h'
+track_more unit g g' from track to to' before read same low high further =
+    makes_then before read (λ call is. (is.0, is.1, omega (arith, is.2, further), is.3)) (λ call is. (track, low, high, is ∙ ap (λ (x : Geometry). track_read unit x track) same))
+
 -- what a loop over tracks keeps
-pub record KeepsReading (tells : Bool) (c0 c : Calls) (f0 f : Facts) (m0 m : Meaning (List File)) (image : List ℕ) (g : Geometry) (unit start len : ℕ) (b0 b : Buffer) (r0 r : ReadSlots) : Type 0 where
+pub record KeepsReading (tells : Bool) (c0 c : Calls) (h0 h : HallCall → ℕ) (f0 f : Facts) (m0 m : Meaning (List File)) (image : List ℕ) (g : Geometry) (unit start len : ℕ) (b0 b : Buffer) (r0 r : ReadSlots) : Type 0 where
   pub calls : CallsAtMost (len - 1) 0 0 0 c0 c
+  pub made : MakesOnly (IsTrackRead unit g (start + 1) (start + len)) h0 h
   pub facts : FactsStay f0 f
   pub told : IsTrue tells → Same m0 m
   pub geometry : b.geometry ≡ g

@@ -1,5 +1,5 @@
 -- A buffer that holds a slot of its track.
-use Rattle.std.proofs.Common.{◌≡◌, ◌⊎◌, inl, inr, ⊎_elim, ◌<◌, ◌≤◌, ◌-◌, ◌/◌, ◌%◌, ℕ, zero, suc, Bool, true, false, cond, IsTrue, List, [], ◌∷◌, length, take, drop, Option, Some, None, refl, sym, subst, ◌∙◌, ap, arith}
+use Rattle.std.proofs.Common.{◌+◌, ◌≡◌, ◌⊎◌, inl, inr, ⊎_elim, ◌<◌, ◌≤◌, ◌-◌, ◌/◌, ◌%◌, ℕ, zero, suc, Bool, true, false, cond, IsTrue, List, [], ◌∷◌, length, take, drop, Option, Some, None, refl, sym, subst, ◌∙◌, ap, arith}
 use Rattle.std.specs.Prelude.{nat_le, ◌&&◌, ◌==◌, slice_get, slice_index, Err}
 use Rattle.std.specs.Option.{option_map}
 use Rattle.std.specs.Bool.{IsFalse}
@@ -14,7 +14,7 @@ use Rattle.hall_core.specs.Facts.{Facts, Rose, DeviceCall, NotedCall}
 use Rattle.pack_spec.specs.Label.{heads_of, records_on, track_bytes}
 use Rattle.pack_spec.specs.Vtoc.{slot_bytes}
 use Rattle.track_records.specs.Buffers.{Buffer}
-use Rattle.track_records.specs.Updates.{HasLengths, with_parts}
+use Rattle.track_records.specs.Updates.{HasLengths, length_of, offset_of, with_parts}
 use Rattle.track_records.specs.Written.{StandsOn}
 use Rattle.track_records.proofs.StandLemmas.{stand}
 use Rattle.track_records.proofs.UpdateLemmas.{has_lengths}
@@ -159,6 +159,12 @@ pub count_kept : (k : ℕ) (key content : List ℕ) (xs : List Record) → lengt
 count_kept k key content [] = refl
 count_kept zero key content (x ∷ xs) = refl
 count_kept (suc k) key content (x ∷ xs) = ap suc (count_kept k key content xs)
+
+-- and where it stands
+pub offset_kept : (k : ℕ) (key content : List ℕ) (xs : List Record) → offset_of (with_parts k key content xs) k ≡ offset_of xs k
+offset_kept k key content [] = refl
+offset_kept zero key content (x ∷ xs) = refl
+offset_kept (suc k) key content (x ∷ xs) = ap (λ (n : ℕ). length_of x + n) (offset_kept k key content xs)
 
 -- the key and the data that a record got
 pub key_put : (k : ℕ) (key content : List ℕ) (before : List Record) → HasLengths before k 44 96 → option_map (λ (x : Record). x.key) (slice_get (with_parts k key content before) k) ≡ Some key

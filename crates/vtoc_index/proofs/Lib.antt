@@ -22,6 +22,7 @@ pub mod TrackPut
 pub mod HeldLemmas
 pub mod VtocPut
 pub mod BegunLemmas
+pub mod PutCalls
 pub mod PutLaw
 pub mod ExtentLaw
 pub mod LawfulVolumes
@@ -31,4 +32,5 @@ mod Cases
 pub mod SmallPack
 pub mod MountCases
 pub mod PutCases
+mod MadeCases
 mod RuleCases

@@ -1,21 +1,31 @@
 -- What the reading of a VTOC leaves of a hall, and how many reads it takes, in this project's profile.
-use Rattle.std.specs.Prelude.{ℕ, ◌+◌, nat_lt, List, length, position, take, is_none, Option, Some, None, Result, Ok, Err, IsErrOf, if◌then◌else◌}
+use Rattle.std.specs.Prelude.{◌≡◌, ◌⊎◌, ℕ, ◌+◌, ◌≤◌, ◌<◌, nat_lt, List, length, position, take, is_none, Option, Some, None, Result, Ok, Err, IsErrOf, if◌then◌else◌}
 use Rattle.std.specs.Option.{option_map_or}
 use Rattle.ckd_image.specs.declared.header.Geometry.{Geometry}
 use Rattle.ckd_image.specs.declared.header.ImageErr.{ImageErr}
-use Rattle.ckd_image.specs.Header.{geometry_of}
+use Rattle.ckd_image.specs.Header.{HasGeometry, geometry_of}
 use Rattle.ckd_image.specs.Track.{Record}
 use Rattle.hall_core.specs.Facts.{Facts, ReportedCall}
+use Rattle.hall_core.specs.Made.{HallCall, Reading}
 use Rattle.vol_model.specs.declared.contents.Run.{Run}
 use Rattle.pack_spec.specs.Label.{address_at, is_inside, label_of, records_on, track_of_address}
 use Rattle.pack_spec.specs.Slots.{tracks_in}
 use Rattle.pack_spec.specs.Vtoc.{slots_on, vtoc_of}
 use Rattle.pack_spec.specs.declared.MountErr.{MountErr}
+use Rattle.track_records.specs.Calls.{track_read}
 use Rattle.pack_spec.specs.declared.MountErr.TheVariants.{Device}
 
 -- calls that read, which answer a fault of the device as one
 abbrev pub MountCall : {T : Type 0} → Facts → Facts → Result T MountErr → Type 0
 MountCall old new result = ReportedCall (IsErrOf result Device) old new
+
+-- a read of one of these tracks: from the first on, and before the second
+abbrev pub IsTrackRead : ℕ → Geometry → ℕ → ℕ → HallCall → Type 0
+IsTrackRead unit g from to call = (track : ℕ) × (from ≤ track) × (track < to) × (call ≡ track_read unit g track)
+
+-- a read that mounts a pack: of the header, or of a track by a geometry that a file of this size may have
+abbrev pub IsMountRead : ℕ → ℕ → HallCall → Type 0
+IsMountRead unit size call = (call ≡ Reading unit 0 512) ⊎ ((g : Geometry) × HasGeometry size g × (track : ℕ) × (call ≡ track_read unit g track))
 
 -- the reads of the first track of a VTOC: two where it breaks the grammar, since its first slot is read then by itself
 abbrev pub first_track_reads : Option (List Record) → ℕ

@@ -1,15 +1,17 @@
 -- What a write of one slot of a VTOC leaves of the image and of the index, in this project's profile.
-use Rattle.std.specs.Prelude.{◌≡◌, ◌⊎◌, ℕ, ◌+◌, ◌≤◌, ◌<◌, List, [], length, take, drop, Some, Result, OnOk, OnErr, slice_set}
+use Rattle.std.specs.Prelude.{◌≡◌, ◌⊎◌, ℕ, ◌+◌, ◌*◌, ◌≤◌, ◌<◌, List, [], length, take, drop, Some, Result, OnOk, OnErr, slice_set}
 use Rattle.dscb_codec.specs.declared.Dscb.{Dscb}
 use Rattle.dscb_codec.specs.Layout.{IsDscb}
 use Rattle.ckd_image.specs.Track.{Record}
 use Rattle.ckd_image.specs.declared.header.Geometry.{Geometry}
 use Rattle.hall_core.specs.Files.{File, AfterWrite, patched}
+use Rattle.hall_core.specs.Made.{HallCall, Noting, Writing}
 use Rattle.hall_core.specs.Moments.{Meaning}
 use Rattle.pack_spec.specs.Vtoc.{slots_on}
 use Rattle.track_records.specs.Buffers.{Buffer}
+use Rattle.track_records.specs.Calls.{track_read}
 use Rattle.track_records.specs.Updates.{HasLengths, with_parts}
-use Rattle.track_records.specs.Written.{StandsOn}
+use Rattle.track_records.specs.Written.{StandsOn, place_of}
 use Rattle.vtoc_index.specs.declared.vol.Vol.{Vol}
 use Rattle.vtoc_index.specs.Index.{IsIndexOf, IsPut, place_of_slot, slots_in_front, track_index}
 
@@ -39,6 +41,24 @@ pub record IsReplaced (slot : ℕ) (d : Dscb) (old new : Vol) : Type 0 where
 -- the buffer of an index holds the track of this slot, and that up to the slot
 abbrev pub HoldsSlot : Vol → ℕ → Type 0
 HoldsSlot v slot = (v.buf.track ≡ v.vtoc.start + track_index v.firsts.items slot) × (slots_in_front v.firsts.items slot < length v.buf.records)
+
+-- The write of a DSCB's bytes into a slot: within the slot's track, and there where the buffer has the slot's record.
+pub record IsSlotWrite (v : Vol) (slot : ℕ) (d : Dscb) (buf : Buffer) (call : HallCall) : Type 0 where
+  pub bytes : List ℕ
+  pub dscb : IsDscb d bytes
+  pub size : length bytes ≡ 140
+  pub at : ℕ
+  pub place : at ≡ place_of buf (slots_in_front v.firsts.items slot)
+  pub behind : 512 + (v.vtoc.start + track_index v.firsts.items slot) * v.geometry.track_size ≤ at
+  pub inside : at + 140 ≤ 512 + (v.vtoc.start + track_index v.firsts.items slot + 1) * v.geometry.track_size
+  pub writes : call ≡ Writing v.unit at bytes
+
+-- A call that puts a DSCB into a slot, by the index before and the buffer behind: the read of the slot's track, the note that it isn't as it was, where the buffer has no slot there, or the write into the slot.
+abbrev pub IsPutCall : Vol → ℕ → Dscb → Buffer → HallCall → Type 0
+IsPutCall v slot d buf call =
+    (call ≡ track_read v.unit v.geometry (v.vtoc.start + track_index v.firsts.items slot))
+    ⊎ (((call ≡ Noting v.unit (v.vtoc.start + track_index v.firsts.items slot)) × (¬ HasLengths buf.records (slots_in_front v.firsts.items slot) 44 96))
+    ⊎ IsSlotWrite v slot d buf call)
 
 -- the buffer of an index holds each slot of the track that is in it
 abbrev pub HoldsItsTrack : Vol → Type 0

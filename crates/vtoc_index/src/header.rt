@@ -3,6 +3,7 @@ ghost use Rattle.std.specs.Prelude.{◌≡◌, ◌<◌, length, take, IsTrue, If
 ghost use Rattle.ckd_image.specs.Header.{HasGeometry, geometry_of};
 ghost use Rattle.hall_core.specs.Facts.{CallsAtMost, unit_of};
 ghost use Rattle.hall_core.specs.Files.{image_of};
+ghost use Rattle.hall_core.specs.Made.{MakesOnly, Reading};
 ghost use Rattle.hall_core.specs.Moments.{Same};
 ghost use Rattle.pack_spec.specs.Volume.{volume_of};
 ghost use Rattle.vtoc_index.specs.Calls.{MountCall};
@@ -21,6 +22,7 @@ pub(crate) fn read_geometry<H: Hall>(hall: &mut H, unit: u8) -> Result<Geometry,
     ensures told { IsTrue H.tells → Same (H.meaning hall.old) (H.meaning hall.new) }
     ensures call { MountCall (H.facts hall.old) (H.facts hall.new) result }
     ensures calls { CallsAtMost 1 0 0 0 (H.calls hall.old) (H.calls hall.new) }
+    ensures made { MakesOnly (λ call. call ≡ Reading unit 0 512) (H.made hall.old) (H.made hall.new) }
     ensures short { (unit_of (H.facts hall.old).units unit).size < 512 → CallsAtMost 0 0 0 0 (H.calls hall.old) (H.calls hall.new) }
     ensures file { IsErrOf result MountErr.NoFile → ⊥ }
 {

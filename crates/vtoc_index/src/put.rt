@@ -1,13 +1,14 @@
 //! One slot of a VTOC, written over.
-ghost use Rattle.std.specs.Prelude.{◌≡◌, ◌<◌, ◌≤◌, ◌+◌, ◌-◌, [], length, filter, nat_le, slice_index, IsOk, IsTrue, OnOk, OnErr};
+ghost use Rattle.std.specs.Prelude.{◌≡◌, ◌⊎◌, ◌<◌, ◌≤◌, ◌+◌, ◌-◌, [], length, filter, nat_le, slice_index, IsOk, IsTrue, OnOk, OnErr};
 ghost use Rattle.hall_core.specs.Facts.{CallsAtMost, DeviceCall, unit_of};
 ghost use Rattle.hall_core.specs.Files.{image_of};
+ghost use Rattle.hall_core.specs.Made.{MakesOnly, Noting};
 ghost use Rattle.hall_core.specs.Moments.{Same};
-ghost use Rattle.track_records.specs.Calls.{HasTrack};
+ghost use Rattle.track_records.specs.Calls.{HasTrack, track_read};
 ghost use Rattle.track_records.specs.Updates.{HasLengths};
 ghost use Rattle.track_records.specs.Written.{StandsOn};
 ghost use Rattle.vtoc_index.specs.Index.{AreFirsts, IsIndexOf, IsOfUnit, slots_in_front, track_index};
-ghost use Rattle.vtoc_index.specs.Puts.{AfterPut, HasSlot, HoldsDscb, HoldsSlot, IsHeld, IsWith};
+ghost use Rattle.vtoc_index.specs.Puts.{AfterPut, HasSlot, HoldsDscb, HoldsSlot, IsHeld, IsPutCall, IsWith};
 
 use crate::vol::Vol;
 use dscb_codec::{Dscb, encode};
@@ -43,6 +44,7 @@ pub fn put_slot<H: Hall>(hall: &mut H, vol: &mut Vol, slot: u32, dscb: &Dscb) ->
     ensures call { DeviceCall (H.facts hall.old) (H.facts hall.new) result }
     ensures slot { OnOk result (HoldsDscb (slots_in_front vol.old.firsts.items slot) dscb.now vol.new.buf.records) }
     ensures calls { CallsAtMost 1 1 0 0 (H.calls hall.old) (H.calls hall.new) }
+    ensures made { MakesOnly (IsPutCall vol.old slot dscb.now vol.new.buf) (H.made hall.old) (H.made hall.new) }
     ensures unwritten { OnErr result (¬ HasLengths vol.new.buf.records (slots_in_front vol.old.firsts.items slot) 44 96 → CallsAtMost 1 0 0 0 (H.calls hall.old) (H.calls hall.new)) }
     ensures again { HoldsSlot vol.old slot → CallsAtMost 0 1 0 0 (H.calls hall.old) (H.calls hall.new) }
     ensures few { ¬ HoldsSlot vol.old slot → length vol.new.buf.records ≤ slots_in_front vol.old.firsts.items slot + 1 }
@@ -111,6 +113,7 @@ fn hold<H: Hall>(hall: &mut H, unit: u8, place: Place, buf: &mut TrackBuf) -> Re
     ensures told { IsTrue H.tells → Same (H.meaning hall.old) (H.meaning hall.new) }
     ensures call { DeviceCall (H.facts hall.old) (H.facts hall.new) result }
     ensures calls { CallsAtMost 1 0 0 0 (H.calls hall.old) (H.calls hall.new) }
+    ensures made { MakesOnly (λ call. (call ≡ track_read unit buf.old.geometry place.track) ⊎ ((call ≡ Noting unit place.track) × (¬ HasLengths buf.new.records (place.number - 1) 44 96))) (H.made hall.old) (H.made hall.new) }
 {
     fetch(hall, unit, place, buf)?;
     if !holds_slot(buf, place.number) {
@@ -136,6 +139,7 @@ fn fetch<H: Hall>(hall: &mut H, unit: u8, place: Place, buf: &mut TrackBuf) -> R
     ensures told { IsTrue H.tells → Same (H.meaning hall.old) (H.meaning hall.new) }
     ensures call { DeviceCall (H.facts hall.old) (H.facts hall.new) result }
     ensures calls { CallsAtMost 1 0 0 0 (H.calls hall.old) (H.calls hall.new) }
+    ensures made { MakesOnly (λ call. (call ≡ track_read unit buf.old.geometry place.track) ⊎ ((call ≡ Noting unit place.track) × (¬ HasLengths buf.new.records (place.number - 1) 44 96))) (H.made hall.old) (H.made hall.new) }
 {
     if buf.track() == place.track && usize::from(place.number) <= buf.len() {
         return Ok(());

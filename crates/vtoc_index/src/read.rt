@@ -1,16 +1,17 @@
 //! The index of a VTOC, read with one read a track.
-ghost use Rattle.std.specs.Prelude.{◌≡◌, ◌≢◌, ◌≤◌, ◌<◌, ◌+◌, ◌⊎◌, length, IsTrue, IfOk, IfErr, OnOk, IsErrOf, Some, None, Ok, Err, ◌-◌, ◌++◌, ℕ, List};
+ghost use Rattle.std.specs.Prelude.{◌≡◌, ◌≢◌, ◌≤◌, ◌<◌, ◌+◌, ◌⊎◌, length, IsTrue, IfOk, IfErr, OnOk, IsErrOf, Some, None, Ok, Err, ◌-◌, ◌++◌, ℕ, List, []};
 ghost use Rattle.ckd_image.specs.Header.{HasGeometry};
 ghost use Rattle.hall_core.specs.Facts.{CallsAtMost, unit_of};
 ghost use Rattle.hall_core.specs.Files.{image_of};
+ghost use Rattle.hall_core.specs.Made.{MakesOnly};
 ghost use Rattle.hall_core.specs.Moments.{Same};
 ghost use Rattle.pack_spec.specs.Label.{is_inside, records_on, track_of_address};
 ghost use Rattle.pack_spec.specs.Views.{tracks_of};
 ghost use Rattle.pack_spec.specs.Volume.{volume_within};
 ghost use Rattle.pack_spec.specs.Vtoc.{slots_on};
-ghost use Rattle.track_records.specs.Calls.{HasTrack};
+ghost use Rattle.track_records.specs.Calls.{HasTrack, track_read};
 ghost use Rattle.track_records.specs.Written.{StandsOn};
-ghost use Rattle.vtoc_index.specs.Calls.{MountCall, first_track_reads, reads_to_mount, tracks_to_read, vtoc_reads};
+ghost use Rattle.vtoc_index.specs.Calls.{IsMountRead, IsTrackRead, MountCall, first_track_reads, reads_to_mount, tracks_to_read, vtoc_reads};
 ghost use Rattle.vtoc_index.specs.Index.{IsMounted, IsOfUnit, IsReason};
 ghost use Rattle.vtoc_index.specs.declared.slots.ReadSlot.{ReadSlot};
 ghost use Rattle.vtoc_index.specs.Puts.{HoldsItsTrack};
@@ -58,6 +59,7 @@ pub fn read_vtoc<H: Hall>(alloc: Global, hall: &mut H, unit: u8) -> Result<Vol, 
     ensures told { IsTrue H.tells → Same (H.meaning hall.old) (H.meaning hall.new) }
     ensures call { MountCall (H.facts hall.old) (H.facts hall.new) result }
     ensures calls { CallsAtMost 259 0 0 0 (H.calls hall.old) (H.calls hall.new) }
+    ensures made { MakesOnly (IsMountRead unit (unit_of (H.facts hall.old).units unit).size) (H.made hall.old) (H.made hall.new) }
     ensures reads { IsTrue H.tells → CallsAtMost (reads_to_mount (image_of (H.meaning hall.old).state (H.facts hall.old) unit)) 0 0 0 (H.calls hall.old) (H.calls hall.new) }
     ensures short { (unit_of (H.facts hall.old).units unit).size < 512 → CallsAtMost 0 0 0 0 (H.calls hall.old) (H.calls hall.new) }
     ensures once { IfOk result (λ vol. CallsAtMost (vol.vtoc.len + 2) 0 0 0 (H.calls hall.old) (H.calls hall.new)) }
@@ -69,7 +71,8 @@ pub fn read_vtoc<H: Hall>(alloc: Global, hall: &mut H, unit: u8) -> Result<Vol, 
     if !label.vtoc.is_inside(geometry) {
         return Err(MountErr::BadVtoc);
     }
-    let (vtoc, found) = read_slots(alloc, hall, unit, geometry, label.vtoc, &mut buf)?;
+    let mut found = ReadSlots::new(alloc);
+    let vtoc = read_slots(hall, unit, geometry, label.vtoc, &mut buf, &mut found)?;
     let slots = dscbs_in(alloc, geometry, &found.slots)?;
     Ok(Vol {
         unit,
@@ -82,40 +85,42 @@ pub fn read_vtoc<H: Hall>(alloc: Global, hall: &mut H, unit: u8) -> Result<Vol, 
     })
 }
 
-// Reads the tracks of the VTOC that begins at an address of the pack: its extent, and its slots.
+// Reads the tracks of the VTOC that begins at an address of the pack: gives its extent, and finds its slots.
 #[tactic(auto, using(hall_core::proofs::MomentLemmas::same_then))]
 fn read_slots<H: Hall>(
-    alloc: Global,
     hall: &mut H,
     unit: u8,
     geometry: Geometry,
     at: Address,
     buf: &mut TrackBuf,
-) -> Result<(Run, ReadSlots), MountErr>
+    found: &mut ReadSlots,
+) -> Result<Run, MountErr>
     requires attached { unit < length (H.facts hall.old).units }
     requires whole { HasGeometry (unit_of (H.facts hall.old).units unit).size geometry }
     requires buffer { buf.old.geometry ≡ geometry }
     requires inside { IsTrue (is_inside geometry at) }
-    ensures extent { IsTrue H.tells → IfOk result (λ p. vtoc_on (image_of (H.meaning hall.old).state (H.facts hall.old) unit) geometry at ≡ Ok p.0) }
-    ensures read { IsTrue H.tells → IfOk result (λ p. AreTracksRead (image_of (H.meaning hall.old).state (H.facts hall.old) unit) geometry p.0.start p.0.len p.1) }
+    requires empty { (found.old.slots.items ≡ []) × (found.old.firsts.items ≡ []) }
+    ensures extent { IsTrue H.tells → IfOk result (λ vtoc. vtoc_on (image_of (H.meaning hall.old).state (H.facts hall.old) unit) geometry at ≡ Ok vtoc) }
+    ensures read { IsTrue H.tells → IfOk result (λ vtoc. AreTracksRead (image_of (H.meaning hall.old).state (H.facts hall.old) unit) geometry vtoc.start vtoc.len found.new) }
     ensures stands { IsTrue H.tells → OnOk result (StandsOn (image_of (H.meaning hall.old).state (H.facts hall.old) unit) buf.new) }
     ensures refused { let image = image_of (H.meaning hall.old).state (H.facts hall.old) unit in IsTrue H.tells → IfErr result (Refuses (volume_within image geometry (vtoc_on image geometry at))) }
-    ensures numbers { IfOk result (λ p. IsExtent geometry at p.0 × AreNumbered p.0.len p.1) }
-    ensures last { IfOk result (λ p. buf.new.track + 1 ≡ p.0.start + p.0.len) }
-    ensures held { IfOk result (λ p. LastTrackHas (length buf.new.records) p.1) }
+    ensures numbers { IfOk result (λ vtoc. IsExtent geometry at vtoc × AreNumbered vtoc.len found.new) }
+    ensures last { IfOk result (λ vtoc. buf.new.track + 1 ≡ vtoc.start + vtoc.len) }
+    ensures held { OnOk result (LastTrackHas (length buf.new.records) found.new) }
     ensures buffer { (buf.new.geometry ≡ geometry) × (buf.new.unit ≡ unit) }
     ensures told { IsTrue H.tells → Same (H.meaning hall.old) (H.meaning hall.new) }
     ensures call { MountCall (H.facts hall.old) (H.facts hall.new) result }
     ensures calls { CallsAtMost 257 0 0 0 (H.calls hall.old) (H.calls hall.new) }
+    ensures made { MakesOnly (IsTrackRead unit geometry (track_of_address geometry at) (tracks_of geometry)) (H.made hall.old) (H.made hall.new) }
     ensures reads { let image = image_of (H.meaning hall.old).state (H.facts hall.old) unit in IsTrue H.tells → CallsAtMost (vtoc_reads image geometry (records_on image geometry None (track_of_address geometry at)) (vtoc_on image geometry at)) 0 0 0 (H.calls hall.old) (H.calls hall.new) }
-    ensures once { IfOk result (λ p. CallsAtMost p.0.len 0 0 0 (H.calls hall.old) (H.calls hall.new)) }
+    ensures once { IfOk result (λ vtoc. CallsAtMost vtoc.len 0 0 0 (H.calls hall.old) (H.calls hall.new)) }
+    ensures far { IsErrOf result MountErr.Memory → CallsAtMost (length found.new.firsts.items + 1) 0 0 0 (H.calls hall.old) (H.calls hall.new) }
     ensures file { IsErrOf result MountErr.NoFile → ⊥ }
 {
     let (vtoc, count) = read_first(hall, unit, geometry, at, buf)?;
-    let mut found = ReadSlots::new(alloc);
     found.add(geometry, vtoc.start, buf, count)?;
-    read_others(hall, unit, geometry, vtoc, buf, &mut found)?;
-    Ok((vtoc, found))
+    read_others(hall, unit, geometry, vtoc, buf, found)?;
+    Ok(vtoc)
 }
 
 // Reads the first track of the VTOC: the VTOC's extent, and how many records the buffer then holds.
@@ -139,9 +144,11 @@ fn read_first<H: Hall>(
     ensures told { IsTrue H.tells → Same (H.meaning hall.old) (H.meaning hall.new) }
     ensures call { MountCall (H.facts hall.old) (H.facts hall.new) result }
     ensures calls { CallsAtMost 2 0 0 0 (H.calls hall.old) (H.calls hall.new) }
+    ensures made { MakesOnly (λ call. call ≡ track_read unit geometry (track_of_address geometry at)) (H.made hall.old) (H.made hall.new) }
     ensures reads { let image = image_of (H.meaning hall.old).state (H.facts hall.old) unit in IsTrue H.tells → CallsAtMost (first_track_reads (records_on image geometry None (track_of_address geometry at))) 0 0 0 (H.calls hall.old) (H.calls hall.new) }
     ensures once { OnOk result (CallsAtMost 1 0 0 0 (H.calls hall.old) (H.calls hall.new)) }
     ensures file { IsErrOf result MountErr.NoFile → ⊥ }
+    ensures memory { IsErrOf result MountErr.Memory → ⊥ }
 {
     match read_records(hall, unit, at.track(geometry), None, buf) {
         Ok(count) => match extent_held(buf, geometry, at) {
@@ -171,7 +178,9 @@ fn why_broken<H: Hall>(
     ensures told { IsTrue H.tells → Same (H.meaning hall.old) (H.meaning hall.new) }
     ensures call { MountCall {T = Unit {0}} (H.facts hall.old) (H.facts hall.new) (Err result) }
     ensures calls { CallsAtMost 1 0 0 0 (H.calls hall.old) (H.calls hall.new) }
+    ensures made { MakesOnly (λ call. call ≡ track_read unit geometry (track_of_address geometry at)) (H.made hall.old) (H.made hall.new) }
     ensures file { result ≢ MountErr.NoFile }
+    ensures memory { result ≢ MountErr.Memory }
     ensures buffer { buf.new ≡ record buf.old { unit = unit; track = track_of_address geometry at; records = buf.new.records } }
 {
     let track = at.track(geometry);
@@ -211,6 +220,7 @@ fn read_others<H: Hall>(
     ensures told { IsTrue H.tells → Same (H.meaning hall.old) (H.meaning hall.new) }
     ensures call { MountCall (H.facts hall.old) (H.facts hall.new) result }
     ensures calls { CallsAtMost (vtoc.len - 1) 0 0 0 (H.calls hall.old) (H.calls hall.new) }
+    ensures made { MakesOnly (IsTrackRead unit geometry (vtoc.start + 1) (vtoc.start + vtoc.len)) (H.made hall.old) (H.made hall.new) }
     ensures reads { let image = image_of (H.meaning hall.old).state (H.facts hall.old) unit in IsTrue H.tells → AreTracksRead image geometry vtoc.start 1 found.old → CallsAtMost (tracks_to_read image geometry vtoc - 1) 0 0 0 (H.calls hall.old) (H.calls hall.new) }
     ensures far { CallsAtMost ((length found.new.firsts.items - length found.old.firsts.items) + 1) 0 0 0 (H.calls hall.old) (H.calls hall.new) }
     ensures stops { (t : ℕ) → IsErrOf result (MountErr.VtocTrack t) → CallsAtMost (t - vtoc.start) 0 0 0 (H.calls hall.old) (H.calls hall.new) }
@@ -239,6 +249,7 @@ fn read_track<H: Hall>(
     ensures told { IsTrue H.tells → Same (H.meaning hall.old) (H.meaning hall.new) }
     ensures call { MountCall (H.facts hall.old) (H.facts hall.new) result }
     ensures calls { CallsAtMost 1 0 0 0 (H.calls hall.old) (H.calls hall.new) }
+    ensures made { MakesOnly (λ call. call ≡ track_read unit buf.old.geometry track) (H.made hall.old) (H.made hall.new) }
     ensures file { IsErrOf result MountErr.NoFile → ⊥ }
 {
     match read_records(hall, unit, track, None, buf) {

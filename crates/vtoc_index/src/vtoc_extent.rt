@@ -20,6 +20,7 @@ pub(crate) fn extent_held(buf: &TrackBuf, geometry: Geometry, at: Address) -> Re
     ensures extent { IfOk result (IsExtent geometry at) }
     ensures device { IsErrOf result MountErr.Device → ⊥ }
     ensures file { IsErrOf result MountErr.NoFile → ⊥ }
+    ensures memory { IsErrOf result MountErr.Memory → ⊥ }
 {
     match first_slot(buf) {
         Some(slot) => match vtoc_extent(geometry, at, &slot) {

@@ -28,6 +28,8 @@ impl Hall for Odd {
 
     ghost calls = { λ _. uncounted };
 
+    ghost made = { λ _ _. 0 };
+
     ghost behind_sync = { λ _. Unit {0} };
 
     ghost leaves_state = { λ _. tt };

@@ -23,6 +23,8 @@ impl<H: Hall> Hall for Cut<H> {
 
     ghost calls = { λ h. H.calls h.hall };
 
+    ghost made = { λ _ _. 0 };
+
     ghost behind_sync = { λ h. H.behind_sync h.hall };
 
     ghost leaves_state = { λ h. H.leaves_state h.hall };

@@ -20,6 +20,8 @@ impl<H: Hall> Hall for Scarce<H> {
 
     ghost calls = { λ h. H.calls h.hall };
 
+    ghost made = { λ h. H.made h.hall };
+
     ghost behind_sync = { λ h. H.behind_sync h.hall };
 
     ghost leaves_state = { λ h. H.leaves_state h.hall };

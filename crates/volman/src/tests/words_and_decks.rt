@@ -187,6 +187,8 @@ impl<C: Cards> Cards for Single<C> {
 
     ghost empty_reads = { λ single. C.empty_reads single.cards };
 
+    ghost full_reads = { λ _. 0 };
+
     fn read(&mut self, buf: &mut [u8]) -> Result<usize, ReadFault> {
         self.cards.read(&mut buf[..1])
     }

@@ -1,7 +1,8 @@
 use Rattle.std.proofs.Common.{inr, rules}
 use Rattle.hall_core.specs.Facts.{unit_of}
+use Rattle.hall_core.proofs.MadeLemmas.{makes_as}
 use Rattle.dadsm_ops.specs.Naming.{IsToRename}
-use Rattle.dadsm_ops.proofs.Renaming.{holds_renamed, may_rename_entry, puts_name, puts_name_not, rename_calls, renames, renames_entry, renames_not}
+use Rattle.dadsm_ops.proofs.Renaming.{holds_renamed, may_rename_entry, named_call, puts_name, puts_name_not, rename_calls, renames, renames_entry, renames_not}
 use Rattle.dadsm_ops.proofs.naming.rename.Goals as goal
 
 pub returns-in-Ok-clause-told : goal.returns-in-Ok-clause-told
@@ -76,3 +77,15 @@ returns-in-Err-clause-again g c =
     let put_there = put.synced more in
     (renames_entry c.args.old.now.bytes c.args.new.now.bytes v.slots.items c.put_through.new.vol.slots.items c.in_ok-slot.slot c.index.result.now c.under_name-dscb.result found c.index.ensures c.under_name-dscb.ensures.exact put_there.0, holds_renamed c.args.old.now.bytes c.args.new.now.bytes v c.put_through.new.vol c.in_ok-slot.slot c.under_name-dscb.result found put_there.0 put.track put_there.1))
     put.unwritten
+
+pub returns-in-Ok-clause-made : goal.returns-in-Ok-clause-made
+returns-in-Ok-clause-made g c =
+    let v = c.args.vol.now in
+    let found : IsToRename v.slots.items c.args.old.now.bytes c.args.new.now.bytes c.in_ok-slot.slot = search rules in
+    makes_as c.in-Ok.ensures.made (named_call c.args.old.now.bytes c.args.new.now.bytes v c.put_through.new.vol.buf c.in_ok-slot.slot c.index.result.now c.under_name-dscb.result found c.index.ensures c.under_name-dscb.ensures.exact)
+
+pub returns-in-Err-clause-made : goal.returns-in-Err-clause-made
+returns-in-Err-clause-made g c =
+    let v = c.args.vol.now in
+    let found : IsToRename v.slots.items c.args.old.now.bytes c.args.new.now.bytes c.in_ok-slot.slot = search rules in
+    makes_as c.in-Err.ensures.made (named_call c.args.old.now.bytes c.args.new.now.bytes v c.put_through.new.vol.buf c.in_ok-slot.slot c.index.result.now c.under_name-dscb.result found c.index.ensures c.under_name-dscb.ensures.exact)

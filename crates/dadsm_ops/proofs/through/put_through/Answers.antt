@@ -5,6 +5,7 @@ use Rattle.vtoc_index.proofs.BegunLemmas.{same_image}
 use Rattle.vtoc_index.proofs.HeldLemmas.{still_slot}
 use Rattle.hall_core.specs.Facts.{Attached, unit_of}
 use Rattle.hall_core.specs.Files.{image_of}
+use Rattle.hall_core.proofs.MadeLemmas.{makes_as, makes_then}
 use Rattle.vtoc_index.specs.declared.vol.Vol.{Vol}
 use Rattle.dadsm_ops.specs.Operations.{image_named}
 use Rattle.dadsm_ops.proofs.Writes.{put_fails, put_synced}
@@ -60,3 +61,9 @@ returns-clause-unwritten g c =
     (omega (arith, held.size, length-take 44 held.bytes))
     (omega (arith, held.size, length-drop 44 held.bytes))
     held.put)))
+
+pub returns-in_err-put_slot-clause-made : goal.returns-in_err-put_slot-clause-made
+returns-in_err-put_slot-clause-made g c = makes_as c.in_err-put_slot.ensures.made (λ call is. inl is)
+
+pub returns-clause-made : goal.returns-clause-made
+returns-clause-made g c = makes_then c.in_ok-put_slot.ensures.made c.make_durable.ensures.made (λ call is. inl is) (λ call is. inr is)

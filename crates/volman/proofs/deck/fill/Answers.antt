@@ -16,4 +16,9 @@ loop-count-preserved g c =
       faults = c.in_ok-given.ensures.done ∙ c.loop-count.invariant.faults;
       reads = omega (arith, c.loop-count.invariant.reads, c.in_ok-given.ensures.once);
       empty = let some : 0 < c.in_ok-given.given = search rules in omega (arith, c.loop-count.invariant.empty, c.in_ok-given.ensures.given some);
+      full = let none = c.loop-count.invariant.part c.loop-count-test.true in omega (arith, none, c.in_ok-given.ensures.full);
+      part = λ more.
+          let none = c.loop-count.invariant.part c.loop-count-test.true in
+          let still = c.in_ok-given.ensures.part (omega (arith, length-drop {A = ℕ}, size, same, more)) in
+          omega (arith, none, still);
     }

@@ -1,4 +1,4 @@
-use Rattle.std.proofs.Common.{length, ◌-◌, ◌+◌, ◌≡◌, ◌≤◌, ◌++◌, take, IsTrue}
+use Rattle.std.proofs.Common.{length, ◌-◌, ◌+◌, ◌≡◌, ◌≤◌, ◌<◌, ◌++◌, take, IsTrue}
 use Rattle.volman.proofs.deck.fill.Given as goal
 
 abbrev pub invariant-loop-count : goal.invariant-loop-count
@@ -9,6 +9,8 @@ invariant-loop-count g l = record {
   faults : g.C.Cards.faults l.cards ≡ g.C.Cards.faults l.initial.cards;
   reads : g.C.Cards.reads l.cards ≤ g.C.Cards.reads l.initial.cards + l.count;
   empty : g.C.Cards.empty_reads l.cards ≤ g.C.Cards.empty_reads l.initial.cards;
+  full : g.C.Cards.full_reads l.cards ≤ g.C.Cards.full_reads l.initial.cards + 1;
+  part : l.count < length l.bytes → g.C.Cards.full_reads l.cards ≤ g.C.Cards.full_reads l.initial.cards;
 }
 
 abbrev pub decreases-loop-count : goal.decreases-loop-count

@@ -1,8 +1,13 @@
-use Rattle.std.proofs.Common.{◌≡◌, ◌∙◌, ℕ, List, sym, ap, subst, arith}
+use Rattle.std.proofs.Common.{◌≡◌, ◌∙◌, inl, inr, ℕ, List, sym, ap, subst, arith}
 use Rattle.dscb_codec.specs.declared.Dscb.{Dscb}
+use Rattle.hall_core.proofs.MadeLemmas.{makes_as, makes_then}
 use Rattle.hall_core.proofs.MomentLemmas.{same_none}
+use Rattle.hall_core.specs.Facts.{Attached}
+use Rattle.hall_core.specs.Made.{MakesOnly, Printing}
 use Rattle.hall_core.specs.Moments.{Same}
 use Rattle.volman.specs.Lines.{names_listing}
+use Rattle.vtoc_index.specs.Index.{IsOfUnit}
+use Rattle.volman.specs.Made.{IsMountCall}
 use Rattle.volman.specs.Names.{IsListing, names_in, names_of}
 use Rattle.volman.specs.Run.{PrintsText}
 use Rattle.volman.specs.Task.{names_task}
@@ -33,3 +38,27 @@ returns-clause-does g c told =
     refused_file c.args.file.now names_task c.in-Err.why c.refuse.result (c.in-Err.ensures.refused told) (c.mount.ensures.told told) (c.refuse.ensures.does told)
     (λ quiet. subst (λ h. Same mid (M h)) (sym (c.refuse.ensures.silent quiet)) (same_none mid (g.met.H.Hall.counts_now c.mount.new.hall)))
     c.refuse.ensures.device c.refuse.ensures.memory (nothing_named c.args.file.now c.refuse.result)
+
+-- the calls of each answer
+pub returns-in-Ok-names_text-clause-made : goal.returns-in-Ok-names_text-clause-made
+returns-in-Ok-names_text-clause-made g c =
+    let made = g.H.Hall.made in
+    let found = c.in-Ok.vol in
+    let listed = c.in-Ok-names_text.ensures in
+    let lists = subst (λ (ds : List Dscb). IsListing (names_in ds) listed.0) c.deref.ensures.value listed.1 in
+    let text : c.deref-in-Ok-names_text.result.now ≡ names_listing listed.0 = c.deref-in-Ok-names_text.ensures.value ∙ listed.2 in
+    let units = sym c.end.ensures.units in
+    makes_then (subst (λ (us : List Attached). MakesOnly (IsMountCall c.args.file.now us) (made c.args.hall.now) (made c.mount.new.hall)) units c.mount.ensures.made) c.end.ensures.made
+    (λ call is. inl is)
+    (λ call is. inr (inr (found, subst (λ (us : List Attached). IsOfUnit us found) units c.in-Ok.ensures.unit.0, (listed.0, lists, is ∙ ap Printing text))))
+
+pub returns-in-Ok-clause-made : goal.returns-in-Ok-clause-made
+returns-in-Ok-clause-made g c = makes_as c.mount.ensures.made (λ call is. inl is)
+
+pub returns-clause-made : goal.returns-clause-made
+returns-clause-made g c =
+    let made = g.H.Hall.made in
+    let units = sym c.refuse.ensures.units in
+    makes_then (subst (λ (us : List Attached). MakesOnly (IsMountCall c.args.file.now us) (made c.args.hall.now) (made c.mount.new.hall)) units c.mount.ensures.made) c.refuse.ensures.made
+    (λ call is. inl is)
+    (λ call is. inr (inl (c.in-Err.why, is)))

@@ -1,18 +1,21 @@
-use Rattle.std.proofs.Common.{rules, arith, ◌≡◌, ◌<◌, ◌+◌, List, ℕ, [], ◌∷◌, length, Option, Ok, ap, sym, subst, ◌∙◌}
+use Rattle.std.proofs.Common.{rules, arith, ◌≡◌, ◌<◌, ◌+◌, inl, inr, List, ℕ, [], ◌∷◌, length, Option, Ok, ap, sym, subst, ◌∙◌}
 use Rattle.std.specs.Prelude.{unwrap_or}
 use Rattle.std.proofs.lemmas.List.Quantifiers.{position-Some}
 use Rattle.dscb_codec.specs.declared.Dscb.TheVariants.{F0}
+use Rattle.hall_core.proofs.MadeLemmas.{makes_then}
 use Rattle.hall_core.proofs.MomentLemmas.{durable_same, same_none}
-use Rattle.hall_core.specs.Facts.{unit_of}
+use Rattle.hall_core.specs.Facts.{Attached, unit_of}
 use Rattle.hall_core.specs.Files.{File, file_of}
+use Rattle.hall_core.specs.Made.{MakesOnly}
 use Rattle.hall_core.specs.Moments.{Same}
 use Rattle.dadsm_ops.specs.Operations.{image_named}
 use Rattle.dadsm_ops.proofs.OneOutcome.{same_firsts, same_serial, same_to_rename, same_vtoc}
 use Rattle.pack_spec.specs.Volume.{volume_of}
 use Rattle.vol_model.specs.declared.contents.Run.{Run as VtocRun}
 use Rattle.vtoc_index.specs.Contents.{is_set_named}
-use Rattle.vtoc_index.specs.Index.{IsMounted, track_index}
+use Rattle.vtoc_index.specs.Index.{IsMounted, IsOfUnit, track_index}
 use Rattle.volman.specs.Machine.{shelf_with}
+use Rattle.volman.specs.Made.{IsMountCall, IsRunCall}
 use Rattle.volman.specs.Run.{Does, WorksOn}
 use Rattle.volman.specs.Statement.{item_of}
 use Rattle.volman.specs.Task.{statement_task, task_on}
@@ -75,3 +78,26 @@ returns-in-Ok-clause-idle g c told volume stands none =
     ap (λ (n : List ℕ). volume_of (image_named (M mid).state n)) c.in-Ok.ensures.unit.1 ∙ ap (λ (files : List File). volume_of (image_named files c.args.file.now)) (c.mount.ensures.told told).state ∙ stands in
     let few = c.run_statement-status.ensures.idle told volume there none in
     (search (rules, few), λ is. search (rules, few, is))
+
+-- the calls of each answer
+pub returns-in-Ok-clause-made : goal.returns-in-Ok-clause-made
+returns-in-Ok-clause-made g c =
+    let made = g.H.Hall.made in
+    let found = c.in-Ok.vol in
+    let ended = c.run_statement-status.result.1.now in
+    let units = sym c.run_statement-status.ensures.units in
+    let behind : MakesOnly (IsRunCall c.args.file.now c.args.statement.now (g.H.Hall.facts ended).units) (made c.args.hall.now) (made ended) =
+    makes_then (subst (λ (us : List Attached). MakesOnly (IsMountCall c.args.file.now us) (made c.args.hall.now) (made c.mount.new.hall)) units c.mount.ensures.made) c.run_statement-status.ensures.made
+    (λ call is. inl is)
+    (λ call is. inr (inr (found, subst (λ (us : List Attached). IsOfUnit us found) units c.in-Ok.ensures.unit.0, is))) in
+    let at : (hall : _) → hall ≡ ended → MakesOnly (IsRunCall c.args.file.now c.args.statement.now (g.H.Hall.facts hall).units) (made c.args.hall.now) (made hall) =
+    λ hall is. subst (λ h. MakesOnly (IsRunCall c.args.file.now c.args.statement.now (g.H.Hall.facts h).units) (made c.args.hall.now) (made h)) (sym is) behind in
+    search (rules, at)
+
+pub returns-in-Err-clause-made : goal.returns-in-Err-clause-made
+returns-in-Err-clause-made g c =
+    let made = g.H.Hall.made in
+    let units = sym c.refuse.ensures.units in
+    makes_then (subst (λ (us : List Attached). MakesOnly (IsMountCall c.args.file.now us) (made c.args.hall.now) (made c.mount.new.hall)) units c.mount.ensures.made) c.refuse.ensures.made
+    (λ call is. inl is)
+    (λ call is. inr (inl (c.in-Err.why, is)))

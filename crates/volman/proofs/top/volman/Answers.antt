@@ -7,6 +7,7 @@ use Rattle.volman.specs.Action.{request_in}
 use Rattle.volman.specs.Lines.{deck_line, words_line}
 use Rattle.volman.specs.Run.{AttachesAsked, IsFinal}
 use Rattle.volman.specs.Words.{Request}
+use Rattle.volman.proofs.CallsMade.{makes_of}
 use Rattle.volman.proofs.Tasks.{text_said}
 use Rattle.volman.proofs.WordLemmas.{asked_as}
 use Rattle.volman.proofs.Works.{answered_deck, answered_form, answered_names, answered_nothing, answered_words, cut_by, stated_durable}
@@ -70,3 +71,26 @@ returns-in-Ok-read_deck-clause-statement g c refused =
 pub returns-in-Err-Form-clause-asked : goal.returns-in-Err-Form-clause-asked
 returns-in-Err-Form-clause-asked g c form =
     (c.in-Some-Run.file.now, asked_as c.in-Ok.is c.deref.ensures.value (sym c.in-Some-Run.ensures ∙ ap (λ a. Some (request_in a)) c.in-Some-Run.field-0-is))
+
+-- the calls of each answer
+pub returns-in-None-clause-made : goal.returns-in-None-clause-made
+unfolding words_line
+returns-in-None-clause-made g c =
+    let asked = asked_as c.in-Ok.is c.deref.ensures.value (sym c.in-None.ensures) in
+    makes_of _ _ asked c.end.ensures.made (λ call is. is)
+
+pub returns-in-Some-Names-clause-made : goal.returns-in-Some-Names-clause-made
+returns-in-Some-Names-clause-made g c =
+    let asked = asked_as c.in-Ok.is c.deref.ensures.value (sym c.in-Some-Names.ensures ∙ ap (λ a. Some (request_in a)) c.in-Some-Names.field-0-is) in
+    makes_of _ _ asked c.names.ensures.made (λ call is. is)
+
+pub returns-in-Ok-read_deck-clause-made : goal.returns-in-Ok-read_deck-clause-made
+returns-in-Ok-read_deck-clause-made g c =
+    let asked = asked_as c.in-Ok.is c.deref.ensures.value (sym c.in-Some-Run.ensures ∙ ap (λ a. Some (request_in a)) c.in-Some-Run.field-0-is) in
+    makes_of _ _ asked c.run.ensures.made (λ call is. inr (c.in-Ok-read_deck.statement, (λ tells. (c.in-Ok-read_deck.ensures.deck tells).0), is))
+
+pub returns-in-Err-Form-clause-made : goal.returns-in-Err-Form-clause-made
+unfolding deck_line
+returns-in-Err-Form-clause-made g c =
+    let asked = asked_as c.in-Ok.is c.deref.ensures.value (sym c.in-Some-Run.ensures ∙ ap (λ a. Some (request_in a)) c.in-Some-Run.field-0-is) in
+    makes_of _ _ asked c.end-in-Err-Form.ensures.made (λ call is. inl ((λ tells. c.read_deck.ensures.form tells (c.in-Err-Form.is ∙ ap Err c.in-Err-Form.field-0-is)), is))

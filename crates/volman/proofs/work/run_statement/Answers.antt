@@ -1,7 +1,10 @@
 use Rattle.std.proofs.Common.{◌≡◌, ◌∙◌, inl, inr, ⊎_elim, ℕ, ◌≤◌, List, [], ◌∷◌, Ok, IsErrOf, refl, sym, ap, subst, arith, rules}
+use Rattle.std.specs.Prelude.{IfSome, Option, Some, None}
 use Rattle.hall_core.specs.Facts.{CallsAtMost, unit_of}
 use Rattle.hall_core.specs.Files.{File, image_of}
+use Rattle.hall_core.specs.Made.{MakesOnly, Syncing}
 use Rattle.hall_core.specs.Steps.{seen}
+use Rattle.hall_core.proofs.MadeLemmas.{makes_as, makes_then}
 use Rattle.pack_spec.specs.Volume.{volume_of}
 use Rattle.vol_model.specs.declared.contents.Volume.{Volume}
 use Rattle.vol_model.specs.Calls.{Keeps}
@@ -11,13 +14,19 @@ use Rattle.vol_model.specs.declared.answers.Stop.{Stop}
 use Rattle.vol_model.specs.declared.answers.Stop.TheVariants.{Device, Memory, Print}
 use Rattle.vtoc_index.specs.declared.vol.Vol.{Vol}
 use Rattle.vtoc_index.proofs.KeptLemmas.{mounted_of}
-use Rattle.volman.specs.Machine.{ChangesOnlyNames, HoldsFor, shelf_in, shelf_named, shelf_with}
+use Rattle.volman.specs.Machine.{ChangesOnlyNames, HoldsFor, MayMake, shelf_in, shelf_named, shelf_with}
+use Rattle.volman.specs.Made.{IsStatementCall}
 use Rattle.volman.specs.Run.{IsCalmSince, StopStands, Synced, WorksOn}
 use Rattle.volman.specs.Statement.{item_of, operation_on}
 use Rattle.volman.proofs.Machines.{same_base, same_unit_name}
 use Rattle.volman.proofs.Works.{cut_by, durable_behind, has_worked, has_worked_unprinted, have_line, stops_worked, works_failed, works_finished, works_unprinted}
 use Rattle.volman.proofs.work.run_statement.Goals as goal
 use Rattle.volman.proofs.work.run_statement.Goals.{in-Ok, in-Err-Device, in-Err-Print, in-Err-Memory}
+
+-- what holds of a number that is there, if there is one
+some_is : (volume : Option ℕ) (P : ℕ → Type 0) → IfSome volume P → (v : ℕ) → volume ≡ Some v → P v
+some_is None P holds v is = absurd (cc is)
+some_is (Some n) P holds v is = let same : n ≡ v = cc in subst P same holds
 
 pub returns-clause-does : goal.returns-clause-does
 returns-clause-does g c told =
@@ -161,4 +170,34 @@ returns-clause-idle g c told volume stands none =
       | in-Err-Device w ↦ (search (rules, few), λ is. search (rules, few, is))
       | in-Err-Print w ↦ (search (rules, few), λ is. search (rules, few, is))
       | in-Err-Memory w ↦ (search (rules, few), λ is. search (rules, few, is))
+    ]
+
+pub returns-clause-made : goal.returns-clause-made
+returns-clause-made g c =
+    let machine = c.open-machine.result in
+    let opened = c.open-machine.ensures in
+    let made = g.H.Hall.made in
+    let statement = c.args.statement.now in
+    let vol = c.args.vol in
+    let volume = c.number_of-volume.result in
+    let ran : MakesOnly (IsStatementCall vol statement) (made c.args.hall) (made c.run_rename-ran.new.machine.hall) =
+    subst (λ h. MakesOnly (IsStatementCall vol statement) (made h) (made c.run_rename-ran.new.machine.hall)) opened.hall
+    (makes_as c.run_rename-ran.ensures.made (λ call.
+    ⊎_elim
+    (λ is.
+    let found = some_is volume _ c.number_of-volume.ensures.found is.0 is.1 in
+    let serial = ap (λ (v : Vol). v.serial) (sym opened.vol) ∙ found.1 in
+    inl (serial, subst (λ (v : Vol). MayMake (operation_on statement 0) v call) opened.vol (subst (λ (n : ℕ). MayMake (operation_on statement n) machine.vol call) found.0 is.2)))
+    (λ is. inr (inl is))))
+    in
+    let closed : c.close-hall.result ≡ c.run_rename-ran.new.machine.hall = c.close-hall.ensures in
+    let kept : c.match-ran.hall ≡ c.close-hall.result → MakesOnly (IsStatementCall vol statement) (made c.args.hall) (made c.match-ran.hall) =
+    λ is. subst (λ h. MakesOnly (IsStatementCall vol statement) (made c.args.hall) (made h)) (sym (is ∙ closed)) ran in
+    elim c.match-ran.branch [
+      | in-Ok w ↦
+          subst (λ h. MakesOnly (IsStatementCall vol statement) (made c.args.hall) (made h)) (sym w.hall-is)
+          (makes_then ran (subst (λ h. MakesOnly (λ call. call ≡ Syncing) (made h) (made w.finish-status.new.hall)) closed w.finish-status.ensures.made) (λ call is. is) (λ call is. inr (inr is)))
+      | in-Err-Device w ↦ kept w.hall-is
+      | in-Err-Print w ↦ kept w.hall-is
+      | in-Err-Memory w ↦ kept w.hall-is
     ]

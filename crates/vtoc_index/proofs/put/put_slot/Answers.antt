@@ -4,17 +4,20 @@ use Rattle.std.proofs.lemmas.Result.{IfOk-from_err}
 use Rattle.ckd_image.specs.declared.header.Geometry.{Geometry}
 use Rattle.hall_core.specs.Facts.{Attached, unit_of}
 use Rattle.hall_core.specs.Files.{image_of, patched}
+use Rattle.hall_core.specs.Made.{MakesOnly}
+use Rattle.hall_core.proofs.MadeLemmas.{makes_as, makes_then}
 use Rattle.track_records.specs.Buffers.{Buffer}
 use Rattle.track_records.specs.Updates.{HasLengths, with_parts}
 use Rattle.track_records.specs.Written.{StandsOn, place_of}
 use Rattle.track_records.proofs.UpdateLemmas.{lengths_there}
 use Rattle.track_records.proofs.WriteLemmas.{on_err, same_write, write_done, write_failed}
 use Rattle.vtoc_index.specs.Index.{IsPut, place_of_slot}
-use Rattle.vtoc_index.specs.Puts.{HasSlot, HoldsSlot, IsHeld, IsReplaced}
+use Rattle.vtoc_index.specs.Puts.{HasSlot, HoldsSlot, IsHeld, IsPutCall, IsReplaced}
 use Rattle.std.specs.Vec.{with_item}
 use Rattle.dscb_codec.specs.declared.Dscb.{Dscb}
 use Rattle.vtoc_index.proofs.BegunLemmas.{after_same, not_begun, same_image}
 use Rattle.vtoc_index.proofs.HeldLemmas.{count_kept, still_slot}
+use Rattle.vtoc_index.proofs.PutCalls.{put_reads, put_writes}
 use Rattle.vtoc_index.proofs.PutLaw.{front_of, held_place, index_put, slot_found, slot_put, track_of}
 use Rattle.vtoc_index.proofs.put.put_slot.Given.{Over}
 use Rattle.vtoc_index.proofs.put.put_slot.Goals as goal
@@ -172,3 +175,31 @@ returns-in_err-update-clause-few g c = few_then g (goal.at.returns-in_err-update
 
 pub returns-clause-few : goal.returns-clause-few
 returns-clause-few g c = few_then g (goal.at.returns-clause-few g c).After-update
+
+-- ---- the calls by what they are made with
+
+pub returns-in_err-hold-clause-made : goal.returns-in_err-hold-clause-made
+returns-in_err-hold-clause-made g c =
+    let v = c.args.vol.now in
+    let place = c.place_of-place in
+    let front : place.result.number - 1 ≡ front_of v c.args.slot = omega (arith, place.ensures.number) in
+    makes_as c.in_err-hold.ensures.made
+    (put_reads v c.args.slot (place.result.number - 1) c.args.dscb.now c.hold.new.buf c.hold.new.buf v.buf.geometry place.result.track c.requires.unit.buffer.0 place.ensures.track
+    (λ none. subst (λ (n : ℕ). ¬ HasLengths c.hold.new.buf.records n 44 96) front none))
+
+made_then : (g : Over) (c : After-update g) → MakesOnly (IsPutCall c.args.vol.now c.args.slot c.args.dscb.now c.update.new.buf) (g.H.Hall.made c.args.hall.now) (g.H.Hall.made c.update.new.hall)
+made_then g c =
+    let v = c.args.vol.now in
+    let b = c.hold.new.buf in
+    let place = c.place_of-place in
+    makes_then c.in_ok-hold.ensures.made c.update.ensures.made
+    (put_reads v c.args.slot (place.result.number - 1) c.args.dscb.now b c.update.new.buf v.buf.geometry place.result.track c.requires.unit.buffer.0 place.ensures.track (λ none. absurd (none c.in_ok-hold.ensures.lengths)))
+    (put_writes v c.args.slot (place.result.number - 1) c.args.dscb.now b c.update.new.buf c.split_at.result.0.now c.split_at.result.1.now c.encode-bytes.result c.update.ensures.buffer
+    (c.in_ok-hold.ensures.kept.0 ∙ c.requires.unit.buffer.0, c.in_ok-hold.ensures.kept.1 ∙ c.requires.unit.buffer.1)
+    (c.in_ok-hold.ensures.track ∙ place.ensures.track) (front_is g c) (bytes_is g c) c.encode-bytes.ensures.fields (search rules) c.update.ensures.inside)
+
+pub returns-in_err-update-clause-made : goal.returns-in_err-update-clause-made
+returns-in_err-update-clause-made g c = made_then g (goal.at.returns-in_err-update-clause-made g c).After-update
+
+pub returns-clause-made : goal.returns-clause-made
+returns-clause-made g c = made_then g (goal.at.returns-clause-made g c).After-update

@@ -3,6 +3,7 @@ use Rattle.std.specs.Prelude.{Ok, Err}
 use Rattle.std.proofs.lemmas.Result.{err_from_is_err_and}
 use Rattle.ckd_image.specs.declared.header.Geometry.{Geometry}
 use Rattle.hall_core.specs.Files.{image_of}
+use Rattle.hall_core.proofs.MadeLemmas.{makes_as, makes_none}
 use Rattle.hall_core.proofs.MomentLemmas.{same_none, same_then}
 use Rattle.pack_spec.specs.Label.{records_on}
 use Rattle.pack_spec.specs.Vtoc.{slots_on}
@@ -10,7 +11,7 @@ use Rattle.pack_spec.specs.Volume.{volume_within}
 use Rattle.pack_spec.specs.declared.MountErr.TheVariants.{Device, Memory, VtocTrack}
 use Rattle.vtoc_index.specs.Calls.{tracks_to_read}
 use Rattle.vtoc_index.specs.Reading.{AreNumbered, AreTracksRead}
-use Rattle.vtoc_index.proofs.CallsMade.{begins_further, begins_same, buffer_read, call_done, call_fails, call_stays, has_track, refuses_at, not_device, reads_then, reads_within, stands_whole, stay_more, stay_none, track_reason}
+use Rattle.vtoc_index.proofs.CallsMade.{begins_further, begins_same, buffer_read, call_done, call_fails, call_stays, has_track, refuses_at, not_device, reads_then, reads_within, stands_whole, stay_more, stay_none, track_more, track_reason}
 use Rattle.vtoc_index.proofs.Images.{same_image}
 use Rattle.vtoc_index.proofs.ReadsMade.{good_are_read}
 use Rattle.vtoc_index.proofs.TracksRead.{last_of, numbered_more, read_more, slots_are, track_refused}
@@ -23,6 +24,7 @@ loop-track-init g c =
     let image = image_of (g.H.Hall.meaning c.args.hall.now).state (g.H.Hall.facts c.args.hall.now) c.args.unit in
     record {
       calls = (omega arith, omega arith, omega arith, omega arith, omega arith);
+      made = makes_none _ _;
       facts = stay_none _;
       told = λ told. same_none _ (g.met.H.Hall.counts_now c.args.hall.now);
       geometry = c.requires.buffer.0;
@@ -123,6 +125,7 @@ loop-track-preserved g c =
         omega (arith, l.invariant.calls.3, c.in_ok-count.ensures.calls.3),
         omega (arith, l.invariant.calls.4, c.in_ok-count.ensures.calls.4),
       );
+      made = track_more c.args.unit c.args.geometry l.buf.geometry (start + 1) l.track (start + (l.track - start)) (start + (l.track + 1 - start)) l.invariant.made c.in_ok-count.ensures.made l.invariant.geometry (omega (arith, l.auto.track)) (omega (arith, l.auto.track)) (omega (arith, next));
       facts = stay_more _ _ _ c.in_ok-count.count l.invariant.facts c.in_ok-count.ensures.call;
       told = λ told. same_then (l.invariant.told told) (c.in_ok-count.ensures.told told);
       geometry = geometry;
@@ -266,3 +269,28 @@ returns-clause-far g c =
     let l = c.loop-track in
     let n = l.track - c.args.vtoc.start in
     reads_within (n - 1) (length l.found.firsts.items - length c.args.found.now.firsts.items + 1) (g.H.Hall.calls c.args.hall.now) (g.H.Hall.calls l.hall) (omega (arith, l.invariant.numbers.tracks, c.requires.numbers.tracks)) l.invariant.calls
+
+pub returns-in_err-count-clause-made : goal.returns-in_err-count-clause-made
+returns-in_err-count-clause-made g c =
+    let l = c.loop-track in
+    let start = c.args.vtoc.start in
+    track_more c.args.unit c.args.geometry l.buf.geometry (start + 1) l.track (start + (l.track - start)) (start + c.args.vtoc.len) l.invariant.made c.in_err-count.ensures.made l.invariant.geometry
+    (omega (arith, l.auto.track))
+    (omega (arith, c.loop-track-test.true))
+    (omega (arith, l.auto.track, c.loop-track-test.true))
+
+pub returns-in_err-add-clause-made : goal.returns-in_err-add-clause-made
+returns-in_err-add-clause-made g c =
+    let l = c.loop-track in
+    let start = c.args.vtoc.start in
+    track_more c.args.unit c.args.geometry l.buf.geometry (start + 1) l.track (start + (l.track - start)) (start + c.args.vtoc.len) l.invariant.made c.in_ok-count.ensures.made l.invariant.geometry
+    (omega (arith, l.auto.track))
+    (omega (arith, c.loop-track-test.true))
+    (omega (arith, l.auto.track, c.loop-track-test.true))
+
+pub returns-clause-made : goal.returns-clause-made
+returns-clause-made g c =
+    let l = c.loop-track in
+    let start = c.args.vtoc.start in
+    let all : l.track - start ≤ c.args.vtoc.len = omega (arith, c.loop-track-test.false, l.auto.track, l.auto.track-end, c.requires.tracks.0) in
+    makes_as l.invariant.made (λ call is. (is.0, is.1, omega (arith, is.2, all), is.3))

@@ -33,7 +33,7 @@ returns-in_err-read_others-clause-refused g c told =
     let image = image_of (g.H.Hall.meaning c.args.hall.now).state (g.H.Hall.facts c.args.hall.now) c.args.unit in
     let vtoc = c.in_ok-vtoc.vtoc in
     let same = same_image (g.H.Hall.meaning c.read_first.new.hall).state (g.H.Hall.meaning c.args.hall.now).state (g.H.Hall.facts c.read_first.new.hall) (g.H.Hall.facts c.args.hall.now) c.args.unit (c.in_ok-vtoc.ensures.told told).state c.in_ok-vtoc.ensures.call.units in
-    let first = first_read image c.args.geometry vtoc.start c.read_first.new.buf.records c.new-found.result c.add.new.self c.new-found.ensures.slots c.new-found.ensures.firsts (c.in_ok-vtoc.ensures.read told) c.in_ok-add.ensures.firsts c.in_ok-add.ensures.slots in
+    let first = first_read image c.args.geometry vtoc.start c.read_first.new.buf.records c.args.found.now c.add.new.self c.requires.empty.0 c.requires.empty.1 (c.in_ok-vtoc.ensures.read told) c.in_ok-add.ensures.firsts c.in_ok-add.ensures.slots in
     let p = err_from_is_err_and c.from_residual-in_err-read_others.result c.from_residual-in_err-read_others.ensures.1 in
     refuses_at (volume_within image c.args.geometry (vtoc_on image c.args.geometry at)) c.from_residual-in_err-read_others.result c.in_err-read_others.field-0.0 (p.1 ∙ ap Err p.2)
     (refuses_same (volume_within image c.args.geometry (vtoc_on image c.args.geometry at))
@@ -45,12 +45,12 @@ returns-clause-read g c told =
     let image = image_of (g.H.Hall.meaning c.args.hall.now).state (g.H.Hall.facts c.args.hall.now) c.args.unit in
     let vtoc = c.in_ok-vtoc.vtoc in
     let same = same_image (g.H.Hall.meaning c.read_first.new.hall).state (g.H.Hall.meaning c.args.hall.now).state (g.H.Hall.facts c.read_first.new.hall) (g.H.Hall.facts c.args.hall.now) c.args.unit (c.in_ok-vtoc.ensures.told told).state c.in_ok-vtoc.ensures.call.units in
-    let first = first_read image c.args.geometry vtoc.start c.read_first.new.buf.records c.new-found.result c.add.new.self c.new-found.ensures.slots c.new-found.ensures.firsts (c.in_ok-vtoc.ensures.read told) c.in_ok-add.ensures.firsts c.in_ok-add.ensures.slots in
+    let first = first_read image c.args.geometry vtoc.start c.read_first.new.buf.records c.args.found.now c.add.new.self c.requires.empty.0 c.requires.empty.1 (c.in_ok-vtoc.ensures.read told) c.in_ok-add.ensures.firsts c.in_ok-add.ensures.slots in
     subst (λ (i : List ℕ). AreTracksRead i c.args.geometry vtoc.start vtoc.len c.read_others.new.found) same
     (c.in_ok-read_others.ensures.read told (subst (λ (i : List ℕ). AreTracksRead i c.args.geometry vtoc.start 1 c.add.new.self) (sym same) first))
 
 pub returns-clause-held : goal.returns-clause-held
-returns-clause-held g c = c.in_ok-read_others.ensures.held (last_of c.new-found.result c.add.new.self (length c.read_first.new.buf.records) c.in_ok-add.ensures.firsts c.in_ok-add.ensures.many)
+returns-clause-held g c = c.in_ok-read_others.ensures.held (last_of c.args.found.now c.add.new.self (length c.read_first.new.buf.records) c.in_ok-add.ensures.firsts c.in_ok-add.ensures.many)
 
 pub returns-in_err-read_others-clause-calls : goal.returns-in_err-read_others-clause-calls
 returns-in_err-read_others-clause-calls g c =
@@ -91,7 +91,7 @@ returns-in_err-read_others-clause-reads g c told =
     let all = tracks_are_read image c.args.geometry at vtoc c.read_first.new.buf.records extent.begins (c.in_ok-vtoc.ensures.read told) (c.in_ok-vtoc.ensures.extent told) in
     let some = first_is_read image c.args.geometry vtoc extent.some in
     let same = same_image (g.H.Hall.meaning c.read_first.new.hall).state (g.H.Hall.meaning c.args.hall.now).state (g.H.Hall.facts c.read_first.new.hall) (g.H.Hall.facts c.args.hall.now) c.args.unit (c.in_ok-vtoc.ensures.told told).state c.in_ok-vtoc.ensures.call.units in
-    let first = first_read image c.args.geometry vtoc.start c.read_first.new.buf.records c.new-found.result c.add.new.self c.new-found.ensures.slots c.new-found.ensures.firsts (c.in_ok-vtoc.ensures.read told) c.in_ok-add.ensures.firsts c.in_ok-add.ensures.slots in
+    let first = first_read image c.args.geometry vtoc.start c.read_first.new.buf.records c.args.found.now c.add.new.self c.requires.empty.0 c.requires.empty.1 (c.in_ok-vtoc.ensures.read told) c.in_ok-add.ensures.firsts c.in_ok-add.ensures.slots in
     let more = tracks_to_read image c.args.geometry vtoc - 1 in
     reads_within (1 + more) (vtoc_reads image c.args.geometry (records_on image c.args.geometry None (track_of_address c.args.geometry at)) (vtoc_on image c.args.geometry at)) (g.H.Hall.calls c.args.hall.now) (g.H.Hall.calls c.read_others.new.hall) (omega (arith, some, all))
     (reads_then 1 more (g.H.Hall.calls c.args.hall.now) (g.H.Hall.calls c.read_first.new.hall) (g.H.Hall.calls c.read_others.new.hall) c.in_ok-vtoc.ensures.once
@@ -107,7 +107,7 @@ returns-clause-reads g c told =
     let all = tracks_are_read image c.args.geometry at vtoc c.read_first.new.buf.records extent.begins (c.in_ok-vtoc.ensures.read told) (c.in_ok-vtoc.ensures.extent told) in
     let some = first_is_read image c.args.geometry vtoc extent.some in
     let same = same_image (g.H.Hall.meaning c.read_first.new.hall).state (g.H.Hall.meaning c.args.hall.now).state (g.H.Hall.facts c.read_first.new.hall) (g.H.Hall.facts c.args.hall.now) c.args.unit (c.in_ok-vtoc.ensures.told told).state c.in_ok-vtoc.ensures.call.units in
-    let first = first_read image c.args.geometry vtoc.start c.read_first.new.buf.records c.new-found.result c.add.new.self c.new-found.ensures.slots c.new-found.ensures.firsts (c.in_ok-vtoc.ensures.read told) c.in_ok-add.ensures.firsts c.in_ok-add.ensures.slots in
+    let first = first_read image c.args.geometry vtoc.start c.read_first.new.buf.records c.args.found.now c.add.new.self c.requires.empty.0 c.requires.empty.1 (c.in_ok-vtoc.ensures.read told) c.in_ok-add.ensures.firsts c.in_ok-add.ensures.slots in
     let more = tracks_to_read image c.args.geometry vtoc - 1 in
     reads_within (1 + more) (vtoc_reads image c.args.geometry (records_on image c.args.geometry None (track_of_address c.args.geometry at)) (vtoc_on image c.args.geometry at)) (g.H.Hall.calls c.args.hall.now) (g.H.Hall.calls c.read_others.new.hall) (omega (arith, some, all))
     (reads_then 1 more (g.H.Hall.calls c.args.hall.now) (g.H.Hall.calls c.read_first.new.hall) (g.H.Hall.calls c.read_others.new.hall) c.in_ok-vtoc.ensures.once

@@ -65,11 +65,11 @@ returns-in_err-slots-clause-refused g c told =
     let still : later ≡ image = same_image (g.H.Hall.meaning c.read_label.new.hall).state (g.H.Hall.meaning c.read_geometry.new.hall).state (g.H.Hall.facts c.read_label.new.hall) (g.H.Hall.facts c.read_geometry.new.hall) c.args.unit (c.in_ok-label.ensures.told told).state c.in_ok-label.ensures.call.units ∙ same in
     let vtoc = c.in_ok-vtoc.vtoc in
     let extent = ap (λ (i : List ℕ). vtoc_on i geometry c.in_ok-label.label.vtoc) (sym still) ∙ c.in_ok-vtoc.ensures.extent told in
-    let read = subst (λ (i : List ℕ). AreTracksRead i geometry vtoc.start vtoc.len c.in_ok-vtoc.found) still (c.in_ok-vtoc.ensures.read told) in
+    let read = subst (λ (i : List ℕ). AreTracksRead i geometry vtoc.start vtoc.len c.read_slots.new.found) still (c.in_ok-vtoc.ensures.read told) in
     let slots = subst (λ (l : List ReadSlot). AreRead l (slots_of_vtoc image geometry vtoc)) (sym c.deref.ensures.value) read.slots in
     let p = err_from_is_err_and c.from_residual-in_err-slots.result c.from_residual-in_err-slots.ensures.1 in
     reason_at image c.from_residual-in_err-slots.result c.in_err-slots.field-0.0 (p.1 ∙ ap Err p.2)
-    (slots_reason image geometry c.in_ok-label.label vtoc c.in_ok-vtoc.found c.in_err-slots.field-0.0 (c.in_ok-geometry.ensures.read told) label (sym c.if-not-is_inside.ensures) extent read
+    (slots_reason image geometry c.in_ok-label.label vtoc c.read_slots.new.found c.in_err-slots.field-0.0 (c.in_ok-geometry.ensures.read told) label (sym c.if-not-is_inside.ensures) extent read
     (c.in_err-slots.ensures.refused (slots_of_vtoc image geometry vtoc) slots))
 
 pub returns-clause-mounted : goal.returns-clause-mounted
@@ -84,10 +84,10 @@ returns-clause-mounted g c told =
     let still : later ≡ image = same_image (g.H.Hall.meaning c.read_label.new.hall).state (g.H.Hall.meaning c.read_geometry.new.hall).state (g.H.Hall.facts c.read_label.new.hall) (g.H.Hall.facts c.read_geometry.new.hall) c.args.unit (c.in_ok-label.ensures.told told).state c.in_ok-label.ensures.call.units ∙ same in
     let vtoc = c.in_ok-vtoc.vtoc in
     let extent = ap (λ (i : List ℕ). vtoc_on i geometry c.in_ok-label.label.vtoc) (sym still) ∙ c.in_ok-vtoc.ensures.extent told in
-    let read = subst (λ (i : List ℕ). AreTracksRead i geometry vtoc.start vtoc.len c.in_ok-vtoc.found) still (c.in_ok-vtoc.ensures.read told) in
+    let read = subst (λ (i : List ℕ). AreTracksRead i geometry vtoc.start vtoc.len c.read_slots.new.found) still (c.in_ok-vtoc.ensures.read told) in
     let slots = subst (λ (l : List ReadSlot). AreRead l (slots_of_vtoc image geometry vtoc)) (sym c.deref.ensures.value) read.slots in
     let stands = subst (λ (i : List ℕ). StandsOn i c.read_slots.new.buf) still (c.in_ok-vtoc.ensures.stands told) in
-    mounted image c.in_ok-label.label _ c.in_ok-vtoc.found
+    mounted image c.in_ok-label.label _ c.read_slots.new.found
     (record { header = c.in_ok-geometry.ensures.read told; label = label; inside = sym c.if-not-is_inside.ensures; extent = extent; read = read })
     refl refl stands (c.in_ok-slots.ensures.dscbs (slots_of_vtoc image geometry vtoc) slots)
 
@@ -98,7 +98,7 @@ returns-clause-unit g c =
     let numbers = c.in_ok-vtoc.ensures.numbers.1 in
     let read = subst (λ (l : List ReadSlot). AreRead l numbers.read.0) (sym c.deref.ensures.value) numbers.read.1 in
     let held = (c.in_ok-slots.ensures.dscbs numbers.read.0 read).0 in
-    let many : length c.in_ok-slots.slots.items ≡ length c.in_ok-vtoc.found.slots.items = dscbs_many c.in_ok-slots.slots.items numbers.read.0 held ∙ sym (AreRead-length c.in_ok-vtoc.found.slots.items numbers.read.0 numbers.read.1) in (
+    let many : length c.in_ok-slots.slots.items ≡ length c.read_slots.new.found.slots.items = dscbs_many c.in_ok-slots.slots.items numbers.read.0 held ∙ sym (AreRead-length c.read_slots.new.found.slots.items numbers.read.0 numbers.read.1) in (
       refl,
       record {
         attached = c.requires;
@@ -107,7 +107,7 @@ returns-clause-unit g c =
         tracks = numbers.tracks;
         few = extent.few;
         most = omega (arith, many, numbers.few, extent.few);
-        firsts = subst (λ (n : ℕ). AreFirsts 0 c.in_ok-vtoc.found.firsts.items n) (sym many) numbers.firsts;
+        firsts = subst (λ (n : ℕ). AreFirsts 0 c.read_slots.new.found.firsts.items n) (sym many) numbers.firsts;
         buffer = c.in_ok-vtoc.ensures.buffer;
       },
     )
@@ -115,7 +115,7 @@ returns-clause-unit g c =
 -- so the last track has as many as the buffer has records
 pub returns-clause-held : goal.returns-clause-held
 returns-clause-held g c slot below at =
-    let found = c.in_ok-vtoc.found in
+    let found = c.read_slots.new.found in
     let numbers = c.in_ok-vtoc.ensures.numbers.1 in
     let read = subst (λ (l : List ReadSlot). AreRead l numbers.read.0) (sym c.deref.ensures.value) numbers.read.1 in
     let held = (c.in_ok-slots.ensures.dscbs numbers.read.0 read).0 in

@@ -1,4 +1,5 @@
 use Rattle.std.proofs.Common.{ap, ◌∙◌, refl, Err, rules}
+use Rattle.hall_core.proofs.MadeLemmas.{makes_as}
 use Rattle.volman.proofs.Machines.{applies_zero, applies_done, applies_elsewhere, applies_fault, applies_refused, keeps_all, keeps_begun, keeps_idle, keeps_promise, kept_at, promises_at, puts_failed}
 use Rattle.vtoc_index.proofs.KeptLemmas.{mounted_of}
 use Rattle.volman.proofs.machine.PackMachine.rename.Goals as goal
@@ -63,3 +64,9 @@ pub returns-in-Err-Device-clause-idle : goal.returns-in-Err-Device-clause-idle
 returns-in-Err-Device-clause-idle g c told idle =
     promises_at _ _ c.args.self.now.vol c.rename.new.vol c.rename.ensures.call.units c.rename.ensures.index (g.H.Hall.meaning c.args.self.now.hall) (g.H.Hall.meaning c.rename.new.hall)
     (keeps_idle c.args.old.now c.args.new.now c.args.v _ c.if-v-ne0.false (λ short. let wrong = short in cc) (g.met.H.Hall.counts_now c.args.self.now.hall) (c.rename.ensures.told told) idle)
+
+pub returns-in-Ok-clause-made : goal.returns-in-Ok-clause-made
+returns-in-Ok-clause-made g c = makes_as c.rename.ensures.made (λ call is. (c.if-v-ne0.false, is))
+
+pub returns-in-Err-Device-clause-made : goal.returns-in-Err-Device-clause-made
+returns-in-Err-Device-clause-made g c = makes_as c.rename.ensures.made (λ call is. (c.if-v-ne0.false, is))

@@ -4,7 +4,9 @@ use Rattle.std.proofs.Common.{rules, subst, sym}
 use Rattle.ebcdic_names.specs.declared.names.Dsn.{Dsn}
 use Rattle.hall_core.specs.Facts.{Calls, unit_of}
 use Rattle.hall_core.specs.Files.{File}
+use Rattle.hall_core.specs.Made.{HallCall, MakesOnly}
 use Rattle.hall_core.specs.Moments.{Meaning}
+use Rattle.hall_core.proofs.MadeLemmas.{makes_as}
 use Rattle.hall_core.specs.Steps.{seen}
 use Rattle.vol_model.specs.Calls.{Applies, IsIdle, Keeps}
 use Rattle.vol_model.specs.Shelf.{step}
@@ -12,8 +14,9 @@ use Rattle.vol_model.specs.declared.answers.MachErr.{MachErr}
 use Rattle.vol_model.specs.declared.contents.Shelf.{Shelf}
 use Rattle.vol_model.specs.declared.requests.Op.{Op}
 use Rattle.vol_model.specs.declared.requests.Op.TheVariants.{Rename}
+use Rattle.track_records.specs.Buffers.{Buffer}
 use Rattle.vtoc_index.specs.declared.vol.Vol.{Vol}
-use Rattle.volman.specs.Machine.{ChangesOnlyNames, HoldsFor, KeepsIndex, OperationCalls, shelf_named}
+use Rattle.volman.specs.Machine.{ChangesOnlyNames, HoldsFor, IsOperationCall, KeepsIndex, OperationCalls, shelf_named}
 use Rattle.volman.proofs.machine.PackMachineMachine.apply.Goals as goal
 
 for_rename : {T : Type 0} {result : Result T MachErr} (shelf : Shelf) (v : ℕ) (old new : Dsn) (op : Op) → op ≡ Rename v old new → IsIdle (step shelf op) result → IsIdle (step shelf (Rename v old new)) result
@@ -46,6 +49,15 @@ calls_as {result = result} v from to op is old new made after = subst (λ (o : O
 
 pub returns-clause-again : goal.returns-clause-again
 returns-clause-again g c = calls_as _ _ _ c.args.op.now (search rules) c.args.self.now.vol c.rename.new.self.vol (g.H.Hall.calls c.args.self.now.hall) (g.H.Hall.calls c.rename.new.self.hall) c.rename.ensures.again
+
+made_as : (v : ℕ) (from to : Dsn) (op : Op) → op ≡ Rename v from to → (before : Vol) (buf : Buffer) (old new : HallCall → ℕ) → MakesOnly (IsOperationCall (Rename v from to) before buf) old new → MakesOnly (IsOperationCall op before buf) old new
+made_as v from to op is before buf old new = subst (λ (o : Op). MakesOnly (IsOperationCall o before buf) old new) (sym is)
+
+pub returns-clause-put : goal.returns-clause-put
+returns-clause-put g c = made_as _ _ _ c.args.op.now (search rules) c.args.self.now.vol c.rename.new.self.vol.buf (g.H.Hall.made c.args.self.now.hall) (g.H.Hall.made c.rename.new.self.hall) c.rename.ensures.made
+
+pub returns-clause-made : goal.returns-clause-made
+returns-clause-made g c = makes_as (returns-clause-put g c) (λ call is. (c.rename.new.self.vol.buf, is))
 
 held_as : (v : ℕ) (from to : Dsn) (op : Op) → op ≡ Rename v from to → (vol : Vol) → HoldsFor op vol → HoldsFor (Rename v from to) vol
 held_as v from to op is vol = subst (λ (o : Op). HoldsFor o vol) is
