@@ -11,12 +11,12 @@ use Rattle.hall_core.specs.Made.{HallCall, Printing, Syncing, Writing}
 use Rattle.track_records.specs.Updates.{HasLengths}
 use Rattle.vtoc_index.specs.Contents.{AreDscbs}
 use Rattle.vtoc_index.specs.Index.{slots_in_front, track_index}
-use Rattle.vtoc_index.specs.Puts.{HoldsDscb, HoldsSlot}
+use Rattle.vtoc_index.specs.Puts.{HoldsDscb, HoldsSlot, IsReadUpTo}
 use Rattle.vtoc_index.specs.declared.vol.Vol.{Vol}
 use Rattle.vtoc_index.proofs.HeldLemmas.{key_held}
 use Rattle.vtoc_index.proofs.PutCases.{c_stands}
 use Rattle.vtoc_index.proofs.SmallPack.{a, b, c, data_set, f1, f4, f5, four_slots, image, index, slots_are_read}
-use Rattle.dadsm_ops.specs.Naming.{HoldsRenamed, IsRenameCall, IsToRename, RenameCalls, RenamesEntry, under_name}
+use Rattle.dadsm_ops.specs.Naming.{HoldsRenamed, IsRenameCall, IsToRename, RenameCalls, RenamesEntry, WritesSlotNamed, under_name}
 use Rattle.dadsm_ops.specs.Through.{IsBeforeOr}
 
 -- a record with the bytes of a set
@@ -123,7 +123,7 @@ module _ (any : Vol) where
   unfolding before later calls_of
   no_read_where_it_is_held = record {
     again = λ slot is held. (omega arith, omega arith, omega arith, omega arith, omega arith);
-    few = of_slot (λ (slot : ℕ). ¬ HoldsSlot (before 2 (set_record b ∷ set_record a ∷ set_record b ∷ [])) slot → 3 ≤ slots_in_front (0 ∷ 2 ∷ []) slot + 1) (λ none. absurd (none (refl, omega arith)));
+    few = of_slot (λ (slot : ℕ). ¬ HoldsSlot (before 2 (set_record b ∷ set_record a ∷ set_record b ∷ [])) slot → IsReadUpTo (slots_in_front (0 ∷ 2 ∷ []) slot + 1) (set_record b ∷ set_record c ∷ set_record b ∷ [])) (λ none. absurd (none (refl, omega arith)));
     synced = λ more. (renames_entry 2 (set_record b ∷ set_record a ∷ set_record b ∷ []) (set_record b ∷ set_record c ∷ set_record b ∷ []), renamed_set_is_held 2 (set_record b ∷ set_record a ∷ set_record b ∷ []) (set_record b ∷ []));
     unwritten = tt;
   }
@@ -138,7 +138,7 @@ module _ (any : Vol) where
   unfolding before later calls_of
   one_read_where_it_is_not = record {
     again = of_slot (λ (slot : ℕ). HoldsSlot (before 2 (set_record b ∷ [])) slot → CallsAtMost 0 1 1 0 uncounted (calls_of 1 1 1)) (λ held. let wrong : 1 < 1 = held.1 in absurd (omega (arith, wrong)));
-    few = of_slot (λ (slot : ℕ). ¬ HoldsSlot (before 2 (set_record b ∷ [])) slot → 2 ≤ slots_in_front (0 ∷ 2 ∷ []) slot + 1) (λ none. omega arith);
+    few = of_slot (λ (slot : ℕ). ¬ HoldsSlot (before 2 (set_record b ∷ [])) slot → IsReadUpTo (slots_in_front (0 ∷ 2 ∷ []) slot + 1) (set_record b ∷ set_record c ∷ [])) (λ none. inr refl);
     synced = λ more. (renames_entry 2 (set_record b ∷ []) (set_record b ∷ set_record c ∷ []), renamed_set_is_held 2 (set_record b ∷ []) []);
     unwritten = tt;
   }
@@ -147,22 +147,25 @@ module _ (any : Vol) where
   read_up_to_the_slot : ¬ Done (before 2 (set_record b ∷ [])) (later c 2 (set_record b ∷ set_record c ∷ set_record b ∷ [])) (calls_of 1 1 1)
   unfolding before later
   read_up_to_the_slot calls =
-      let wrong : 3 ≤ 2 = calls.few 3 to_rename (λ held. let none : 1 < 1 = held.1 in omega (arith, none)) in
-      omega (arith, wrong)
+      ⊎_elim (λ none. cc none) (λ (wrong : 3 ≡ 2). omega (arith, wrong)) (calls.few 3 to_rename (λ held. let none : 1 < 1 = held.1 in omega (arith, none)))
+
+  -- it is read up to a slot before it
+  read_up_to_an_earlier_slot : ¬ Fails (index any) (later a 2 (set_record b ∷ [])) (calls_of 1 0 0)
+  unfolding later
+  read_up_to_an_earlier_slot calls = ⊎_elim (λ none. cc none) (λ (wrong : 1 ≡ 2). omega (arith, wrong)) (calls.few 3 to_rename (λ held. let none : 1 < 0 = held.1 in omega (arith, none)))
 
   -- Where it holds two records of another track, it is so too.
   read_up_to_the_slot_of_the_track : ¬ Done (before 1 both_sets) (later c 2 (set_record b ∷ set_record c ∷ set_record b ∷ [])) (calls_of 1 1 1)
   unfolding before later
   read_up_to_the_slot_of_the_track calls =
-      let wrong : 3 ≤ 2 = calls.few 3 to_rename (λ held. let none : 1 ≡ 2 = held.0 in omega (arith, none)) in
-      omega (arith, wrong)
+      ⊎_elim (λ none. cc none) (λ (wrong : 3 ≡ 2). omega (arith, wrong)) (calls.few 3 to_rename (λ held. let none : 1 ≡ 2 = held.0 in omega (arith, none)))
 
   -- Where no slot is found there, the one read is made and nothing else.
   nothing_is_written_over_no_slot : Fails (index any) (later a 2 []) (calls_of 1 0 0)
   unfolding later calls_of
   nothing_is_written_over_no_slot = record {
     again = of_slot (λ (slot : ℕ). HoldsSlot (index any) slot → CallsAtMost 0 1 1 0 uncounted (calls_of 1 0 0)) (λ held. let wrong : 1 < 0 = held.1 in absurd (omega (arith, wrong)));
-    few = of_slot (λ (slot : ℕ). ¬ HoldsSlot (index any) slot → 0 ≤ slots_in_front (0 ∷ 2 ∷ []) slot + 1) (λ none. omega arith);
+    few = of_slot (λ (slot : ℕ). ¬ HoldsSlot (index any) slot → IsReadUpTo (slots_in_front (0 ∷ 2 ∷ []) slot + 1) []) (λ none. inl refl);
     synced = λ (more : 0 < 0). absurd (omega (arith, more));
     unwritten = λ slot is none. (omega arith, omega arith, omega arith, omega arith, omega arith);
   }
@@ -187,13 +190,13 @@ module _ (any : Vol) where
   write_over_the_slot_may_fail = (
     record {
       again = of_slot (λ (slot : ℕ). HoldsSlot (index any) slot → CallsAtMost 0 1 1 0 uncounted (calls_of 1 1 0)) (λ held. let wrong : 1 < 0 = held.1 in absurd (omega (arith, wrong)));
-      few = of_slot (λ (slot : ℕ). ¬ HoldsSlot (index any) slot → 2 ≤ slots_in_front (0 ∷ 2 ∷ []) slot + 1) (λ none. omega arith);
+      few = of_slot (λ (slot : ℕ). ¬ HoldsSlot (index any) slot → IsReadUpTo (slots_in_front (0 ∷ 2 ∷ []) slot + 1) (set_record b ∷ set_record a ∷ [])) (λ none. inr refl);
       synced = λ (more : 0 < 0). absurd (omega (arith, more));
       unwritten = of_slot (λ (slot : ℕ). ¬ HasLengths (set_record b ∷ set_record a ∷ []) (slots_in_front (0 ∷ 2 ∷ []) slot) 44 96 → CallsAtMost 1 0 0 0 uncounted (calls_of 1 1 0)) (λ none. absurd (none (refl, refl)));
     },
     record {
       again = of_slot (λ (slot : ℕ). HoldsSlot (before 2 []) slot → CallsAtMost 0 1 1 0 uncounted (calls_of 1 1 1)) (λ held. let wrong : 1 < 0 = held.1 in absurd (omega (arith, wrong)));
-      few = of_slot (λ (slot : ℕ). ¬ HoldsSlot (before 2 []) slot → 2 ≤ slots_in_front (0 ∷ 2 ∷ []) slot + 1) (λ none. omega arith);
+      few = of_slot (λ (slot : ℕ). ¬ HoldsSlot (before 2 []) slot → IsReadUpTo (slots_in_front (0 ∷ 2 ∷ []) slot + 1) (set_record b ∷ set_record c ∷ [])) (λ none. inr refl);
       synced = λ more. (renames_entry 2 [] (set_record b ∷ set_record c ∷ []), renamed_set_is_held 2 [] []);
       unwritten = of_slot (λ (slot : ℕ). ¬ HasLengths (set_record b ∷ set_record c ∷ []) (slots_in_front (0 ∷ 2 ∷ []) slot) 44 96 → CallsAtMost 1 0 0 0 uncounted (calls_of 1 1 1)) (λ none. absurd (none (refl, refl)));
     },
@@ -216,6 +219,14 @@ module _ (any : Vol) where
     inl refl,
     inr (record { slot = 3; found = to_rename; dscb = formats.F1 (f1 a); held = refl; puts = inr (inr (record { bytes = data_set c; dscb = c_stands; size = refl; at = 8881; place = refl; behind = omega arith; inside = omega arith; writes = refl })) }),
     ⊎_elim (λ is. cc is) (λ names. ⊎_elim (λ is. cc is) (⊎_elim (λ is. let no = is.0 in cc no) (λ is. let no = is.writes in cc no)) names.puts),
+  )
+
+  -- The write of a rename is that of the slot, and no sync.
+  write_of_a_rename : WritesSlotNamed a c (index any) (later c 2 both_sets).buf (Writing 0 8881 (data_set c)) × (¬ WritesSlotNamed a c (index any) (later c 2 both_sets).buf Syncing)
+  unfolding later both_sets set_record
+  write_of_a_rename = (
+    record { slot = 3; found = to_rename; dscb = formats.F1 (f1 a); held = refl; writes = record { bytes = data_set c; dscb = c_stands; size = refl; at = 8881; place = refl; behind = omega arith; inside = omega arith; writes = refl } },
+    λ names. let no = names.writes.writes in cc no,
   )
 
   -- What is written is the DSCB under C: not the one of A, and not where B stands.

@@ -1,6 +1,6 @@
 -- A set under its new name, put and made durable: what the operation on the volume is then.
 use Rattle.std.proofs.Common.{◌≡◌, ◌⊎◌, ⊎_elim, inl, inr, ℕ, List, length, Some, refl, sym, ap, subst, ◌∙◌, get_or, ◌+◌, arith}
-use Rattle.std.specs.Prelude.{◌≤◌, ◌<◌, Result, Ok, Err, OnErr, slice_get, slice_set}
+use Rattle.std.specs.Prelude.{◌<◌, Result, Ok, Err, OnErr, slice_get, slice_set}
 use Rattle.std.proofs.lemmas.List.{get_or-set_same, length-set}
 use Rattle.std.proofs.lemmas.Option.{get_or_from_slice_get, slice_get-get_or}
 use Rattle.dscb_codec.specs.declared.Dscb.{Dscb}
@@ -20,10 +20,10 @@ use Rattle.vol_model.specs.Shelf.{rename_on}
 use Rattle.vol_model.specs.declared.answers.StoreErr.TheVariants.{Device}
 use Rattle.vol_model.specs.declared.contents.Volume.{Volume}
 use Rattle.vtoc_index.specs.Index.{IsMounted, IsPut, slots_in_front, track_index}
-use Rattle.vtoc_index.specs.Puts.{HoldsDscb, HoldsSlot, IsPutCall, IsReplaced}
+use Rattle.vtoc_index.specs.Puts.{HoldsDscb, HoldsSlot, IsPutCall, IsReadUpTo, IsReplaced, IsSlotWrite}
 use Rattle.vtoc_index.specs.declared.vol.Vol.{Vol}
 use Rattle.vtoc_index.proofs.NameLemmas.{named_alike}
-use Rattle.dadsm_ops.specs.Naming.{HaveName, HoldsRenamed, IsRenameCall, IsToRename, PutsName, RenameCalls, RenamesEntry, under_name}
+use Rattle.dadsm_ops.specs.Naming.{HaveName, HoldsRenamed, IsRenameCall, IsToRename, PutsName, RenameCalls, RenamesEntry, WritesSlotNamed, under_name}
 use Rattle.dadsm_ops.specs.Operations.{Operates, image_named}
 use Rattle.dadsm_ops.specs.Through.{HaveSlot, PutsThrough}
 use Rattle.dadsm_ops.proofs.FoundSets.{FoundSet, set_found}
@@ -71,18 +71,26 @@ named_call old new v buf slot x d found read named call =
     let held : slice_get items slot ≡ Some x = set.set ∙ ap Some (sym (read ∙ get_or_from_slice_get items slot (formats.F1 set.f) x set.set)) in
     ⊎_elim (λ puts. inr (record { slot = slot; found = found; dscb = x; held = held; puts = subst (λ (y : Dscb). IsPutCall v slot y buf call) named puts })) inl
 
+-- and the write of that slot is its own
+pub named_write : (old new : List ℕ) (v : Vol) (buf : Buffer) (slot : ℕ) (x d : Dscb) → IsToRename v.slots.items old new slot → x ≡ get_or v.slots.items slot x → d ≡ under_name new x → (call : HallCall) → IsSlotWrite v slot d buf call → WritesSlotNamed old new v buf call
+named_write old new v buf slot x d found read named call writes =
+    let items = v.slots.items in
+    let set = set_found old items slot found.found in
+    let held : slice_get items slot ≡ Some x = set.set ∙ ap Some (sym (read ∙ get_or_from_slice_get items slot (formats.F1 set.f) x set.set)) in
+    record { slot = slot; found = found; dscb = x; held = held; writes = subst (λ (y : Dscb). IsSlotWrite v slot y buf call) named writes }
+
 -- the calls of a rename, by those of the put: the slot of the old name is the one that is put
 pub rename_calls :
     {T E : Type 0} (result : Result T E) (old new : List ℕ) (v v' : Vol) (slot : ℕ) (calls calls' : Calls)
     → IsToRename v.slots.items old new slot
     → (HoldsSlot v slot → CallsAtMost 0 1 1 0 calls calls')
-    → (¬ HoldsSlot v slot → length v'.buf.records ≤ slots_in_front v.firsts.items slot + 1)
+    → (¬ HoldsSlot v slot → IsReadUpTo (slots_in_front v.firsts.items slot + 1) v'.buf.records)
     → (calls.syncs < calls'.syncs → RenamesEntry old new v.slots.items v'.slots.items × HoldsRenamed old new v v')
     → OnErr result (¬ HasLengths v'.buf.records (slots_in_front v.firsts.items slot) 44 96 → CallsAtMost 1 0 0 0 calls calls')
     → RenameCalls old new v v' calls calls' result
 rename_calls result old new v v' slot calls calls' found again few synced unwritten = record {
   again = λ s is. subst (λ (n : ℕ). HoldsSlot v n → CallsAtMost 0 1 1 0 calls calls') (same s is) again;
-  few = λ s is. subst (λ (n : ℕ). ¬ HoldsSlot v n → length v'.buf.records ≤ slots_in_front v.firsts.items n + 1) (same s is) few;
+  few = λ s is. subst (λ (n : ℕ). ¬ HoldsSlot v n → IsReadUpTo (slots_in_front v.firsts.items n + 1) v'.buf.records) (same s is) few;
   synced = synced;
   unwritten = on_slots result unwritten;
 }

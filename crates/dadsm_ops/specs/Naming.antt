@@ -1,5 +1,5 @@
 -- What gives a data set another name, in the slots of a VTOC (System Control Blocks GC28-6628).
-use Rattle.std.specs.Prelude.{◌≡◌, ◌⊎◌, ℕ, ◌+◌, ◌<◌, ◌≤◌, ◌||◌, false, if◌then◌else◌, List, [], ◌∷◌, ◌++◌, drop, length, position, slice_get, Option, Some, None, is_none, is_some, slice_set, Result, Ok, Err, OnErr}
+use Rattle.std.specs.Prelude.{◌≡◌, ◌⊎◌, ℕ, ◌+◌, ◌<◌, ◌||◌, false, if◌then◌else◌, List, [], ◌∷◌, ◌++◌, drop, position, slice_get, Option, Some, None, is_none, is_some, slice_set, Result, Ok, Err, OnErr}
 use Rattle.dscb_codec.specs.declared.Dscb.{Dscb}
 use Rattle.dscb_codec.specs.declared.Dscb.TheVariants.{F1}
 use Rattle.ebcdic_names.specs.declared.names.Dsn.{Dsn}
@@ -21,7 +21,7 @@ use Rattle.vol_model.specs.declared.requests.Op.{Op}
 use Rattle.vol_model.specs.declared.requests.Op.TheVariants.{Rename}
 use Rattle.vtoc_index.specs.Contents.{is_set_named}
 use Rattle.vtoc_index.specs.Index.{IsMounted, slots_in_front, track_index}
-use Rattle.vtoc_index.specs.Puts.{HoldsDscb, HoldsSlot, IsPutCall}
+use Rattle.vtoc_index.specs.Puts.{HoldsDscb, HoldsSlot, IsPutCall, IsReadUpTo, IsSlotWrite}
 use Rattle.vtoc_index.specs.declared.vol.Vol.{Vol}
 use Rattle.dadsm_ops.specs.Operations.{image_named}
 use Rattle.dadsm_ops.specs.Through.{HaveSlot}
@@ -68,10 +68,10 @@ pub record HoldsRenamed (old new : List ℕ) (before after : Vol) : Type 0 where
   pub track : after.buf.track ≡ before.vtoc.start + track_index before.firsts.items slot
   pub held : HoldsDscb (slots_in_front before.firsts.items slot) dscb after.buf.records
 
--- The calls of a rename, by the slot of the old name: no read where the buffer holds it, no write nor sync where no slot is found there, and no more of the track in the buffer behind it than up to the slot; and no sync but where the index has the new name, done or failed.
+-- The calls of a rename, by the slot of the old name: no read where the buffer holds it, no write nor sync where no slot is found there, and else the track in the buffer behind it just up to the slot, or none of it; and no sync but where the index has the new name, done or failed.
 pub record RenameCalls {T E : Type 0} (old new : List ℕ) (before after : Vol) (calls calls' : Calls) (result : Result T E) : Type 0 where
   pub again : (slot : ℕ) → IsToRename before.slots.items old new slot → HoldsSlot before slot → CallsAtMost 0 1 1 0 calls calls'
-  pub few : (slot : ℕ) → IsToRename before.slots.items old new slot → ¬ HoldsSlot before slot → length after.buf.records ≤ slots_in_front before.firsts.items slot + 1
+  pub few : (slot : ℕ) → IsToRename before.slots.items old new slot → ¬ HoldsSlot before slot → IsReadUpTo (slots_in_front before.firsts.items slot + 1) after.buf.records
   pub synced : calls.syncs < calls'.syncs → RenamesEntry old new before.slots.items after.slots.items × HoldsRenamed old new before after
   pub unwritten : OnErr result ((slot : ℕ) → IsToRename before.slots.items old new slot → ¬ HasLengths after.buf.records (slots_in_front before.firsts.items slot) 44 96 → CallsAtMost 1 0 0 0 calls calls')
 
@@ -82,6 +82,14 @@ pub record PutsSlotNamed (old new : List ℕ) (before : Vol) (buf : Buffer) (cal
   pub dscb : Dscb
   pub held : slice_get before.slots.items slot ≡ Some dscb
   pub puts : IsPutCall before slot (under_name new dscb) buf call
+
+-- The write of the slot of the old name, with its DSCB under the new one.
+pub record WritesSlotNamed (old new : List ℕ) (before : Vol) (buf : Buffer) (call : HallCall) : Type 0 where
+  pub slot : ℕ
+  pub found : IsToRename before.slots.items old new slot
+  pub dscb : Dscb
+  pub held : slice_get before.slots.items slot ≡ Some dscb
+  pub writes : IsSlotWrite before slot (under_name new dscb) buf call
 
 -- a call of a rename, by the index before and the buffer behind: a sync, or one that puts the slot under its new name
 abbrev pub IsRenameCall : List ℕ → List ℕ → Vol → Buffer → HallCall → Type 0

@@ -2,13 +2,13 @@
 ghost use Rattle.std.specs.Prelude.{◌≡◌, ◌⊎◌, ◌≤◌, ℕ, List, length, IsTrue, IfOk, IfErr, IsErrOf, OnOk, OnErr, Some, Ok, Err};
 ghost use Rattle.hall_core.specs.Facts.{CallsAtMost, unit_of};
 ghost use Rattle.hall_core.specs.Files.{image_of};
-ghost use Rattle.hall_core.specs.Made.{MakesOnly};
+ghost use Rattle.hall_core.specs.Made.{HasDone, MakesOnly};
 ghost use Rattle.hall_core.specs.Moments.{IsDurable};
 ghost use Rattle.pack_spec.specs.Volume.{volume_of};
 ghost use Rattle.vol_model.specs.Shelf.{rename_on};
 ghost use Rattle.vol_model.specs.declared.contents.Volume.{Volume};
 ghost use Rattle.vtoc_index.specs.Index.{IsMounted, IsOfUnit};
-ghost use Rattle.dadsm_ops.specs.Naming.{HoldsRenamed, IsRenameCall, IsToRename, RenameCalls, RenamesEntry, WritesName, refusal_answered, refusal_in, under_name};
+ghost use Rattle.dadsm_ops.specs.Naming.{HoldsRenamed, IsRenameCall, IsToRename, RenameCalls, RenamesEntry, WritesName, WritesSlotNamed, refusal_answered, refusal_in, under_name};
 ghost use Rattle.dadsm_ops.specs.Operations.{Operates, StoreCall};
 ghost use Rattle.dadsm_ops.specs.Through.{IsBeforeOr};
 
@@ -50,9 +50,10 @@ pub fn rename<H: Hall>(hall: &mut H, vol: &mut Vol, old: &Dsn, new: &Dsn) -> Res
     ensures calls { CallsAtMost 1 1 1 0 (H.calls hall.old) (H.calls hall.new) }
     ensures made { MakesOnly (IsRenameCall old.now.bytes new.now.bytes vol.old vol.new.buf) (H.made hall.old) (H.made hall.new) }
     ensures behind { OnOk result (H.behind_sync hall.new) }
+    ensures done { OnOk result (HasDone (WritesSlotNamed old.now.bytes new.now.bytes vol.old vol.new.buf) (H.done hall.new)) }
     ensures again { RenameCalls old.now.bytes new.now.bytes vol.old vol.new (H.calls hall.old) (H.calls hall.new) result }
 {
-    let slot = slot_to_rename(vol, old, new).map_err(StoreErr::Refused)?;
+    let slot = slot_to_rename(vol, old, new)?;
     let dscb = under_name(&vol.slots[slot as usize], new);
     match put_through(hall, vol, slot, &dscb) {
         Ok(()) => Ok(()),

@@ -2,11 +2,11 @@
 ghost use Rattle.std.specs.Prelude.{◌≡◌, ◌⊎◌, ◌<◌, ◌≤◌, ◌+◌, length, slice_set, IsTrue, OnOk, OnErr};
 ghost use Rattle.hall_core.specs.Facts.{CallsAtMost, DeviceCall, unit_of};
 ghost use Rattle.hall_core.specs.Files.{AfterSync, image_of};
-ghost use Rattle.hall_core.specs.Made.{MakesOnly, Syncing};
+ghost use Rattle.hall_core.specs.Made.{HasDone, MakesOnly, StaysDone, Syncing};
 ghost use Rattle.hall_core.specs.Moments.{IsDurable};
 ghost use Rattle.track_records.specs.Updates.{HasLengths};
 ghost use Rattle.vtoc_index.specs.Index.{IsIndexOf, IsOfUnit, slots_in_front, track_index};
-ghost use Rattle.vtoc_index.specs.Puts.{HoldsDscb, HoldsSlot, IsPutCall, IsReplaced};
+ghost use Rattle.vtoc_index.specs.Puts.{HoldsDscb, HoldsSlot, IsPutCall, IsReadUpTo, IsReplaced, IsSlotWrite};
 ghost use Rattle.dadsm_ops.specs.Through.{IsBeforeOr, PutsThrough};
 
 use dscb_codec::Dscb;
@@ -39,8 +39,9 @@ pub(crate) fn put_through<H: Hall>(
     ensures calls { CallsAtMost 1 1 1 0 (H.calls hall.old) (H.calls hall.new) }
     ensures made { MakesOnly (λ call. IsPutCall vol.old slot dscb.now vol.new.buf call ⊎ (call ≡ Syncing)) (H.made hall.old) (H.made hall.new) }
     ensures behind { OnOk result (H.behind_sync hall.new) }
+    ensures done { OnOk result (HasDone (IsSlotWrite vol.old slot dscb.now vol.new.buf) (H.done hall.new)) }
     ensures again { HoldsSlot vol.old slot → CallsAtMost 0 1 1 0 (H.calls hall.old) (H.calls hall.new) }
-    ensures few { ¬ HoldsSlot vol.old slot → length vol.new.buf.records ≤ slots_in_front vol.old.firsts.items slot + 1 }
+    ensures few { ¬ HoldsSlot vol.old slot → IsReadUpTo (slots_in_front vol.old.firsts.items slot + 1) vol.new.buf.records }
     ensures unwritten { OnErr result (¬ HasLengths vol.new.buf.records (slots_in_front vol.old.firsts.items slot) 44 96 → CallsAtMost 1 0 0 0 (H.calls hall.old) (H.calls hall.new)) }
 {
     put_slot(hall, vol, slot, dscb)?;
@@ -53,6 +54,7 @@ fn make_durable<H: Hall>(hall: &mut H) -> Result<(), Device>
     ensures call { DeviceCall (H.facts hall.old) (H.facts hall.new) result }
     ensures calls { CallsAtMost 0 0 1 0 (H.calls hall.old) (H.calls hall.new) }
     ensures made { MakesOnly (λ call. call ≡ Syncing) (H.made hall.old) (H.made hall.new) }
+    ensures kept { StaysDone (H.done hall.old) (H.done hall.new) }
     ensures behind { OnOk result (H.behind_sync hall.new) }
 {
     hall.sync()?;

@@ -7,7 +7,7 @@ use Rattle.hall_core.specs.Cards.{GivesNext}
 use Rattle.hall_core.specs.Files.{File, patched, written, Attaches, IsPending, AfterWrite, AfterSync, AfterPrint, untold}
 use Rattle.hall_core.specs.History.{wrote, synced, printed, passed, with_write, with_writes, meaning_after}
 use Rattle.hall_core.specs.HistoryLaws.{nothing_kept, since_now}
-use Rattle.hall_core.specs.Made.{HallCall, MakesOnly, Attaching, Noting, Printing, Reading, Syncing, Writing}
+use Rattle.hall_core.specs.Made.{HallCall, HasDone, Does, MakesOnly, StaysDone, Attaching, Noting, Printing, Reading, Syncing, Writing}
 use Rattle.hall_core.specs.Moments.{Meaning}
 use Rattle.hall_core.proofs.CallLemmas.{same_passed, write_done, write_failed, write_lacking, sync_done, sync_failed, print_done, print_failed}
 use Rattle.hall_core.proofs.StepLemmas.{write_leaves}
@@ -301,3 +301,24 @@ sync_alone_is_made (Noting unit track) other = omega arith
 other_call_is_made : ¬ MakesOnly (λ call. call ≡ Printing []) (λ call. 0) synced_once
 unfolding synced_once
 other_call_is_made only = let wrong : 1 ≤ 0 = only Syncing (λ is. cc is) in omega (arith, wrong)
+
+-- Of these calls one was done where just that is said to be; another one isn't it, nor is one of which nothing is said.
+one_is_done :
+    HasDone (λ call. call ≡ Writing 0 5 (1 ∷ [])) (λ call. call ≡ Writing 0 5 (1 ∷ []))
+    × (¬ HasDone (λ call. call ≡ Writing 0 5 (1 ∷ [])) (λ call. call ≡ Writing 0 6 (1 ∷ [])))
+    × (¬ HasDone (λ call. call ≡ Writing 0 5 (1 ∷ [])) (λ call. ⊥))
+one_is_done = (Does _ refl refl, another, none)
+  where
+    at_in : HallCall → ℕ
+    at_in (Writing unit at bytes) = at
+    at_in call = 0
+
+    another : ¬ HasDone (λ call. call ≡ Writing 0 5 (1 ∷ [])) (λ call. call ≡ Writing 0 6 (1 ∷ []))
+    another (Does call is was) = let wrong : 5 ≡ 6 = sym (ap at_in is) ∙ ap at_in was in omega (arith, wrong)
+
+    none : ¬ HasDone (λ call. call ≡ Writing 0 5 (1 ∷ [])) (λ call. ⊥)
+    none (Does call is was) = was
+
+-- What is said of a print isn't taken back by what says it of more, and is by what says it of a sync alone.
+done_stays : StaysDone (λ call. call ≡ Printing []) (λ call. (call ≡ Syncing) ⊎ (call ≡ Printing [])) × (¬ StaysDone (λ call. call ≡ Printing []) (λ call. call ≡ Syncing))
+done_stays = (λ call is. inr is, λ stays. let no = stays (Printing []) refl in cc no)

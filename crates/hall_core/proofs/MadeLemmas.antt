@@ -1,6 +1,6 @@
 -- Calls by what they are made with, one behind the other.
 use Rattle.std.proofs.Common.{ℕ, arith}
-use Rattle.hall_core.specs.Made.{HallCall, MakesOnly}
+use Rattle.hall_core.specs.Made.{HallCall, HasDone, Does, MakesOnly, StaysDone}
 
 -- no call makes none but any
 pub makes_none : (these : HallCall → Type 0) (made : HallCall → ℕ) → MakesOnly these made made
@@ -16,3 +16,10 @@ makes_then first second earlier later call other =
     let before = first call (λ is. other (earlier call is)) in
     let behind = second call (λ is. other (later call is)) in
     omega (arith, before, behind)
+
+-- what was done is done still, and is one of those where these are among those
+pub done_still : {these done later : HallCall → Type 0} → HasDone these done → StaysDone done later → HasDone these later
+done_still (Does call is was) kept = Does call is (kept call was)
+
+pub done_as : {these those done : HallCall → Type 0} → HasDone these done → ((call : HallCall) → these call → those call) → HasDone those done
+done_as (Does call is was) within = Does call (within call is) was

@@ -13,3 +13,11 @@ pub data HallCall : Type 0 where
 -- no call was made but these
 abbrev pub MakesOnly : (HallCall → Type 0) → (HallCall → ℕ) → (HallCall → ℕ) → Type 0
 MakesOnly these old new = (call : HallCall) → ¬ these call → new call ≤ old call
+
+-- what was said of calls that were done is said still
+abbrev pub StaysDone : (HallCall → Type 0) → (HallCall → Type 0) → Type 0
+StaysDone old new = (call : HallCall) → old call → new call
+
+-- one of these calls was done
+pub data HasDone (these done : HallCall → Type 0) : Type 0 where
+  Does : (call : HallCall) → these call → done call → HasDone these done

@@ -1,8 +1,9 @@
 //! An example of how calls of a hall compose: two writes in order, and then a line that tells of both.
-ghost use Rattle.std.specs.Prelude.{◌≡◌, ℕ, ◌+◌, ◌<◌, ◌≤◌, List, length, IsTrue, IfErr};
+ghost use Rattle.std.specs.Prelude.{◌≡◌, ◌⊎◌, ℕ, ◌+◌, ◌<◌, ◌≤◌, List, length, IsTrue, IfErr, OnOk};
 ghost use Rattle.hall_core.specs.Example.{WritesInOrder};
 ghost use Rattle.hall_core.specs.Facts.{CallsAtMost, unit_of};
 ghost use Rattle.hall_core.specs.Files.{File, written};
+ghost use Rattle.hall_core.specs.Made.{MakesOnly, Printing, Syncing, Writing};
 ghost use Rattle.hall_core.specs.Moments.{IsDurable};
 ghost use Rattle.hall_core.specs.Steps.{OutsideCalls};
 
@@ -40,6 +41,9 @@ pub fn write_twice_and_print<H: Hall>(
         WritesInOrder view once twice line.now (H.meaning hall.old) (H.meaning hall.new) result }
     ensures faults { OutsideCalls (H.facts hall.old) (H.facts hall.new) result }
     ensures calls { CallsAtMost 0 2 2 1 (H.calls hall.old) (H.calls hall.new) }
+    ensures made { MakesOnly (λ call. (call ≡ Writing unit first.entry.at first.entry.bytes.now) ⊎ ((call ≡ Writing unit second.entry.at second.entry.bytes.now) ⊎ ((call ≡ Syncing) ⊎ (call ≡ Printing line.now)))) (H.made hall.old) (H.made hall.new) }
+    ensures done { OnOk result (H.done hall.new (Writing unit first.entry.at first.entry.bytes.now) × (H.done hall.new (Writing unit second.entry.at second.entry.bytes.now) × H.done hall.new (Printing line.now))) }
+    ensures ticks { IsTrue H.tells → OnOk result ((H.meaning hall.old).clock + 5 ≤ (H.meaning hall.new).clock) }
     ensures error { IfErr result (λ e. e ≡ HallErr.Failed) }
 {
     hall.write(unit, first.at, first.bytes)?;

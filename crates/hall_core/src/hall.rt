@@ -1,7 +1,7 @@
 //! The trait of the outside, which a device and a test fixture implement alike.
 ghost use Rattle.std.specs.Prelude.{◌≡◌, ◌+◌, ◌<◌, ◌≤◌, [], ◌∷◌, ℕ, List, Bool, length, IsTrue, IsFalse, OnOk, IfErr, ◌-◌, ◌^◌, min};
 ghost use Rattle.hall_core.specs.Facts.{AttachesOnce, Calls, CallsAtMost, Facts, unit_of, IsAttached, DeviceCall, NotedCall, PrintCall, AttachCall, Rose};
-ghost use Rattle.hall_core.specs.Made.{HallCall, MakesOnly, Attaching, Reading, Writing, Syncing, Printing, Noting};
+ghost use Rattle.hall_core.specs.Made.{HallCall, MakesOnly, StaysDone, Attaching, Reading, Writing, Syncing, Printing, Noting};
 ghost use Rattle.hall_core.specs.Moments.{Meaning, LeftNow, IsDurable, Same};
 ghost use Rattle.hall_core.specs.Files.{File, HasBytesAt, AreWhole, Attaches, AfterWrite, AfterSync, AfterPrint};
 
@@ -56,6 +56,9 @@ pub trait Hall {
     /// What holds behind a sync that is done, as long as no other call comes.
     ghost behind_sync: { Self → Type 0 };
 
+    /// What holds of a write or a print, with these arguments, that was done; no call takes it back.
+    ghost done: { Self → HallCall → Type 0 };
+
     /// Attaches a file as the next unit, and gives the number of the unit.
     ///
     /// A unit keeps the size that its file has now. Of the errors, `Missing` says that there is no
@@ -67,7 +70,8 @@ pub trait Hall {
         ensures told { IsTrue tells → Attaches name.now (meaning self.old) (meaning self.new) result }
         ensures call { AttachCall name.now (facts self.old) (facts self.new) result }
         ensures calls { AttachesOnce 0 0 0 0 (calls self.old) (calls self.new) }
-        ensures made { MakesOnly (λ call. call ≡ Attaching name.now) (made self.old) (made self.new) };
+        ensures made { MakesOnly (λ call. call ≡ Attaching name.now) (made self.old) (made self.new) }
+        ensures kept { StaysDone (done self.old) (done self.new) };
 
     /// The size of a unit, in bytes.
     fn size(&self, unit: u8) -> u64
@@ -85,6 +89,7 @@ pub trait Hall {
         ensures call { DeviceCall (facts self.old) (facts self.new) result }
         ensures calls { CallsAtMost 1 0 0 0 (calls self.old) (calls self.new) }
         ensures made { MakesOnly (λ call. call ≡ Reading unit at (length buf.old)) (made self.old) (made self.new) }
+        ensures kept { StaysDone (done self.old) (done self.new) }
         ensures error { IfErr result (λ e. e ≡ HallErr.Failed) };
 
     /// Writes the bytes over those of the unit, from the offset `at` on, which counts them from 0.
@@ -98,6 +103,8 @@ pub trait Hall {
         ensures call { DeviceCall (facts self.old) (facts self.new) result }
         ensures calls { CallsAtMost 0 1 0 0 (calls self.old) (calls self.new) }
         ensures made { MakesOnly (λ call. call ≡ Writing unit at bytes.now) (made self.old) (made self.new) }
+        ensures done { OnOk result (done self.new (Writing unit at bytes.now)) }
+        ensures kept { StaysDone (done self.old) (done self.new) }
         ensures error { IfErr result (λ e. e ≡ HallErr.Failed) };
 
     /// Makes the writes to all units durable.
@@ -108,6 +115,7 @@ pub trait Hall {
         ensures call { DeviceCall (facts self.old) (facts self.new) result }
         ensures calls { CallsAtMost 0 0 1 0 (calls self.old) (calls self.new) }
         ensures made { MakesOnly (λ call. call ≡ Syncing) (made self.old) (made self.new) }
+        ensures kept { StaysDone (done self.old) (done self.new) }
         ensures behind { OnOk result (behind_sync self.new) }
         ensures error { IfErr result (λ e. e ≡ HallErr.Failed) };
 
@@ -119,6 +127,8 @@ pub trait Hall {
         ensures call { PrintCall (facts self.old) (facts self.new) result }
         ensures calls { CallsAtMost 0 0 0 1 (calls self.old) (calls self.new) }
         ensures made { MakesOnly (λ call. call ≡ Printing bytes.now) (made self.old) (made self.new) }
+        ensures done { OnOk result (done self.new (Printing bytes.now)) }
+        ensures kept { StaysDone (done self.old) (done self.new) }
         ensures error { IfErr result (λ e. e ≡ HallErr.Failed) };
 
     /// Notes that a track of a unit isn't as it was read before, or can't be as it is read.
@@ -131,6 +141,7 @@ pub trait Hall {
         ensures rose { IsFalse tells → Rose (facts self.old).dev_faults (facts self.new).dev_faults }
         ensures calls { CallsAtMost 0 0 0 0 (calls self.old) (calls self.new) }
         ensures made { MakesOnly (λ call. call ≡ Noting unit track) (made self.old) (made self.new) }
+        ensures kept { StaysDone (done self.old) (done self.new) }
         ensures call { NotedCall (facts self.old) (facts self.new) }
         ensures told { IsTrue tells → Same (meaning self.old) (meaning self.new) }
         ensures clock { IsTrue tells → (meaning self.new).clock ≡ (meaning self.old).clock }
@@ -164,6 +175,8 @@ impl<H: Hall> Hall for &mut H {
     ghost made = { λ h. H.made h.now };
 
     ghost behind_sync = { λ h. H.behind_sync h.now };
+
+    ghost done = { λ h call. H.done h.now call };
 
     ghost leaves_state = { λ h. H.leaves_state h.now };
 

@@ -268,7 +268,7 @@ impl MemHall {
 }
 
 impl Hall for MemHall {
-    ghost use Rattle.std.specs.Prelude.{List, [], ◌∷◌, OnOk, OnErr, IfErr, IsErrOf, None, is_ok, if◌then◌else◌};
+    ghost use Rattle.std.specs.Prelude.{⊤, List, [], ◌∷◌, OnOk, OnErr, IfErr, IsErrOf, None, is_ok, if◌then◌else◌};
     ghost use Rattle.hall_core.specs.Facts.{unit_of, IsAttached, DeviceCall, PrintCall, AttachCall, NotedCall, uncounted};
     ghost use Rattle.hall_core.specs.Files.{file_of, HasBytesAt, Attaches, AfterWrite, AfterSync, AfterPrint};
     ghost use Rattle.hall_core.specs.Moments.{Same};
@@ -287,6 +287,8 @@ impl Hall for MemHall {
     ghost made = { λ _ _. 0 };
 
     ghost behind_sync = { λ hall. EndsInSync hall };
+
+    ghost done = { λ _ _. ⊤ };
 
     ghost leaves_state = { λ hall. state_left hall };
 

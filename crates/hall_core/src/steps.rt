@@ -2,7 +2,7 @@
 ghost use Rattle.std.specs.Prelude.{◌≡◌, ◌⊎◌, ◌+◌, ◌<◌, ◌≤◌, length, IsTrue, OnOk, OnErr};
 ghost use Rattle.hall_core.specs.Facts.{CallsAtMost, unit_of, DeviceCall};
 ghost use Rattle.hall_core.specs.Files.{written, IsPending};
-ghost use Rattle.hall_core.specs.Made.{MakesOnly, Syncing, Writing};
+ghost use Rattle.hall_core.specs.Made.{MakesOnly, StaysDone, Syncing, Writing};
 ghost use Rattle.hall_core.specs.Moments.{IsDurable, LeavesSame};
 ghost use Rattle.hall_core.specs.Steps.{StepTo};
 
@@ -36,6 +36,8 @@ pub fn write_through<H: Hall>(hall: &mut H, unit: u8, at: u64, bytes: &[u8]) -> 
     ensures calls { CallsAtMost 0 1 1 0 (H.calls hall.old) (H.calls hall.new) }
     ensures made { MakesOnly (λ call. (call ≡ Writing unit at bytes.now) ⊎ (call ≡ Syncing)) (H.made hall.old) (H.made hall.new) }
     ensures synced { OnOk result (H.behind_sync hall.new) }
+    ensures done { OnOk result (H.done hall.new (Writing unit at bytes.now)) }
+    ensures kept { StaysDone (H.done hall.old) (H.done hall.new) }
 {
     hall.write(unit, at, bytes)?;
     hall.sync()?;

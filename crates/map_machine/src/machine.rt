@@ -103,6 +103,10 @@ impl Machine for MapMachine {
 
     ghost may_make = { λ machine op call. ⊥ };
 
+    ghost done = { λ machine op. Unit {0} };
+
+    ghost has_printed = { λ machine bytes. Unit {0} };
+
     ghost asked = { λ machine. asked_nothing };
 
     ghost holds = { λ machine op. Unit {0} };

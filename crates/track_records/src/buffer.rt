@@ -233,6 +233,7 @@ pub fn update<H: Hall>(
     ensures calls { CallsAtMost 0 1 0 0 (H.calls hall.old) (H.calls hall.new) }
     ensures inside { place_of buf.old (r - 1) + length (key.now ++ payload.now) ≤ 512 + (buf.old.track + 1) * buf.old.geometry.track_size }
     ensures made { MakesOnly (λ call. call ≡ Writing buf.old.unit (place_of buf.old (r - 1)) (key.now ++ payload.now)) (H.made hall.old) (H.made hall.new) }
+    ensures done { OnOk result (H.done hall.new (Writing buf.old.unit (place_of buf.old (r - 1)) (key.now ++ payload.now))) }
 {
     let place = buf.put(r, key, payload);
     let at = HEADER_LEN as u64

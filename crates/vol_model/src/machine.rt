@@ -1,6 +1,6 @@
 //! The machine on which every utility works: a shelf of volumes, changed by one operation at a time, and a place to
 //! print on.
-ghost use Rattle.std.specs.Prelude.{◌≡◌, ◌≤◌, ℕ, List, [], ◌∷◌, Bool, IsTrue, IsErrOf};
+ghost use Rattle.std.specs.Prelude.{◌≡◌, ◌≤◌, ℕ, List, [], ◌∷◌, Bool, IsTrue, IsErrOf, OnOk};
 ghost use Rattle.hall_core.specs.Facts.{Calls, CallsAtMost};
 ghost use Rattle.hall_core.specs.Files.{File};
 ghost use Rattle.hall_core.specs.Made.{HallCall, MakesOnly, Printing};
@@ -48,6 +48,12 @@ pub trait Machine {
     /// The operations and prints it was asked for so far, if it counts them.
     ghost asked: { Self → Asked };
 
+    /// What holds of an operation that was done; no print takes it back.
+    ghost done: { Self → requests.Op → Type 0 };
+
+    /// What holds of bytes that were printed, until another call comes.
+    ghost has_printed: { Self → List ℕ → Type 0 };
+
     /// Whether it holds all that an operation has to read, so that this makes no read of the hall.
     ghost holds: { Self → requests.Op → Type 0 };
 
@@ -73,6 +79,7 @@ pub trait Machine {
         ensures call { MachineCall (status self.old) (status self.new) result }
         ensures calls { CallsAtMost 1 1 1 0 (calls self.old) (calls self.new) }
         ensures made { MakesOnly (may_make self.old op.now) (made self.old) (made self.new) }
+        ensures done { OnOk result (done self.new op.now) }
         ensures held { holds self.old op.now → CallsAtMost 0 1 1 0 (calls self.old) (calls self.new) }
         ensures memory { IsErrOf result MachErr.Memory → CallsAtMost 1 0 0 0 (calls self.old) (calls self.new) }
         ensures refused { (r : Refusal) → IsErrOf result (MachErr.Refused r) → CallsAtMost 0 0 0 0 (calls self.old) (calls self.new) }
@@ -90,6 +97,8 @@ pub trait Machine {
         ensures call { MachineCall (status self.old) (status self.new) result }
         ensures calls { CallsAtMost 0 0 0 1 (calls self.old) (calls self.new) }
         ensures made { MakesOnly (λ call. call ≡ Printing bytes.now) (made self.old) (made self.new) }
+        ensures kept { (op : requests.Op) → done self.old op → done self.new op }
+        ensures has_printed { OnOk result (has_printed self.new bytes.now) }
         ensures memory { IsErrOf result MachErr.Memory → CallsAtMost 0 0 0 0 (calls self.old) (calls self.new) }
         ensures once { AsksAtMost 0 1 (asked self.old) (asked self.new) }
         ensures device { IsErrOf result MachErr.Device → ⊥ }

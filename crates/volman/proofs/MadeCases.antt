@@ -1,6 +1,6 @@
 -- The calls of a run by what they are made with, on cases that a near reading of Made.antt, Machine.antt and Statement.antt answers otherwise. Each comment names what such a reading would let through.
-use Rattle.std.proofs.Common.{◌≡◌, ◌≤◌, ◌+◌, ◌*◌, ⊎_elim, inl, inr, ℕ, List, [], ◌∷◌, codes, drop, get_or, length, replicate, take, Some, None, refl, sym, ap, subst, arith, length-append}
-use Rattle.std.specs.Prelude.{◌⊎◌, ⊤, Ok, Err}
+use Rattle.std.proofs.Common.{◌≡◌, ◌≤◌, ◌+◌, ◌*◌, ⊎_elim, inl, inr, ℕ, List, [], ◌∷◌, codes, drop, get_or, length, replicate, take, Some, None, refl, sym, ap, subst, ◌∙◌, arith, length-append}
+use Rattle.std.specs.Prelude.{◌⊎◌, ⊤, Result, Ok, Err}
 use Rattle.std.specs.Fmt.{digits}
 use Rattle.ckd_image.specs.Track.{Record}
 use Rattle.dscb_codec.specs.declared.Dscb.{Dscb}
@@ -10,13 +10,14 @@ use Rattle.ebcdic_names.specs.CodePage.{ascii_of, code_page}
 use Rattle.ebcdic_names.specs.Names.{shown}
 use Rattle.ebcdic_names.specs.declared.names.Serial.{Serial}
 use Rattle.hall_core.specs.Facts.{Attached}
-use Rattle.hall_core.specs.Made.{HallCall, Attaching, Noting, Printing, Reading, Syncing, Writing}
+use Rattle.hall_core.specs.Made.{HallCall, HasDone, Does, Attaching, Noting, Printing, Reading, Syncing, Writing}
 use Rattle.pack_spec.specs.declared.MountErr.{MountErr}
 use Rattle.pack_spec.specs.declared.MountErr.TheVariants as mount
 use Rattle.track_records.specs.Buffers.{Buffer}
 use Rattle.util_syntax.specs.Lines.{card_number, outcome_words, result_line}
 use Rattle.util_syntax.specs.declared.statement.Rename.{Rename}
 use Rattle.vol_model.specs.Words.{refusal_words}
+use Rattle.vol_model.specs.declared.refusals.Refusal.{Refusal}
 use Rattle.vol_model.specs.declared.refusals.Refusal.TheVariants.{NoSet}
 use Rattle.dadsm_ops.specs.Naming.{IsRenameCall}
 use Rattle.vtoc_index.specs.Index.{track_index}
@@ -24,10 +25,10 @@ use Rattle.vtoc_index.specs.declared.vol.Vol.{Vol}
 use Rattle.vtoc_index.proofs.PutCases.{c_stands}
 use Rattle.vtoc_index.proofs.SmallPack.{a, b, c, data_set, f1, index, pack01}
 use Rattle.volman.specs.Lines.{deck_line, name_line, names_listing, reason_of, unit_line, words_line}
-use Rattle.volman.specs.Machine.{MayMake}
-use Rattle.volman.specs.Made.{IsMountCall, IsNamesPrint, IsProgramCall, IsRefusalPrint, IsRunCall, IsStatementCall}
+use Rattle.volman.specs.Machine.{MayMake, MayWrite}
+use Rattle.volman.specs.Made.{HasAnswered, HasSaid, IsMountCall, IsNamesPrint, IsProgramCall, IsRefusalPrint, IsRunCall, IsStatementCall}
 use Rattle.volman.specs.Names.{IsListing}
-use Rattle.volman.specs.Statement.{IsAnswerPrint, operation_on}
+use Rattle.volman.specs.Statement.{IsAnswerPrint, answer_line, code_for, operation_on}
 use Rattle.volman.specs.Words.{Names, Run}
 
 -- the kind of a call, and its bytes
@@ -255,3 +256,68 @@ module _ (any : Vol) where
         (λ is. ⊎_elim (λ sync. cc sync) (λ names. ⊎_elim (λ reads. cc reads) (⊎_elim (λ notes. let no = notes.0 in cc no) (λ writes. let no = writes.writes in cc no)) names.puts) is.1.1.1)
         (⊎_elim (λ is. let no = is.1 in cc no) (λ is. cc is)),
   )
+
+  -- ---- what was done
+
+  -- The write of C is one of the operation, on the only volume: on another it is none, nor is a sync one.
+  write_is_of_the_operation : MayWrite (operation_on (statement pack01) 0) (Writing 0 8881 (data_set c)) × (¬ MayWrite (operation_on (statement pack01) 1) (Writing 0 8881 (data_set c))) × (¬ MayWrite (operation_on (statement pack01) 0) Syncing)
+  write_is_of_the_operation = (
+    (index any, (both_sets, (refl, record { slot = 3; found = record { found = refl; absent = refl; others = refl }; dscb = formats.F1 (f1 a); held = refl; writes = record { bytes = data_set c; dscb = c_stands; size = refl; at = 8881; place = refl; behind = omega arith; inside = omega arith; writes = refl } }))),
+    λ is. let wrong : 1 ≡ 0 = is.1.1.0 in omega (arith, wrong),
+    λ is. let no = is.1.1.1.writes.writes in cc no,
+  )
+
+  -- of the calls it is said that this line was printed, and C written
+  abbrev line_and_write : Result (Unit {0}) Refusal → HallCall → Type 0
+  line_and_write outcome call = (call ≡ Printing (answer_line (statement pack01) outcome)) ⊎ (call ≡ Writing 0 8881 (data_set c))
+
+  abbrev line_alone : Result (Unit {0}) Refusal → HallCall → Type 0
+  line_alone outcome call = call ≡ Printing (answer_line (statement pack01) outcome)
+
+  -- Code 0 says that the line with OK was printed and the slot written: not the line alone, nor with that of a refusal. Code 8 says that a line was printed.
+  statement_is_answered :
+      HasAnswered (statement pack01) 0 (line_and_write (Ok tt))
+      × HasAnswered (statement pack01) 8 (line_alone (Err NoSet))
+      × (¬ HasAnswered (statement pack01) 0 (line_alone (Ok tt)))
+      × (¬ HasAnswered (statement pack01) 0 (line_and_write (Err NoSet)))
+      × (¬ HasAnswered (statement pack01) 8 (λ call. call ≡ Syncing))
+  unfolding bytes_in byte result_line card_number digits outcome_words refusal_words shown ascii_of code_page
+  statement_is_answered = (
+    record { outcome = Ok tt; code_is = refl; line = inl refl; written = λ is. Does (Writing 0 8881 (data_set c)) write_is_of_the_operation.0 (inr refl) },
+    record { outcome = Err NoSet; code_is = refl; line = refl; written = λ (is : 8 ≡ 0). absurd (omega (arith, is)) },
+    λ answered. unwritten (answered.written refl),
+    λ answered. other answered.outcome answered.code_is answered.line,
+    λ answered. let no = answered.line in cc no,
+  )
+    where
+      unwritten : ¬ HasDone (MayWrite (operation_on (statement pack01) 0)) (line_alone (Ok tt))
+      unwritten (Does call is was) = let no = sym was ∙ is.1.1.1.writes.writes in cc no
+
+      other : (outcome : Result (Unit {0}) Refusal) → code_for outcome ≡ 0 → line_and_write (Err NoSet) (Printing (answer_line (statement pack01) outcome)) → ⊥
+      other (Ok done) zero line = ⊎_elim (λ is. let wrong : 79 ≡ 78 = ap (byte 58) is in omega (arith, wrong)) (λ is. cc is) line
+      other (Err r) zero line = absurd (omega (arith, zero))
+
+  -- Each status says what was printed, and for what was asked: with 20 the refusal of the words, with 0 of `run` a statement of a deck, with 0 of `names` their print, and with 21 a file that is asked for.
+  program_has_said :
+      HasSaid None (λ deck. ⊤) 20 (λ call. call ≡ Printing words_line)
+      × (¬ HasSaid None (λ deck. ⊤) 20 (λ call. call ≡ Printing deck_line))
+      × (¬ HasSaid None (λ deck. ⊤) 21 (λ call. ⊤))
+      × (¬ HasSaid (Some (Run file)) (λ deck. deck ≡ None) 0 (λ call. ⊤))
+      × (¬ HasSaid (Some (Names file)) (λ deck. ⊤) 0 (λ call. ⊥))
+  unfolding bytes_in byte words_line deck_line
+  program_has_said = (
+    record {
+      words = λ is. refl;
+      deck = λ (is : 20 ≡ 26). absurd (omega (arith, is));
+      file = λ (is : 20 ≡ 21). absurd (omega (arith, is));
+      names = λ (code : (20 ≡ 0) ⊎ (20 ≡ 8)). absurd (omega (arith, code));
+      answer = λ (code : (20 ≡ 0) ⊎ (20 ≡ 8)). absurd (omega (arith, code));
+    },
+    λ said. let wrong : 87 ≡ 68 = ap (byte 7) (said.words refl) in omega (arith, wrong),
+    λ said. let no = (said.file refl).1 in cc no,
+    λ said. let no = (said.answer (inl refl) file refl).1 in cc no,
+    λ said. none (said.names (inl refl) file refl).1,
+  )
+    where
+      none : {these : HallCall → Type 0} → ¬ HasDone these (λ call. ⊥)
+      none (Does call is was) = was

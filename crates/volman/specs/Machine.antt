@@ -3,7 +3,7 @@ use Rattle.std.specs.Prelude.{◌≡◌, ◌⊎◌, ◌==◌, ℕ, Bool, if◌th
 use Rattle.std.proofs.Common.{subst, sym}
 use Rattle.ckd_image.specs.Device.{row_of}
 use Rattle.ckd_image.specs.declared.header.Geometry.{Geometry}
-use Rattle.dadsm_ops.specs.Naming.{HoldsRenamed, IsRenameCall, IsToRename, RenameCalls, RenamesEntry, RenamesSome, refusal_in}
+use Rattle.dadsm_ops.specs.Naming.{HoldsRenamed, IsRenameCall, IsToRename, RenameCalls, RenamesEntry, RenamesSome, WritesSlotNamed, refusal_in}
 use Rattle.dadsm_ops.specs.Operations.{ChangesVtoc, image_named}
 use Rattle.dscb_codec.specs.declared.Dscb.{Dscb}
 use Rattle.hall_core.specs.Facts.{Attached, Calls, Facts}
@@ -101,6 +101,14 @@ IsOperationCall (Rename v old new) before buf call = (v ≡ 0) × IsRenameCall o
 -- a call that an operation may make, by the index before, whatever its buffer is behind
 abbrev pub MayMake : Op → Vol → HallCall → Type 0
 MayMake op before call = (buf : Buffer) × IsOperationCall op before buf call
+
+-- the write of an operation on the only volume, by the index before and the buffer behind
+abbrev pub IsOperationWrite : Op → Vol → Buffer → HallCall → Type 0
+IsOperationWrite (Rename v old new) before buf call = (v ≡ 0) × WritesSlotNamed old.bytes new.bytes before buf call
+
+-- the write of an operation by some index
+abbrev pub MayWrite : Op → HallCall → Type 0
+MayWrite op call = (before : Vol) × ((buf : Buffer) × IsOperationWrite op before buf call)
 
 -- the buffer of an index holds the slot that an operation on the only volume changes, so that it isn't read
 abbrev pub HoldsFor : Op → Vol → Type 0

@@ -152,7 +152,7 @@ impl<'a, R: Files<File = File> + Print> FileHall<'a, R> {
 }
 
 impl<R: Files<File = File> + Print> Hall for FileHall<'_, R> {
-    ghost use Rattle.std.specs.Prelude.{◌++◌, ◌∷◌, map, set, take, IsFalse};
+    ghost use Rattle.std.specs.Prelude.{⊤, ◌++◌, ◌∷◌, map, set, take, IsFalse};
     ghost use Rattle.std.specs.List.{All};
     ghost use Rattle.std.proofs.lemmas.Bool.{false≢true};
     ghost use Rattle.hall_core.specs.Facts.{unit_of, IsAttached, DeviceCall, PrintCall, AttachCall, NotedCall, Rose, uncounted, AttachesOnce, CallsAtMost};
@@ -171,6 +171,8 @@ impl<R: Files<File = File> + Print> Hall for FileHall<'_, R> {
     ghost made = { λ _ _. 0 };
 
     ghost behind_sync = { λ hall. All IsFalse (notes_of hall) };
+
+    ghost done = { λ _ _. ⊤ };
 
     ghost leaves_state = { λ _. tt };
 
@@ -233,6 +235,7 @@ impl<R: Files<File = File> + Print> Hall for FileHall<'_, R> {
         ensures told { IsTrue false → AfterWrite (unit_of (facts_of self.old).units unit).name at bytes.now untold untold result }
         ensures call { DeviceCall (facts_of self.old) (facts_of self.new) result }
         ensures calls { CallsAtMost 0 1 0 0 uncounted uncounted }
+        ensures done { OnOk result ⊤ }
         ensures error { IfErr result (λ e. e ≡ HallErr.Failed) }
         ensures notes { notes_of self.new ≡ set (notes_of self.old) unit true }
         ensures files { map (λ (u : Unit). u.file) self.new.units.items ≡ map (λ (u : Unit). u.file) self.old.units.items }
@@ -262,6 +265,7 @@ impl<R: Files<File = File> + Print> Hall for FileHall<'_, R> {
         ensures told { IsTrue false → AfterPrint bytes.now untold untold result }
         ensures call { PrintCall (facts_of self.old) (facts_of self.new) result }
         ensures calls { CallsAtMost 0 0 0 1 uncounted uncounted }
+        ensures done { OnOk result ⊤ }
         ensures error { IfErr result (λ e. e ≡ HallErr.Failed) }
         ensures units { self.new.units ≡ self.old.units }
     {

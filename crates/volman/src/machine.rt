@@ -1,9 +1,9 @@
 //! The machine over the image of one pack.
-ghost use Rattle.std.specs.Prelude.{◌≡◌, ◌≢◌, [], ◌∷◌, true, IsTrue, IfErr, IfSome, IsErrOf, OnErr, Some, None, refl};
+ghost use Rattle.std.specs.Prelude.{◌≡◌, ◌≢◌, [], ◌∷◌, true, IsTrue, IfErr, IfSome, IsErrOf, OnErr, OnOk, Some, None, refl};
 ghost use Rattle.dadsm_ops.specs.Through.{IsBeforeOr};
 ghost use Rattle.hall_core.specs.Facts.{CallsAtMost, unit_of};
 ghost use Rattle.hall_core.specs.Files.{image_of};
-ghost use Rattle.hall_core.specs.Made.{MakesOnly, Printing};
+ghost use Rattle.hall_core.specs.Made.{HasDone, MakesOnly, Printing};
 ghost use Rattle.hall_core.specs.Moments.{IsDurable};
 ghost use Rattle.hall_core.specs.Steps.{seen};
 ghost use Rattle.hall_core.proofs.MomentLemmas.{durable_seen, counts_now_seen, only_now_seen};
@@ -12,7 +12,7 @@ ghost use Rattle.vol_model.specs.Shelf.{number_of, step};
 ghost use Rattle.vtoc_index.specs.Index.{IsMounted, IsOfUnit};
 ghost use Rattle.vtoc_index.specs.Kept.{IsKept};
 ghost use Rattle.vtoc_index.proofs.KeptProps.{kept_props};
-ghost use Rattle.volman.specs.Machine.{ChangesOnlyNames, HoldsFor, IsOperationCall, KeepsIndex, MayMake, OperationCalls, lawful_in, shelf_named, status_of};
+ghost use Rattle.volman.specs.Machine.{ChangesOnlyNames, HoldsFor, IsOperationCall, IsOperationWrite, KeepsIndex, MayMake, MayWrite, OperationCalls, lawful_in, shelf_named, status_of};
 
 use dadsm_ops::rename;
 use ebcdic_names::{Dsn, Serial};
@@ -84,6 +84,7 @@ impl<H: Hall> PackMachine<H> {
         ensures call { MachineCall (status_of self.old.is_sound (H.facts self.old.hall) self.old.vol) (status_of self.new.is_sound (H.facts self.new.hall) self.new.vol) result }
         ensures calls { CallsAtMost 1 1 1 0 (H.calls self.old.hall) (H.calls self.new.hall) }
         ensures made { MakesOnly (IsOperationCall (Op.Rename v old.now new.now) self.old.vol self.new.vol.buf) (H.made self.old.hall) (H.made self.new.hall) }
+        ensures done { OnOk result (HasDone (IsOperationWrite (Op.Rename v old.now new.now) self.old.vol self.new.vol.buf) (H.done self.new.hall)) }
         ensures held { HoldsFor (Op.Rename v old.now new.now) self.old.vol → CallsAtMost 0 1 1 0 (H.calls self.old.hall) (H.calls self.new.hall) }
         ensures refused { (r : Refusal) → IsErrOf result (MachErr.Refused r) → CallsAtMost 0 0 0 0 (H.calls self.old.hall) (H.calls self.new.hall) }
         ensures memory { IsErrOf result MachErr.Memory → ⊥ }
@@ -122,6 +123,10 @@ impl<H: Hall> Machine for PackMachine<H> {
 
     ghost may_make = { λ m op call. MayMake op m.vol call };
 
+    ghost done = { λ m op. HasDone (MayWrite op) (H.done m.hall) };
+
+    ghost has_printed = { λ m bytes. H.done m.hall (Printing bytes) };
+
     ghost asked = { λ m. asked_nothing };
 
     ghost holds = { λ m op. HoldsFor op m.vol };
@@ -151,6 +156,8 @@ impl<H: Hall> Machine for PackMachine<H> {
         ensures calls { CallsAtMost 1 1 1 0 (H.calls self.old.hall) (H.calls self.new.hall) }
         ensures made { MakesOnly (MayMake op.now self.old.vol) (H.made self.old.hall) (H.made self.new.hall) }
         ensures put { MakesOnly (IsOperationCall op.now self.old.vol self.new.vol.buf) (H.made self.old.hall) (H.made self.new.hall) }
+        ensures done { OnOk result (HasDone (MayWrite op.now) (H.done self.new.hall)) }
+        ensures written { OnOk result (HasDone (IsOperationWrite op.now self.old.vol self.new.vol.buf) (H.done self.new.hall)) }
         ensures held { HoldsFor op.now self.old.vol → CallsAtMost 0 1 1 0 (H.calls self.old.hall) (H.calls self.new.hall) }
         ensures refused { (r : Refusal) → IsErrOf result (MachErr.Refused r) → CallsAtMost 0 0 0 0 (H.calls self.old.hall) (H.calls self.new.hall) }
         ensures memory { IsErrOf result MachErr.Memory → ⊥ }
@@ -171,6 +178,8 @@ impl<H: Hall> Machine for PackMachine<H> {
         ensures call { MachineCall (status_of self.old.is_sound (H.facts self.old.hall) self.old.vol) (status_of self.new.is_sound (H.facts self.new.hall) self.new.vol) result }
         ensures calls { CallsAtMost 0 0 0 1 (H.calls self.old.hall) (H.calls self.new.hall) }
         ensures made { MakesOnly (λ call. call ≡ Printing bytes.now) (H.made self.old.hall) (H.made self.new.hall) }
+        ensures kept { (o : Op) → HasDone (MayWrite o) (H.done self.old.hall) → HasDone (MayWrite o) (H.done self.new.hall) }
+        ensures has_printed { OnOk result (H.done self.new.hall (Printing bytes.now)) }
         ensures index { self.new.vol ≡ self.old.vol }
         ensures error { IfErr result (λ e. e ≡ MachErr.Print) }
     {

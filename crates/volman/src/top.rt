@@ -1,8 +1,8 @@
 //! The top call: all that the program does.
-ghost use Rattle.std.specs.Prelude.{◌≡◌, ◌≢◌, ◌≤◌, ◌+◌, ◌⊎◌, [], List, ℕ, drop, length, map, string_bytes, IsTrue, IfOk, OnErr, Some, None, Ok};
+ghost use Rattle.std.specs.Prelude.{◌≡◌, ◌≢◌, ◌≤◌, ◌+◌, ◌⊎◌, [], List, ℕ, drop, length, map, string_bytes, IsTrue, IfOk, OnErr, Some, None, Ok, Err};
 ghost use Rattle.hall_core.specs.Facts.{AttachesOnce, CallsAtMost, Rose};
 ghost use Rattle.hall_core.specs.Files.{file_of};
-ghost use Rattle.hall_core.specs.Made.{MakesOnly, Printing};
+ghost use Rattle.hall_core.specs.Made.{HasDone, MakesOnly, Printing};
 ghost use Rattle.dadsm_ops.specs.Operations.{image_named};
 ghost use Rattle.pack_spec.specs.Volume.{volume_of};
 ghost use Rattle.vol_model.specs.declared.contents.Volume.{Volume};
@@ -12,7 +12,7 @@ ghost use Rattle.vtoc_index.specs.declared.vol.Vol.{Vol};
 ghost use Rattle.volman.specs.Deck.{TakesAtMost, deck_of};
 ghost use Rattle.volman.specs.Lines.{names_listing, unit_line};
 ghost use Rattle.volman.specs.Machine.{shelf_with};
-ghost use Rattle.volman.specs.Made.{IsNamesCall, IsProgramCall, IsRefusalPrint, IsRunCall};
+ghost use Rattle.volman.specs.Made.{HasAnswered, HasSaid, IsNamesCall, IsNamesPrint, IsProgramCall, IsRefusalPrint, IsRunCall};
 ghost use Rattle.volman.specs.Mount.{IsOnLastTrack};
 ghost use Rattle.volman.specs.Names.{IsListing, names_in};
 ghost use Rattle.hall_core.specs.Moments.{IsDurable};
@@ -123,6 +123,7 @@ pub fn volman<C: Cards, H: Hall>(
     // nor, over a hall that tells, a write or a sync unless a file is changed.
     ensures calls { AttachesOnce 260 1 2 1 (H.calls hall.old) (H.calls hall.new) }
     ensures made { MakesOnly (IsProgramCall (asked_in words) (λ deck. IsTrue C.tells → deck_of (C.left cards.old) ≡ deck) (H.facts hall.new).units) (H.made hall.old) (H.made hall.new) }
+    ensures said { HasSaid (asked_in words) (λ deck. IsTrue C.tells → deck_of (C.left cards.old) ≡ deck) result (H.done hall.new) }
     ensures no_statement { ((file : List ℕ) → asked_in words ≢ Some (Run file)) → AttachesOnce 259 0 0 1 (H.calls hall.old) (H.calls hall.new) }
     ensures unlisted { ((file : List ℕ) → asked_in words ≢ Some (Run file)) → (result ≡ 22) ⊎ (result ≡ 25) → AttachesOnce 259 0 0 0 (H.calls hall.old) (H.calls hall.new) }
     ensures unbegun { IsUnbegun result → AttachesOnce 259 0 0 1 (H.calls hall.old) (H.calls hall.new) }
@@ -136,6 +137,7 @@ pub fn volman<C: Cards, H: Hall>(
     ensures reads_names { IsTrue H.tells → (file : List ℕ) → asked_in words ≡ Some (Names file) → AttachesOnce (reads_to_mount (image_named (H.meaning hall.old).state file)) 0 0 1 (H.calls hall.old) (H.calls hall.new) }
     ensures reads_refused { IsTrue H.tells → (file : List ℕ) → asked_in words ≡ Some (Run file) → result ≡ 8 → AttachesOnce (reads_to_mount (image_named (H.meaning hall.old).state file)) 0 1 1 (H.calls hall.old) (H.calls hall.new) }
     ensures reads_run { IsTrue H.tells → (file : List ℕ) → asked_in words ≡ Some (Run file) → AttachesOnce (reads_to_mount (image_named (H.meaning hall.old).state file) + 1) 1 2 1 (H.calls hall.old) (H.calls hall.new) }
+    ensures unmounted { IsTrue H.tells → (file : List ℕ) → asked_in words ≡ Some (Run file) → (why : MountErr) → volume_of (image_named (H.meaning hall.old).state file) ≡ Err why → AttachesOnce (reads_to_mount (image_named (H.meaning hall.old).state file)) 0 0 1 (H.calls hall.old) (H.calls hall.new) }
     ensures reads_held { IsTrue H.tells → IsTrue C.tells → (file : List ℕ) → asked_in words ≡ Some (Run file) → (statement : Rename) → deck_of (C.left cards.old) ≡ Some statement → (vol : Vol) → IsMounted (image_named (H.meaning hall.old).state file) vol → IsOnLastTrack statement vol → AttachesOnce (reads_to_mount (image_named (H.meaning hall.old).state file)) 1 2 1 (H.calls hall.old) (H.calls hall.new) }
 
     // Over halls and cards that tell, a statement that the pack refuses takes one sync at most besides, whatever comes
@@ -174,6 +176,7 @@ fn end<H: Hall>(hall: &mut H, text: &[u8], status: Status) -> u8
     ensures later { Later (H.facts hall.old) (H.facts hall.new) }
     ensures calls { CallsAtMost 0 0 0 1 (H.calls hall.old) (H.calls hall.new) }
     ensures made { MakesOnly (λ call. call ≡ Printing text.now) (H.made hall.old) (H.made hall.new) }
+    ensures done { result ≢ 24 → H.done hall.new (Printing text.now) }
     ensures devices { (H.facts hall.new).dev_faults ≡ (H.facts hall.old).dev_faults }
     ensures references { (H.facts hall.new).references ≡ (H.facts hall.old).references }
     ensures units { (H.facts hall.new).units ≡ (H.facts hall.old).units }
@@ -192,6 +195,8 @@ fn names<H: Hall>(alloc: Global, hall: &mut H, file: &str) -> u8
     ensures silent { IsTrue H.tells → (result ≡ 22) ⊎ (result ≡ 25) → (H.meaning hall.new).printed ≡ (H.meaning hall.old).printed }
     ensures calls { AttachesOnce 259 0 0 1 (H.calls hall.old) (H.calls hall.new) }
     ensures made { MakesOnly (IsNamesCall file.now (H.facts hall.new).units) (H.made hall.old) (H.made hall.new) }
+    ensures refused { result ≡ 21 → (why : MountErr) × H.done hall.new (Printing (unit_line file.now why)) }
+    ensures listed { result ≡ 0 → (dscbs : List Dscb) × HasDone (IsNamesPrint dscbs) (H.done hall.new) }
     ensures unprinted { (result ≡ 22) ⊎ (result ≡ 25) → AttachesOnce 259 0 0 0 (H.calls hall.old) (H.calls hall.new) }
     ensures reads { IsTrue H.tells → AttachesOnce (reads_to_mount (image_named (H.meaning hall.old).state file.now)) 0 0 1 (H.calls hall.old) (H.calls hall.new) }
     ensures code { result ≢ 8 }
@@ -214,6 +219,8 @@ fn run<H: Hall>(alloc: Global, hall: &mut H, file: &str, statement: &Rename) -> 
     ensures durable { IsTrue H.tells → result ≡ 25 → IsDurable (H.meaning hall.new) }
     ensures calls { AttachesOnce 260 1 2 1 (H.calls hall.old) (H.calls hall.new) }
     ensures made { MakesOnly (IsRunCall file.now statement.now (H.facts hall.new).units) (H.made hall.old) (H.made hall.new) }
+    ensures said { result ≡ 21 → (why : MountErr) × H.done hall.new (Printing (unit_line file.now why)) }
+    ensures answered { IsCode result → HasAnswered statement.now result (H.done hall.new) }
     ensures unbegun { result ≡ 21 → AttachesOnce 259 0 0 1 (H.calls hall.old) (H.calls hall.new) }
     ensures unwritten { result ≡ 8 → AttachesOnce 259 0 1 1 (H.calls hall.old) (H.calls hall.new) }
     ensures behind { IsCode result → H.behind_sync hall.new }
@@ -222,6 +229,7 @@ fn run<H: Hall>(alloc: Global, hall: &mut H, file: &str, statement: &Rename) -> 
     ensures unchanged { IsTrue H.tells → result ≡ 25 → (H.meaning hall.new).state ≡ (H.meaning hall.old).state → AttachesOnce 260 0 0 0 (H.calls hall.old) (H.calls hall.new) }
     ensures reads_refused { IsTrue H.tells → result ≡ 8 → AttachesOnce (reads_to_mount (image_named (H.meaning hall.old).state file.now)) 0 1 1 (H.calls hall.old) (H.calls hall.new) }
     ensures reads { IsTrue H.tells → AttachesOnce (reads_to_mount (image_named (H.meaning hall.old).state file.now) + 1) 1 2 1 (H.calls hall.old) (H.calls hall.new) }
+    ensures unmounted { IsTrue H.tells → (why : MountErr) → volume_of (image_named (H.meaning hall.old).state file.now) ≡ Err why → AttachesOnce (reads_to_mount (image_named (H.meaning hall.old).state file.now)) 0 0 1 (H.calls hall.old) (H.calls hall.new) }
     ensures held { IsTrue H.tells → (vol : Vol) → IsMounted (image_named (H.meaning hall.old).state file.now) vol → IsOnLastTrack statement.now vol → AttachesOnce (reads_to_mount (image_named (H.meaning hall.old).state file.now)) 1 2 1 (H.calls hall.old) (H.calls hall.new) }
     ensures idle { IsTrue H.tells → (volume : Volume) → volume_of (image_named (H.meaning hall.old).state file.now) ≡ Ok volume → (item_of (shelf_with volume) statement.now).operations ≡ [] → AttachesOnce (reads_to_mount (image_named (H.meaning hall.old).state file.now)) 0 1 1 (H.calls hall.old) (H.calls hall.new) × (result ≡ 24 → AttachesOnce (reads_to_mount (image_named (H.meaning hall.old).state file.now)) 0 0 1 (H.calls hall.old) (H.calls hall.new)) }
     ensures call { OnFile file.now (H.facts hall.old) (H.facts hall.new) result }
@@ -249,6 +257,7 @@ fn refuse<H: Hall>(alloc: Global, hall: &mut H, file: &str, why: MountErr) -> u8
     ensures later { Later (H.facts hall.old) (H.facts hall.new) }
     ensures calls { CallsAtMost 0 0 0 1 (H.calls hall.old) (H.calls hall.new) }
     ensures made { MakesOnly (IsRefusalPrint file.now why) (H.made hall.old) (H.made hall.new) }
+    ensures done { result ≡ 21 → H.done hall.new (Printing (unit_line file.now why)) }
     ensures devices { (H.facts hall.new).dev_faults ≡ (H.facts hall.old).dev_faults }
     ensures references { (H.facts hall.new).references ≡ (H.facts hall.old).references }
     ensures units { (H.facts hall.new).units ≡ (H.facts hall.old).units }

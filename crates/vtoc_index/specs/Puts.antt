@@ -60,6 +60,10 @@ IsPutCall v slot d buf call =
     ⊎ (((call ≡ Noting v.unit (v.vtoc.start + track_index v.firsts.items slot)) × (¬ HasLengths buf.records (slots_in_front v.firsts.items slot) 44 96))
     ⊎ IsSlotWrite v slot d buf call)
 
+-- of a track just so many records were read, or none
+abbrev pub IsReadUpTo : ℕ → List Record → Type 0
+IsReadUpTo n records = (records ≡ []) ⊎ (length records ≡ n)
+
 -- the buffer of an index holds each slot of the track that is in it
 abbrev pub HoldsItsTrack : Vol → Type 0
 HoldsItsTrack v = (slot : ℕ) → slot < length v.slots.items → v.buf.track ≡ v.vtoc.start + track_index v.firsts.items slot → slots_in_front v.firsts.items slot < length v.buf.records

@@ -2,13 +2,13 @@
 ghost use Rattle.std.specs.Prelude.{◌≡◌, ◌⊎◌, ◌<◌, ◌≤◌, ◌+◌, ◌-◌, [], length, filter, nat_le, slice_index, IsOk, IsTrue, OnOk, OnErr};
 ghost use Rattle.hall_core.specs.Facts.{CallsAtMost, DeviceCall, unit_of};
 ghost use Rattle.hall_core.specs.Files.{image_of};
-ghost use Rattle.hall_core.specs.Made.{MakesOnly, Noting};
+ghost use Rattle.hall_core.specs.Made.{HasDone, MakesOnly, Noting};
 ghost use Rattle.hall_core.specs.Moments.{Same};
 ghost use Rattle.track_records.specs.Calls.{HasTrack, track_read};
 ghost use Rattle.track_records.specs.Updates.{HasLengths};
 ghost use Rattle.track_records.specs.Written.{StandsOn};
 ghost use Rattle.vtoc_index.specs.Index.{AreFirsts, IsIndexOf, IsOfUnit, slots_in_front, track_index};
-ghost use Rattle.vtoc_index.specs.Puts.{AfterPut, HasSlot, HoldsDscb, HoldsSlot, IsHeld, IsPutCall, IsWith};
+ghost use Rattle.vtoc_index.specs.Puts.{AfterPut, HasSlot, HoldsDscb, HoldsSlot, IsHeld, IsPutCall, IsReadUpTo, IsSlotWrite, IsWith};
 
 use crate::vol::Vol;
 use dscb_codec::{Dscb, encode};
@@ -45,9 +45,10 @@ pub fn put_slot<H: Hall>(hall: &mut H, vol: &mut Vol, slot: u32, dscb: &Dscb) ->
     ensures slot { OnOk result (HoldsDscb (slots_in_front vol.old.firsts.items slot) dscb.now vol.new.buf.records) }
     ensures calls { CallsAtMost 1 1 0 0 (H.calls hall.old) (H.calls hall.new) }
     ensures made { MakesOnly (IsPutCall vol.old slot dscb.now vol.new.buf) (H.made hall.old) (H.made hall.new) }
+    ensures done { OnOk result (HasDone (IsSlotWrite vol.old slot dscb.now vol.new.buf) (H.done hall.new)) }
     ensures unwritten { OnErr result (¬ HasLengths vol.new.buf.records (slots_in_front vol.old.firsts.items slot) 44 96 → CallsAtMost 1 0 0 0 (H.calls hall.old) (H.calls hall.new)) }
     ensures again { HoldsSlot vol.old slot → CallsAtMost 0 1 0 0 (H.calls hall.old) (H.calls hall.new) }
-    ensures few { ¬ HoldsSlot vol.old slot → length vol.new.buf.records ≤ slots_in_front vol.old.firsts.items slot + 1 }
+    ensures few { ¬ HoldsSlot vol.old slot → IsReadUpTo (slots_in_front vol.old.firsts.items slot + 1) vol.new.buf.records }
 {
     let place = place_of(vol, slot);
     let bytes = encode(dscb);
@@ -107,7 +108,7 @@ fn hold<H: Hall>(hall: &mut H, unit: u8, place: Place, buf: &mut TrackBuf) -> Re
     ensures track { buf.new.track ≡ place.track }
     ensures lengths { OnOk result (HasLengths buf.new.records (place.number - 1) 44 96) }
     ensures failed { OnErr result (¬ HasLengths buf.new.records (place.number - 1) 44 96) }
-    ensures few { (buf.old.track ≡ place.track → place.number ≤ length buf.old.records → ⊥) → length buf.new.records ≤ place.number }
+    ensures few { (buf.old.track ≡ place.track → place.number ≤ length buf.old.records → ⊥) → IsReadUpTo place.number buf.new.records }
     ensures again { buf.old.track ≡ place.track → place.number ≤ length buf.old.records → (buf.new ≡ buf.old) × CallsAtMost 0 0 0 0 (H.calls hall.old) (H.calls hall.new) }
     ensures stands { IsTrue H.tells → OnOk result (StandsOn (image_of (H.meaning hall.new).state (H.facts hall.new) unit) buf.new) }
     ensures told { IsTrue H.tells → Same (H.meaning hall.old) (H.meaning hall.new) }

@@ -27,6 +27,8 @@ impl<H: Hall> Hall for Cut<H> {
 
     ghost behind_sync = { λ h. H.behind_sync h.hall };
 
+    ghost done = { λ h call. H.done h.hall call };
+
     ghost leaves_state = { λ h. H.leaves_state h.hall };
 
     ghost counts_now = { λ h. H.counts_now h.hall };

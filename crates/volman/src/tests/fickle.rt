@@ -41,6 +41,8 @@ impl Hall for Fickle {
 
     ghost behind_sync = { λ _. Unit {0} };
 
+    ghost done = { λ _ _. Unit {0} };
+
     ghost leaves_state = { λ _. tt };
 
     ghost counts_now = { λ _ _ _ _ _. refl };

@@ -1,11 +1,11 @@
 use Rattle.std.proofs.Common.{◌≡◌, ◌⊎◌, List, ap, arith, ℕ, subst, sym, drop, inl, inr, length-drop, length-take, refl, take}
-use Rattle.track_records.proofs.WriteLemmas.{on_err}
+use Rattle.track_records.proofs.WriteLemmas.{on_err, on_ok}
 use Rattle.vtoc_index.specs.Index.{IsIndexOf, slots_in_front}
 use Rattle.vtoc_index.proofs.BegunLemmas.{same_image}
 use Rattle.vtoc_index.proofs.HeldLemmas.{still_slot}
 use Rattle.hall_core.specs.Facts.{Attached, unit_of}
 use Rattle.hall_core.specs.Files.{image_of}
-use Rattle.hall_core.proofs.MadeLemmas.{makes_as, makes_then}
+use Rattle.hall_core.proofs.MadeLemmas.{done_still, makes_as, makes_then}
 use Rattle.vtoc_index.specs.declared.vol.Vol.{Vol}
 use Rattle.dadsm_ops.specs.Operations.{image_named}
 use Rattle.dadsm_ops.proofs.Writes.{put_fails, put_synced}
@@ -67,3 +67,6 @@ returns-in_err-put_slot-clause-made g c = makes_as c.in_err-put_slot.ensures.mad
 
 pub returns-clause-made : goal.returns-clause-made
 returns-clause-made g c = makes_then c.in_ok-put_slot.ensures.made c.make_durable.ensures.made (λ call is. inl is) (λ call is. inr is)
+
+pub returns-clause-done : goal.returns-clause-done
+returns-clause-done g c = on_ok c.make_durable.result _ (done_still c.in_ok-put_slot.ensures.done c.make_durable.ensures.kept)

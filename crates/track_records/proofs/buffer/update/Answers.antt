@@ -81,3 +81,8 @@ pub returns-clause-made : goal.returns-clause-made
 returns-clause-made g c =
     let w = (goal.at.returns-clause-made g c).After-content in
     subst (λ (made : HallCall). MakesOnly (λ call. call ≡ made) (g.H.Hall.made c.args.hall.now) (g.H.Hall.made c.write.new.self)) (call_is g w) c.in_ok-write.ensures.made
+
+pub returns-clause-done : goal.returns-clause-done
+returns-clause-done g c =
+    let w = (goal.at.returns-clause-done g c).After-content in
+    subst (g.H.Hall.done c.write.new.self) (call_is g w) c.in_ok-write.ensures.done

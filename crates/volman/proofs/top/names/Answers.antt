@@ -3,7 +3,7 @@ use Rattle.dscb_codec.specs.declared.Dscb.{Dscb}
 use Rattle.hall_core.proofs.MadeLemmas.{makes_as, makes_then}
 use Rattle.hall_core.proofs.MomentLemmas.{same_none}
 use Rattle.hall_core.specs.Facts.{Attached}
-use Rattle.hall_core.specs.Made.{MakesOnly, Printing}
+use Rattle.hall_core.specs.Made.{Does, MakesOnly, Printing}
 use Rattle.hall_core.specs.Moments.{Same}
 use Rattle.volman.specs.Lines.{names_listing}
 use Rattle.vtoc_index.specs.Index.{IsOfUnit}
@@ -62,3 +62,11 @@ returns-clause-made g c =
     makes_then (subst (λ (us : List Attached). MakesOnly (IsMountCall c.args.file.now us) (made c.args.hall.now) (made c.mount.new.hall)) units c.mount.ensures.made) c.refuse.ensures.made
     (λ call is. inl is)
     (λ call is. inr (inl (c.in-Err.why, is)))
+
+-- the names were printed
+pub returns-in-Ok-names_text-clause-listed : goal.returns-in-Ok-names_text-clause-listed
+returns-in-Ok-names_text-clause-listed g c done =
+    let listed = c.in-Ok-names_text.ensures in
+    let lists = subst (λ (ds : List Dscb). IsListing (names_in ds) listed.0) c.deref.ensures.value listed.1 in
+    let text : c.deref-in-Ok-names_text.result.now ≡ names_listing listed.0 = c.deref-in-Ok-names_text.ensures.value ∙ listed.2 in
+    (c.in-Ok.vol.slots.items, Does _ (listed.0, lists, ap Printing text) (c.end.ensures.done (λ is. omega (arith, done, is))))

@@ -1,4 +1,4 @@
-use Rattle.std.proofs.Common.{rules, arith, ◌≡◌, ◌<◌, ◌+◌, inl, inr, List, ℕ, [], ◌∷◌, length, Option, Ok, ap, sym, subst, ◌∙◌}
+use Rattle.std.proofs.Common.{rules, arith, ◌≡◌, ◌<◌, ◌+◌, inl, inr, List, ℕ, [], ◌∷◌, length, get_or, Option, Ok, ap, sym, subst, ◌∙◌}
 use Rattle.std.specs.Prelude.{unwrap_or}
 use Rattle.std.proofs.lemmas.List.Quantifiers.{position-Some}
 use Rattle.dscb_codec.specs.declared.Dscb.TheVariants.{F0}
@@ -90,9 +90,8 @@ returns-in-Ok-clause-made g c =
     makes_then (subst (λ (us : List Attached). MakesOnly (IsMountCall c.args.file.now us) (made c.args.hall.now) (made c.mount.new.hall)) units c.mount.ensures.made) c.run_statement-status.ensures.made
     (λ call is. inl is)
     (λ call is. inr (inr (found, subst (λ (us : List Attached). IsOfUnit us found) units c.in-Ok.ensures.unit.0, is))) in
-    let at : (hall : _) → hall ≡ ended → MakesOnly (IsRunCall c.args.file.now c.args.statement.now (g.H.Hall.facts hall).units) (made c.args.hall.now) (made hall) =
-    λ hall is. subst (λ h. MakesOnly (IsRunCall c.args.file.now c.args.statement.now (g.H.Hall.facts h).units) (made c.args.hall.now) (made h)) (sym is) behind in
-    search (rules, at)
+    let borrowed = sym (ap (λ (l : List ℕ). get_or l 0 0) c.run_statement-status.ensures.references) in
+    subst (λ h. MakesOnly (IsRunCall c.args.file.now c.args.statement.now (g.H.Hall.facts h).units) (made c.args.hall.now) (made h)) (sym (c.hall-1.given.1 borrowed)) behind
 
 pub returns-in-Err-clause-made : goal.returns-in-Err-clause-made
 returns-in-Err-clause-made g c =

@@ -1,12 +1,18 @@
-use Rattle.std.proofs.Common.{◌≡◌, ◌∙◌, inl, inr, ⊎_elim, sym, ap, subst, Err, Some, arith}
+use Rattle.std.proofs.Common.{◌≡◌, ◌∙◌, ℕ, List, inl, inr, ⊎_elim, sym, ap, subst, Err, Some, arith}
 use Rattle.std.specs.Prelude.{◌⊎◌, Option}
 use Rattle.hall_core.proofs.MomentLemmas.{same_none}
+use Rattle.dadsm_ops.specs.Operations.{image_named}
+use Rattle.hall_core.specs.Facts.{AttachesOnce}
 use Rattle.hall_core.specs.Files.{file_of}
 use Rattle.hall_core.specs.Moments.{IsDurable}
+use Rattle.util_syntax.specs.declared.statement.Rename.{Rename}
+use Rattle.vtoc_index.specs.Calls.{reads_to_mount}
+use Rattle.vtoc_index.specs.Index.{IsMounted}
 use Rattle.volman.specs.Action.{request_in}
+use Rattle.volman.specs.Mount.{IsOnLastTrack}
 use Rattle.volman.specs.Lines.{deck_line, words_line}
 use Rattle.volman.specs.Run.{AttachesAsked, IsFinal}
-use Rattle.volman.specs.Words.{Request}
+use Rattle.volman.specs.Words.{Request, Names, Run}
 use Rattle.volman.proofs.CallsMade.{makes_of}
 use Rattle.volman.proofs.Tasks.{text_said}
 use Rattle.volman.proofs.WordLemmas.{asked_as}
@@ -94,3 +100,64 @@ unfolding deck_line
 returns-in-Err-Form-clause-made g c =
     let asked = asked_as c.in-Ok.is c.deref.ensures.value (sym c.in-Some-Run.ensures ∙ ap (λ a. Some (request_in a)) c.in-Some-Run.field-0-is) in
     makes_of _ _ asked c.end-in-Err-Form.ensures.made (λ call is. inl ((λ tells. c.read_deck.ensures.form tells (c.in-Err-Form.is ∙ ap Err c.in-Err-Form.field-0-is)), is))
+
+-- what was printed and written behind each
+pub returns-in-None-clause-said : goal.returns-in-None-clause-said
+unfolding words_line
+returns-in-None-clause-said g c =
+    let which = c.end.ensures.which in
+    record {
+      words = λ is. c.end.ensures.done (λ no. omega (arith, is, no));
+      deck = λ is. absurd (omega (arith, which, is));
+      file = λ is. absurd (omega (arith, which, is));
+      names = λ code. absurd (omega (arith, which, code));
+      answer = λ code. absurd (omega (arith, which, code));
+    }
+
+pub returns-in-Some-Names-clause-said : goal.returns-in-Some-Names-clause-said
+returns-in-Some-Names-clause-said g c =
+    let asked = asked_as c.in-Ok.is c.deref.ensures.value (sym c.in-Some-Names.ensures ∙ ap (λ a. Some (request_in a)) c.in-Some-Names.field-0-is) in
+    let which = c.names.ensures.call.which in
+    record {
+      words = λ is. absurd (omega (arith, which, is));
+      deck = λ is. absurd (omega (arith, which, is));
+      file = λ is. (Names c.in-Some-Names.file.now, asked, c.names.ensures.refused is);
+      names = λ code file is. c.names.ensures.listed (⊎_elim (λ done. done) (λ refused. absurd (c.names.ensures.code refused)) code);
+      answer = λ code file is. let other : Some (Names c.in-Some-Names.file.now) ≡ Some (Run file) = sym asked ∙ is in absurd (cc);
+    }
+
+pub returns-in-Ok-read_deck-clause-said : goal.returns-in-Ok-read_deck-clause-said
+returns-in-Ok-read_deck-clause-said g c =
+    let asked = asked_as c.in-Ok.is c.deref.ensures.value (sym c.in-Some-Run.ensures ∙ ap (λ a. Some (request_in a)) c.in-Some-Run.field-0-is) in
+    let which = c.run.ensures.call.which in
+    record {
+      words = λ is. absurd (omega (arith, which, is));
+      deck = λ is. absurd (omega (arith, which, is));
+      file = λ is. (Run c.in-Some-Run.file.now, asked, c.run.ensures.said is);
+      names = λ code file is. let other : Some (Run c.in-Some-Run.file.now) ≡ Some (Names file) = sym asked ∙ is in absurd (cc);
+      answer = λ code file is. (c.in-Ok-read_deck.statement, (λ tells. (c.in-Ok-read_deck.ensures.deck tells).0), c.run.ensures.answered code);
+    }
+
+pub returns-in-Err-Form-clause-said : goal.returns-in-Err-Form-clause-said
+unfolding deck_line
+returns-in-Err-Form-clause-said g c =
+    let which = c.end-in-Err-Form.ensures.which in
+    record {
+      words = λ is. absurd (omega (arith, which, is));
+      deck = λ is. c.end-in-Err-Form.ensures.done (λ no. omega (arith, is, no));
+      file = λ is. absurd (omega (arith, which, is));
+      names = λ code. absurd (omega (arith, which, code));
+      answer = λ code. absurd (omega (arith, which, code));
+    }
+
+pub returns-in-Ok-read_deck-clause-reads_held : goal.returns-in-Ok-read_deck-clause-reads_held
+returns-in-Ok-read_deck-clause-reads_held g c told tells file is statement read vol mounted last =
+    let state = (g.H.Hall.meaning c.args.hall.now).state in
+    let calls = g.H.Hall.calls in
+    let asked = asked_as c.in-Ok.is c.deref.ensures.value (sym c.in-Some-Run.ensures ∙ ap (λ a. Some (request_in a)) c.in-Some-Run.field-0-is) in
+    let both : Some (Run c.in-Some-Run.file.now) ≡ Some (Run file) = sym asked ∙ is in
+    let at : c.in-Some-Run.file.now ≡ file = cc in
+    let decks : Some c.in-Ok-read_deck.statement ≡ Some statement = sym (c.in-Ok-read_deck.ensures.deck tells).0 ∙ read in
+    let same : c.in-Ok-read_deck.statement ≡ statement = cc in
+    subst (λ (f : List ℕ). AttachesOnce (reads_to_mount (image_named state f)) 1 2 1 (calls c.args.hall.now) (calls c.run.new.hall)) at
+    (c.run.ensures.held told vol (subst (λ (f : List ℕ). IsMounted (image_named state f) vol) (sym at) mounted) (subst (λ (s : Rename). IsOnLastTrack s vol) (sym same) last))

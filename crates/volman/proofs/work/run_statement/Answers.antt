@@ -1,8 +1,7 @@
 use Rattle.std.proofs.Common.{◌≡◌, ◌∙◌, inl, inr, ⊎_elim, ℕ, ◌≤◌, List, [], ◌∷◌, Ok, IsErrOf, refl, sym, ap, subst, arith, rules}
-use Rattle.std.specs.Prelude.{IfSome, Option, Some, None}
 use Rattle.hall_core.specs.Facts.{CallsAtMost, unit_of}
 use Rattle.hall_core.specs.Files.{File, image_of}
-use Rattle.hall_core.specs.Made.{MakesOnly, Syncing}
+use Rattle.hall_core.specs.Made.{MakesOnly, StaysDone, Syncing}
 use Rattle.hall_core.specs.Steps.{seen}
 use Rattle.hall_core.proofs.MadeLemmas.{makes_as, makes_then}
 use Rattle.pack_spec.specs.Volume.{volume_of}
@@ -18,15 +17,11 @@ use Rattle.volman.specs.Machine.{ChangesOnlyNames, HoldsFor, MayMake, shelf_in, 
 use Rattle.volman.specs.Made.{IsStatementCall}
 use Rattle.volman.specs.Run.{IsCalmSince, StopStands, Synced, WorksOn}
 use Rattle.volman.specs.Statement.{item_of, operation_on}
+use Rattle.volman.proofs.CallsMade.{has_answered, some_is}
 use Rattle.volman.proofs.Machines.{same_base, same_unit_name}
 use Rattle.volman.proofs.Works.{cut_by, durable_behind, has_worked, has_worked_unprinted, have_line, stops_worked, works_failed, works_finished, works_unprinted}
 use Rattle.volman.proofs.work.run_statement.Goals as goal
 use Rattle.volman.proofs.work.run_statement.Goals.{in-Ok, in-Err-Device, in-Err-Print, in-Err-Memory}
-
--- what holds of a number that is there, if there is one
-some_is : (volume : Option ℕ) (P : ℕ → Type 0) → IfSome volume P → (v : ℕ) → volume ≡ Some v → P v
-some_is None P holds v is = absurd (cc is)
-some_is (Some n) P holds v is = let same : n ≡ v = cc in subst P same holds
 
 pub returns-clause-does : goal.returns-clause-does
 returns-clause-does g c told =
@@ -200,4 +195,20 @@ returns-clause-made g c =
       | in-Err-Device w ↦ kept w.hall-is
       | in-Err-Print w ↦ kept w.hall-is
       | in-Err-Memory w ↦ kept w.hall-is
+    ]
+
+pub returns-clause-answered : goal.returns-clause-answered
+returns-clause-answered g c is =
+    let done = g.H.Hall.done in
+    let statement = c.args.statement.now in
+    let new = c.run_rename-ran.new.machine in
+    elim c.match-ran.branch [
+      | in-Ok w ↦
+          let same : c.match-ran.status ≡ w.in-Ok.code = ⊎_elim (λ ok. w.status-is ∙ ok) (λ (fault : w.finish-status.result ≡ 22). let status : c.match-ran.status ≡ 22 = w.status-is ∙ fault in absurd (omega (arith, is, status))) w.finish-status.ensures.status in
+          let kept : StaysDone (done new.hall) (done c.match-ran.hall) =
+          subst (λ h. StaysDone (done new.hall) (done h)) (sym w.hall-is) (subst (λ h. StaysDone (done h) (done w.finish-status.new.hall)) c.close-hall.ensures w.finish-status.ensures.kept) in
+          has_answered statement c.number_of-volume.result c.open-machine.result.vol w.in-Ok.code c.match-ran.status (done new.hall) (done c.match-ran.hall) same c.number_of-volume.ensures.found w.in-Ok.ensures.done w.in-Ok.ensures.answered kept
+      | in-Err-Device w ↦ let status : c.match-ran.status ≡ 22 = w.status-is ∙ w.code-status.ensures in absurd (omega (arith, is, status))
+      | in-Err-Print w ↦ let status : c.match-ran.status ≡ 24 = w.status-is ∙ w.code-status-in-Err-Print.ensures in absurd (omega (arith, is, status))
+      | in-Err-Memory w ↦ let status : c.match-ran.status ≡ 25 = w.status-is ∙ w.code-status-in-Err-Memory.ensures in absurd (omega (arith, is, status))
     ]

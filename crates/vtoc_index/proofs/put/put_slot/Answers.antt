@@ -1,10 +1,10 @@
-use Rattle.std.proofs.Common.{◌≡◌, ◌≤◌, ◌+◌, ◌-◌, ◌++◌, List, length, IsTrue, refl, rules, inr, ℕ, ap, subst, sym, ◌∙◌, arith, take, length-take, length-drop}
+use Rattle.std.proofs.Common.{◌≡◌, ◌+◌, ◌-◌, ◌++◌, List, length, IsTrue, refl, rules, inl, inr, ⊎_elim, ℕ, ap, subst, sym, ◌∙◌, arith, take, length-take, length-drop}
 use Rattle.std.proofs.lemmas.List.{take-append-drop}
 use Rattle.std.proofs.lemmas.Result.{IfOk-from_err}
 use Rattle.ckd_image.specs.declared.header.Geometry.{Geometry}
 use Rattle.hall_core.specs.Facts.{Attached, unit_of}
 use Rattle.hall_core.specs.Files.{image_of, patched}
-use Rattle.hall_core.specs.Made.{MakesOnly}
+use Rattle.hall_core.specs.Made.{Does, HallCall, MakesOnly, Writing}
 use Rattle.hall_core.proofs.MadeLemmas.{makes_as, makes_then}
 use Rattle.track_records.specs.Buffers.{Buffer}
 use Rattle.track_records.specs.Updates.{HasLengths, with_parts}
@@ -12,12 +12,12 @@ use Rattle.track_records.specs.Written.{StandsOn, place_of}
 use Rattle.track_records.proofs.UpdateLemmas.{lengths_there}
 use Rattle.track_records.proofs.WriteLemmas.{on_err, same_write, write_done, write_failed}
 use Rattle.vtoc_index.specs.Index.{IsPut, place_of_slot}
-use Rattle.vtoc_index.specs.Puts.{HasSlot, HoldsSlot, IsHeld, IsPutCall, IsReplaced}
+use Rattle.vtoc_index.specs.Puts.{HasSlot, HoldsSlot, IsHeld, IsPutCall, IsReadUpTo, IsReplaced, IsSlotWrite}
 use Rattle.std.specs.Vec.{with_item}
 use Rattle.dscb_codec.specs.declared.Dscb.{Dscb}
 use Rattle.vtoc_index.proofs.BegunLemmas.{after_same, not_begun, same_image}
 use Rattle.vtoc_index.proofs.HeldLemmas.{count_kept, still_slot}
-use Rattle.vtoc_index.proofs.PutCalls.{put_reads, put_writes}
+use Rattle.vtoc_index.proofs.PutCalls.{put_reads, slot_write}
 use Rattle.vtoc_index.proofs.PutLaw.{front_of, held_place, index_put, slot_found, slot_put, track_of}
 use Rattle.vtoc_index.proofs.put.put_slot.Given.{Over}
 use Rattle.vtoc_index.proofs.put.put_slot.Goals as goal
@@ -163,12 +163,22 @@ returns-clause-slot g c =
     }
 
 -- where the buffer holds no slot, it holds no more than up to the slot then, and a write leaves it as many records
-few_then : (g : Over) (c : After-update g) → ¬ HoldsSlot c.args.vol.now c.args.slot → length c.update.new.buf.records ≤ front_of c.args.vol.now c.args.slot + 1
+few_then : (g : Over) (c : After-update g) → ¬ HoldsSlot c.args.vol.now c.args.slot → IsReadUpTo (front_of c.args.vol.now c.args.slot + 1) c.update.new.buf.records
 few_then g c not =
     let place = c.place_of-place in
-    let low = c.in_ok-hold.ensures.few (λ track number. not (track ∙ place.ensures.track, omega (arith, number, place.ensures.number))) in
-    let same : length c.update.new.buf.records ≡ length c.hold.new.buf.records = ap (λ (x : Buffer). length x.records) c.update.ensures.buffer ∙ count_kept (place.result.number - 1) c.split_at.result.0.now c.split_at.result.1.now c.hold.new.buf.records in
-    omega (arith, low, same, place.ensures.number)
+    let number = place.result.number - 1 in
+    let held = c.hold.new.buf.records in
+    let same : c.update.new.buf.records ≡ with_parts number c.split_at.result.0.now c.split_at.result.1.now held = ap (λ (x : Buffer). x.records) c.update.ensures.buffer in
+    ⊎_elim
+    (λ none. inl (same ∙ ap (with_parts number c.split_at.result.0.now c.split_at.result.1.now) none))
+    (λ all. inr (ap length same ∙ count_kept number c.split_at.result.0.now c.split_at.result.1.now held ∙ all ∙ place.ensures.number))
+    (c.in_ok-hold.ensures.few (λ track number. not (track ∙ place.ensures.track, omega (arith, number, place.ensures.number))))
+
+pub returns-in_err-hold-clause-few : goal.returns-in_err-hold-clause-few
+returns-in_err-hold-clause-few g c not =
+    let place = c.place_of-place in
+    subst (λ (n : ℕ). IsReadUpTo n c.hold.new.buf.records) place.ensures.number
+    (c.in_err-hold.ensures.few (λ track number. not (track ∙ place.ensures.track, omega (arith, number, place.ensures.number))))
 
 pub returns-in_err-update-clause-few : goal.returns-in_err-update-clause-few
 returns-in_err-update-clause-few g c = few_then g (goal.at.returns-in_err-update-clause-few g c).After-update
@@ -187,6 +197,13 @@ returns-in_err-hold-clause-made g c =
     (put_reads v c.args.slot (place.result.number - 1) c.args.dscb.now c.hold.new.buf c.hold.new.buf v.buf.geometry place.result.track c.requires.unit.buffer.0 place.ensures.track
     (λ none. subst (λ (n : ℕ). ¬ HasLengths c.hold.new.buf.records n 44 96) front none))
 
+write_is : (g : Over) (c : After-update g) (call : HallCall) → call ≡ Writing c.hold.new.buf.unit (place_of c.hold.new.buf (c.place_of-place.result.number - 1)) (c.split_at.result.0.now ++ c.split_at.result.1.now) → IsSlotWrite c.args.vol.now c.args.slot c.args.dscb.now c.update.new.buf call
+write_is g c =
+    let place = c.place_of-place in
+    slot_write c.args.vol.now c.args.slot (place.result.number - 1) c.args.dscb.now c.hold.new.buf c.update.new.buf c.split_at.result.0.now c.split_at.result.1.now c.encode-bytes.result c.update.ensures.buffer
+    (c.in_ok-hold.ensures.kept.0 ∙ c.requires.unit.buffer.0, c.in_ok-hold.ensures.kept.1 ∙ c.requires.unit.buffer.1)
+    (c.in_ok-hold.ensures.track ∙ place.ensures.track) (front_is g c) (bytes_is g c) c.encode-bytes.ensures.fields (search rules) c.update.ensures.inside
+
 made_then : (g : Over) (c : After-update g) → MakesOnly (IsPutCall c.args.vol.now c.args.slot c.args.dscb.now c.update.new.buf) (g.H.Hall.made c.args.hall.now) (g.H.Hall.made c.update.new.hall)
 made_then g c =
     let v = c.args.vol.now in
@@ -194,12 +211,15 @@ made_then g c =
     let place = c.place_of-place in
     makes_then c.in_ok-hold.ensures.made c.update.ensures.made
     (put_reads v c.args.slot (place.result.number - 1) c.args.dscb.now b c.update.new.buf v.buf.geometry place.result.track c.requires.unit.buffer.0 place.ensures.track (λ none. absurd (none c.in_ok-hold.ensures.lengths)))
-    (put_writes v c.args.slot (place.result.number - 1) c.args.dscb.now b c.update.new.buf c.split_at.result.0.now c.split_at.result.1.now c.encode-bytes.result c.update.ensures.buffer
-    (c.in_ok-hold.ensures.kept.0 ∙ c.requires.unit.buffer.0, c.in_ok-hold.ensures.kept.1 ∙ c.requires.unit.buffer.1)
-    (c.in_ok-hold.ensures.track ∙ place.ensures.track) (front_is g c) (bytes_is g c) c.encode-bytes.ensures.fields (search rules) c.update.ensures.inside)
+    (λ call is. inr (inr (write_is g c call is)))
 
 pub returns-in_err-update-clause-made : goal.returns-in_err-update-clause-made
 returns-in_err-update-clause-made g c = made_then g (goal.at.returns-in_err-update-clause-made g c).After-update
 
 pub returns-clause-made : goal.returns-clause-made
 returns-clause-made g c = made_then g (goal.at.returns-clause-made g c).After-update
+
+pub returns-clause-done : goal.returns-clause-done
+returns-clause-done g c =
+    let w = (goal.at.returns-clause-done g c).After-update in
+    Does _ (write_is g w _ refl) c.in_ok-update.ensures.done

@@ -1,5 +1,5 @@
 use Rattle.std.proofs.Common.{ap, ◌∙◌, refl, Err, rules}
-use Rattle.hall_core.proofs.MadeLemmas.{makes_as}
+use Rattle.hall_core.proofs.MadeLemmas.{done_as, makes_as}
 use Rattle.volman.proofs.Machines.{applies_zero, applies_done, applies_elsewhere, applies_fault, applies_refused, keeps_all, keeps_begun, keeps_idle, keeps_promise, kept_at, promises_at, puts_failed}
 use Rattle.vtoc_index.proofs.KeptLemmas.{mounted_of}
 use Rattle.volman.proofs.machine.PackMachine.rename.Goals as goal
@@ -70,3 +70,6 @@ returns-in-Ok-clause-made g c = makes_as c.rename.ensures.made (λ call is. (c.i
 
 pub returns-in-Err-Device-clause-made : goal.returns-in-Err-Device-clause-made
 returns-in-Err-Device-clause-made g c = makes_as c.rename.ensures.made (λ call is. (c.if-v-ne0.false, is))
+
+pub returns-in-Ok-clause-done : goal.returns-in-Ok-clause-done
+returns-in-Ok-clause-done g c = done_as c.in-Ok.ensures.done (λ call is. (c.if-v-ne0.false, is))

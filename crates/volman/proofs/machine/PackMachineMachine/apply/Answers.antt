@@ -1,12 +1,12 @@
 -- An operation is one of its variants.
-use Rattle.std.specs.Prelude.{◌≡◌, ℕ, List, [], ◌∷◌, Result}
+use Rattle.std.specs.Prelude.{◌≡◌, ℕ, List, [], ◌∷◌, Result, OnOk}
 use Rattle.std.proofs.Common.{rules, subst, sym}
 use Rattle.ebcdic_names.specs.declared.names.Dsn.{Dsn}
 use Rattle.hall_core.specs.Facts.{Calls, unit_of}
 use Rattle.hall_core.specs.Files.{File}
-use Rattle.hall_core.specs.Made.{HallCall, MakesOnly}
+use Rattle.hall_core.specs.Made.{HallCall, HasDone, MakesOnly}
 use Rattle.hall_core.specs.Moments.{Meaning}
-use Rattle.hall_core.proofs.MadeLemmas.{makes_as}
+use Rattle.hall_core.proofs.MadeLemmas.{done_as, makes_as}
 use Rattle.hall_core.specs.Steps.{seen}
 use Rattle.vol_model.specs.Calls.{Applies, IsIdle, Keeps}
 use Rattle.vol_model.specs.Shelf.{step}
@@ -16,7 +16,8 @@ use Rattle.vol_model.specs.declared.requests.Op.{Op}
 use Rattle.vol_model.specs.declared.requests.Op.TheVariants.{Rename}
 use Rattle.track_records.specs.Buffers.{Buffer}
 use Rattle.vtoc_index.specs.declared.vol.Vol.{Vol}
-use Rattle.volman.specs.Machine.{ChangesOnlyNames, HoldsFor, IsOperationCall, KeepsIndex, OperationCalls, shelf_named}
+use Rattle.volman.specs.Machine.{ChangesOnlyNames, HoldsFor, IsOperationCall, IsOperationWrite, KeepsIndex, OperationCalls, shelf_named}
+use Rattle.volman.proofs.CallsMade.{ok_as}
 use Rattle.volman.proofs.machine.PackMachineMachine.apply.Goals as goal
 
 for_rename : {T : Type 0} {result : Result T MachErr} (shelf : Shelf) (v : ℕ) (old new : Dsn) (op : Op) → op ≡ Rename v old new → IsIdle (step shelf op) result → IsIdle (step shelf (Rename v old new)) result
@@ -58,6 +59,15 @@ returns-clause-put g c = made_as _ _ _ c.args.op.now (search rules) c.args.self.
 
 pub returns-clause-made : goal.returns-clause-made
 returns-clause-made g c = makes_as (returns-clause-put g c) (λ call is. (c.rename.new.self.vol.buf, is))
+
+written_as : {T : Type 0} (result : Result T MachErr) (v : ℕ) (from to : Dsn) (op : Op) → op ≡ Rename v from to → (before : Vol) (buf : Buffer) (done : HallCall → Type 0) → OnOk result (HasDone (IsOperationWrite (Rename v from to) before buf) done) → OnOk result (HasDone (IsOperationWrite op before buf) done)
+written_as result v from to op is before buf done = subst (λ (o : Op). OnOk result (HasDone (IsOperationWrite o before buf) done)) (sym is)
+
+pub returns-clause-written : goal.returns-clause-written
+returns-clause-written g c = written_as c.rename.result _ _ _ c.args.op.now (search rules) c.args.self.now.vol c.rename.new.self.vol.buf (g.H.Hall.done c.rename.new.self.hall) c.rename.ensures.done
+
+pub returns-clause-done : goal.returns-clause-done
+returns-clause-done g c = ok_as c.rename.result (returns-clause-written g c) (λ written. done_as written (λ call is. (c.args.self.now.vol, (c.rename.new.self.vol.buf, is))))
 
 held_as : (v : ℕ) (from to : Dsn) (op : Op) → op ≡ Rename v from to → (vol : Vol) → HoldsFor op vol → HoldsFor (Rename v from to) vol
 held_as v from to op is vol = subst (λ (o : Op). HoldsFor o vol) is

@@ -1,3 +1,4 @@
+use Rattle.hall_core.proofs.MadeLemmas.{done_still}
 use Rattle.volman.proofs.Machines.{keeps_printed, printed_at, prints_at, prints_done, prints_failed}
 use Rattle.volman.proofs.machine.PackMachineMachine.print.Goals as goal
 
@@ -12,3 +13,9 @@ returns-in-Err-clause-shelf g c told = prints_at _ _ c.args.self.now.vol.unit c.
 
 pub returns-in-Err-clause-promise : goal.returns-in-Err-clause-promise
 returns-in-Err-clause-promise g c told = printed_at _ _ c.args.self.now.vol.unit c.print.ensures.call.units (g.H.Hall.meaning c.args.self.now.hall) (g.H.Hall.meaning c.print.new.self) (keeps_printed (g.met.H.Hall.counts_now c.args.self.now.hall) (c.print.ensures.told told))
+
+pub returns-in-Ok-clause-kept : goal.returns-in-Ok-clause-kept
+returns-in-Ok-clause-kept g c op was = done_still was c.print.ensures.kept
+
+pub returns-in-Err-clause-kept : goal.returns-in-Err-clause-kept
+returns-in-Err-clause-kept g c op was = done_still was c.print.ensures.kept
