@@ -7,11 +7,11 @@ use Rattle.dscb_codec.specs.declared.Dscb.{Dscb}
 use Rattle.dscb_codec.specs.declared.Dscb.TheVariants as formats
 use Rattle.dscb_codec.specs.Layout.{IsDscb}
 use Rattle.hall_core.specs.Facts.{Calls, CallsAtMost, uncounted}
-use Rattle.hall_core.specs.Made.{HallCall, Printing, Syncing, Writing}
+use Rattle.hall_core.specs.Made.{Does, HallCall, HasDone, Printing, Syncing, Writing}
 use Rattle.track_records.specs.Updates.{HasLengths}
 use Rattle.vtoc_index.specs.Contents.{AreDscbs}
 use Rattle.vtoc_index.specs.Index.{slots_in_front, track_index}
-use Rattle.vtoc_index.specs.Puts.{HoldsDscb, HoldsSlot, IsReadUpTo}
+use Rattle.vtoc_index.specs.Puts.{Held, HoldsDscb, HoldsSlot, IsPutCall, IsReadUpTo}
 use Rattle.vtoc_index.specs.declared.vol.Vol.{Vol}
 use Rattle.vtoc_index.proofs.HeldLemmas.{key_held}
 use Rattle.vtoc_index.proofs.PutCases.{c_stands}
@@ -212,35 +212,58 @@ module _ (any : Vol) where
     λ calls. let wrong : 0xC2 ≡ 0xC3 = same_first (take 44 (data_set b)) c (key_there c 2 (set_record c ∷ set_record b ∷ []) (calls.synced (omega arith)).1) in omega (arith, wrong),
   )
 
-  -- A rename makes a sync, and what puts the slot of A with its DSCB under C.
-  calls_of_a_rename : IsRenameCall a c (index any) (later c 2 both_sets).buf Syncing × IsRenameCall a c (index any) (later c 2 both_sets).buf (Writing 0 8881 (data_set c)) × (¬ IsRenameCall a c (index any) (later c 2 both_sets).buf (Printing []))
-  unfolding later both_sets set_record
-  calls_of_a_rename = (
-    inl refl,
-    inr (record { slot = 3; found = to_rename; dscb = formats.F1 (f1 a); held = refl; puts = inr (inr (record { bytes = data_set c; dscb = c_stands; size = refl; at = 8881; place = refl; behind = omega arith; inside = omega arith; writes = refl })) }),
-    ⊎_elim (λ is. cc is) (λ names. ⊎_elim (λ is. cc is) (⊎_elim (λ is. let no = is.0 in cc no) (λ is. let no = is.writes in cc no)) names.puts),
-  )
+  -- nothing is known to be done, or that C was written
+  nothing : HallCall → Type 0
+  nothing call = ⊥
+
+  wrote_c : HallCall → Type 0
+  wrote_c call = call ≡ Writing 0 8881 (data_set c)
 
   -- The write of a rename is that of the slot, and no sync.
-  write_of_a_rename : WritesSlotNamed a c (index any) (later c 2 both_sets).buf (Writing 0 8881 (data_set c)) × (¬ WritesSlotNamed a c (index any) (later c 2 both_sets).buf Syncing)
-  unfolding later both_sets set_record
-  write_of_a_rename = (
-    record { slot = 3; found = to_rename; dscb = formats.F1 (f1 a); held = refl; writes = record { bytes = data_set c; dscb = c_stands; size = refl; at = 8881; place = refl; behind = omega arith; inside = omega arith; writes = refl } },
+  write_of_a_rename : (done : HallCall → Type 0) → WritesSlotNamed a c (before 2 both_sets) done (Writing 0 8881 (data_set c)) × (¬ WritesSlotNamed a c (before 2 both_sets) done Syncing)
+  unfolding before both_sets set_record
+  write_of_a_rename done = (
+    record {
+      slot = 3;
+      found = to_rename;
+      dscb = formats.F1 (f1 a);
+      held = refl;
+      writes = record { bytes = data_set c; dscb = c_stands; size = refl; buf = (before 2 both_sets).buf; seen = Held (refl, omega arith) refl; lengths = (refl, refl); at = 8881; place = refl; inside = omega arith; writes = refl };
+    },
     λ names. let no = names.writes.writes in cc no,
   )
 
-  -- What is written is the DSCB under C: not the one of A, and not where B stands.
-  old_name_is_written : ¬ IsRenameCall a c (index any) (later c 2 both_sets).buf (Writing 0 8881 (data_set a))
-  unfolding later both_sets set_record
+  -- A rename writes the slot of A with its DSCB under C, and makes a sync behind that: not before it, and no print.
+  calls_of_a_rename :
+      IsRenameCall a c (before 2 both_sets) nothing (Writing 0 8881 (data_set c))
+      × IsRenameCall a c (before 2 both_sets) wrote_c Syncing
+      × (¬ IsRenameCall a c (before 2 both_sets) nothing Syncing)
+      × (¬ IsRenameCall a c (before 2 both_sets) wrote_c (Printing []))
+  unfolding nothing wrote_c
+  calls_of_a_rename = (
+    (let writes = (write_of_a_rename nothing).0 in inl (record { slot = writes.slot; found = writes.found; dscb = writes.dscb; held = writes.held; puts = inr (inr writes.writes) })),
+    inr (refl, Does _ (write_of_a_rename wrote_c).0 refl),
+    ⊎_elim (λ names. puts_not_sync names.puts) (λ synced. none_done synced.1),
+    ⊎_elim (λ names. ⊎_elim (λ is. let no = is.0 in cc no) (⊎_elim (λ is. let no = is.0 in cc no) (λ is. let no = is.writes in cc no)) names.puts) (λ synced. let no = synced.0 in cc no),
+  )
+    where
+      puts_not_sync : {v : Vol} {slot : ℕ} {d : Dscb} {done : HallCall → Type 0} → ¬ IsPutCall v slot d done Syncing
+      puts_not_sync = ⊎_elim (λ is. let no = is.0 in cc no) (⊎_elim (λ is. let no = is.0 in cc no) (λ is. let no = is.writes in cc no))
+
+      none_done : {these : HallCall → Type 0} → ¬ HasDone these (λ call. ⊥)
+      none_done (Does call is was) = was
+
+  -- What is written is the DSCB under C: not the one of A.
+  old_name_is_written : ¬ IsRenameCall a c (before 2 both_sets) wrote_c (Writing 0 8881 (data_set a))
+  unfolding before
   old_name_is_written =
       ⊎_elim
-      (λ is. cc is)
       (λ names.
       let slot = sym (renames_the_fourth names.slot names.found) in
       let held : Some (formats.F1 (f1 a)) ≡ Some names.dscb = subst (λ (n : ℕ). slice_get (index any).slots.items n ≡ Some names.dscb) slot names.held in
       let dscb : names.dscb ≡ formats.F1 (f1 a) = cc in
       ⊎_elim
-      (λ is. cc is)
+      (λ is. let no = is.0 in cc no)
       (⊎_elim
       (λ is. let no = is.0 in cc no)
       (λ is.
@@ -249,6 +272,7 @@ module _ (any : Vol) where
       let wrong : 0xC1 ≡ 0xC3 = ap (λ (l : List ℕ). get_or (take 44 l) 0 0) bytes ∙ ap (λ (l : List ℕ). get_or l 0 0) stands.0 in
       omega (arith, wrong)))
       names.puts)
+      (λ synced. let no = synced.0 in cc no)
     where
       bytes_in : HallCall → List ℕ
       bytes_in (Writing unit at bytes) = bytes

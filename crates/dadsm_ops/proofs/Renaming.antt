@@ -10,11 +10,11 @@ use Rattle.dscb_codec.specs.Layout.{IsDscb}
 use Rattle.ebcdic_names.specs.declared.names.Dsn.{Dsn}
 use Rattle.hall_core.specs.Facts.{Calls, CallsAtMost}
 use Rattle.hall_core.specs.Files.{File}
-use Rattle.hall_core.specs.Made.{HallCall, Syncing}
+use Rattle.hall_core.specs.Made.{HallCall, HasDone, StaysDone, Syncing}
 use Rattle.hall_core.specs.Moments.{Meaning}
+use Rattle.hall_core.proofs.MadeLemmas.{done_as, done_still}
 use Rattle.hall_core.proofs.StepLemmas.{done_step, failed_step}
 use Rattle.pack_spec.specs.Volume.{volume_of}
-use Rattle.track_records.specs.Buffers.{Buffer}
 use Rattle.track_records.specs.Updates.{HasLengths}
 use Rattle.vol_model.specs.Shelf.{rename_on}
 use Rattle.vol_model.specs.declared.answers.StoreErr.TheVariants.{Device}
@@ -23,6 +23,7 @@ use Rattle.vtoc_index.specs.Index.{IsMounted, IsPut, slots_in_front, track_index
 use Rattle.vtoc_index.specs.Puts.{HoldsDscb, HoldsSlot, IsPutCall, IsReadUpTo, IsReplaced, IsSlotWrite}
 use Rattle.vtoc_index.specs.declared.vol.Vol.{Vol}
 use Rattle.vtoc_index.proofs.NameLemmas.{named_alike}
+use Rattle.vtoc_index.proofs.PutCalls.{call_still, write_still}
 use Rattle.dadsm_ops.specs.Naming.{HaveName, HoldsRenamed, IsRenameCall, IsToRename, PutsName, RenameCalls, RenamesEntry, WritesSlotNamed, under_name}
 use Rattle.dadsm_ops.specs.Operations.{Operates, image_named}
 use Rattle.dadsm_ops.specs.Through.{HaveSlot, PutsThrough}
@@ -63,21 +64,34 @@ holds_renamed old new v v' slot d found put track held =
       held = held;
     }
 
--- a call that is made for the slot of the old name is one of the rename
-pub named_call : (old new : List ℕ) (v : Vol) (buf : Buffer) (slot : ℕ) (x d : Dscb) → IsToRename v.slots.items old new slot → x ≡ get_or v.slots.items slot x → d ≡ under_name new x → (call : HallCall) → IsPutCall v slot d buf call ⊎ (call ≡ Syncing) → IsRenameCall old new v buf call
-named_call old new v buf slot x d found read named call =
+-- the write of the slot of the old name is that of the rename
+pub named_write : (old new : List ℕ) (v : Vol) (done : HallCall → Type 0) (slot : ℕ) (x d : Dscb) → IsToRename v.slots.items old new slot → x ≡ get_or v.slots.items slot x → d ≡ under_name new x → (call : HallCall) → IsSlotWrite v slot d done call → WritesSlotNamed old new v done call
+named_write old new v done slot x d found read named call writes =
     let items = v.slots.items in
     let set = set_found old items slot found.found in
     let held : slice_get items slot ≡ Some x = set.set ∙ ap Some (sym (read ∙ get_or_from_slice_get items slot (formats.F1 set.f) x set.set)) in
-    ⊎_elim (λ puts. inr (record { slot = slot; found = found; dscb = x; held = held; puts = subst (λ (y : Dscb). IsPutCall v slot y buf call) named puts })) inl
+    record { slot = slot; found = found; dscb = x; held = held; writes = subst (λ (y : Dscb). IsSlotWrite v slot y done call) named writes }
 
--- and the write of that slot is its own
-pub named_write : (old new : List ℕ) (v : Vol) (buf : Buffer) (slot : ℕ) (x d : Dscb) → IsToRename v.slots.items old new slot → x ≡ get_or v.slots.items slot x → d ≡ under_name new x → (call : HallCall) → IsSlotWrite v slot d buf call → WritesSlotNamed old new v buf call
-named_write old new v buf slot x d found read named call writes =
+-- and a call that is made for it is one of the rename
+pub named_call : (old new : List ℕ) (v : Vol) (done : HallCall → Type 0) (slot : ℕ) (x d : Dscb) → IsToRename v.slots.items old new slot → x ≡ get_or v.slots.items slot x → d ≡ under_name new x → (call : HallCall) → IsPutCall v slot d done call ⊎ ((call ≡ Syncing) × HasDone (IsSlotWrite v slot d done) done) → IsRenameCall old new v done call
+named_call old new v done slot x d found read named call =
     let items = v.slots.items in
     let set = set_found old items slot found.found in
     let held : slice_get items slot ≡ Some x = set.set ∙ ap Some (sym (read ∙ get_or_from_slice_get items slot (formats.F1 set.f) x set.set)) in
-    record { slot = slot; found = found; dscb = x; held = held; writes = subst (λ (y : Dscb). IsSlotWrite v slot y buf call) named writes }
+    ⊎_elim
+    (λ puts. inl (record { slot = slot; found = found; dscb = x; held = held; puts = subst (λ (y : Dscb). IsPutCall v slot y done call) named puts }))
+    (λ synced. inr (synced.0, done_as synced.1 (named_write old new v done slot x d found read named)))
+
+-- they are so still, where nothing is taken back of what was done
+pub named_write_still : {old new : List ℕ} {v : Vol} {done later : HallCall → Type 0} → HasDone (WritesSlotNamed old new v done) done → StaysDone done later → HasDone (WritesSlotNamed old new v later) later
+named_write_still wrote kept =
+    done_still (done_as wrote (λ call is. record { slot = is.slot; found = is.found; dscb = is.dscb; held = is.held; writes = write_still is.writes kept })) kept
+
+pub named_call_still : {old new : List ℕ} {v : Vol} {done later : HallCall → Type 0} (call : HallCall) → StaysDone done later → IsRenameCall old new v done call → IsRenameCall old new v later call
+named_call_still call kept =
+    ⊎_elim
+    (λ puts. inl (record { slot = puts.slot; found = puts.found; dscb = puts.dscb; held = puts.held; puts = call_still call kept puts.puts }))
+    (λ synced. inr (synced.0, named_write_still synced.1 kept))
 
 -- the calls of a rename, by those of the put: the slot of the old name is the one that is put
 pub rename_calls :
@@ -104,10 +118,6 @@ rename_calls result old new v v' slot calls calls' found again few synced unwrit
     on_slots : {T E : Type 0} (r : Result T E) → OnErr r (Unwritten slot) → OnErr r ((s : ℕ) → IsToRename v.slots.items old new s → Unwritten s)
     on_slots (Ok x) none = tt
     on_slots (Err e) none = λ s is. subst Unwritten (same s is) none
-
--- the same, where the slots may be as before
-pub may_rename_entry : (old new : List ℕ) (items items' : List Dscb) (slot : ℕ) (x d : Dscb) → IsToRename items old new slot → x ≡ get_or items slot x → d ≡ under_name new x → (items' ≡ items) ⊎ (items' ≡ slice_set items slot d) → (items' ≡ items) ⊎ RenamesEntry old new items items'
-may_rename_entry old new items items' slot x d found read is which = ⊎_elim (λ same. inl same) (λ put. inr (renames_entry old new items items' slot x d found read is put)) which
 
 module _ (name : List ℕ) (v v' : Vol) (old new : Dsn) (slot : ℕ) (x d : Dscb) (m n : Meaning (List File))
     (mounted : IsMounted (image_named m.state name) v) (found : IsToRename v.slots.items old.bytes new.bytes slot) (long : length new.bytes ≡ 44)

@@ -5,12 +5,11 @@ use Rattle.dscb_codec.specs.declared.Dscb.TheVariants.{F1}
 use Rattle.ebcdic_names.specs.declared.names.Dsn.{Dsn}
 use Rattle.hall_core.specs.Facts.{Calls, CallsAtMost}
 use Rattle.hall_core.specs.Files.{File}
-use Rattle.hall_core.specs.Made.{HallCall, Syncing}
+use Rattle.hall_core.specs.Made.{HallCall, HasDone, Syncing}
 use Rattle.hall_core.specs.Moments.{Meaning}
 use Rattle.hall_core.specs.Steps.{StepTo}
 use Rattle.pack_spec.specs.declared.addressed.VtocSlot.{VtocSlot}
 use Rattle.pack_spec.specs.Slots.{slots_of_vtoc}
-use Rattle.track_records.specs.Buffers.{Buffer}
 use Rattle.track_records.specs.Updates.{HasLengths}
 use Rattle.vol_model.specs.Shelf.{is_catalog}
 use Rattle.vol_model.specs.declared.answers.StoreErr.{StoreErr}
@@ -76,24 +75,24 @@ pub record RenameCalls {T E : Type 0} (old new : List ℕ) (before after : Vol) 
   pub unwritten : OnErr result ((slot : ℕ) → IsToRename before.slots.items old new slot → ¬ HasLengths after.buf.records (slots_in_front before.firsts.items slot) 44 96 → CallsAtMost 1 0 0 0 calls calls')
 
 -- A call that puts the slot of the old name, with its DSCB under the new one.
-pub record PutsSlotNamed (old new : List ℕ) (before : Vol) (buf : Buffer) (call : HallCall) : Type 0 where
+pub record PutsSlotNamed (old new : List ℕ) (before : Vol) (done : HallCall → Type 0) (call : HallCall) : Type 0 where
   pub slot : ℕ
   pub found : IsToRename before.slots.items old new slot
   pub dscb : Dscb
   pub held : slice_get before.slots.items slot ≡ Some dscb
-  pub puts : IsPutCall before slot (under_name new dscb) buf call
+  pub puts : IsPutCall before slot (under_name new dscb) done call
 
 -- The write of the slot of the old name, with its DSCB under the new one.
-pub record WritesSlotNamed (old new : List ℕ) (before : Vol) (buf : Buffer) (call : HallCall) : Type 0 where
+pub record WritesSlotNamed (old new : List ℕ) (before : Vol) (done : HallCall → Type 0) (call : HallCall) : Type 0 where
   pub slot : ℕ
   pub found : IsToRename before.slots.items old new slot
   pub dscb : Dscb
   pub held : slice_get before.slots.items slot ≡ Some dscb
-  pub writes : IsSlotWrite before slot (under_name new dscb) buf call
+  pub writes : IsSlotWrite before slot (under_name new dscb) done call
 
--- a call of a rename, by the index before and the buffer behind: a sync, or one that puts the slot under its new name
-abbrev pub IsRenameCall : List ℕ → List ℕ → Vol → Buffer → HallCall → Type 0
-IsRenameCall old new before buf call = (call ≡ Syncing) ⊎ PutsSlotNamed old new before buf call
+-- a call of a rename, by the index before and by what was done: one that puts the slot under its new name, or a sync where that was written
+abbrev pub IsRenameCall : List ℕ → List ℕ → Vol → (HallCall → Type 0) → HallCall → Type 0
+IsRenameCall old new before done call = PutsSlotNamed old new before done call ⊎ ((call ≡ Syncing) × HasDone (WritesSlotNamed old new before done) done)
 
 -- the bytes of a slot, under another name: the name is the key, 44 bytes in front, and the other 96 stay
 abbrev pub named_bytes : List ℕ → List ℕ → List ℕ

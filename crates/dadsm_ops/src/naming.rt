@@ -2,7 +2,7 @@
 ghost use Rattle.std.specs.Prelude.{◌≡◌, ◌⊎◌, ◌≤◌, ℕ, List, length, IsTrue, IfOk, IfErr, IsErrOf, OnOk, OnErr, Some, Ok, Err};
 ghost use Rattle.hall_core.specs.Facts.{CallsAtMost, unit_of};
 ghost use Rattle.hall_core.specs.Files.{image_of};
-ghost use Rattle.hall_core.specs.Made.{HasDone, MakesOnly};
+ghost use Rattle.hall_core.specs.Made.{HasDone, MakesOnly, StaysDone};
 ghost use Rattle.hall_core.specs.Moments.{IsDurable};
 ghost use Rattle.pack_spec.specs.Volume.{volume_of};
 ghost use Rattle.vol_model.specs.Shelf.{rename_on};
@@ -30,7 +30,7 @@ use vtoc_index::{Vol, find};
 /// of the new name (`SetExists`), and where either name is SYSCTLG (`WrongKind`); then nothing is called,
 /// and the index is as before. It takes no memory, so `Memory` never comes. `Device` comes only where
 /// the count of its faults rose. The index is that of the new image after `Ok`. After `Device` it has the slots
-/// as before, and may be that of no image; or it has the set under the new name, and is that of the image.
+/// as before, and may be that of no image; or it has the set under the new name, which was written then.
 pub fn rename<H: Hall>(hall: &mut H, vol: &mut Vol, old: &Dsn, new: &Dsn) -> Result<(), StoreErr>
     requires unit { IsOfUnit (H.facts hall.old).units vol.old }
     requires mounted { IsTrue H.tells → IsMounted (image_of (H.meaning hall.old).state (H.facts hall.old) vol.old.unit) vol.old }
@@ -41,16 +41,17 @@ pub fn rename<H: Hall>(hall: &mut H, vol: &mut Vol, old: &Dsn, new: &Dsn) -> Res
     ensures index { vol.new ≡ record vol.old { slots = vol.new.slots; buf = vol.new.buf } }
     ensures entry { OnOk result (RenamesEntry old.now.bytes new.now.bytes vol.old.slots.items vol.new.slots.items) }
     ensures held { OnOk result (HoldsRenamed old.now.bytes new.now.bytes vol.old vol.new) }
-    ensures slots { (vol.new.slots.items ≡ vol.old.slots.items) ⊎ RenamesEntry old.now.bytes new.now.bytes vol.old.slots.items vol.new.slots.items }
+    ensures slots { (vol.new.slots.items ≡ vol.old.slots.items) ⊎ (RenamesEntry old.now.bytes new.now.bytes vol.old.slots.items vol.new.slots.items × HasDone (WritesSlotNamed old.now.bytes new.now.bytes vol.old (H.done hall.new)) (H.done hall.new)) }
     ensures ahead { IsTrue H.tells → OnErr result (IsBeforeOr vol.old (image_of (H.meaning hall.new).state (H.facts hall.new) vol.old.unit) vol.new) }
     ensures refused { (r : Refusal) → IsErrOf result (StoreErr.Refused r) → (hall.new ≡ hall.old) × (vol.new ≡ vol.old) }
     ensures reason { refusal_answered result ≡ refusal_in vol.old.slots.items old.now.bytes new.now.bytes }
     ensures memory { IsErrOf result StoreErr.Memory → ⊥ }
     ensures call { StoreCall (H.facts hall.old) (H.facts hall.new) result }
     ensures calls { CallsAtMost 1 1 1 0 (H.calls hall.old) (H.calls hall.new) }
-    ensures made { MakesOnly (IsRenameCall old.now.bytes new.now.bytes vol.old vol.new.buf) (H.made hall.old) (H.made hall.new) }
+    ensures made { MakesOnly (IsRenameCall old.now.bytes new.now.bytes vol.old (H.done hall.new)) (H.made hall.old) (H.made hall.new) }
+    ensures kept { StaysDone (H.done hall.old) (H.done hall.new) }
     ensures behind { OnOk result (H.behind_sync hall.new) }
-    ensures done { OnOk result (HasDone (WritesSlotNamed old.now.bytes new.now.bytes vol.old vol.new.buf) (H.done hall.new)) }
+    ensures done { OnOk result (HasDone (WritesSlotNamed old.now.bytes new.now.bytes vol.old (H.done hall.new)) (H.done hall.new)) }
     ensures again { RenameCalls old.now.bytes new.now.bytes vol.old vol.new (H.calls hall.old) (H.calls hall.new) result }
 {
     let slot = slot_to_rename(vol, old, new)?;

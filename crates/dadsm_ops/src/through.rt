@@ -14,8 +14,8 @@ use hall_core::{Device, Hall};
 use vtoc_index::{Vol, put_slot};
 
 // Puts a DSCB into a slot by one write, and makes it durable. After an error the write is pending, done,
-// or not begun, and the index, with the slot as it was, may be that of no image any more; with the DSCB it
-// is that of the image, as it is where the write was done and a sync asked for.
+// or not begun, and the index, with the slot as it was, may be that of no image any more; with the DSCB,
+// which was written then and a sync asked for, it is that of an image that is told.
 pub(crate) fn put_through<H: Hall>(
     hall: &mut H,
     vol: &mut Vol,
@@ -28,7 +28,7 @@ pub(crate) fn put_through<H: Hall>(
     requires durable { IsTrue H.tells → IsDurable (H.meaning hall.old) }
     ensures told { IsTrue H.tells → PutsThrough (unit_of (H.facts hall.old).units vol.old.unit).name vol.old slot dscb.now vol.new (H.meaning hall.old) (H.meaning hall.new) result }
     ensures index { OnOk result (IsReplaced slot dscb.now vol.old vol.new) }
-    ensures slots { (vol.new.slots.items ≡ vol.old.slots.items) ⊎ (vol.new.slots.items ≡ slice_set vol.old.slots.items slot dscb.now) }
+    ensures slots { (vol.new.slots.items ≡ vol.old.slots.items) ⊎ ((vol.new.slots.items ≡ slice_set vol.old.slots.items slot dscb.now) × HasDone (IsSlotWrite vol.old slot dscb.now (H.done hall.new)) (H.done hall.new)) }
     ensures ahead { IsTrue H.tells → OnErr result (IsBeforeOr vol.old (image_of (H.meaning hall.new).state (H.facts hall.new) vol.old.unit) vol.new) }
     ensures others { vol.new ≡ record vol.old { slots = vol.new.slots; buf = vol.new.buf } }
     ensures unit { IsOfUnit (H.facts hall.new).units vol.new }
@@ -37,9 +37,10 @@ pub(crate) fn put_through<H: Hall>(
     ensures synced { (H.calls hall.old).syncs < (H.calls hall.new).syncs → (vol.new.slots.items ≡ slice_set vol.old.slots.items slot dscb.now) × HoldsDscb (slots_in_front vol.old.firsts.items slot) dscb.now vol.new.buf.records }
     ensures call { DeviceCall (H.facts hall.old) (H.facts hall.new) result }
     ensures calls { CallsAtMost 1 1 1 0 (H.calls hall.old) (H.calls hall.new) }
-    ensures made { MakesOnly (λ call. IsPutCall vol.old slot dscb.now vol.new.buf call ⊎ (call ≡ Syncing)) (H.made hall.old) (H.made hall.new) }
+    ensures made { MakesOnly (λ call. IsPutCall vol.old slot dscb.now (H.done hall.new) call ⊎ ((call ≡ Syncing) × HasDone (IsSlotWrite vol.old slot dscb.now (H.done hall.new)) (H.done hall.new))) (H.made hall.old) (H.made hall.new) }
+    ensures kept { StaysDone (H.done hall.old) (H.done hall.new) }
     ensures behind { OnOk result (H.behind_sync hall.new) }
-    ensures done { OnOk result (HasDone (IsSlotWrite vol.old slot dscb.now vol.new.buf) (H.done hall.new)) }
+    ensures done { OnOk result (HasDone (IsSlotWrite vol.old slot dscb.now (H.done hall.new)) (H.done hall.new)) }
     ensures again { HoldsSlot vol.old slot → CallsAtMost 0 1 1 0 (H.calls hall.old) (H.calls hall.new) }
     ensures few { ¬ HoldsSlot vol.old slot → IsReadUpTo (slots_in_front vol.old.firsts.items slot + 1) vol.new.buf.records }
     ensures unwritten { OnErr result (¬ HasLengths vol.new.buf.records (slots_in_front vol.old.firsts.items slot) 44 96 → CallsAtMost 1 0 0 0 (H.calls hall.old) (H.calls hall.new)) }

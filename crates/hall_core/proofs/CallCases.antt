@@ -7,7 +7,7 @@ use Rattle.hall_core.specs.Cards.{GivesNext}
 use Rattle.hall_core.specs.Files.{File, patched, written, Attaches, IsPending, AfterWrite, AfterSync, AfterPrint, untold}
 use Rattle.hall_core.specs.History.{wrote, synced, printed, passed, with_write, with_writes, meaning_after}
 use Rattle.hall_core.specs.HistoryLaws.{nothing_kept, since_now}
-use Rattle.hall_core.specs.Made.{HallCall, HasDone, Does, MakesOnly, StaysDone, Attaching, Noting, Printing, Reading, Syncing, Writing}
+use Rattle.hall_core.specs.Made.{HallCall, HasDone, Does, MakesOnly, StaysDone, Attaching, Giving, Noting, Printing, Reading, Syncing, Writing}
 use Rattle.hall_core.specs.Moments.{Meaning}
 use Rattle.hall_core.proofs.CallLemmas.{same_passed, write_done, write_failed, write_lacking, sync_done, sync_failed, print_done, print_failed}
 use Rattle.hall_core.proofs.StepLemmas.{write_leaves}
@@ -297,6 +297,7 @@ sync_alone_is_made (Writing unit at bytes) other = omega arith
 sync_alone_is_made Syncing other = absurd (other refl)
 sync_alone_is_made (Printing bytes) other = omega arith
 sync_alone_is_made (Noting unit track) other = omega arith
+sync_alone_is_made (Giving unit at bytes) other = omega arith
 
 other_call_is_made : ¬ MakesOnly (λ call. call ≡ Printing []) (λ call. 0) synced_once
 unfolding synced_once

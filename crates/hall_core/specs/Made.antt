@@ -1,7 +1,7 @@
 -- Calls of a hall with what they are made with, in this project's profile.
 use Rattle.std.specs.Prelude.{ℕ, ◌≤◌, List}
 
--- a call, with its unit, the offset there and how many bytes are read, or which are written; and the notes that a track differs
+-- a call, with its unit, the offset there and how many bytes are read, or which are written; the notes that a track differs; and a read by the bytes that it gave
 pub data HallCall : Type 0 where
   Attaching : (name : List ℕ) → HallCall
   Reading : (unit at len : ℕ) → HallCall
@@ -9,6 +9,7 @@ pub data HallCall : Type 0 where
   Syncing : HallCall
   Printing : (bytes : List ℕ) → HallCall
   Noting : (unit track : ℕ) → HallCall
+  Giving : (unit at : ℕ) (bytes : List ℕ) → HallCall
 
 -- no call was made but these
 abbrev pub MakesOnly : (HallCall → Type 0) → (HallCall → ℕ) → (HallCall → ℕ) → Type 0

@@ -1,7 +1,7 @@
 //! The trait of the outside, which a device and a test fixture implement alike.
 ghost use Rattle.std.specs.Prelude.{◌≡◌, ◌+◌, ◌<◌, ◌≤◌, [], ◌∷◌, ℕ, List, Bool, length, IsTrue, IsFalse, OnOk, IfErr, ◌-◌, ◌^◌, min};
 ghost use Rattle.hall_core.specs.Facts.{AttachesOnce, Calls, CallsAtMost, Facts, unit_of, IsAttached, DeviceCall, NotedCall, PrintCall, AttachCall, Rose};
-ghost use Rattle.hall_core.specs.Made.{HallCall, MakesOnly, StaysDone, Attaching, Reading, Writing, Syncing, Printing, Noting};
+ghost use Rattle.hall_core.specs.Made.{HallCall, MakesOnly, StaysDone, Attaching, Reading, Writing, Syncing, Printing, Noting, Giving};
 ghost use Rattle.hall_core.specs.Moments.{Meaning, LeftNow, IsDurable, Same};
 ghost use Rattle.hall_core.specs.Files.{File, HasBytesAt, AreWhole, Attaches, AfterWrite, AfterSync, AfterPrint};
 
@@ -56,7 +56,8 @@ pub trait Hall {
     /// What holds behind a sync that is done, as long as no other call comes.
     ghost behind_sync: { Self → Type 0 };
 
-    /// What holds of a write or a print, with these arguments, that was done; no call takes it back.
+    /// What holds of a write or a print, with these arguments, that was done, and of a read that gave these bytes; no call
+    /// takes it back.
     ghost done: { Self → HallCall → Type 0 };
 
     /// Attaches a file as the next unit, and gives the number of the unit.
@@ -89,6 +90,7 @@ pub trait Hall {
         ensures call { DeviceCall (facts self.old) (facts self.new) result }
         ensures calls { CallsAtMost 1 0 0 0 (calls self.old) (calls self.new) }
         ensures made { MakesOnly (λ call. call ≡ Reading unit at (length buf.old)) (made self.old) (made self.new) }
+        ensures done { OnOk result (done self.new (Giving unit at buf.new)) }
         ensures kept { StaysDone (done self.old) (done self.new) }
         ensures error { IfErr result (λ e. e ≡ HallErr.Failed) };
 

@@ -101,11 +101,13 @@ impl Machine for MapMachine {
 
     ghost made = { λ machine call. 0 };
 
-    ghost may_make = { λ machine op call. ⊥ };
+    ghost may_make = { λ first op machine call. ⊥ };
 
-    ghost done = { λ machine op. Unit {0} };
+    ghost done = { λ machine call. Unit {0} };
 
-    ghost has_printed = { λ machine bytes. Unit {0} };
+    ghost has_done = { λ first op machine. Unit {0} };
+
+    ghost refuses = { λ machine op refusal. Unit {0} };
 
     ghost asked = { λ machine. asked_nothing };
 

@@ -4,12 +4,12 @@ ghost use Rattle.std.specs.Option.{option_map};
 ghost use Rattle.ckd_image.specs.Reading.{front_record, is_record_at};
 ghost use Rattle.hall_core.specs.Facts.{CallsAtMost, DeviceCall, unit_of};
 ghost use Rattle.hall_core.specs.Files.{AfterWrite, image_of, patched};
-ghost use Rattle.hall_core.specs.Made.{MakesOnly, Writing};
+ghost use Rattle.hall_core.specs.Made.{Giving, MakesOnly, StaysDone, Writing};
 ghost use Rattle.hall_core.specs.Moments.{Same};
 ghost use Rattle.pack_spec.specs.Label.{records_on, track_bytes};
 ghost use Rattle.track_records.specs.Buffers.{IsContentOf, IsPartOf};
-ghost use Rattle.track_records.specs.Calls.{HasTrack, TrackCall, track_read};
-ghost use Rattle.track_records.specs.Reads.{IsBroken};
+ghost use Rattle.track_records.specs.Calls.{HasGiven, HasTrack, TrackCall, records_by, track_read};
+ghost use Rattle.track_records.specs.Reads.{IsBroken, IsGivenBroken};
 ghost use Rattle.track_records.specs.Updates.{HasLengths, offset_of, with_parts};
 ghost use Rattle.track_records.specs.Written.{place_of, IsUpdated, StandsOn};
 
@@ -169,6 +169,9 @@ pub fn read_records<H: Hall>(
     ensures call { TrackCall (H.facts hall.old) (H.facts hall.new) result }
     ensures calls { CallsAtMost 1 0 0 0 (H.calls hall.old) (H.calls hall.new) }
     ensures made { MakesOnly (λ call. call ≡ track_read unit buf.old.geometry track) (H.made hall.old) (H.made hall.new) }
+    ensures kept { StaysDone (H.done hall.old) (H.done hall.new) }
+    ensures given { IfOk result (λ _. HasGiven (H.done hall.new) unit buf.old.geometry track (λ bytes. records_by buf.old.geometry upto track bytes ≡ Some buf.new.records)) }
+    ensures broke { IfErr result (IsGivenBroken (H.done hall.new) unit buf.old.geometry upto track) }
 {
     buf.unit = unit;
     buf.track = track;
@@ -206,6 +209,8 @@ fn fill<H: Hall>(
     ensures call { DeviceCall (H.facts hall.old) (H.facts hall.new) result }
     ensures calls { CallsAtMost 1 0 0 0 (H.calls hall.old) (H.calls hall.new) }
     ensures made { MakesOnly (λ call. call ≡ track_read unit geometry track) (H.made hall.old) (H.made hall.new) }
+    ensures kept { StaysDone (H.done hall.old) (H.done hall.new) }
+    ensures done { OnOk result (H.done hall.new (Giving unit (512 + track * geometry.track_size) bytes.new.items)) }
 {
     let at = HEADER_LEN as u64 + u64::from(track) * u64::from(geometry.track_size);
     hall.read(unit, at, bytes)
@@ -233,6 +238,7 @@ pub fn update<H: Hall>(
     ensures calls { CallsAtMost 0 1 0 0 (H.calls hall.old) (H.calls hall.new) }
     ensures inside { place_of buf.old (r - 1) + length (key.now ++ payload.now) ≤ 512 + (buf.old.track + 1) * buf.old.geometry.track_size }
     ensures made { MakesOnly (λ call. call ≡ Writing buf.old.unit (place_of buf.old (r - 1)) (key.now ++ payload.now)) (H.made hall.old) (H.made hall.new) }
+    ensures kept { StaysDone (H.done hall.old) (H.done hall.new) }
     ensures done { OnOk result (H.done hall.new (Writing buf.old.unit (place_of buf.old (r - 1)) (key.now ++ payload.now))) }
 {
     let place = buf.put(r, key, payload);

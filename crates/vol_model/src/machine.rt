@@ -3,9 +3,10 @@
 ghost use Rattle.std.specs.Prelude.{◌≡◌, ◌≤◌, ℕ, List, [], ◌∷◌, Bool, IsTrue, IsErrOf, OnOk};
 ghost use Rattle.hall_core.specs.Facts.{Calls, CallsAtMost};
 ghost use Rattle.hall_core.specs.Files.{File};
-ghost use Rattle.hall_core.specs.Made.{HallCall, MakesOnly, Printing};
+ghost use Rattle.hall_core.specs.Made.{HallCall, MakesOnly, Printing, StaysDone};
 ghost use Rattle.hall_core.specs.Moments.{Meaning, LeftNow, IsDurable};
 ghost use Rattle.vol_model.specs.declared.contents.Shelf.{Shelf};
+ghost use Rattle.vol_model.specs.declared.refusals.Refusal as refusals;
 ghost use Rattle.vol_model.specs.declared.requests.Op as requests;
 ghost use Rattle.vol_model.specs.Calls.{Asked, AsksAtMost, Status, MachineCall, Applies, IsIdle, Prints, Keeps};
 ghost use Rattle.vol_model.specs.Shelf.{IsLawful, step};
@@ -42,17 +43,21 @@ pub trait Machine {
     /// How often each call of that hall was made with just its arguments, if it counts that.
     ghost made: { Self → HallCall → ℕ };
 
-    /// Whether a call of that hall is one that an operation may make, by what it holds before.
-    ghost may_make: { Self → requests.Op → HallCall → Type 0 };
+    /// Whether a call of that hall is one that an operation may make, by the machine before it and by what was done there
+    /// up to the machine behind it; a print leaves it so.
+    ghost may_make: { Self → requests.Op → Self → HallCall → Type 0 };
 
     /// The operations and prints it was asked for so far, if it counts them.
     ghost asked: { Self → Asked };
 
-    /// What holds of an operation that was done; no print takes it back.
-    ghost done: { Self → requests.Op → Type 0 };
+    /// What holds of a call of that hall that was done; no call of the machine takes it back.
+    ghost done: { Self → HallCall → Type 0 };
 
-    /// What holds of bytes that were printed, until another call comes.
-    ghost has_printed: { Self → List ℕ → Type 0 };
+    /// What holds behind an operation that was done, by the machine before it; no print takes it back.
+    ghost has_done: { Self → requests.Op → Self → Type 0 };
+
+    /// Whether an operation is refused for this reason, by what it holds.
+    ghost refuses: { Self → requests.Op → refusals.Refusal → Type 0 };
 
     /// Whether it holds all that an operation has to read, so that this makes no read of the hall.
     ghost holds: { Self → requests.Op → Type 0 };
@@ -78,8 +83,10 @@ pub trait Machine {
         ensures idle { IsTrue tells → IsIdle (step (meaning self.old).state op.now) result → Keeps (meaning self.old).clock [] (promise self.old) (promise self.new) }
         ensures call { MachineCall (status self.old) (status self.new) result }
         ensures calls { CallsAtMost 1 1 1 0 (calls self.old) (calls self.new) }
-        ensures made { MakesOnly (may_make self.old op.now) (made self.old) (made self.new) }
-        ensures done { OnOk result (done self.new op.now) }
+        ensures made { MakesOnly (may_make self.old op.now self.new) (made self.old) (made self.new) }
+        ensures has_done { OnOk result (has_done self.old op.now self.new) }
+        ensures kept { StaysDone (done self.old) (done self.new) }
+        ensures reason { (r : Refusal) → IsErrOf result (MachErr.Refused r) → refuses self.old op.now r }
         ensures held { holds self.old op.now → CallsAtMost 0 1 1 0 (calls self.old) (calls self.new) }
         ensures memory { IsErrOf result MachErr.Memory → CallsAtMost 1 0 0 0 (calls self.old) (calls self.new) }
         ensures refused { (r : Refusal) → IsErrOf result (MachErr.Refused r) → CallsAtMost 0 0 0 0 (calls self.old) (calls self.new) }
@@ -97,8 +104,10 @@ pub trait Machine {
         ensures call { MachineCall (status self.old) (status self.new) result }
         ensures calls { CallsAtMost 0 0 0 1 (calls self.old) (calls self.new) }
         ensures made { MakesOnly (λ call. call ≡ Printing bytes.now) (made self.old) (made self.new) }
-        ensures kept { (op : requests.Op) → done self.old op → done self.new op }
-        ensures has_printed { OnOk result (has_printed self.new bytes.now) }
+        ensures kept { StaysDone (done self.old) (done self.new) }
+        ensures still { (first : Self) (op : requests.Op) → has_done first op self.old → has_done first op self.new }
+        ensures leaves { (first : Self) (op : requests.Op) (call : HallCall) → may_make first op self.old call → may_make first op self.new call }
+        ensures done { OnOk result (done self.new (Printing bytes.now)) }
         ensures memory { IsErrOf result MachErr.Memory → CallsAtMost 0 0 0 0 (calls self.old) (calls self.new) }
         ensures once { AsksAtMost 0 1 (asked self.old) (asked self.new) }
         ensures device { IsErrOf result MachErr.Device → ⊥ }

@@ -6,7 +6,6 @@ use Rattle.dscb_codec.specs.declared.Dscb.{Dscb}
 use Rattle.dscb_codec.specs.declared.Dscb.TheVariants as formats
 use Rattle.ebcdic_names.specs.declared.names.Serial.{Serial}
 use Rattle.hall_core.specs.Facts.{Calls, uncounted}
-use Rattle.hall_core.specs.Made.{Syncing}
 use Rattle.util_syntax.specs.declared.statement.Rename.{Rename as Statement}
 use Rattle.vol_model.specs.declared.answers.MachErr.{MachErr}
 use Rattle.vol_model.specs.declared.answers.MachErr.TheVariants.{Refused, Device}
@@ -21,7 +20,7 @@ use Rattle.vtoc_index.proofs.PutCases.{c_stands}
 use Rattle.vtoc_index.proofs.SmallPack.{a, b, c, data_set, f1, f4, f5, index, pack01}
 use Rattle.dadsm_ops.specs.Naming.{HoldsRenamed, RenamesEntry, under_name}
 use Rattle.volman.specs.Mount.{IsOnLastTrack}
-use Rattle.volman.specs.Machine.{HoldsFor, IsOperationCall, KeepsIndex, OperationCalls, refusal_by}
+use Rattle.volman.specs.Machine.{HoldsFor, KeepsIndex, OperationCalls, refusal_by}
 
 -- A becomes C, on the volume of this number; C has no set, and B is there
 abbrev op : ℕ → List ℕ → List ℕ → Op
@@ -163,10 +162,6 @@ module _ (any : Vol) where
     λ calls. let wrong : 1 ≤ 0 = ((calls refl).again 3 (record { found = refl; absent = refl; others = refl }) (refl, omega arith)).0 in omega (arith, wrong),
     λ is. absurd (omega (arith, is)),
   )
-
-  -- An operation on the volume may make a sync, and one on another makes no call.
-  calls_are_made_for_the_volume : IsOperationCall (op 0 a c) holding holding.buf Syncing × (¬ IsOperationCall (op 1 a c) holding holding.buf Syncing)
-  calls_are_made_for_the_volume = ((refl, inl refl), λ is. absurd (omega (arith, is.0)))
 
   -- ---- what is held for an operation
 

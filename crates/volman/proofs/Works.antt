@@ -1,11 +1,12 @@
 -- Items on the shelf of one pack, from the machine's words to those of the files.
 use Rattle.std.proofs.Common.{◌≡◌, ◌≢◌, ⊎_elim, inl, inr, ℕ, ◌<◌, ◌≤◌, ◌++◌, Bool, List, [], ◌∷◌, length, refl, sym, ◌∙◌, ap, subst, arith, length-append}
-use Rattle.std.specs.Prelude.{◌⊎◌, IsTrue, Option, Some, None, Result, Ok, Err, codes, map, take, unwrap_or}
+use Rattle.std.specs.Prelude.{◌⊎◌, IsErrOf, IsTrue, Option, Some, None, Result, Ok, Err, codes, map, take, unwrap_or}
 use Rattle.std.specs.List.{AllByRecursion}
 use Rattle.std.proofs.lemmas.List.{append-nil, length-set}
 use Rattle.ckd_image.specs.declared.header.Geometry.{Geometry}
 use Rattle.dadsm_ops.specs.Operations.{image_named}
 use Rattle.dadsm_ops.proofs.RenameChains.{none_renamed}
+use Rattle.hall_core.specs.Facts.{Facts, Rose}
 use Rattle.hall_core.specs.Files.{File, file_of}
 use Rattle.hall_core.specs.Moments.{IsDurable, Meaning, Same}
 use Rattle.hall_core.specs.Steps.{seen}
@@ -32,7 +33,8 @@ use Rattle.vol_model.proofs.Stops.{HasNoEmptyLine, no_empty_line_in_items, stop_
 use Rattle.vtoc_index.specs.declared.vol.Vol.{Vol}
 use Rattle.vtoc_index.specs.Index.{IsMounted}
 use Rattle.volman.specs.Machine.{ChangesNames, ChangesOnlyNames, shelf_in, shelf_named, shelf_with}
-use Rattle.volman.specs.Run.{Does, Headline, HasWorked, HasWorkedUnprinted, IsCalmSince, IsFinal, StandsFor, StopStands, Synced, WorksOn}
+use Rattle.volman.specs.Made.{IsCutOff}
+use Rattle.volman.specs.Run.{AttachesAtMost, Does, Headline, HasWorked, HasWorkedUnprinted, IsCalmSince, IsFinal, Later, OnFile, StandsFor, StopStands, Synced, WorksOn}
 use Rattle.volman.specs.Statement.{answer_line, item_by, item_of, item_on, operation_on}
 use Rattle.volman.specs.Deck.{deck_of}
 use Rattle.volman.specs.Lines.{deck_line, unit_line, words_line}
@@ -458,3 +460,35 @@ refused_file file task {old} {mid} {new} why status refused same does silent dev
     nothing (same_then same (silent quiet)) other)
     (λ loud. subst (λ (t : Task). Does t old new status) (sym (refused.why loud.0 loud.1 task)) (said_then same (does loud.0 loud.1)))
     (silent_or_not why)
+
+same_error : {T E : Type 0} {x y : E} → ◌≡◌ {A = Result T E} (Err x) (Err y) → x ≡ y
+same_error is = cc
+
+-- a file that is refused leaves the counts of faults as its status says
+pub refused_on_file :
+    (file : List ℕ) (why : MountErr) (status : ℕ) (old mid new : Facts)
+    → AttachesAtMost file old mid
+    → mid.references ≡ old.references
+    → mid.print_faults ≡ old.print_faults
+    → old.dev_faults ≤ mid.dev_faults
+    → (IsErrOf {T = Vol} (Err why) mount.Device → Rose old.dev_faults mid.dev_faults)
+    → (¬ IsErrOf {T = Vol} (Err why) mount.Device → mid.dev_faults ≡ old.dev_faults)
+    → (status ≡ 21) ⊎ IsCutOff status
+    → (status ≡ 22 → why ≡ mount.Device)
+    → (why ≡ mount.Device → status ≡ 22)
+    → (status ≡ 24 → Rose mid.print_faults new.print_faults)
+    → (status ≢ 24 → new.print_faults ≡ mid.print_faults)
+    → Later mid new
+    → new.dev_faults ≡ mid.dev_faults
+    → new.references ≡ mid.references
+    → new.units ≡ mid.units
+    → OnFile file old new status
+refused_on_file file why status old mid new units references prints later device others which cause is_device print still ends devices same stays = record {
+  which = inr which;
+  device = λ is. subst (Rose old.dev_faults) (sym devices) (device (ap Err (cause is)));
+  print = λ is. subst (λ (n : ℕ). Rose n new.print_faults) prints (print is);
+  reported = record { devices = λ no. devices ∙ others (λ is. no (is_device (same_error is))); prints = λ no. still no ∙ prints };
+  later = record { devices = omega (arith, later, ends.devices); prints = omega (arith, prints, ends.prints) };
+  references = same ∙ references;
+  units = ⊎_elim (λ none. inl (stays ∙ none)) (λ one. inr (one.0, stays ∙ one.1)) units;
+}

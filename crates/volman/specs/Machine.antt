@@ -24,7 +24,6 @@ use Rattle.vol_model.specs.declared.refusals.Refusal.{Refusal}
 use Rattle.vol_model.specs.declared.refusals.Refusal.TheVariants.{NoVolume}
 use Rattle.vol_model.specs.declared.requests.Op.{Op}
 use Rattle.vol_model.specs.declared.requests.Op.TheVariants.{Rename}
-use Rattle.track_records.specs.Buffers.{Buffer}
 use Rattle.vtoc_index.specs.declared.vol.Vol.{Vol}
 use Rattle.vtoc_index.specs.Kept.{IsKept}
 use Rattle.vtoc_index.specs.Puts.{HoldsSlot}
@@ -94,21 +93,13 @@ pub record KeepsIndex {T : Type 0} (op : Op) (old new : Vol) (result : Result T 
 abbrev pub OperationCalls : {T : Type 0} → Op → Vol → Vol → Calls → Calls → Result T MachErr → Type 0
 OperationCalls (Rename v old new) before after calls calls' result = v ≡ 0 → RenameCalls old.bytes new.bytes before after calls calls' result
 
--- a call of an operation on the only volume, whose number is 0, by the index before and the buffer behind; one on another volume makes none
-abbrev pub IsOperationCall : Op → Vol → Buffer → HallCall → Type 0
-IsOperationCall (Rename v old new) before buf call = (v ≡ 0) × IsRenameCall old.bytes new.bytes before buf call
+-- a call of an operation on the only volume, whose number is 0, by the index before and by what was done; one on another volume makes none
+abbrev pub IsOperationCall : Op → Vol → (HallCall → Type 0) → HallCall → Type 0
+IsOperationCall (Rename v old new) before done call = (v ≡ 0) × IsRenameCall old.bytes new.bytes before done call
 
--- a call that an operation may make, by the index before, whatever its buffer is behind
-abbrev pub MayMake : Op → Vol → HallCall → Type 0
-MayMake op before call = (buf : Buffer) × IsOperationCall op before buf call
-
--- the write of an operation on the only volume, by the index before and the buffer behind
-abbrev pub IsOperationWrite : Op → Vol → Buffer → HallCall → Type 0
-IsOperationWrite (Rename v old new) before buf call = (v ≡ 0) × WritesSlotNamed old.bytes new.bytes before buf call
-
--- the write of an operation by some index
-abbrev pub MayWrite : Op → HallCall → Type 0
-MayWrite op call = (before : Vol) × ((buf : Buffer) × IsOperationWrite op before buf call)
+-- the write of an operation on the only volume, by the index before and by what was done
+abbrev pub IsOperationWrite : Op → Vol → (HallCall → Type 0) → HallCall → Type 0
+IsOperationWrite (Rename v old new) before done call = (v ≡ 0) × WritesSlotNamed old.bytes new.bytes before done call
 
 -- the buffer of an index holds the slot that an operation on the only volume changes, so that it isn't read
 abbrev pub HoldsFor : Op → Vol → Type 0

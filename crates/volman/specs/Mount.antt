@@ -2,11 +2,13 @@
 use Rattle.std.specs.Prelude.{◌≡◌, ◌≢◌, ℕ, ◌+◌, List, Some}
 use Rattle.dadsm_ops.specs.Naming.{IsToRename}
 use Rattle.hall_core.specs.Files.{File, file_of}
+use Rattle.hall_core.specs.Made.{HallCall}
 use Rattle.pack_spec.specs.declared.MountErr.{MountErr}
-use Rattle.pack_spec.specs.declared.MountErr.TheVariants.{Memory, Device}
+use Rattle.pack_spec.specs.declared.MountErr.TheVariants.{Memory, Device, NoFile}
 use Rattle.util_syntax.specs.declared.statement.Rename.{Rename}
 use Rattle.vol_model.specs.declared.contents.Volume.{Volume}
 use Rattle.vtoc_index.specs.declared.vol.Vol.{Vol}
+use Rattle.vtoc_index.specs.Given.{IsReasonGiven}
 use Rattle.vtoc_index.specs.Index.{IsMounted, track_index}
 use Rattle.volman.specs.Lines.{unit_line}
 use Rattle.volman.specs.Task.{Task, Says, task_on}
@@ -27,3 +29,8 @@ pub record IsOnLastTrack (s : Rename) (v : Vol) : Type 0 where
 -- Whatever was to be done, this is why the file is refused; want of memory and a fault of the device say nothing of it.
 pub record RefusesFile (file : List ℕ) (files : List File) (e : MountErr) : Type 0 where
   pub why : e ≢ Memory → e ≢ Device → (task : Volume → Task) → task_on file task (file_of files file) ≡ Says 21 (unit_line file e)
+
+-- why a file isn't mounted, whose pack has this size: it is missing, or reads of it as the first unit gave the reason, unless the device failed or memory ran out
+pub data IsUnmounted (done : HallCall → Type 0) (size : ℕ) (why : MountErr) : Type 0 where
+  Missing : why ≡ NoFile → IsUnmounted done size why
+  Unfit : IsReasonGiven done 0 size why → IsUnmounted done size why

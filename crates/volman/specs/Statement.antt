@@ -18,9 +18,14 @@ use Rattle.vol_model.specs.Shelf.{number_of, step}
 abbrev pub answer_line : Rename → Result (Unit {0}) Refusal → List ℕ
 answer_line s outcome = result_line 1 (codes "RENAME") s.old.bytes outcome
 
--- the print of a line that answers it
-abbrev pub IsAnswerPrint : Rename → HallCall → Type 0
-IsAnswerPrint s call = (outcome : Result (Unit {0}) Refusal) × (call ≡ Printing (answer_line s outcome))
+-- what a statement may come to on the volume of this number, if there is one: its operation is done, or is refused for a reason of which this holds
+abbrev pub ComesTo : Option ℕ → (ℕ → Type 0) → (ℕ → Refusal → Type 0) → Result (Unit {0}) Refusal → Type 0
+ComesTo volume done refuses (Ok x) = (v : ℕ) × (volume ≡ Some v) × done v
+ComesTo volume done refuses (Err r) = ((volume ≡ None) × (r ≡ NoVolume)) ⊎ ((v : ℕ) × (volume ≡ Some v) × refuses v r)
+
+-- the print of the line that answers it, by what it may come to
+abbrev pub IsAnswerPrint : Rename → (Result (Unit {0}) Refusal → Type 0) → HallCall → Type 0
+IsAnswerPrint s comes call = (outcome : Result (Unit {0}) Refusal) × comes outcome × (call ≡ Printing (answer_line s outcome))
 
 -- its condition code
 abbrev pub code_for : Result (Unit {0}) Refusal → ℕ

@@ -222,6 +222,7 @@ impl<R: Files<File = File> + Print> Hall for FileHall<'_, R> {
         ensures told { IsTrue false → Same untold untold }
         ensures call { DeviceCall (facts_of self.old) (facts_of self.new) result }
         ensures calls { CallsAtMost 1 0 0 0 uncounted uncounted }
+        ensures done { OnOk result ⊤ }
         ensures error { IfErr result (λ e. e ≡ HallErr.Failed) }
         ensures units { self.new.units ≡ self.old.units }
     {

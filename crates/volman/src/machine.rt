@@ -1,9 +1,9 @@
 //! The machine over the image of one pack.
-ghost use Rattle.std.specs.Prelude.{◌≡◌, ◌≢◌, [], ◌∷◌, true, IsTrue, IfErr, IfSome, IsErrOf, OnErr, OnOk, Some, None, refl};
+ghost use Rattle.std.specs.Prelude.{◌≡◌, ◌≢◌, ◌⊎◌, [], ◌∷◌, true, IsTrue, IfErr, IfSome, IsErrOf, OnErr, OnOk, Some, None, refl};
 ghost use Rattle.dadsm_ops.specs.Through.{IsBeforeOr};
 ghost use Rattle.hall_core.specs.Facts.{CallsAtMost, unit_of};
 ghost use Rattle.hall_core.specs.Files.{image_of};
-ghost use Rattle.hall_core.specs.Made.{HasDone, MakesOnly, Printing};
+ghost use Rattle.hall_core.specs.Made.{HallCall, HasDone, MakesOnly, Printing, StaysDone};
 ghost use Rattle.hall_core.specs.Moments.{IsDurable};
 ghost use Rattle.hall_core.specs.Steps.{seen};
 ghost use Rattle.hall_core.proofs.MomentLemmas.{durable_seen, counts_now_seen, only_now_seen};
@@ -12,7 +12,7 @@ ghost use Rattle.vol_model.specs.Shelf.{number_of, step};
 ghost use Rattle.vtoc_index.specs.Index.{IsMounted, IsOfUnit};
 ghost use Rattle.vtoc_index.specs.Kept.{IsKept};
 ghost use Rattle.vtoc_index.proofs.KeptProps.{kept_props};
-ghost use Rattle.volman.specs.Machine.{ChangesOnlyNames, HoldsFor, IsOperationCall, IsOperationWrite, KeepsIndex, MayMake, MayWrite, OperationCalls, lawful_in, shelf_named, status_of};
+ghost use Rattle.volman.specs.Machine.{ChangesOnlyNames, HoldsFor, IsOperationCall, IsOperationWrite, KeepsIndex, OperationCalls, lawful_in, refusal_by, shelf_named, status_of};
 
 use dadsm_ops::rename;
 use ebcdic_names::{Dsn, Serial};
@@ -83,8 +83,11 @@ impl<H: Hall> PackMachine<H> {
         ensures idle { IsTrue H.tells → IsIdle (step (shelf_named (unit_of (H.facts self.old.hall).units self.old.vol.unit).name (H.meaning self.old.hall).state) (Op.Rename v old.now new.now)) result → Keeps (H.meaning self.old.hall).clock [] (ChangesOnlyNames (unit_of (H.facts self.old.hall).units self.old.vol.unit).name self.old.vol.geometry self.old.vol.vtoc (H.meaning self.old.hall)) (ChangesOnlyNames (unit_of (H.facts self.new.hall).units self.new.vol.unit).name self.new.vol.geometry self.new.vol.vtoc (H.meaning self.new.hall)) }
         ensures call { MachineCall (status_of self.old.is_sound (H.facts self.old.hall) self.old.vol) (status_of self.new.is_sound (H.facts self.new.hall) self.new.vol) result }
         ensures calls { CallsAtMost 1 1 1 0 (H.calls self.old.hall) (H.calls self.new.hall) }
-        ensures made { MakesOnly (IsOperationCall (Op.Rename v old.now new.now) self.old.vol self.new.vol.buf) (H.made self.old.hall) (H.made self.new.hall) }
-        ensures done { OnOk result (HasDone (IsOperationWrite (Op.Rename v old.now new.now) self.old.vol self.new.vol.buf) (H.done self.new.hall)) }
+        ensures made { MakesOnly (IsOperationCall (Op.Rename v old.now new.now) self.old.vol (H.done self.new.hall)) (H.made self.old.hall) (H.made self.new.hall) }
+        ensures behind { OnOk result (H.behind_sync self.new.hall) }
+        ensures slots { (self.new.vol.slots.items ≡ self.old.vol.slots.items) ⊎ HasDone (IsOperationWrite (Op.Rename v old.now new.now) self.old.vol (H.done self.new.hall)) (H.done self.new.hall) }
+        ensures kept { StaysDone (H.done self.old.hall) (H.done self.new.hall) }
+        ensures done { OnOk result (HasDone (IsOperationWrite (Op.Rename v old.now new.now) self.old.vol (H.done self.new.hall)) (H.done self.new.hall)) }
         ensures held { HoldsFor (Op.Rename v old.now new.now) self.old.vol → CallsAtMost 0 1 1 0 (H.calls self.old.hall) (H.calls self.new.hall) }
         ensures refused { (r : Refusal) → IsErrOf result (MachErr.Refused r) → CallsAtMost 0 0 0 0 (H.calls self.old.hall) (H.calls self.new.hall) }
         ensures memory { IsErrOf result MachErr.Memory → ⊥ }
@@ -121,11 +124,13 @@ impl<H: Hall> Machine for PackMachine<H> {
 
     ghost made = { λ m. H.made m.hall };
 
-    ghost may_make = { λ m op call. MayMake op m.vol call };
+    ghost may_make = { λ first op m call. IsOperationCall op first.vol (H.done m.hall) call };
 
-    ghost done = { λ m op. HasDone (MayWrite op) (H.done m.hall) };
+    ghost done = { λ m call. H.done m.hall call };
 
-    ghost has_printed = { λ m bytes. H.done m.hall (Printing bytes) };
+    ghost has_done = { λ first op m. HasDone (IsOperationWrite op first.vol (H.done m.hall)) (H.done m.hall) };
+
+    ghost refuses = { λ m op refusal. refusal_by op m.vol.slots.items ≡ Some refusal };
 
     ghost asked = { λ m. asked_nothing };
 
@@ -154,10 +159,12 @@ impl<H: Hall> Machine for PackMachine<H> {
         ensures idle { IsTrue H.tells → IsIdle (step (shelf_named (unit_of (H.facts self.old.hall).units self.old.vol.unit).name (H.meaning self.old.hall).state) op.now) result → Keeps (H.meaning self.old.hall).clock [] (ChangesOnlyNames (unit_of (H.facts self.old.hall).units self.old.vol.unit).name self.old.vol.geometry self.old.vol.vtoc (H.meaning self.old.hall)) (ChangesOnlyNames (unit_of (H.facts self.new.hall).units self.new.vol.unit).name self.new.vol.geometry self.new.vol.vtoc (H.meaning self.new.hall)) }
         ensures call { MachineCall (status_of self.old.is_sound (H.facts self.old.hall) self.old.vol) (status_of self.new.is_sound (H.facts self.new.hall) self.new.vol) result }
         ensures calls { CallsAtMost 1 1 1 0 (H.calls self.old.hall) (H.calls self.new.hall) }
-        ensures made { MakesOnly (MayMake op.now self.old.vol) (H.made self.old.hall) (H.made self.new.hall) }
-        ensures put { MakesOnly (IsOperationCall op.now self.old.vol self.new.vol.buf) (H.made self.old.hall) (H.made self.new.hall) }
-        ensures done { OnOk result (HasDone (MayWrite op.now) (H.done self.new.hall)) }
-        ensures written { OnOk result (HasDone (IsOperationWrite op.now self.old.vol self.new.vol.buf) (H.done self.new.hall)) }
+        ensures made { MakesOnly (IsOperationCall op.now self.old.vol (H.done self.new.hall)) (H.made self.old.hall) (H.made self.new.hall) }
+        ensures behind { OnOk result (H.behind_sync self.new.hall) }
+        ensures slots { (self.new.vol.slots.items ≡ self.old.vol.slots.items) ⊎ HasDone (IsOperationWrite op.now self.old.vol (H.done self.new.hall)) (H.done self.new.hall) }
+        ensures kept { StaysDone (H.done self.old.hall) (H.done self.new.hall) }
+        ensures has_done { OnOk result (HasDone (IsOperationWrite op.now self.old.vol (H.done self.new.hall)) (H.done self.new.hall)) }
+        ensures reason { (r : Refusal) → IsErrOf result (MachErr.Refused r) → refusal_by op.now self.old.vol.slots.items ≡ Some r }
         ensures held { HoldsFor op.now self.old.vol → CallsAtMost 0 1 1 0 (H.calls self.old.hall) (H.calls self.new.hall) }
         ensures refused { (r : Refusal) → IsErrOf result (MachErr.Refused r) → CallsAtMost 0 0 0 0 (H.calls self.old.hall) (H.calls self.new.hall) }
         ensures memory { IsErrOf result MachErr.Memory → ⊥ }
@@ -178,8 +185,10 @@ impl<H: Hall> Machine for PackMachine<H> {
         ensures call { MachineCall (status_of self.old.is_sound (H.facts self.old.hall) self.old.vol) (status_of self.new.is_sound (H.facts self.new.hall) self.new.vol) result }
         ensures calls { CallsAtMost 0 0 0 1 (H.calls self.old.hall) (H.calls self.new.hall) }
         ensures made { MakesOnly (λ call. call ≡ Printing bytes.now) (H.made self.old.hall) (H.made self.new.hall) }
-        ensures kept { (o : Op) → HasDone (MayWrite o) (H.done self.old.hall) → HasDone (MayWrite o) (H.done self.new.hall) }
-        ensures has_printed { OnOk result (H.done self.new.hall (Printing bytes.now)) }
+        ensures kept { StaysDone (H.done self.old.hall) (H.done self.new.hall) }
+        ensures still { (first : PackMachine H H.Hall) (op : Op) → HasDone (IsOperationWrite op first.vol (H.done self.old.hall)) (H.done self.old.hall) → HasDone (IsOperationWrite op first.vol (H.done self.new.hall)) (H.done self.new.hall) }
+        ensures leaves { (first : PackMachine H H.Hall) (op : Op) (call : HallCall) → IsOperationCall op first.vol (H.done self.old.hall) call → IsOperationCall op first.vol (H.done self.new.hall) call }
+        ensures done { OnOk result (H.done self.new.hall (Printing bytes.now)) }
         ensures index { self.new.vol ≡ self.old.vol }
         ensures error { IfErr result (λ e. e ≡ MachErr.Print) }
     {

@@ -5,10 +5,11 @@ ghost use Rattle.hall_core.specs.Made.{MakesOnly};
 ghost use Rattle.hall_core.specs.Moments.{Same};
 ghost use Rattle.dadsm_ops.specs.Operations.{image_named};
 ghost use Rattle.vtoc_index.specs.Calls.{reads_to_mount};
+ghost use Rattle.vtoc_index.specs.Given.{IsIndexGiven};
 ghost use Rattle.vtoc_index.specs.Index.{IsOfUnit};
 ghost use Rattle.vtoc_index.specs.Puts.{HoldsItsTrack};
 ghost use Rattle.volman.specs.Made.{IsMountCall};
-ghost use Rattle.volman.specs.Mount.{IsPackIn, RefusesFile};
+ghost use Rattle.volman.specs.Mount.{IsPackIn, IsUnmounted, RefusesFile};
 ghost use Rattle.volman.specs.Run.{AttachesAtMost};
 
 use hall_core::{Hall, HallErr};
@@ -27,6 +28,8 @@ pub fn mount<H: Hall>(alloc: Global, hall: &mut H, file: &str) -> Result<Vol, Mo
     ensures mounted { IsTrue H.tells → IfOk result (IsPackIn file.now (H.meaning hall.old).state) }
     ensures refused { IsTrue H.tells → IfErr result (RefusesFile file.now (H.meaning hall.old).state) }
     ensures unit { IfOk result (λ vol. IsOfUnit (H.facts hall.new).units vol × ((unit_of (H.facts hall.new).units vol.unit).name ≡ file.now)) }
+    ensures given { IfOk result (λ vol. IsIndexGiven (H.done hall.new) (unit_of (H.facts hall.new).units vol.unit).size vol) }
+    ensures reason { IfErr result (IsUnmounted (H.done hall.new) (unit_of (H.facts hall.new).units 0).size) }
     ensures last { IfOk result (λ vol. vol.buf.track + 1 ≡ vol.vtoc.start + vol.vtoc.len) }
     ensures held { IfOk result HoldsItsTrack }
     ensures told { IsTrue H.tells → Same (H.meaning hall.old) (H.meaning hall.new) }

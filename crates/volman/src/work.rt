@@ -41,8 +41,9 @@ pub fn run_statement<H: Hall>(alloc: Global, statement: &Rename, vol: Vol, hall:
     ensures device { result.0 ≡ 22 → Rose (H.facts hall).dev_faults (H.facts result.1).dev_faults }
     ensures print { result.0 ≡ 24 → Rose (H.facts hall).print_faults (H.facts result.1).print_faults }
     ensures calls { CallsAtMost 1 1 2 1 (H.calls hall) (H.calls result.1) }
-    ensures made { MakesOnly (IsStatementCall vol statement.now) (H.made hall) (H.made result.1) }
-    ensures answered { IsCode result.0 → HasAnswered statement.now result.0 (H.done result.1) }
+    ensures made { MakesOnly (IsStatementCall vol statement.now (H.done result.1)) (H.made hall) (H.made result.1) }
+    ensures kept { StaysDone (H.done hall) (H.done result.1) }
+    ensures answered { IsCode result.0 → HasAnswered vol statement.now result.0 (H.done result.1) }
     ensures held { vol.serial ≡ statement.now.serial → (slot : ℕ) → IsToRename vol.slots.items statement.now.old.bytes statement.now.new.bytes slot → HoldsSlot vol slot → CallsAtMost 0 1 2 1 (H.calls hall) (H.calls result.1) }
     ensures refused { result.0 ≡ 8 → CallsAtMost 0 0 1 1 (H.calls hall) (H.calls result.1) }
     ensures idle { IsTrue H.tells → (volume : Volume) → volume_of (image_of (H.meaning hall).state (H.facts hall) vol.unit) ≡ Ok volume → (item_of (shelf_with volume) statement.now).operations ≡ [] → CallsAtMost 0 0 1 1 (H.calls hall) (H.calls result.1) × (result.0 ≡ 24 → CallsAtMost 0 0 0 1 (H.calls hall) (H.calls result.1)) }

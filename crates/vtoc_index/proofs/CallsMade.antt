@@ -6,7 +6,7 @@ use Rattle.ckd_image.specs.Header.{HasGeometry}
 use Rattle.ckd_image.specs.Track.{Record}
 use Rattle.hall_core.specs.Facts.{Attached, Calls, CallsAtMost, Facts, Rose, unit_of}
 use Rattle.hall_core.specs.Files.{File}
-use Rattle.hall_core.specs.Made.{HallCall, MakesOnly}
+use Rattle.hall_core.specs.Made.{HallCall, MakesOnly, StaysDone}
 use Rattle.hall_core.specs.Moments.{Meaning, Same}
 use Rattle.hall_core.proofs.MadeLemmas.{makes_then}
 use Rattle.pack_spec.specs.Label.{label_in, label_of, records_on}
@@ -15,6 +15,8 @@ use Rattle.track_records.specs.Buffers.{Buffer}
 use Rattle.track_records.specs.Calls.{HasTrack, track_read}
 use Rattle.track_records.specs.Reads.{IsBroken}
 use Rattle.track_records.specs.Written.{StandsOn}
+use Rattle.pack_spec.specs.declared.addressed.VtocSlot.{VtocSlot}
+use Rattle.vtoc_index.specs.Given.{AreFound, IsBufferGiven}
 use Rattle.track_records.specs.declared.error.TrackErr.{TrackErr}
 use Rattle.track_records.specs.declared.error.TrackErr.TheVariants as track_errors
 use Rattle.pack_spec.specs.declared.MountErr.{MountErr}
@@ -164,9 +166,12 @@ track_more unit g g' from track to to' before read same low high further =
     makes_then before read (λ call is. (is.0, is.1, omega (arith, is.2, further), is.3)) (λ call is. (track, low, high, is ∙ ap (λ (x : Geometry). track_read unit x track) same))
 
 -- what a loop over tracks keeps
-pub record KeepsReading (tells : Bool) (c0 c : Calls) (h0 h : HallCall → ℕ) (f0 f : Facts) (m0 m : Meaning (List File)) (image : List ℕ) (g : Geometry) (unit start len : ℕ) (b0 b : Buffer) (r0 r : ReadSlots) : Type 0 where
+pub record KeepsReading (tells : Bool) (c0 c : Calls) (h0 h : HallCall → ℕ) (d0 d : HallCall → Type 0) (f0 f : Facts) (m0 m : Meaning (List File)) (image : List ℕ) (g : Geometry) (unit start len : ℕ) (b0 b : Buffer) (r0 r : ReadSlots) : Type 0 where
   pub calls : CallsAtMost (len - 1) 0 0 0 c0 c
   pub made : MakesOnly (IsTrackRead unit g (start + 1) (start + len)) h0 h
+  pub kept : StaysDone d0 d
+  pub given : (first : List VtocSlot) → AreFound d0 unit g start 1 first r0 → AreFound d unit g start len first r
+  pub seen : IsBufferGiven d0 unit g b0 → IsBufferGiven d unit g b
   pub facts : FactsStay f0 f
   pub told : IsTrue tells → Same m0 m
   pub geometry : b.geometry ≡ g

@@ -23,6 +23,7 @@ pub mod HeldLemmas
 pub mod VtocPut
 pub mod BegunLemmas
 pub mod PutCalls
+pub mod GivenLemmas
 pub mod PutLaw
 pub mod ExtentLaw
 pub mod LawfulVolumes
@@ -33,4 +34,5 @@ pub mod SmallPack
 pub mod MountCases
 pub mod PutCases
 mod MadeCases
+mod GivenCases
 mod RuleCases

@@ -42,7 +42,7 @@ no_track_breaks_a_rule : track_faults image one_cylinder two_tracks ≡ []
 unfolding track_faults track_fault slots_on records_on track_bytes records_of is_front records_to_end
 no_track_breaks_a_rule = refl
 
-no_slot_breaks_a_rule : slots_faults one_cylinder four_slots ≡ []
+pub no_slot_breaks_a_rule : slots_faults one_cylinder four_slots ≡ []
 unfolding slots_faults front_faults dscb_faults dscb_fault extents_fault has_types has_extents has_chain counted_extents first_extents format_3_of further_extents name_faults name_fault
 no_slot_breaks_a_rule = refl
 

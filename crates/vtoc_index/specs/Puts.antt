@@ -1,5 +1,5 @@
 -- What a write of one slot of a VTOC leaves of the image and of the index, in this project's profile.
-use Rattle.std.specs.Prelude.{◌≡◌, ◌⊎◌, ℕ, ◌+◌, ◌*◌, ◌≤◌, ◌<◌, List, [], length, take, drop, Some, Result, OnOk, OnErr, slice_set}
+use Rattle.std.specs.Prelude.{◌≡◌, ◌⊎◌, ℕ, ◌+◌, ◌-◌, ◌*◌, ◌≤◌, ◌<◌, List, [], length, take, drop, Some, None, Result, OnOk, OnErr, slice_set}
 use Rattle.dscb_codec.specs.declared.Dscb.{Dscb}
 use Rattle.dscb_codec.specs.Layout.{IsDscb}
 use Rattle.ckd_image.specs.Track.{Record}
@@ -9,7 +9,7 @@ use Rattle.hall_core.specs.Made.{HallCall, Noting, Writing}
 use Rattle.hall_core.specs.Moments.{Meaning}
 use Rattle.pack_spec.specs.Vtoc.{slots_on}
 use Rattle.track_records.specs.Buffers.{Buffer}
-use Rattle.track_records.specs.Calls.{track_read}
+use Rattle.track_records.specs.Calls.{HasGiven, records_by, track_read}
 use Rattle.track_records.specs.Updates.{HasLengths, with_parts}
 use Rattle.track_records.specs.Written.{StandsOn, place_of}
 use Rattle.vtoc_index.specs.declared.vol.Vol.{Vol}
@@ -42,23 +42,49 @@ pub record IsReplaced (slot : ℕ) (d : Dscb) (old new : Vol) : Type 0 where
 abbrev pub HoldsSlot : Vol → ℕ → Type 0
 HoldsSlot v slot = (v.buf.track ≡ v.vtoc.start + track_index v.firsts.items slot) × (slots_in_front v.firsts.items slot < length v.buf.records)
 
--- The write of a DSCB's bytes into a slot: within the slot's track, and there where the buffer has the slot's record.
-pub record IsSlotWrite (v : Vol) (slot : ℕ) (d : Dscb) (buf : Buffer) (call : HallCall) : Type 0 where
+-- the track of the unit on which a slot stands
+abbrev pub track_of_slot : Vol → ℕ → ℕ
+track_of_slot v slot = v.vtoc.start + track_index v.firsts.items slot
+
+-- the buffer holds this track, and that up to R = r
+abbrev pub HoldsRecord : Buffer → ℕ → ℕ → Type 0
+HoldsRecord b track r = (b.track ≡ track) × (r ≤ length b.records)
+
+-- A track up to R = r, as it is seen: as the buffer before has it, or else by the bytes that a read of the track gave.
+pub data IsSeen (before : Buffer) (track r : ℕ) (done : HallCall → Type 0) (buf : Buffer) : Type 0 where
+  Held : HoldsRecord before track r → buf ≡ before → IsSeen before track r done buf
+  Read : ¬ HoldsRecord before track r → buf ≡ record before { track = track; records = buf.records } → HasGiven done before.unit before.geometry track (λ bytes. records_by before.geometry (Some r) track bytes ≡ Some buf.records) → IsSeen before track r done buf
+
+-- No slot is Rr of a track: as it is seen that record has other lengths, or the bytes that a read of the track gave break the grammar before it is whole.
+pub data LacksSlot (before : Buffer) (track r : ℕ) (done : HallCall → Type 0) : Type 0 where
+  Other : (buf : Buffer) → IsSeen before track r done buf → ¬ HasLengths buf.records (r - 1) 44 96 → LacksSlot before track r done
+  Broken : ¬ HoldsRecord before track r → HasGiven done before.unit before.geometry track (λ bytes. records_by before.geometry (Some r) track bytes ≡ None) → LacksSlot before track r done
+
+-- The write of a DSCB's bytes into a slot, at its place on the track as that is seen, where it has the lengths of a slot.
+pub record IsSlotWrite (v : Vol) (slot : ℕ) (d : Dscb) (done : HallCall → Type 0) (call : HallCall) : Type 0 where
   pub bytes : List ℕ
   pub dscb : IsDscb d bytes
   pub size : length bytes ≡ 140
+  pub buf : Buffer
+  pub seen : IsSeen v.buf (track_of_slot v slot) (slots_in_front v.firsts.items slot + 1) done buf
+  pub lengths : HasLengths buf.records (slots_in_front v.firsts.items slot) 44 96
   pub at : ℕ
   pub place : at ≡ place_of buf (slots_in_front v.firsts.items slot)
-  pub behind : 512 + (v.vtoc.start + track_index v.firsts.items slot) * v.geometry.track_size ≤ at
-  pub inside : at + 140 ≤ 512 + (v.vtoc.start + track_index v.firsts.items slot + 1) * v.geometry.track_size
+  pub inside : at + 140 ≤ 512 + (track_of_slot v slot + 1) * v.geometry.track_size
   pub writes : call ≡ Writing v.unit at bytes
 
--- A call that puts a DSCB into a slot, by the index before and the buffer behind: the read of the slot's track, the note that it isn't as it was, where the buffer has no slot there, or the write into the slot.
-abbrev pub IsPutCall : Vol → ℕ → Dscb → Buffer → HallCall → Type 0
-IsPutCall v slot d buf call =
-    (call ≡ track_read v.unit v.geometry (v.vtoc.start + track_index v.firsts.items slot))
-    ⊎ (((call ≡ Noting v.unit (v.vtoc.start + track_index v.firsts.items slot)) × (¬ HasLengths buf.records (slots_in_front v.firsts.items slot) 44 96))
-    ⊎ IsSlotWrite v slot d buf call)
+-- A call that puts a DSCB into a slot, by the index before and by what was done: the read of the slot's track, where the index doesn't hold the slot; the note that the track isn't as it was, where it is seen to lack the slot; or the write into the slot.
+abbrev pub IsPutCall : Vol → ℕ → Dscb → (HallCall → Type 0) → HallCall → Type 0
+IsPutCall v slot d done call =
+    ((call ≡ track_read v.unit v.geometry (track_of_slot v slot)) × (¬ HoldsSlot v slot))
+    ⊎ (((call ≡ Noting v.unit (track_of_slot v slot)) × LacksSlot v.buf (track_of_slot v slot) (slots_in_front v.firsts.items slot + 1) done)
+    ⊎ IsSlotWrite v slot d done call)
+
+-- The buffer behind: it holds nothing of the slot's track, or the track as it is seen, or that with the DSCB in the slot.
+pub data HoldsPut (v : Vol) (slot : ℕ) (d : Dscb) (done : HallCall → Type 0) (buf : Buffer) : Type 0 where
+  Emptied : buf ≡ record v.buf { track = track_of_slot v slot; records = [] } → HoldsPut v slot d done buf
+  Seen : IsSeen v.buf (track_of_slot v slot) (slots_in_front v.firsts.items slot + 1) done buf → HoldsPut v slot d done buf
+  Changed : (seen : Buffer) → IsSeen v.buf (track_of_slot v slot) (slots_in_front v.firsts.items slot + 1) done seen → (bytes : List ℕ) → IsDscb d bytes → length bytes ≡ 140 → HasLengths seen.records (slots_in_front v.firsts.items slot) 44 96 → buf ≡ record seen { records = with_parts (slots_in_front v.firsts.items slot) (take 44 bytes) (drop 44 bytes) seen.records } → HoldsPut v slot d done buf
 
 -- of a track just so many records were read, or none
 abbrev pub IsReadUpTo : ℕ → List Record → Type 0

@@ -1,17 +1,18 @@
 //! The volume label.
-ghost use Rattle.std.specs.Prelude.{◌≡◌, ◌<◌, ◌≤◌, ◌-◌, length, IsTrue, IfOk, OnOk, IfErr, IfSome, IsErrOf, slice_range, None};
+ghost use Rattle.std.specs.Prelude.{◌≡◌, ◌⊎◌, ℕ, List, ◌<◌, ◌≤◌, ◌-◌, length, IsTrue, IfOk, OnOk, IfErr, IfSome, IsErrOf, slice_range, None};
 ghost use Rattle.std.specs.Option.{option_copied};
 ghost use Rattle.ckd_image.specs.Header.{HasGeometry};
 ghost use Rattle.hall_core.specs.Facts.{CallsAtMost, unit_of};
 ghost use Rattle.hall_core.specs.Files.{image_of};
-ghost use Rattle.hall_core.specs.Made.{MakesOnly};
+ghost use Rattle.hall_core.specs.Made.{MakesOnly, StaysDone};
 ghost use Rattle.hall_core.specs.Moments.{Same};
 ghost use Rattle.pack_spec.specs.Label.{address_at, are_label, is_keyed, label_in, label_of};
 ghost use Rattle.pack_spec.specs.Volume.{volume_within};
 ghost use Rattle.pack_spec.specs.Vtoc.{vtoc_of};
 ghost use Rattle.track_records.specs.Calls.{track_read};
 ghost use Rattle.vtoc_index.specs.Calls.{MountCall};
-ghost use Rattle.vtoc_index.specs.Reading.{IsLabel, Refuses, record_number};
+ghost use Rattle.vtoc_index.specs.Given.{IsLabelGiven, IsLabelLacking};
+ghost use Rattle.vtoc_index.specs.Reading.{IsLabel, Refuses, Says, record_number};
 
 use ebcdic_names::Serial;
 use hall_core::Hall;
@@ -50,6 +51,9 @@ pub(crate) fn read_label<H: Hall>(
     ensures call { MountCall (H.facts hall.old) (H.facts hall.new) result }
     ensures calls { CallsAtMost 1 0 0 0 (H.calls hall.old) (H.calls hall.new) }
     ensures made { MakesOnly (λ call. call ≡ track_read unit buf.old.geometry 0) (H.made hall.old) (H.made hall.new) }
+    ensures kept { StaysDone (H.done hall.old) (H.done hall.new) }
+    ensures given { IfOk result (λ label. (content : List ℕ) × IsLabelGiven (H.done hall.new) unit buf.old.geometry content × Says label content) }
+    ensures reason { IfErr result (λ e. (e ≡ MountErr.Device) ⊎ ((e ≡ MountErr.NoLabel) × IsLabelLacking (H.done hall.new) unit buf.old.geometry)) }
     ensures file { IsErrOf result MountErr.NoFile → ⊥ }
 {
     match read_records(hall, unit, LABEL_TRACK, Some(LABEL_RECORD), buf) {

@@ -2,13 +2,13 @@
 ghost use Rattle.std.specs.Prelude.{◌≡◌, ◌⊎◌, ◌<◌, ◌≤◌, ◌+◌, ◌-◌, [], length, filter, nat_le, slice_index, IsOk, IsTrue, OnOk, OnErr};
 ghost use Rattle.hall_core.specs.Facts.{CallsAtMost, DeviceCall, unit_of};
 ghost use Rattle.hall_core.specs.Files.{image_of};
-ghost use Rattle.hall_core.specs.Made.{HasDone, MakesOnly, Noting};
+ghost use Rattle.hall_core.specs.Made.{HasDone, MakesOnly, Noting, StaysDone};
 ghost use Rattle.hall_core.specs.Moments.{Same};
 ghost use Rattle.track_records.specs.Calls.{HasTrack, track_read};
 ghost use Rattle.track_records.specs.Updates.{HasLengths};
 ghost use Rattle.track_records.specs.Written.{StandsOn};
 ghost use Rattle.vtoc_index.specs.Index.{AreFirsts, IsIndexOf, IsOfUnit, slots_in_front, track_index};
-ghost use Rattle.vtoc_index.specs.Puts.{AfterPut, HasSlot, HoldsDscb, HoldsSlot, IsHeld, IsPutCall, IsReadUpTo, IsSlotWrite, IsWith};
+ghost use Rattle.vtoc_index.specs.Puts.{AfterPut, HasSlot, HoldsDscb, HoldsPut, HoldsRecord, HoldsSlot, IsHeld, IsPutCall, IsReadUpTo, IsSeen, IsSlotWrite, IsWith, LacksSlot};
 
 use crate::vol::Vol;
 use dscb_codec::{Dscb, encode};
@@ -44,8 +44,10 @@ pub fn put_slot<H: Hall>(hall: &mut H, vol: &mut Vol, slot: u32, dscb: &Dscb) ->
     ensures call { DeviceCall (H.facts hall.old) (H.facts hall.new) result }
     ensures slot { OnOk result (HoldsDscb (slots_in_front vol.old.firsts.items slot) dscb.now vol.new.buf.records) }
     ensures calls { CallsAtMost 1 1 0 0 (H.calls hall.old) (H.calls hall.new) }
-    ensures made { MakesOnly (IsPutCall vol.old slot dscb.now vol.new.buf) (H.made hall.old) (H.made hall.new) }
-    ensures done { OnOk result (HasDone (IsSlotWrite vol.old slot dscb.now vol.new.buf) (H.done hall.new)) }
+    ensures made { MakesOnly (IsPutCall vol.old slot dscb.now (H.done hall.new)) (H.made hall.old) (H.made hall.new) }
+    ensures done { OnOk result (HasDone (IsSlotWrite vol.old slot dscb.now (H.done hall.new)) (H.done hall.new)) }
+    ensures kept { StaysDone (H.done hall.old) (H.done hall.new) }
+    ensures buffer { HoldsPut vol.old slot dscb.now (H.done hall.new) vol.new.buf }
     ensures unwritten { OnErr result (¬ HasLengths vol.new.buf.records (slots_in_front vol.old.firsts.items slot) 44 96 → CallsAtMost 1 0 0 0 (H.calls hall.old) (H.calls hall.new)) }
     ensures again { HoldsSlot vol.old slot → CallsAtMost 0 1 0 0 (H.calls hall.old) (H.calls hall.new) }
     ensures few { ¬ HoldsSlot vol.old slot → IsReadUpTo (slots_in_front vol.old.firsts.items slot + 1) vol.new.buf.records }
@@ -104,7 +106,7 @@ fn hold<H: Hall>(hall: &mut H, unit: u8, place: Place, buf: &mut TrackBuf) -> Re
     requires there { IsTrue H.tells → HasSlot (image_of (H.meaning hall.old).state (H.facts hall.old) unit) buf.old.geometry place.track place.number }
     requires held { IsTrue H.tells → IsHeld (image_of (H.meaning hall.old).state (H.facts hall.old) unit) buf.old }
     ensures buffer { OnOk result (buf.new ≡ record buf.old { track = place.track; records = buf.new.records }) }
-    ensures kept { (buf.new.geometry ≡ buf.old.geometry) × (buf.new.unit ≡ buf.old.unit) }
+    ensures stays { (buf.new.geometry ≡ buf.old.geometry) × (buf.new.unit ≡ buf.old.unit) }
     ensures track { buf.new.track ≡ place.track }
     ensures lengths { OnOk result (HasLengths buf.new.records (place.number - 1) 44 96) }
     ensures failed { OnErr result (¬ HasLengths buf.new.records (place.number - 1) 44 96) }
@@ -114,7 +116,10 @@ fn hold<H: Hall>(hall: &mut H, unit: u8, place: Place, buf: &mut TrackBuf) -> Re
     ensures told { IsTrue H.tells → Same (H.meaning hall.old) (H.meaning hall.new) }
     ensures call { DeviceCall (H.facts hall.old) (H.facts hall.new) result }
     ensures calls { CallsAtMost 1 0 0 0 (H.calls hall.old) (H.calls hall.new) }
-    ensures made { MakesOnly (λ call. (call ≡ track_read unit buf.old.geometry place.track) ⊎ ((call ≡ Noting unit place.track) × (¬ HasLengths buf.new.records (place.number - 1) 44 96))) (H.made hall.old) (H.made hall.new) }
+    ensures made { MakesOnly (λ call. ((call ≡ track_read unit buf.old.geometry place.track) × (¬ HoldsRecord buf.old place.track place.number)) ⊎ ((call ≡ Noting unit place.track) × LacksSlot buf.old place.track place.number (H.done hall.new))) (H.made hall.old) (H.made hall.new) }
+    ensures kept { StaysDone (H.done hall.old) (H.done hall.new) }
+    ensures seen { OnOk result (IsSeen buf.old place.track place.number (H.done hall.new) buf.new) }
+    ensures lost { OnErr result ((buf.new ≡ record buf.old { track = place.track; records = [] }) ⊎ IsSeen buf.old place.track place.number (H.done hall.new) buf.new) }
 {
     fetch(hall, unit, place, buf)?;
     if !holds_slot(buf, place.number) {
@@ -140,7 +145,9 @@ fn fetch<H: Hall>(hall: &mut H, unit: u8, place: Place, buf: &mut TrackBuf) -> R
     ensures told { IsTrue H.tells → Same (H.meaning hall.old) (H.meaning hall.new) }
     ensures call { DeviceCall (H.facts hall.old) (H.facts hall.new) result }
     ensures calls { CallsAtMost 1 0 0 0 (H.calls hall.old) (H.calls hall.new) }
-    ensures made { MakesOnly (λ call. (call ≡ track_read unit buf.old.geometry place.track) ⊎ ((call ≡ Noting unit place.track) × (¬ HasLengths buf.new.records (place.number - 1) 44 96))) (H.made hall.old) (H.made hall.new) }
+    ensures made { MakesOnly (λ call. ((call ≡ track_read unit buf.old.geometry place.track) × (¬ HoldsRecord buf.old place.track place.number)) ⊎ ((call ≡ Noting unit place.track) × LacksSlot buf.old place.track place.number (H.done hall.new))) (H.made hall.old) (H.made hall.new) }
+    ensures kept { StaysDone (H.done hall.old) (H.done hall.new) }
+    ensures seen { OnOk result (IsSeen buf.old place.track place.number (H.done hall.new) buf.new) }
 {
     if buf.track() == place.track && usize::from(place.number) <= buf.len() {
         return Ok(());

@@ -1,17 +1,19 @@
 //! The index of a VTOC, read with one read a track.
-ghost use Rattle.std.specs.Prelude.{◌≡◌, ◌≢◌, ◌≤◌, ◌<◌, ◌+◌, ◌⊎◌, length, IsTrue, IfOk, IfErr, OnOk, IsErrOf, Some, None, Ok, Err, ◌-◌, ◌++◌, ℕ, List, []};
+ghost use Rattle.std.specs.Prelude.{◌≡◌, ◌≢◌, ◌≤◌, ◌<◌, ◌+◌, ◌⊎◌, length, IsTrue, IfOk, IfErr, OnOk, IsErrOf, Some, None, Ok, Err, ◌-◌, ◌++◌, ℕ, List, [], take};
 ghost use Rattle.ckd_image.specs.Header.{HasGeometry};
 ghost use Rattle.hall_core.specs.Facts.{CallsAtMost, unit_of};
 ghost use Rattle.hall_core.specs.Files.{image_of};
-ghost use Rattle.hall_core.specs.Made.{MakesOnly};
+ghost use Rattle.hall_core.specs.Made.{MakesOnly, StaysDone};
 ghost use Rattle.hall_core.specs.Moments.{Same};
 ghost use Rattle.pack_spec.specs.Label.{is_inside, records_on, track_of_address};
 ghost use Rattle.pack_spec.specs.Views.{tracks_of};
 ghost use Rattle.pack_spec.specs.Volume.{volume_within};
-ghost use Rattle.pack_spec.specs.Vtoc.{slots_on};
-ghost use Rattle.track_records.specs.Calls.{HasTrack, track_read};
+ghost use Rattle.pack_spec.specs.Vtoc.{first_slot, slots_on, vtoc_by};
+ghost use Rattle.pack_spec.specs.declared.addressed.VtocSlot.{VtocSlot};
+ghost use Rattle.track_records.specs.Calls.{HasGiven, HasTrack, records_by, track_read};
 ghost use Rattle.track_records.specs.Written.{StandsOn};
 ghost use Rattle.vtoc_index.specs.Calls.{IsMountRead, IsTrackRead, MountCall, first_track_reads, reads_to_mount, tracks_to_read, vtoc_reads};
+ghost use Rattle.vtoc_index.specs.Given.{AreFound, IsBufferGiven, IsIndexGiven, IsReasonGiven, IsTrackReason, IsVtocReason, first_bytes};
 ghost use Rattle.vtoc_index.specs.Index.{IsMounted, IsOfUnit, IsReason};
 ghost use Rattle.vtoc_index.specs.declared.slots.ReadSlot.{ReadSlot};
 ghost use Rattle.vtoc_index.specs.Puts.{HoldsItsTrack};
@@ -63,6 +65,8 @@ pub fn read_vtoc<H: Hall>(alloc: Global, hall: &mut H, unit: u8) -> Result<Vol, 
     ensures reads { IsTrue H.tells → CallsAtMost (reads_to_mount (image_of (H.meaning hall.old).state (H.facts hall.old) unit)) 0 0 0 (H.calls hall.old) (H.calls hall.new) }
     ensures short { (unit_of (H.facts hall.old).units unit).size < 512 → CallsAtMost 0 0 0 0 (H.calls hall.old) (H.calls hall.new) }
     ensures once { IfOk result (λ vol. CallsAtMost (vol.vtoc.len + 2) 0 0 0 (H.calls hall.old) (H.calls hall.new)) }
+    ensures given { IfOk result (IsIndexGiven (H.done hall.new) (unit_of (H.facts hall.old).units unit).size) }
+    ensures reason { IfErr result (IsReasonGiven (H.done hall.new) unit (unit_of (H.facts hall.old).units unit).size) }
     ensures file { IsErrOf result MountErr.NoFile → ⊥ }
 {
     let geometry = read_geometry(hall, unit)?;
@@ -115,6 +119,10 @@ fn read_slots<H: Hall>(
     ensures reads { let image = image_of (H.meaning hall.old).state (H.facts hall.old) unit in IsTrue H.tells → CallsAtMost (vtoc_reads image geometry (records_on image geometry None (track_of_address geometry at)) (vtoc_on image geometry at)) 0 0 0 (H.calls hall.old) (H.calls hall.new) }
     ensures once { IfOk result (λ vtoc. CallsAtMost vtoc.len 0 0 0 (H.calls hall.old) (H.calls hall.new)) }
     ensures far { IsErrOf result MountErr.Memory → CallsAtMost (length found.new.firsts.items + 1) 0 0 0 (H.calls hall.old) (H.calls hall.new) }
+    ensures kept { StaysDone (H.done hall.old) (H.done hall.new) }
+    ensures given { IfOk result (λ vtoc. (slots : List VtocSlot) × AreFound (H.done hall.new) unit geometry vtoc.start vtoc.len slots found.new × (vtoc_by geometry at (first_bytes slots) ≡ Ok vtoc)) }
+    ensures seen { OnOk result (IsBufferGiven (H.done hall.new) unit geometry buf.new) }
+    ensures reason { IfErr result (λ e. (e ≡ MountErr.Device) ⊎ ((e ≡ MountErr.Memory) ⊎ IsVtocReason (H.done hall.new) unit geometry at e)) }
     ensures file { IsErrOf result MountErr.NoFile → ⊥ }
 {
     let (vtoc, count) = read_first(hall, unit, geometry, at, buf)?;
@@ -147,6 +155,10 @@ fn read_first<H: Hall>(
     ensures made { MakesOnly (λ call. call ≡ track_read unit geometry (track_of_address geometry at)) (H.made hall.old) (H.made hall.new) }
     ensures reads { let image = image_of (H.meaning hall.old).state (H.facts hall.old) unit in IsTrue H.tells → CallsAtMost (first_track_reads (records_on image geometry None (track_of_address geometry at))) 0 0 0 (H.calls hall.old) (H.calls hall.new) }
     ensures once { OnOk result (CallsAtMost 1 0 0 0 (H.calls hall.old) (H.calls hall.new)) }
+    ensures kept { StaysDone (H.done hall.old) (H.done hall.new) }
+    ensures given { IfOk result (λ p. HasGiven (H.done hall.new) unit geometry p.0.start (λ bytes. records_by geometry None p.0.start bytes ≡ Some buf.new.records)) }
+    ensures found { IfOk result (λ p. vtoc_by geometry at (first_slot (take 1 buf.new.records)) ≡ Ok p.0) }
+    ensures reason { IfErr result (λ e. (e ≡ MountErr.Device) ⊎ IsVtocReason (H.done hall.new) unit geometry at e) }
     ensures file { IsErrOf result MountErr.NoFile → ⊥ }
     ensures memory { IsErrOf result MountErr.Memory → ⊥ }
 {
@@ -179,6 +191,8 @@ fn why_broken<H: Hall>(
     ensures call { MountCall {T = Unit {0}} (H.facts hall.old) (H.facts hall.new) (Err result) }
     ensures calls { CallsAtMost 1 0 0 0 (H.calls hall.old) (H.calls hall.new) }
     ensures made { MakesOnly (λ call. call ≡ track_read unit geometry (track_of_address geometry at)) (H.made hall.old) (H.made hall.new) }
+    ensures kept { StaysDone (H.done hall.old) (H.done hall.new) }
+    ensures reason { HasGiven (H.done hall.old) unit geometry (track_of_address geometry at) (λ bytes. records_by geometry None (track_of_address geometry at) bytes ≡ None) → (result ≡ MountErr.Device) ⊎ IsVtocReason (H.done hall.new) unit geometry at result }
     ensures file { result ≢ MountErr.NoFile }
     ensures memory { result ≢ MountErr.Memory }
     ensures buffer { buf.new ≡ record buf.old { unit = unit; track = track_of_address geometry at; records = buf.new.records } }
@@ -224,6 +238,10 @@ fn read_others<H: Hall>(
     ensures reads { let image = image_of (H.meaning hall.old).state (H.facts hall.old) unit in IsTrue H.tells → AreTracksRead image geometry vtoc.start 1 found.old → CallsAtMost (tracks_to_read image geometry vtoc - 1) 0 0 0 (H.calls hall.old) (H.calls hall.new) }
     ensures far { CallsAtMost ((length found.new.firsts.items - length found.old.firsts.items) + 1) 0 0 0 (H.calls hall.old) (H.calls hall.new) }
     ensures stops { (t : ℕ) → IsErrOf result (MountErr.VtocTrack t) → CallsAtMost (t - vtoc.start) 0 0 0 (H.calls hall.old) (H.calls hall.new) }
+    ensures kept { StaysDone (H.done hall.old) (H.done hall.new) }
+    ensures given { (first : List VtocSlot) → AreFound (H.done hall.old) unit geometry vtoc.start 1 first found.old → OnOk result (AreFound (H.done hall.new) unit geometry vtoc.start vtoc.len first found.new) }
+    ensures seen { IsBufferGiven (H.done hall.old) unit geometry buf.old → OnOk result (IsBufferGiven (H.done hall.new) unit geometry buf.new) }
+    ensures reason { (first : List VtocSlot) → AreFound (H.done hall.old) unit geometry vtoc.start 1 first found.old → IfErr result (λ e. (e ≡ MountErr.Device) ⊎ ((e ≡ MountErr.Memory) ⊎ IsTrackReason (H.done hall.new) unit geometry vtoc e)) }
     ensures file { IsErrOf result MountErr.NoFile → ⊥ }
 {
     for track in vtoc.start + 1..vtoc.start + vtoc.len {
@@ -250,6 +268,9 @@ fn read_track<H: Hall>(
     ensures call { MountCall (H.facts hall.old) (H.facts hall.new) result }
     ensures calls { CallsAtMost 1 0 0 0 (H.calls hall.old) (H.calls hall.new) }
     ensures made { MakesOnly (λ call. call ≡ track_read unit buf.old.geometry track) (H.made hall.old) (H.made hall.new) }
+    ensures kept { StaysDone (H.done hall.old) (H.done hall.new) }
+    ensures given { OnOk result (HasGiven (H.done hall.new) unit buf.old.geometry track (λ bytes. records_by buf.old.geometry None track bytes ≡ Some buf.new.records)) }
+    ensures reason { IfErr result (λ e. (e ≡ MountErr.Device) ⊎ ((e ≡ MountErr.VtocTrack track) × HasGiven (H.done hall.new) unit buf.old.geometry track (λ bytes. records_by buf.old.geometry None track bytes ≡ None))) }
     ensures file { IsErrOf result MountErr.NoFile → ⊥ }
 {
     match read_records(hall, unit, track, None, buf) {

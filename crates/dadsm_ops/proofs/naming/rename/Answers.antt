@@ -1,7 +1,7 @@
-use Rattle.std.proofs.Common.{inr}
+use Rattle.std.proofs.Common.{⊎_elim, inl, inr}
 use Rattle.hall_core.specs.Facts.{unit_of}
 use Rattle.hall_core.proofs.MadeLemmas.{done_as, makes_as}
-use Rattle.dadsm_ops.proofs.Renaming.{holds_renamed, may_rename_entry, named_call, named_write, puts_name, puts_name_not, rename_calls, renames, renames_entry, renames_not}
+use Rattle.dadsm_ops.proofs.Renaming.{holds_renamed, named_call, named_write, puts_name, puts_name_not, rename_calls, renames, renames_entry, renames_not}
 use Rattle.dadsm_ops.proofs.naming.rename.Goals as goal
 
 pub returns-in-Ok-clause-told : goal.returns-in-Ok-clause-told
@@ -50,15 +50,6 @@ returns-in-Ok-clause-held g c =
     let found = c.in_ok-slot.ensures.found in
     holds_renamed c.args.old.now.bytes c.args.new.now.bytes v c.put_through.new.vol c.in_ok-slot.slot c.under_name-dscb.result found c.in-Ok.ensures.index.items c.in-Ok.ensures.track c.in-Ok.ensures.slot
 
-pub returns-in-Ok-clause-slots : goal.returns-in-Ok-clause-slots
-returns-in-Ok-clause-slots g c = inr (returns-in-Ok-clause-entry g c)
-
-pub returns-in-Err-clause-slots : goal.returns-in-Err-clause-slots
-returns-in-Err-clause-slots g c =
-    let v = c.args.vol.now in
-    let found = c.in_ok-slot.ensures.found in
-    may_rename_entry c.args.old.now.bytes c.args.new.now.bytes v.slots.items c.put_through.new.vol.slots.items c.in_ok-slot.slot c.index.result.now c.under_name-dscb.result found c.index.ensures c.under_name-dscb.ensures.exact c.in-Err.ensures.slots
-
 pub returns-in-Ok-clause-again : goal.returns-in-Ok-clause-again
 returns-in-Ok-clause-again g c =
     let v = c.args.vol.now in
@@ -81,16 +72,33 @@ pub returns-in-Ok-clause-made : goal.returns-in-Ok-clause-made
 returns-in-Ok-clause-made g c =
     let v = c.args.vol.now in
     let found = c.in_ok-slot.ensures.found in
-    makes_as c.in-Ok.ensures.made (named_call c.args.old.now.bytes c.args.new.now.bytes v c.put_through.new.vol.buf c.in_ok-slot.slot c.index.result.now c.under_name-dscb.result found c.index.ensures c.under_name-dscb.ensures.exact)
+    makes_as c.in-Ok.ensures.made (named_call c.args.old.now.bytes c.args.new.now.bytes v (g.H.Hall.done c.put_through.new.hall) c.in_ok-slot.slot c.index.result.now c.under_name-dscb.result found c.index.ensures c.under_name-dscb.ensures.exact)
 
 pub returns-in-Err-clause-made : goal.returns-in-Err-clause-made
 returns-in-Err-clause-made g c =
     let v = c.args.vol.now in
     let found = c.in_ok-slot.ensures.found in
-    makes_as c.in-Err.ensures.made (named_call c.args.old.now.bytes c.args.new.now.bytes v c.put_through.new.vol.buf c.in_ok-slot.slot c.index.result.now c.under_name-dscb.result found c.index.ensures c.under_name-dscb.ensures.exact)
+    makes_as c.in-Err.ensures.made (named_call c.args.old.now.bytes c.args.new.now.bytes v (g.H.Hall.done c.put_through.new.hall) c.in_ok-slot.slot c.index.result.now c.under_name-dscb.result found c.index.ensures c.under_name-dscb.ensures.exact)
 
 pub returns-in-Ok-clause-done : goal.returns-in-Ok-clause-done
 returns-in-Ok-clause-done g c =
     let v = c.args.vol.now in
     let found = c.in_ok-slot.ensures.found in
-    done_as c.in-Ok.ensures.done (named_write c.args.old.now.bytes c.args.new.now.bytes v c.put_through.new.vol.buf c.in_ok-slot.slot c.index.result.now c.under_name-dscb.result found c.index.ensures c.under_name-dscb.ensures.exact)
+    done_as c.in-Ok.ensures.done (named_write c.args.old.now.bytes c.args.new.now.bytes v (g.H.Hall.done c.put_through.new.hall) c.in_ok-slot.slot c.index.result.now c.under_name-dscb.result found c.index.ensures c.under_name-dscb.ensures.exact)
+
+-- the slots are as before, or so where that was written
+pub returns-in-Ok-clause-slots : goal.returns-in-Ok-clause-slots
+returns-in-Ok-clause-slots g c = inr (returns-in-Ok-clause-entry g c, returns-in-Ok-clause-done g c)
+
+pub returns-in-Err-clause-slots : goal.returns-in-Err-clause-slots
+returns-in-Err-clause-slots g c =
+    let v = c.args.vol.now in
+    let found = c.in_ok-slot.ensures.found in
+    let dscb = c.under_name-dscb.ensures.exact in
+    ⊎_elim
+    (λ same. inl same)
+    (λ put. inr (
+      renames_entry c.args.old.now.bytes c.args.new.now.bytes v.slots.items c.put_through.new.vol.slots.items c.in_ok-slot.slot c.index.result.now c.under_name-dscb.result found c.index.ensures dscb put.0,
+      done_as put.1 (named_write c.args.old.now.bytes c.args.new.now.bytes v (g.H.Hall.done c.put_through.new.hall) c.in_ok-slot.slot c.index.result.now c.under_name-dscb.result found c.index.ensures dscb),
+    ))
+    c.in-Err.ensures.slots

@@ -5,11 +5,16 @@ use Rattle.vtoc_index.proofs.BegunLemmas.{same_image}
 use Rattle.vtoc_index.proofs.HeldLemmas.{still_slot}
 use Rattle.hall_core.specs.Facts.{Attached, unit_of}
 use Rattle.hall_core.specs.Files.{image_of}
-use Rattle.hall_core.proofs.MadeLemmas.{done_still, makes_as, makes_then}
+use Rattle.hall_core.proofs.MadeLemmas.{done_as, done_still, makes_as, makes_then}
+use Rattle.hall_core.specs.Made.{HasDone}
+use Rattle.vtoc_index.specs.Puts.{IsSlotWrite}
+use Rattle.vtoc_index.proofs.PutCalls.{call_still, write_still}
 use Rattle.vtoc_index.specs.declared.vol.Vol.{Vol}
 use Rattle.dadsm_ops.specs.Operations.{image_named}
 use Rattle.dadsm_ops.proofs.Writes.{put_fails, put_synced}
+use Rattle.dadsm_ops.proofs.through.put_through.Given.{Over}
 use Rattle.dadsm_ops.proofs.through.put_through.Goals as goal
+use Rattle.dadsm_ops.proofs.through.put_through.Goals.{After-make_durable}
 
 pub returns-in_err-put_slot-clause-told : goal.returns-in_err-put_slot-clause-told
 returns-in_err-put_slot-clause-told g c told =
@@ -26,9 +31,6 @@ returns-clause-told g c told =
 
 pub returns-in_err-put_slot-clause-slots : goal.returns-in_err-put_slot-clause-slots
 returns-in_err-put_slot-clause-slots g c = inl (ap (λ (v : Vol). v.slots.items) c.in_err-put_slot.ensures.index.failed.others)
-
-pub returns-clause-slots : goal.returns-clause-slots
-returns-clause-slots g c = inr c.in_ok-put_slot.ensures.index.done.items
 
 pub returns-in_err-put_slot-clause-ahead : goal.returns-in_err-put_slot-clause-ahead
 returns-in_err-put_slot-clause-ahead g c told = on_err c.from_residual.result _ (inl (ap (λ (v : Vol). v.slots.items) c.in_err-put_slot.ensures.index.failed.others))
@@ -65,8 +67,17 @@ returns-clause-unwritten g c =
 pub returns-in_err-put_slot-clause-made : goal.returns-in_err-put_slot-clause-made
 returns-in_err-put_slot-clause-made g c = makes_as c.in_err-put_slot.ensures.made (λ call is. inl is)
 
+-- a sync is made behind the write alone
+wrote : (g : Over) (c : After-make_durable g) → HasDone (IsSlotWrite c.args.vol.now c.args.slot c.args.dscb.now (g.H.Hall.done c.make_durable.new.hall)) (g.H.Hall.done c.make_durable.new.hall)
+wrote g c = done_still (done_as c.in_ok-put_slot.ensures.done (λ call is. write_still is c.make_durable.ensures.kept)) c.make_durable.ensures.kept
+
 pub returns-clause-made : goal.returns-clause-made
-returns-clause-made g c = makes_then c.in_ok-put_slot.ensures.made c.make_durable.ensures.made (λ call is. inl is) (λ call is. inr is)
+returns-clause-made g c =
+    let w = (goal.at.returns-clause-made g c).After-make_durable in
+    makes_then c.in_ok-put_slot.ensures.made c.make_durable.ensures.made (λ call is. inl (call_still call c.make_durable.ensures.kept is)) (λ call is. inr (is, wrote g w))
 
 pub returns-clause-done : goal.returns-clause-done
-returns-clause-done g c = on_ok c.make_durable.result _ (done_still c.in_ok-put_slot.ensures.done c.make_durable.ensures.kept)
+returns-clause-done g c = on_ok c.make_durable.result _ (wrote g (goal.at.returns-clause-done g c).After-make_durable)
+
+pub returns-clause-slots : goal.returns-clause-slots
+returns-clause-slots g c = inr (c.in_ok-put_slot.ensures.index.done.items, wrote g (goal.at.returns-clause-slots g c).After-make_durable)

@@ -1,8 +1,13 @@
-use Rattle.std.proofs.Common.{◌≡◌, refl, rules, sym, ◌∙◌, ap, List, ℕ, [], ◌∷◌}
+use Rattle.std.proofs.Common.{◌≡◌, ◌⊎◌, inl, inr, refl, rules, sym, ◌∙◌, ap, List, ℕ, [], ◌∷◌, Some}
+use Rattle.hall_core.proofs.MadeLemmas.{makes_then}
+use Rattle.hall_core.specs.Made.{MakesOnly, Printing}
 use Rattle.vol_model.specs.Events.{Item}
-use Rattle.volman.specs.Statement.{answer_line, item_on}
+use Rattle.volman.specs.Statement.{ComesTo, IsAnswerPrint, answer_line, item_on, operation_on}
 use Rattle.volman.proofs.Answering.{item_found, promise_found, promise_then, ends_before_line, ends_in_line, answered, unprinted}
+use Rattle.volman.proofs.CallsMade.{comes_as}
+use Rattle.volman.proofs.statement.run_rename.Given.{Over}
 use Rattle.volman.proofs.statement.run_rename.Goals as goal
+use Rattle.volman.proofs.statement.run_rename.Goals.{After-say}
 
 pub returns-in_err-outcome-clause-runs : goal.returns-in_err-outcome-clause-runs
 returns-in_err-outcome-clause-runs g c told =
@@ -80,3 +85,19 @@ returns-clause-idle g c told none =
     let found = item_found (g.M.Machine.meaning c.args.machine.now).state c.args.statement.now c.args.volume (c.requires.volume told) in
     let few = c.rename.ensures.idle told (ap (λ (item : Item). item.operations) found ∙ none) in
     search (rules, few)
+
+-- the calls of the operation, and the print of what it comes to
+made_by : (g : Over) (c : After-say g) → MakesOnly (λ call. ((v : ℕ) × (c.args.volume ≡ Some v) × g.M.Machine.may_make c.args.machine.now (operation_on c.args.statement.now v) c.say.new.machine call) ⊎ IsAnswerPrint c.args.statement.now (ComesTo c.args.volume (λ v. g.M.Machine.has_done c.args.machine.now (operation_on c.args.statement.now v) c.say.new.machine) (λ v r. g.M.Machine.refuses c.args.machine.now (operation_on c.args.statement.now v) r)) call) (g.M.Machine.made c.args.machine.now) (g.M.Machine.made c.say.new.machine)
+made_by g c =
+    let first = c.args.machine.now in
+    let s = c.args.statement.now in
+    let outcome = c.in_ok-outcome.outcome in
+    makes_then c.rename.ensures.made c.say.ensures.made
+    (λ call is. inl (is.0, is.1, c.say.ensures.leaves first (operation_on s is.0) call is.2))
+    (λ call is. inr (outcome, comes_as _ _ _ _ outcome (λ v. c.say.ensures.still first (operation_on s v)) c.in_ok-outcome.ensures.comes, is ∙ ap Printing (c.deref.ensures.value ∙ c.in-Ok.ensures)))
+
+pub returns-in_err-say-clause-made : goal.returns-in_err-say-clause-made
+returns-in_err-say-clause-made g c = made_by g (goal.at.returns-in_err-say-clause-made g c).After-say
+
+pub returns-clause-made : goal.returns-clause-made
+returns-clause-made g c = made_by g (goal.at.returns-clause-made g c).After-say

@@ -1,19 +1,23 @@
-use Rattle.std.proofs.Common.{◌≡◌, ◌∙◌, inl, inr, ℕ, List, sym, ap, subst, arith}
+use Rattle.std.proofs.Common.{◌≡◌, ◌∙◌, ⊎_elim, inl, inr, ℕ, List, sym, ap, subst, arith}
 use Rattle.dscb_codec.specs.declared.Dscb.{Dscb}
 use Rattle.hall_core.proofs.MadeLemmas.{makes_as, makes_then}
 use Rattle.hall_core.proofs.MomentLemmas.{same_none}
-use Rattle.hall_core.specs.Facts.{Attached}
+use Rattle.hall_core.specs.Facts.{Attached, unit_of}
 use Rattle.hall_core.specs.Made.{Does, MakesOnly, Printing}
 use Rattle.hall_core.specs.Moments.{Same}
 use Rattle.volman.specs.Lines.{names_listing}
+use Rattle.vtoc_index.specs.Given.{IsIndexGiven}
 use Rattle.vtoc_index.specs.Index.{IsOfUnit}
-use Rattle.volman.specs.Made.{IsMountCall}
+use Rattle.vtoc_index.proofs.GivenLemmas.{index_still}
+use Rattle.volman.specs.Mount.{IsUnmounted}
+use Rattle.volman.proofs.CallsMade.{unmounted_still}
+use Rattle.volman.specs.Made.{IsMountCall, Mounts, Refuses}
 use Rattle.volman.specs.Names.{IsListing, names_in, names_of}
 use Rattle.volman.specs.Run.{PrintsText}
 use Rattle.volman.specs.Task.{names_task}
 use Rattle.volman.proofs.Listings.{listed_right}
 use Rattle.volman.proofs.Tasks.{text_said}
-use Rattle.volman.proofs.Works.{cut_by, nothing_named, on_pack, refused_file}
+use Rattle.volman.proofs.Works.{cut_by, nothing_named, on_pack, refused_file, refused_on_file}
 use Rattle.volman.proofs.top.names.Goals as goal
 
 pub returns-in-Ok-names_text-clause-does : goal.returns-in-Ok-names_text-clause-does
@@ -48,25 +52,30 @@ returns-in-Ok-names_text-clause-made g c =
     let lists = subst (λ (ds : List Dscb). IsListing (names_in ds) listed.0) c.deref.ensures.value listed.1 in
     let text : c.deref-in-Ok-names_text.result.now ≡ names_listing listed.0 = c.deref-in-Ok-names_text.ensures.value ∙ listed.2 in
     let units = sym c.end.ensures.units in
-    makes_then (subst (λ (us : List Attached). MakesOnly (IsMountCall c.args.file.now us) (made c.args.hall.now) (made c.mount.new.hall)) units c.mount.ensures.made) c.end.ensures.made
+    Mounts found (subst (λ (us : List Attached). IsOfUnit us found) units c.in-Ok.ensures.unit.0)
+    (subst (λ (us : List Attached). IsIndexGiven (g.H.Hall.done c.end.new.hall) (unit_of us found.unit).size found) units (index_still c.in-Ok.ensures.given c.end.ensures.kept))
+    (makes_then (subst (λ (us : List Attached). MakesOnly (IsMountCall c.args.file.now us) (made c.args.hall.now) (made c.mount.new.hall)) units c.mount.ensures.made) c.end.ensures.made
     (λ call is. inl is)
-    (λ call is. inr (inr (found, subst (λ (us : List Attached). IsOfUnit us found) units c.in-Ok.ensures.unit.0, (listed.0, lists, is ∙ ap Printing text))))
+    (λ call is. inr (listed.0, lists, is ∙ ap Printing text)))
+    (λ code. Does _ (listed.0, lists, ap Printing text) (c.end.ensures.done (λ is. omega (arith, code, is))))
+    (⊎_elim (λ done. inl (inl done)) (λ printer. inr (inr (inl printer))) c.end.ensures.which)
 
 pub returns-in-Ok-clause-made : goal.returns-in-Ok-clause-made
-returns-in-Ok-clause-made g c = makes_as c.mount.ensures.made (λ call is. inl is)
+returns-in-Ok-clause-made g c =
+    Mounts c.in-Ok.vol c.in-Ok.ensures.unit.0 c.in-Ok.ensures.given (makes_as c.mount.ensures.made (λ call is. inl is)) (λ code. absurd (omega (arith, code, c.code.ensures))) (inr (inr (inr c.code.ensures)))
 
 pub returns-clause-made : goal.returns-clause-made
 returns-clause-made g c =
     let made = g.H.Hall.made in
     let units = sym c.refuse.ensures.units in
-    makes_then (subst (λ (us : List Attached). MakesOnly (IsMountCall c.args.file.now us) (made c.args.hall.now) (made c.mount.new.hall)) units c.mount.ensures.made) c.refuse.ensures.made
-    (λ call is. inl is)
-    (λ call is. inr (inl (c.in-Err.why, is)))
+    Refuses c.in-Err.why
+    (subst (λ (us : List Attached). IsUnmounted (g.H.Hall.done c.refuse.new.hall) (unit_of us 0).size c.in-Err.why) units (unmounted_still c.in-Err.ensures.reason c.refuse.ensures.kept))
+    (makes_then (subst (λ (us : List Attached). MakesOnly (IsMountCall c.args.file.now us) (made c.args.hall.now) (made c.mount.new.hall)) units c.mount.ensures.made) c.refuse.ensures.made (λ call is. inl is) (λ call is. inr is))
+    c.refuse.ensures.done c.refuse.ensures.status
 
--- the names were printed
-pub returns-in-Ok-names_text-clause-listed : goal.returns-in-Ok-names_text-clause-listed
-returns-in-Ok-names_text-clause-listed g c done =
-    let listed = c.in-Ok-names_text.ensures in
-    let lists = subst (λ (ds : List Dscb). IsListing (names_in ds) listed.0) c.deref.ensures.value listed.1 in
-    let text : c.deref-in-Ok-names_text.result.now ≡ names_listing listed.0 = c.deref-in-Ok-names_text.ensures.value ∙ listed.2 in
-    (c.in-Ok.vol.slots.items, Does _ (listed.0, lists, ap Printing text) (c.end.ensures.done (λ is. omega (arith, done, is))))
+-- the counts of faults, where the file is refused
+pub returns-clause-call : goal.returns-clause-call
+returns-clause-call g c =
+    let mounted = c.in-Err.ensures in
+    let refused = c.refuse.ensures in
+    refused_on_file c.args.file.now c.in-Err.why c.refuse.result _ _ _ mounted.units mounted.references mounted.prints mounted.later mounted.device mounted.others refused.status refused.cause refused.device refused.print refused.prints refused.later refused.devices refused.references refused.units

@@ -13,14 +13,18 @@ use Rattle.dadsm_ops.proofs.OneOutcome.{same_firsts, same_serial, same_to_rename
 use Rattle.pack_spec.specs.Volume.{volume_of}
 use Rattle.vol_model.specs.declared.contents.Run.{Run as VtocRun}
 use Rattle.vtoc_index.specs.Contents.{is_set_named}
+use Rattle.vtoc_index.specs.Given.{IsIndexGiven}
 use Rattle.vtoc_index.specs.Index.{IsMounted, IsOfUnit, track_index}
+use Rattle.vtoc_index.proofs.GivenLemmas.{index_still}
+use Rattle.volman.specs.Mount.{IsUnmounted}
+use Rattle.volman.proofs.CallsMade.{unmounted_still}
 use Rattle.volman.specs.Machine.{shelf_with}
-use Rattle.volman.specs.Made.{IsMountCall, IsRunCall}
+use Rattle.volman.specs.Made.{HasAnswered, IsMountCall, IsStatementCall, Mounts, OnPack, Refuses}
 use Rattle.volman.specs.Run.{Does, WorksOn}
 use Rattle.volman.specs.Statement.{item_of}
 use Rattle.volman.specs.Task.{statement_task, task_on}
 use Rattle.volman.proofs.Tasks.{durable_left}
-use Rattle.volman.proofs.Works.{nothing_stated, on_pack, refused_file, worked_then}
+use Rattle.volman.proofs.Works.{nothing_stated, on_pack, refused_file, refused_on_file, worked_then}
 use Rattle.volman.proofs.top.run.Goals as goal
 
 pub returns-in-Err-clause-does : goal.returns-in-Err-clause-does
@@ -83,20 +87,32 @@ returns-in-Ok-clause-idle g c told volume stands none =
 pub returns-in-Ok-clause-made : goal.returns-in-Ok-clause-made
 returns-in-Ok-clause-made g c =
     let made = g.H.Hall.made in
+    let done = g.H.Hall.done in
     let found = c.in-Ok.vol in
-    let ended = c.run_statement-status.result.1.now in
-    let units = sym c.run_statement-status.ensures.units in
-    let behind : MakesOnly (IsRunCall c.args.file.now c.args.statement.now (g.H.Hall.facts ended).units) (made c.args.hall.now) (made ended) =
-    makes_then (subst (λ (us : List Attached). MakesOnly (IsMountCall c.args.file.now us) (made c.args.hall.now) (made c.mount.new.hall)) units c.mount.ensures.made) c.run_statement-status.ensures.made
-    (λ call is. inl is)
-    (λ call is. inr (inr (found, subst (λ (us : List Attached). IsOfUnit us found) units c.in-Ok.ensures.unit.0, is))) in
-    let borrowed = sym (ap (λ (l : List ℕ). get_or l 0 0) c.run_statement-status.ensures.references) in
-    subst (λ h. MakesOnly (IsRunCall c.args.file.now c.args.statement.now (g.H.Hall.facts h).units) (made c.args.hall.now) (made h)) (sym (c.hall-1.given.1 borrowed)) behind
+    let statement = c.args.statement.now in
+    let ran = c.run_statement-status in
+    let ended = ran.result.1.now in
+    let units = sym ran.ensures.units in
+    let behind : OnPack c.args.file.now (g.H.Hall.facts ended).units ran.result.0 (λ vol. IsStatementCall vol statement (done ended)) (λ vol. HasAnswered vol statement ran.result.0 (done ended)) (made c.args.hall.now) (made ended) (done ended) =
+    Mounts found (subst (λ (us : List Attached). IsOfUnit us found) units c.in-Ok.ensures.unit.0)
+    (subst (λ (us : List Attached). IsIndexGiven (done ended) (unit_of us found.unit).size found) units (index_still c.in-Ok.ensures.given ran.ensures.kept))
+    (makes_then (subst (λ (us : List Attached). MakesOnly (IsMountCall c.args.file.now us) (made c.args.hall.now) (made c.mount.new.hall)) units c.mount.ensures.made) ran.ensures.made (λ call is. inl is) (λ call is. inr is))
+    ran.ensures.answered ran.ensures.status in
+    let borrowed = sym (ap (λ (l : List ℕ). get_or l 0 0) ran.ensures.references) in
+    subst (λ h. OnPack c.args.file.now (g.H.Hall.facts h).units ran.result.0 (λ vol. IsStatementCall vol statement (done h)) (λ vol. HasAnswered vol statement ran.result.0 (done h)) (made c.args.hall.now) (made h) (done h)) (sym (c.hall-1.given.1 borrowed)) behind
 
 pub returns-in-Err-clause-made : goal.returns-in-Err-clause-made
 returns-in-Err-clause-made g c =
     let made = g.H.Hall.made in
     let units = sym c.refuse.ensures.units in
-    makes_then (subst (λ (us : List Attached). MakesOnly (IsMountCall c.args.file.now us) (made c.args.hall.now) (made c.mount.new.hall)) units c.mount.ensures.made) c.refuse.ensures.made
-    (λ call is. inl is)
-    (λ call is. inr (inl (c.in-Err.why, is)))
+    Refuses c.in-Err.why
+    (subst (λ (us : List Attached). IsUnmounted (g.H.Hall.done c.refuse.new.hall) (unit_of us 0).size c.in-Err.why) units (unmounted_still c.in-Err.ensures.reason c.refuse.ensures.kept))
+    (makes_then (subst (λ (us : List Attached). MakesOnly (IsMountCall c.args.file.now us) (made c.args.hall.now) (made c.mount.new.hall)) units c.mount.ensures.made) c.refuse.ensures.made (λ call is. inl is) (λ call is. inr is))
+    c.refuse.ensures.done c.refuse.ensures.status
+
+-- the counts of faults, where the file is refused
+pub returns-in-Err-clause-call : goal.returns-in-Err-clause-call
+returns-in-Err-clause-call g c =
+    let mounted = c.in-Err.ensures in
+    let refused = c.refuse.ensures in
+    refused_on_file c.args.file.now c.in-Err.why c.refuse.result _ _ _ mounted.units mounted.references mounted.prints mounted.later mounted.device mounted.others refused.status refused.cause refused.device refused.print refused.prints refused.later refused.devices refused.references refused.units

@@ -1,5 +1,6 @@
 use Rattle.std.proofs.Common.{◌≡◌, ◌∙◌, ℕ, List, inl, inr, ⊎_elim, sym, ap, subst, Err, Some, arith}
 use Rattle.std.specs.Prelude.{◌⊎◌, Option}
+use Rattle.hall_core.proofs.MadeLemmas.{makes_none}
 use Rattle.hall_core.proofs.MomentLemmas.{same_none}
 use Rattle.dadsm_ops.specs.Operations.{image_named}
 use Rattle.hall_core.specs.Facts.{AttachesOnce}
@@ -11,10 +12,11 @@ use Rattle.vtoc_index.specs.Index.{IsMounted}
 use Rattle.volman.specs.Action.{request_in}
 use Rattle.volman.specs.Mount.{IsOnLastTrack}
 use Rattle.volman.specs.Lines.{deck_line, words_line}
+use Rattle.volman.specs.Made.{Formless, Stated, Unread}
 use Rattle.volman.specs.Run.{AttachesAsked, IsFinal}
-use Rattle.volman.specs.Words.{Request, Names, Run}
-use Rattle.volman.proofs.CallsMade.{makes_of}
+use Rattle.volman.specs.Words.{Request, Run, asked_in}
 use Rattle.volman.proofs.Tasks.{text_said}
+use Rattle.volman.proofs.CallsMade.{request_as, says_only}
 use Rattle.volman.proofs.WordLemmas.{asked_as}
 use Rattle.volman.proofs.Works.{answered_deck, answered_form, answered_names, answered_nothing, answered_words, cut_by, stated_durable}
 use Rattle.volman.proofs.top.volman.Goals as goal
@@ -78,77 +80,44 @@ pub returns-in-Err-Form-clause-asked : goal.returns-in-Err-Form-clause-asked
 returns-in-Err-Form-clause-asked g c form =
     (c.in-Some-Run.file.now, asked_as c.in-Ok.is c.deref.ensures.value (sym c.in-Some-Run.ensures ∙ ap (λ a. Some (request_in a)) c.in-Some-Run.field-0-is))
 
--- the calls of each answer
+-- the calls of each answer, and what was said
 pub returns-in-None-clause-made : goal.returns-in-None-clause-made
 unfolding words_line
 returns-in-None-clause-made g c =
     let asked = asked_as c.in-Ok.is c.deref.ensures.value (sym c.in-None.ensures) in
-    makes_of _ _ asked c.end.ensures.made (λ call is. is)
+    request_as _ _ _ _ _ _ asked (says_only c.end.ensures.made (λ is. c.end.ensures.done (λ no. omega (arith, is, no))) c.end.ensures.which)
 
 pub returns-in-Some-Names-clause-made : goal.returns-in-Some-Names-clause-made
 returns-in-Some-Names-clause-made g c =
     let asked = asked_as c.in-Ok.is c.deref.ensures.value (sym c.in-Some-Names.ensures ∙ ap (λ a. Some (request_in a)) c.in-Some-Names.field-0-is) in
-    makes_of _ _ asked c.names.ensures.made (λ call is. is)
+    request_as _ _ _ _ _ _ asked c.names.ensures.made
 
 pub returns-in-Ok-read_deck-clause-made : goal.returns-in-Ok-read_deck-clause-made
 returns-in-Ok-read_deck-clause-made g c =
     let asked = asked_as c.in-Ok.is c.deref.ensures.value (sym c.in-Some-Run.ensures ∙ ap (λ a. Some (request_in a)) c.in-Some-Run.field-0-is) in
-    makes_of _ _ asked c.run.ensures.made (λ call is. inr (c.in-Ok-read_deck.statement, (λ tells. (c.in-Ok-read_deck.ensures.deck tells).0), is))
+    request_as _ _ _ _ _ _ asked (Stated c.in-Ok-read_deck.statement (λ tells. (c.in-Ok-read_deck.ensures.deck tells).0) c.run.ensures.made)
 
 pub returns-in-Err-Form-clause-made : goal.returns-in-Err-Form-clause-made
 unfolding deck_line
 returns-in-Err-Form-clause-made g c =
     let asked = asked_as c.in-Ok.is c.deref.ensures.value (sym c.in-Some-Run.ensures ∙ ap (λ a. Some (request_in a)) c.in-Some-Run.field-0-is) in
-    makes_of _ _ asked c.end-in-Err-Form.ensures.made (λ call is. inl ((λ tells. c.read_deck.ensures.form tells (c.in-Err-Form.is ∙ ap Err c.in-Err-Form.field-0-is)), is))
+    let end = c.end-in-Err-Form.ensures in
+    request_as _ _ _ _ _ _ asked (Formless (λ tells. c.read_deck.ensures.form tells (c.in-Err-Form.is ∙ ap Err c.in-Err-Form.field-0-is)) (says_only end.made (λ is. end.done (λ no. omega (arith, is, no))) end.which))
 
--- what was printed and written behind each
-pub returns-in-None-clause-said : goal.returns-in-None-clause-said
-unfolding words_line
-returns-in-None-clause-said g c =
-    let which = c.end.ensures.which in
-    record {
-      words = λ is. c.end.ensures.done (λ no. omega (arith, is, no));
-      deck = λ is. absurd (omega (arith, which, is));
-      file = λ is. absurd (omega (arith, which, is));
-      names = λ code. absurd (omega (arith, which, code));
-      answer = λ code. absurd (omega (arith, which, code));
-    }
-
-pub returns-in-Some-Names-clause-said : goal.returns-in-Some-Names-clause-said
-returns-in-Some-Names-clause-said g c =
-    let asked = asked_as c.in-Ok.is c.deref.ensures.value (sym c.in-Some-Names.ensures ∙ ap (λ a. Some (request_in a)) c.in-Some-Names.field-0-is) in
-    let which = c.names.ensures.call.which in
-    record {
-      words = λ is. absurd (omega (arith, which, is));
-      deck = λ is. absurd (omega (arith, which, is));
-      file = λ is. (Names c.in-Some-Names.file.now, asked, c.names.ensures.refused is);
-      names = λ code file is. c.names.ensures.listed (⊎_elim (λ done. done) (λ refused. absurd (c.names.ensures.code refused)) code);
-      answer = λ code file is. let other : Some (Names c.in-Some-Names.file.now) ≡ Some (Run file) = sym asked ∙ is in absurd (cc);
-    }
-
-pub returns-in-Ok-read_deck-clause-said : goal.returns-in-Ok-read_deck-clause-said
-returns-in-Ok-read_deck-clause-said g c =
+pub returns-clause-made : goal.returns-clause-made
+returns-clause-made g c =
     let asked = asked_as c.in-Ok.is c.deref.ensures.value (sym c.in-Some-Run.ensures ∙ ap (λ a. Some (request_in a)) c.in-Some-Run.field-0-is) in
-    let which = c.run.ensures.call.which in
-    record {
-      words = λ is. absurd (omega (arith, which, is));
-      deck = λ is. absurd (omega (arith, which, is));
-      file = λ is. (Run c.in-Some-Run.file.now, asked, c.run.ensures.said is);
-      names = λ code file is. let other : Some (Run c.in-Some-Run.file.now) ≡ Some (Names file) = sym asked ∙ is in absurd (cc);
-      answer = λ code file is. (c.in-Ok-read_deck.statement, (λ tells. (c.in-Ok-read_deck.ensures.deck tells).0), c.run.ensures.answered code);
-    }
+    request_as _ _ _ _ _ _ asked (Unread c.code-in-Err-Read.ensures (makes_none _ _))
 
-pub returns-in-Err-Form-clause-said : goal.returns-in-Err-Form-clause-said
-unfolding deck_line
-returns-in-Err-Form-clause-said g c =
-    let which = c.end-in-Err-Form.ensures.which in
-    record {
-      words = λ is. absurd (omega (arith, which, is));
-      deck = λ is. c.end-in-Err-Form.ensures.done (λ no. omega (arith, is, no));
-      file = λ is. absurd (omega (arith, which, is));
-      names = λ code. absurd (omega (arith, which, code));
-      answer = λ code. absurd (omega (arith, which, code));
-    }
+pub returns-in_default-clause-made : goal.returns-in_default-clause-made
+returns-in_default-clause-made g c =
+    request_as _ _ _ _ _ _ (ap asked_in c.in_default.is) (record { made = makes_none _ _; said = λ is. absurd (omega (arith, is, c.code.ensures)); status_is = inr (inr c.code.ensures) })
+
+pub returns-in-Ok-read_deck-clause-unbegun : goal.returns-in-Ok-read_deck-clause-unbegun
+returns-in-Ok-read_deck-clause-unbegun g c unbegun = c.run.ensures.unbegun (omega (arith, unbegun, c.run.ensures.call.which))
+
+pub returns-in-Ok-read_deck-clause-untouched : goal.returns-in-Ok-read_deck-clause-untouched
+returns-in-Ok-read_deck-clause-untouched g c told unbegun = c.run.ensures.refused told (omega (arith, unbegun, c.run.ensures.call.which))
 
 pub returns-in-Ok-read_deck-clause-reads_held : goal.returns-in-Ok-read_deck-clause-reads_held
 returns-in-Ok-read_deck-clause-reads_held g c told tells file is statement read vol mounted last =

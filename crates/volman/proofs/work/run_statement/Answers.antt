@@ -13,11 +13,11 @@ use Rattle.vol_model.specs.declared.answers.Stop.{Stop}
 use Rattle.vol_model.specs.declared.answers.Stop.TheVariants.{Device, Memory, Print}
 use Rattle.vtoc_index.specs.declared.vol.Vol.{Vol}
 use Rattle.vtoc_index.proofs.KeptLemmas.{mounted_of}
-use Rattle.volman.specs.Machine.{ChangesOnlyNames, HoldsFor, MayMake, shelf_in, shelf_named, shelf_with}
-use Rattle.volman.specs.Made.{IsStatementCall}
+use Rattle.volman.specs.Machine.{ChangesOnlyNames, HoldsFor, shelf_in, shelf_named, shelf_with}
+use Rattle.volman.specs.Made.{HasAnswered, IsStatementCall}
 use Rattle.volman.specs.Run.{IsCalmSince, StopStands, Synced, WorksOn}
 use Rattle.volman.specs.Statement.{item_of, operation_on}
-use Rattle.volman.proofs.CallsMade.{has_answered, some_is}
+use Rattle.volman.proofs.CallsMade.{answered_still, has_answered, statement_call, statement_call_still}
 use Rattle.volman.proofs.Machines.{same_base, same_unit_name}
 use Rattle.volman.proofs.Works.{cut_by, durable_behind, has_worked, has_worked_unprinted, have_line, stops_worked, works_failed, works_finished, works_unprinted}
 use Rattle.volman.proofs.work.run_statement.Goals as goal
@@ -171,27 +171,29 @@ pub returns-clause-made : goal.returns-clause-made
 returns-clause-made g c =
     let machine = c.open-machine.result in
     let opened = c.open-machine.ensures in
+    let number = c.number_of-volume in
     let made = g.H.Hall.made in
+    let done = g.H.Hall.done in
     let statement = c.args.statement.now in
     let vol = c.args.vol in
-    let volume = c.number_of-volume.result in
-    let ran : MakesOnly (IsStatementCall vol statement) (made c.args.hall) (made c.run_rename-ran.new.machine.hall) =
-    subst (λ h. MakesOnly (IsStatementCall vol statement) (made h) (made c.run_rename-ran.new.machine.hall)) opened.hall
-    (makes_as c.run_rename-ran.ensures.made (λ call.
-    ⊎_elim
-    (λ is.
-    let found = some_is volume _ c.number_of-volume.ensures.found is.0 is.1 in
-    let serial = ap (λ (v : Vol). v.serial) (sym opened.vol) ∙ found.1 in
-    inl (serial, subst (λ (v : Vol). MayMake (operation_on statement 0) v call) opened.vol (subst (λ (n : ℕ). MayMake (operation_on statement n) machine.vol call) found.0 is.2)))
-    (λ is. inr (inl is))))
+    let new = c.run_rename-ran.new.machine.hall in
+    let ran : MakesOnly (IsStatementCall vol statement (done new)) (made c.args.hall) (made new) =
+    subst (λ h. MakesOnly (IsStatementCall vol statement (done new)) (made h) (made new)) opened.hall
+    (makes_as c.run_rename-ran.ensures.made
+    (λ call is. subst (λ (v : Vol). IsStatementCall v statement (done new) call) opened.vol (statement_call machine.vol statement number.result (done new) number.ensures.there number.ensures.found call is)))
     in
-    let closed : c.close-hall.result ≡ c.run_rename-ran.new.machine.hall = c.close-hall.ensures in
-    let kept : c.match-ran.hall ≡ c.close-hall.result → MakesOnly (IsStatementCall vol statement) (made c.args.hall) (made c.match-ran.hall) =
-    λ is. subst (λ h. MakesOnly (IsStatementCall vol statement) (made c.args.hall) (made h)) (sym (is ∙ closed)) ran in
+    let closed : c.close-hall.result ≡ new = c.close-hall.ensures in
+    let kept : c.match-ran.hall ≡ c.close-hall.result → MakesOnly (IsStatementCall vol statement (done c.match-ran.hall)) (made c.args.hall) (made c.match-ran.hall) =
+    λ is. subst (λ h. MakesOnly (IsStatementCall vol statement (done h)) (made c.args.hall) (made h)) (sym (is ∙ closed)) ran in
     elim c.match-ran.branch [
       | in-Ok w ↦
-          subst (λ h. MakesOnly (IsStatementCall vol statement) (made c.args.hall) (made h)) (sym w.hall-is)
-          (makes_then ran (subst (λ h. MakesOnly (λ call. call ≡ Syncing) (made h) (made w.finish-status.new.hall)) closed w.finish-status.ensures.made) (λ call is. is) (λ call is. inr (inr is)))
+          let finish = w.finish-status in
+          let stays : StaysDone (done new) (done finish.new.hall) = subst (λ h. StaysDone (done h) (done finish.new.hall)) closed finish.ensures.kept in
+          let answered = subst (λ (v : Vol). HasAnswered v statement w.in-Ok.code (done new)) opened.vol (has_answered machine.vol statement number.result w.in-Ok.code (done new) number.ensures.there number.ensures.found w.in-Ok.ensures.answered) in
+          subst (λ h. MakesOnly (IsStatementCall vol statement (done h)) (made c.args.hall) (made h)) (sym w.hall-is)
+          (makes_then ran (subst (λ h. MakesOnly (λ call. call ≡ Syncing) (made h) (made finish.new.hall)) closed finish.ensures.made)
+          (λ call is. statement_call_still vol statement call stays is)
+          (λ call is. inr (inr (is, (w.in-Ok.code, answered_still answered stays)))))
       | in-Err-Device w ↦ kept w.hall-is
       | in-Err-Print w ↦ kept w.hall-is
       | in-Err-Memory w ↦ kept w.hall-is
@@ -199,16 +201,39 @@ returns-clause-made g c =
 
 pub returns-clause-answered : goal.returns-clause-answered
 returns-clause-answered g c is =
+    let machine = c.open-machine.result in
+    let opened = c.open-machine.ensures in
+    let number = c.number_of-volume in
     let done = g.H.Hall.done in
     let statement = c.args.statement.now in
-    let new = c.run_rename-ran.new.machine in
+    let new = c.run_rename-ran.new.machine.hall in
     elim c.match-ran.branch [
       | in-Ok w ↦
-          let same : c.match-ran.status ≡ w.in-Ok.code = ⊎_elim (λ ok. w.status-is ∙ ok) (λ (fault : w.finish-status.result ≡ 22). let status : c.match-ran.status ≡ 22 = w.status-is ∙ fault in absurd (omega (arith, is, status))) w.finish-status.ensures.status in
-          let kept : StaysDone (done new.hall) (done c.match-ran.hall) =
-          subst (λ h. StaysDone (done new.hall) (done h)) (sym w.hall-is) (subst (λ h. StaysDone (done h) (done w.finish-status.new.hall)) c.close-hall.ensures w.finish-status.ensures.kept) in
-          has_answered statement c.number_of-volume.result c.open-machine.result.vol w.in-Ok.code c.match-ran.status (done new.hall) (done c.match-ran.hall) same c.number_of-volume.ensures.found w.in-Ok.ensures.done w.in-Ok.ensures.answered kept
+          let finish = w.finish-status in
+          let same : w.in-Ok.code ≡ c.match-ran.status = ⊎_elim (λ ok. sym (w.status-is ∙ ok)) (λ (fault : finish.result ≡ 22). let status : c.match-ran.status ≡ 22 = w.status-is ∙ fault in absurd (omega (arith, is, status))) finish.ensures.status in
+          let stays : StaysDone (done new) (done c.match-ran.hall) =
+          subst (λ h. StaysDone (done new) (done h)) (sym w.hall-is) (subst (λ h. StaysDone (done h) (done finish.new.hall)) c.close-hall.ensures finish.ensures.kept) in
+          let answered = subst (λ (v : Vol). HasAnswered v statement w.in-Ok.code (done new)) opened.vol (has_answered machine.vol statement number.result w.in-Ok.code (done new) number.ensures.there number.ensures.found w.in-Ok.ensures.answered) in
+          subst (λ (n : ℕ). HasAnswered c.args.vol statement n (done c.match-ran.hall)) same (answered_still answered stays)
       | in-Err-Device w ↦ let status : c.match-ran.status ≡ 22 = w.status-is ∙ w.code-status.ensures in absurd (omega (arith, is, status))
       | in-Err-Print w ↦ let status : c.match-ran.status ≡ 24 = w.status-is ∙ w.code-status-in-Err-Print.ensures in absurd (omega (arith, is, status))
       | in-Err-Memory w ↦ let status : c.match-ran.status ≡ 25 = w.status-is ∙ w.code-status-in-Err-Memory.ensures in absurd (omega (arith, is, status))
+    ]
+
+-- what was done is done still
+pub returns-clause-kept : goal.returns-clause-kept
+returns-clause-kept g c =
+    let done = g.H.Hall.done in
+    let new = c.run_rename-ran.new.machine.hall in
+    let ran : StaysDone (done c.args.hall) (done new) = subst (λ h. StaysDone (done h) (done new)) c.open-machine.ensures.hall c.run_rename-ran.ensures.kept in
+    let closed : c.close-hall.result ≡ new = c.close-hall.ensures in
+    let kept : c.match-ran.hall ≡ c.close-hall.result → StaysDone (done c.args.hall) (done c.match-ran.hall) =
+    λ is. subst (λ h. StaysDone (done c.args.hall) (done h)) (sym (is ∙ closed)) ran in
+    elim c.match-ran.branch [
+      | in-Ok w ↦
+          let stays : StaysDone (done new) (done w.finish-status.new.hall) = subst (λ h. StaysDone (done h) (done w.finish-status.new.hall)) closed w.finish-status.ensures.kept in
+          subst (λ h. StaysDone (done c.args.hall) (done h)) (sym w.hall-is) (λ call was. stays call (ran call was))
+      | in-Err-Device w ↦ kept w.hall-is
+      | in-Err-Print w ↦ kept w.hall-is
+      | in-Err-Memory w ↦ kept w.hall-is
     ]

@@ -1,10 +1,16 @@
-use Rattle.std.proofs.Common.{subst, sym, Some}
+use Rattle.std.proofs.Common.{◌≡◌, ◌∙◌, ap, arith, inl, inr, ℕ, subst, sym, Some, None}
+use Rattle.hall_core.proofs.MadeLemmas.{makes_then}
 use Rattle.hall_core.specs.Files.{image_of}
 use Rattle.track_records.specs.Buffers.{Buffer}
+use Rattle.track_records.specs.Calls.{HasGiven, records_by}
 use Rattle.track_records.specs.Written.{StandsOn}
+use Rattle.vtoc_index.specs.Puts.{Broken, HoldsRecord, Read}
 use Rattle.vtoc_index.proofs.CallsMade.{broken_none}
 use Rattle.vtoc_index.proofs.HeldLemmas.{noted, slot_held, slot_unbroken}
+use Rattle.vtoc_index.proofs.PutCalls.{broken_given, lacks_still}
+use Rattle.vtoc_index.proofs.put.fetch.Given.{Over}
 use Rattle.vtoc_index.proofs.put.fetch.Goals as goal
+use Rattle.vtoc_index.proofs.put.fetch.Goals.{After-read_records, else-track-place-via-then-track-place+else-from-len, else-track-place-via-else-track-place}
 
 pub returns-in-Ok-clause-stands : goal.returns-in-Ok-clause-stands
 returns-in-Ok-clause-stands g c told =
@@ -22,3 +28,26 @@ returns-in-Err-BadCount-clause-call g c =
     noted was.units was.references was.prints (was.others (λ is. cc)) c.differs.ensures.call c.differs.ensures.rose
     (λ told.
     slot_unbroken image c.args.buf.now.geometry c.args.place.track c.args.place.number (c.requires.there told) (broken_none image c.args.buf.now.geometry (Some c.args.place.number) c.args.place.track _ c.in-Err-BadCount.field-0-0 c.in-Err-BadCount.field-0-is (c.in-Err-BadCount.ensures.broken told)))
+
+not_held : (g : Over) (c : After-read_records g) → ¬ HoldsRecord c.args.buf.now c.args.place.track c.args.place.number
+not_held g c held = elim c.else-track-place.branch [
+  | else-track-place-via-then-track-place+else-from-len w ↦ omega (arith, held.1, w.from.ensures, w.len.ensures, w.if-from-len.false)
+  | else-track-place-via-else-track-place w ↦ omega (arith, held.0, c.track.ensures, w.if-track-place.false)
+]
+
+pub returns-in-Ok-clause-seen : goal.returns-in-Ok-clause-seen
+returns-in-Ok-clause-seen g c =
+    let b = c.args.buf.now in
+    let buf = c.read_records.new.buf in
+    let same : buf ≡ record b { track = c.args.place.track; records = buf.records } = c.in-Ok.ensures.buffer ∙ ap (λ (unit : ℕ). record b { unit = unit; track = c.args.place.track; records = buf.records }) (sym c.requires.unit) in
+    Read (not_held g (goal.at.returns-in-Ok-clause-seen g c).After-read_records) same (subst (λ (unit : ℕ). HasGiven (g.H.Hall.done c.read_records.new.hall) unit b.geometry c.args.place.track (λ bytes. records_by b.geometry (Some c.args.place.number) c.args.place.track bytes ≡ Some buf.records)) (sym c.requires.unit) c.in-Ok.ensures.given)
+
+pub returns-in-Err-BadCount-clause-made : goal.returns-in-Err-BadCount-clause-made
+returns-in-Err-BadCount-clause-made g c =
+    let b = c.args.buf.now in
+    let done = g.H.Hall.done in
+    let read = c.in-Err-BadCount in
+    let not = not_held g (goal.at.returns-in-Err-BadCount-clause-made g c).After-read_records in
+    let broken = broken_given (done c.read_records.new.hall) c.args.unit b.geometry (Some c.args.place.number) c.args.place.track _ read.field-0-0 read.field-0-is read.ensures.broke in
+    let given = subst (λ (unit : ℕ). HasGiven (done c.read_records.new.hall) unit b.geometry c.args.place.track (λ bytes. records_by b.geometry (Some c.args.place.number) c.args.place.track bytes ≡ None)) (sym c.requires.unit) broken in
+    makes_then read.ensures.made c.differs.ensures.made (λ call is. inl (is, not)) (λ call is. inr (is, lacks_still (Broken not given) c.differs.ensures.kept))

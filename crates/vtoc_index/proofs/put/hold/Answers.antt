@@ -1,8 +1,11 @@
-use Rattle.std.proofs.Common.{◌≡◌, subst, sym, false, true}
+use Rattle.std.proofs.Common.{◌≡◌, ◌-◌, ⊎_elim, inl, inr, subst, sym, false, true, arith}
+use Rattle.hall_core.proofs.MadeLemmas.{makes_then}
 use Rattle.hall_core.specs.Files.{image_of}
 use Rattle.track_records.specs.Buffers.{Buffer}
-use Rattle.vtoc_index.specs.Puts.{HasSlot}
+use Rattle.track_records.proofs.UpdateLemmas.{lengths_there}
+use Rattle.vtoc_index.specs.Puts.{HasSlot, Other}
 use Rattle.vtoc_index.proofs.HeldLemmas.{noted, held_slot}
+use Rattle.vtoc_index.proofs.PutCalls.{lacks_still, seen_still}
 use Rattle.vtoc_index.proofs.put.hold.Goals as goal
 
 never : false ≡ true → ⊥
@@ -20,3 +23,14 @@ returns-then-not-holds_slot-clause-call g c =
     let has : HasSlot image b.geometry b.track c.args.place.number =
     subst (λ (x : Buffer). HasSlot image x.geometry x.track c.args.place.number) (sym kept) (c.requires.there told) in
     never (c.if-not-holds_slot.ensures.other stands.0 (held_slot image b c.args.place.number has stands.1 c.requires.first stands.0)))
+
+pub returns-then-not-holds_slot-clause-lost : goal.returns-then-not-holds_slot-clause-lost
+returns-then-not-holds_slot-clause-lost g c = inr (seen_still c.in_ok-fetch.ensures.seen c.differs.ensures.kept)
+
+pub returns-then-not-holds_slot-clause-made : goal.returns-then-not-holds_slot-clause-made
+returns-then-not-holds_slot-clause-made g c =
+    let seen = c.in_ok-fetch.ensures.seen in
+    let kept = c.differs.ensures.kept in
+    makes_then c.in_ok-fetch.ensures.made c.differs.ensures.made
+    (λ call. ⊎_elim (λ is. inl is) (λ is. inr (is.0, lacks_still is.1 kept)))
+    (λ call is. inr (is, Other c.fetch.new.buf (seen_still seen kept) (λ has. never (c.if-not-holds_slot.ensures.other (omega (arith, c.requires.first, lengths_there c.fetch.new.buf.records (c.args.place.number - 1) 44 96 has)) has))))

@@ -1,4 +1,4 @@
-use Rattle.std.proofs.Common.{◌≡◌, ◌+◌, ◌-◌, ◌++◌, List, length, IsTrue, refl, rules, inl, inr, ⊎_elim, ℕ, ap, subst, sym, ◌∙◌, arith, take, length-take, length-drop}
+use Rattle.std.proofs.Common.{◌≡◌, ◌+◌, ◌-◌, ◌++◌, List, [], length, IsTrue, refl, rules, inl, inr, ⊎_elim, ℕ, ap, subst, sym, ◌∙◌, arith, take, length-take, length-drop}
 use Rattle.std.proofs.lemmas.List.{take-append-drop}
 use Rattle.std.proofs.lemmas.Result.{IfOk-from_err}
 use Rattle.ckd_image.specs.declared.header.Geometry.{Geometry}
@@ -12,12 +12,12 @@ use Rattle.track_records.specs.Written.{StandsOn, place_of}
 use Rattle.track_records.proofs.UpdateLemmas.{lengths_there}
 use Rattle.track_records.proofs.WriteLemmas.{on_err, same_write, write_done, write_failed}
 use Rattle.vtoc_index.specs.Index.{IsPut, place_of_slot}
-use Rattle.vtoc_index.specs.Puts.{HasSlot, HoldsSlot, IsHeld, IsPutCall, IsReadUpTo, IsReplaced, IsSlotWrite}
+use Rattle.vtoc_index.specs.Puts.{Changed, Emptied, HasSlot, HoldsPut, HoldsSlot, IsHeld, IsPutCall, IsReadUpTo, IsReplaced, IsSeen, IsSlotWrite, Seen, track_of_slot}
 use Rattle.std.specs.Vec.{with_item}
 use Rattle.dscb_codec.specs.declared.Dscb.{Dscb}
 use Rattle.vtoc_index.proofs.BegunLemmas.{after_same, not_begun, same_image}
 use Rattle.vtoc_index.proofs.HeldLemmas.{count_kept, still_slot}
-use Rattle.vtoc_index.proofs.PutCalls.{put_reads, slot_write}
+use Rattle.vtoc_index.proofs.PutCalls.{put_reads, slot_seen, slot_write}
 use Rattle.vtoc_index.proofs.PutLaw.{front_of, held_place, index_put, slot_found, slot_put, track_of}
 use Rattle.vtoc_index.proofs.put.put_slot.Given.{Over}
 use Rattle.vtoc_index.proofs.put.put_slot.Goals as goal
@@ -49,7 +49,7 @@ returns-in_err-hold-clause-told g c told = record {
 name_is : (g : Over) (c : After-update g) → (unit_of (g.H.Hall.facts c.hold.new.hall).units c.hold.new.buf.unit).name ≡ (unit_of (g.H.Hall.facts c.args.hall.now).units c.args.vol.now.unit).name
 name_is g c =
     ap (λ (us : List Attached). (unit_of us c.hold.new.buf.unit).name) c.in_ok-hold.ensures.call.units
-    ∙ ap (λ (u : ℕ). (unit_of (g.H.Hall.facts c.args.hall.now).units u).name) (c.in_ok-hold.ensures.kept.1 ∙ c.requires.unit.buffer.1)
+    ∙ ap (λ (u : ℕ). (unit_of (g.H.Hall.facts c.args.hall.now).units u).name) (c.in_ok-hold.ensures.stays.1 ∙ c.requires.unit.buffer.1)
 
 front_is : (g : Over) (c : After-update g) → c.place_of-place.result.number - 1 ≡ front_of c.args.vol.now c.args.slot
 front_is g c = omega (arith, c.place_of-place.ensures.number)
@@ -66,7 +66,7 @@ place_is g c told =
     let stands : StandsOn image b = subst (λ (i : List ℕ). StandsOn i b) (image_is g c told) (c.in_ok-hold.ensures.stands told) in
     let low = lengths_there b.records (c.place_of-place.result.number - 1) 44 96 c.in_ok-hold.ensures.lengths in
     let track : b.track ≡ track_of v c.args.slot = ap (λ (x : Buffer). x.track) c.in_ok-hold.ensures.buffer ∙ c.place_of-place.ensures.track in
-    ap (place_of b) (front_is g c) ∙ held_place image v c.args.slot b f stands (c.in_ok-hold.ensures.kept.0 ∙ c.requires.unit.buffer.0) track (omega (arith, low, front_is g c))
+    ap (place_of b) (front_is g c) ∙ held_place image v c.args.slot b f stands (c.in_ok-hold.ensures.stays.0 ∙ c.requires.unit.buffer.0) track (omega (arith, low, front_is g c))
 
 bytes_is : (g : Over) (c : After-update g) → c.split_at.result.0.now ++ c.split_at.result.1.now ≡ c.encode-bytes.result
 bytes_is g c = ap (λ (l : List ℕ). l ++ c.split_at.result.1.now) c.split_at.ensures.front ∙ ap (λ (l : List ℕ). take 44 c.encode-bytes.result ++ l) c.split_at.ensures.back ∙ take-append-drop 44 c.encode-bytes.result
@@ -92,8 +92,8 @@ replaced : (g : Over) (c : After-update g) (d : Dscb) → IsReplaced c.args.slot
 replaced g c d = record {
   items = search rules;
   others = refl;
-  geometry = ap (λ (x : Buffer). x.geometry) c.update.ensures.buffer ∙ c.in_ok-hold.ensures.kept.0;
-  unit = ap (λ (x : Buffer). x.unit) c.update.ensures.buffer ∙ c.in_ok-hold.ensures.kept.1;
+  geometry = ap (λ (x : Buffer). x.geometry) c.update.ensures.buffer ∙ c.in_ok-hold.ensures.stays.0;
+  unit = ap (λ (x : Buffer). x.unit) c.update.ensures.buffer ∙ c.in_ok-hold.ensures.stays.1;
 }
 
 pub returns-clause-told : goal.returns-clause-told
@@ -103,7 +103,7 @@ returns-clause-told g c told =
     let image = image_of (g.H.Hall.meaning c.args.hall.now).state (g.H.Hall.facts c.args.hall.now) v.unit in
     let put = image_of (g.H.Hall.meaning c.update.new.hall).state (g.H.Hall.facts c.update.new.hall) v.unit in
     let b = c.hold.new.buf in
-    let number = w.in_ok-hold.ensures.kept.1 ∙ c.requires.unit.buffer.1 in
+    let number = w.in_ok-hold.ensures.stays.1 ∙ c.requires.unit.buffer.1 in
     let stands = subst (λ (n : ℕ). StandsOn (image_of (g.H.Hall.meaning c.hold.new.hall).state (g.H.Hall.facts c.hold.new.hall) n) b) (sym number) (w.in_ok-hold.ensures.stands told) in
     let wrote = c.in_ok-update.ensures.record told stands in
     let bytes = c.encode-bytes.result in
@@ -186,31 +186,31 @@ returns-in_err-update-clause-few g c = few_then g (goal.at.returns-in_err-update
 pub returns-clause-few : goal.returns-clause-few
 returns-clause-few g c = few_then g (goal.at.returns-clause-few g c).After-update
 
--- ---- the calls by what they are made with
+-- ---- the calls by what they are made with, and the buffer
+
+-- the track that is held, as it is seen
+seen_is : (g : Over) (c : After-update g) → IsSeen c.args.vol.now.buf (track_of_slot c.args.vol.now c.args.slot) (front_of c.args.vol.now c.args.slot + 1) (g.H.Hall.done c.update.new.hall) c.hold.new.buf
+seen_is g c =
+    let place = c.place_of-place in
+    slot_seen c.args.vol.now c.args.slot place.result.number place.result.track _ _ c.hold.new.buf place.ensures.track place.ensures.number c.update.ensures.kept c.in_ok-hold.ensures.seen
 
 pub returns-in_err-hold-clause-made : goal.returns-in_err-hold-clause-made
 returns-in_err-hold-clause-made g c =
-    let v = c.args.vol.now in
     let place = c.place_of-place in
-    let front : place.result.number - 1 ≡ front_of v c.args.slot = omega (arith, place.ensures.number) in
-    makes_as c.in_err-hold.ensures.made
-    (put_reads v c.args.slot (place.result.number - 1) c.args.dscb.now c.hold.new.buf c.hold.new.buf v.buf.geometry place.result.track c.requires.unit.buffer.0 place.ensures.track
-    (λ none. subst (λ (n : ℕ). ¬ HasLengths c.hold.new.buf.records n 44 96) front none))
+    makes_as c.in_err-hold.ensures.made (put_reads c.args.vol.now c.args.slot place.result.number place.result.track c.args.dscb.now _ _ c.requires.unit.buffer.0 place.ensures.track place.ensures.number (λ call was. was))
 
-write_is : (g : Over) (c : After-update g) (call : HallCall) → call ≡ Writing c.hold.new.buf.unit (place_of c.hold.new.buf (c.place_of-place.result.number - 1)) (c.split_at.result.0.now ++ c.split_at.result.1.now) → IsSlotWrite c.args.vol.now c.args.slot c.args.dscb.now c.update.new.buf call
+write_is : (g : Over) (c : After-update g) (call : HallCall) → call ≡ Writing c.hold.new.buf.unit (place_of c.hold.new.buf (c.place_of-place.result.number - 1)) (c.split_at.result.0.now ++ c.split_at.result.1.now) → IsSlotWrite c.args.vol.now c.args.slot c.args.dscb.now (g.H.Hall.done c.update.new.hall) call
 write_is g c =
     let place = c.place_of-place in
-    slot_write c.args.vol.now c.args.slot (place.result.number - 1) c.args.dscb.now c.hold.new.buf c.update.new.buf c.split_at.result.0.now c.split_at.result.1.now c.encode-bytes.result c.update.ensures.buffer
-    (c.in_ok-hold.ensures.kept.0 ∙ c.requires.unit.buffer.0, c.in_ok-hold.ensures.kept.1 ∙ c.requires.unit.buffer.1)
+    slot_write c.args.vol.now c.args.slot (place.result.number - 1) c.args.dscb.now _ c.hold.new.buf c.split_at.result.0.now c.split_at.result.1.now c.encode-bytes.result (seen_is g c) c.in_ok-hold.ensures.lengths
+    (c.in_ok-hold.ensures.stays.0 ∙ c.requires.unit.buffer.0, c.in_ok-hold.ensures.stays.1 ∙ c.requires.unit.buffer.1)
     (c.in_ok-hold.ensures.track ∙ place.ensures.track) (front_is g c) (bytes_is g c) c.encode-bytes.ensures.fields (search rules) c.update.ensures.inside
 
-made_then : (g : Over) (c : After-update g) → MakesOnly (IsPutCall c.args.vol.now c.args.slot c.args.dscb.now c.update.new.buf) (g.H.Hall.made c.args.hall.now) (g.H.Hall.made c.update.new.hall)
+made_then : (g : Over) (c : After-update g) → MakesOnly (IsPutCall c.args.vol.now c.args.slot c.args.dscb.now (g.H.Hall.done c.update.new.hall)) (g.H.Hall.made c.args.hall.now) (g.H.Hall.made c.update.new.hall)
 made_then g c =
-    let v = c.args.vol.now in
-    let b = c.hold.new.buf in
     let place = c.place_of-place in
     makes_then c.in_ok-hold.ensures.made c.update.ensures.made
-    (put_reads v c.args.slot (place.result.number - 1) c.args.dscb.now b c.update.new.buf v.buf.geometry place.result.track c.requires.unit.buffer.0 place.ensures.track (λ none. absurd (none c.in_ok-hold.ensures.lengths)))
+    (put_reads c.args.vol.now c.args.slot place.result.number place.result.track c.args.dscb.now _ _ c.requires.unit.buffer.0 place.ensures.track place.ensures.number c.update.ensures.kept)
     (λ call is. inr (inr (write_is g c call is)))
 
 pub returns-in_err-update-clause-made : goal.returns-in_err-update-clause-made
@@ -223,3 +223,29 @@ pub returns-clause-done : goal.returns-clause-done
 returns-clause-done g c =
     let w = (goal.at.returns-clause-done g c).After-update in
     Does _ (write_is g w _ refl) c.in_ok-update.ensures.done
+
+pub returns-in_err-hold-clause-buffer : goal.returns-in_err-hold-clause-buffer
+returns-in_err-hold-clause-buffer g c =
+    let v = c.args.vol.now in
+    let place = c.place_of-place in
+    ⊎_elim
+    (λ emptied. Emptied (emptied ∙ ap (λ (n : ℕ). record v.buf { track = n; records = [] }) place.ensures.track))
+    (λ seen. Seen (slot_seen v c.args.slot place.result.number place.result.track _ _ c.hold.new.buf place.ensures.track place.ensures.number (λ call was. was) seen))
+    c.in_err-hold.ensures.lost
+
+changed : (g : Over) (c : After-update g) → HoldsPut c.args.vol.now c.args.slot c.args.dscb.now (g.H.Hall.done c.update.new.hall) c.update.new.buf
+changed g c =
+    let held = c.hold.new.buf in
+    let front = front_of c.args.vol.now c.args.slot in
+    let bytes = c.encode-bytes.result in
+    Changed held (seen_is g c) bytes c.encode-bytes.ensures.fields (search rules) (subst (λ (n : ℕ). HasLengths held.records n 44 96) (front_is g c) c.in_ok-hold.ensures.lengths)
+    (c.update.ensures.buffer
+    ∙ ap (λ (n : ℕ). record held { records = with_parts n c.split_at.result.0.now c.split_at.result.1.now held.records }) (front_is g c)
+    ∙ ap (λ (l : List ℕ). record held { records = with_parts front l c.split_at.result.1.now held.records }) c.split_at.ensures.front
+    ∙ ap (λ (l : List ℕ). record held { records = with_parts front (take 44 bytes) l held.records }) c.split_at.ensures.back)
+
+pub returns-in_err-update-clause-buffer : goal.returns-in_err-update-clause-buffer
+returns-in_err-update-clause-buffer g c = changed g (goal.at.returns-in_err-update-clause-buffer g c).After-update
+
+pub returns-clause-buffer : goal.returns-clause-buffer
+returns-clause-buffer g c = changed g (goal.at.returns-clause-buffer g c).After-update

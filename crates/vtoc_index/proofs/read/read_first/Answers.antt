@@ -1,11 +1,15 @@
-use Rattle.std.proofs.Common.{◌∙◌, ap, sym, subst, None, ℕ, List}
+use Rattle.std.proofs.Common.{◌≡◌, ◌∙◌, inl, inr, refl, ap, sym, subst, Some, None, ℕ, List}
 use Rattle.ckd_image.specs.declared.header.Geometry.{Geometry}
 use Rattle.hall_core.specs.Files.{image_of}
 use Rattle.pack_spec.specs.Label.{records_on, track_of_address}
 use Rattle.pack_spec.specs.Volume.{volume_within}
+use Rattle.track_records.specs.Calls.{HasGiven, records_by}
 use Rattle.vtoc_index.specs.Reading.{Refuses, vtoc_on}
 use Rattle.vtoc_index.proofs.CallsMade.{broken_none}
 use Rattle.vtoc_index.proofs.FirstSlots.{extent_whole}
+use Rattle.vtoc_index.specs.Given.{BadExtent, GivesExtent}
+use Rattle.vtoc_index.proofs.GivenLemmas.{track_given}
+use Rattle.vtoc_index.proofs.PutCalls.{broken_given}
 use Rattle.vtoc_index.proofs.Images.{same_image}
 use Rattle.vtoc_index.proofs.Reasons.{refuses, extent_refused}
 use Rattle.vtoc_index.proofs.read.read_first.Goals as goal
@@ -35,3 +39,21 @@ returns-in-Err-BadCount-clause-refused g c told =
     ∙ ap (λ (x : Geometry). records_on image x None c.track.result) (sym c.requires.buffer)
     ∙ broken in
     subst (λ (i : List ℕ). Refuses (volume_within i c.args.geometry (vtoc_on i c.args.geometry at)) c.why_broken.result) same (c.why_broken.ensures.refused told none)
+
+-- what the read gave
+pub returns-in-Ok-extent_held-clause-given : goal.returns-in-Ok-extent_held-clause-given
+returns-in-Ok-extent_held-clause-given g c =
+    let records = c.read_records.new.buf.records in
+    let done = g.H.Hall.done c.read_records.new.hall in
+    let start : c.track.result ≡ c.in-Ok-extent_held.vtoc.start = c.track.ensures.exact ∙ sym c.in-Ok-extent_held.ensures.extent.begins in
+    subst (λ (t : ℕ). HasGiven done c.args.unit c.args.geometry t (λ bytes. records_by c.args.geometry None t bytes ≡ Some records)) start
+    (subst (λ (x : Geometry). HasGiven done c.args.unit x c.track.result (λ bytes. records_by x None c.track.result bytes ≡ Some records)) c.requires.buffer c.in-Ok.ensures.given)
+
+pub returns-in-Err-clause-reason : goal.returns-in-Err-clause-reason
+returns-in-Err-clause-reason g c =
+    inr (BadExtent (GivesExtent None (inl refl) c.read_records.new.buf.records (track_given None _ _ _ _ _ c.requires.buffer c.track.ensures.exact c.in-Ok.ensures.given) c.in-Err.ensures.refused))
+
+pub returns-in-Err-BadCount-clause-reason : goal.returns-in-Err-BadCount-clause-reason
+returns-in-Err-BadCount-clause-reason g c =
+    let broken = broken_given _ c.args.unit c.args.buf.now.geometry None c.track.result _ c.in-Err-BadCount.field-0-0 c.in-Err-BadCount.field-0-is c.in-Err-BadCount.ensures.broke in
+    c.why_broken.ensures.reason (track_given None None _ _ _ _ c.requires.buffer c.track.ensures.exact broken)

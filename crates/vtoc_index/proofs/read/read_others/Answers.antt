@@ -1,4 +1,4 @@
-use Rattle.std.proofs.Common.{◌≡◌, ◌≢◌, ◌+◌, ◌-◌, ◌<◌, inl, inr, ⊎_elim, refl, sym, ap, subst, ◌∙◌, arith, ◌≤◌, ℕ, List, [], length, append-nil, None}
+use Rattle.std.proofs.Common.{◌≡◌, ◌≢◌, ◌+◌, ◌-◌, ◌<◌, ◌⊎◌, inl, inr, ⊎_elim, refl, sym, ap, subst, ◌∙◌, arith, ◌≤◌, ℕ, suc, List, [], length, append-nil, None, Some}
 use Rattle.std.specs.Prelude.{Ok, Err}
 use Rattle.std.proofs.lemmas.Result.{err_from_is_err_and}
 use Rattle.ckd_image.specs.declared.header.Geometry.{Geometry}
@@ -10,8 +10,11 @@ use Rattle.pack_spec.specs.Vtoc.{slots_on}
 use Rattle.pack_spec.specs.Volume.{volume_within}
 use Rattle.pack_spec.specs.declared.MountErr.TheVariants.{Device, Memory, VtocTrack}
 use Rattle.vtoc_index.specs.Calls.{tracks_to_read}
+use Rattle.track_records.specs.Calls.{HasGiven, records_by}
+use Rattle.vtoc_index.specs.Given.{AreFound, IsTrackReason}
 use Rattle.vtoc_index.specs.Reading.{AreNumbered, AreTracksRead}
 use Rattle.vtoc_index.proofs.CallsMade.{begins_further, begins_same, buffer_read, call_done, call_fails, call_stays, has_track, refuses_at, not_device, reads_then, reads_within, stands_whole, stay_more, stay_none, track_more, track_reason}
+use Rattle.vtoc_index.proofs.GivenLemmas.{broken_lacks, err_at, found_more, found_still, other_lacks, track_given, track_lacks}
 use Rattle.vtoc_index.proofs.Images.{same_image}
 use Rattle.vtoc_index.proofs.ReadsMade.{good_are_read}
 use Rattle.vtoc_index.proofs.TracksRead.{last_of, numbered_more, read_more, slots_are, track_refused}
@@ -25,6 +28,9 @@ loop-track-init g c =
     record {
       calls = (omega arith, omega arith, omega arith, omega arith, omega arith);
       made = makes_none _ _;
+      kept = λ call was. was;
+      seen = λ given. given;
+      given = λ first are. subst (λ (n : ℕ). AreFound (g.H.Hall.done c.args.hall.now) c.args.unit c.args.geometry start n first c.args.found.now) one are;
       facts = stay_none _;
       told = λ told. same_none _ (g.met.H.Hall.counts_now c.args.hall.now);
       geometry = c.requires.buffer.0;
@@ -126,6 +132,14 @@ loop-track-preserved g c =
         omega (arith, l.invariant.calls.4, c.in_ok-count.ensures.calls.4),
       );
       made = track_more c.args.unit c.args.geometry l.buf.geometry (start + 1) l.track (start + (l.track - start)) (start + (l.track + 1 - start)) l.invariant.made c.in_ok-count.ensures.made l.invariant.geometry (omega (arith, l.auto.track)) (omega (arith, l.auto.track)) (omega (arith, next));
+      kept = λ call was. c.in_ok-count.ensures.kept call (l.invariant.kept call was);
+      seen = λ _. track_given None _ _ _ _ _ l.invariant.geometry (sym held.track_is) c.in_ok-count.ensures.given;
+      given = λ first are.
+          let read = c.in_ok-count.ensures.given in
+          let here = subst (λ (x : Geometry). HasGiven (g.H.Hall.done c.read_track.new.hall) c.args.unit x l.track (λ bytes. records_by x None l.track bytes ≡ Some c.read_track.new.buf.records)) l.invariant.geometry read in
+          let more : suc (l.track - start) ≡ l.track + 1 - start = omega (arith, next) in
+          subst (λ (n : ℕ). AreFound (g.H.Hall.done c.read_track.new.hall) c.args.unit c.args.geometry start n first c.add.new.self) more
+          (found_more (g.H.Hall.done c.read_track.new.hall) c.args.unit c.args.geometry start (l.track - start) l.track first c.read_track.new.buf.records l.found c.add.new.self at (found_still (l.invariant.given first are) c.in_ok-count.ensures.kept) here c.in_ok-add.ensures.firsts c.in_ok-add.ensures.slots);
       facts = stay_more _ _ _ c.in_ok-count.count l.invariant.facts c.in_ok-count.ensures.call;
       told = λ told. same_then (l.invariant.told told) (c.in_ok-count.ensures.told told);
       geometry = geometry;
@@ -294,3 +308,51 @@ returns-clause-made g c =
     let start = c.args.vtoc.start in
     let all : l.track - start ≤ c.args.vtoc.len = omega (arith, c.loop-track-test.false, l.auto.track, l.auto.track-end, c.requires.tracks.0) in
     makes_as l.invariant.made (λ call is. (is.0, is.1, omega (arith, is.2, all), is.3))
+
+-- what was done, and what the reads gave
+pub returns-in_err-count-clause-kept : goal.returns-in_err-count-clause-kept
+returns-in_err-count-clause-kept g c call was = c.in_err-count.ensures.kept call (c.loop-track.invariant.kept call was)
+
+pub returns-in_err-add-clause-kept : goal.returns-in_err-add-clause-kept
+returns-in_err-add-clause-kept g c call was = c.in_ok-count.ensures.kept call (c.loop-track.invariant.kept call was)
+
+pub returns-clause-kept : goal.returns-clause-kept
+returns-clause-kept g c = c.loop-track.invariant.kept
+
+pub returns-clause-seen : goal.returns-clause-seen
+returns-clause-seen g c = c.loop-track.invariant.seen
+
+pub returns-clause-given : goal.returns-clause-given
+returns-clause-given g c first are =
+    let l = c.loop-track in
+    let all : l.track - c.args.vtoc.start ≡ c.args.vtoc.len = omega (arith, c.loop-track-test.false, l.auto.track, l.auto.track-end, c.requires.tracks.0) in
+    subst (λ (n : ℕ). AreFound (g.H.Hall.done l.hall) c.args.unit c.args.geometry c.args.vtoc.start n first l.found) all (l.invariant.given first are)
+
+-- why a track isn't added, by what its read gave
+pub returns-in_err-count-clause-reason : goal.returns-in_err-count-clause-reason
+returns-in_err-count-clause-reason g c first are =
+    let l = c.loop-track in
+    let vtoc = c.args.vtoc in
+    let done = g.H.Hall.done c.read_track.new.hall in
+    let before = found_still (l.invariant.given first are) c.in_err-count.ensures.kept in
+    let p = err_from_is_err_and c.from_residual.result c.from_residual.ensures.1 in
+    let at : l.track ≡ vtoc.start + (l.track - vtoc.start) = omega (arith, l.auto.track) in
+    let low : l.track - vtoc.start < vtoc.len = omega (arith, l.auto.track, c.loop-track-test.true) in
+    err_at (λ e. (e ≡ Device) ⊎ ((e ≡ Memory) ⊎ IsTrackReason done c.args.unit c.args.geometry vtoc e)) c.from_residual.result c.in_err-count.field-0.0 (p.1 ∙ ap Err p.2)
+    (⊎_elim (λ device. inl device)
+    (λ broken. inr (inr (track_lacks done c.args.unit c.args.geometry vtoc (l.track - vtoc.start) l.track c.in_err-count.field-0.0 before.slots l.found.firsts.items low at before.given (broken_lacks c.args.geometry l.track (track_given None None _ _ _ _ l.invariant.geometry refl broken.1)) broken.0)))
+    c.in_err-count.ensures.reason)
+
+pub returns-in_err-add-clause-reason : goal.returns-in_err-add-clause-reason
+returns-in_err-add-clause-reason g c first are =
+    let l = c.loop-track in
+    let vtoc = c.args.vtoc in
+    let done = g.H.Hall.done c.read_track.new.hall in
+    let before = found_still (l.invariant.given first are) c.in_ok-count.ensures.kept in
+    let p = err_from_is_err_and c.from_residual-in_err-add.result c.from_residual-in_err-add.ensures.1 in
+    let at : l.track ≡ vtoc.start + (l.track - vtoc.start) = omega (arith, l.auto.track) in
+    let low : l.track - vtoc.start < vtoc.len = omega (arith, l.auto.track, c.loop-track-test.true) in
+    err_at (λ e. (e ≡ Device) ⊎ ((e ≡ Memory) ⊎ IsTrackReason done c.args.unit c.args.geometry vtoc e)) c.from_residual-in_err-add.result c.in_err-add.field-0.0 (p.1 ∙ ap Err p.2)
+    (⊎_elim (λ memory. inr (inl memory))
+    (λ other. inr (inr (track_lacks done c.args.unit c.args.geometry vtoc (l.track - vtoc.start) l.track c.in_err-add.field-0.0 before.slots l.found.firsts.items low at before.given (other_lacks c.args.geometry l.track c.read_track.new.buf.records (track_given None _ _ _ _ _ l.invariant.geometry refl c.in_ok-count.ensures.given) other.1) other.0)))
+    c.in_err-add.ensures.refused)

@@ -1,19 +1,27 @@
-use Rattle.std.proofs.Common.{inl, refl, sym, ap, subst, ◌∙◌, arith, ℕ, List, length, None, ◌+◌, ◌-◌}
+use Rattle.std.proofs.Common.{◌≡◌, ◌⊎◌, ⊎_elim, inl, inr, take, Some, refl, sym, ap, subst, ◌∙◌, arith, ℕ, List, length, None, ◌+◌, ◌-◌}
 use Rattle.std.specs.Prelude.{Ok, Err}
 use Rattle.std.proofs.lemmas.Result.{err_from_is_err_and}
 use Rattle.hall_core.specs.Facts.{CallsAtMost}
 use Rattle.hall_core.specs.Files.{image_of}
 use Rattle.pack_spec.specs.Label.{records_on, track_of_address}
 use Rattle.pack_spec.specs.Volume.{volume_within}
-use Rattle.pack_spec.specs.declared.MountErr.TheVariants.{Memory}
+use Rattle.pack_spec.specs.declared.MountErr.TheVariants.{Device, Memory}
 use Rattle.vtoc_index.specs.Calls.{first_track_reads, tracks_to_read, vtoc_reads}
-use Rattle.vtoc_index.specs.Reading.{AreTracksRead, vtoc_on}
+use Rattle.vtoc_index.specs.Reading.{AreTracksRead, IsExtent, vtoc_on}
 use Rattle.vtoc_index.proofs.CallsMade.{refuses_at, track_reason, reads_then, reads_within}
+use Rattle.pack_spec.specs.Slots.{addressed_from}
+use Rattle.vtoc_index.proofs.GivenLemmas.{err_at, extent_first, extent_still, first_found, first_lacks, other_lacks, track_given}
+use Rattle.pack_spec.specs.Vtoc.{first_slot, vtoc_by}
+use Rattle.track_records.specs.Calls.{HasGiven, records_by}
+use Rattle.vol_model.specs.declared.contents.Run.{Run}
+use Rattle.vtoc_index.specs.Given.{GivesExtent, IsExtentGiven, IsVtocReason, NoSlots}
 use Rattle.vtoc_index.proofs.Images.{same_image}
 use Rattle.vtoc_index.proofs.ReadsMade.{first_is_read, first_reads, tracks_are_read}
 use Rattle.vtoc_index.proofs.Reasons.{refuses_same}
 use Rattle.vtoc_index.proofs.TracksRead.{first_refused, first_read, last_of, slots_are}
+use Rattle.vtoc_index.proofs.read.read_slots.Given.{Over}
 use Rattle.vtoc_index.proofs.read.read_slots.Goals as goal
+use Rattle.vtoc_index.proofs.read.read_slots.Goals.{After-read_first}
 
 pub returns-in_err-add-clause-refused : goal.returns-in_err-add-clause-refused
 returns-in_err-add-clause-refused g c told =
@@ -113,3 +121,54 @@ returns-clause-reads g c told =
     (reads_then 1 more (g.H.Hall.calls c.args.hall.now) (g.H.Hall.calls c.read_first.new.hall) (g.H.Hall.calls c.read_others.new.hall) c.in_ok-vtoc.ensures.once
     (subst (λ (i : List ℕ). CallsAtMost (tracks_to_read i c.args.geometry vtoc - 1) 0 0 0 (g.H.Hall.calls c.read_first.new.hall) (g.H.Hall.calls c.read_others.new.hall)) same
     (c.in_ok-read_others.ensures.reads told (subst (λ (i : List ℕ). AreTracksRead i c.args.geometry vtoc.start 1 c.add.new.self) (sym same) first))))
+
+-- what the reads gave
+pub returns-clause-given : goal.returns-clause-given
+returns-clause-given g c =
+    let vtoc = c.in_ok-vtoc.vtoc in
+    let records = c.read_first.new.buf.records in
+    let adds = c.in_ok-add.ensures.slots in
+    let first = first_found (g.H.Hall.done c.read_first.new.hall) c.args.unit c.args.geometry vtoc.start records c.args.found.now c.add.new.self c.requires.empty.0 c.requires.empty.1 c.in_ok-vtoc.ensures.given c.in_ok-add.ensures.firsts adds in
+    let slots = addressed_from c.args.geometry vtoc.start 1 adds.bytes in
+    let all = c.in_ok-read_others.ensures.given slots first in
+    (slots, all, extent_first c.args.geometry c.args.at vtoc.start records adds.bytes vtoc adds.are_slots c.in_ok-vtoc.ensures.found)
+
+pub returns-clause-seen : goal.returns-clause-seen
+returns-clause-seen g c =
+    let first = c.in_ok-vtoc.ensures in
+    c.in_ok-read_others.ensures.seen (track_given None _ _ _ _ _ refl (sym first.buffer.1.1) first.given)
+
+-- why a VTOC is refused, by what the reads gave
+pub returns-in_err-vtoc-clause-reason : goal.returns-in_err-vtoc-clause-reason
+returns-in_err-vtoc-clause-reason g c =
+    let p = err_from_is_err_and c.from_residual.result c.from_residual.ensures.1 in
+    err_at (λ e. (e ≡ Device) ⊎ ((e ≡ Memory) ⊎ IsVtocReason (g.H.Hall.done c.read_first.new.hall) c.args.unit c.args.geometry c.args.at e)) c.from_residual.result c.in_err-vtoc.field-0.0 (p.1 ∙ ap Err p.2)
+    (⊎_elim (λ device. inl device) (λ why. inr (inr why)) c.in_err-vtoc.ensures.reason)
+
+held_extent : (g : Over) (c : After-read_first g) (vtoc : Run) → IsExtent c.args.geometry c.args.at vtoc → HasGiven (g.H.Hall.done c.read_first.new.hall) c.args.unit c.args.geometry vtoc.start (λ bytes. records_by c.args.geometry None vtoc.start bytes ≡ Some c.read_first.new.buf.records) → vtoc_by c.args.geometry c.args.at (first_slot (take 1 c.read_first.new.buf.records)) ≡ Ok vtoc → IsExtentGiven (g.H.Hall.done c.read_first.new.hall) c.args.unit c.args.geometry c.args.at (Ok vtoc)
+held_extent g c vtoc extent given found = GivesExtent None (inl refl) c.read_first.new.buf.records (track_given None _ _ _ _ _ refl extent.begins given) found
+
+pub returns-in_err-add-clause-reason : goal.returns-in_err-add-clause-reason
+returns-in_err-add-clause-reason g c =
+    let vtoc = c.in_ok-vtoc.vtoc in
+    let first = c.in_ok-vtoc.ensures in
+    let done = g.H.Hall.done c.read_first.new.hall in
+    let p = err_from_is_err_and c.from_residual-in_err-add.result c.from_residual-in_err-add.ensures.1 in
+    err_at (λ e. (e ≡ Device) ⊎ ((e ≡ Memory) ⊎ IsVtocReason done c.args.unit c.args.geometry c.args.at e)) c.from_residual-in_err-add.result c.in_err-add.field-0.0 (p.1 ∙ ap Err p.2)
+    (⊎_elim (λ memory. inr (inl memory))
+    (λ other. inr (inr (NoSlots vtoc (held_extent g (goal.at.returns-in_err-add-clause-reason g c).After-read_first vtoc first.numbers.0 first.given first.found)
+    (first_lacks done c.args.unit c.args.geometry vtoc c.in_err-add.field-0.0 first.numbers.0.some (other_lacks c.args.geometry vtoc.start c.read_first.new.buf.records first.given other.1) other.0))))
+    c.in_err-add.ensures.refused)
+
+pub returns-in_err-read_others-clause-reason : goal.returns-in_err-read_others-clause-reason
+returns-in_err-read_others-clause-reason g c =
+    let vtoc = c.in_ok-vtoc.vtoc in
+    let first = c.in_ok-vtoc.ensures in
+    let adds = c.in_ok-add.ensures.slots in
+    let done = g.H.Hall.done c.read_others.new.hall in
+    let one = first_found (g.H.Hall.done c.read_first.new.hall) c.args.unit c.args.geometry vtoc.start c.read_first.new.buf.records c.args.found.now c.add.new.self c.requires.empty.0 c.requires.empty.1 first.given c.in_ok-add.ensures.firsts adds in
+    let extent = held_extent g (goal.at.returns-in_err-read_others-clause-reason g c).After-read_first vtoc first.numbers.0 first.given first.found in
+    let p = err_from_is_err_and c.from_residual-in_err-read_others.result c.from_residual-in_err-read_others.ensures.1 in
+    err_at (λ e. (e ≡ Device) ⊎ ((e ≡ Memory) ⊎ IsVtocReason done c.args.unit c.args.geometry c.args.at e)) c.from_residual-in_err-read_others.result c.in_err-read_others.field-0.0 (p.1 ∙ ap Err p.2)
+    (⊎_elim (λ device. inl device) (⊎_elim (λ memory. inr (inl memory)) (λ lacks. inr (inr (NoSlots vtoc (extent_still extent c.in_err-read_others.ensures.kept) lacks))))
+    (c.in_err-read_others.ensures.reason (addressed_from c.args.geometry vtoc.start 1 adds.bytes) one))

@@ -1,8 +1,19 @@
-use Rattle.std.proofs.Common.{◌≡◌, refl, sym, ap, subst, ◌∙◌, arith, ℕ, List, length}
-use Rattle.std.specs.Prelude.{Err}
+use Rattle.std.proofs.Common.{◌≡◌, ⊎_elim, inl, inr, refl, sym, ap, subst, ◌∙◌, arith, ℕ, List, length}
+use Rattle.std.specs.Prelude.{Ok, Err}
+use Rattle.ckd_image.specs.declared.header.Geometry.{Geometry}
+use Rattle.pack_spec.specs.declared.address.Address.{Address}
+use Rattle.pack_spec.specs.Vtoc.{vtoc_by}
+use Rattle.vtoc_index.specs.Given.{BadHeader, BadSlot, Cut, IsLabelGiven, IsLabelLacking, IsReasonGiven, IsVtocReason, NoVtoc, Outside, Unlabelled, first_bytes}
+use Rattle.pack_spec.specs.Label.{is_inside}
+use Rattle.vtoc_index.proofs.GivenLemmas.{err_at, extent_all, header_still}
+use Rattle.vtoc_index.proofs.PutCalls.{given_still}
 use Rattle.std.proofs.lemmas.Result.{err_from_is_err_and}
 use Rattle.hall_core.specs.Facts.{unit_of}
 use Rattle.hall_core.specs.Files.{image_of}
+use Rattle.hall_core.specs.Made.{MakesOnly}
+use Rattle.hall_core.proofs.MadeLemmas.{makes_then}
+use Rattle.track_records.specs.Calls.{track_read}
+use Rattle.vtoc_index.specs.Calls.{IsMountRead}
 use Rattle.pack_spec.specs.Slots.{slots_of_vtoc}
 use Rattle.track_records.specs.Buffers.{Buffer}
 use Rattle.track_records.specs.Written.{StandsOn}
@@ -182,3 +193,108 @@ returns-clause-reads g c told =
     let later = image_of (g.H.Hall.meaning c.read_label.new.hall).state (g.H.Hall.facts c.read_label.new.hall) c.args.unit in
     let still : later ≡ image = same_image (g.H.Hall.meaning c.read_label.new.hall).state (g.H.Hall.meaning c.read_geometry.new.hall).state (g.H.Hall.facts c.read_label.new.hall) (g.H.Hall.facts c.read_geometry.new.hall) c.args.unit (c.in_ok-label.ensures.told told).state c.in_ok-label.ensures.call.units ∙ same in
     image_of_vtoc image later geometry c.in_ok-label.label (g.H.Hall.calls c.args.hall.now) (g.H.Hall.calls c.read_label.new.hall) (g.H.Hall.calls c.read_slots.new.hall) still (c.in_ok-geometry.ensures.read told) label (sym c.if-not-is_inside.ensures) (reads_then 1 1 (g.H.Hall.calls c.args.hall.now) (g.H.Hall.calls c.read_geometry.new.hall) (g.H.Hall.calls c.read_label.new.hall) c.in_ok-geometry.ensures.calls c.in_ok-label.ensures.calls) (c.in_ok-vtoc.ensures.reads told)
+
+-- what the reads gave
+pub returns-clause-given : goal.returns-clause-given
+returns-clause-given g c =
+    let geometry = c.in_ok-geometry.geometry in
+    let vtoc = c.in_ok-vtoc.vtoc in
+    let done = g.H.Hall.done c.read_slots.new.hall in
+    let later = c.in_ok-vtoc.ensures.kept in
+    let alike : c.in_ok-buf.buf.geometry ≡ geometry = ap (λ (b : Buffer). b.geometry) c.in_ok-buf.ensures in
+    let label = c.in_ok-label.ensures.given in
+    let found = c.in_ok-vtoc.ensures.given in
+    let slots = subst (λ (l : List ReadSlot). AreRead l found.1.slots) (sym c.deref.ensures.value) found.1.read in
+    let held = c.in_ok-slots.ensures.dscbs found.1.slots slots in
+    let extent = extent_all geometry c.in_ok-label.label.vtoc vtoc found.0 found.1.slots found.1.begins.0 found.1.begins.1 found.2 in
+    record {
+      header = header_still c.in_ok-geometry.ensures.given (λ call was. later call (c.in_ok-label.ensures.kept call was));
+      label = label.0;
+      labelled = given_still (subst (λ (x : Geometry). IsLabelGiven (g.H.Hall.done c.read_label.new.hall) c.args.unit x label.0) alike label.1) later;
+      serial = label.2.serial;
+      slots = found.1.slots;
+      extent = subst (λ (at : Address). vtoc_by geometry at (first_bytes found.1.slots) ≡ Ok vtoc) label.2.vtoc extent;
+      given = found.1.given;
+      dscbs = held.0;
+      lawful = held.1;
+      last = c.in_ok-vtoc.ensures.last;
+      buffer = c.in_ok-vtoc.ensures.seen;
+    }
+
+-- why the pack is refused, by what the reads gave
+pub returns-in_err-geometry-clause-reason : goal.returns-in_err-geometry-clause-reason
+returns-in_err-geometry-clause-reason g c =
+    let size = (unit_of (g.H.Hall.facts c.args.hall.now).units c.args.unit).size in
+    let p = err_from_is_err_and c.from_residual.result c.from_residual.ensures.1 in
+    err_at (IsReasonGiven (g.H.Hall.done c.read_geometry.new.hall) c.args.unit size) c.from_residual.result c.in_err-geometry.field-0.0 (p.1 ∙ ap Err p.2)
+    (⊎_elim (λ device. Cut (inl device)) (λ why. BadHeader why) c.in_err-geometry.ensures.reason)
+
+pub returns-in_err-label-clause-reason : goal.returns-in_err-label-clause-reason
+returns-in_err-label-clause-reason g c =
+    let size = (unit_of (g.H.Hall.facts c.args.hall.now).units c.args.unit).size in
+    let done = g.H.Hall.done c.read_label.new.hall in
+    let geometry = c.in_ok-geometry.geometry in
+    let alike : c.in_ok-buf.buf.geometry ≡ geometry = ap (λ (b : Buffer). b.geometry) c.in_ok-buf.ensures in
+    let p = err_from_is_err_and c.from_residual-in_err-label.result c.from_residual-in_err-label.ensures.1 in
+    err_at (IsReasonGiven done c.args.unit size) c.from_residual-in_err-label.result c.in_err-label.field-0.0 (p.1 ∙ ap Err p.2)
+    (⊎_elim (λ device. Cut (inl device))
+    (λ none. Unlabelled geometry (header_still c.in_ok-geometry.ensures.given c.in_err-label.ensures.kept) (subst (λ (x : Geometry). IsLabelLacking done c.args.unit x) alike none.1) none.0)
+    c.in_err-label.ensures.reason)
+
+pub returns-then-not-is_inside-clause-reason : goal.returns-then-not-is_inside-clause-reason
+returns-then-not-is_inside-clause-reason g c =
+    let geometry = c.in_ok-geometry.geometry in
+    let alike : c.in_ok-buf.buf.geometry ≡ geometry = ap (λ (b : Buffer). b.geometry) c.in_ok-buf.ensures in
+    let label = c.in_ok-label.ensures.given in
+    Outside geometry (header_still c.in_ok-geometry.ensures.given c.in_ok-label.ensures.kept) label.0 (subst (λ (x : Geometry). IsLabelGiven (g.H.Hall.done c.read_label.new.hall) c.args.unit x label.0) alike label.1)
+    (ap (is_inside geometry) (sym label.2.vtoc) ∙ sym c.if-not-is_inside.ensures) refl
+
+pub returns-in_err-vtoc-clause-reason : goal.returns-in_err-vtoc-clause-reason
+returns-in_err-vtoc-clause-reason g c =
+    let size = (unit_of (g.H.Hall.facts c.args.hall.now).units c.args.unit).size in
+    let done = g.H.Hall.done c.read_slots.new.hall in
+    let geometry = c.in_ok-geometry.geometry in
+    let alike : c.in_ok-buf.buf.geometry ≡ geometry = ap (λ (b : Buffer). b.geometry) c.in_ok-buf.ensures in
+    let label = c.in_ok-label.ensures.given in
+    let later = c.in_err-vtoc.ensures.kept in
+    let p = err_from_is_err_and c.from_residual-in_err-vtoc.result c.from_residual-in_err-vtoc.ensures.1 in
+    err_at (IsReasonGiven done c.args.unit size) c.from_residual-in_err-vtoc.result c.in_err-vtoc.field-0.0 (p.1 ∙ ap Err p.2)
+    (⊎_elim (λ device. Cut (inl device)) (⊎_elim (λ memory. Cut (inr memory))
+    (λ why. NoVtoc geometry (header_still c.in_ok-geometry.ensures.given (λ call was. later call (c.in_ok-label.ensures.kept call was))) label.0
+    (given_still (subst (λ (x : Geometry). IsLabelGiven (g.H.Hall.done c.read_label.new.hall) c.args.unit x label.0) alike label.1) later)
+    (ap (is_inside geometry) (sym label.2.vtoc) ∙ sym c.if-not-is_inside.ensures)
+    (subst (λ (at : Address). IsVtocReason done c.args.unit geometry at c.in_err-vtoc.field-0.0) label.2.vtoc why)))
+    c.in_err-vtoc.ensures.reason)
+
+pub returns-in_err-slots-clause-reason : goal.returns-in_err-slots-clause-reason
+returns-in_err-slots-clause-reason g c =
+    let size = (unit_of (g.H.Hall.facts c.args.hall.now).units c.args.unit).size in
+    let done = g.H.Hall.done c.read_slots.new.hall in
+    let geometry = c.in_ok-geometry.geometry in
+    let vtoc = c.in_ok-vtoc.vtoc in
+    let alike : c.in_ok-buf.buf.geometry ≡ geometry = ap (λ (b : Buffer). b.geometry) c.in_ok-buf.ensures in
+    let label = c.in_ok-label.ensures.given in
+    let later = c.in_ok-vtoc.ensures.kept in
+    let found = c.in_ok-vtoc.ensures.given in
+    let slots = subst (λ (l : List ReadSlot). AreRead l found.1.slots) (sym c.deref.ensures.value) found.1.read in
+    let extent = extent_all geometry c.in_ok-label.label.vtoc vtoc found.0 found.1.slots found.1.begins.0 found.1.begins.1 found.2 in
+    let p = err_from_is_err_and c.from_residual-in_err-slots.result c.from_residual-in_err-slots.ensures.1 in
+    err_at (IsReasonGiven done c.args.unit size) c.from_residual-in_err-slots.result c.in_err-slots.field-0.0 (p.1 ∙ ap Err p.2)
+    (⊎_elim (λ memory. Cut (inr memory))
+    (λ first. NoVtoc geometry (header_still c.in_ok-geometry.ensures.given (λ call was. later call (c.in_ok-label.ensures.kept call was))) label.0
+    (given_still (subst (λ (x : Geometry). IsLabelGiven (g.H.Hall.done c.read_label.new.hall) c.args.unit x label.0) alike label.1) later)
+    (ap (is_inside geometry) (sym label.2.vtoc) ∙ sym c.if-not-is_inside.ensures)
+    (BadSlot vtoc found.1.slots c.read_slots.new.found.firsts.items (subst (λ (at : Address). vtoc_by geometry at (first_bytes found.1.slots) ≡ Ok vtoc) label.2.vtoc extent) found.1.given first))
+    (c.in_err-slots.ensures.refused found.1.slots slots))
+
+-- the reads of header, label and slots
+pub returns-in_err-slots-clause-made : goal.returns-in_err-slots-clause-made
+returns-in_err-slots-clause-made g c =
+    let made = g.H.Hall.made in
+    let unit = c.args.unit in
+    let geometry = c.in_ok-geometry.geometry in
+    let whole = c.in_ok-geometry.ensures.whole in
+    let alike : c.in_ok-buf.buf.geometry ≡ geometry = ap (λ (b : Buffer). b.geometry) c.in_ok-buf.ensures in
+    let tracks : MakesOnly (IsMountRead unit (unit_of (g.H.Hall.facts c.args.hall.now).units unit).size) (made c.read_geometry.new.hall) (made c.read_slots.new.hall) =
+    makes_then c.in_ok-label.ensures.made c.in_ok-vtoc.ensures.made (λ call is. inr (geometry, whole, 0, is ∙ ap (λ (x : Geometry). track_read unit x 0) alike)) (λ call is. inr (geometry, whole, is.0, is.3)) in
+    makes_then c.in_ok-geometry.ensures.made tracks (λ call is. inl is) (λ call is. is)

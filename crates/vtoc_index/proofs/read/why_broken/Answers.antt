@@ -1,10 +1,13 @@
-use Rattle.std.proofs.Common.{◌∙◌, ap, sym, Some, ℕ}
+use Rattle.std.proofs.Common.{◌∙◌, ap, inr, refl, sym, None, Some, ℕ}
 use Rattle.std.specs.Prelude.{Err}
 use Rattle.ckd_image.specs.declared.header.Geometry.{Geometry}
 use Rattle.hall_core.specs.Files.{image_of}
 use Rattle.pack_spec.specs.Label.{records_on}
 use Rattle.pack_spec.specs.declared.MountErr.TheVariants.{VtocTrack}
 use Rattle.vtoc_index.specs.Reading.{vtoc_on}
+use Rattle.vtoc_index.specs.Given.{BadExtent, GivesExtent, NoFirst, NoSlots}
+use Rattle.vtoc_index.proofs.GivenLemmas.{broken_lacks, first_lacks, track_given}
+use Rattle.vtoc_index.proofs.PutCalls.{broken_given, given_still}
 use Rattle.vtoc_index.proofs.CallsMade.{broken_none}
 use Rattle.vtoc_index.proofs.FirstSlots.{extent_one, extent_none}
 use Rattle.vtoc_index.proofs.Reasons.{refuses, extent_refused}
@@ -32,3 +35,22 @@ returns-in-Err-BadCount-clause-refused g c told none =
     let read = ap (λ (x : Geometry). records_on image x (Some 1) c.track-track.result) (sym c.requires.buffer) ∙ broken in
     let is = extent_none image c.args.geometry c.args.at c.track-track.result c.track-track.ensures.exact read in
     refuses (extent_refused image c.args.geometry (vtoc_on image c.args.geometry c.args.at) (VtocTrack c.track-track.result) (is ∙ ap (λ (t : ℕ). Err (VtocTrack t)) (sym c.track-track.ensures.exact)))
+
+-- by what the reads gave
+pub returns-in-Ok-extent_held-clause-reason : goal.returns-in-Ok-extent_held-clause-reason
+returns-in-Ok-extent_held-clause-reason g c none =
+    let vtoc = c.in-Ok-extent_held.field-0 in
+    let extent = c.in-Ok-extent_held.ensures.extent in
+    let there = c.track-track.ensures.exact ∙ sym extent.begins in
+    let held = GivesExtent (Some 1) (inr refl) c.read_records.new.buf.records (track_given (Some 1) _ _ _ _ _ c.requires.buffer c.track-track.ensures.exact c.in-Ok.ensures.given) c.in-Ok-extent_held.ensures.found in
+    let lacks = broken_lacks c.args.geometry vtoc.start (track_given None None _ _ _ _ refl (sym extent.begins) (given_still none c.in-Ok.ensures.kept)) in
+    inr (NoSlots vtoc held (first_lacks _ c.args.unit c.args.geometry vtoc (VtocTrack c.track-track.result) extent.some lacks (ap VtocTrack there)))
+
+pub returns-in-Err-clause-reason : goal.returns-in-Err-clause-reason
+returns-in-Err-clause-reason g c none =
+    inr (BadExtent (GivesExtent (Some 1) (inr refl) c.read_records.new.buf.records (track_given (Some 1) _ _ _ _ _ c.requires.buffer c.track-track.ensures.exact c.in-Ok.ensures.given) c.in-Err.ensures.refused))
+
+pub returns-in-Err-BadCount-clause-reason : goal.returns-in-Err-BadCount-clause-reason
+returns-in-Err-BadCount-clause-reason g c none =
+    let broken = broken_given _ c.args.unit c.args.buf.now.geometry (Some 1) c.track-track.result _ c.in-Err-BadCount.field-0-0 c.in-Err-BadCount.field-0-is c.in-Err-BadCount.ensures.broke in
+    inr (NoFirst (track_given (Some 1) None _ _ _ _ c.requires.buffer c.track-track.ensures.exact broken) (ap VtocTrack c.track-track.ensures.exact))

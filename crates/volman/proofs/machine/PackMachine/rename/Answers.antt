@@ -1,4 +1,4 @@
-use Rattle.std.proofs.Common.{ap, ◌∙◌, refl, Err, rules}
+use Rattle.std.proofs.Common.{⊎_elim, inl, inr, ap, ◌∙◌, refl, Err, rules}
 use Rattle.hall_core.proofs.MadeLemmas.{done_as, makes_as}
 use Rattle.volman.proofs.Machines.{applies_zero, applies_done, applies_elsewhere, applies_fault, applies_refused, keeps_all, keeps_begun, keeps_idle, keeps_promise, kept_at, promises_at, puts_failed}
 use Rattle.vtoc_index.proofs.KeptLemmas.{mounted_of}
@@ -73,3 +73,9 @@ returns-in-Err-Device-clause-made g c = makes_as c.rename.ensures.made (λ call 
 
 pub returns-in-Ok-clause-done : goal.returns-in-Ok-clause-done
 returns-in-Ok-clause-done g c = done_as c.in-Ok.ensures.done (λ call is. (c.if-v-ne0.false, is))
+
+pub returns-in-Ok-clause-slots : goal.returns-in-Ok-clause-slots
+returns-in-Ok-clause-slots g c = ⊎_elim (λ same. inl same) (λ put. inr (done_as put.1 (λ call is. (c.if-v-ne0.false, is)))) c.rename.ensures.slots
+
+pub returns-in-Err-Device-clause-slots : goal.returns-in-Err-Device-clause-slots
+returns-in-Err-Device-clause-slots g c = ⊎_elim (λ same. inl same) (λ put. inr (done_as put.1 (λ call is. (c.if-v-ne0.false, is)))) c.rename.ensures.slots

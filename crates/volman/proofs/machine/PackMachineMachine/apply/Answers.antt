@@ -1,12 +1,12 @@
 -- An operation is one of its variants.
-use Rattle.std.specs.Prelude.{◌≡◌, ℕ, List, [], ◌∷◌, Result, OnOk}
+use Rattle.std.specs.Prelude.{◌≡◌, ◌⊎◌, ℕ, List, [], ◌∷◌, Result, OnOk}
 use Rattle.std.proofs.Common.{rules, subst, sym}
+use Rattle.dscb_codec.specs.declared.Dscb.{Dscb}
 use Rattle.ebcdic_names.specs.declared.names.Dsn.{Dsn}
 use Rattle.hall_core.specs.Facts.{Calls, unit_of}
 use Rattle.hall_core.specs.Files.{File}
 use Rattle.hall_core.specs.Made.{HallCall, HasDone, MakesOnly}
 use Rattle.hall_core.specs.Moments.{Meaning}
-use Rattle.hall_core.proofs.MadeLemmas.{done_as, makes_as}
 use Rattle.hall_core.specs.Steps.{seen}
 use Rattle.vol_model.specs.Calls.{Applies, IsIdle, Keeps}
 use Rattle.vol_model.specs.Shelf.{step}
@@ -14,10 +14,8 @@ use Rattle.vol_model.specs.declared.answers.MachErr.{MachErr}
 use Rattle.vol_model.specs.declared.contents.Shelf.{Shelf}
 use Rattle.vol_model.specs.declared.requests.Op.{Op}
 use Rattle.vol_model.specs.declared.requests.Op.TheVariants.{Rename}
-use Rattle.track_records.specs.Buffers.{Buffer}
 use Rattle.vtoc_index.specs.declared.vol.Vol.{Vol}
 use Rattle.volman.specs.Machine.{ChangesOnlyNames, HoldsFor, IsOperationCall, IsOperationWrite, KeepsIndex, OperationCalls, shelf_named}
-use Rattle.volman.proofs.CallsMade.{ok_as}
 use Rattle.volman.proofs.machine.PackMachineMachine.apply.Goals as goal
 
 for_rename : {T : Type 0} {result : Result T MachErr} (shelf : Shelf) (v : ℕ) (old new : Dsn) (op : Op) → op ≡ Rename v old new → IsIdle (step shelf op) result → IsIdle (step shelf (Rename v old new)) result
@@ -51,23 +49,26 @@ calls_as {result = result} v from to op is old new made after = subst (λ (o : O
 pub returns-clause-again : goal.returns-clause-again
 returns-clause-again g c = calls_as _ _ _ c.args.op.now (search rules) c.args.self.now.vol c.rename.new.self.vol (g.H.Hall.calls c.args.self.now.hall) (g.H.Hall.calls c.rename.new.self.hall) c.rename.ensures.again
 
-made_as : (v : ℕ) (from to : Dsn) (op : Op) → op ≡ Rename v from to → (before : Vol) (buf : Buffer) (old new : HallCall → ℕ) → MakesOnly (IsOperationCall (Rename v from to) before buf) old new → MakesOnly (IsOperationCall op before buf) old new
-made_as v from to op is before buf old new = subst (λ (o : Op). MakesOnly (IsOperationCall o before buf) old new) (sym is)
-
-pub returns-clause-put : goal.returns-clause-put
-returns-clause-put g c = made_as _ _ _ c.args.op.now (search rules) c.args.self.now.vol c.rename.new.self.vol.buf (g.H.Hall.made c.args.self.now.hall) (g.H.Hall.made c.rename.new.self.hall) c.rename.ensures.made
+made_as : (v : ℕ) (from to : Dsn) (op : Op) → op ≡ Rename v from to → (before : Vol) (done : HallCall → Type 0) (old new : HallCall → ℕ) → MakesOnly (IsOperationCall (Rename v from to) before done) old new → MakesOnly (IsOperationCall op before done) old new
+made_as v from to op is before done old new = subst (λ (o : Op). MakesOnly (IsOperationCall o before done) old new) (sym is)
 
 pub returns-clause-made : goal.returns-clause-made
-returns-clause-made g c = makes_as (returns-clause-put g c) (λ call is. (c.rename.new.self.vol.buf, is))
+returns-clause-made g c = made_as _ _ _ c.args.op.now (search rules) c.args.self.now.vol (g.H.Hall.done c.rename.new.self.hall) (g.H.Hall.made c.args.self.now.hall) (g.H.Hall.made c.rename.new.self.hall) c.rename.ensures.made
 
-written_as : {T : Type 0} (result : Result T MachErr) (v : ℕ) (from to : Dsn) (op : Op) → op ≡ Rename v from to → (before : Vol) (buf : Buffer) (done : HallCall → Type 0) → OnOk result (HasDone (IsOperationWrite (Rename v from to) before buf) done) → OnOk result (HasDone (IsOperationWrite op before buf) done)
-written_as result v from to op is before buf done = subst (λ (o : Op). OnOk result (HasDone (IsOperationWrite o before buf) done)) (sym is)
+done_as : {T : Type 0} (result : Result T MachErr) (v : ℕ) (from to : Dsn) (op : Op) → op ≡ Rename v from to → (before : Vol) (done : HallCall → Type 0) → OnOk result (HasDone (IsOperationWrite (Rename v from to) before done) done) → OnOk result (HasDone (IsOperationWrite op before done) done)
+done_as result v from to op is before done = subst (λ (o : Op). OnOk result (HasDone (IsOperationWrite o before done) done)) (sym is)
 
-pub returns-clause-written : goal.returns-clause-written
-returns-clause-written g c = written_as c.rename.result _ _ _ c.args.op.now (search rules) c.args.self.now.vol c.rename.new.self.vol.buf (g.H.Hall.done c.rename.new.self.hall) c.rename.ensures.done
+pub returns-clause-has_done : goal.returns-clause-has_done
+returns-clause-has_done g c = done_as c.rename.result _ _ _ c.args.op.now (search rules) c.args.self.now.vol (g.H.Hall.done c.rename.new.self.hall) c.rename.ensures.done
 
-pub returns-clause-done : goal.returns-clause-done
-returns-clause-done g c = ok_as c.rename.result (returns-clause-written g c) (λ written. done_as written (λ call is. (c.args.self.now.vol, (c.rename.new.self.vol.buf, is))))
+slots_as : (v : ℕ) (from to : Dsn) (op : Op) → op ≡ Rename v from to → (before : Vol) (slots : List Dscb) (done : HallCall → Type 0) → (slots ≡ before.slots.items) ⊎ HasDone (IsOperationWrite (Rename v from to) before done) done → (slots ≡ before.slots.items) ⊎ HasDone (IsOperationWrite op before done) done
+slots_as v from to op is before slots done = subst (λ (o : Op). (slots ≡ before.slots.items) ⊎ HasDone (IsOperationWrite o before done) done) (sym is)
+
+pub returns-clause-slots : goal.returns-clause-slots
+returns-clause-slots g c = slots_as _ _ _ c.args.op.now (search rules) c.args.self.now.vol c.rename.new.self.vol.slots.items (g.H.Hall.done c.rename.new.self.hall) c.rename.ensures.slots
+
+pub returns-clause-reason : goal.returns-clause-reason
+returns-clause-reason g c r is = ((returns-clause-index g c).refused r is).0
 
 held_as : (v : ℕ) (from to : Dsn) (op : Op) → op ≡ Rename v from to → (vol : Vol) → HoldsFor op vol → HoldsFor (Rename v from to) vol
 held_as v from to op is vol = subst (λ (o : Op). HoldsFor o vol) is

@@ -1,0 +1,111 @@
+-- The index of a VTOC by what the reads of its pack gave, which is said over each hall, in this project's profile.
+use Rattle.std.specs.Prelude.{◌≡◌, ◌⊎◌, ℕ, ◌+◌, ◌<◌, false, true, List, [], ◌∷◌, ◌++◌, length, take, Option, Some, None, Result, Ok, Err, option_and_then, slice_get, slice_range}
+use Rattle.std.proofs.Common.{zero, suc}
+use Rattle.std.specs.Option.{option_map}
+use Rattle.ckd_image.specs.declared.header.Geometry.{Geometry}
+use Rattle.ckd_image.specs.declared.header.ImageErr.{ImageErr}
+use Rattle.ckd_image.specs.declared.header.ImageErr.TheVariants.{BadMagic}
+use Rattle.ckd_image.specs.Header.{geometry_of}
+use Rattle.ckd_image.specs.Track.{Record}
+use Rattle.hall_core.specs.Made.{HallCall, Giving}
+use Rattle.pack_spec.specs.declared.address.Address.{Address}
+use Rattle.pack_spec.specs.declared.addressed.VtocSlot.{VtocSlot}
+use Rattle.pack_spec.specs.Faults.{slots_faults}
+use Rattle.pack_spec.specs.declared.MountErr.{MountErr}
+use Rattle.pack_spec.specs.declared.MountErr.TheVariants.{BadVtoc, Device, Image, Memory, NoLabel, VtocTrack}
+use Rattle.pack_spec.specs.Label.{address_at, is_inside, label_in, track_of_address}
+use Rattle.pack_spec.specs.Slots.{addressed_from}
+use Rattle.pack_spec.specs.Vtoc.{first_slot, slots_in, vtoc_by}
+use Rattle.track_records.specs.Buffers.{Buffer}
+use Rattle.track_records.specs.Calls.{HasGiven, records_by}
+use Rattle.vol_model.specs.declared.contents.Run.{Run}
+use Rattle.vtoc_index.specs.Contents.{AreDscbs, AreRead}
+use Rattle.vtoc_index.specs.declared.tracks.ReadSlots.{ReadSlots}
+use Rattle.vtoc_index.specs.declared.vol.Vol.{Vol}
+
+-- bytes that a read of a header gave, by which a pack of this size has this geometry
+pub data IsHeaderGiven (done : HallCall → Type 0) (unit size : ℕ) (g : Geometry) : Type 0 where
+  GivesHeader : (bytes : List ℕ) → length bytes ≡ 512 → done (Giving unit 0 bytes) → geometry_of bytes size ≡ Ok g → IsHeaderGiven done unit size g
+
+-- a read of the label's track gave these data of a label
+abbrev pub IsLabelGiven : (HallCall → Type 0) → ℕ → Geometry → List ℕ → Type 0
+IsLabelGiven done unit g content = HasGiven done unit g 0 (λ bytes. option_and_then label_in (records_by g (Some 3) 0 bytes) ≡ Some content)
+
+-- a read of a track gave these bytes of its slots
+abbrev pub AreSlotsGiven : (HallCall → Type 0) → ℕ → Geometry → ℕ → List (List ℕ) → Type 0
+AreSlotsGiven done unit g track found = HasGiven done unit g track (λ bytes. option_and_then slots_in (records_by g None track bytes) ≡ Some found)
+
+-- the slots of so many tracks from this one on, and the numbers of the first slots of these, as a read of each gave them
+abbrev pub AreGiven : (HallCall → Type 0) → ℕ → Geometry → ℕ → ℕ → List VtocSlot → List ℕ → Type 0
+AreGiven done unit g start zero slots firsts = (slots ≡ []) × (firsts ≡ [])
+AreGiven done unit g start (suc len) slots firsts =
+    (before : List VtocSlot) × (numbers : List ℕ) × (found : List (List ℕ))
+    × AreGiven done unit g start len before numbers
+    × AreSlotsGiven done unit g (start + len) found
+    × (slots ≡ before ++ addressed_from g (start + len) 1 found)
+    × (firsts ≡ numbers ++ length before ∷ [])
+
+-- the bytes of the first of these slots
+abbrev pub first_bytes : List VtocSlot → Option (List ℕ)
+first_bytes slots = option_map (λ (s : VtocSlot). s.bytes) (slice_get slots 0)
+
+-- So many tracks were read, of which the slots begin with these.
+pub record AreFound (done : HallCall → Type 0) (unit : ℕ) (g : Geometry) (start len : ℕ) (first : List VtocSlot) (found : ReadSlots) : Type 0 where
+  pub slots : List VtocSlot
+  pub given : AreGiven done unit g start len slots found.firsts.items
+  pub read : AreRead found.slots.items slots
+  pub begins : (more : List VtocSlot) × (slots ≡ first ++ more)
+
+-- a read of the track in a buffer gave its records, to the end of the track
+abbrev pub IsBufferGiven : (HallCall → Type 0) → ℕ → Geometry → Buffer → Type 0
+IsBufferGiven done unit g b = HasGiven done unit g b.track (λ bytes. records_by g None b.track bytes ≡ Some b.records)
+
+-- The index is that of the pack, of this size, as reads of its header, its label and each track of its VTOC gave them: its geometry, its serial, where its VTOC lies by the label and the first slot, and its slots, which break no rule; and its buffer has the last track of the VTOC.
+pub record IsIndexGiven (done : HallCall → Type 0) (size : ℕ) (v : Vol) : Type 0 where
+  pub header : IsHeaderGiven done v.unit size v.geometry
+  pub label : List ℕ
+  pub labelled : IsLabelGiven done v.unit v.geometry label
+  pub serial : v.serial.bytes ≡ slice_range label 4 10
+  pub slots : List VtocSlot
+  pub extent : vtoc_by v.geometry (address_at 11 label) (first_bytes slots) ≡ Ok v.vtoc
+  pub given : AreGiven done v.unit v.geometry v.vtoc.start v.vtoc.len slots v.firsts.items
+  pub dscbs : AreDscbs v.slots.items slots
+  pub lawful : slots_faults v.geometry slots ≡ []
+  pub last : v.buf.track + 1 ≡ v.vtoc.start + v.vtoc.len
+  pub buffer : IsBufferGiven done v.unit v.geometry v.buf
+
+-- a read of the label's track gave no label
+abbrev pub IsLabelLacking : (HallCall → Type 0) → ℕ → Geometry → Type 0
+IsLabelLacking done unit g = HasGiven done unit g 0 (λ bytes. option_and_then label_in (records_by g (Some 3) 0 bytes) ≡ None)
+
+-- a read of a track gave no slots: its bytes break the grammar, or have a record that is none
+abbrev pub AreSlotsLacking : (HallCall → Type 0) → ℕ → Geometry → ℕ → Type 0
+AreSlotsLacking done unit g track = HasGiven done unit g track (λ bytes. option_and_then slots_in (records_by g None track bytes) ≡ None)
+
+-- the extent of a VTOC that begins at an address is found so, by the records that a read of the track there gave, to its end, or the first of them alone
+pub data IsExtentGiven (done : HallCall → Type 0) (unit : ℕ) (g : Geometry) (at : Address) (answer : Result Run MountErr) : Type 0 where
+  GivesExtent : (upto : Option ℕ) → (upto ≡ None) ⊎ (upto ≡ Some 1) → (records : List Record) → HasGiven done unit g (track_of_address g at) (λ bytes. records_by g upto (track_of_address g at) bytes ≡ Some records) → vtoc_by g at (first_slot (take 1 records)) ≡ answer → IsExtentGiven done unit g at answer
+
+-- a track of a VTOC lacks slots, and those before it don't
+pub data IsTrackReason (done : HallCall → Type 0) (unit : ℕ) (g : Geometry) (vtoc : Run) (e : MountErr) : Type 0 where
+  TrackLacks : (k : ℕ) → k < vtoc.len → (slots : List VtocSlot) → (firsts : List ℕ) → AreGiven done unit g vtoc.start k slots firsts → AreSlotsLacking done unit g (vtoc.start + k) → e ≡ VtocTrack (vtoc.start + k) → IsTrackReason done unit g vtoc e
+
+-- why the VTOC that begins at an address is refused, by what reads of its tracks gave: its extent is, or there is no slot by which it could be found, a track lacks slots, or a slot breaks a rule, the first that does
+pub data IsVtocReason (done : HallCall → Type 0) (unit : ℕ) (g : Geometry) (at : Address) (e : MountErr) : Type 0 where
+  BadExtent : IsExtentGiven done unit g at (Err e) → IsVtocReason done unit g at e
+  NoFirst : HasGiven done unit g (track_of_address g at) (λ bytes. records_by g (Some 1) (track_of_address g at) bytes ≡ None) → e ≡ VtocTrack (track_of_address g at) → IsVtocReason done unit g at e
+  NoSlots : (vtoc : Run) → IsExtentGiven done unit g at (Ok vtoc) → IsTrackReason done unit g vtoc e → IsVtocReason done unit g at e
+  BadSlot : (vtoc : Run) → (slots : List VtocSlot) → (firsts : List ℕ) → vtoc_by g at (first_bytes slots) ≡ Ok vtoc → AreGiven done unit g vtoc.start vtoc.len slots firsts → slice_get (slots_faults g slots) 0 ≡ Some e → IsVtocReason done unit g at e
+
+-- why a header of a pack of this size is refused: it doesn't fit in, or a read of it gave bytes of no geometry
+pub data IsHeaderReason (done : HallCall → Type 0) (unit size : ℕ) (e : MountErr) : Type 0 where
+  TooShort : size < 512 → e ≡ Image BadMagic → IsHeaderReason done unit size e
+  NoGeometry : (bytes : List ℕ) → length bytes ≡ 512 → done (Giving unit 0 bytes) → (why : ImageErr) → geometry_of bytes size ≡ Err why → e ≡ Image why → IsHeaderReason done unit size e
+
+-- Why a pack of this size is refused, by what reads of it gave: the first of these rules that is broken, unless the device failed or memory ran out.
+pub data IsReasonGiven (done : HallCall → Type 0) (unit size : ℕ) (e : MountErr) : Type 0 where
+  Cut : (e ≡ Device) ⊎ (e ≡ Memory) → IsReasonGiven done unit size e
+  BadHeader : IsHeaderReason done unit size e → IsReasonGiven done unit size e
+  Unlabelled : (g : Geometry) → IsHeaderGiven done unit size g → IsLabelLacking done unit g → e ≡ NoLabel → IsReasonGiven done unit size e
+  Outside : (g : Geometry) → IsHeaderGiven done unit size g → (label : List ℕ) → IsLabelGiven done unit g label → is_inside g (address_at 11 label) ≡ false → e ≡ BadVtoc → IsReasonGiven done unit size e
+  NoVtoc : (g : Geometry) → IsHeaderGiven done unit size g → (label : List ℕ) → IsLabelGiven done unit g label → is_inside g (address_at 11 label) ≡ true → IsVtocReason done unit g (address_at 11 label) e → IsReasonGiven done unit size e
