@@ -1,6 +1,6 @@
 -- The buffer behind a rename on the small pack, in which A, in the fourth slot, becomes C, and the calls of it. Each comment names what a near reading would let through.
 use Rattle.std.proofs.Common.{◌≡◌, ◌≤◌, ◌<◌, ◌+◌, ⊎_elim, inl, inr, ℕ, List, [], ◌∷◌, drop, get_or, take, Option, Some, None, refl, sym, ap, subst, ◌∙◌, arith}
-use Rattle.std.specs.Prelude.{Ok, Err, slice_get}
+use Rattle.std.specs.Prelude.{◌⊎◌, Ok, Err, slice_get, unwrap_or}
 use Rattle.std.specs.Option.{option_map}
 use Rattle.ckd_image.specs.Track.{Record}
 use Rattle.dscb_codec.specs.declared.Dscb.{Dscb}
@@ -8,15 +8,17 @@ use Rattle.dscb_codec.specs.declared.Dscb.TheVariants as formats
 use Rattle.dscb_codec.specs.Layout.{IsDscb}
 use Rattle.hall_core.specs.Facts.{Calls, CallsAtMost, uncounted}
 use Rattle.hall_core.specs.Made.{Does, HallCall, HasDone, Printing, Syncing, Writing}
-use Rattle.track_records.specs.Updates.{HasLengths}
+use Rattle.track_records.specs.Buffers.{Buffer}
+use Rattle.track_records.specs.Calls.{Gives}
+use Rattle.track_records.specs.Updates.{HasLengths, with_parts}
 use Rattle.vtoc_index.specs.Contents.{AreDscbs}
 use Rattle.vtoc_index.specs.Index.{slots_in_front, track_index}
-use Rattle.vtoc_index.specs.Puts.{Held, HoldsDscb, HoldsSlot, IsPutCall, IsReadUpTo}
+use Rattle.vtoc_index.specs.Puts.{Changed, Emptied, Held, HoldsDscb, HoldsPut, HoldsSlot, IsPutCall, IsReadUpTo, IsSeen, Read, Seen}
 use Rattle.vtoc_index.specs.declared.vol.Vol.{Vol}
 use Rattle.vtoc_index.proofs.HeldLemmas.{key_held}
 use Rattle.vtoc_index.proofs.PutCases.{c_stands}
 use Rattle.vtoc_index.proofs.SmallPack.{a, b, c, data_set, f1, f4, f5, four_slots, image, index, slots_are_read}
-use Rattle.dadsm_ops.specs.Naming.{HoldsRenamed, IsRenameCall, IsToRename, RenameCalls, RenamesEntry, WritesSlotNamed, under_name}
+use Rattle.dadsm_ops.specs.Naming.{HoldsNamed, HoldsRenamed, IsRenameCall, IsToRename, RenameCalls, RenamesEntry, WritesSlotNamed, under_name}
 use Rattle.dadsm_ops.specs.Through.{IsBeforeOr}
 
 -- a record with the bytes of a set
@@ -277,6 +279,99 @@ module _ (any : Vol) where
       bytes_in : HallCall → List ℕ
       bytes_in (Writing unit at bytes) = bytes
       bytes_in call = []
+
+  -- a buffer of the pack with this track and these records
+  behind : ℕ → List Record → Buffer
+  behind track records = record (index any).buf { track = track; records = records }
+
+  -- what a rename of A to C leaves in the buffer of an index that had these records of the second track, where nothing is known to be done
+  abbrev Leaves : List Record → Buffer → Type 0
+  Leaves held = HoldsNamed a c (before 2 held) nothing
+
+  -- what putting C into the fourth slot leaves there
+  abbrev PutsC : List Record → Buffer → Type 0
+  PutsC held = HoldsPut (before 2 held) 3 (formats.F1 (f1 c)) nothing
+
+  -- The one is the other.
+  c_is_put : (held : List Record) (buf : Buffer) → Leaves held buf → PutsC held buf
+  unfolding before
+  c_is_put held buf leaves =
+      let slot = sym (renames_the_fourth leaves.slot leaves.found) in
+      let set : Some (formats.F1 (f1 a)) ≡ Some leaves.dscb = subst (λ (n : ℕ). slice_get (index any).slots.items n ≡ Some leaves.dscb) slot leaves.held in
+      let dscb : leaves.dscb ≡ formats.F1 (f1 a) = cc in
+      subst (λ (d : Dscb). HoldsPut (before 2 held) 3 (under_name c d) nothing buf) dscb (subst (λ (n : ℕ). HoldsPut (before 2 held) n (under_name c leaves.dscb) nothing buf) slot leaves.holds)
+
+  leaves_it_put : (held : List Record) (buf : Buffer) → PutsC held buf → Leaves held buf
+  unfolding before
+  leaves_it_put held buf holds = record { slot = 3; found = to_rename; dscb = formats.F1 (f1 a); held = refl; holds = holds }
+
+  -- the first letter of the key of a record, counted from 0, or 0 where there is none
+  letter_in : ℕ → Buffer → ℕ
+  letter_in k buf = get_or (unwrap_or (option_map (λ (x : Record). x.key) (slice_get buf.records k)) []) 0 0
+
+  -- a buffer of the second track with B and then A or C
+  abbrev HasLetters : Buffer → Type 0
+  HasLetters buf = (buf.track ≡ 2) × ((letter_in 0 buf ≡ 0xC2) × ((letter_in 1 buf ≡ 0xC1) ⊎ (letter_in 1 buf ≡ 0xC3)))
+
+  both_are_seen : (buf : Buffer) → IsSeen (before 2 both_sets).buf 2 2 nothing buf → buf ≡ (before 2 both_sets).buf
+  unfolding before both_sets
+  both_are_seen buf (Held held same) = same
+  both_are_seen buf (Read not same given) = absurd (not (refl, omega arith))
+
+  letters_behind : (buf : Buffer) → PutsC both_sets buf → HasLetters buf
+  unfolding before both_sets set_record letter_in
+  letters_behind buf (Emptied not same) = absurd (not (refl, omega arith))
+  letters_behind buf (Seen seen) = let is = both_are_seen buf seen in (ap (λ (b : Buffer). b.track) is, (ap (letter_in 0) is, inl (ap (letter_in 1) is)))
+  letters_behind buf (Changed held seen bytes dscb size lengths same) =
+      let is = same ∙ ap (λ (b : Buffer). record b { records = with_parts 1 (take 44 bytes) (drop 44 bytes) b.records }) (both_are_seen held seen) in
+      (ap (λ (b : Buffer). b.track) is, (ap (letter_in 0) is, inr (ap (letter_in 1) is ∙ ap (λ (l : List ℕ). get_or l 0 0) dscb.0)))
+
+  -- Behind it the buffer has both sets, or C in place of A.
+  sets_are_behind : Leaves both_sets (behind 2 both_sets) × Leaves both_sets (behind 2 (set_record b ∷ set_record c ∷ []))
+  unfolding before both_sets set_record behind
+  sets_are_behind = (
+    leaves_it_put both_sets (behind 2 both_sets) (Seen (Held (refl, omega arith) refl)),
+    leaves_it_put both_sets (behind 2 (set_record b ∷ set_record c ∷ [])) (Changed (behind 2 both_sets) (Held (refl, omega arith) refl) (data_set c) c_stands refl (refl, refl) refl),
+  )
+
+  -- it has the track before, or no record where it had both, or C in place of B, or B in place of A
+  others_behind :
+      (¬ Leaves both_sets (behind 1 (set_record b ∷ set_record c ∷ [])))
+      × (¬ Leaves both_sets (behind 2 []))
+      × (¬ Leaves both_sets (behind 2 (set_record c ∷ set_record a ∷ [])))
+      × (¬ Leaves both_sets (behind 2 (set_record b ∷ set_record b ∷ [])))
+  unfolding behind set_record letter_in
+  others_behind = (
+    λ leaves. let wrong : 1 ≡ 2 = (letters_behind (behind 1 (set_record b ∷ set_record c ∷ [])) (c_is_put both_sets _ leaves)).0 in omega (arith, wrong),
+    λ leaves. let wrong : 0 ≡ 0xC2 = (letters_behind (behind 2 []) (c_is_put both_sets _ leaves)).1.0 in omega (arith, wrong),
+    λ leaves. let wrong : 0xC3 ≡ 0xC2 = (letters_behind (behind 2 (set_record c ∷ set_record a ∷ [])) (c_is_put both_sets _ leaves)).1.0 in omega (arith, wrong),
+    λ leaves.
+        ⊎_elim (λ (wrong : 0xC2 ≡ 0xC1). omega (arith, wrong)) (λ (wrong : 0xC2 ≡ 0xC3). omega (arith, wrong))
+        (letters_behind (behind 2 (set_record b ∷ set_record b ∷ [])) (c_is_put both_sets _ leaves)).1.1,
+  )
+
+  -- Where it had no record of the track and no read gave any, it has none: not the sets of the pack, nor C in place of A. Nor is there a set named C that could become A.
+  none_behind_without_a_read :
+      Leaves [] (behind 2 [])
+      × (¬ Leaves [] (behind 2 both_sets))
+      × (¬ Leaves [] (behind 2 (set_record b ∷ set_record c ∷ [])))
+      × (¬ HoldsNamed c a (before 2 both_sets) nothing (behind 2 both_sets))
+  unfolding before both_sets behind nothing
+  none_behind_without_a_read = (
+    leaves_it_put [] (behind 2 []) (Emptied (λ (holds : HoldsSlot (before 2 []) 3). let none : 1 < 0 = holds.1 in omega (arith, none)) refl),
+    λ leaves. some_not (c_is_put [] (behind 2 both_sets) leaves),
+    λ leaves. some_not (c_is_put [] (behind 2 (set_record b ∷ set_record c ∷ [])) leaves),
+    λ leaves. let none : ◌≡◌ {A = Option ℕ} None (Some leaves.slot) = leaves.found.found in absurd (cc),
+  )
+    where
+      unseen : {buf : Buffer} → ¬ IsSeen (index any).buf 2 2 nothing buf
+      unseen (Held held same) = let wrong : 2 ≤ 0 = held.1 in omega (arith, wrong)
+      unseen (Read not same (Gives bytes size gave is)) = gave
+
+      some_not : {x : Record} {xs : List Record} → ¬ PutsC [] (behind 2 (x ∷ xs))
+      some_not (Emptied not same) = cc (ap (λ (b : Buffer). b.records) same)
+      some_not (Seen seen) = unseen seen
+      some_not (Changed held seen bytes dscb size lengths same) = unseen seen
 
   -- The buffer alone may be another; but C isn't in the index where it isn't on the image.
   name_in_the_index_is_on_the_image : IsBeforeOr (index any) image (later a 1 []) × (¬ IsBeforeOr (index any) image (later c 2 []))

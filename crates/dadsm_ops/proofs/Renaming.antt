@@ -1,6 +1,6 @@
 -- A set under its new name, put and made durable: what the operation on the volume is then.
 use Rattle.std.proofs.Common.{◌≡◌, ◌⊎◌, ⊎_elim, inl, inr, ℕ, List, length, Some, refl, sym, ap, subst, ◌∙◌, get_or, ◌+◌, arith}
-use Rattle.std.specs.Prelude.{◌<◌, Result, Ok, Err, OnErr, slice_get, slice_set}
+use Rattle.std.specs.Prelude.{◌<◌, Result, Ok, Err, OnErr, position, slice_get, slice_set}
 use Rattle.std.proofs.lemmas.List.{get_or-set_same, length-set}
 use Rattle.std.proofs.lemmas.Option.{get_or_from_slice_get, slice_get-get_or}
 use Rattle.dscb_codec.specs.declared.Dscb.{Dscb}
@@ -15,16 +15,18 @@ use Rattle.hall_core.specs.Moments.{Meaning}
 use Rattle.hall_core.proofs.MadeLemmas.{done_as, done_still}
 use Rattle.hall_core.proofs.StepLemmas.{done_step, failed_step}
 use Rattle.pack_spec.specs.Volume.{volume_of}
+use Rattle.track_records.specs.Buffers.{Buffer}
 use Rattle.track_records.specs.Updates.{HasLengths}
 use Rattle.vol_model.specs.Shelf.{rename_on}
 use Rattle.vol_model.specs.declared.answers.StoreErr.TheVariants.{Device}
 use Rattle.vol_model.specs.declared.contents.Volume.{Volume}
+use Rattle.vtoc_index.specs.Contents.{is_set_named}
 use Rattle.vtoc_index.specs.Index.{IsMounted, IsPut, slots_in_front, track_index}
-use Rattle.vtoc_index.specs.Puts.{HoldsDscb, HoldsSlot, IsPutCall, IsReadUpTo, IsReplaced, IsSlotWrite}
+use Rattle.vtoc_index.specs.Puts.{HoldsDscb, HoldsPut, HoldsSlot, IsPutCall, IsReadUpTo, IsReplaced, IsSlotWrite}
 use Rattle.vtoc_index.specs.declared.vol.Vol.{Vol}
 use Rattle.vtoc_index.proofs.NameLemmas.{named_alike}
 use Rattle.vtoc_index.proofs.PutCalls.{call_still, write_still}
-use Rattle.dadsm_ops.specs.Naming.{HaveName, HoldsRenamed, IsRenameCall, IsToRename, PutsName, RenameCalls, RenamesEntry, WritesSlotNamed, under_name}
+use Rattle.dadsm_ops.specs.Naming.{HaveName, HoldsNamed, HoldsRenamed, IsRenameCall, IsToRename, PutsName, RenameCalls, RenamesEntry, WritesSlotNamed, under_name}
 use Rattle.dadsm_ops.specs.Operations.{Operates, image_named}
 use Rattle.dadsm_ops.specs.Through.{HaveSlot, PutsThrough}
 use Rattle.dadsm_ops.proofs.FoundSets.{FoundSet, set_found}
@@ -35,15 +37,20 @@ use Rattle.dadsm_ops.proofs.RenamedImages.{CanRename, is_named_anew, rename_put,
 named_dscb : (name : List ℕ) (items : List Dscb) (slot : ℕ) (x d : Dscb) (f : F1) → slice_get items slot ≡ Some (formats.F1 f) → x ≡ get_or items slot x → d ≡ under_name name x → d ≡ formats.F1 (record f { name = name })
 named_dscb name items slot x d f set read is = is ∙ ap (under_name name) (read ∙ get_or_from_slice_get items slot (formats.F1 f) x set)
 
+-- the slot of a set holds the DSCB that is read there
+held_there : (name : List ℕ) (items : List Dscb) (slot : ℕ) (x : Dscb) → position (is_set_named name) items ≡ Some slot → x ≡ get_or items slot x → slice_get items slot ≡ Some x
+held_there name items slot x found read =
+    let set = set_found name items slot found in
+    set.set ∙ ap Some (sym (read ∙ get_or_from_slice_get items slot (formats.F1 set.f) x set.set))
+
 -- the slots of an index in which the DSCB of the old name is under the new one
 pub renames_entry : (old new : List ℕ) (items items' : List Dscb) (slot : ℕ) (x d : Dscb) → IsToRename items old new slot → x ≡ get_or items slot x → d ≡ under_name new x → items' ≡ slice_set items slot d → RenamesEntry old new items items'
 renames_entry old new items items' slot x d found read is put =
-    let set = set_found old items slot found.found in
     record {
       slot = slot;
       found = found;
       dscb = x;
-      held = set.set ∙ ap Some (sym (read ∙ get_or_from_slice_get items slot (formats.F1 set.f) x set.set));
+      held = held_there old items slot x found.found read;
       slots = put ∙ ap (slice_set items slot) is;
     }
 
@@ -67,20 +74,19 @@ holds_renamed old new v v' slot d found put track held =
 -- the write of the slot of the old name is that of the rename
 pub named_write : (old new : List ℕ) (v : Vol) (done : HallCall → Type 0) (slot : ℕ) (x d : Dscb) → IsToRename v.slots.items old new slot → x ≡ get_or v.slots.items slot x → d ≡ under_name new x → (call : HallCall) → IsSlotWrite v slot d done call → WritesSlotNamed old new v done call
 named_write old new v done slot x d found read named call writes =
-    let items = v.slots.items in
-    let set = set_found old items slot found.found in
-    let held : slice_get items slot ≡ Some x = set.set ∙ ap Some (sym (read ∙ get_or_from_slice_get items slot (formats.F1 set.f) x set.set)) in
-    record { slot = slot; found = found; dscb = x; held = held; writes = subst (λ (y : Dscb). IsSlotWrite v slot y done call) named writes }
+    record { slot = slot; found = found; dscb = x; held = held_there old v.slots.items slot x found.found read; writes = subst (λ (y : Dscb). IsSlotWrite v slot y done call) named writes }
 
 -- and a call that is made for it is one of the rename
 pub named_call : (old new : List ℕ) (v : Vol) (done : HallCall → Type 0) (slot : ℕ) (x d : Dscb) → IsToRename v.slots.items old new slot → x ≡ get_or v.slots.items slot x → d ≡ under_name new x → (call : HallCall) → IsPutCall v slot d done call ⊎ ((call ≡ Syncing) × HasDone (IsSlotWrite v slot d done) done) → IsRenameCall old new v done call
 named_call old new v done slot x d found read named call =
-    let items = v.slots.items in
-    let set = set_found old items slot found.found in
-    let held : slice_get items slot ≡ Some x = set.set ∙ ap Some (sym (read ∙ get_or_from_slice_get items slot (formats.F1 set.f) x set.set)) in
     ⊎_elim
-    (λ puts. inl (record { slot = slot; found = found; dscb = x; held = held; puts = subst (λ (y : Dscb). IsPutCall v slot y done call) named puts }))
+    (λ puts. inl (record { slot = slot; found = found; dscb = x; held = held_there old v.slots.items slot x found.found read; puts = subst (λ (y : Dscb). IsPutCall v slot y done call) named puts }))
     (λ synced. inr (synced.0, done_as synced.1 (named_write old new v done slot x d found read named)))
+
+-- and the buffer behind the put is that behind the rename
+pub named_holds : (old new : List ℕ) (v : Vol) (done : HallCall → Type 0) (buf : Buffer) (slot : ℕ) (x d : Dscb) → IsToRename v.slots.items old new slot → x ≡ get_or v.slots.items slot x → d ≡ under_name new x → HoldsPut v slot d done buf → HoldsNamed old new v done buf
+named_holds old new v done buf slot x d found read named holds =
+    record { slot = slot; found = found; dscb = x; held = held_there old v.slots.items slot x found.found read; holds = subst (λ (y : Dscb). HoldsPut v slot y done buf) named holds }
 
 -- they are so still, where nothing is taken back of what was done
 pub named_write_still : {old new : List ℕ} {v : Vol} {done later : HallCall → Type 0} → HasDone (WritesSlotNamed old new v done) done → StaysDone done later → HasDone (WritesSlotNamed old new v later) later

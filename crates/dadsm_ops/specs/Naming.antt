@@ -10,6 +10,7 @@ use Rattle.hall_core.specs.Moments.{Meaning}
 use Rattle.hall_core.specs.Steps.{StepTo}
 use Rattle.pack_spec.specs.declared.addressed.VtocSlot.{VtocSlot}
 use Rattle.pack_spec.specs.Slots.{slots_of_vtoc}
+use Rattle.track_records.specs.Buffers.{Buffer}
 use Rattle.track_records.specs.Updates.{HasLengths}
 use Rattle.vol_model.specs.Shelf.{is_catalog}
 use Rattle.vol_model.specs.declared.answers.StoreErr.{StoreErr}
@@ -20,7 +21,7 @@ use Rattle.vol_model.specs.declared.requests.Op.{Op}
 use Rattle.vol_model.specs.declared.requests.Op.TheVariants.{Rename}
 use Rattle.vtoc_index.specs.Contents.{is_set_named}
 use Rattle.vtoc_index.specs.Index.{IsMounted, slots_in_front, track_index}
-use Rattle.vtoc_index.specs.Puts.{HoldsDscb, HoldsSlot, IsPutCall, IsReadUpTo, IsSlotWrite}
+use Rattle.vtoc_index.specs.Puts.{HoldsDscb, HoldsPut, HoldsSlot, IsPutCall, IsReadUpTo, IsSlotWrite}
 use Rattle.vtoc_index.specs.declared.vol.Vol.{Vol}
 use Rattle.dadsm_ops.specs.Operations.{image_named}
 use Rattle.dadsm_ops.specs.Through.{HaveSlot}
@@ -89,6 +90,14 @@ pub record WritesSlotNamed (old new : List ℕ) (before : Vol) (done : HallCall 
   pub dscb : Dscb
   pub held : slice_get before.slots.items slot ≡ Some dscb
   pub writes : IsSlotWrite before slot (under_name new dscb) done call
+
+-- The buffer of an index behind a rename that isn't refused: that behind the slot of the old name being put under the new one.
+pub record HoldsNamed (old new : List ℕ) (before : Vol) (done : HallCall → Type 0) (buf : Buffer) : Type 0 where
+  pub slot : ℕ
+  pub found : IsToRename before.slots.items old new slot
+  pub dscb : Dscb
+  pub held : slice_get before.slots.items slot ≡ Some dscb
+  pub holds : HoldsPut before slot (under_name new dscb) done buf
 
 -- a call of a rename, by the index before and by what was done: one that puts the slot under its new name, or a sync where that was written
 abbrev pub IsRenameCall : List ℕ → List ℕ → Vol → (HallCall → Type 0) → HallCall → Type 0

@@ -1,5 +1,5 @@
 //! Another name for a data set.
-ghost use Rattle.std.specs.Prelude.{◌≡◌, ◌⊎◌, ◌≤◌, ℕ, List, length, IsTrue, IfOk, IfErr, IsErrOf, OnOk, OnErr, Some, Ok, Err};
+ghost use Rattle.std.specs.Prelude.{◌≡◌, ◌⊎◌, ◌≤◌, ℕ, List, length, IsTrue, IfOk, IfErr, IsErrOf, OnOk, OnErr, Some, None, Ok, Err};
 ghost use Rattle.hall_core.specs.Facts.{CallsAtMost, unit_of};
 ghost use Rattle.hall_core.specs.Files.{image_of};
 ghost use Rattle.hall_core.specs.Made.{HasDone, MakesOnly, StaysDone};
@@ -8,7 +8,7 @@ ghost use Rattle.pack_spec.specs.Volume.{volume_of};
 ghost use Rattle.vol_model.specs.Shelf.{rename_on};
 ghost use Rattle.vol_model.specs.declared.contents.Volume.{Volume};
 ghost use Rattle.vtoc_index.specs.Index.{IsMounted, IsOfUnit};
-ghost use Rattle.dadsm_ops.specs.Naming.{HoldsRenamed, IsRenameCall, IsToRename, RenameCalls, RenamesEntry, WritesName, WritesSlotNamed, refusal_answered, refusal_in, under_name};
+ghost use Rattle.dadsm_ops.specs.Naming.{HoldsNamed, HoldsRenamed, IsRenameCall, IsToRename, RenameCalls, RenamesEntry, WritesName, WritesSlotNamed, refusal_answered, refusal_in, under_name};
 ghost use Rattle.dadsm_ops.specs.Operations.{Operates, StoreCall};
 ghost use Rattle.dadsm_ops.specs.Through.{IsBeforeOr};
 
@@ -52,6 +52,7 @@ pub fn rename<H: Hall>(hall: &mut H, vol: &mut Vol, old: &Dsn, new: &Dsn) -> Res
     ensures kept { StaysDone (H.done hall.old) (H.done hall.new) }
     ensures behind { OnOk result (H.behind_sync hall.new) }
     ensures done { OnOk result (HasDone (WritesSlotNamed old.now.bytes new.now.bytes vol.old (H.done hall.new)) (H.done hall.new)) }
+    ensures buffer { refusal_answered result ≡ None → HoldsNamed old.now.bytes new.now.bytes vol.old (H.done hall.new) vol.new.buf }
     ensures again { RenameCalls old.now.bytes new.now.bytes vol.old vol.new (H.calls hall.old) (H.calls hall.new) result }
 {
     let slot = slot_to_rename(vol, old, new)?;

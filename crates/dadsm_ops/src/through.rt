@@ -6,7 +6,7 @@ ghost use Rattle.hall_core.specs.Made.{HasDone, MakesOnly, StaysDone, Syncing};
 ghost use Rattle.hall_core.specs.Moments.{IsDurable};
 ghost use Rattle.track_records.specs.Updates.{HasLengths};
 ghost use Rattle.vtoc_index.specs.Index.{IsIndexOf, IsOfUnit, slots_in_front, track_index};
-ghost use Rattle.vtoc_index.specs.Puts.{HoldsDscb, HoldsSlot, IsPutCall, IsReadUpTo, IsReplaced, IsSlotWrite};
+ghost use Rattle.vtoc_index.specs.Puts.{HoldsDscb, HoldsPut, HoldsSlot, IsPutCall, IsReadUpTo, IsReplaced, IsSlotWrite};
 ghost use Rattle.dadsm_ops.specs.Through.{IsBeforeOr, PutsThrough};
 
 use dscb_codec::Dscb;
@@ -15,7 +15,7 @@ use vtoc_index::{Vol, put_slot};
 
 // Puts a DSCB into a slot by one write, and makes it durable. After an error the write is pending, done,
 // or not begun, and the index, with the slot as it was, may be that of no image any more; with the DSCB,
-// which was written then and a sync asked for, it is that of an image that is told.
+// which was written then, it is that of an image that is told.
 pub(crate) fn put_through<H: Hall>(
     hall: &mut H,
     vol: &mut Vol,
@@ -41,6 +41,7 @@ pub(crate) fn put_through<H: Hall>(
     ensures kept { StaysDone (H.done hall.old) (H.done hall.new) }
     ensures behind { OnOk result (H.behind_sync hall.new) }
     ensures done { OnOk result (HasDone (IsSlotWrite vol.old slot dscb.now (H.done hall.new)) (H.done hall.new)) }
+    ensures buffer { HoldsPut vol.old slot dscb.now (H.done hall.new) vol.new.buf }
     ensures again { HoldsSlot vol.old slot → CallsAtMost 0 1 1 0 (H.calls hall.old) (H.calls hall.new) }
     ensures few { ¬ HoldsSlot vol.old slot → IsReadUpTo (slots_in_front vol.old.firsts.items slot + 1) vol.new.buf.records }
     ensures unwritten { OnErr result (¬ HasLengths vol.new.buf.records (slots_in_front vol.old.firsts.items slot) 44 96 → CallsAtMost 1 0 0 0 (H.calls hall.old) (H.calls hall.new)) }

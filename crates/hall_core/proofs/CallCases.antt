@@ -1,5 +1,5 @@
 -- What calls may do to what a hall means, on cases at which near readings of the definitions say otherwise.
-use Rattle.std.proofs.Common.{◌≡◌, ◌≤◌, ◌⊎◌, ⊎_elim, inl, inr, ℕ, List, [], ◌∷◌, ◌++◌, ◌∙◌, length, get_or, refl, sym, ap, arith, lit≤, true}
+use Rattle.std.proofs.Common.{◌≡◌, ◌≤◌, ◌⊎◌, ⊎_elim, inl, inr, ℕ, zero, suc, List, [], ◌∷◌, ◌++◌, ◌∙◌, length, get_or, refl, sym, ap, arith, lit≤, true}
 use Rattle.std.specs.Prelude.{Ok, Err, Result}
 use Rattle.hall_core.specs.declared.hall.HallErr.{HallErr}
 use Rattle.hall_core.specs.declared.hall.HallErr.TheVariants.{Missing, Failed, Memory}
@@ -7,7 +7,7 @@ use Rattle.hall_core.specs.Cards.{GivesNext}
 use Rattle.hall_core.specs.Files.{File, patched, written, Attaches, IsPending, AfterWrite, AfterSync, AfterPrint, untold}
 use Rattle.hall_core.specs.History.{wrote, synced, printed, passed, with_write, with_writes, meaning_after}
 use Rattle.hall_core.specs.HistoryLaws.{nothing_kept, since_now}
-use Rattle.hall_core.specs.Made.{HallCall, HasDone, Does, MakesOnly, StaysDone, Attaching, Giving, Noting, Printing, Reading, Syncing, Writing}
+use Rattle.hall_core.specs.Made.{HallCall, HasDone, Does, MakesOnce, MakesOnly, StaysDone, Attaching, Giving, Lacking, Noting, Printing, Reading, Syncing, Writing}
 use Rattle.hall_core.specs.Moments.{Meaning}
 use Rattle.hall_core.proofs.CallLemmas.{same_passed, write_done, write_failed, write_lacking, sync_done, sync_failed, print_done, print_failed}
 use Rattle.hall_core.proofs.StepLemmas.{write_leaves}
@@ -298,10 +298,65 @@ sync_alone_is_made Syncing other = absurd (other refl)
 sync_alone_is_made (Printing bytes) other = omega arith
 sync_alone_is_made (Noting unit track) other = omega arith
 sync_alone_is_made (Giving unit at bytes) other = omega arith
+sync_alone_is_made (Lacking name) other = omega arith
 
 other_call_is_made : ¬ MakesOnly (λ call. call ≡ Printing []) (λ call. 0) synced_once
 unfolding synced_once
 other_call_is_made only = let wrong : 1 ≤ 0 = only Syncing (λ is. cc is) in omega (arith, wrong)
+
+-- two syncs were made
+synced_twice : HallCall → ℕ
+synced_twice Syncing = 2
+synced_twice call = 0
+
+-- any read was made once; and the read of one byte at 0 twice, with none of others
+read_each : HallCall → ℕ
+read_each (Reading unit at len) = 1
+read_each call = 0
+
+first_twice : HallCall → ℕ
+first_twice (Reading zero zero (suc zero)) = 2
+first_twice call = 0
+
+-- One sync is made once, also where there was one before; two aren't.
+sync_is_made_once : MakesOnce (λ call. 0) synced_once × MakesOnce synced_once synced_twice × (¬ MakesOnce (λ call. 0) synced_twice)
+unfolding synced_once synced_twice
+sync_is_made_once = (once, once_more, λ each. let wrong : 2 ≤ 1 = each Syncing in omega (arith, wrong))
+  where
+    once : MakesOnce (λ call. 0) synced_once
+    once (Attaching name) = omega arith
+    once (Reading unit at len) = omega arith
+    once (Writing unit at bytes) = omega arith
+    once Syncing = omega arith
+    once (Printing bytes) = omega arith
+    once (Noting unit track) = omega arith
+    once (Giving unit at bytes) = omega arith
+    once (Lacking name) = omega arith
+
+    once_more : MakesOnce synced_once synced_twice
+    once_more (Attaching name) = omega arith
+    once_more (Reading unit at len) = omega arith
+    once_more (Writing unit at bytes) = omega arith
+    once_more Syncing = omega arith
+    once_more (Printing bytes) = omega arith
+    once_more (Noting unit track) = omega arith
+    once_more (Giving unit at bytes) = omega arith
+    once_more (Lacking name) = omega arith
+
+-- Two reads of other bytes are made once each; two of the same aren't, though no other read is made.
+reads_are_made_once : MakesOnce (λ call. 0) read_each × (¬ MakesOnce (λ call. 0) first_twice)
+unfolding read_each first_twice
+reads_are_made_once = (once, λ each. let wrong : 2 ≤ 1 = each (Reading 0 0 1) in omega (arith, wrong))
+  where
+    once : MakesOnce (λ call. 0) read_each
+    once (Attaching name) = omega arith
+    once (Reading unit at len) = omega arith
+    once (Writing unit at bytes) = omega arith
+    once Syncing = omega arith
+    once (Printing bytes) = omega arith
+    once (Noting unit track) = omega arith
+    once (Giving unit at bytes) = omega arith
+    once (Lacking name) = omega arith
 
 -- Of these calls one was done where just that is said to be; another one isn't it, nor is one of which nothing is said.
 one_is_done :

@@ -1,6 +1,7 @@
 -- Calls by what they are made with, one behind the other.
-use Rattle.std.proofs.Common.{ℕ, arith}
-use Rattle.hall_core.specs.Made.{HallCall, HasDone, Does, MakesOnly, StaysDone}
+use Rattle.std.proofs.Common.{ℕ, ◌+◌, ◌<◌, ⊎_elim, arith}
+use Rattle.std.proofs.lemmas.Bool.{cases_lt}
+use Rattle.hall_core.specs.Made.{HallCall, HasDone, Does, MakesOnce, MakesOnly, StaysDone}
 
 -- no call makes none but any
 pub makes_none : (these : HallCall → Type 0) (made : HallCall → ℕ) → MakesOnly these made made
@@ -16,6 +17,21 @@ makes_then first second earlier later call other =
     let before = first call (λ is. other (earlier call is)) in
     let behind = second call (λ is. other (later call is)) in
     omega (arith, before, behind)
+
+-- no call was made twice by nothing
+pub once_none : (made : HallCall → ℕ) → MakesOnce made made
+once_none made call = omega arith
+
+-- where none of these is one of those, no call is made twice by the ones and then the others
+pub once_then : {these those : HallCall → Type 0} {old mid new : HallCall → ℕ} → MakesOnce old mid → MakesOnly these old mid → MakesOnce mid new → MakesOnly those mid new → ((call : HallCall) → these call → those call → ⊥) → MakesOnce old new
+once_then {these} {those} {old} {mid} {new} first earlier second later apart call =
+    ⊎_elim (λ twice. absurd (one_of twice (λ is_first. one_more twice (λ is_second. apart call is_first is_second)))) (λ once. once) (cases_lt (old call + 1) (new call))
+  where
+    one_of : old call + 1 < new call → ¬ ¬ these call
+    one_of twice other = let before = earlier call other in let behind = second call in omega (arith, twice, before, behind)
+
+    one_more : old call + 1 < new call → ¬ ¬ those call
+    one_more twice other = let before = first call in let behind = later call other in omega (arith, twice, before, behind)
 
 -- what was done is done still, and is one of those where these are among those
 pub done_still : {these done later : HallCall → Type 0} → HasDone these done → StaysDone done later → HasDone these later

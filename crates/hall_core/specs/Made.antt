@@ -1,7 +1,7 @@
 -- Calls of a hall with what they are made with, in this project's profile.
-use Rattle.std.specs.Prelude.{ℕ, ◌≤◌, List}
+use Rattle.std.specs.Prelude.{ℕ, ◌+◌, ◌≤◌, List}
 
--- a call, with its unit, the offset there and how many bytes are read, or which are written; the notes that a track differs; and a read by the bytes that it gave
+-- a call, with its unit, the offset there and how many bytes are read, or which are written; the notes that a track differs; a read by the bytes that it gave; and an attachment that found no such file
 pub data HallCall : Type 0 where
   Attaching : (name : List ℕ) → HallCall
   Reading : (unit at len : ℕ) → HallCall
@@ -10,10 +10,15 @@ pub data HallCall : Type 0 where
   Printing : (bytes : List ℕ) → HallCall
   Noting : (unit track : ℕ) → HallCall
   Giving : (unit at : ℕ) (bytes : List ℕ) → HallCall
+  Lacking : (name : List ℕ) → HallCall
 
 -- no call was made but these
 abbrev pub MakesOnly : (HallCall → Type 0) → (HallCall → ℕ) → (HallCall → ℕ) → Type 0
 MakesOnly these old new = (call : HallCall) → ¬ these call → new call ≤ old call
+
+-- each call was made once at most
+abbrev pub MakesOnce : (HallCall → ℕ) → (HallCall → ℕ) → Type 0
+MakesOnce old new = (call : HallCall) → new call ≤ old call + 1
 
 -- what was said of calls that were done is said still
 abbrev pub StaysDone : (HallCall → Type 0) → (HallCall → Type 0) → Type 0

@@ -1,7 +1,7 @@
 //! The trait of the outside, which a device and a test fixture implement alike.
-ghost use Rattle.std.specs.Prelude.{◌≡◌, ◌+◌, ◌<◌, ◌≤◌, [], ◌∷◌, ℕ, List, Bool, length, IsTrue, IsFalse, OnOk, IfErr, ◌-◌, ◌^◌, min};
+ghost use Rattle.std.specs.Prelude.{◌≡◌, ◌+◌, ◌<◌, ◌≤◌, [], ◌∷◌, ℕ, List, Bool, length, IsTrue, IsFalse, OnOk, IfErr, IsErrOf, ◌-◌, ◌^◌, min};
 ghost use Rattle.hall_core.specs.Facts.{AttachesOnce, Calls, CallsAtMost, Facts, unit_of, IsAttached, DeviceCall, NotedCall, PrintCall, AttachCall, Rose};
-ghost use Rattle.hall_core.specs.Made.{HallCall, MakesOnly, StaysDone, Attaching, Reading, Writing, Syncing, Printing, Noting, Giving};
+ghost use Rattle.hall_core.specs.Made.{HallCall, MakesOnce, MakesOnly, StaysDone, Attaching, Reading, Writing, Syncing, Printing, Noting, Giving, Lacking};
 ghost use Rattle.hall_core.specs.Moments.{Meaning, LeftNow, IsDurable, Same};
 ghost use Rattle.hall_core.specs.Files.{File, HasBytesAt, AreWhole, Attaches, AfterWrite, AfterSync, AfterPrint};
 
@@ -50,14 +50,15 @@ pub trait Hall {
     /// Its calls, if it counts them: by none does a number rise but that of its kind, and that by at most one.
     ghost calls: { Self → Calls };
 
-    /// How often each call was made with just these arguments, if it counts that: by none does a number rise but its own.
+    /// How often each call was made with just these arguments, if it counts that: by none does a number rise but its own,
+    /// and that by at most one.
     ghost made: { Self → HallCall → ℕ };
 
     /// What holds behind a sync that is done, as long as no other call comes.
     ghost behind_sync: { Self → Type 0 };
 
-    /// What holds of a write or a print, with these arguments, that was done, and of a read that gave these bytes; no call
-    /// takes it back.
+    /// What holds of a write or a print, with these arguments, that was done, of a read that gave these bytes, and of an
+    /// attachment that found no such file; no call takes it back.
     ghost done: { Self → HallCall → Type 0 };
 
     /// Attaches a file as the next unit, and gives the number of the unit.
@@ -72,6 +73,8 @@ pub trait Hall {
         ensures call { AttachCall name.now (facts self.old) (facts self.new) result }
         ensures calls { AttachesOnce 0 0 0 0 (calls self.old) (calls self.new) }
         ensures made { MakesOnly (λ call. call ≡ Attaching name.now) (made self.old) (made self.new) }
+        ensures lacks { IsErrOf result HallErr.Missing → done self.new (Lacking name.now) }
+        ensures each { MakesOnce (made self.old) (made self.new) }
         ensures kept { StaysDone (done self.old) (done self.new) };
 
     /// The size of a unit, in bytes.
@@ -90,6 +93,7 @@ pub trait Hall {
         ensures call { DeviceCall (facts self.old) (facts self.new) result }
         ensures calls { CallsAtMost 1 0 0 0 (calls self.old) (calls self.new) }
         ensures made { MakesOnly (λ call. call ≡ Reading unit at (length buf.old)) (made self.old) (made self.new) }
+        ensures each { MakesOnce (made self.old) (made self.new) }
         ensures done { OnOk result (done self.new (Giving unit at buf.new)) }
         ensures kept { StaysDone (done self.old) (done self.new) }
         ensures error { IfErr result (λ e. e ≡ HallErr.Failed) };
@@ -105,6 +109,7 @@ pub trait Hall {
         ensures call { DeviceCall (facts self.old) (facts self.new) result }
         ensures calls { CallsAtMost 0 1 0 0 (calls self.old) (calls self.new) }
         ensures made { MakesOnly (λ call. call ≡ Writing unit at bytes.now) (made self.old) (made self.new) }
+        ensures each { MakesOnce (made self.old) (made self.new) }
         ensures done { OnOk result (done self.new (Writing unit at bytes.now)) }
         ensures kept { StaysDone (done self.old) (done self.new) }
         ensures error { IfErr result (λ e. e ≡ HallErr.Failed) };
@@ -117,6 +122,7 @@ pub trait Hall {
         ensures call { DeviceCall (facts self.old) (facts self.new) result }
         ensures calls { CallsAtMost 0 0 1 0 (calls self.old) (calls self.new) }
         ensures made { MakesOnly (λ call. call ≡ Syncing) (made self.old) (made self.new) }
+        ensures each { MakesOnce (made self.old) (made self.new) }
         ensures kept { StaysDone (done self.old) (done self.new) }
         ensures behind { OnOk result (behind_sync self.new) }
         ensures error { IfErr result (λ e. e ≡ HallErr.Failed) };
@@ -129,6 +135,7 @@ pub trait Hall {
         ensures call { PrintCall (facts self.old) (facts self.new) result }
         ensures calls { CallsAtMost 0 0 0 1 (calls self.old) (calls self.new) }
         ensures made { MakesOnly (λ call. call ≡ Printing bytes.now) (made self.old) (made self.new) }
+        ensures each { MakesOnce (made self.old) (made self.new) }
         ensures done { OnOk result (done self.new (Printing bytes.now)) }
         ensures kept { StaysDone (done self.old) (done self.new) }
         ensures error { IfErr result (λ e. e ≡ HallErr.Failed) };
@@ -143,6 +150,7 @@ pub trait Hall {
         ensures rose { IsFalse tells → Rose (facts self.old).dev_faults (facts self.new).dev_faults }
         ensures calls { CallsAtMost 0 0 0 0 (calls self.old) (calls self.new) }
         ensures made { MakesOnly (λ call. call ≡ Noting unit track) (made self.old) (made self.new) }
+        ensures each { MakesOnce (made self.old) (made self.new) }
         ensures kept { StaysDone (done self.old) (done self.new) }
         ensures call { NotedCall (facts self.old) (facts self.new) }
         ensures told { IsTrue tells → Same (meaning self.old) (meaning self.new) }

@@ -107,6 +107,8 @@ impl Machine for MapMachine {
 
     ghost has_done = { λ first op machine. Unit {0} };
 
+    ghost behind_done = { λ machine. Unit {0} };
+
     ghost refuses = { λ machine op refusal. Unit {0} };
 
     ghost asked = { λ machine. asked_nothing };

@@ -1,12 +1,18 @@
 -- Definitions on cases at which near readings of them give something else.
-use Rattle.std.proofs.Common.{◌≡◌, ◌≢◌, ◌+◌, ◌*◌, ◌≤◌, ℕ, zero, suc, List, [], ◌∷◌, ◌++◌, Option, Some, None, drop, get_or, length, take, refl, sym, ap, ◌∙◌, arith, true, false}
+use Rattle.std.proofs.Common.{◌≡◌, ◌≢◌, ◌+◌, ◌*◌, ◌≤◌, ℕ, zero, suc, List, [], ◌∷◌, ◌++◌, Option, Some, None, drop, get_or, length, take, refl, sym, ap, subst, ◌∙◌, arith, lit<, ltb-true, length-take-le, take-append-drop, true, false}
+use Rattle.std.proofs.lemmas.Bool.{and_parts}
 use Rattle.std.proofs.lemmas.List.{drop_all}
-use Rattle.std.specs.Prelude.{Ok, Err, replicate}
+use Rattle.std.specs.Prelude.{◌-◌, ◌<◌, Ok, Err, nat_lt, replicate}
+use Rattle.std.specs.List.{list_all}
 use Rattle.std.specs.Option.{option_map}
 use Rattle.ckd_image.specs.declared.device.DiskType.TheVariants.{D2311, D2314}
 use Rattle.ckd_image.specs.declared.header.Geometry.{Geometry}
 use Rattle.ckd_image.specs.Reading.{is_front, records_of, records_to_end, records_up_to}
-use Rattle.ckd_image.specs.Track.{BreaksAt, Record, end_marker}
+use Rattle.ckd_image.specs.Break.{break_of, break_up_to, pattern_break}
+use Rattle.ckd_image.specs.Track.{BreaksAt, Follows, Record, end_marker}
+use Rattle.ckd_image.proofs.GrammarBreak.{kept_part}
+use Rattle.ckd_image.proofs.GrammarFirstBreak.{break_breaks}
+use Rattle.ckd_image.proofs.GrammarRecord.{AreBytes}
 use Rattle.hall_core.specs.Facts.{Attached, Facts}
 use Rattle.hall_core.specs.Files.{patched}
 use Rattle.hall_core.specs.Made.{Reading}
@@ -14,7 +20,7 @@ use Rattle.pack_spec.specs.Label.{records_on, track_bytes}
 use Rattle.pack_spec.specs.Views.{tracks_of}
 use Rattle.track_records.specs.Buffers.{Buffer, records_at, are_places, places_from, IsPartOf, IsContentOf}
 use Rattle.track_records.specs.Calls.{HasTrack, TrackCall, track_read}
-use Rattle.track_records.specs.Reads.{IsBroken}
+use Rattle.track_records.specs.Reads.{AreAllOrFirst, BreaksFirst, IsBroken, LacksFirst}
 use Rattle.track_records.specs.declared.error.TrackErr.TheVariants.{BadCount, Device}
 use Rattle.track_records.specs.Updates.{length_of, offset_of, with_parts, HasLengths, StandFrom}
 use Rattle.track_records.specs.Written.{IsUpdated, StandsOn, place_of, with_record}
@@ -288,3 +294,117 @@ long = record { address = 0 ∷ 0 ∷ 0 ∷ 0 ∷ []; key = []; «data» = repli
 on_the_next_track : ¬ IsUpdated (on_it (long ∷ [])) 1 (65 ∷ []) [] (replicate 5000 0) (replicate 4645 0 ++ 65 ∷ replicate 354 0)
 unfolding track_bytes
 on_the_next_track is = let wrong : 65 ≡ 0 = ap (λ (l : List ℕ). get_or l 37 0) (is.others 1 (λ same. omega (arith, same))) in absurd (omega (arith, wrong))
+
+-- ---- a track by all of its records, or by its first
+
+-- the front of track 0, R1, R2, and what stands in the place of R2 and is R9
+abbrev front : List ℕ
+front = replicate 12 0 ++ (8 ∷ replicate 8 0)
+
+abbrev first_bytes : List ℕ
+first_bytes = 0 ∷ 0 ∷ 0 ∷ 0 ∷ 1 ∷ 2 ∷ 0 ∷ 3 ∷ 65 ∷ 66 ∷ 97 ∷ 98 ∷ 99 ∷ []
+
+abbrev r2 : Record
+r2 = record { address = 0 ∷ 0 ∷ 0 ∷ 0 ∷ []; key = []; «data» = 100 ∷ [] }
+
+abbrev second_bytes : List ℕ
+second_bytes = 0 ∷ 0 ∷ 0 ∷ 0 ∷ 2 ∷ 0 ∷ 0 ∷ 1 ∷ 100 ∷ []
+
+abbrev ninth_bytes : List ℕ
+ninth_bytes = 0 ∷ 0 ∷ 0 ∷ 0 ∷ 9 ∷ 0 ∷ 0 ∷ 1 ∷ 100 ∷ []
+
+-- a track of two records, one that breaks behind its first, one that does so before, one whose bytes begin an end marker and no record, and one without records
+abbrev good : List ℕ
+good = front ++ (first_bytes ++ (second_bytes ++ end_marker))
+
+abbrev broken_behind : List ℕ
+broken_behind = front ++ (first_bytes ++ (ninth_bytes ++ end_marker))
+
+abbrev broken_before : List ℕ
+broken_before = front ++ (ninth_bytes ++ end_marker)
+
+abbrev cut_marker : List ℕ
+cut_marker = front ++ (replicate 6 255 ++ replicate 8 0)
+
+abbrev empty_track : List ℕ
+empty_track = front ++ end_marker
+
+-- A good track is held whole, and a broken one by its first record; one without records has none, and isn't broken.
+all_or_first : AreAllOrFirst 0 0 (Some 2) (r1 ∷ r2 ∷ []) good × AreAllOrFirst 0 0 None (r1 ∷ []) broken_behind × AreAllOrFirst 0 0 (Some 0) [] empty_track
+unfolding records_of is_front records_to_end records_up_to
+all_or_first = ((refl, refl), (refl, refl), (refl, refl))
+
+-- a good track isn't held by its first record, as if it were broken, nor as if that were all
+first_of_good : (¬ AreAllOrFirst 0 0 None (r1 ∷ []) good) × (¬ AreAllOrFirst 0 0 (Some 1) (r1 ∷ []) good)
+unfolding records_of is_front records_to_end how_many
+first_of_good = (λ are. absurd (omega (arith, ap how_many are.0)), λ are. absurd (omega (arith, ap how_many are.0)))
+
+-- and not by another number than that of its records
+other_number : (¬ AreAllOrFirst 0 0 (Some 1) (r1 ∷ r2 ∷ []) good) × (¬ AreAllOrFirst 0 0 (Some 3) (r1 ∷ r2 ∷ []) good)
+other_number = (λ are. absurd (omega (arith, are.1)), λ are. absurd (omega (arith, are.1)))
+
+-- a broken one isn't held as if its first were all, nor by no record, nor by more, nor by that of another head
+not_first_of_broken :
+    (¬ AreAllOrFirst 0 0 (Some 1) (r1 ∷ []) broken_behind)
+    × (¬ AreAllOrFirst 0 0 None [] broken_behind)
+    × (¬ AreAllOrFirst 0 0 None (r1 ∷ r2 ∷ []) broken_behind)
+    × (¬ AreAllOrFirst 0 1 None (r1 ∷ []) broken_behind)
+unfolding records_of is_front records_to_end records_up_to how_many
+not_first_of_broken = (
+  λ are. absurd (omega (arith, ap how_many are.0)),
+  λ are. absurd (omega (arith, ap how_many are.1)),
+  λ are. absurd (omega (arith, ap how_many are.1)),
+  λ are. absurd (omega (arith, ap how_many are.1)),
+)
+
+-- one that breaks before its first record is whole isn't held at all, not even by none
+not_held : (count : Option ℕ) (held : List Record) → ¬ AreAllOrFirst 0 0 count held broken_before
+unfolding records_of is_front records_to_end records_up_to
+not_held None held are = let none : None ≡ Some held = are.1 in absurd (cc none)
+not_held (Some n) held are = let none : None ≡ Some held = are.0 in absurd (cc none)
+
+-- bytes that are below 256, each of them
+small_bytes : (bytes : List ℕ) → list_all (λ b. nat_lt b 256) bytes ≡ true → AreBytes bytes
+small_bytes [] all i = omega arith
+small_bytes (b ∷ bs) all zero = ltb-true b 256 (and_parts _ _ all).0
+small_bytes (b ∷ bs) all (suc i) = small_bytes bs (and_parts _ _ all).1 i
+
+-- one byte at the most is the first that breaks
+breaks_once : (bytes : List ℕ) (a b : ℕ) → BreaksAt 0 0 (Some 1) bytes a → BreaksAt 0 0 (Some 1) bytes b → ¬ (a < b)
+breaks_once bytes a b earlier later less =
+    let rest = later.begins.1 in
+    let inside = later.inside in
+    let part = kept_part (a + 1) b bytes (take (a + 1) bytes) (drop (a + 1) bytes) rest (sym (take-append-drop (a + 1) bytes)) (length-take-le (a + 1) bytes (omega (arith, less, inside))) (omega (arith, less)) in
+    earlier.breaks (omega (arith, less, inside)) later.begins.0 (take (b - (a + 1)) (drop (a + 1) bytes) ++ rest) (subst (λ (bs : List ℕ). Follows 0 0 (Some 1) later.begins.0 bs) part later.begins.2)
+
+-- The byte that is R in the place of R1 breaks the track, and neither neighbour does; so it is where it is X'FF', though an end marker may begin so.
+breaks_at_r : BreaksFirst 0 0 25 broken_before × BreaksFirst 0 0 25 cut_marker
+unfolding records_of is_front records_to_end records_up_to break_of break_up_to pattern_break
+breaks_at_r = (
+  (refl, (refl, break_breaks 0 0 (Some 1) broken_before 25 (small_bytes broken_before refl) (lit< tt) refl)),
+  (refl, (refl, break_breaks 0 0 (Some 1) cut_marker 25 (small_bytes cut_marker refl) (lit< tt) refl)),
+)
+
+breaks_nowhere_else : (¬ BreaksFirst 0 0 24 broken_before) × (¬ BreaksFirst 0 0 26 broken_before) × (¬ BreaksFirst 0 0 27 cut_marker)
+breaks_nowhere_else = (
+  λ breaks. breaks_once broken_before 24 25 breaks.1.1 breaks_at_r.0.1.1 (lit< tt),
+  λ breaks. breaks_once broken_before 25 26 breaks_at_r.0.1.1 breaks.1.1 (lit< tt),
+  λ breaks. breaks_once cut_marker 25 27 breaks_at_r.1.1.1 breaks.1.1 (lit< tt),
+)
+
+-- no track breaks so whose first record is whole, though it breaks behind that; nor one without records, which has no first
+has_first : (at : ℕ) → (¬ BreaksFirst 0 0 at good) × (¬ BreaksFirst 0 0 at broken_behind) × (¬ BreaksFirst 0 0 at empty_track)
+unfolding records_of is_front records_to_end records_up_to
+has_first at = (
+  λ breaks. let none : Some (r1 ∷ []) ≡ None = breaks.1.0 in absurd (cc none),
+  λ breaks. let none : Some (r1 ∷ []) ≡ None = breaks.1.0 in absurd (cc none),
+  λ breaks. let none : Some [] ≡ None = breaks.0 in absurd (cc none),
+)
+
+-- track 25 lacks its first record as head 5 of cylinder 2, at the byte that is named; of bytes of a failed read nothing is said
+lacks_on_its_track : (found : List ℕ) → (LacksFirst small 25 (BadCount 7) found → BreaksFirst 2 5 7 found) × LacksFirst small 25 Device found
+lacks_on_its_track found = (λ lacks. lacks, tt)
+
+-- the byte is that of the track, and none is named where the first is whole
+lacks_there : LacksFirst small 0 (BadCount 25) broken_before × (¬ LacksFirst small 0 (BadCount 26) broken_before) × (¬ LacksFirst small 0 (BadCount 38) broken_behind)
+lacks_there = (breaks_at_r.0, breaks_nowhere_else.1, (has_first 38).1)

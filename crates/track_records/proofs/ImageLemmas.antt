@@ -23,7 +23,7 @@ track_read files name g track at bytes has size place =
     has.2 ∙ ap (λ (n : ℕ). take n (drop at has.0)) size ∙ ap (λ (n : ℕ). take g.track_size (drop n has.0)) place ∙ ap (λ o. take g.track_size (drop (512 + track * g.track_size) (unwrap_or o []))) (sym has.1)
 
 -- what is said of the bytes that were read holds of the track
-track_is : (P : ℕ → ℕ → List ℕ → Type 0) (image bytes : List ℕ) (g far : Geometry) (c h track : ℕ) → g ≡ far → c ≡ track / heads_of g → h ≡ track % heads_of g → bytes ≡ track_bytes image g track → P c h bytes → P (track / heads_of far) (track % heads_of far) (track_bytes image far track)
+pub track_is : (P : ℕ → ℕ → List ℕ → Type 0) (image bytes : List ℕ) (g far : Geometry) (c h track : ℕ) → g ≡ far → c ≡ track / heads_of g → h ≡ track % heads_of g → bytes ≡ track_bytes image g track → P c h bytes → P (track / heads_of far) (track % heads_of far) (track_bytes image far track)
 track_is P image bytes g far c h track geometry cylinder head same said =
     subst (λ (y : Geometry). P (track / heads_of y) (track % heads_of y) (track_bytes image y track)) geometry (subst (λ (n : ℕ). P n (track % heads_of g) (track_bytes image g track)) cylinder (subst (λ (n : ℕ). P c n (track_bytes image g track)) head (subst (λ (b : List ℕ). P c h b) same said)))
 
@@ -41,7 +41,7 @@ broken_read image bytes held g far c h track u at geometry cylinder head same is
     (track_is (λ (n m : ℕ) (b : List ℕ). records_of n m u b ≡ None) image bytes g far c h track geometry cylinder head (same ∙ is) none, track_is (λ (n m : ℕ) (b : List ℕ). BreaksAt n m u b at) image bytes g far c h track geometry cylinder head (same ∙ is) breaks)
 
 -- and so of the bytes that a read gave
-given_is : (P : ℕ → ℕ → List ℕ → Type 0) (done : HallCall → Type 0) (unit : ℕ) (bytes held : List ℕ) (g far : Geometry) (c h track : ℕ) → g ≡ far → c ≡ track / heads_of g → h ≡ track % heads_of g → bytes ≡ held → length held ≡ g.track_size → done (Giving unit (512 + track * g.track_size) held) → P c h bytes → HasGiven done unit far track (λ given. P (track / heads_of far) (track % heads_of far) given)
+pub given_is : (P : ℕ → ℕ → List ℕ → Type 0) (done : HallCall → Type 0) (unit : ℕ) (bytes held : List ℕ) (g far : Geometry) (c h track : ℕ) → g ≡ far → c ≡ track / heads_of g → h ≡ track % heads_of g → bytes ≡ held → length held ≡ g.track_size → done (Giving unit (512 + track * g.track_size) held) → P c h bytes → HasGiven done unit far track (λ given. P (track / heads_of far) (track % heads_of far) given)
 given_is P done unit bytes held g far c h track geometry cylinder head same size gave said =
     subst (λ (y : Geometry). HasGiven done unit y track (λ given. P (track / heads_of y) (track % heads_of y) given)) geometry
     (Gives held size gave (subst (λ (n : ℕ). P n (track % heads_of g) held) cylinder (subst (λ (n : ℕ). P c n held) head (subst (λ (b : List ℕ). P c h b) same said))))

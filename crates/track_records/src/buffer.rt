@@ -1,22 +1,22 @@
 //! A buffer for the records of one track, and what reads and writes them.
-ghost use Rattle.std.specs.Prelude.{◌≡◌, ◌≤◌, ◌+◌, ◌*◌, ◌-◌, ◌++◌, [], length, true, Some, IsTrue, IfOk, IfErr, IfSome, OnOk, OnErr, slice_get};
+ghost use Rattle.std.specs.Prelude.{◌≡◌, ◌⊎◌, ◌≤◌, ◌+◌, ◌*◌, ◌/◌, ◌%◌, ◌-◌, ◌++◌, [], length, true, Some, IsTrue, IfOk, IfErr, IfSome, OnOk, OnErr, slice_get};
 ghost use Rattle.std.specs.Option.{option_map};
 ghost use Rattle.ckd_image.specs.Reading.{front_record, is_record_at};
 ghost use Rattle.hall_core.specs.Facts.{CallsAtMost, DeviceCall, unit_of};
 ghost use Rattle.hall_core.specs.Files.{AfterWrite, image_of, patched};
-ghost use Rattle.hall_core.specs.Made.{Giving, MakesOnly, StaysDone, Writing};
+ghost use Rattle.hall_core.specs.Made.{Giving, MakesOnce, MakesOnly, StaysDone, Writing};
 ghost use Rattle.hall_core.specs.Moments.{Same};
-ghost use Rattle.pack_spec.specs.Label.{records_on, track_bytes};
+ghost use Rattle.pack_spec.specs.Label.{heads_of, records_on, track_bytes};
 ghost use Rattle.track_records.specs.Buffers.{IsContentOf, IsPartOf};
 ghost use Rattle.track_records.specs.Calls.{HasGiven, HasTrack, TrackCall, records_by, track_read};
-ghost use Rattle.track_records.specs.Reads.{IsBroken, IsGivenBroken};
+ghost use Rattle.track_records.specs.Reads.{AreAllOrFirst, IsBroken, IsGivenBroken, LacksFirst};
 ghost use Rattle.track_records.specs.Updates.{HasLengths, offset_of, with_parts};
 ghost use Rattle.track_records.specs.Written.{place_of, IsUpdated, StandsOn};
 
 use crate::error::TrackErr;
-use crate::places::put_places;
+use crate::places::{put_places, put_places_or_first};
 use ckd_image::{BadCount, COUNT_LEN, Geometry, HEADER_LEN, RecordParts, record_at};
-use hall_core::{Device, Hall, HallErr};
+use hall_core::{Device, Hall};
 use std::alloc::{AllocError, Global};
 use std::marker::Model;
 
@@ -95,6 +95,15 @@ impl TrackBuf {
         self.parts(r).data
     }
 
+    // Holds no record any more, and is of this track of a unit.
+    fn begin(&mut self, unit: u8, track: u16)
+        ensures { self.new ≡ record self.old { unit = unit; track = track; records = [] } }
+    {
+        self.unit = unit;
+        self.track = track;
+        self.places.clear();
+    }
+
     // Puts this key and these data in the place of those of Rr, which have the same lengths, and gives
     // the offset of the key from the track's home address.
     fn put(&mut self, r: u8, key: &[u8], payload: &[u8]) -> usize
@@ -148,9 +157,10 @@ impl TrackBuf {
 /// The track is counted from 0 over the unit. It is read in one read, and follows the grammar of
 /// `track_of` in `ckd_image`, that of a Hercules image.
 ///
-/// `BadCount` names the byte at which the track breaks that grammar, before R = `upto` is whole or
-/// before the end marker; so it does where the record that is asked for isn't there. `Device` comes only
-/// where the read failed and the count of device faults rose. After an error the buffer holds no record.
+/// `BadCount` names the byte at which the track breaks that grammar, before R = `upto` and eight bytes
+/// behind it are there, or before the end marker; so it does where the record that is asked for isn't there.
+/// `Device` comes only where the read failed and the count of device faults rose. After an error the buffer
+/// holds no record.
 pub fn read_records<H: Hall>(
     hall: &mut H,
     unit: u8,
@@ -169,17 +179,14 @@ pub fn read_records<H: Hall>(
     ensures call { TrackCall (H.facts hall.old) (H.facts hall.new) result }
     ensures calls { CallsAtMost 1 0 0 0 (H.calls hall.old) (H.calls hall.new) }
     ensures made { MakesOnly (λ call. call ≡ track_read unit buf.old.geometry track) (H.made hall.old) (H.made hall.new) }
+    ensures each { MakesOnce (H.made hall.old) (H.made hall.new) }
     ensures kept { StaysDone (H.done hall.old) (H.done hall.new) }
     ensures given { IfOk result (λ _. HasGiven (H.done hall.new) unit buf.old.geometry track (λ bytes. records_by buf.old.geometry upto track bytes ≡ Some buf.new.records)) }
     ensures broke { IfErr result (IsGivenBroken (H.done hall.new) unit buf.old.geometry upto track) }
 {
-    buf.unit = unit;
-    buf.track = track;
-    buf.places.clear();
+    buf.begin(unit, track);
     let geometry = buf.geometry;
-    let Ok(()) = fill(hall, unit, geometry, track, &mut buf.bytes) else {
-        return Err(TrackErr::Device);
-    };
+    fill(hall, unit, geometry, track, &mut buf.bytes)?;
     let heads = u16::from(geometry.device.heads());
     match put_places(
         &buf.bytes,
@@ -193,6 +200,44 @@ pub fn read_records<H: Hall>(
     }
 }
 
+/// Reads the records behind R0 of a track into the buffer up to the end marker, or where the track breaks
+/// that grammar, its first record alone. Gives their number, and none where the track breaks the grammar.
+///
+/// The track is counted from 0 over the unit, and read in one read, as `read_records` does.
+///
+/// `BadCount` names the byte at which the track breaks the grammar before R1 and eight bytes behind it are
+/// there. `Device` comes only where the read failed and the count of device faults rose. After an error the
+/// buffer holds no record.
+pub fn read_records_or_first<H: Hall>(
+    hall: &mut H,
+    unit: u8,
+    track: u16,
+    buf: &mut TrackBuf,
+) -> Result<Option<u8>, TrackErr>
+    requires { HasTrack (H.facts hall.old).units unit buf.old.geometry track }
+    ensures buffer { buf.new ≡ record buf.old { unit = unit; track = track; records = buf.new.records } }
+    ensures none { OnErr result (buf.new.records ≡ []) }
+    ensures read { IsTrue H.tells → IfOk result (λ count. AreAllOrFirst (track / heads_of buf.old.geometry) (track % heads_of buf.old.geometry) count buf.new.records (track_bytes (image_of (H.meaning hall.old).state (H.facts hall.old) unit) buf.old.geometry track)) }
+    ensures broken { IsTrue H.tells → IfErr result (λ e. LacksFirst buf.old.geometry track e (track_bytes (image_of (H.meaning hall.old).state (H.facts hall.old) unit) buf.old.geometry track)) }
+    ensures told { IsTrue H.tells → Same (H.meaning hall.old) (H.meaning hall.new) }
+    ensures call { TrackCall (H.facts hall.old) (H.facts hall.new) result }
+    ensures calls { CallsAtMost 1 0 0 0 (H.calls hall.old) (H.calls hall.new) }
+    ensures made { MakesOnly (λ call. call ≡ track_read unit buf.old.geometry track) (H.made hall.old) (H.made hall.new) }
+    ensures each { MakesOnce (H.made hall.old) (H.made hall.new) }
+    ensures kept { StaysDone (H.done hall.old) (H.done hall.new) }
+    ensures given { IfOk result (λ count. HasGiven (H.done hall.new) unit buf.old.geometry track (AreAllOrFirst (track / heads_of buf.old.geometry) (track % heads_of buf.old.geometry) count buf.new.records)) }
+    ensures broke { IfErr result (λ e. (e ≡ TrackErr.Device) ⊎ HasGiven (H.done hall.new) unit buf.old.geometry track (LacksFirst buf.old.geometry track e)) }
+{
+    buf.begin(unit, track);
+    let geometry = buf.geometry;
+    fill(hall, unit, geometry, track, &mut buf.bytes)?;
+    let heads = u16::from(geometry.device.heads());
+    match put_places_or_first(&buf.bytes, track / heads, track % heads, &mut buf.places) {
+        Ok(count) => Ok(count),
+        Err(fault) => Err(TrackErr::BadCount { at: fault.at }),
+    }
+}
+
 // Fills a vector of a track's length with the bytes of a track; one read.
 fn fill<H: Hall>(
     hall: &mut H,
@@ -200,20 +245,25 @@ fn fill<H: Hall>(
     geometry: Geometry,
     track: u16,
     bytes: &mut Vec<u8>,
-) -> Result<(), HallErr>
+) -> Result<(), TrackErr>
     requires track { HasTrack (H.facts hall.old).units unit geometry track }
     requires room { length bytes.old.items ≡ geometry.track_size }
     ensures size { length bytes.new.items ≡ geometry.track_size }
     ensures read { IsTrue H.tells → OnOk result (bytes.new.items ≡ track_bytes (image_of (H.meaning hall.old).state (H.facts hall.old) unit) geometry track) }
     ensures told { IsTrue H.tells → Same (H.meaning hall.old) (H.meaning hall.new) }
-    ensures call { DeviceCall (H.facts hall.old) (H.facts hall.new) result }
+    ensures error { IfErr result (λ e. e ≡ TrackErr.Device) }
+    ensures call { TrackCall (H.facts hall.old) (H.facts hall.new) result }
     ensures calls { CallsAtMost 1 0 0 0 (H.calls hall.old) (H.calls hall.new) }
     ensures made { MakesOnly (λ call. call ≡ track_read unit geometry track) (H.made hall.old) (H.made hall.new) }
+    ensures each { MakesOnce (H.made hall.old) (H.made hall.new) }
     ensures kept { StaysDone (H.done hall.old) (H.done hall.new) }
     ensures done { OnOk result (H.done hall.new (Giving unit (512 + track * geometry.track_size) bytes.new.items)) }
 {
     let at = HEADER_LEN as u64 + u64::from(track) * u64::from(geometry.track_size);
-    hall.read(unit, at, bytes)
+    let Ok(()) = hall.read(unit, at, bytes) else {
+        return Err(TrackErr::Device);
+    };
+    Ok(())
 }
 
 /// Writes this key and these data over those of Rr, which have the same lengths, in one write.
@@ -238,6 +288,7 @@ pub fn update<H: Hall>(
     ensures calls { CallsAtMost 0 1 0 0 (H.calls hall.old) (H.calls hall.new) }
     ensures inside { place_of buf.old (r - 1) + length (key.now ++ payload.now) ≤ 512 + (buf.old.track + 1) * buf.old.geometry.track_size }
     ensures made { MakesOnly (λ call. call ≡ Writing buf.old.unit (place_of buf.old (r - 1)) (key.now ++ payload.now)) (H.made hall.old) (H.made hall.new) }
+    ensures each { MakesOnce (H.made hall.old) (H.made hall.new) }
     ensures kept { StaysDone (H.done hall.old) (H.done hall.new) }
     ensures done { OnOk result (H.done hall.new (Writing buf.old.unit (place_of buf.old (r - 1)) (key.now ++ payload.now))) }
 {

@@ -3,8 +3,12 @@ ghost use Rattle.std.specs.Prelude.{◌≡◌, ◌≤◌, ◌+◌, [], length, I
 ghost use Rattle.ckd_image.specs.Reading.{records_of};
 ghost use Rattle.ckd_image.specs.Track.{BreaksAt};
 ghost use Rattle.track_records.specs.Buffers.{are_places, places_from, records_at};
+ghost use Rattle.track_records.specs.Reads.{AreAllOrFirst, BreaksFirst};
 
 use ckd_image::{BadCount, FRONT_LEN, record_at, track_of};
+
+// R of the first record behind R0.
+const FIRST_RECORD: u8 = 1;
 
 // Puts the offsets of the records behind R0 of a track, up to the record R = `upto` or to the end
 // marker, into an empty vector that has room for them, and gives their number; puts none where the
@@ -30,6 +34,30 @@ pub(crate) fn put_places(
     let count = track_of(bytes, cylinder, head, upto)?;
     walk(bytes, count, places);
     Ok(count)
+}
+
+// Puts the offsets of the records behind R0 of a track up to the end marker, or where the track breaks
+// the grammar, that of R1 alone, into an empty vector that has room for them. Gives their number, or
+// nothing where the track breaks the grammar.
+pub(crate) fn put_places_or_first(
+    bytes: &[u8],
+    cylinder: u16,
+    head: u16,
+    places: &mut Vec<usize>,
+) -> Result<Option<u8>, BadCount>
+    requires empty { places.old.items ≡ [] }
+    requires room { 255 ≤ vec_capacity places.old }
+    ensures records { IfOk result (λ count. AreAllOrFirst cylinder head count (records_at bytes.now places.new.items) bytes.now) }
+    ensures are { IsTrue (are_places 1 21 bytes.now places.new.items) }
+    ensures broken { IfErr result (λ e. BreaksFirst cylinder head e.at bytes.now) }
+    ensures none { OnErr result (places.new.items ≡ []) }
+    ensures room { 255 ≤ vec_capacity places.new }
+{
+    if let Ok(count) = put_places(bytes, cylinder, head, None, places) {
+        return Ok(Some(count));
+    }
+    put_places(bytes, cylinder, head, Some(FIRST_RECORD), places)?;
+    Ok(None)
 }
 
 // Puts the offsets of so many records, from R1 on, into an empty vector that has room for them.

@@ -44,7 +44,7 @@ pub trait Machine {
     ghost made: { Self → HallCall → ℕ };
 
     /// Whether a call of that hall is one that an operation may make, by the machine before it and by what was done there
-    /// up to the machine behind it; a print leaves it so.
+    /// up to the machine behind it.
     ghost may_make: { Self → requests.Op → Self → HallCall → Type 0 };
 
     /// The operations and prints it was asked for so far, if it counts them.
@@ -53,8 +53,11 @@ pub trait Machine {
     /// What holds of a call of that hall that was done; no call of the machine takes it back.
     ghost done: { Self → HallCall → Type 0 };
 
-    /// What holds behind an operation that was done, by the machine before it; no print takes it back.
+    /// What holds behind an operation that was done, by the machine before it.
     ghost has_done: { Self → requests.Op → Self → Type 0 };
+
+    /// What holds behind an operation that was done, as long as no other call comes.
+    ghost behind_done: { Self → Type 0 };
 
     /// Whether an operation is refused for this reason, by what it holds.
     ghost refuses: { Self → requests.Op → refusals.Refusal → Type 0 };
@@ -75,7 +78,8 @@ pub trait Machine {
     /// `Refused` carries the first reason, by the order of `Refusal`. A rename is judged by the names in the VTOC
     /// alone, so no fault, nor want of memory, comes in place of its refusal. It makes at most one read, one write and
     /// one sync of the hall below; no read where the machine holds what it has to read; none of them where it is refused;
-    /// and no write nor sync where memory is wanting; and none that isn't the operation's. It counts as one operation.
+    /// and no write nor sync where memory is wanting; and none that isn't the operation's. Where it is done, no call comes
+    /// behind it. It counts as one operation.
     fn apply(&mut self, op: &Op) -> Result<(), MachErr>
         requires sound { IsTrue (status self.old).is_sound }
         ensures shelf { IsTrue tells → Applies op.now (meaning self.old) (meaning self.new) result }
@@ -85,11 +89,13 @@ pub trait Machine {
         ensures calls { CallsAtMost 1 1 1 0 (calls self.old) (calls self.new) }
         ensures made { MakesOnly (may_make self.old op.now self.new) (made self.old) (made self.new) }
         ensures has_done { OnOk result (has_done self.old op.now self.new) }
+        ensures behind { OnOk result (behind_done self.new) }
         ensures kept { StaysDone (done self.old) (done self.new) }
         ensures reason { (r : Refusal) → IsErrOf result (MachErr.Refused r) → refuses self.old op.now r }
         ensures held { holds self.old op.now → CallsAtMost 0 1 1 0 (calls self.old) (calls self.new) }
         ensures memory { IsErrOf result MachErr.Memory → CallsAtMost 1 0 0 0 (calls self.old) (calls self.new) }
         ensures refused { (r : Refusal) → IsErrOf result (MachErr.Refused r) → CallsAtMost 0 0 0 0 (calls self.old) (calls self.new) }
+        ensures untouched { (r : Refusal) → IsErrOf result (MachErr.Refused r) → MakesOnly (λ call. ⊥) (made self.old) (made self.new) }
         ensures once { AsksAtMost 1 0 (asked self.old) (asked self.new) }
         ensures print { IsErrOf result MachErr.Print → ⊥ };
 
@@ -105,10 +111,9 @@ pub trait Machine {
         ensures calls { CallsAtMost 0 0 0 1 (calls self.old) (calls self.new) }
         ensures made { MakesOnly (λ call. call ≡ Printing bytes.now) (made self.old) (made self.new) }
         ensures kept { StaysDone (done self.old) (done self.new) }
-        ensures still { (first : Self) (op : requests.Op) → has_done first op self.old → has_done first op self.new }
-        ensures leaves { (first : Self) (op : requests.Op) (call : HallCall) → may_make first op self.old call → may_make first op self.new call }
         ensures done { OnOk result (done self.new (Printing bytes.now)) }
         ensures memory { IsErrOf result MachErr.Memory → CallsAtMost 0 0 0 0 (calls self.old) (calls self.new) }
+        ensures unmade { IsErrOf result MachErr.Memory → MakesOnly (λ call. ⊥) (made self.old) (made self.new) }
         ensures once { AsksAtMost 0 1 (asked self.old) (asked self.new) }
         ensures device { IsErrOf result MachErr.Device → ⊥ }
         ensures refused { (r : Refusal) → IsErrOf result (MachErr.Refused r) → ⊥ };

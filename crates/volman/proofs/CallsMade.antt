@@ -1,62 +1,37 @@
 -- The calls of a run by what is asked for, and what they were made with.
-use Rattle.std.proofs.Common.{◌≡◌, ◌⊎◌, ⊎_elim, inl, inr, subst, sym, ℕ, List}
+use Rattle.std.proofs.Common.{◌≡◌, ◌≢◌, ◌⊎◌, ◌∙◌, ⊎_elim, inl, inr, refl, subst, sym, ℕ, List}
 use Rattle.std.specs.Prelude.{Option, Some, None, Result, Ok, Err, IfSome}
-use Rattle.hall_core.proofs.MadeLemmas.{done_as}
-use Rattle.hall_core.specs.Facts.{Attached}
-use Rattle.hall_core.specs.Made.{Does, HallCall, HasDone, MakesOnly, Printing, StaysDone}
+use Rattle.hall_core.proofs.MadeLemmas.{makes_as, makes_none}
+use Rattle.hall_core.specs.Facts.{Attached, Calls}
+use Rattle.hall_core.specs.Made.{Attaching, HallCall, HasDone, MakesOnce, MakesOnly, Printing, Reading, StaysDone, Syncing}
 use Rattle.util_syntax.specs.declared.statement.Rename.{Rename as Statement}
 use Rattle.vol_model.specs.declared.refusals.Refusal.{Refusal}
-use Rattle.vol_model.specs.declared.requests.Op.{Op}
-use Rattle.vol_model.specs.declared.requests.Op.TheVariants.{Rename}
-use Rattle.dadsm_ops.proofs.Renaming.{named_call_still, named_write_still}
-use Rattle.pack_spec.specs.declared.MountErr.{MountErr}
+use Rattle.vol_model.specs.declared.answers.Stop.{Stop}
+use Rattle.vol_model.specs.declared.answers.Stop.TheVariants.{Device, Memory, Print}
 use Rattle.vtoc_index.specs.declared.vol.Vol.{Vol}
-use Rattle.vtoc_index.proofs.GivenLemmas.{reason_still}
-use Rattle.volman.specs.Mount.{IsUnmounted, Missing, Unfit}
+use Rattle.vtoc_index.specs.Given.{IsMountRead, OfFirst, OfHeader, OfLabel, OfNext, OfOther, OfVtoc}
 use Rattle.volman.specs.Machine.{IsOperationCall, IsOperationWrite, refusal_by}
-use Rattle.volman.specs.Made.{HasAnswered, IsOutcome, IsStatementCall, OnRequest, SaysOnly}
-use Rattle.volman.specs.Statement.{ComesTo, IsAnswerPrint, answer_line, code_for, operation_on}
+use Rattle.volman.specs.Made.{Answered, CameTo, EndsStatement, IsOutcome, IsStatementCall, Makes, MakesEach, OnRequest, OnStatement, Operates, SaysOnly, Unanswered, Unprinted}
+use Rattle.volman.specs.Statement.{ComesTo, Ends, EndsInLine, RunsStatement, answer_line, operation_on}
 use Rattle.volman.specs.Words.{Request}
 
 -- what holds where this is asked for holds of what the words ask for, which is the same
-pub request_as : {asked request : Option Request} (decks : Option Statement → Type 0) (units : List Attached) (status : ℕ) (old new : HallCall → ℕ) (done : HallCall → Type 0) → asked ≡ request → OnRequest request decks units status old new done → OnRequest asked decks units status old new done
-request_as decks units status old new done is = subst (λ (r : Option Request). OnRequest r decks units status old new done) (sym is)
+pub request_as : {T : Type 0} (made : T → HallCall → ℕ) (done : T → HallCall → Type 0) (synced : T → Type 0) (calls : T → Calls) {asked request : Option Request} (decks : Option Statement → Type 0) (units : List Attached) (status : ℕ) (old new : T) → asked ≡ request → OnRequest made done synced calls request decks units status old new → OnRequest made done synced calls asked decks units status old new
+request_as made done synced calls decks units status old new is = subst (λ (r : Option Request). OnRequest made done synced calls r decks units status old new) (sym is)
 
--- what a statement comes to, where what holds of operations that are done follows
-pub comes_as : (volume : Option ℕ) (done later : ℕ → Type 0) (refuses : ℕ → Refusal → Type 0) (outcome : Result (Unit {0}) Refusal) → ((v : ℕ) → done v → later v) → ComesTo volume done refuses outcome → ComesTo volume later refuses outcome
-comes_as volume done later refuses (Ok x) follows comes = (comes.0, comes.1, follows comes.0 comes.2)
-comes_as volume done later refuses (Err r) follows comes = comes
+-- the attachment of a file is no read
+pub attaches_apart : {done : HallCall → Type 0} {unit size : ℕ} {file : List ℕ} (call : HallCall) → call ≡ Attaching file → IsMountRead done unit size call → ⊥
+attaches_apart {file = file} call is read = no_read (λ unit at len reads. let no : Attaching file ≡ Reading unit at len = sym is ∙ reads in cc no) read
+  where
+    no_read : ((unit at len : ℕ) → ¬ (call ≡ Reading unit at len)) → {done : HallCall → Type 0} {unit size : ℕ} → ¬ IsMountRead done unit size call
+    no_read other (OfHeader long is) = other _ _ _ is
+    no_read other (OfLabel g header is) = other _ _ _ is
+    no_read other (OfVtoc g header label given inside behind (OfFirst is)) = other _ _ _ is
+    no_read other (OfVtoc g header label given inside behind (OfOther vtoc extent (OfNext k low slots firsts tracks is))) = other _ _ _ is
 
 -- one text was printed, or the printer failed
-pub says_only : {text : List ℕ} {code status : ℕ} {old new : HallCall → ℕ} {done : HallCall → Type 0} → MakesOnly (λ call. call ≡ Printing text) old new → (status ≡ code → done (Printing text)) → (status ≡ code) ⊎ (status ≡ 24) → SaysOnly text code status old new done
-says_only made said which = record { made = made; said = said; status_is = ⊎_elim (λ is. inl is) (λ printer. inr (inl printer)) which }
-
--- ---- what holds by what was done holds still, where nothing of it is taken back
-
-pub write_still : (op : Op) (before : Vol) {done later : HallCall → Type 0} → StaysDone done later → HasDone (IsOperationWrite op before done) done → HasDone (IsOperationWrite op before later) later
-write_still (Rename v old new) before kept (Does call is was) = done_as (named_write_still (Does call is.1 was) kept) (λ other names. (is.0, names))
-
-pub call_still : (op : Op) (before : Vol) {done later : HallCall → Type 0} (call : HallCall) → StaysDone done later → IsOperationCall op before done call → IsOperationCall op before later call
-call_still (Rename v old new) before call kept is = (is.0, named_call_still call kept is.1)
-
-outcome_still : (vol : Vol) (s : Statement) {done later : HallCall → Type 0} (outcome : Result (Unit {0}) Refusal) → StaysDone done later → IsOutcome vol s done outcome → IsOutcome vol s later outcome
-outcome_still vol s (Ok x) kept is = (is.0, write_still (operation_on s 0) vol kept is.1)
-outcome_still vol s (Err r) kept is = is
-
-pub answered_still : {vol : Vol} {s : Statement} {code : ℕ} {done later : HallCall → Type 0} → HasAnswered vol s code done → StaysDone done later → HasAnswered vol s code later
-answered_still {vol} {s} is kept = record { outcome = is.outcome; is = outcome_still vol s is.outcome kept is.is; code_is = is.code_is; line = kept _ is.line }
-
-pub statement_call_still : (vol : Vol) (s : Statement) {done later : HallCall → Type 0} (call : HallCall) → StaysDone done later → IsStatementCall vol s done call → IsStatementCall vol s later call
-statement_call_still vol s call kept =
-    ⊎_elim
-    (λ is. inl (is.0, call_still (operation_on s 0) vol call kept is.1))
-    (⊎_elim
-    (λ is. inr (inl (is.0, outcome_still vol s is.0 kept is.1, is.2)))
-    (λ is. inr (inr (is.0, (is.1.0, answered_still is.1.1 kept)))))
-
-pub unmounted_still : {done later : HallCall → Type 0} {size : ℕ} {why : MountErr} → IsUnmounted done size why → StaysDone done later → IsUnmounted later size why
-unmounted_still (Missing is) kept = Missing is
-unmounted_still (Unfit is) kept = Unfit (reason_still is kept)
+pub says_only : {T : Type 0} {made : T → HallCall → ℕ} {done : T → HallCall → Type 0} {synced : T → Type 0} {calls : T → Calls} {text : List ℕ} {code status : ℕ} {old new : T} → MakesOnly (λ call. call ≡ Printing text) (made old) (made new) → MakesOnce (made old) (made new) → StaysDone (done old) (done new) → (status ≡ code → done new (Printing text)) → (status ≡ code) ⊎ (status ≡ 24) → SaysOnly made done synced calls text code status old new
+says_only only once kept said which = record { print = record { only = only; once = once; kept = kept }; said = said; status_is = ⊎_elim (λ is. inl is) (λ printer. inr (inl printer)) which }
 
 -- ---- what a statement on the machine of a pack comes to, and calls, by the index of the pack
 
@@ -84,29 +59,78 @@ outcome_of vol s volume done (Err r) there found comes =
     inr (is.1, subst (λ (v : ℕ). refusal_by (operation_on s v) vol.slots.items ≡ Some r) is.0 some.2))
     comes
 
-pub has_answered :
-    (vol : Vol) (s : Statement) (volume : Option ℕ) (code : ℕ) (done : HallCall → Type 0)
-    → (vol.serial ≡ s.serial → volume ≡ Some 0)
-    → IfSome volume (λ v. (v ≡ 0) × (vol.serial ≡ s.serial))
-    → (outcome : Result (Unit {0}) Refusal) × ComesTo volume (λ v. HasDone (IsOperationWrite (operation_on s v) vol done) done) (λ v r. refusal_by (operation_on s v) vol.slots.items ≡ Some r) outcome × (code_for outcome ≡ code) × done (Printing (answer_line s outcome))
-    → HasAnswered vol s code done
-has_answered vol s volume code done there found line = record {
-  outcome = line.0;
-  is = outcome_of vol s volume done line.0 there found line.1;
-  code_is = line.2;
-  line = line.3;
-}
+-- ---- what ends a statement on a machine
 
-pub statement_call :
-    (vol : Vol) (s : Statement) (volume : Option ℕ) (done : HallCall → Type 0)
-    → (vol.serial ≡ s.serial → volume ≡ Some 0)
-    → IfSome volume (λ v. (v ≡ 0) × (vol.serial ≡ s.serial))
-    → (call : HallCall)
-    → ((v : ℕ) × (volume ≡ Some v) × IsOperationCall (operation_on s v) vol done call) ⊎ IsAnswerPrint s (ComesTo volume (λ v. HasDone (IsOperationWrite (operation_on s v) vol done) done) (λ v r. refusal_by (operation_on s v) vol.slots.items ≡ Some r)) call
-    → IsStatementCall vol s done call
-statement_call vol s volume done there found call =
-    ⊎_elim
-    (λ is.
-    let at = some_is volume (λ v. (v ≡ 0) × (vol.serial ≡ s.serial)) found is.0 is.1 in
-    inl (at.1, subst (λ (v : ℕ). IsOperationCall (operation_on s v) vol done call) at.0 is.2))
-    (λ is. inr (inl (is.0, outcome_of vol s volume done is.0 there found is.1, is.2)))
+-- nothing is called behind an operation that failed, or behind which memory ran out
+pub ends_before : (s : Statement) (comes : Result (Unit {0}) Refusal → Type 0) (done : HallCall → Type 0) (made : HallCall → ℕ) (e : Stop) (r : Result ℕ Stop) → r ≡ Err e → e ≢ Print → EndsInLine s comes done made made r
+ends_before s comes done made Device r is other = subst (EndsInLine s comes done made made) (sym is) (makes_none (λ call. ⊥) made)
+ends_before s comes done made Memory r is other = subst (EndsInLine s comes done made made) (sym is) (makes_none (λ call. ⊥) made)
+ends_before s comes done made Print r is other = absurd (other refl)
+
+-- the line wasn't printed
+pub ends_unsaid : (s : Statement) (comes : Result (Unit {0}) Refusal → Type 0) (done : HallCall → Type 0) {old new : HallCall → ℕ} (outcome : Result (Unit {0}) Refusal) (e : Stop) (r : Result ℕ Stop) → r ≡ Err e → e ≢ Device → comes outcome → MakesOnly (λ call. call ≡ Printing (answer_line s outcome)) old new → (e ≡ Memory → MakesOnly (λ call. ⊥) old new) → EndsInLine s comes done old new r
+ends_unsaid s comes done outcome Device r is other came line none = absurd (other refl)
+ends_unsaid s comes done {old} {new} outcome Memory r is other came line none = subst (EndsInLine s comes done old new) (sym is) (none refl)
+ends_unsaid s comes done {old} {new} outcome Print r is other came line none = subst (EndsInLine s comes done old new) (sym is) (outcome, came, line)
+
+-- ---- a statement, from its operation to its end
+
+module _ {M T : Type 0} (hall : M → T) (made : T → HallCall → ℕ) (done : T → HallCall → Type 0) (synced : T → Type 0) (calls : T → Calls) (vol : Vol) (s : Statement) (volume : Option ℕ) (there : vol.serial ≡ s.serial → volume ≡ Some 0) (found : IfSome volume (λ v. (v ≡ 0) × (vol.serial ≡ s.serial))) where
+  -- what may come of the operation, and what it may call, up to a machine
+  abbrev pub Comes : M → Result (Unit {0}) Refusal → Type 0
+  Comes behind outcome = ComesTo volume (λ v. HasDone (IsOperationWrite (operation_on s v) vol (done (hall behind))) (done (hall behind)) × synced (hall behind)) (λ v r. refusal_by (operation_on s v) vol.slots.items ≡ Some r) outcome
+
+  abbrev pub May : M → HallCall → Type 0
+  May behind call = (v : ℕ) × (volume ≡ Some v) × IsOperationCall (operation_on s v) vol (done (hall behind)) call
+
+  -- the statement, with this answer
+  abbrev pub Ran : Result ℕ Stop → M → M → Type 0
+  Ran result old ran = RunsStatement (λ m. made (hall m)) (λ m call. done (hall m) call) May Comes s result old ran
+
+  came_to : (behind : M) (outcome : Result (Unit {0}) Refusal) → Comes behind outcome → CameTo made done synced calls vol s (hall behind) outcome
+  came_to behind (Ok x) comes = (outcome_of vol s volume (done (hall behind)) (Ok x) there found (comes.0, comes.1, comes.2.0), comes.2.1)
+  came_to behind (Err r) comes = (outcome_of vol s volume (done (hall behind)) (Err r) there found comes, tt)
+
+  operated : (old behind : M) → MakesOnly (May behind) (made (hall old)) (made (hall behind)) → MakesOnly (IsStatementCall vol s (done (hall behind))) (made (hall old)) (made (hall behind))
+  operated old behind ops =
+      makes_as ops
+      (λ call is.
+      let at = some_is volume (λ v. (v ≡ 0) × (vol.serial ≡ s.serial)) found is.0 is.1 in
+      (at.1, subst (λ (v : ℕ). IsOperationCall (operation_on s v) vol (done (hall behind)) call) at.0 is.2))
+
+  pub answered_by : (code status : ℕ) (old ran : M) (new : T) → Ran (Ok code) old ran → MakesEach made done synced calls (λ call. call ≡ Syncing) (hall ran) new → ((status ≡ code) × synced new) ⊎ (status ≡ 22) → OnStatement made done synced calls vol s status (hall old) new
+  answered_by code status old ran new (Ends behind ops line first last) sync status_is =
+      Operates (hall behind) (record { only = operated old behind ops; kept = first }) (Answered line.0 (came_to behind line.0 line.1) (hall ran) (record { only = line.3; kept = last }) line.4 sync (⊎_elim (λ is. inl (is.0 ∙ sym line.2, is.1)) (λ fault. inr fault) status_is))
+
+  pub unprinted_by : (status : ℕ) (old ran : M) (r : Result ℕ Stop) → r ≡ Err Print → Ran r old ran → status ≡ 24 → OnStatement made done synced calls vol s status (hall old) (hall ran)
+  unprinted_by status old ran r is run status_is = ended (subst (λ (result : Result ℕ Stop). Ran result old ran) is run)
+    where
+      ended : Ran (Err Print) old ran → OnStatement made done synced calls vol s status (hall old) (hall ran)
+      ended (Ends behind ops line first last) = Operates (hall behind) (record { only = operated old behind ops; kept = first }) (Unprinted line.0 (came_to behind line.0 line.1) (record { only = line.2; kept = last }) status_is)
+
+  pub failed_by : (status : ℕ) (old ran : M) (r : Result ℕ Stop) → r ≡ Err Device → Ran r old ran → status ≡ 22 → OnStatement made done synced calls vol s status (hall old) (hall ran)
+  failed_by status old ran r is run status_is = ended (subst (λ (result : Result ℕ Stop). Ran result old ran) is run)
+    where
+      ended : Ran (Err Device) old ran → OnStatement made done synced calls vol s status (hall old) (hall ran)
+      ended (Ends behind ops none first last) = Operates (hall behind) (record { only = operated old behind ops; kept = first }) (Unanswered (record { only = none; kept = last }) (inl status_is))
+
+  pub wanting_by : (status : ℕ) (old ran : M) (r : Result ℕ Stop) → r ≡ Err Memory → Ran r old ran → status ≡ 25 → OnStatement made done synced calls vol s status (hall old) (hall ran)
+  wanting_by status old ran r is run status_is = ended (subst (λ (result : Result ℕ Stop). Ran result old ran) is run)
+    where
+      ended : Ran (Err Memory) old ran → OnStatement made done synced calls vol s status (hall old) (hall ran)
+      ended (Ends behind ops none first last) = Operates (hall behind) (record { only = operated old behind ops; kept = first }) (Unanswered (record { only = none; kept = last }) (inr status_is))
+
+-- a statement on a hall that is borrowed is one on the hall itself
+pub statement_as :
+    {T T' : Type 0} (made : T → HallCall → ℕ) (done : T → HallCall → Type 0) (synced : T → Type 0) (calls : T → Calls) (hall : T' → T) {vol : Vol} {s : Statement} {status : ℕ} {old new : T'}
+    → OnStatement (λ h. made (hall h)) (λ h call. done (hall h) call) (λ h. synced (hall h)) (λ h. calls (hall h)) vol s status old new
+    → OnStatement made done synced calls vol s status (hall old) (hall new)
+statement_as made done synced calls hall {vol} {s} {status} {new = new} (Operates behind operation answer) = Operates (hall behind) (passes operation) (ends behind answer)
+  where
+    passes : {these : HallCall → Type 0} {old new : _} → Makes (λ h. made (hall h)) (λ h call. done (hall h) call) (λ h. synced (hall h)) (λ h. calls (hall h)) these old new → Makes made done synced calls these (hall old) (hall new)
+    passes made = record { only = made.only; kept = made.kept }
+
+    ends : (behind : _) → EndsStatement (λ h. made (hall h)) (λ h call. done (hall h) call) (λ h. synced (hall h)) (λ h. calls (hall h)) vol s status behind new → EndsStatement made done synced calls vol s status (hall behind) (hall new)
+    ends behind (Unanswered none is) = Unanswered (passes none) is
+    ends behind (Unprinted outcome came line is) = Unprinted outcome came (passes line) is
+    ends behind (Answered outcome came said line printed sync is) = Answered outcome came (hall said) (passes line) printed (record { only = sync.only; once = sync.once; kept = sync.kept }) is

@@ -6,6 +6,7 @@ use Rattle.dscb_codec.specs.declared.Dscb.{Dscb}
 use Rattle.dscb_codec.specs.declared.Dscb.TheVariants as formats
 use Rattle.ebcdic_names.specs.declared.names.Serial.{Serial}
 use Rattle.hall_core.specs.Facts.{Calls, uncounted}
+use Rattle.track_records.specs.Buffers.{Buffer}
 use Rattle.util_syntax.specs.declared.statement.Rename.{Rename as Statement}
 use Rattle.vol_model.specs.declared.answers.MachErr.{MachErr}
 use Rattle.vol_model.specs.declared.answers.MachErr.TheVariants.{Refused, Device}
@@ -14,13 +15,14 @@ use Rattle.vol_model.specs.declared.refusals.Refusal.TheVariants.{NoSet, NoVolum
 use Rattle.vol_model.specs.declared.requests.Op.{Op}
 use Rattle.vol_model.specs.declared.requests.Op.TheVariants.{Rename}
 use Rattle.vtoc_index.specs.Index.{slots_in_front, track_index}
+use Rattle.vtoc_index.specs.Puts.{Changed, Held}
 use Rattle.vtoc_index.specs.declared.vol.Vol.{Vol}
 use Rattle.vtoc_index.proofs.HeldLemmas.{key_held}
 use Rattle.vtoc_index.proofs.PutCases.{c_stands}
 use Rattle.vtoc_index.proofs.SmallPack.{a, b, c, data_set, f1, f4, f5, index, pack01}
 use Rattle.dadsm_ops.specs.Naming.{HoldsRenamed, RenamesEntry, under_name}
 use Rattle.volman.specs.Mount.{IsOnLastTrack}
-use Rattle.volman.specs.Machine.{HoldsFor, KeepsIndex, OperationCalls, refusal_by}
+use Rattle.volman.specs.Machine.{HoldsBehind, HoldsFor, KeepsIndex, OperationCalls, refusal_by}
 
 -- A becomes C, on the volume of this number; C has no set, and B is there
 abbrev op : ℕ → List ℕ → List ℕ → Op
@@ -193,6 +195,33 @@ module _ (any : Vol) where
         omega (arith, wrong),
     λ holds. let wrong : 1 ≡ 0 = holds.0 in omega (arith, wrong),
     λ holds. let none : ◌≡◌ {A = Option ℕ} None (Some holds.1.0) = holds.1.1.found in absurd (cc),
+  )
+
+  -- a buffer of the second track with these records, and what an operation leaves in it, where both sets were held and nothing is known to be done
+  abbrev behind : List Record → Buffer
+  behind records = record (index any).buf { records = records }
+
+  abbrev Leaves : Op → Buffer → Type 0
+  Leaves done = HoldsBehind done (with_records both_sets) (λ call. ⊥)
+
+  -- Behind an operation on the only volume the buffer has C in place of A; none on another volume leaves it so, nor one that finds no set.
+  buffer_is_left_by_its_operation :
+      Leaves (op 0 a c) (behind (set_record b ∷ set_record c ∷ []))
+      × (¬ Leaves (op 1 a c) (behind (set_record b ∷ set_record c ∷ [])))
+      × (¬ Leaves (op 0 c a) (behind (set_record b ∷ set_record c ∷ [])))
+  buffer_is_left_by_its_operation = (
+    (
+      refl,
+      record {
+        slot = 3;
+        found = record { found = refl; absent = refl; others = refl };
+        dscb = formats.F1 (f1 a);
+        held = refl;
+        holds = Changed (behind both_sets) (Held (refl, omega arith) refl) (data_set c) c_stands refl (refl, refl) refl;
+      },
+    ),
+    λ leaves. let wrong : 1 ≡ 0 = leaves.0 in omega (arith, wrong),
+    λ leaves. let none : ◌≡◌ {A = Option ℕ} None (Some leaves.1.slot) = leaves.1.found.found in absurd (cc),
   )
 
   -- that A becomes C on the pack of this serial

@@ -21,4 +21,7 @@ mod TaskCases
 mod WordCases
 mod HallCases
 mod IndexCases
+mod CaseRuns
 mod MadeCases
+mod StatementMadeCases
+mod RequestMadeCases

@@ -3,7 +3,7 @@ use Rattle.std.specs.Prelude.{◌≡◌, ◌⊎◌, ◌==◌, ℕ, Bool, if◌th
 use Rattle.std.proofs.Common.{subst, sym}
 use Rattle.ckd_image.specs.Device.{row_of}
 use Rattle.ckd_image.specs.declared.header.Geometry.{Geometry}
-use Rattle.dadsm_ops.specs.Naming.{HoldsRenamed, IsRenameCall, IsToRename, RenameCalls, RenamesEntry, RenamesSome, WritesSlotNamed, refusal_in}
+use Rattle.dadsm_ops.specs.Naming.{HoldsNamed, HoldsRenamed, IsRenameCall, IsToRename, RenameCalls, RenamesEntry, RenamesSome, WritesSlotNamed, refusal_in}
 use Rattle.dadsm_ops.specs.Operations.{ChangesVtoc, image_named}
 use Rattle.dscb_codec.specs.declared.Dscb.{Dscb}
 use Rattle.hall_core.specs.Facts.{Attached, Calls, Facts}
@@ -13,6 +13,7 @@ use Rattle.hall_core.specs.Moments.{Meaning}
 use Rattle.pack_spec.specs.declared.MountErr.{MountErr}
 use Rattle.pack_spec.specs.Volume.{volume_of}
 use Rattle.pack_spec.proofs.Lawful.{lawful_single}
+use Rattle.track_records.specs.Buffers.{Buffer}
 use Rattle.vol_model.specs.Calls.{Status}
 use Rattle.vol_model.specs.Shelf.{IsLawful}
 use Rattle.vol_model.specs.declared.answers.MachErr.{MachErr}
@@ -100,6 +101,10 @@ IsOperationCall (Rename v old new) before done call = (v ≡ 0) × IsRenameCall 
 -- the write of an operation on the only volume, by the index before and by what was done
 abbrev pub IsOperationWrite : Op → Vol → (HallCall → Type 0) → HallCall → Type 0
 IsOperationWrite (Rename v old new) before done call = (v ≡ 0) × WritesSlotNamed old.bytes new.bytes before done call
+
+-- the buffer of an index behind an operation on the only volume that isn't refused, by the index before and by what was done
+abbrev pub HoldsBehind : Op → Vol → (HallCall → Type 0) → Buffer → Type 0
+HoldsBehind (Rename v old new) before done buf = (v ≡ 0) × HoldsNamed old.bytes new.bytes before done buf
 
 -- the buffer of an index holds the slot that an operation on the only volume changes, so that it isn't read
 abbrev pub HoldsFor : Op → Vol → Type 0

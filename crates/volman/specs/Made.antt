@@ -1,27 +1,30 @@
 -- The calls of a run by what they are made with, in this project's profile.
-use Rattle.std.specs.Prelude.{◌≡◌, ◌≢◌, ◌⊎◌, ℕ, List, Option, Some, None, Result, Ok, Err}
+use Rattle.std.specs.Prelude.{◌≡◌, ◌≢◌, ◌⊎◌, ℕ, List, Option, Some, None, Result, Ok, Err, OnOk}
 use Rattle.dscb_codec.specs.declared.Dscb.{Dscb}
-use Rattle.hall_core.specs.Facts.{Attached, unit_of}
-use Rattle.hall_core.specs.Made.{HallCall, HasDone, MakesOnly, Attaching, Printing, Syncing}
+use Rattle.hall_core.specs.Facts.{Attached, Calls, CallsAtMost, unit_of}
+use Rattle.hall_core.specs.Made.{HallCall, HasDone, MakesOnce, MakesOnly, StaysDone, Attaching, Printing, Syncing}
 use Rattle.pack_spec.specs.declared.MountErr.{MountErr}
 use Rattle.pack_spec.specs.declared.MountErr.TheVariants.{Memory, Device}
 use Rattle.util_syntax.specs.declared.statement.Rename.{Rename}
 use Rattle.vol_model.specs.declared.refusals.Refusal.{Refusal}
 use Rattle.vol_model.specs.declared.refusals.Refusal.TheVariants.{NoVolume}
-use Rattle.vtoc_index.specs.Calls.{IsMountRead}
-use Rattle.vtoc_index.specs.Given.{IsIndexGiven}
+use Rattle.vtoc_index.specs.Given.{IsIndexGiven, IsMountRead}
 use Rattle.vtoc_index.specs.Index.{IsOfUnit}
 use Rattle.vtoc_index.specs.declared.vol.Vol.{Vol}
 use Rattle.volman.specs.Lines.{deck_line, names_listing, unit_line, words_line}
 use Rattle.volman.specs.Machine.{IsOperationCall, IsOperationWrite, refusal_by}
 use Rattle.volman.specs.Mount.{IsUnmounted}
 use Rattle.volman.specs.Names.{IsListing, names_in}
-use Rattle.volman.specs.Statement.{IsAnswerPrint, IsCode, answer_line, code_for, operation_on}
+use Rattle.volman.specs.Statement.{answer_line, code_for, operation_on}
 use Rattle.volman.specs.Words.{Request, Names, Run}
 
--- a call that mounts the pack in a file: the file is attached, or the first unit is read, by the size that it has among these
-abbrev pub IsMountCall : List ℕ → List Attached → HallCall → Type 0
-IsMountCall file units call = (call ≡ Attaching file) ⊎ IsMountRead 0 (unit_of units 0).size call
+-- a call that mounts the pack in a file: the file is attached, or the first unit is read, by the size that it has among these and by what reads of it gave
+abbrev pub IsMountCall : List ℕ → List Attached → (HallCall → Type 0) → HallCall → Type 0
+IsMountCall file units done call = (call ≡ Attaching file) ⊎ IsMountRead done 0 (unit_of units 0).size call
+
+-- the status where a file is refused for a reason: that of a fault of the device, which is one; or of want of memory, which is one too, or comes where the reason is to be printed; or that of a reason that is printed, or that the printer failed
+abbrev pub IsRefusalStatus : MountErr → ℕ → Type 0
+IsRefusalStatus why status = ((why ≡ Device) × (status ≡ 22)) ⊎ ((why ≢ Device) × ((status ≡ 25) ⊎ ((why ≢ Memory) × ((status ≡ 21) ⊎ (status ≡ 24)))))
 
 -- the status of a fault of the device or of the printer, or of want of memory
 abbrev pub IsCutOff : ℕ → Type 0
@@ -40,39 +43,72 @@ abbrev pub IsOutcome : Vol → Rename → (HallCall → Type 0) → Result (Unit
 IsOutcome vol s done (Ok x) = (vol.serial ≡ s.serial) × HasDone (IsOperationWrite (operation_on s 0) vol done) done
 IsOutcome vol s done (Err r) = ((vol.serial ≢ s.serial) × (r ≡ NoVolume)) ⊎ ((vol.serial ≡ s.serial) × (refusal_by (operation_on s 0) vol.slots.items ≡ Some r))
 
--- A statement was answered with this condition code, by the index of the pack: its line was printed, which says what it comes to.
-pub record HasAnswered (vol : Vol) (s : Rename) (code : ℕ) (done : HallCall → Type 0) : Type 0 where
-  pub outcome : Result (Unit {0}) Refusal
-  pub is : IsOutcome vol s done outcome
-  pub code_is : code_for outcome ≡ code
-  pub line : done (Printing (answer_line s outcome))
-
--- a call that a statement may make on a pack that is mounted, by the index: one of its operation, where the volume has its serial, the print of the line that answers it, or a sync where that was printed
+-- a call of the operation of a statement on a pack that has its serial, by the index and by what was done
 abbrev pub IsStatementCall : Vol → Rename → (HallCall → Type 0) → HallCall → Type 0
-IsStatementCall vol s done call =
-    ((vol.serial ≡ s.serial) × IsOperationCall (operation_on s 0) vol done call)
-    ⊎ (IsAnswerPrint s (IsOutcome vol s done) call
-    ⊎ ((call ≡ Syncing) × ((code : ℕ) × HasAnswered vol s code done)))
+IsStatementCall vol s done call = (vol.serial ≡ s.serial) × IsOperationCall (operation_on s 0) vol done call
 
--- What was called over the file of a pack, and said with this status. Where the pack was mounted, it is all by one index, which is that of its unit as the reads gave it; where it wasn't, it is for a reason that the reads gave, or the file is missing, and that is printed, unless it is a fault of the device or want of memory.
-pub data OnPack (file : List ℕ) (units : List Attached) (status : ℕ) (may : Vol → HallCall → Type 0) (says : Vol → Type 0) (old new : HallCall → ℕ) (done : HallCall → Type 0) : Type 0 where
-  Refuses : (why : MountErr) → IsUnmounted done (unit_of units 0).size why → MakesOnly (λ call. IsMountCall file units call ⊎ IsRefusalPrint file why call) old new → (status ≡ 21 → done (Printing (unit_line file why))) → (status ≡ 21) ⊎ IsCutOff status → OnPack file units status may says old new done
-  Mounts : (vol : Vol) → IsOfUnit units vol → IsIndexGiven done (unit_of units vol.unit).size vol → MakesOnly (λ call. IsMountCall file units call ⊎ may vol call) old new → (IsCode status → says vol) → IsCode status ⊎ IsCutOff status → OnPack file units status may says old new done
+-- the print of the line that answers a statement which comes to this
+abbrev pub IsLinePrint : Rename → Result (Unit {0}) Refusal → HallCall → Type 0
+IsLinePrint s outcome call = call ≡ Printing (answer_line s outcome)
 
--- Nothing was called but the print of this text; with this status it was printed, and else the printer failed, or memory ran out.
-pub record SaysOnly (text : List ℕ) (code status : ℕ) (old new : HallCall → ℕ) (done : HallCall → Type 0) : Type 0 where
-  pub made : MakesOnly (λ call. call ≡ Printing text) old new
-  pub said : status ≡ code → done (Printing text)
-  pub status_is : (status ≡ code) ⊎ ((status ≡ 24) ⊎ (status ≡ 25))
+-- Over a hall that is reached call by call: how often each call was made up to it, which were done, what holds behind a sync, and how many were made.
+module _ {T : Type 0} (made : T → HallCall → ℕ) (done : T → HallCall → Type 0) (synced : T → Type 0) (calls : T → Calls) where
+  -- From one hall to another no call was made but these, and what was done before is done still.
+  pub record Makes (these : HallCall → Type 0) (old new : T) : Type 0 where
+    pub only : MakesOnly these (made old) (made new)
+    pub kept : StaysDone (done old) (done new)
 
--- What was called where a deck is run on the file of a pack, which may be one of these: nothing where the cards couldn't be read, and the print of one text where it is no statement.
-pub data OnDeck (decks : Option Rename → Type 0) (file : List ℕ) (units : List Attached) (status : ℕ) (old new : HallCall → ℕ) (done : HallCall → Type 0) : Type 0 where
-  Unread : status ≡ 23 → MakesOnly (λ call. ⊥) old new → OnDeck decks file units status old new done
-  Formless : decks None → SaysOnly deck_line 26 status old new done → OnDeck decks file units status old new done
-  Stated : (s : Rename) → decks (Some s) → OnPack file units status (λ vol. IsStatementCall vol s done) (λ vol. HasAnswered vol s status done) old new done → OnDeck decks file units status old new done
+  -- And none of them was made twice.
+  pub record MakesEach (these : HallCall → Type 0) (old new : T) : Type 0 where
+    pub only : MakesOnly these (made old) (made new)
+    pub once : MakesOnce (made old) (made new)
+    pub kept : StaysDone (done old) (done new)
 
--- what was called, and said with this status, where the words ask for this, the deck may be one of these, and these units are attached in the end
-abbrev pub OnRequest : Option Request → (Option Rename → Type 0) → List Attached → ℕ → (HallCall → ℕ) → (HallCall → ℕ) → (HallCall → Type 0) → Type 0
-OnRequest None decks units status old new done = SaysOnly words_line 20 status old new done
-OnRequest (Some (Names file)) decks units status old new done = OnPack file units status (λ vol. IsNamesPrint vol.slots.items) (λ vol. HasDone (IsNamesPrint vol.slots.items) done) old new done
-OnRequest (Some (Run file)) decks units status old new done = OnDeck decks file units status old new done
+  -- Nothing was called but the print of this text; with this status it was printed, and else the status is that of a fault of the printer, or of want of memory.
+  pub record SaysOnly (text : List ℕ) (code status : ℕ) (old new : T) : Type 0 where
+    pub print : MakesEach (λ call. call ≡ Printing text) old new
+    pub said : status ≡ code → done new (Printing text)
+    pub status_is : (status ≡ code) ⊎ ((status ≡ 24) ⊎ (status ≡ 25))
+
+  -- Nothing was called but the print of why a file is refused; with the status of that it was printed.
+  pub record SaysWhy (file : List ℕ) (why : MountErr) (status : ℕ) (old new : T) : Type 0 where
+    pub print : MakesEach (IsRefusalPrint file why) old new
+    pub said : status ≡ 21 → done new (Printing (unit_line file why))
+    pub status_is : IsRefusalStatus why status
+
+  -- Nothing was called but the print of the names in an index; with status 0 they were printed, and else the status is that of a fault of the printer, or of want of memory.
+  pub record SaysNames (vol : Vol) (status : ℕ) (old new : T) : Type 0 where
+    pub print : MakesEach (IsNamesPrint vol.slots.items) old new
+    pub said : status ≡ 0 → HasDone (IsNamesPrint vol.slots.items) (done new)
+    pub status_is : (status ≡ 0) ⊎ ((status ≡ 24) ⊎ (status ≡ 25))
+
+  -- what a statement came to on a pack, by the index: its slot was written and synced, or it is refused
+  abbrev pub CameTo : Vol → Rename → T → Result (Unit {0}) Refusal → Type 0
+  CameTo vol s behind outcome = IsOutcome vol s (done behind) outcome × OnOk outcome (synced behind)
+
+  -- What was called behind the operation of a statement on a pack: nothing, with the status of a fault of the device or of want of memory; or the print of the line of what it came to, and where that was done, a sync. The status is the condition code where that was done too.
+  pub data EndsStatement (vol : Vol) (s : Rename) (status : ℕ) (behind new : T) : Type 0 where
+    Unanswered : Makes (λ call. ⊥) behind new → (status ≡ 22) ⊎ (status ≡ 25) → EndsStatement vol s status behind new
+    Unprinted : (outcome : Result (Unit {0}) Refusal) → CameTo vol s behind outcome → Makes (IsLinePrint s outcome) behind new → status ≡ 24 → EndsStatement vol s status behind new
+    Answered : (outcome : Result (Unit {0}) Refusal) → CameTo vol s behind outcome → (said : T) → Makes (IsLinePrint s outcome) behind said → done said (Printing (answer_line s outcome)) → MakesEach (λ call. call ≡ Syncing) said new → ((status ≡ code_for outcome) × synced new) ⊎ (status ≡ 22) → EndsStatement vol s status behind new
+
+  -- What was called for a statement on a pack, by its index: its operation, and then what ends the statement.
+  pub data OnStatement (vol : Vol) (s : Rename) (status : ℕ) (old new : T) : Type 0 where
+    Operates : (behind : T) → Makes (IsStatementCall vol s (done behind)) old behind → EndsStatement vol s status behind new → OnStatement vol s status old new
+
+  -- What was called over the file of a pack: the calls that mount it, and then, where it isn't mounted, the print of why, as its size, reads or an attachment gave the reason; and where it is, what acts by its index, as reads gave that.
+  pub data OnPack (file : List ℕ) (units : List Attached) (status : ℕ) (acts : Vol → T → Type 0) (old new : T) : Type 0 where
+    Refuses : (mid : T) → MakesEach (IsMountCall file units (done mid)) old mid → (why : MountErr) → IsUnmounted (done mid) file units why → SaysWhy file why status mid new → OnPack file units status acts old new
+    Mounts : (mid : T) → MakesEach (IsMountCall file units (done mid)) old mid → (vol : Vol) → IsOfUnit units vol → IsIndexGiven (done mid) (unit_of units vol.unit).size vol → acts vol mid → OnPack file units status acts old new
+
+  -- What was called where a deck is run on the file of a pack, which may be one of these: nothing where the cards couldn't be read, and the print of one text where it is no statement; and for a statement on a pack that is mounted, one read, one write, two syncs and one print at most.
+  pub data OnDeck (decks : Option Rename → Type 0) (file : List ℕ) (units : List Attached) (status : ℕ) (old new : T) : Type 0 where
+    Unread : status ≡ 23 → Makes (λ call. ⊥) old new → OnDeck decks file units status old new
+    Formless : decks None → SaysOnly deck_line 26 status old new → OnDeck decks file units status old new
+    Stated : (s : Rename) → decks (Some s) → OnPack file units status (λ vol mid. OnStatement vol s status mid new × CallsAtMost 1 1 2 1 (calls mid) (calls new)) old new → OnDeck decks file units status old new
+
+  -- what was called where the words ask for this, the deck may be one of these, and these units are attached in the end
+  abbrev pub OnRequest : Option Request → (Option Rename → Type 0) → List Attached → ℕ → T → T → Type 0
+  OnRequest None decks units status old new = SaysOnly words_line 20 status old new
+  OnRequest (Some (Names file)) decks units status old new = OnPack file units status (λ vol mid. SaysNames vol status mid new) old new
+  OnRequest (Some (Run file)) decks units status old new = OnDeck decks file units status old new

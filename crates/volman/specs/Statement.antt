@@ -1,7 +1,7 @@
 -- What a RENAME statement does on a shelf, and the line that answers it, by Utilities GC28-6586 and this project's profile.
 use Rattle.std.specs.Prelude.{◌≡◌, ◌⊎◌, ℕ, ◌≤◌, List, [], ◌∷◌, codes, IsTrue, Option, Some, None, Result, Ok, Err}
 use Rattle.hall_core.specs.Files.{File}
-use Rattle.hall_core.specs.Made.{HallCall, Printing}
+use Rattle.hall_core.specs.Made.{HallCall, MakesOnly, Printing, StaysDone}
 use Rattle.hall_core.specs.Moments.{Meaning}
 use Rattle.util_syntax.specs.declared.statement.Rename.{Rename}
 use Rattle.util_syntax.specs.Lines.{result_line}
@@ -9,6 +9,8 @@ use Rattle.vol_model.specs.Calls.{Keeps, Status}
 use Rattle.vol_model.specs.declared.contents.Shelf.{Shelf}
 use Rattle.vol_model.specs.declared.refusals.Refusal.{Refusal}
 use Rattle.vol_model.specs.declared.refusals.Refusal.TheVariants.{NoVolume}
+use Rattle.vol_model.specs.declared.answers.Stop.{Stop}
+use Rattle.vol_model.specs.declared.answers.Stop.TheVariants.{Device, Memory, Print}
 use Rattle.vol_model.specs.declared.requests.Op.{Op}
 use Rattle.vol_model.specs.declared.requests.Op.TheVariants as operations
 use Rattle.vol_model.specs.Events.{Item}
@@ -23,14 +25,22 @@ abbrev pub ComesTo : Option ℕ → (ℕ → Type 0) → (ℕ → Refusal → Ty
 ComesTo volume done refuses (Ok x) = (v : ℕ) × (volume ≡ Some v) × done v
 ComesTo volume done refuses (Err r) = ((volume ≡ None) × (r ≡ NoVolume)) ⊎ ((v : ℕ) × (volume ≡ Some v) × refuses v r)
 
--- the print of the line that answers it, by what it may come to
-abbrev pub IsAnswerPrint : Rename → (Result (Unit {0}) Refusal → Type 0) → HallCall → Type 0
-IsAnswerPrint s comes call = (outcome : Result (Unit {0}) Refusal) × comes outcome × (call ≡ Printing (answer_line s outcome))
-
 -- its condition code
 abbrev pub code_for : Result (Unit {0}) Refusal → ℕ
 code_for (Ok done) = 0
 code_for (Err r) = 8
+
+-- what was called behind the operation of a statement, by what may have come of that and by the answer: the print of the line, which was done where a condition code is given; or nothing
+abbrev pub EndsInLine : Rename → (Result (Unit {0}) Refusal → Type 0) → (HallCall → Type 0) → (HallCall → ℕ) → (HallCall → ℕ) → Result ℕ Stop → Type 0
+EndsInLine s comes done old new (Ok code) =
+    (outcome : Result (Unit {0}) Refusal) × comes outcome × (code_for outcome ≡ code) × MakesOnly (λ call. call ≡ Printing (answer_line s outcome)) old new × done (Printing (answer_line s outcome))
+EndsInLine s comes done old new (Err Print) = (outcome : Result (Unit {0}) Refusal) × comes outcome × MakesOnly (λ call. call ≡ Printing (answer_line s outcome)) old new
+EndsInLine s comes done old new (Err Device) = MakesOnly (λ call. ⊥) old new
+EndsInLine s comes done old new (Err Memory) = MakesOnly (λ call. ⊥) old new
+
+-- What was called for a statement on a machine: its operation, by what it may make up to the machine behind it, and then what ends the statement, by what may have come of that; what was done at one of these machines is done still at the next.
+pub data RunsStatement {M : Type 0} (made : M → HallCall → ℕ) (done : M → HallCall → Type 0) (may : M → HallCall → Type 0) (comes : M → Result (Unit {0}) Refusal → Type 0) (s : Rename) (result : Result ℕ Stop) (old new : M) : Type 0 where
+  Ends : (behind : M) → MakesOnly (may behind) (made old) (made behind) → EndsInLine s (comes behind) (done new) (made behind) (made new) result → StaysDone (done old) (done behind) → StaysDone (done behind) (done new) → RunsStatement made done may comes s result old new
 
 -- a condition code: that of a statement that is done, or of one that is refused
 abbrev pub IsCode : ℕ → Type 0
@@ -58,7 +68,7 @@ item_on shelf s (Some v) = item_by s (operation_on s v) (step shelf (operation_o
 unfoldable pub item_of : Shelf → Rename → Item
 item_of shelf s = item_on shelf s (number_of shelf s.serial.bytes)
 
--- A machine after which nothing but prints was done, with what it meant and promised of stops then and now: it was sound, and stood on what it stands on, and what it promised is promised still.
+-- A machine and what another means and promises of stops, such as one after which nothing but prints was done: it was sound, and stood on what it stands on, the shelf is the same, and what it promised is promised still.
 pub record OnlyPrints (first before : Status) (then now : Meaning Shelf) (promised promises : List Op → ℕ → List File → Type 0) : Type 0 where
   pub sound : IsTrue before.is_sound
   pub base : before.base ≡ first.base

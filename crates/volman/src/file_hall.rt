@@ -157,6 +157,7 @@ impl<R: Files<File = File> + Print> Hall for FileHall<'_, R> {
     ghost use Rattle.std.proofs.lemmas.Bool.{false≢true};
     ghost use Rattle.hall_core.specs.Facts.{unit_of, IsAttached, DeviceCall, PrintCall, AttachCall, NotedCall, Rose, uncounted, AttachesOnce, CallsAtMost};
     ghost use Rattle.hall_core.specs.Files.{untold, HasBytesAt, Attaches, AfterWrite, AfterSync, AfterPrint};
+    ghost use Rattle.hall_core.specs.Made.{MakesOnce};
     ghost use Rattle.hall_core.specs.Moments.{Same};
     ghost use Rattle.volman.specs.FileHall.{facts_of, notes_of};
 
@@ -279,6 +280,7 @@ impl<R: Files<File = File> + Print> Hall for FileHall<'_, R> {
         ensures rose { Rose (facts_of self.old).dev_faults (facts_of self.new).dev_faults }
         ensures call { NotedCall (facts_of self.old) (facts_of self.new) }
         ensures calls { CallsAtMost 0 0 0 0 uncounted uncounted }
+        ensures each { MakesOnce (λ _. 0) (λ _. 0) }
         ensures told { IsTrue false → Same untold untold }
         ensures clock { IsTrue false → untold.clock ≡ untold.clock }
         ensures facts { IsTrue false → facts_of self.new ≡ facts_of self.old }

@@ -12,7 +12,7 @@ ghost use Rattle.vol_model.specs.Shelf.{number_of, step};
 ghost use Rattle.vtoc_index.specs.Index.{IsMounted, IsOfUnit};
 ghost use Rattle.vtoc_index.specs.Kept.{IsKept};
 ghost use Rattle.vtoc_index.proofs.KeptProps.{kept_props};
-ghost use Rattle.volman.specs.Machine.{ChangesOnlyNames, HoldsFor, IsOperationCall, IsOperationWrite, KeepsIndex, OperationCalls, lawful_in, refusal_by, shelf_named, status_of};
+ghost use Rattle.volman.specs.Machine.{ChangesOnlyNames, HoldsBehind, HoldsFor, IsOperationCall, IsOperationWrite, KeepsIndex, OperationCalls, lawful_in, refusal_by, shelf_named, status_of};
 
 use dadsm_ops::rename;
 use ebcdic_names::{Dsn, Serial};
@@ -90,8 +90,10 @@ impl<H: Hall> PackMachine<H> {
         ensures done { OnOk result (HasDone (IsOperationWrite (Op.Rename v old.now new.now) self.old.vol (H.done self.new.hall)) (H.done self.new.hall)) }
         ensures held { HoldsFor (Op.Rename v old.now new.now) self.old.vol → CallsAtMost 0 1 1 0 (H.calls self.old.hall) (H.calls self.new.hall) }
         ensures refused { (r : Refusal) → IsErrOf result (MachErr.Refused r) → CallsAtMost 0 0 0 0 (H.calls self.old.hall) (H.calls self.new.hall) }
+        ensures untouched { (r : Refusal) → IsErrOf result (MachErr.Refused r) → MakesOnly (λ call. ⊥) (H.made self.old.hall) (H.made self.new.hall) }
         ensures memory { IsErrOf result MachErr.Memory → ⊥ }
         ensures index { KeepsIndex (Op.Rename v old.now new.now) self.old.vol self.new.vol result }
+        ensures buffer { ((r : Refusal) → ¬ IsErrOf result (MachErr.Refused r)) → HoldsBehind (Op.Rename v old.now new.now) self.old.vol (H.done self.new.hall) self.new.vol.buf }
         ensures again { OperationCalls (Op.Rename v old.now new.now) self.old.vol self.new.vol (H.calls self.old.hall) (H.calls self.new.hall) result }
         ensures ahead { IsTrue H.tells → OnErr result (IsBeforeOr self.old.vol (image_of (H.meaning self.new.hall).state (H.facts self.new.hall) self.old.vol.unit) self.new.vol) }
         ensures print { IsErrOf result MachErr.Print → ⊥ }
@@ -130,6 +132,8 @@ impl<H: Hall> Machine for PackMachine<H> {
 
     ghost has_done = { λ first op m. HasDone (IsOperationWrite op first.vol (H.done m.hall)) (H.done m.hall) };
 
+    ghost behind_done = { λ m. H.behind_sync m.hall };
+
     ghost refuses = { λ m op refusal. refusal_by op m.vol.slots.items ≡ Some refusal };
 
     ghost asked = { λ m. asked_nothing };
@@ -167,8 +171,10 @@ impl<H: Hall> Machine for PackMachine<H> {
         ensures reason { (r : Refusal) → IsErrOf result (MachErr.Refused r) → refusal_by op.now self.old.vol.slots.items ≡ Some r }
         ensures held { HoldsFor op.now self.old.vol → CallsAtMost 0 1 1 0 (H.calls self.old.hall) (H.calls self.new.hall) }
         ensures refused { (r : Refusal) → IsErrOf result (MachErr.Refused r) → CallsAtMost 0 0 0 0 (H.calls self.old.hall) (H.calls self.new.hall) }
+        ensures untouched { (r : Refusal) → IsErrOf result (MachErr.Refused r) → MakesOnly (λ call. ⊥) (H.made self.old.hall) (H.made self.new.hall) }
         ensures memory { IsErrOf result MachErr.Memory → ⊥ }
         ensures index { KeepsIndex op.now self.old.vol self.new.vol result }
+        ensures buffer { ((r : Refusal) → ¬ IsErrOf result (MachErr.Refused r)) → HoldsBehind op.now self.old.vol (H.done self.new.hall) self.new.vol.buf }
         ensures again { OperationCalls op.now self.old.vol self.new.vol (H.calls self.old.hall) (H.calls self.new.hall) result }
         ensures ahead { IsTrue H.tells → OnErr result (IsBeforeOr self.old.vol (image_of (H.meaning self.new.hall).state (H.facts self.new.hall) self.old.vol.unit) self.new.vol) }
         ensures print { IsErrOf result MachErr.Print → ⊥ }
@@ -186,8 +192,6 @@ impl<H: Hall> Machine for PackMachine<H> {
         ensures calls { CallsAtMost 0 0 0 1 (H.calls self.old.hall) (H.calls self.new.hall) }
         ensures made { MakesOnly (λ call. call ≡ Printing bytes.now) (H.made self.old.hall) (H.made self.new.hall) }
         ensures kept { StaysDone (H.done self.old.hall) (H.done self.new.hall) }
-        ensures still { (first : PackMachine H H.Hall) (op : Op) → HasDone (IsOperationWrite op first.vol (H.done self.old.hall)) (H.done self.old.hall) → HasDone (IsOperationWrite op first.vol (H.done self.new.hall)) (H.done self.new.hall) }
-        ensures leaves { (first : PackMachine H H.Hall) (op : Op) (call : HallCall) → IsOperationCall op first.vol (H.done self.old.hall) call → IsOperationCall op first.vol (H.done self.new.hall) call }
         ensures done { OnOk result (H.done self.new.hall (Printing bytes.now)) }
         ensures index { self.new.vol ≡ self.old.vol }
         ensures error { IfErr result (λ e. e ≡ MachErr.Print) }

@@ -1,7 +1,7 @@
 //! A file, attached and read as a pack.
 ghost use Rattle.std.specs.Prelude.{◌≡◌, ◌⊎◌, ◌≤◌, ◌+◌, [], IsTrue, IsErrOf, IfOk, IfErr};
 ghost use Rattle.hall_core.specs.Facts.{AttachesOnce, Rose, unit_of};
-ghost use Rattle.hall_core.specs.Made.{MakesOnly};
+ghost use Rattle.hall_core.specs.Made.{MakesOnce, MakesOnly, StaysDone};
 ghost use Rattle.hall_core.specs.Moments.{Same};
 ghost use Rattle.dadsm_ops.specs.Operations.{image_named};
 ghost use Rattle.vtoc_index.specs.Calls.{reads_to_mount};
@@ -29,7 +29,7 @@ pub fn mount<H: Hall>(alloc: Global, hall: &mut H, file: &str) -> Result<Vol, Mo
     ensures refused { IsTrue H.tells → IfErr result (RefusesFile file.now (H.meaning hall.old).state) }
     ensures unit { IfOk result (λ vol. IsOfUnit (H.facts hall.new).units vol × ((unit_of (H.facts hall.new).units vol.unit).name ≡ file.now)) }
     ensures given { IfOk result (λ vol. IsIndexGiven (H.done hall.new) (unit_of (H.facts hall.new).units vol.unit).size vol) }
-    ensures reason { IfErr result (IsUnmounted (H.done hall.new) (unit_of (H.facts hall.new).units 0).size) }
+    ensures reason { IfErr result (IsUnmounted (H.done hall.new) file.now (H.facts hall.new).units) }
     ensures last { IfOk result (λ vol. vol.buf.track + 1 ≡ vol.vtoc.start + vol.vtoc.len) }
     ensures held { IfOk result HoldsItsTrack }
     ensures told { IsTrue H.tells → Same (H.meaning hall.old) (H.meaning hall.new) }
@@ -38,7 +38,9 @@ pub fn mount<H: Hall>(alloc: Global, hall: &mut H, file: &str) -> Result<Vol, Mo
     ensures references { (H.facts hall.new).references ≡ (H.facts hall.old).references }
     ensures prints { (H.facts hall.new).print_faults ≡ (H.facts hall.old).print_faults }
     ensures calls { AttachesOnce 259 0 0 0 (H.calls hall.old) (H.calls hall.new) }
-    ensures made { MakesOnly (IsMountCall file.now (H.facts hall.new).units) (H.made hall.old) (H.made hall.new) }
+    ensures made { MakesOnly (IsMountCall file.now (H.facts hall.new).units (H.done hall.new)) (H.made hall.old) (H.made hall.new) }
+    ensures each { MakesOnce (H.made hall.old) (H.made hall.new) }
+    ensures kept { StaysDone (H.done hall.old) (H.done hall.new) }
     ensures reads { IsTrue H.tells → AttachesOnce (reads_to_mount (image_named (H.meaning hall.old).state file.now)) 0 0 0 (H.calls hall.old) (H.calls hall.new) }
     ensures once { IfOk result (λ vol. AttachesOnce (vol.vtoc.len + 2) 0 0 0 (H.calls hall.old) (H.calls hall.new)) }
     ensures later { (H.facts hall.old).dev_faults ≤ (H.facts hall.new).dev_faults }

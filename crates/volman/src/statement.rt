@@ -6,7 +6,7 @@ ghost use Rattle.vol_model.specs.Calls.{AsksAtMost, Keeps};
 ghost use Rattle.vol_model.specs.Events.{Do, Say, events_in, shelf_behind};
 ghost use Rattle.vol_model.specs.Runs.{Runs, RunCall};
 ghost use Rattle.vol_model.specs.Shelf.{number_of};
-ghost use Rattle.volman.specs.Statement.{ComesTo, IsAnswerPrint, IsCode, OnlyPrints, answer_line, code_for, item_of, item_on, operation_on};
+ghost use Rattle.volman.specs.Statement.{ComesTo, IsCode, OnlyPrints, RunsStatement, answer_line, code_for, item_of, item_on, operation_on};
 
 use std::alloc::Global;
 use util_syntax::{Rename, result_line};
@@ -41,9 +41,8 @@ pub fn run_rename<M: Machine>(
     ensures line { IsTrue M.tells → IsErrOf result Stop.Print → (before : M) × OnlyPrints (M.status machine.old) (M.status before) (M.meaning before) (M.meaning machine.new) (M.promise before) (M.promise machine.new) }
     ensures promise { IsTrue M.tells → Keeps (M.meaning machine.old).clock (item_of (M.meaning machine.old).state statement.now).operations (M.promise machine.old) (M.promise machine.new) }
     ensures calls { CallsAtMost 1 1 1 1 (M.calls machine.old) (M.calls machine.new) }
-    ensures made { MakesOnly (λ call. ((v : ℕ) × (volume ≡ Some v) × M.may_make machine.old (operation_on statement.now v) machine.new call) ⊎ IsAnswerPrint statement.now (ComesTo volume (λ v. M.has_done machine.old (operation_on statement.now v) machine.new) (λ v r. M.refuses machine.old (operation_on statement.now v) r)) call) (M.made machine.old) (M.made machine.new) }
+    ensures made { RunsStatement M.made M.done (λ behind call. (v : ℕ) × (volume ≡ Some v) × M.may_make machine.old (operation_on statement.now v) behind call) (λ behind. ComesTo volume (λ v. M.has_done machine.old (operation_on statement.now v) behind × M.behind_done behind) (λ v r. M.refuses machine.old (operation_on statement.now v) r)) statement.now result machine.old machine.new }
     ensures kept { StaysDone (M.done machine.old) (M.done machine.new) }
-    ensures answered { IfOk result (λ code. (outcome : Result (Unit {0}) Refusal) × ComesTo volume (λ v. M.has_done machine.old (operation_on statement.now v) machine.new) (λ v r. M.refuses machine.old (operation_on statement.now v) r) outcome × (code_for outcome ≡ code) × M.done machine.new (Printing (answer_line statement.now outcome))) }
     ensures held { (v : ℕ) → volume ≡ Some v → M.holds machine.old (operation_on statement.now v) → CallsAtMost 0 1 1 1 (M.calls machine.old) (M.calls machine.new) }
     ensures refused { IfOk result (λ code. code ≡ 8 → CallsAtMost 0 0 0 1 (M.calls machine.old) (M.calls machine.new)) }
     ensures idle { IsTrue M.tells → (item_of (M.meaning machine.old).state statement.now).operations ≡ [] → CallsAtMost 0 0 0 1 (M.calls machine.old) (M.calls machine.new) }
@@ -76,7 +75,7 @@ fn rename<M: Machine>(
     ensures calls { CallsAtMost 1 1 1 0 (M.calls machine.old) (M.calls machine.new) }
     ensures made { MakesOnly (λ call. (v : ℕ) × (volume ≡ Some v) × M.may_make machine.old (operation_on statement.now v) machine.new call) (M.made machine.old) (M.made machine.new) }
     ensures kept { StaysDone (M.done machine.old) (M.done machine.new) }
-    ensures comes { IfOk result (ComesTo volume (λ v. M.has_done machine.old (operation_on statement.now v) machine.new) (λ v r. M.refuses machine.old (operation_on statement.now v) r)) }
+    ensures comes { IfOk result (ComesTo volume (λ v. M.has_done machine.old (operation_on statement.now v) machine.new × M.behind_done machine.new) (λ v r. M.refuses machine.old (operation_on statement.now v) r)) }
     ensures held { (v : ℕ) → volume ≡ Some v → M.holds machine.old (operation_on statement.now v) → CallsAtMost 0 1 1 0 (M.calls machine.old) (M.calls machine.new) }
     ensures refused { IfOk result (λ outcome. OnErr outcome (CallsAtMost 0 0 0 0 (M.calls machine.old) (M.calls machine.new))) }
     ensures idle { IsTrue M.tells → (item_on (M.meaning machine.old).state statement.now volume).operations ≡ [] → CallsAtMost 0 0 0 0 (M.calls machine.old) (M.calls machine.new) }
@@ -113,10 +112,9 @@ fn say<M: Machine>(machine: &mut M, line: &[u8]) -> Result<(), Stop>
     ensures calls { CallsAtMost 0 0 0 1 (M.calls machine.old) (M.calls machine.new) }
     ensures made { MakesOnly (λ call. call ≡ Printing line.now) (M.made machine.old) (M.made machine.new) }
     ensures kept { StaysDone (M.done machine.old) (M.done machine.new) }
-    ensures still { (first : M) (op : Op) → M.has_done first op machine.old → M.has_done first op machine.new }
-    ensures leaves { (first : M) (op : Op) (call : HallCall) → M.may_make first op machine.old call → M.may_make first op machine.new call }
     ensures done { OnOk result (M.done machine.new (Printing line.now)) }
     ensures memory { IsErrOf result Stop.Memory → CallsAtMost 0 0 0 0 (M.calls machine.old) (M.calls machine.new) }
+    ensures unmade { IsErrOf result Stop.Memory → MakesOnly (λ call. ⊥) (M.made machine.old) (M.made machine.new) }
     ensures once { AsksAtMost 0 1 (M.asked machine.old) (M.asked machine.new) }
     ensures device { IsErrOf result Stop.Device → ⊥ }
     ensures promise { IsTrue M.tells → Keeps (M.meaning machine.old).clock [] (M.promise machine.old) (M.promise machine.new) }

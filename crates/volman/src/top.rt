@@ -2,7 +2,7 @@
 ghost use Rattle.std.specs.Prelude.{◌≡◌, ◌≢◌, ◌≤◌, ◌+◌, ◌⊎◌, [], List, ℕ, drop, length, map, string_bytes, IsTrue, IfOk, OnErr, Some, None, Ok, Err};
 ghost use Rattle.hall_core.specs.Facts.{AttachesOnce, CallsAtMost, Rose};
 ghost use Rattle.hall_core.specs.Files.{file_of};
-ghost use Rattle.hall_core.specs.Made.{HasDone, MakesOnly, Printing, StaysDone};
+ghost use Rattle.hall_core.specs.Made.{MakesOnce, MakesOnly, Printing, StaysDone};
 ghost use Rattle.dadsm_ops.specs.Operations.{image_named};
 ghost use Rattle.pack_spec.specs.Volume.{volume_of};
 ghost use Rattle.vol_model.specs.declared.contents.Volume.{Volume};
@@ -12,7 +12,7 @@ ghost use Rattle.vtoc_index.specs.declared.vol.Vol.{Vol};
 ghost use Rattle.volman.specs.Deck.{TakesAtMost, deck_of};
 ghost use Rattle.volman.specs.Lines.{names_listing, unit_line};
 ghost use Rattle.volman.specs.Machine.{shelf_with};
-ghost use Rattle.volman.specs.Made.{HasAnswered, IsCutOff, IsNamesPrint, IsRefusalPrint, IsStatementCall, OnPack, OnRequest};
+ghost use Rattle.volman.specs.Made.{IsCutOff, IsRefusalPrint, IsRefusalStatus, OnPack, OnRequest, OnStatement, SaysNames};
 ghost use Rattle.volman.specs.Mount.{IsOnLastTrack};
 ghost use Rattle.volman.specs.Names.{IsListing, names_in};
 ghost use Rattle.hall_core.specs.Moments.{IsDurable};
@@ -122,7 +122,7 @@ pub fn volman<C: Cards, H: Hall>(
     // that is refused. With a fault of the printer there is no sync behind the print, and where memory ran out no print,
     // nor, over a hall that tells, a write or a sync unless a file is changed.
     ensures calls { AttachesOnce 260 1 2 1 (H.calls hall.old) (H.calls hall.new) }
-    ensures made { OnRequest (asked_in words) (λ deck. IsTrue C.tells → deck_of (C.left cards.old) ≡ deck) (H.facts hall.new).units result (H.made hall.old) (H.made hall.new) (H.done hall.new) }
+    ensures made { OnRequest H.made H.done H.behind_sync H.calls (asked_in words) (λ deck. IsTrue C.tells → deck_of (C.left cards.old) ≡ deck) (H.facts hall.new).units result hall.old hall.new }
     ensures no_statement { ((file : List ℕ) → asked_in words ≢ Some (Run file)) → AttachesOnce 259 0 0 1 (H.calls hall.old) (H.calls hall.new) }
     ensures unlisted { ((file : List ℕ) → asked_in words ≢ Some (Run file)) → (result ≡ 22) ⊎ (result ≡ 25) → AttachesOnce 259 0 0 0 (H.calls hall.old) (H.calls hall.new) }
     ensures unbegun { IsUnbegun result → AttachesOnce 259 0 0 1 (H.calls hall.old) (H.calls hall.new) }
@@ -175,6 +175,7 @@ fn end<H: Hall>(hall: &mut H, text: &[u8], status: Status) -> u8
     ensures later { Later (H.facts hall.old) (H.facts hall.new) }
     ensures calls { CallsAtMost 0 0 0 1 (H.calls hall.old) (H.calls hall.new) }
     ensures made { MakesOnly (λ call. call ≡ Printing text.now) (H.made hall.old) (H.made hall.new) }
+    ensures each { MakesOnce (H.made hall.old) (H.made hall.new) }
     ensures kept { StaysDone (H.done hall.old) (H.done hall.new) }
     ensures done { result ≢ 24 → H.done hall.new (Printing text.now) }
     ensures devices { (H.facts hall.new).dev_faults ≡ (H.facts hall.old).dev_faults }
@@ -194,7 +195,7 @@ fn names<H: Hall>(alloc: Global, hall: &mut H, file: &str) -> u8
     ensures files { IsTrue H.tells → LeavesFiles (H.meaning hall.old) (H.meaning hall.new) }
     ensures silent { IsTrue H.tells → (result ≡ 22) ⊎ (result ≡ 25) → (H.meaning hall.new).printed ≡ (H.meaning hall.old).printed }
     ensures calls { AttachesOnce 259 0 0 1 (H.calls hall.old) (H.calls hall.new) }
-    ensures made { OnPack file.now (H.facts hall.new).units result (λ vol. IsNamesPrint vol.slots.items) (λ vol. HasDone (IsNamesPrint vol.slots.items) (H.done hall.new)) (H.made hall.old) (H.made hall.new) (H.done hall.new) }
+    ensures made { OnPack H.made H.done H.behind_sync H.calls file.now (H.facts hall.new).units result (λ vol mid. SaysNames H.made H.done H.behind_sync H.calls vol result mid hall.new) hall.old hall.new }
     ensures unprinted { (result ≡ 22) ⊎ (result ≡ 25) → AttachesOnce 259 0 0 0 (H.calls hall.old) (H.calls hall.new) }
     ensures reads { IsTrue H.tells → AttachesOnce (reads_to_mount (image_named (H.meaning hall.old).state file.now)) 0 0 1 (H.calls hall.old) (H.calls hall.new) }
     ensures code { result ≢ 8 }
@@ -216,7 +217,7 @@ fn run<H: Hall>(alloc: Global, hall: &mut H, file: &str, statement: &Rename) -> 
     ensures refused { IsTrue H.tells → result ≡ 21 → LeavesFiles (H.meaning hall.old) (H.meaning hall.new) }
     ensures durable { IsTrue H.tells → result ≡ 25 → IsDurable (H.meaning hall.new) }
     ensures calls { AttachesOnce 260 1 2 1 (H.calls hall.old) (H.calls hall.new) }
-    ensures made { OnPack file.now (H.facts hall.new).units result (λ vol. IsStatementCall vol statement.now (H.done hall.new)) (λ vol. HasAnswered vol statement.now result (H.done hall.new)) (H.made hall.old) (H.made hall.new) (H.done hall.new) }
+    ensures made { OnPack H.made H.done H.behind_sync H.calls file.now (H.facts hall.new).units result (λ vol mid. OnStatement H.made H.done H.behind_sync H.calls vol statement.now result mid hall.new × CallsAtMost 1 1 2 1 (H.calls mid) (H.calls hall.new)) hall.old hall.new }
     ensures unbegun { result ≡ 21 → AttachesOnce 259 0 0 1 (H.calls hall.old) (H.calls hall.new) }
     ensures unwritten { result ≡ 8 → AttachesOnce 259 0 1 1 (H.calls hall.old) (H.calls hall.new) }
     ensures behind { IsCode result → H.behind_sync hall.new }
@@ -250,12 +251,14 @@ fn refuse<H: Hall>(alloc: Global, hall: &mut H, file: &str, why: MountErr) -> u8
     ensures memory { why ≡ MountErr.Memory → result ≡ 25 }
     ensures which { why ≢ MountErr.Device → (result ≡ 21) ⊎ ((result ≡ 24) ⊎ (result ≡ 25)) }
     ensures status { (result ≡ 21) ⊎ IsCutOff result }
+    ensures answer { IsRefusalStatus why result }
     ensures print { result ≡ 24 → Rose (H.facts hall.old).print_faults (H.facts hall.new).print_faults }
     ensures prints { result ≢ 24 → (H.facts hall.new).print_faults ≡ (H.facts hall.old).print_faults }
     ensures later { Later (H.facts hall.old) (H.facts hall.new) }
     ensures calls { CallsAtMost 0 0 0 1 (H.calls hall.old) (H.calls hall.new) }
     ensures kept { StaysDone (H.done hall.old) (H.done hall.new) }
     ensures made { MakesOnly (IsRefusalPrint file.now why) (H.made hall.old) (H.made hall.new) }
+    ensures each { MakesOnce (H.made hall.old) (H.made hall.new) }
     ensures done { result ≡ 21 → H.done hall.new (Printing (unit_line file.now why)) }
     ensures devices { (H.facts hall.new).dev_faults ≡ (H.facts hall.old).dev_faults }
     ensures references { (H.facts hall.new).references ≡ (H.facts hall.old).references }

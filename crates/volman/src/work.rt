@@ -2,7 +2,7 @@
 ghost use Rattle.std.specs.Prelude.{◌≡◌, ◌≢◌, ◌≤◌, ◌⊎◌, ℕ, [], ◌∷◌, IsTrue, Ok};
 ghost use Rattle.hall_core.specs.Facts.{CallsAtMost, Rose, unit_of};
 ghost use Rattle.hall_core.specs.Files.{image_of};
-ghost use Rattle.hall_core.specs.Made.{MakesOnly, StaysDone, Syncing};
+ghost use Rattle.hall_core.specs.Made.{MakesOnce, MakesOnly, StaysDone, Syncing};
 ghost use Rattle.hall_core.specs.Moments.{IsDurable};
 ghost use Rattle.vol_model.specs.declared.contents.Volume.{Volume};
 ghost use Rattle.pack_spec.specs.Volume.{volume_of};
@@ -11,7 +11,7 @@ ghost use Rattle.vtoc_index.specs.Index.{IsMounted, IsOfUnit};
 ghost use Rattle.vtoc_index.specs.Puts.{HoldsSlot};
 ghost use Rattle.volman.specs.Machine.{shelf_with};
 ghost use Rattle.volman.specs.Run.{CountsReported, Later, Synced, WorksOn};
-ghost use Rattle.volman.specs.Made.{HasAnswered, IsStatementCall};
+ghost use Rattle.volman.specs.Made.{OnStatement};
 ghost use Rattle.volman.specs.Statement.{IsCode, item_of};
 
 use crate::machine::PackMachine;
@@ -41,9 +41,8 @@ pub fn run_statement<H: Hall>(alloc: Global, statement: &Rename, vol: Vol, hall:
     ensures device { result.0 ≡ 22 → Rose (H.facts hall).dev_faults (H.facts result.1).dev_faults }
     ensures print { result.0 ≡ 24 → Rose (H.facts hall).print_faults (H.facts result.1).print_faults }
     ensures calls { CallsAtMost 1 1 2 1 (H.calls hall) (H.calls result.1) }
-    ensures made { MakesOnly (IsStatementCall vol statement.now (H.done result.1)) (H.made hall) (H.made result.1) }
+    ensures made { OnStatement H.made H.done H.behind_sync H.calls vol statement.now result.0 hall result.1 }
     ensures kept { StaysDone (H.done hall) (H.done result.1) }
-    ensures answered { IsCode result.0 → HasAnswered vol statement.now result.0 (H.done result.1) }
     ensures held { vol.serial ≡ statement.now.serial → (slot : ℕ) → IsToRename vol.slots.items statement.now.old.bytes statement.now.new.bytes slot → HoldsSlot vol slot → CallsAtMost 0 1 2 1 (H.calls hall) (H.calls result.1) }
     ensures refused { result.0 ≡ 8 → CallsAtMost 0 0 1 1 (H.calls hall) (H.calls result.1) }
     ensures idle { IsTrue H.tells → (volume : Volume) → volume_of (image_of (H.meaning hall).state (H.facts hall) vol.unit) ≡ Ok volume → (item_of (shelf_with volume) statement.now).operations ≡ [] → CallsAtMost 0 0 1 1 (H.calls hall) (H.calls result.1) × (result.0 ≡ 24 → CallsAtMost 0 0 0 1 (H.calls hall) (H.calls result.1)) }
@@ -79,6 +78,7 @@ fn finish<H: Hall>(hall: &mut H, code: u8) -> u8
     ensures later { Later (H.facts hall.old) (H.facts hall.new) }
     ensures calls { CallsAtMost 0 0 1 0 (H.calls hall.old) (H.calls hall.new) }
     ensures made { MakesOnly (λ call. call ≡ Syncing) (H.made hall.old) (H.made hall.new) }
+    ensures each { MakesOnce (H.made hall.old) (H.made hall.new) }
     ensures kept { StaysDone (H.done hall.old) (H.done hall.new) }
     ensures behind { result ≢ 22 → H.behind_sync hall.new }
     ensures prints { (H.facts hall.new).print_faults ≡ (H.facts hall.old).print_faults }

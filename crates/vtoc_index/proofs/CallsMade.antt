@@ -1,14 +1,18 @@
 -- What calls of a hall leave, one after another.
-use Rattle.std.proofs.Common.{◌≡◌, ◌≢◌, ◌⊎◌, ⊎_elim, ℕ, ◌+◌, ◌<◌, ◌≤◌, List, [], ◌++◌, length, append-nil, append_assoc, None, Some, refl, sym, ap, subst, ◌∙◌, arith, ◌-◌}
+use Rattle.std.proofs.Common.{◌≡◌, ◌≢◌, ◌⊎◌, ⊎_elim, ℕ, ◌+◌, ◌*◌, ◌<◌, ◌≤◌, ◌&&◌, true, false, leb-true, List, [], ◌++◌, length, append-nil, append_assoc, None, Some, refl, sym, ap, subst, ◌∙◌, arith, ◌-◌}
+use Rattle.std.proofs.Math.Nat.{le_of_mul-le-mul_right}
 use Rattle.std.specs.Prelude.{Result, Ok, Err, IfErr, IfOk, IsErrOf, IsTrue, Bool, Option, option_and_then}
 use Rattle.ckd_image.specs.declared.header.Geometry.{Geometry}
-use Rattle.ckd_image.specs.Header.{HasGeometry}
+use Rattle.ckd_image.specs.declared.device.DiskType.{DiskType}
+use Rattle.ckd_image.specs.Device.{row_of}
+use Rattle.ckd_image.specs.Header.{HasGeometry, is_track_size}
+use Rattle.vol_model.specs.declared.contents.Run.{Run}
 use Rattle.ckd_image.specs.Track.{Record}
 use Rattle.hall_core.specs.Facts.{Attached, Calls, CallsAtMost, Facts, Rose, unit_of}
 use Rattle.hall_core.specs.Files.{File}
-use Rattle.hall_core.specs.Made.{HallCall, MakesOnly, StaysDone}
+use Rattle.hall_core.specs.Made.{HallCall, MakesOnce, MakesOnly, Reading, StaysDone}
 use Rattle.hall_core.specs.Moments.{Meaning, Same}
-use Rattle.hall_core.proofs.MadeLemmas.{makes_then}
+use Rattle.hall_core.proofs.MadeLemmas.{makes_then, once_then}
 use Rattle.pack_spec.specs.Label.{label_in, label_of, records_on}
 use Rattle.pack_spec.specs.Views.{tracks_of}
 use Rattle.track_records.specs.Buffers.{Buffer}
@@ -16,7 +20,7 @@ use Rattle.track_records.specs.Calls.{HasTrack, track_read}
 use Rattle.track_records.specs.Reads.{IsBroken}
 use Rattle.track_records.specs.Written.{StandsOn}
 use Rattle.pack_spec.specs.declared.addressed.VtocSlot.{VtocSlot}
-use Rattle.vtoc_index.specs.Given.{AreFound, IsBufferGiven}
+use Rattle.vtoc_index.specs.Given.{AreFound, IsBufferGiven, IsNextRead}
 use Rattle.track_records.specs.declared.error.TrackErr.{TrackErr}
 use Rattle.track_records.specs.declared.error.TrackErr.TheVariants as track_errors
 use Rattle.pack_spec.specs.declared.MountErr.{MountErr}
@@ -165,12 +169,58 @@ pub track_more :
 track_more unit g g' from track to to' before read same low high further =
     makes_then before read (λ call is. (is.0, is.1, omega (arith, is.2, further), is.3)) (λ call is. (track, low, high, is ∙ ap (λ (x : Geometry). track_read unit x track) same))
 
+-- ---- no call is made twice
+
+some_bytes : (d : DiskType) (size : ℕ) → is_track_size d size ≡ true → 1 ≤ size
+some_bytes d size is = let least : (row_of d).largest_record + 37 ≤ size = leb-true ((row_of d).largest_record + 37) size (both_of _ _ (both_of _ _ is).0).1 in omega (arith, least)
+  where
+    both_of : (b c : Bool) → (b && c) ≡ true → (b ≡ true) × (c ≡ true)
+    both_of true c is = (refl, is)
+    both_of false c is = cc
+
+-- a track has bytes
+pub track_long : {len : ℕ} {g : Geometry} → HasGeometry len g → 1 ≤ g.track_size
+track_long {g = g} whole = some_bytes g.device g.track_size whole.track_size
+
+-- the number at which a call reads
+read_at : HallCall → ℕ
+read_at (Reading unit at len) = at
+read_at call = 0
+
+-- reads of two tracks are two reads, and neither is that of the header
+pub header_apart : (unit unit' : ℕ) (g : Geometry) (track : ℕ) (call : HallCall) → call ≡ Reading unit 0 512 → call ≡ track_read unit' g track → ⊥
+unfolding read_at
+header_apart unit unit' g track call header read = let at : 0 ≡ 512 + track * g.track_size = ap read_at (sym header ∙ read) in omega (arith, at)
+
+pub tracks_apart : (unit : ℕ) (g : Geometry) (track other : ℕ) (call : HallCall) → 1 ≤ g.track_size → track < other → call ≡ track_read unit g track → call ≡ track_read unit g other → ⊥
+unfolding read_at
+tracks_apart unit g track other call long low one two =
+    let at : 512 + track * g.track_size ≡ 512 + other * g.track_size = ap read_at (sym one ∙ two) in
+    let high : other ≤ track = le_of_mul-le-mul_right {m = other} {n = track} {k = g.track_size} (omega (arith, at)) (omega (arith, long)) in
+    omega (arith, low, high)
+
+-- one more track, behind others
+pub track_once :
+    (unit : ℕ) (g g' : Geometry) (from to track : ℕ) {h0 h h' : HallCall → ℕ}
+    → MakesOnce h0 h
+    → MakesOnly (IsTrackRead unit g from to) h0 h
+    → MakesOnce h h'
+    → MakesOnly (λ call. call ≡ track_read unit g' track) h h'
+    → g' ≡ g
+    → to ≤ track
+    → 1 ≤ g.track_size
+    → MakesOnce h0 h'
+track_once unit g g' from to track before tracks once read same high long =
+    once_then before tracks once read (λ call was is. tracks_apart unit g was.0 track call long (omega (arith, was.2, high)) was.3 (is ∙ ap (λ (x : Geometry). track_read unit x track) same))
+
 -- what a loop over tracks keeps
-pub record KeepsReading (tells : Bool) (c0 c : Calls) (h0 h : HallCall → ℕ) (d0 d : HallCall → Type 0) (f0 f : Facts) (m0 m : Meaning (List File)) (image : List ℕ) (g : Geometry) (unit start len : ℕ) (b0 b : Buffer) (r0 r : ReadSlots) : Type 0 where
+pub record KeepsReading (tells : Bool) (c0 c : Calls) (h0 h : HallCall → ℕ) (d0 d : HallCall → Type 0) (f0 f : Facts) (m0 m : Meaning (List File)) (image : List ℕ) (g : Geometry) (unit : ℕ) (vtoc : Run) (len : ℕ) (b0 b : Buffer) (r0 r : ReadSlots) : Type 0 where
   pub calls : CallsAtMost (len - 1) 0 0 0 c0 c
-  pub made : MakesOnly (IsTrackRead unit g (start + 1) (start + len)) h0 h
+  pub tracks : MakesOnly (IsTrackRead unit g (vtoc.start + 1) (vtoc.start + len)) h0 h
+  pub made : (first : List VtocSlot) → AreFound d0 unit g vtoc.start 1 first r0 → MakesOnly (IsNextRead d unit g vtoc) h0 h
+  pub each : MakesOnce h0 h
   pub kept : StaysDone d0 d
-  pub given : (first : List VtocSlot) → AreFound d0 unit g start 1 first r0 → AreFound d unit g start len first r
+  pub given : (first : List VtocSlot) → AreFound d0 unit g vtoc.start 1 first r0 → AreFound d unit g vtoc.start len first r
   pub seen : IsBufferGiven d0 unit g b0 → IsBufferGiven d unit g b
   pub facts : FactsStay f0 f
   pub told : IsTrue tells → Same m0 m
@@ -179,7 +229,7 @@ pub record KeepsReading (tells : Bool) (c0 c : Calls) (h0 h : HallCall → ℕ) 
   pub numbers : AreNumbered len r
   pub slots : BeginsWith r0.slots.items r.slots.items
   pub firsts : BeginsWith r0.firsts.items r.firsts.items
-  pub last : b0.track ≡ start → b.track + 1 ≡ start + len
+  pub last : b0.track ≡ vtoc.start → b.track + 1 ≡ vtoc.start + len
   pub held : LastTrackHas (length b0.records) r0 → LastTrackHas (length b.records) r
-  pub read : IsTrue tells → AreTracksRead image g start 1 r0 → AreTracksRead image g start len r
+  pub read : IsTrue tells → AreTracksRead image g vtoc.start 1 r0 → AreTracksRead image g vtoc.start len r
   pub stands : IsTrue tells → StandsOn image b0 → StandsOn image b

@@ -66,7 +66,8 @@ record ExtentRead (image : List ℕ) (g : Geometry) (vtoc : Run) (label : List �
   slot : is_slot first ≡ true
   extent : vtoc_by g (place_in label) (Some (slot_bytes first)) ≡ Ok vtoc
 
-begins : (g : Geometry) (at : Address) (vtoc : Run) (slot : List ℕ) → vtoc_by g at (Some slot) ≡ Ok vtoc → vtoc.start ≡ track_of_address g at
+-- an extent begins at the address that it is found by
+pub begins : (g : Geometry) (at : Address) (vtoc : Run) (slot : List ℕ) → vtoc_by g at (Some slot) ≡ Ok vtoc → vtoc.start ≡ track_of_address g at
 begins g at vtoc slot is = by_test (is_vtoc_extent g at slot) is
   where
     by_test : (b : Bool) → cond b (Ok (record { start = track_of_address g at; len = track_of_address g (address_at 111 slot) - track_of_address g at + 1 })) (Err BadVtoc) ≡ Ok vtoc → vtoc.start ≡ track_of_address g at

@@ -1,24 +1,34 @@
 -- The index of the small pack, and why a pack is refused, by what reads gave. Each comment names what a near reading would let through.
-use Rattle.std.proofs.Common.{◌≡◌, ◌⊎◌, ⊎_elim, inl, inr, ℕ, List, [], ◌∷◌, drop, get_or, replicate, take, Some, None, refl, sym, ap, ◌∙◌, arith}
-use Rattle.std.specs.Prelude.{option_and_then, slice_range}
+use Rattle.std.proofs.Common.{◌≡◌, ◌⊎◌, ◌+◌, ◌*◌, ◌≤◌, ⊎_elim, inl, inr, ℕ, zero, suc, List, [], ◌∷◌, ◌++◌, drop, get_or, replicate, take, Some, None, refl, sym, ap, subst, ◌∙◌, arith}
+use Rattle.std.specs.Prelude.{Option, Ok, Err, option_and_then, slice_range}
+use Rattle.ckd_image.specs.declared.header.Geometry.{Geometry}
+use Rattle.ckd_image.specs.Header.{geometry_of}
 use Rattle.ckd_image.specs.Reading.{is_front, records_of, records_to_end, records_up_to}
 use Rattle.ckd_image.specs.Track.{Record}
-use Rattle.hall_core.specs.Made.{HallCall, Giving}
-use Rattle.pack_spec.specs.declared.MountErr.TheVariants.{NoLabel}
-use Rattle.pack_spec.specs.Label.{label_in, track_bytes}
-use Rattle.pack_spec.specs.Vtoc.{slots_in}
-use Rattle.pack_spec.specs.Written.{label_bytes}
-use Rattle.track_records.specs.Calls.{Gives, HasGiven, records_by}
-use Rattle.vtoc_index.specs.Given.{AreSlotsGiven, BadHeader, Cut, GivesHeader, IsHeaderGiven, IsIndexGiven, IsLabelGiven, IsReasonGiven, NoGeometry, NoVtoc, Outside, TooShort, Unlabelled}
+use Rattle.ckd_image.specs.Writing.{new_track}
+use Rattle.hall_core.specs.Made.{HallCall, StaysDone, Giving, Reading}
+use Rattle.pack_spec.specs.declared.MountErr.TheVariants.{NoLabel, VtocTrack}
+use Rattle.pack_spec.specs.declared.addressed.VtocSlot.{VtocSlot}
+use Rattle.pack_spec.specs.declared.address.Address.{Address}
+use Rattle.pack_spec.specs.Label.{address_at, label_in, track_bytes, track_of_address}
+use Rattle.pack_spec.specs.Vtoc.{first_slot, slots_in, vtoc_by}
+use Rattle.pack_spec.specs.Written.{label_bytes, label_records, slot_record}
+use Rattle.track_records.specs.Calls.{Gives, HasGiven, records_by, track_read}
+use Rattle.vol_model.specs.declared.contents.Run.{Run}
+use Rattle.vtoc_index.specs.Given.{AreGiven, AreSlotsGiven, BadExtent, BadHeader, BadSlot, Cut, GivesHeader, IsExtentGiven, IsHeaderGiven, IsIndexGiven, IsLabelGiven, IsMountRead, IsNextRead, IsReasonGiven, IsVtocRead, IsVtocReason, NoGeometry, NoSlots, NoVtoc, OfFirst, OfHeader, OfLabel, OfNext, OfOther, OfVtoc, OnLabel, Outside, TooShort, Unlabelled, first_bytes}
 use Rattle.vtoc_index.specs.declared.vol.Vol.{Vol}
+use Rattle.vtoc_index.proofs.CallsMade.{header_apart}
+use Rattle.vtoc_index.proofs.ExtentLaw.{begins}
+use Rattle.vtoc_index.proofs.GivenLemmas.{header_still}
+use Rattle.vtoc_index.proofs.PutCalls.{given_still}
 use Rattle.vtoc_index.proofs.MountCases.{no_slot_breaks_a_rule}
-use Rattle.vtoc_index.proofs.SmallPack.{a, are_dscbs, b, data_set, first_track, format_4, format_5, four_slots, header_is_read, image, index, one_cylinder, pack01, slot_on}
+use Rattle.vtoc_index.proofs.SmallPack.{a, are_dscbs, b, data_set, extent, first_track, format_4, format_5, four_slots, header_is_read, image, index, one_cylinder, pack01, slot_on, two_tracks}
 
 -- what reads of the header, the label's track and the first track of the VTOC gave; and of all tracks of it
-gave_some : HallCall → Type 0
+unfoldable pub gave_some : HallCall → Type 0
 gave_some call = (call ≡ Giving 0 0 (take 512 image)) ⊎ ((call ≡ Giving 0 512 (track_bytes image one_cylinder 0)) ⊎ (call ≡ Giving 0 4608 (track_bytes image one_cylinder 1)))
 
-gave_all : HallCall → Type 0
+unfoldable pub gave_all : HallCall → Type 0
 gave_all call = gave_some call ⊎ (call ≡ Giving 0 8704 (track_bytes image one_cylinder 2))
 
 -- the header, and a track of zeros for the label's
@@ -29,11 +39,14 @@ at_in : HallCall → ℕ
 at_in (Giving unit at bytes) = at
 at_in call = 0
 
-label_is_there : option_and_then label_in (records_by one_cylinder (Some 3) 0 (track_bytes image one_cylinder 0)) ≡ Some (label_bytes pack01 first_track)
+some_same : {x y : List ℕ} → Some x ≡ Some y → x ≡ y
+some_same is = cc
+
+pub label_is_there : option_and_then label_in (records_by one_cylinder (Some 3) 0 (track_bytes image one_cylinder 0)) ≡ Some (label_bytes pack01 first_track)
 unfolding label_in track_bytes records_of is_front records_to_end records_up_to
 label_is_there = refl
 
-first_is_there : option_and_then slots_in (records_by one_cylinder None 1 (track_bytes image one_cylinder 1)) ≡ Some (format_4 ∷ format_5 ∷ [])
+pub first_is_there : option_and_then slots_in (records_by one_cylinder None 1 (track_bytes image one_cylinder 1)) ≡ Some (format_4 ∷ format_5 ∷ [])
 unfolding track_bytes records_of is_front records_to_end
 first_is_there = refl
 
@@ -42,7 +55,7 @@ unfolding track_bytes records_of is_front records_to_end
 second_is_there = refl
 
 -- the records of the second track of the VTOC
-abbrev both_sets : List Record
+abbrev pub both_sets : List Record
 both_sets =
     record { address = 0 ∷ 0 ∷ 0 ∷ 2 ∷ []; key = take 44 (data_set b); «data» = drop 44 (data_set b) }
     ∷ record { address = 0 ∷ 0 ∷ 0 ∷ 2 ∷ []; key = take 44 (data_set a); «data» = drop 44 (data_set a) }
@@ -52,18 +65,23 @@ second_is_whole : records_by one_cylinder None 2 (track_bytes image one_cylinder
 unfolding track_bytes records_of is_front records_to_end
 second_is_whole = refl
 
-zeros_are_no_label : option_and_then label_in (records_by one_cylinder (Some 3) 0 (replicate 4096 0)) ≡ None
+-- the first record of the first track of the VTOC gives its extent
+extent_is_there : vtoc_by one_cylinder first_track (option_and_then first_slot (records_by one_cylinder (Some 1) 1 (track_bytes image one_cylinder 1))) ≡ Ok two_tracks
+unfolding track_bytes records_of is_front records_up_to
+extent_is_there = refl
+
+pub zeros_are_no_label : option_and_then label_in (records_by one_cylinder (Some 3) 0 (replicate 4096 0)) ≡ None
 unfolding records_of is_front
 zeros_are_no_label = refl
 
 module _ (any : Vol) where
   -- the index with the last track of the VTOC in its buffer
-  holding : Vol
+  abbrev pub holding : Vol
   holding = record (index any) { buf = record (index any).buf { records = both_sets } }
 
   -- The index is what the reads of header, label and both tracks gave, and so is its buffer.
-  index_is_given : IsIndexGiven gave_all 41472 holding
-  unfolding holding gave_all gave_some track_bytes
+  pub index_is_given : IsIndexGiven gave_all 41472 holding
+  unfolding gave_all gave_some track_bytes
   index_is_given = record {
     header = GivesHeader (take 512 image) refl (inl (inl refl)) header_is_read;
     label = label_bytes pack01 first_track;
@@ -82,6 +100,7 @@ module _ (any : Vol) where
     );
     dscbs = are_dscbs;
     lawful = no_slot_breaks_a_rule;
+    apart = omega arith;
     last = refl;
     buffer = Gives (track_bytes image one_cylinder 2) refl (inr refl) second_is_whole;
   }
@@ -102,9 +121,6 @@ module _ (any : Vol) where
       bytes_of : HallCall → List ℕ
       bytes_of (Giving unit at bytes) = bytes
       bytes_of call = []
-
-      some_same : {x y : List ℕ} → Some x ≡ Some y → x ≡ y
-      some_same is = cc
 
       same : (bytes : List ℕ) → bytes ≡ track_bytes image one_cylinder 0 → option_and_then label_in (records_by one_cylinder (Some 3) 0 bytes) ≡ Some content → content ≡ label_bytes pack01 first_track
       same bytes is found = some_same (sym found ∙ ap (λ (l : List ℕ). option_and_then label_in (records_by one_cylinder (Some 3) 0 l)) is ∙ label_is_there)
@@ -178,4 +194,294 @@ pack_has_no_label = (
     unread (BadHeader (NoGeometry bytes long gave why none is)) = gave
     unread (Unlabelled g header lacks is) = unseen header
     unread (Outside g header label given out is) = unseen header
+    unread (OnLabel g header label given there is) = unseen header
     unread (NoVtoc g header label given inside why) = unseen header
+
+-- ---- which reads mount the pack
+
+-- the header and the label's track alone
+gave_label : HallCall → Type 0
+gave_label call = (call ≡ Giving 0 0 (take 512 image)) ⊎ (call ≡ Giving 0 512 (track_bytes image one_cylinder 0))
+
+-- the header, and a label's track whose label leads to that track itself; and beside these other bytes of that track, with the slot of a VTOC of it and the next
+abbrev own : Address
+own = record { cylinder = 0; head = 0 }
+
+own_track : List ℕ
+own_track = new_track 0 0 (label_records pack01 own) 4096
+
+abbrev own_format_4 : List ℕ
+own_format_4 = replicate 44 4 ++ (0xF4 ∷ replicate 60 0) ++ extent 0 1 ++ replicate 25 0
+
+own_slots : List ℕ
+own_slots = new_track 0 0 (slot_record own own_format_4 ∷ []) 4096
+
+gave_own : HallCall → Type 0
+gave_own call = (call ≡ Giving 0 0 (take 512 image)) ⊎ (call ≡ Giving 0 512 own_track)
+
+gave_both : HallCall → Type 0
+gave_both call = gave_own call ⊎ (call ≡ Giving 0 512 own_slots)
+
+bytes_in : HallCall → List ℕ
+bytes_in (Giving unit at bytes) = bytes
+bytes_in call = []
+
+-- of a read, its unit, its offset and how many bytes it reads
+number : ℕ → HallCall → ℕ
+number k (Reading unit at len) = get_or (unit ∷ at ∷ len ∷ []) k 9
+number k call = 9
+
+label_stays : StaysDone gave_label gave_some
+unfolding gave_label gave_some
+label_stays call = ⊎_elim (λ header. inl header) (λ label. inr (inl label))
+
+-- By the header the pack is of one cylinder; and what holds of what a track gave holds of that of the image.
+header_some : (g : Geometry) → IsHeaderGiven gave_some 0 41472 g → g ≡ one_cylinder
+unfolding gave_some at_in bytes_in
+header_some g (GivesHeader bytes long gave is) = let same : Ok g ≡ Ok one_cylinder = sym is ∙ ap (λ (l : List ℕ). geometry_of l 41472) (header bytes gave) ∙ header_is_read in cc
+  where
+    header : (bytes : List ℕ) → gave_some (Giving 0 0 bytes) → bytes ≡ take 512 image
+    header bytes =
+        ⊎_elim
+        (λ header. ap bytes_in header)
+        (⊎_elim
+        (λ label. let wrong : 0 ≡ 512 = ap at_in label in absurd (omega (arith, wrong)))
+        (λ first. let wrong : 0 ≡ 4608 = ap at_in first in absurd (omega (arith, wrong))))
+
+label_some : {holds : List ℕ → Type 0} → HasGiven gave_some 0 one_cylinder 0 holds → holds (track_bytes image one_cylinder 0)
+unfolding gave_some at_in bytes_in
+label_some {holds} (Gives bytes size gave is) = subst holds (label bytes gave) is
+  where
+    label : (bytes : List ℕ) → gave_some (Giving 0 512 bytes) → bytes ≡ track_bytes image one_cylinder 0
+    label bytes =
+        ⊎_elim
+        (λ header. let wrong : 512 ≡ 0 = ap at_in header in absurd (omega (arith, wrong)))
+        (⊎_elim
+        (λ label. ap bytes_in label)
+        (λ first. let wrong : 512 ≡ 4608 = ap at_in first in absurd (omega (arith, wrong))))
+
+first_some : {holds : List ℕ → Type 0} → HasGiven gave_some 0 one_cylinder 1 holds → holds (track_bytes image one_cylinder 1)
+unfolding gave_some at_in bytes_in
+first_some {holds} (Gives bytes size gave is) = subst holds (first bytes gave) is
+  where
+    first : (bytes : List ℕ) → gave_some (Giving 0 4608 bytes) → bytes ≡ track_bytes image one_cylinder 1
+    first bytes =
+        ⊎_elim
+        (λ header. let wrong : 4608 ≡ 0 = ap at_in header in absurd (omega (arith, wrong)))
+        (⊎_elim
+        (λ label. let wrong : 4608 ≡ 512 = ap at_in label in absurd (omega (arith, wrong)))
+        (λ first. ap bytes_in first))
+
+-- so the label is that of the image, and the extent of the VTOC its two tracks
+label_found : (label : List ℕ) → IsLabelGiven gave_some 0 one_cylinder label → label ≡ label_bytes pack01 first_track
+label_found label given = let same : Some label ≡ Some (label_bytes pack01 first_track) = sym (label_some given) ∙ label_is_there in some_same same
+
+extent_found : (vtoc : Run) → IsExtentGiven gave_some 0 one_cylinder first_track (Ok vtoc) → vtoc ≡ two_tracks
+extent_found vtoc given = let same : Ok vtoc ≡ Ok two_tracks = sym (first_some given) ∙ extent_is_there in cc
+
+-- what the label gave leads to the first track of the VTOC, whatever the geometry and the label are called
+led : (P : Geometry → Address → Type 0) (g : Geometry) (label : List ℕ) → IsHeaderGiven gave_some 0 41472 g → IsLabelGiven gave_some 0 g label → P g (address_at 11 label) → P one_cylinder first_track
+led P g label header given holds =
+    let same = header_some g header in
+    let there = label_found label (subst (λ (x : Geometry). IsLabelGiven gave_some 0 x label) same given) in
+    subst (λ (l : List ℕ). P one_cylinder (address_at 11 l)) there (subst (λ (x : Geometry). P x (address_at 11 label)) same holds)
+
+-- A read that mounts it is of the header, of the label's track, or of one of the two tracks of the VTOC.
+reads_are_four : (call : HallCall) → IsMountRead gave_some 0 41472 call → (call ≡ Reading 0 0 512) ⊎ ((call ≡ Reading 0 512 4096) ⊎ ((call ≡ Reading 0 4608 4096) ⊎ (call ≡ Reading 0 8704 4096)))
+reads_are_four call (OfHeader long is) = inl is
+reads_are_four call (OfLabel g header is) = inr (inl (is ∙ ap (λ (x : Geometry). track_read 0 x 0) (header_some g header)))
+reads_are_four call (OfVtoc g header label given inside behind read) = inr (inr (of_vtoc (led (λ (x : Geometry) (at : Address). IsVtocRead gave_some 0 x at call) g label header given read)))
+  where
+    of_next : (k : ℕ) → k + 1 ≤ 2 → call ≡ track_read 0 one_cylinder (1 + k) → (call ≡ Reading 0 4608 4096) ⊎ (call ≡ Reading 0 8704 4096)
+    of_next zero low is = inl is
+    of_next (suc zero) low is = inr is
+    of_next (suc (suc k)) low is = absurd (omega (arith, low))
+
+    of_two : IsNextRead gave_some 0 one_cylinder two_tracks call → (call ≡ Reading 0 4608 4096) ⊎ (call ≡ Reading 0 8704 4096)
+    of_two (OfNext k low slots firsts before is) = of_next k (omega (arith, low)) is
+
+    of_vtoc : IsVtocRead gave_some 0 one_cylinder first_track call → (call ≡ Reading 0 4608 4096) ⊎ (call ≡ Reading 0 8704 4096)
+    of_vtoc (OfFirst is) = inl is
+    of_vtoc (OfOther vtoc extent next) = of_two (subst (λ (run : Run). IsNextRead gave_some 0 one_cylinder run call) (extent_found vtoc extent) next)
+
+-- The header is read first, then the label's track, and the first and the second track of the VTOC; each by what the reads before it gave, and the second by the extent of the first.
+each_mounts :
+    IsMountRead (λ call. ⊥) 0 41472 (Reading 0 0 512)
+    × IsMountRead (λ call. call ≡ Giving 0 0 (take 512 image)) 0 41472 (Reading 0 512 4096)
+    × IsMountRead gave_label 0 41472 (Reading 0 4608 4096)
+    × IsMountRead gave_some 0 41472 (Reading 0 8704 4096)
+unfolding gave_label gave_some track_bytes
+each_mounts = (
+  OfHeader (omega arith) refl,
+  OfLabel one_cylinder (GivesHeader (take 512 image) refl refl header_is_read) refl,
+  OfVtoc one_cylinder (GivesHeader (take 512 image) refl (inl refl) header_is_read) (label_bytes pack01 first_track) (Gives (track_bytes image one_cylinder 0) refl (inr refl) label_is_there) refl (omega arith) (OfFirst refl),
+  OfVtoc one_cylinder (GivesHeader (take 512 image) refl (inl refl) header_is_read) (label_bytes pack01 first_track) (Gives (track_bytes image one_cylinder 0) refl (inr (inl refl)) label_is_there) refl (omega arith)
+      (OfOther two_tracks (Gives (track_bytes image one_cylinder 1) refl (inr (inr refl)) extent_is_there)
+      (OfNext 1 (omega arith) (slot_on 1 1 format_4 ∷ slot_on 1 2 format_5 ∷ []) (0 ∷ [])
+      ([], [], format_4 ∷ format_5 ∷ [], (refl, refl), Gives (track_bytes image one_cylinder 1) refl (inr (inr refl)) first_is_there, refl, refl)
+      refl)),
+)
+
+-- a call isn't one of the four reads where one of its numbers is another
+none_of_four : (unit at len : ℕ) → (at ≡ 0 → len ≡ 512 → unit ≡ 0 → ⊥) → (at ≡ 512 → len ≡ 4096 → unit ≡ 0 → ⊥) → (at ≡ 4608 → len ≡ 4096 → unit ≡ 0 → ⊥) → (at ≡ 8704 → len ≡ 4096 → unit ≡ 0 → ⊥) → ¬ IsMountRead gave_some 0 41472 (Reading unit at len)
+unfolding number
+none_of_four unit at len not_header not_label not_first not_second read =
+    ⊎_elim
+    (λ is. not_header (ap (number 1) is) (ap (number 2) is) (ap (number 0) is))
+    (⊎_elim
+    (λ is. not_label (ap (number 1) is) (ap (number 2) is) (ap (number 0) is))
+    (⊎_elim
+    (λ is. not_first (ap (number 1) is) (ap (number 2) is) (ap (number 0) is))
+    (λ is. not_second (ap (number 1) is) (ap (number 2) is) (ap (number 0) is))))
+    (reads_are_four (Reading unit at len) read)
+
+-- the track behind the VTOC, more at once than the header or than a track, a byte further on, and another unit aren't read
+others_mount_not :
+    (¬ IsMountRead gave_some 0 41472 (Reading 0 12800 4096))
+    × (¬ IsMountRead gave_some 0 41472 (Reading 0 0 8192))
+    × (¬ IsMountRead gave_some 0 41472 (Reading 0 4608 8192))
+    × (¬ IsMountRead gave_some 0 41472 (Reading 0 4609 4096))
+    × (¬ IsMountRead gave_some 0 41472 (Reading 1 4608 4096))
+others_mount_not = (
+  none_of_four 0 12800 4096 (λ at len unit. omega (arith, at)) (λ at len unit. omega (arith, at)) (λ at len unit. omega (arith, at)) (λ at len unit. omega (arith, at)),
+  none_of_four 0 0 8192 (λ at len unit. omega (arith, len)) (λ at len unit. omega (arith, at)) (λ at len unit. omega (arith, at)) (λ at len unit. omega (arith, at)),
+  none_of_four 0 4608 8192 (λ at len unit. omega (arith, at)) (λ at len unit. omega (arith, at)) (λ at len unit. omega (arith, len)) (λ at len unit. omega (arith, at)),
+  none_of_four 0 4609 4096 (λ at len unit. omega (arith, at)) (λ at len unit. omega (arith, at)) (λ at len unit. omega (arith, at)) (λ at len unit. omega (arith, at)),
+  none_of_four 1 4608 4096 (λ at len unit. omega (arith, unit)) (λ at len unit. omega (arith, unit)) (λ at len unit. omega (arith, unit)) (λ at len unit. omega (arith, unit)),
+)
+
+-- nothing was given of the tracks of the VTOC
+label_alone : {holds : List ℕ → Type 0} (track : ℕ) → 1 ≤ track → ¬ HasGiven gave_label 0 one_cylinder track holds
+unfolding gave_label at_in
+label_alone track behind (Gives bytes size gave is) =
+    ⊎_elim
+    (λ header. let wrong : 512 + track * 4096 ≡ 0 = ap at_in header in omega (arith, wrong))
+    (λ label. let wrong : 512 + track * 4096 ≡ 512 = ap at_in label in omega (arith, behind, wrong))
+    gave
+
+-- The label's track isn't read before the header gave the geometry, nor the second track of the VTOC before the first gave the extent, nor a header where none fits in.
+none_is_read_too_early :
+    (¬ IsMountRead (λ call. ⊥) 0 41472 (Reading 0 512 4096))
+    × (¬ IsMountRead gave_label 0 41472 (Reading 0 8704 4096))
+    × (¬ IsMountRead gave_some 0 511 (Reading 0 0 512))
+unfolding number
+none_is_read_too_early = (no_label, no_second, no_header)
+  where
+    unseen : {g : Geometry} → ¬ IsHeaderGiven (λ call. ⊥) 0 41472 g
+    unseen (GivesHeader bytes long gave is) = gave
+
+    no_label : ¬ IsMountRead (λ call. ⊥) 0 41472 (Reading 0 512 4096)
+    no_label (OfHeader long is) = let wrong : 512 ≡ 0 = ap (number 1) is in omega (arith, wrong)
+    no_label (OfLabel g header is) = unseen header
+    no_label (OfVtoc g header label given inside behind read) = unseen header
+
+    at_label : Reading 0 8704 4096 ≡ track_read 0 one_cylinder 0 → ⊥
+    at_label is = let wrong : 8704 ≡ 512 = ap (number 1) is in omega (arith, wrong)
+
+    of_vtoc : ¬ IsVtocRead gave_label 0 one_cylinder first_track (Reading 0 8704 4096)
+    of_vtoc (OfFirst is) = let wrong : 8704 ≡ 4608 = ap (number 1) is in omega (arith, wrong)
+    of_vtoc (OfOther vtoc extent next) = label_alone 1 (omega arith) extent
+
+    no_second : ¬ IsMountRead gave_label 0 41472 (Reading 0 8704 4096)
+    no_second (OfHeader long is) = let wrong : 8704 ≡ 0 = ap (number 1) is in omega (arith, wrong)
+    no_second (OfLabel g header is) = at_label (is ∙ ap (λ (x : Geometry). track_read 0 x 0) (header_some g (header_still header label_stays)))
+    no_second (OfVtoc g header label given inside behind read) =
+        of_vtoc (led (λ (x : Geometry) (at : Address). IsVtocRead gave_label 0 x at (Reading 0 8704 4096)) g label (header_still header label_stays) (given_still given label_stays) read)
+
+    no_header : ¬ IsMountRead gave_some 0 511 (Reading 0 0 512)
+    no_header (OfHeader long is) = omega (arith, long)
+    no_header (OfLabel g header is) = header_apart 0 0 g 0 (Reading 0 0 512) refl is
+    no_header (OfVtoc g header label given inside behind (OfFirst is)) = header_apart 0 0 g _ (Reading 0 0 512) refl is
+    no_header (OfVtoc g header label given inside behind (OfOther vtoc extent (OfNext k low slots firsts before is))) = header_apart 0 0 g (vtoc.start + k) (Reading 0 0 512) refl is
+
+own_label_is_there : option_and_then label_in (records_by one_cylinder (Some 3) 0 own_track) ≡ Some (label_bytes pack01 own)
+unfolding own_track label_in records_of is_front records_to_end records_up_to
+own_label_is_there = refl
+
+own_slots_are_no_label : option_and_then label_in (records_by one_cylinder (Some 3) 0 own_slots) ≡ None
+unfolding own_slots records_of is_front records_to_end records_up_to
+own_slots_are_no_label = refl
+
+-- where the label leads to its own track none behind that is read, though other bytes of it have the extent of a VTOC
+no_vtoc_on_its_track : IsVtocRead gave_both 0 one_cylinder own (Reading 0 4608 4096) × (¬ IsMountRead gave_both 0 41472 (Reading 0 4608 4096))
+unfolding gave_both gave_own own_slots records_of is_front records_to_end records_up_to at_in bytes_in number
+no_vtoc_on_its_track = (
+  OfOther (record { start = 0; len = 2 }) (Gives own_slots refl (inr refl) refl) (OfNext 1 (omega arith) (slot_on 0 1 own_format_4 ∷ []) (0 ∷ []) ([], [], own_format_4 ∷ [], (refl, refl), Gives own_slots refl (inr refl) refl, refl, refl) refl),
+  not_read,
+)
+  where
+    header_bytes_both : (bytes : List ℕ) → gave_both (Giving 0 0 bytes) → bytes ≡ take 512 image
+    header_bytes_both bytes =
+        ⊎_elim
+        (⊎_elim
+        (λ header. ap bytes_in header)
+        (λ label. let wrong : 0 ≡ 512 = ap at_in label in absurd (omega (arith, wrong))))
+        (λ slots. let wrong : 0 ≡ 512 = ap at_in slots in absurd (omega (arith, wrong)))
+
+    header_both : (g : Geometry) → IsHeaderGiven gave_both 0 41472 g → g ≡ one_cylinder
+    header_both g (GivesHeader bytes long gave is) = let same : Ok g ≡ Ok one_cylinder = sym is ∙ ap (λ (l : List ℕ). geometry_of l 41472) (header_bytes_both bytes gave) ∙ header_is_read in cc
+
+    by_bytes : (label bytes found : List ℕ) (o : Option (List ℕ)) → bytes ≡ found → option_and_then label_in (records_by one_cylinder (Some 3) 0 found) ≡ o → option_and_then label_in (records_by one_cylinder (Some 3) 0 bytes) ≡ Some label → o ≡ Some label
+    by_bytes label bytes found o same there is = sym there ∙ ap (λ (l : List ℕ). option_and_then label_in (records_by one_cylinder (Some 3) 0 l)) (sym same) ∙ is
+
+    label_both : (label : List ℕ) → IsLabelGiven gave_both 0 one_cylinder label → label ≡ label_bytes pack01 own
+    label_both label (Gives bytes size gave is) =
+        ⊎_elim
+        (⊎_elim
+        (λ header. let wrong : 512 ≡ 0 = ap at_in header in absurd (omega (arith, wrong)))
+        (λ track. sym (some_same (by_bytes label bytes own_track (Some (label_bytes pack01 own)) (ap bytes_in track) own_label_is_there is))))
+        (λ slots. let wrong : None ≡ Some label = by_bytes label bytes own_slots None (ap bytes_in slots) own_slots_are_no_label is in absurd (cc wrong))
+        gave
+
+    at_label : Reading 0 4608 4096 ≡ track_read 0 one_cylinder 0 → ⊥
+    at_label is = let wrong : 4608 ≡ 512 = ap (number 1) is in omega (arith, wrong)
+
+    not_read : ¬ IsMountRead gave_both 0 41472 (Reading 0 4608 4096)
+    not_read (OfHeader long is) = let wrong : 4608 ≡ 0 = ap (number 1) is in omega (arith, wrong)
+    not_read (OfLabel g header is) = at_label (is ∙ ap (λ (x : Geometry). track_read 0 x 0) (header_both g header))
+    not_read (OfVtoc g header label given inside behind read) =
+        let same = header_both g header in
+        let there = label_both label (subst (λ (x : Geometry). IsLabelGiven gave_both 0 x label) same given) in
+        let low : 1 ≤ 0 = subst (λ (l : List ℕ). 1 ≤ track_of_address one_cylinder (address_at 11 l)) there (subst (λ (x : Geometry). 1 ≤ track_of_address x (address_at 11 label)) same behind) in
+        omega (arith, low)
+
+-- A label that leads to its own track gives that as the broken one of the VTOC; one that leads to the next doesn't.
+label_on_its_track : IsReasonGiven gave_own 0 41472 (VtocTrack 0) × (¬ IsReasonGiven gave_label 0 41472 (VtocTrack 0))
+unfolding gave_own own_track label_in records_of is_front records_to_end records_up_to
+label_on_its_track = (
+  OnLabel one_cylinder (GivesHeader (take 512 image) refl (inl refl) header_is_read) (label_bytes pack01 own) (Gives own_track refl (inr refl) refl) refl refl,
+  leads_on,
+)
+  where
+    other : {g : Geometry} {label : List ℕ} → IsHeaderGiven gave_label 0 41472 g → IsLabelGiven gave_label 0 g label → ¬ track_of_address g (address_at 11 label) ≡ 0
+    other {g} {label} header given there =
+        let wrong : 1 ≡ 0 = led (λ (x : Geometry) (at : Address). track_of_address x at ≡ 0) g label (header_still header label_stays) (given_still given label_stays) there in
+        omega (arith, wrong)
+
+    no_slots : (start len : ℕ) (slots : List VtocSlot) (firsts : List ℕ) → 1 ≤ start → AreGiven gave_label 0 one_cylinder start len slots firsts → slots ≡ []
+    no_slots start zero slots firsts behind given = given.0
+    no_slots start (suc len) slots firsts behind given = absurd (label_alone (start + len) (omega (arith, behind)) given.4)
+
+    begins_there : (o : Option (List ℕ)) (vtoc : Run) → vtoc_by one_cylinder first_track o ≡ Ok vtoc → vtoc.start ≡ 1
+    begins_there None vtoc is = cc
+    begins_there (Some slot) vtoc is = begins one_cylinder first_track vtoc slot is
+
+    no_extent : (vtoc : Run) (slots : List VtocSlot) → slots ≡ [] → ¬ (vtoc_by one_cylinder first_track (first_bytes slots) ≡ Ok vtoc)
+    no_extent vtoc slots none is = let wrong : Err (VtocTrack 1) ≡ Ok vtoc = sym (ap (λ (l : List VtocSlot). vtoc_by one_cylinder first_track (first_bytes l)) none) ∙ is in cc
+
+    no_vtoc : ¬ IsVtocReason gave_label 0 one_cylinder first_track (VtocTrack 0)
+    no_vtoc (BadExtent extent) = label_alone 1 (omega arith) extent
+    no_vtoc (NoSlots vtoc extent why) = label_alone 1 (omega arith) extent
+    no_vtoc (BadSlot vtoc slots firsts is given fault) =
+        let start = begins_there (first_bytes slots) vtoc is in
+        no_extent vtoc slots (no_slots vtoc.start vtoc.len slots firsts (omega (arith, start)) given) is
+
+    leads_on : ¬ IsReasonGiven gave_label 0 41472 (VtocTrack 0)
+    leads_on (Cut is) = ⊎_elim (λ device. cc device) (λ memory. cc memory) is
+    leads_on (BadHeader (TooShort short is)) = omega (arith, short)
+    leads_on (BadHeader (NoGeometry bytes long gave why none is)) = cc is
+    leads_on (Unlabelled g header lacks is) = cc is
+    leads_on (Outside g header label given out is) = cc is
+    leads_on (OnLabel g header label given there is) = other header given there
+    leads_on (NoVtoc g header label given inside why) =
+        no_vtoc (led (λ (x : Geometry) (at : Address). IsVtocReason gave_label 0 x at (VtocTrack 0)) g label (header_still header label_stays) (given_still given label_stays) why)

@@ -4,7 +4,8 @@ use Rattle.std.specs.Prelude.{◌<◌, ◌≤◌, Ok, Err, IfErr, Result, option
 use Rattle.std.specs.List.{list_all}
 use Rattle.ckd_image.specs.declared.header.Geometry.{Geometry}
 use Rattle.ckd_image.specs.Track.{Record}
-use Rattle.hall_core.specs.Made.{HallCall, StaysDone}
+use Rattle.hall_core.specs.Made.{HallCall, MakesOnly, StaysDone}
+use Rattle.hall_core.proofs.MadeLemmas.{makes_then}
 use Rattle.pack_spec.specs.declared.address.Address.{Address}
 use Rattle.pack_spec.specs.declared.addressed.VtocSlot.{VtocSlot}
 use Rattle.pack_spec.specs.declared.MountErr.{MountErr}
@@ -12,10 +13,10 @@ use Rattle.pack_spec.specs.declared.MountErr.TheVariants.{VtocTrack}
 use Rattle.pack_spec.specs.Label.{label_in}
 use Rattle.pack_spec.specs.Slots.{addressed_from}
 use Rattle.pack_spec.specs.Vtoc.{first_slot, is_slot, slot_bytes, slots_in, vtoc_by}
-use Rattle.track_records.specs.Calls.{Gives, HasGiven, records_by}
+use Rattle.track_records.specs.Calls.{Gives, HasGiven, records_by, track_read}
 use Rattle.vol_model.specs.declared.contents.Run.{Run}
 use Rattle.vtoc_index.specs.Contents.{AreRead}
-use Rattle.vtoc_index.specs.Given.{AreFound, AreGiven, AreSlotsGiven, AreSlotsLacking, BadExtent, BadHeader, BadSlot, Cut, GivesExtent, GivesHeader, IsExtentGiven, IsHeaderGiven, IsIndexGiven, IsLabelGiven, IsLabelLacking, IsReasonGiven, IsTrackReason, IsVtocReason, NoFirst, NoGeometry, NoSlots, NoVtoc, Outside, TooShort, TrackLacks, Unlabelled, first_bytes}
+use Rattle.vtoc_index.specs.Given.{AreFound, AreGiven, AreSlotsGiven, AreSlotsLacking, BadExtent, BadHeader, BadSlot, Cut, GivesHeader, IsHeaderGiven, IsIndexGiven, IsLabelGiven, IsLabelLacking, IsMountRead, IsNextRead, IsReasonGiven, IsTrackReason, IsVtocRead, IsVtocReason, NoGeometry, NoSlots, NoVtoc, OfFirst, OfHeader, OfLabel, OfNext, OfOther, OfVtoc, OnLabel, Outside, TooShort, TrackLacks, Unlabelled, first_bytes}
 use Rattle.vtoc_index.specs.Reading.{Adds, IsLabel, Says}
 use Rattle.vtoc_index.specs.declared.label.Label.{Label}
 use Rattle.vtoc_index.specs.declared.slots.ReadSlot.{ReadSlot}
@@ -48,6 +49,7 @@ index_still {v = v} is kept = record {
   given = tracks_still v.unit v.geometry v.vtoc.start v.vtoc.len is.slots v.firsts.items kept is.given;
   dscbs = is.dscbs;
   lawful = is.lawful;
+  apart = is.apart;
   last = is.last;
   buffer = given_still is.buffer kept;
 }
@@ -135,9 +137,6 @@ extent_all g at vtoc first slots more same is = ap (λ (l : List VtocSlot). vtoc
 pub err_at : {T E : Type 0} (P : E → Type 0) (r : Result T E) (e : E) → r ≡ Err e → P e → IfErr r P
 err_at P r e is holds = subst (λ x. IfErr x P) (sym is) holds
 
-pub extent_still : {done later : HallCall → Type 0} {unit : ℕ} {g : Geometry} {at : Address} {answer : Result Run MountErr} → IsExtentGiven done unit g at answer → StaysDone done later → IsExtentGiven later unit g at answer
-extent_still (GivesExtent upto which records given is) kept = GivesExtent upto which records (given_still given kept) is
-
 -- the first slot's track by other names of the geometry and of the track
 pub track_given : {done : HallCall → Type 0} {unit : ℕ} (upto : Option ℕ) (o : Option (List Record)) (g far : Geometry) (track there : ℕ) → g ≡ far → track ≡ there → HasGiven done unit g track (λ bytes. records_by g upto track bytes ≡ o) → HasGiven done unit far there (λ bytes. records_by far upto there bytes ≡ o)
 track_given {done} {unit} upto o g far track there geometry at given =
@@ -167,9 +166,8 @@ pub first_lacks : (done : HallCall → Type 0) (unit : ℕ) (g : Geometry) (vtoc
 first_lacks done unit g vtoc e some lacks is = track_lacks done unit g vtoc 0 vtoc.start e [] [] (omega (arith, some)) (omega arith) (refl, refl) lacks is
 
 pub vtoc_still : {done later : HallCall → Type 0} {unit : ℕ} {g : Geometry} {at : Address} {e : MountErr} → IsVtocReason done unit g at e → StaysDone done later → IsVtocReason later unit g at e
-vtoc_still (BadExtent extent) kept = BadExtent (extent_still extent kept)
-vtoc_still (NoFirst given is) kept = NoFirst (given_still given kept) is
-vtoc_still {unit = unit} {g = g} (NoSlots vtoc extent (TrackLacks k low slots firsts given lacks is)) kept = NoSlots vtoc (extent_still extent kept) (TrackLacks k low slots firsts (tracks_still unit g vtoc.start k slots firsts kept given) (given_still lacks kept) is)
+vtoc_still (BadExtent extent) kept = BadExtent (given_still extent kept)
+vtoc_still {unit = unit} {g = g} (NoSlots vtoc extent (TrackLacks k low slots firsts given lacks is)) kept = NoSlots vtoc (given_still extent kept) (TrackLacks k low slots firsts (tracks_still unit g vtoc.start k slots firsts kept given) (given_still lacks kept) is)
 vtoc_still {unit = unit} {g = g} (BadSlot vtoc slots firsts extent given is) kept = BadSlot vtoc slots firsts extent (tracks_still unit g vtoc.start vtoc.len slots firsts kept given) is
 
 pub reason_still : {done later : HallCall → Type 0} {unit size : ℕ} {e : MountErr} → IsReasonGiven done unit size e → StaysDone done later → IsReasonGiven later unit size e
@@ -178,4 +176,34 @@ reason_still (BadHeader (TooShort short is)) kept = BadHeader (TooShort short is
 reason_still (BadHeader (NoGeometry bytes long gave why none is)) kept = BadHeader (NoGeometry bytes long (kept _ gave) why none is)
 reason_still (Unlabelled g header lacks is) kept = Unlabelled g (header_still header kept) (given_still lacks kept) is
 reason_still (Outside g header label given out is) kept = Outside g (header_still header kept) label (given_still given kept) out is
+reason_still (OnLabel g header label given there is) kept = OnLabel g (header_still header kept) label (given_still given kept) there is
 reason_still (NoVtoc g header label given inside why) kept = NoVtoc g (header_still header kept) label (given_still given kept) inside (vtoc_still why kept)
+
+-- ---- which reads mount a pack
+
+pub next_still : {done later : HallCall → Type 0} {unit : ℕ} {g : Geometry} {vtoc : Run} {call : HallCall} → IsNextRead done unit g vtoc call → StaysDone done later → IsNextRead later unit g vtoc call
+next_still {unit = unit} {g = g} {vtoc = vtoc} (OfNext k low slots firsts given is) kept = OfNext k low slots firsts (tracks_still unit g vtoc.start k slots firsts kept given) is
+
+-- one more track of the VTOC is read, behind those whose slots were given
+pub next_more :
+    {done later : HallCall → Type 0} (unit : ℕ) (g g' : Geometry) (vtoc : Run) (k track : ℕ) (slots : List VtocSlot) (firsts : List ℕ) {h0 h h' : HallCall → ℕ}
+    → MakesOnly (IsNextRead done unit g vtoc) h0 h
+    → MakesOnly (λ call. call ≡ track_read unit g' track) h h'
+    → StaysDone done later
+    → g' ≡ g
+    → track ≡ vtoc.start + k
+    → k < vtoc.len
+    → AreGiven done unit g vtoc.start k slots firsts
+    → MakesOnly (IsNextRead later unit g vtoc) h0 h'
+next_more unit g g' vtoc k track slots firsts before read kept same at low given =
+    makes_then before read (λ call is. next_still is kept)
+    (λ call is. OfNext k low slots firsts (tracks_still unit g vtoc.start k slots firsts kept given) (is ∙ ap (λ (x : Geometry). track_read unit x track) same ∙ ap (track_read unit g) at))
+
+pub vtoc_read_still : {done later : HallCall → Type 0} {unit : ℕ} {g : Geometry} {at : Address} {call : HallCall} → IsVtocRead done unit g at call → StaysDone done later → IsVtocRead later unit g at call
+vtoc_read_still (OfFirst is) kept = OfFirst is
+vtoc_read_still (OfOther vtoc extent next) kept = OfOther vtoc (given_still extent kept) (next_still next kept)
+
+pub mount_read_still : {done later : HallCall → Type 0} {unit size : ℕ} {call : HallCall} → IsMountRead done unit size call → StaysDone done later → IsMountRead later unit size call
+mount_read_still (OfHeader long is) kept = OfHeader long is
+mount_read_still (OfLabel g header is) kept = OfLabel g (header_still header kept) is
+mount_read_still (OfVtoc g header label given inside behind is) kept = OfVtoc g (header_still header kept) label (given_still given kept) inside behind (vtoc_read_still is kept)

@@ -11,11 +11,13 @@ mod Images
 mod Reasons
 pub mod Labels
 mod FirstSlots
+mod FirstTrack
 mod TracksRead
 mod SlotsRead
 mod CallsMade
 mod ReadsMade
 mod Mounts
+mod MountReads
 pub mod NameLemmas
 pub mod Firsts
 pub mod TrackPut
@@ -34,5 +36,5 @@ pub mod SmallPack
 pub mod MountCases
 pub mod PutCases
 mod MadeCases
-mod GivenCases
+pub mod GivenCases
 mod RuleCases

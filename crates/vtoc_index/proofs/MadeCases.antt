@@ -2,19 +2,18 @@
 use Rattle.std.proofs.Common.{◌≡◌, ◌≤◌, ◌<◌, ◌+◌, ◌*◌, ⊎_elim, inl, inr, ℕ, List, [], ◌∷◌, drop, get_or, length, replicate, take, Some, None, refl, sym, subst, ap, ◌∙◌, arith}
 use Rattle.std.specs.Prelude.{slice_get, unwrap_or}
 use Rattle.std.specs.Option.{option_map}
-use Rattle.ckd_image.specs.Header.{HasGeometry}
 use Rattle.ckd_image.specs.Reading.{is_front, records_of, records_to_end, records_up_to}
 use Rattle.ckd_image.specs.Track.{Record}
 use Rattle.dscb_codec.specs.Layout.{IsDscb}
-use Rattle.hall_core.specs.Made.{HallCall, Attaching, Giving, Noting, Printing, Reading, Syncing, Writing}
+use Rattle.hall_core.specs.Made.{HallCall, Attaching, Giving, Lacking, Noting, Printing, Reading, Syncing, Writing}
 use Rattle.pack_spec.specs.Label.{track_bytes}
 use Rattle.track_records.specs.Buffers.{Buffer}
 use Rattle.track_records.specs.Calls.{Gives, records_by, track_read}
 use Rattle.track_records.specs.Updates.{HasLengths, with_parts}
 use Rattle.track_records.specs.Written.{place_of}
-use Rattle.vtoc_index.specs.Calls.{IsMountRead, IsTrackRead}
+use Rattle.vtoc_index.specs.Calls.{IsTrackRead}
 use Rattle.vtoc_index.specs.Index.{slots_in_front}
-use Rattle.vtoc_index.specs.Puts.{Broken, Changed, Emptied, Held, HoldsPut, HoldsRecord, IsPutCall, IsSeen, LacksSlot, Other, Read, Seen, track_of_slot}
+use Rattle.vtoc_index.specs.Puts.{Broken, Changed, Emptied, Held, HoldsPut, HoldsRecord, HoldsSlot, IsPutCall, IsSeen, LacksSlot, Other, Read, Seen, track_of_slot}
 use Rattle.vtoc_index.specs.declared.vol.Vol.{Vol}
 use Rattle.vtoc_index.proofs.PutCases.{c_stands, set_c}
 use Rattle.vtoc_index.proofs.SmallPack.{a, b, c, data_set, image, index, one_cylinder}
@@ -28,6 +27,7 @@ numbers_in Syncing = 3 ∷ []
 numbers_in (Printing bytes) = 4 ∷ bytes
 numbers_in (Noting unit track) = 5 ∷ unit ∷ track ∷ []
 numbers_in (Giving unit at bytes) = 6 ∷ unit ∷ at ∷ bytes
+numbers_in (Lacking name) = 7 ∷ name
 
 number : ℕ → HallCall → ℕ
 number k call = get_or (numbers_in call) k 9
@@ -46,27 +46,6 @@ tracks_of_the_vtoc_are_read = (
   (2, omega arith, omega arith, refl),
   λ is. let at : 512 ≡ 512 + is.0 * 4096 = ap (number 2) is.3 in omega (arith, is.1, at),
   λ is. let at : 12800 ≡ 512 + is.0 * 4096 = ap (number 2) is.3 in omega (arith, is.2, at),
-)
-
-whole_cylinder : HasGeometry 41472 one_cylinder
-whole_cylinder = record { cylinders = omega arith; most = omega arith; track_size = refl; whole = refl }
-
--- The header is read alone, and a track whole: not more than the header, and nothing of another unit.
-header_and_tracks_are_read :
-    IsMountRead 0 41472 (Reading 0 0 512)
-    × IsMountRead 0 41472 (Reading 0 512 4096)
-    × (¬ IsMountRead 0 41472 (Reading 0 0 8192))
-    × (¬ IsMountRead 0 41472 (Reading 1 512 4096))
-unfolding numbers_in number
-header_and_tracks_are_read = (
-  inl refl,
-  inr (one_cylinder, whole_cylinder, 0, refl),
-  ⊎_elim
-      (λ is. let len : 8192 ≡ 512 = ap (number 3) is in omega (arith, len))
-      (λ is. let at : 0 ≡ 512 + is.2 * is.0.track_size = ap (number 2) is.3 in omega (arith, at)),
-  ⊎_elim
-      (λ is. let unit : 1 ≡ 0 = ap (number 1) is in omega (arith, unit))
-      (λ is. let unit : 1 ≡ 0 = ap (number 1) is.3 in omega (arith, unit)),
 )
 
 -- a buffer with two sets on the third track, the second of this name
@@ -214,27 +193,36 @@ module _ (any : Vol) where
       lacks_not (Other buf seen none) = unseen seen
       lacks_not (Broken not (Gives bytes size gave is)) = gave
 
-  -- Behind it the buffer holds the track as it is seen, with C in the slot or as it was; or nothing of it, and not C in another one.
+  -- Behind it the buffer holds the track as it is seen, with C in the slot or as it was; and not C in another one, nor nothing of it where it held the slot. Where it held no record, it may hold none.
   buffer_behind_is_put :
       HoldsPut (holding a) 3 set_c nothing (buffer_with c)
       × HoldsPut (holding a) 3 set_c nothing (buffer_with a)
-      × HoldsPut (holding a) 3 set_c nothing (record (buffer_with a) { records = [] })
+      × HoldsPut (index any) 3 set_c nothing (record (index any).buf { track = 2; records = [] })
       × (¬ HoldsPut (holding a) 3 set_c nothing (buffer_with b))
+      × (¬ HoldsPut (holding a) 3 set_c nothing (record (buffer_with a) { records = [] }))
   unfolding holding nothing buffer_with
   buffer_behind_is_put = (
     Changed (buffer_with a) (Held (refl, omega arith) refl) (data_set c) c_stands refl (refl, refl) refl,
     Seen (Held (refl, omega arith) refl),
-    Emptied refl,
+    Emptied (λ (holds : HoldsSlot (index any) 3). let none : 1 < 0 = holds.1 in omega (arith, none)) refl,
     other_not,
+    none_not,
   )
     where
       second_letter : Buffer → ℕ
       second_letter buf = get_or (unwrap_or (option_map (λ (x : Record). x.key) (slice_get buf.records 1)) []) 0 0
 
       other_not : ¬ HoldsPut (holding a) 3 set_c nothing (buffer_with b)
-      other_not (Emptied same) = let wrong : 2 ≡ 0 = ap (λ (buf : Buffer). length buf.records) same in omega (arith, wrong)
+      other_not (Emptied not same) = let wrong : 2 ≡ 0 = ap (λ (buf : Buffer). length buf.records) same in omega (arith, wrong)
       other_not (Seen seen) = let wrong : 0xC2 ≡ 0xC1 = ap second_letter (held_is_seen a nothing (buffer_with b) seen) in omega (arith, wrong)
       other_not (Changed seen is bytes dscb size lengths same) =
           let letter : 0xC2 ≡ get_or (take 44 bytes) 0 0 = ap second_letter same ∙ ap (λ (buf : Buffer). second_letter (record buf { records = with_parts 1 (take 44 bytes) (drop 44 bytes) buf.records })) (held_is_seen a nothing seen is) in
           let name : get_or (take 44 bytes) 0 0 ≡ 0xC3 = ap (λ (l : List ℕ). get_or l 0 0) dscb.0 in
           omega (arith, letter, name)
+
+      none_not : ¬ HoldsPut (holding a) 3 set_c nothing (record (buffer_with a) { records = [] })
+      none_not (Emptied not same) = not (refl, omega arith)
+      none_not (Seen seen) = let wrong : 0 ≡ 2 = ap (λ (buf : Buffer). length buf.records) (held_is_seen a nothing _ seen) in omega (arith, wrong)
+      none_not (Changed seen is bytes dscb size lengths same) =
+          let wrong : 0 ≡ 2 = ap (λ (buf : Buffer). length buf.records) same ∙ ap (λ (buf : Buffer). length (with_parts 1 (take 44 bytes) (drop 44 bytes) buf.records)) (held_is_seen a nothing seen is) in
+          omega (arith, wrong)

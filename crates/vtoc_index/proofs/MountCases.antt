@@ -311,12 +311,20 @@ reads_of_a_label_that_leads_outside : reads_to_mount (header_bytes one_cylinder 
 unfolding reads_to_mount geometry_of geometry_on label_of label_in records_on track_bytes records_of is_front records_up_to
 reads_of_a_label_that_leads_outside = refl
 
--- A track without a slot is read once where its records are, and twice where it breaks the grammar; and no other behind it.
+-- A label that leads to its own track is refused by that track, which isn't read again.
+abbrev label_on_itself : List ℕ
+label_on_itself = header_bytes one_cylinder ++ new_track 0 0 (label_records pack01 (record { cylinder = 0; head = 0 })) 4096 ++ replicate 36864 0
+
+label_leads_to_itself : (volume_of label_on_itself ≡ Err (VtocTrack 0)) × (reads_to_mount label_on_itself ≡ 2)
+unfolding volume_of reads_to_mount geometry_of geometry_on vtoc_of vtoc_at label_of label_in records_on track_bytes records_of is_front records_to_end records_up_to
+label_leads_to_itself = (refl, refl)
+
+-- A first track without a slot is read once, whether or not it breaks the grammar, and no other behind it.
 reads_of_a_track_without_slots : reads_to_mount (header_bytes one_cylinder ++ new_track 0 0 (label_records pack01 first_track) 4096 ++ new_track 0 1 [] 4096 ++ replicate 32768 0) ≡ 3
 unfolding reads_to_mount geometry_of geometry_on vtoc_of vtoc_at label_of label_in records_on track_bytes records_of is_front records_to_end records_up_to
 reads_of_a_track_without_slots = refl
 
-reads_of_a_track_of_zeros : reads_to_mount (header_bytes one_cylinder ++ new_track 0 0 (label_records pack01 first_track) 4096 ++ replicate 36864 0) ≡ 4
+reads_of_a_track_of_zeros : reads_to_mount (header_bytes one_cylinder ++ new_track 0 0 (label_records pack01 first_track) 4096 ++ replicate 36864 0) ≡ 3
 unfolding reads_to_mount geometry_of geometry_on vtoc_of vtoc_at label_of label_in records_on track_bytes records_of is_front records_to_end records_up_to
 reads_of_a_track_of_zeros = refl
 
@@ -341,13 +349,10 @@ tracks_are_read_up_to_the_first_that_breaks_a_rule :
 unfolding slots_on records_on track_bytes records_of is_front records_to_end
 tracks_are_read_up_to_the_first_that_breaks_a_rule = (refl, refl, refl, refl, refl, refl)
 
--- They aren't asked where the first track has no records, or the extent is bad.
-reads_by_extents :
-    (vtoc_reads image one_cylinder None (Ok (record { start = 1; len = 2 })) ≡ 2)
-    × (vtoc_reads image one_cylinder None (Ok (record { start = 1; len = 3 })) ≡ 2)
-    × (vtoc_reads image one_cylinder None (Err BadVtoc) ≡ 2)
-    × (vtoc_reads image one_cylinder (Some []) (Err BadVtoc) ≡ 1)
-reads_by_extents = (refl, refl, refl, refl)
+-- They aren't asked where the extent is bad.
+reads_by_extents : (vtoc_reads image one_cylinder (Ok (record { start = 1; len = 2 })) ≡ 2) × (vtoc_reads image one_cylinder (Ok (record { start = 1; len = 3 })) ≡ 3) × (vtoc_reads image one_cylinder (Err BadVtoc) ≡ 1)
+unfolding slots_on records_on track_bytes records_of is_front records_to_end
+reads_by_extents = (refl, refl, refl)
 
 -- An image whose VTOC has a second track of zeros: what can be read of it is held, but that track breaks a rule.
 abbrev second_is_broken : List ℕ

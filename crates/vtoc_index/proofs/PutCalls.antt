@@ -12,7 +12,7 @@ use Rattle.track_records.specs.declared.error.TrackErr.TheVariants.{BadCount, De
 use Rattle.track_records.specs.Updates.{HasLengths}
 use Rattle.track_records.specs.Written.{place_of}
 use Rattle.vtoc_index.specs.Index.{slots_in_front}
-use Rattle.vtoc_index.specs.Puts.{Broken, Held, HoldsRecord, IsPutCall, IsSeen, IsSlotWrite, LacksSlot, Other, Read, track_of_slot}
+use Rattle.vtoc_index.specs.Puts.{Broken, Changed, Emptied, Held, HoldsPut, HoldsRecord, IsPutCall, IsSeen, IsSlotWrite, LacksSlot, Other, Read, Seen, track_of_slot}
 use Rattle.vtoc_index.specs.declared.vol.Vol.{Vol}
 
 -- what is seen is seen still, where nothing is taken back of what was done
@@ -57,6 +57,11 @@ call_still call kept =
     (⊎_elim
     (λ is. inr (inl (is.0, lacks_still is.1 kept)))
     (λ is. inr (inr (write_still is kept))))
+
+pub holds_still : {done later : HallCall → Type 0} {v : Vol} {slot : ℕ} {d : Dscb} {buf : Buffer} → HoldsPut v slot d done buf → StaysDone done later → HoldsPut v slot d later buf
+holds_still (Emptied not same) kept = Emptied not same
+holds_still (Seen seen) kept = Seen (seen_still seen kept)
+holds_still (Changed held seen bytes dscb size lengths same) kept = Changed held (seen_still seen kept) bytes dscb size lengths same
 
 -- the read of its track, where the index doesn't hold it, and the note of it where it is seen to have no slot there
 pub put_reads :

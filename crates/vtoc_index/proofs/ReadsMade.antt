@@ -1,13 +1,13 @@
 -- How many reads mount an image, as far as it is known where they are made.
 use Rattle.std.proofs.Common.{◌≡◌, ◌≤◌, ◌<◌, ℕ, zero, suc, ◌+◌, ◌-◌, Bool, true, false, List, [], length, take, Option, Some, None, refl, sym, ap, subst, ◌∙◌, arith}
-use Rattle.std.specs.Prelude.{Ok, Err, cond, is_none, nat_lt, not, option_and_then}
+use Rattle.std.specs.Prelude.{Ok, Err, cond, is_none, nat_lt, not, ◌&&◌, option_and_then}
 use Rattle.std.specs.List.{cons_option, filter_map, position_or_len, range_with_len}
 use Rattle.std.specs.Option.{option_map_or}
+use Rattle.std.proofs.lemmas.Bool.{and_from, lt-ltb}
 use Rattle.std.proofs.lemmas.Bool.Decides.{nat_tests}
 use Rattle.ckd_image.specs.declared.header.Geometry.{Geometry}
 use Rattle.ckd_image.specs.declared.header.ImageErr.TheVariants.{BadMagic}
 use Rattle.ckd_image.specs.Header.{geometry_of}
-use Rattle.ckd_image.specs.Track.{Record}
 use Rattle.hall_core.specs.Facts.{Calls, CallsAtMost}
 use Rattle.vol_model.specs.declared.contents.Run.{Run}
 use Rattle.pack_spec.specs.Faults.{track_fault, track_faults}
@@ -16,7 +16,7 @@ use Rattle.pack_spec.specs.Vtoc.{first_slot, is_vtoc_extent, slots_on, vtoc_by, 
 use Rattle.pack_spec.specs.declared.address.Address.{Address}
 use Rattle.pack_spec.specs.declared.MountErr.{MountErr}
 use Rattle.pack_spec.specs.declared.MountErr.TheVariants.{BadVtoc, VtocTrack}
-use Rattle.vtoc_index.specs.Calls.{first_track_reads, header_reads, reads_behind_header, reads_behind_label, reads_to_mount, tracks_to_read, vtoc_reads}
+use Rattle.vtoc_index.specs.Calls.{header_reads, reads_behind_header, reads_behind_label, reads_to_mount, tracks_to_read, vtoc_reads}
 use Rattle.vtoc_index.specs.Reading.{IsLabel, vtoc_on}
 use Rattle.vtoc_index.specs.declared.label.Label.{Label}
 use Rattle.vtoc_index.proofs.CallsMade.{reads_then, reads_within}
@@ -60,27 +60,22 @@ unfolding track_faults
 first_is_read image g vtoc some = good_are_read image g vtoc.start 0 vtoc.len 1 refl (omega arith) (omega arith) some
 
 -- the first track is read, whatever the extent
-by_extent : (image : List ℕ) (g : Geometry) (x : List Record) (good : Bool) (vtoc : Run) (e : MountErr) → 1 ≤ vtoc.len → 1 ≤ vtoc_reads image g (Some x) (cond good (Ok vtoc) (Err e))
-by_extent image g x true vtoc e some = first_is_read image g vtoc some
-by_extent image g x false vtoc e some = omega arith
+by_extent : (image : List ℕ) (g : Geometry) (good : Bool) (vtoc : Run) (e : MountErr) → 1 ≤ vtoc.len → 1 ≤ vtoc_reads image g (cond good (Ok vtoc) (Err e))
+by_extent image g true vtoc e some = first_is_read image g vtoc some
+by_extent image g false vtoc e some = omega arith
 
-by_first : (image : List ℕ) (g : Geometry) (at : Address) (first : Option (List Record)) (slot : Option (List ℕ)) → first_track_reads first ≤ vtoc_reads image g first (vtoc_by g at slot)
-by_first image g at None slot = omega arith
-by_first image g at (Some x) None = omega arith
-by_first image g at (Some x) (Some slot) =
-    by_extent image g x (is_vtoc_extent g at slot) (record { start = track_of_address g at; len = track_of_address g (address_at 111 slot) - track_of_address g at + 1 }) BadVtoc (omega arith)
+by_first : (image : List ℕ) (g : Geometry) (at : Address) (slot : Option (List ℕ)) → 1 ≤ vtoc_reads image g (vtoc_by g at slot)
+by_first image g at None = omega arith
+by_first image g at (Some slot) =
+    by_extent image g (is_vtoc_extent g at slot) (record { start = track_of_address g at; len = track_of_address g (address_at 111 slot) - track_of_address g at + 1 }) BadVtoc (omega arith)
 
-pub first_reads : (image : List ℕ) (g : Geometry) (at : Address) → first_track_reads (records_on image g None (track_of_address g at)) ≤ vtoc_reads image g (records_on image g None (track_of_address g at)) (vtoc_on image g at)
+pub first_reads : (image : List ℕ) (g : Geometry) (at : Address) → 1 ≤ vtoc_reads image g (vtoc_on image g at)
 unfolding vtoc_on
-first_reads image g at = by_first image g at (records_on image g None (track_of_address g at)) (option_and_then first_slot (records_on image g (Some 1) (track_of_address g at)))
+first_reads image g at = by_first image g at (option_and_then first_slot (records_on image g (Some 1) (track_of_address g at)))
 
--- a VTOC whose first track has records
-pub tracks_are_read : (image : List ℕ) (g : Geometry) (at : Address) (vtoc : Run) (x : List Record) → vtoc.start ≡ track_of_address g at → records_on image g None vtoc.start ≡ Some x → vtoc_on image g at ≡ Ok vtoc
-    → tracks_to_read image g vtoc ≡ vtoc_reads image g (records_on image g None (track_of_address g at)) (vtoc_on image g at)
-tracks_are_read image g at vtoc x begins read extent =
-    sym
-    (ap (λ o. vtoc_reads image g o (vtoc_on image g at)) (ap (λ (t : ℕ). records_on image g None t) (sym begins) ∙ read)
-    ∙ ap (λ r. vtoc_reads image g (Some x) r) extent)
+-- the tracks of a good extent
+pub tracks_are_read : (image : List ℕ) (g : Geometry) (at : Address) (vtoc : Run) → vtoc_on image g at ≡ Ok vtoc → tracks_to_read image g vtoc ≡ vtoc_reads image g (vtoc_on image g at)
+tracks_are_read image g at vtoc extent = sym (ap (vtoc_reads image g) extent)
 
 -- a header that gives a geometry was read
 header_there : (bytes : List ℕ) (len : ℕ) (g : Geometry) → geometry_of bytes len ≡ Ok g → header_reads len ≡ 1
@@ -120,21 +115,21 @@ pub two_of_image : (image : List ℕ) (g : Geometry) (old new : Calls) → geome
 two_of_image image g old new header calls = reads_within 2 (reads_to_mount image) old new (two_at_least image g header) calls
 
 -- the VTOC to which a label leads
-vtoc_is_read : (image : List ℕ) (g : Geometry) (x : Label) → geometry_of (take 512 image) (length image) ≡ Ok g → IsLabel (label_of image g) x → is_inside g x.vtoc ≡ true
-    → reads_to_mount image ≡ 1 + (1 + vtoc_reads image g (records_on image g None (track_of_address g x.vtoc)) (vtoc_on image g x.vtoc))
+vtoc_is_read : (image : List ℕ) (g : Geometry) (x : Label) → geometry_of (take 512 image) (length image) ≡ Ok g → IsLabel (label_of image g) x → is_inside g x.vtoc ≡ true → 1 ≤ track_of_address g x.vtoc → reads_to_mount image ≡ 1 + (1 + vtoc_reads image g (vtoc_on image g x.vtoc))
 unfolding reads_to_mount
-vtoc_is_read image g x header label inside =
+vtoc_is_read image g x header label inside behind =
     let there = label_there (label_of image g) x label in
-    let reads = λ (a : Address). vtoc_reads image g (records_on image g None (track_of_address g a)) (vtoc_of image g) in
+    let leads = λ (a : Address). is_inside g a && nat_lt 0 (track_of_address g a) in
+    let is : leads x.vtoc ≡ true = and_from (is_inside g x.vtoc) (nat_lt 0 (track_of_address g x.vtoc)) inside (lt-ltb 0 (track_of_address g x.vtoc) (omega (arith, behind))) in
     ap (λ (n : ℕ). n + reads_behind_header image (geometry_of (take 512 image) (length image))) (header_there (take 512 image) (length image) g header)
     ∙ ap (λ r. 1 + reads_behind_header image r) header
     ∙ ap (λ o. 1 + (1 + reads_behind_label image g o)) there.1.0
-    ∙ ap (λ (a : Address). 1 + (1 + cond (is_inside g a) (reads a) 0)) (sym there.1.1.vtoc)
-    ∙ ap (λ (n : ℕ). 1 + (1 + n)) (chosen (is_inside g x.vtoc) true (reads x.vtoc) 0 inside)
-    ∙ ap (λ r. 1 + (1 + vtoc_reads image g (records_on image g None (track_of_address g x.vtoc)) r)) (vtoc_inside image g x label inside)
+    ∙ ap (λ (a : Address). 1 + (1 + cond (leads a) (vtoc_reads image g (vtoc_of image g)) 0)) (sym there.1.1.vtoc)
+    ∙ ap (λ (n : ℕ). 1 + (1 + n)) (chosen (leads x.vtoc) true (vtoc_reads image g (vtoc_of image g)) 0 is)
+    ∙ ap (λ r. 1 + (1 + vtoc_reads image g r)) (vtoc_inside image g x label inside)
 
-pub image_of_vtoc : (image seen : List ℕ) (g : Geometry) (x : Label) (old mid new : Calls) → seen ≡ image → geometry_of (take 512 image) (length image) ≡ Ok g → IsLabel (label_of image g) x → is_inside g x.vtoc ≡ true → CallsAtMost 2 0 0 0 old mid
-    → CallsAtMost (vtoc_reads seen g (records_on seen g None (track_of_address g x.vtoc)) (vtoc_on seen g x.vtoc)) 0 0 0 mid new → CallsAtMost (reads_to_mount image) 0 0 0 old new
-image_of_vtoc image seen g x old mid new same header label inside before calls =
-    let reads = λ (i : List ℕ). vtoc_reads i g (records_on i g None (track_of_address g x.vtoc)) (vtoc_on i g x.vtoc) in
-    reads_within (2 + reads image) (reads_to_mount image) old new (omega (arith, vtoc_is_read image g x header label inside)) (reads_then 2 (reads image) old mid new before (subst (λ (i : List ℕ). CallsAtMost (reads i) 0 0 0 mid new) same calls))
+pub image_of_vtoc : (image seen : List ℕ) (g : Geometry) (x : Label) (old mid new : Calls) → seen ≡ image → geometry_of (take 512 image) (length image) ≡ Ok g → IsLabel (label_of image g) x → is_inside g x.vtoc ≡ true → 1 ≤ track_of_address g x.vtoc → CallsAtMost 2 0 0 0 old mid
+    → CallsAtMost (vtoc_reads seen g (vtoc_on seen g x.vtoc)) 0 0 0 mid new → CallsAtMost (reads_to_mount image) 0 0 0 old new
+image_of_vtoc image seen g x old mid new same header label inside behind before calls =
+    let reads = λ (i : List ℕ). vtoc_reads i g (vtoc_on i g x.vtoc) in
+    reads_within (2 + reads image) (reads_to_mount image) old new (omega (arith, vtoc_is_read image g x header label inside behind)) (reads_then 2 (reads image) old mid new before (subst (λ (i : List ℕ). CallsAtMost (reads i) 0 0 0 mid new) same calls))

@@ -1,13 +1,12 @@
 -- The index of a VTOC by what the reads of its pack gave, which is said over each hall, in this project's profile.
-use Rattle.std.specs.Prelude.{◌≡◌, ◌⊎◌, ℕ, ◌+◌, ◌<◌, false, true, List, [], ◌∷◌, ◌++◌, length, take, Option, Some, None, Result, Ok, Err, option_and_then, slice_get, slice_range}
+use Rattle.std.specs.Prelude.{◌≡◌, ◌⊎◌, ℕ, ◌+◌, ◌≤◌, ◌<◌, false, true, List, [], ◌∷◌, ◌++◌, length, Option, Some, None, Result, Ok, Err, option_and_then, slice_get, slice_range}
 use Rattle.std.proofs.Common.{zero, suc}
 use Rattle.std.specs.Option.{option_map}
 use Rattle.ckd_image.specs.declared.header.Geometry.{Geometry}
 use Rattle.ckd_image.specs.declared.header.ImageErr.{ImageErr}
 use Rattle.ckd_image.specs.declared.header.ImageErr.TheVariants.{BadMagic}
 use Rattle.ckd_image.specs.Header.{geometry_of}
-use Rattle.ckd_image.specs.Track.{Record}
-use Rattle.hall_core.specs.Made.{HallCall, Giving}
+use Rattle.hall_core.specs.Made.{HallCall, Giving, Reading}
 use Rattle.pack_spec.specs.declared.address.Address.{Address}
 use Rattle.pack_spec.specs.declared.addressed.VtocSlot.{VtocSlot}
 use Rattle.pack_spec.specs.Faults.{slots_faults}
@@ -17,7 +16,7 @@ use Rattle.pack_spec.specs.Label.{address_at, is_inside, label_in, track_of_addr
 use Rattle.pack_spec.specs.Slots.{addressed_from}
 use Rattle.pack_spec.specs.Vtoc.{first_slot, slots_in, vtoc_by}
 use Rattle.track_records.specs.Buffers.{Buffer}
-use Rattle.track_records.specs.Calls.{HasGiven, records_by}
+use Rattle.track_records.specs.Calls.{HasGiven, records_by, track_read}
 use Rattle.vol_model.specs.declared.contents.Run.{Run}
 use Rattle.vtoc_index.specs.Contents.{AreDscbs, AreRead}
 use Rattle.vtoc_index.specs.declared.tracks.ReadSlots.{ReadSlots}
@@ -60,7 +59,7 @@ pub record AreFound (done : HallCall → Type 0) (unit : ℕ) (g : Geometry) (st
 abbrev pub IsBufferGiven : (HallCall → Type 0) → ℕ → Geometry → Buffer → Type 0
 IsBufferGiven done unit g b = HasGiven done unit g b.track (λ bytes. records_by g None b.track bytes ≡ Some b.records)
 
--- The index is that of the pack, of this size, as reads of its header, its label and each track of its VTOC gave them: its geometry, its serial, where its VTOC lies by the label and the first slot, and its slots, which break no rule; and its buffer has the last track of the VTOC.
+-- The index is that of the pack, of this size, as reads of its header, its label and each track of its VTOC gave them: its geometry, its serial, where its VTOC lies by the label and the first slot, behind the label's track, and its slots, which break no rule; and its buffer has the last track of the VTOC.
 pub record IsIndexGiven (done : HallCall → Type 0) (size : ℕ) (v : Vol) : Type 0 where
   pub header : IsHeaderGiven done v.unit size v.geometry
   pub label : List ℕ
@@ -71,6 +70,7 @@ pub record IsIndexGiven (done : HallCall → Type 0) (size : ℕ) (v : Vol) : Ty
   pub given : AreGiven done v.unit v.geometry v.vtoc.start v.vtoc.len slots v.firsts.items
   pub dscbs : AreDscbs v.slots.items slots
   pub lawful : slots_faults v.geometry slots ≡ []
+  pub apart : 1 ≤ v.vtoc.start
   pub last : v.buf.track + 1 ≡ v.vtoc.start + v.vtoc.len
   pub buffer : IsBufferGiven done v.unit v.geometry v.buf
 
@@ -82,18 +82,17 @@ IsLabelLacking done unit g = HasGiven done unit g 0 (λ bytes. option_and_then l
 abbrev pub AreSlotsLacking : (HallCall → Type 0) → ℕ → Geometry → ℕ → Type 0
 AreSlotsLacking done unit g track = HasGiven done unit g track (λ bytes. option_and_then slots_in (records_by g None track bytes) ≡ None)
 
--- the extent of a VTOC that begins at an address is found so, by the records that a read of the track there gave, to its end, or the first of them alone
-pub data IsExtentGiven (done : HallCall → Type 0) (unit : ℕ) (g : Geometry) (at : Address) (answer : Result Run MountErr) : Type 0 where
-  GivesExtent : (upto : Option ℕ) → (upto ≡ None) ⊎ (upto ≡ Some 1) → (records : List Record) → HasGiven done unit g (track_of_address g at) (λ bytes. records_by g upto (track_of_address g at) bytes ≡ Some records) → vtoc_by g at (first_slot (take 1 records)) ≡ answer → IsExtentGiven done unit g at answer
+-- the extent of a VTOC that begins at an address is found or refused so, by the first record that a read of the track there gave
+abbrev pub IsExtentGiven : (HallCall → Type 0) → ℕ → Geometry → Address → Result Run MountErr → Type 0
+IsExtentGiven done unit g at answer = HasGiven done unit g (track_of_address g at) (λ bytes. vtoc_by g at (option_and_then first_slot (records_by g (Some 1) (track_of_address g at) bytes)) ≡ answer)
 
 -- a track of a VTOC lacks slots, and those before it don't
 pub data IsTrackReason (done : HallCall → Type 0) (unit : ℕ) (g : Geometry) (vtoc : Run) (e : MountErr) : Type 0 where
   TrackLacks : (k : ℕ) → k < vtoc.len → (slots : List VtocSlot) → (firsts : List ℕ) → AreGiven done unit g vtoc.start k slots firsts → AreSlotsLacking done unit g (vtoc.start + k) → e ≡ VtocTrack (vtoc.start + k) → IsTrackReason done unit g vtoc e
 
--- why the VTOC that begins at an address is refused, by what reads of its tracks gave: its extent is, or there is no slot by which it could be found, a track lacks slots, or a slot breaks a rule, the first that does
+-- why the VTOC that begins at an address is refused, by what reads of its tracks gave: its extent is, or no slot is there by which it could be found; a track lacks slots; or a slot breaks a rule, the first that does
 pub data IsVtocReason (done : HallCall → Type 0) (unit : ℕ) (g : Geometry) (at : Address) (e : MountErr) : Type 0 where
   BadExtent : IsExtentGiven done unit g at (Err e) → IsVtocReason done unit g at e
-  NoFirst : HasGiven done unit g (track_of_address g at) (λ bytes. records_by g (Some 1) (track_of_address g at) bytes ≡ None) → e ≡ VtocTrack (track_of_address g at) → IsVtocReason done unit g at e
   NoSlots : (vtoc : Run) → IsExtentGiven done unit g at (Ok vtoc) → IsTrackReason done unit g vtoc e → IsVtocReason done unit g at e
   BadSlot : (vtoc : Run) → (slots : List VtocSlot) → (firsts : List ℕ) → vtoc_by g at (first_bytes slots) ≡ Ok vtoc → AreGiven done unit g vtoc.start vtoc.len slots firsts → slice_get (slots_faults g slots) 0 ≡ Some e → IsVtocReason done unit g at e
 
@@ -108,4 +107,20 @@ pub data IsReasonGiven (done : HallCall → Type 0) (unit size : ℕ) (e : Mount
   BadHeader : IsHeaderReason done unit size e → IsReasonGiven done unit size e
   Unlabelled : (g : Geometry) → IsHeaderGiven done unit size g → IsLabelLacking done unit g → e ≡ NoLabel → IsReasonGiven done unit size e
   Outside : (g : Geometry) → IsHeaderGiven done unit size g → (label : List ℕ) → IsLabelGiven done unit g label → is_inside g (address_at 11 label) ≡ false → e ≡ BadVtoc → IsReasonGiven done unit size e
+  OnLabel : (g : Geometry) → IsHeaderGiven done unit size g → (label : List ℕ) → IsLabelGiven done unit g label → track_of_address g (address_at 11 label) ≡ 0 → e ≡ VtocTrack 0 → IsReasonGiven done unit size e
   NoVtoc : (g : Geometry) → IsHeaderGiven done unit size g → (label : List ℕ) → IsLabelGiven done unit g label → is_inside g (address_at 11 label) ≡ true → IsVtocReason done unit g (address_at 11 label) e → IsReasonGiven done unit size e
+
+-- a read of a track of a VTOC that has this extent, where reads gave the slots of those before it
+pub data IsNextRead (done : HallCall → Type 0) (unit : ℕ) (g : Geometry) (vtoc : Run) (call : HallCall) : Type 0 where
+  OfNext : (k : ℕ) → k < vtoc.len → (slots : List VtocSlot) → (firsts : List ℕ) → AreGiven done unit g vtoc.start k slots firsts → call ≡ track_read unit g (vtoc.start + k) → IsNextRead done unit g vtoc call
+
+-- a read of a track of the VTOC that begins at an address: of the first, or of one in the extent that is found by that
+pub data IsVtocRead (done : HallCall → Type 0) (unit : ℕ) (g : Geometry) (at : Address) (call : HallCall) : Type 0 where
+  OfFirst : call ≡ track_read unit g (track_of_address g at) → IsVtocRead done unit g at call
+  OfOther : (vtoc : Run) → IsExtentGiven done unit g at (Ok vtoc) → IsNextRead done unit g vtoc call → IsVtocRead done unit g at call
+
+-- A read that mounts a pack of this size, by what other reads of it gave: of the header, where one fits in; of the label's track; or of a track of the VTOC, where the label leads into the pack and behind its own track.
+pub data IsMountRead (done : HallCall → Type 0) (unit size : ℕ) (call : HallCall) : Type 0 where
+  OfHeader : 512 ≤ size → call ≡ Reading unit 0 512 → IsMountRead done unit size call
+  OfLabel : (g : Geometry) → IsHeaderGiven done unit size g → call ≡ track_read unit g 0 → IsMountRead done unit size call
+  OfVtoc : (g : Geometry) → IsHeaderGiven done unit size g → (label : List ℕ) → IsLabelGiven done unit g label → is_inside g (address_at 11 label) ≡ true → 1 ≤ track_of_address g (address_at 11 label) → IsVtocRead done unit g (address_at 11 label) call → IsMountRead done unit size call

@@ -55,7 +55,7 @@ pub data IsSeen (before : Buffer) (track r : ℕ) (done : HallCall → Type 0) (
   Held : HoldsRecord before track r → buf ≡ before → IsSeen before track r done buf
   Read : ¬ HoldsRecord before track r → buf ≡ record before { track = track; records = buf.records } → HasGiven done before.unit before.geometry track (λ bytes. records_by before.geometry (Some r) track bytes ≡ Some buf.records) → IsSeen before track r done buf
 
--- No slot is Rr of a track: as it is seen that record has other lengths, or the bytes that a read of the track gave break the grammar before it is whole.
+-- No slot is Rr of a track: as it is seen that record has other lengths, or the bytes that a read of the track gave break the grammar before it and eight bytes behind it are there.
 pub data LacksSlot (before : Buffer) (track r : ℕ) (done : HallCall → Type 0) : Type 0 where
   Other : (buf : Buffer) → IsSeen before track r done buf → ¬ HasLengths buf.records (r - 1) 44 96 → LacksSlot before track r done
   Broken : ¬ HoldsRecord before track r → HasGiven done before.unit before.geometry track (λ bytes. records_by before.geometry (Some r) track bytes ≡ None) → LacksSlot before track r done
@@ -80,9 +80,9 @@ IsPutCall v slot d done call =
     ⊎ (((call ≡ Noting v.unit (track_of_slot v slot)) × LacksSlot v.buf (track_of_slot v slot) (slots_in_front v.firsts.items slot + 1) done)
     ⊎ IsSlotWrite v slot d done call)
 
--- The buffer behind: it holds nothing of the slot's track, or the track as it is seen, or that with the DSCB in the slot.
+-- The buffer behind: it holds nothing of the slot's track, where it didn't hold the slot before; or the track as it is seen, or that with the DSCB in the slot.
 pub data HoldsPut (v : Vol) (slot : ℕ) (d : Dscb) (done : HallCall → Type 0) (buf : Buffer) : Type 0 where
-  Emptied : buf ≡ record v.buf { track = track_of_slot v slot; records = [] } → HoldsPut v slot d done buf
+  Emptied : ¬ HoldsSlot v slot → buf ≡ record v.buf { track = track_of_slot v slot; records = [] } → HoldsPut v slot d done buf
   Seen : IsSeen v.buf (track_of_slot v slot) (slots_in_front v.firsts.items slot + 1) done buf → HoldsPut v slot d done buf
   Changed : (seen : Buffer) → IsSeen v.buf (track_of_slot v slot) (slots_in_front v.firsts.items slot + 1) done seen → (bytes : List ℕ) → IsDscb d bytes → length bytes ≡ 140 → HasLengths seen.records (slots_in_front v.firsts.items slot) 44 96 → buf ≡ record seen { records = with_parts (slots_in_front v.firsts.items slot) (take 44 bytes) (drop 44 bytes) seen.records } → HoldsPut v slot d done buf
 

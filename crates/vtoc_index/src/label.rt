@@ -4,7 +4,7 @@ ghost use Rattle.std.specs.Option.{option_copied};
 ghost use Rattle.ckd_image.specs.Header.{HasGeometry};
 ghost use Rattle.hall_core.specs.Facts.{CallsAtMost, unit_of};
 ghost use Rattle.hall_core.specs.Files.{image_of};
-ghost use Rattle.hall_core.specs.Made.{MakesOnly, StaysDone};
+ghost use Rattle.hall_core.specs.Made.{MakesOnce, MakesOnly, StaysDone};
 ghost use Rattle.hall_core.specs.Moments.{Same};
 ghost use Rattle.pack_spec.specs.Label.{address_at, are_label, is_keyed, label_in, label_of};
 ghost use Rattle.pack_spec.specs.Volume.{volume_within};
@@ -23,7 +23,7 @@ use pack_spec::{Address, MountErr};
 use track_records::{TrackBuf, TrackErr, read_records};
 
 // The track of the label.
-const LABEL_TRACK: u16 = 0;
+pub(crate) const LABEL_TRACK: u16 = 0;
 
 // What the label says of the volume.
 #[derive(Clone, Copy)]
@@ -51,6 +51,7 @@ pub(crate) fn read_label<H: Hall>(
     ensures call { MountCall (H.facts hall.old) (H.facts hall.new) result }
     ensures calls { CallsAtMost 1 0 0 0 (H.calls hall.old) (H.calls hall.new) }
     ensures made { MakesOnly (λ call. call ≡ track_read unit buf.old.geometry 0) (H.made hall.old) (H.made hall.new) }
+    ensures each { MakesOnce (H.made hall.old) (H.made hall.new) }
     ensures kept { StaysDone (H.done hall.old) (H.done hall.new) }
     ensures given { IfOk result (λ label. (content : List ℕ) × IsLabelGiven (H.done hall.new) unit buf.old.geometry content × Says label content) }
     ensures reason { IfErr result (λ e. (e ≡ MountErr.Device) ⊎ ((e ≡ MountErr.NoLabel) × IsLabelLacking (H.done hall.new) unit buf.old.geometry)) }

@@ -98,7 +98,7 @@ fn passed(firsts: &[u32], slot: u32) -> usize
     firsts.iter().filter(|first| **first <= slot).count()
 }
 
-// Makes the buffer hold a record of its unit that is a slot; reads the track where it doesn't.
+// Makes the buffer hold a record of its unit that is a slot; reads the track where it doesn't hold the record.
 fn hold<H: Hall>(hall: &mut H, unit: u8, place: Place, buf: &mut TrackBuf) -> Result<(), Device>
     requires unit { buf.old.unit ≡ unit }
     requires track { HasTrack (H.facts hall.old).units unit buf.old.geometry place.track }
@@ -119,7 +119,7 @@ fn hold<H: Hall>(hall: &mut H, unit: u8, place: Place, buf: &mut TrackBuf) -> Re
     ensures made { MakesOnly (λ call. ((call ≡ track_read unit buf.old.geometry place.track) × (¬ HoldsRecord buf.old place.track place.number)) ⊎ ((call ≡ Noting unit place.track) × LacksSlot buf.old place.track place.number (H.done hall.new))) (H.made hall.old) (H.made hall.new) }
     ensures kept { StaysDone (H.done hall.old) (H.done hall.new) }
     ensures seen { OnOk result (IsSeen buf.old place.track place.number (H.done hall.new) buf.new) }
-    ensures lost { OnErr result ((buf.new ≡ record buf.old { track = place.track; records = [] }) ⊎ IsSeen buf.old place.track place.number (H.done hall.new) buf.new) }
+    ensures lost { OnErr result (((¬ HoldsRecord buf.old place.track place.number) × (buf.new ≡ record buf.old { track = place.track; records = [] })) ⊎ IsSeen buf.old place.track place.number (H.done hall.new) buf.new) }
 {
     fetch(hall, unit, place, buf)?;
     if !holds_slot(buf, place.number) {

@@ -3,7 +3,7 @@ ghost use Rattle.std.specs.Prelude.{◌≡◌, ◌≢◌, ◌≤◌, ◌<◌, �
 ghost use Rattle.ckd_image.specs.Header.{HasGeometry};
 ghost use Rattle.hall_core.specs.Facts.{CallsAtMost, unit_of};
 ghost use Rattle.hall_core.specs.Files.{image_of};
-ghost use Rattle.hall_core.specs.Made.{MakesOnly, StaysDone};
+ghost use Rattle.hall_core.specs.Made.{MakesOnce, MakesOnly, StaysDone};
 ghost use Rattle.hall_core.specs.Moments.{Same};
 ghost use Rattle.pack_spec.specs.Label.{is_inside, records_on, track_of_address};
 ghost use Rattle.pack_spec.specs.Views.{tracks_of};
@@ -12,15 +12,15 @@ ghost use Rattle.pack_spec.specs.Vtoc.{first_slot, slots_on, vtoc_by};
 ghost use Rattle.pack_spec.specs.declared.addressed.VtocSlot.{VtocSlot};
 ghost use Rattle.track_records.specs.Calls.{HasGiven, HasTrack, records_by, track_read};
 ghost use Rattle.track_records.specs.Written.{StandsOn};
-ghost use Rattle.vtoc_index.specs.Calls.{IsMountRead, IsTrackRead, MountCall, first_track_reads, reads_to_mount, tracks_to_read, vtoc_reads};
-ghost use Rattle.vtoc_index.specs.Given.{AreFound, IsBufferGiven, IsIndexGiven, IsReasonGiven, IsTrackReason, IsVtocReason, first_bytes};
+ghost use Rattle.vtoc_index.specs.Calls.{IsTrackRead, MountCall, reads_to_mount, tracks_to_read, vtoc_reads};
+ghost use Rattle.vtoc_index.specs.Given.{AreFound, IsBufferGiven, IsIndexGiven, IsMountRead, IsNextRead, IsReasonGiven, IsVtocRead, IsTrackReason, IsVtocReason, first_bytes};
 ghost use Rattle.vtoc_index.specs.Index.{IsMounted, IsOfUnit, IsReason};
 ghost use Rattle.vtoc_index.specs.declared.slots.ReadSlot.{ReadSlot};
 ghost use Rattle.vtoc_index.specs.Puts.{HoldsItsTrack};
 ghost use Rattle.vtoc_index.specs.Reading.{AreNumbered, AreTracksRead, IsExtent, LastTrackHas, Refuses, vtoc_on};
 
 use crate::header::read_geometry;
-use crate::label::read_label;
+use crate::label::{LABEL_TRACK, read_label};
 use crate::rules::dscbs_in;
 use crate::tracks::ReadSlots;
 use crate::vol::Vol;
@@ -29,11 +29,8 @@ use ckd_image::Geometry;
 use hall_core::Hall;
 use pack_spec::{Address, MountErr};
 use std::alloc::Global;
-use track_records::{TrackBuf, TrackErr, read_records};
+use track_records::{TrackBuf, TrackErr, read_records, read_records_or_first};
 use vol_model::Run;
-
-// The record of the first slot of a track.
-const FIRST_SLOT: u8 = 1;
 
 /// Reads the index of the volume on a unit.
 ///
@@ -44,9 +41,9 @@ const FIRST_SLOT: u8 = 1;
 /// faults rose.
 ///
 /// On a pack that mounts, the header, the label's track and each track of the VTOC, which are counted
-/// from 0 over the volume, are read once, in this order; one that breaks a rule is read up to that, so
-/// that no track is read behind the first of the VTOC that breaks one. Where the first track of the VTOC
-/// breaks the grammar, it is read again for its first slot. All memory of the index is taken here.
+/// from 0 over the volume, are read once, in this order; one that breaks a rule of header, label, extent or
+/// tracks is read up to that, so that no track is read behind the first of the VTOC that breaks one. No call
+/// is made twice. All memory of the index is taken here.
 ///
 /// Label and DSCBs follow System Control Blocks, GC28-6628; the rules and their order are this project's
 /// profile.
@@ -61,7 +58,9 @@ pub fn read_vtoc<H: Hall>(alloc: Global, hall: &mut H, unit: u8) -> Result<Vol, 
     ensures told { IsTrue H.tells → Same (H.meaning hall.old) (H.meaning hall.new) }
     ensures call { MountCall (H.facts hall.old) (H.facts hall.new) result }
     ensures calls { CallsAtMost 259 0 0 0 (H.calls hall.old) (H.calls hall.new) }
-    ensures made { MakesOnly (IsMountRead unit (unit_of (H.facts hall.old).units unit).size) (H.made hall.old) (H.made hall.new) }
+    ensures made { MakesOnly (IsMountRead (H.done hall.new) unit (unit_of (H.facts hall.old).units unit).size) (H.made hall.old) (H.made hall.new) }
+    ensures each { MakesOnce (H.made hall.old) (H.made hall.new) }
+    ensures kept { StaysDone (H.done hall.old) (H.done hall.new) }
     ensures reads { IsTrue H.tells → CallsAtMost (reads_to_mount (image_of (H.meaning hall.old).state (H.facts hall.old) unit)) 0 0 0 (H.calls hall.old) (H.calls hall.new) }
     ensures short { (unit_of (H.facts hall.old).units unit).size < 512 → CallsAtMost 0 0 0 0 (H.calls hall.old) (H.calls hall.new) }
     ensures once { IfOk result (λ vol. CallsAtMost (vol.vtoc.len + 2) 0 0 0 (H.calls hall.old) (H.calls hall.new)) }
@@ -74,6 +73,9 @@ pub fn read_vtoc<H: Hall>(alloc: Global, hall: &mut H, unit: u8) -> Result<Vol, 
     let label = read_label(hall, unit, &mut buf)?;
     if !label.vtoc.is_inside(geometry) {
         return Err(MountErr::BadVtoc);
+    }
+    if label.vtoc.track(geometry) == LABEL_TRACK {
+        return Err(MountErr::VtocTrack { track: LABEL_TRACK }); // its records are the label's, and no slots
     }
     let mut found = ReadSlots::new(alloc);
     let vtoc = read_slots(hall, unit, geometry, label.vtoc, &mut buf, &mut found)?;
@@ -115,8 +117,10 @@ fn read_slots<H: Hall>(
     ensures told { IsTrue H.tells → Same (H.meaning hall.old) (H.meaning hall.new) }
     ensures call { MountCall (H.facts hall.old) (H.facts hall.new) result }
     ensures calls { CallsAtMost 257 0 0 0 (H.calls hall.old) (H.calls hall.new) }
-    ensures made { MakesOnly (IsTrackRead unit geometry (track_of_address geometry at) (tracks_of geometry)) (H.made hall.old) (H.made hall.new) }
-    ensures reads { let image = image_of (H.meaning hall.old).state (H.facts hall.old) unit in IsTrue H.tells → CallsAtMost (vtoc_reads image geometry (records_on image geometry None (track_of_address geometry at)) (vtoc_on image geometry at)) 0 0 0 (H.calls hall.old) (H.calls hall.new) }
+    ensures tracks { MakesOnly (IsTrackRead unit geometry (track_of_address geometry at) (tracks_of geometry)) (H.made hall.old) (H.made hall.new) }
+    ensures made { MakesOnly (IsVtocRead (H.done hall.new) unit geometry at) (H.made hall.old) (H.made hall.new) }
+    ensures each { MakesOnce (H.made hall.old) (H.made hall.new) }
+    ensures reads { let image = image_of (H.meaning hall.old).state (H.facts hall.old) unit in IsTrue H.tells → CallsAtMost (vtoc_reads image geometry (vtoc_on image geometry at)) 0 0 0 (H.calls hall.old) (H.calls hall.new) }
     ensures once { IfOk result (λ vtoc. CallsAtMost vtoc.len 0 0 0 (H.calls hall.old) (H.calls hall.new)) }
     ensures far { IsErrOf result MountErr.Memory → CallsAtMost (length found.new.firsts.items + 1) 0 0 0 (H.calls hall.old) (H.calls hall.new) }
     ensures kept { StaysDone (H.done hall.old) (H.done hall.new) }
@@ -131,7 +135,8 @@ fn read_slots<H: Hall>(
     Ok(vtoc)
 }
 
-// Reads the first track of the VTOC: the VTOC's extent, and how many records the buffer then holds.
+// Reads the first track of the VTOC: the VTOC's extent, and how many records the buffer then holds. The extent
+// is judged, by the first slot, before what stands behind that.
 fn read_first<H: Hall>(
     hall: &mut H,
     unit: u8,
@@ -151,10 +156,9 @@ fn read_first<H: Hall>(
     ensures left { buf.new ≡ record buf.old { unit = unit; track = track_of_address geometry at; records = buf.new.records } }
     ensures told { IsTrue H.tells → Same (H.meaning hall.old) (H.meaning hall.new) }
     ensures call { MountCall (H.facts hall.old) (H.facts hall.new) result }
-    ensures calls { CallsAtMost 2 0 0 0 (H.calls hall.old) (H.calls hall.new) }
+    ensures calls { CallsAtMost 1 0 0 0 (H.calls hall.old) (H.calls hall.new) }
     ensures made { MakesOnly (λ call. call ≡ track_read unit geometry (track_of_address geometry at)) (H.made hall.old) (H.made hall.new) }
-    ensures reads { let image = image_of (H.meaning hall.old).state (H.facts hall.old) unit in IsTrue H.tells → CallsAtMost (first_track_reads (records_on image geometry None (track_of_address geometry at))) 0 0 0 (H.calls hall.old) (H.calls hall.new) }
-    ensures once { OnOk result (CallsAtMost 1 0 0 0 (H.calls hall.old) (H.calls hall.new)) }
+    ensures each { MakesOnce (H.made hall.old) (H.made hall.new) }
     ensures kept { StaysDone (H.done hall.old) (H.done hall.new) }
     ensures given { IfOk result (λ p. HasGiven (H.done hall.new) unit geometry p.0.start (λ bytes. records_by geometry None p.0.start bytes ≡ Some buf.new.records)) }
     ensures found { IfOk result (λ p. vtoc_by geometry at (first_slot (take 1 buf.new.records)) ≡ Ok p.0) }
@@ -162,50 +166,17 @@ fn read_first<H: Hall>(
     ensures file { IsErrOf result MountErr.NoFile → ⊥ }
     ensures memory { IsErrOf result MountErr.Memory → ⊥ }
 {
-    match read_records(hall, unit, at.track(geometry), None, buf) {
-        Ok(count) => match extent_held(buf, geometry, at) {
-            Ok(vtoc) => Ok((vtoc, count)),
-            Err(fault) => Err(fault),
-        },
-        Err(TrackErr::BadCount { .. }) => Err(why_broken(hall, unit, geometry, at, buf)),
-        Err(TrackErr::Device) => Err(MountErr::Device),
-    }
-}
-
-// Why a VTOC isn't read whose first track breaks the grammar: its extent is judged before what stands
-// behind its first slot.
-#[tactic(auto, using(hall_core::proofs::MomentLemmas::same_then))]
-fn why_broken<H: Hall>(
-    hall: &mut H,
-    unit: u8,
-    geometry: Geometry,
-    at: Address,
-    buf: &mut TrackBuf,
-) -> MountErr
-    requires attached { unit < length (H.facts hall.old).units }
-    requires whole { HasGeometry (unit_of (H.facts hall.old).units unit).size geometry }
-    requires buffer { buf.old.geometry ≡ geometry }
-    requires inside { IsTrue (is_inside geometry at) }
-    ensures refused { let image = image_of (H.meaning hall.old).state (H.facts hall.old) unit in IsTrue H.tells → records_on image geometry None (track_of_address geometry at) ≡ None → Refuses (volume_within image geometry (vtoc_on image geometry at)) result }
-    ensures told { IsTrue H.tells → Same (H.meaning hall.old) (H.meaning hall.new) }
-    ensures call { MountCall {T = Unit {0}} (H.facts hall.old) (H.facts hall.new) (Err result) }
-    ensures calls { CallsAtMost 1 0 0 0 (H.calls hall.old) (H.calls hall.new) }
-    ensures made { MakesOnly (λ call. call ≡ track_read unit geometry (track_of_address geometry at)) (H.made hall.old) (H.made hall.new) }
-    ensures kept { StaysDone (H.done hall.old) (H.done hall.new) }
-    ensures reason { HasGiven (H.done hall.old) unit geometry (track_of_address geometry at) (λ bytes. records_by geometry None (track_of_address geometry at) bytes ≡ None) → (result ≡ MountErr.Device) ⊎ IsVtocReason (H.done hall.new) unit geometry at result }
-    ensures file { result ≢ MountErr.NoFile }
-    ensures memory { result ≢ MountErr.Memory }
-    ensures buffer { buf.new ≡ record buf.old { unit = unit; track = track_of_address geometry at; records = buf.new.records } }
-{
     let track = at.track(geometry);
-    match read_records(hall, unit, track, Some(FIRST_SLOT), buf) {
-        Ok(_) => match extent_held(buf, geometry, at) {
-            Ok(_) => MountErr::VtocTrack { track },
-            Err(fault) => fault,
-        },
-        Err(TrackErr::BadCount { .. }) => MountErr::VtocTrack { track },
-        Err(TrackErr::Device) => MountErr::Device,
-    }
+    let held = match read_records_or_first(hall, unit, track, buf) {
+        Ok(held) => held,
+        Err(TrackErr::BadCount { .. }) => return Err(MountErr::VtocTrack { track }),
+        Err(TrackErr::Device) => return Err(MountErr::Device),
+    };
+    let vtoc = extent_held(buf, geometry, at)?;
+    let Some(count) = held else {
+        return Err(MountErr::VtocTrack { track });
+    };
+    Ok((vtoc, count))
 }
 
 // Reads the tracks of the VTOC behind its first, and adds their slots; none behind one that isn't added.
@@ -234,7 +205,9 @@ fn read_others<H: Hall>(
     ensures told { IsTrue H.tells → Same (H.meaning hall.old) (H.meaning hall.new) }
     ensures call { MountCall (H.facts hall.old) (H.facts hall.new) result }
     ensures calls { CallsAtMost (vtoc.len - 1) 0 0 0 (H.calls hall.old) (H.calls hall.new) }
-    ensures made { MakesOnly (IsTrackRead unit geometry (vtoc.start + 1) (vtoc.start + vtoc.len)) (H.made hall.old) (H.made hall.new) }
+    ensures tracks { MakesOnly (IsTrackRead unit geometry (vtoc.start + 1) (vtoc.start + vtoc.len)) (H.made hall.old) (H.made hall.new) }
+    ensures made { (first : List VtocSlot) → AreFound (H.done hall.old) unit geometry vtoc.start 1 first found.old → MakesOnly (IsNextRead (H.done hall.new) unit geometry vtoc) (H.made hall.old) (H.made hall.new) }
+    ensures each { MakesOnce (H.made hall.old) (H.made hall.new) }
     ensures reads { let image = image_of (H.meaning hall.old).state (H.facts hall.old) unit in IsTrue H.tells → AreTracksRead image geometry vtoc.start 1 found.old → CallsAtMost (tracks_to_read image geometry vtoc - 1) 0 0 0 (H.calls hall.old) (H.calls hall.new) }
     ensures far { CallsAtMost ((length found.new.firsts.items - length found.old.firsts.items) + 1) 0 0 0 (H.calls hall.old) (H.calls hall.new) }
     ensures stops { (t : ℕ) → IsErrOf result (MountErr.VtocTrack t) → CallsAtMost (t - vtoc.start) 0 0 0 (H.calls hall.old) (H.calls hall.new) }
@@ -268,6 +241,7 @@ fn read_track<H: Hall>(
     ensures call { MountCall (H.facts hall.old) (H.facts hall.new) result }
     ensures calls { CallsAtMost 1 0 0 0 (H.calls hall.old) (H.calls hall.new) }
     ensures made { MakesOnly (λ call. call ≡ track_read unit buf.old.geometry track) (H.made hall.old) (H.made hall.new) }
+    ensures each { MakesOnce (H.made hall.old) (H.made hall.new) }
     ensures kept { StaysDone (H.done hall.old) (H.done hall.new) }
     ensures given { OnOk result (HasGiven (H.done hall.new) unit buf.old.geometry track (λ bytes. records_by buf.old.geometry None track bytes ≡ Some buf.new.records)) }
     ensures reason { IfErr result (λ e. (e ≡ MountErr.Device) ⊎ ((e ≡ MountErr.VtocTrack track) × HasGiven (H.done hall.new) unit buf.old.geometry track (λ bytes. records_by buf.old.geometry None track bytes ≡ None))) }

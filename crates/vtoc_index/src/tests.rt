@@ -115,28 +115,44 @@ type Case = ([Patch; 2], u64, MountErr, usize);
 // What stands at 0 already.
 const WHOLE: Patch = (0, b'C');
 
-// First each read fails; then the label's key is broken, a count on track 1 where the VTOC's extent is
-// good and where it isn't, and a count on track 2.
-const CASES: [Case; 8] = [
+// The low byte of the head in the label's address of the VTOC, and R of R1 and of R2 on track 1.
+const HEAD_AT: usize = LABEL_AT + 8 + 4 + 14;
+
+const R1_AT: usize = FIRST_AT + FRONT_LEN + 4;
+
+const R2_AT: usize = R1_AT + SLOT_LEN;
+
+// First each read fails; then the label's key is broken, the label leads to its own track, R1 of track 1
+// is broken, its R2 is where the VTOC's extent is good and where it isn't, and R2 of track 2.
+const CASES: [Case; 10] = [
     ([WHOLE, WHOLE], 1, MountErr::Device, 2),
     ([WHOLE, WHOLE], 2, MountErr::Device, 3),
     ([WHOLE, WHOLE], 3, MountErr::Device, 4),
     ([WHOLE, WHOLE], 4, MountErr::Device, 5),
     ([(LABEL_AT + 8, 0), WHOLE], NONE, MountErr::NoLabel, 3),
     (
-        [(FIRST_AT + FRONT_LEN + SLOT_LEN + 4, 9), WHOLE],
+        [(HEAD_AT, 0), WHOLE],
         NONE,
-        MountErr::VtocTrack { track: 1 },
-        5,
+        MountErr::VtocTrack { track: 0 },
+        3,
     ),
     (
-        [
-            (FIRST_AT + FRONT_LEN + SLOT_LEN + 4, 9),
-            (FIRST_AT + FRONT_LEN + 8 + 110, 2),
-        ],
+        [(R1_AT, 9), WHOLE],
+        NONE,
+        MountErr::VtocTrack { track: 1 },
+        4,
+    ),
+    (
+        [(R2_AT, 9), WHOLE],
+        NONE,
+        MountErr::VtocTrack { track: 1 },
+        4,
+    ),
+    (
+        [(R2_AT, 9), (FIRST_AT + FRONT_LEN + 8 + 110, 2)],
         NONE,
         MountErr::BadVtoc,
-        5,
+        4,
     ),
     (
         [(SECOND_AT + FRONT_LEN + SLOT_LEN + 4, 9), WHOLE],

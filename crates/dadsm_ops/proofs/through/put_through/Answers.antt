@@ -8,7 +8,7 @@ use Rattle.hall_core.specs.Files.{image_of}
 use Rattle.hall_core.proofs.MadeLemmas.{done_as, done_still, makes_as, makes_then}
 use Rattle.hall_core.specs.Made.{HasDone}
 use Rattle.vtoc_index.specs.Puts.{IsSlotWrite}
-use Rattle.vtoc_index.proofs.PutCalls.{call_still, write_still}
+use Rattle.vtoc_index.proofs.PutCalls.{call_still, holds_still, write_still}
 use Rattle.vtoc_index.specs.declared.vol.Vol.{Vol}
 use Rattle.dadsm_ops.specs.Operations.{image_named}
 use Rattle.dadsm_ops.proofs.Writes.{put_fails, put_synced}
@@ -75,6 +75,10 @@ pub returns-clause-made : goal.returns-clause-made
 returns-clause-made g c =
     let w = (goal.at.returns-clause-made g c).After-make_durable in
     makes_then c.in_ok-put_slot.ensures.made c.make_durable.ensures.made (λ call is. inl (call_still call c.make_durable.ensures.kept is)) (λ call is. inr (is, wrote g w))
+
+-- a sync leaves the buffer
+pub returns-clause-buffer : goal.returns-clause-buffer
+returns-clause-buffer g c = holds_still c.in_ok-put_slot.ensures.buffer c.make_durable.ensures.kept
 
 pub returns-clause-done : goal.returns-clause-done
 returns-clause-done g c = on_ok c.make_durable.result _ (wrote g (goal.at.returns-clause-done g c).After-make_durable)

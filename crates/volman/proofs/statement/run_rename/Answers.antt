@@ -1,13 +1,12 @@
-use Rattle.std.proofs.Common.{◌≡◌, ◌⊎◌, inl, inr, refl, rules, sym, ◌∙◌, ap, List, ℕ, [], ◌∷◌, Some}
-use Rattle.hall_core.proofs.MadeLemmas.{makes_then}
-use Rattle.hall_core.specs.Made.{MakesOnly, Printing}
+use Rattle.std.proofs.Common.{◌≡◌, Err, refl, rules, sym, subst, ◌∙◌, ap, List, ℕ, [], ◌∷◌}
+use Rattle.std.proofs.lemmas.Result.{err_from_is_err_and}
+use Rattle.hall_core.proofs.MadeLemmas.{makes_as, makes_none}
+use Rattle.hall_core.specs.Made.{Printing}
 use Rattle.vol_model.specs.Events.{Item}
-use Rattle.volman.specs.Statement.{ComesTo, IsAnswerPrint, answer_line, item_on, operation_on}
+use Rattle.volman.specs.Statement.{Ends, answer_line, item_on}
 use Rattle.volman.proofs.Answering.{item_found, promise_found, promise_then, ends_before_line, ends_in_line, answered, unprinted}
-use Rattle.volman.proofs.CallsMade.{comes_as}
-use Rattle.volman.proofs.statement.run_rename.Given.{Over}
+use Rattle.volman.proofs.CallsMade.{ends_before, ends_unsaid}
 use Rattle.volman.proofs.statement.run_rename.Goals as goal
-use Rattle.volman.proofs.statement.run_rename.Goals.{After-say}
 
 pub returns-in_err-outcome-clause-runs : goal.returns-in_err-outcome-clause-runs
 returns-in_err-outcome-clause-runs g c told =
@@ -87,17 +86,24 @@ returns-clause-idle g c told none =
     search (rules, few)
 
 -- the calls of the operation, and the print of what it comes to
-made_by : (g : Over) (c : After-say g) → MakesOnly (λ call. ((v : ℕ) × (c.args.volume ≡ Some v) × g.M.Machine.may_make c.args.machine.now (operation_on c.args.statement.now v) c.say.new.machine call) ⊎ IsAnswerPrint c.args.statement.now (ComesTo c.args.volume (λ v. g.M.Machine.has_done c.args.machine.now (operation_on c.args.statement.now v) c.say.new.machine) (λ v r. g.M.Machine.refuses c.args.machine.now (operation_on c.args.statement.now v) r)) call) (g.M.Machine.made c.args.machine.now) (g.M.Machine.made c.say.new.machine)
-made_by g c =
-    let first = c.args.machine.now in
-    let s = c.args.statement.now in
-    let outcome = c.in_ok-outcome.outcome in
-    makes_then c.rename.ensures.made c.say.ensures.made
-    (λ call is. inl (is.0, is.1, c.say.ensures.leaves first (operation_on s is.0) call is.2))
-    (λ call is. inr (outcome, comes_as _ _ _ _ outcome (λ v. c.say.ensures.still first (operation_on s v)) c.in_ok-outcome.ensures.comes, is ∙ ap Printing (c.deref.ensures.value ∙ c.in-Ok.ensures)))
+pub returns-in_err-outcome-clause-made : goal.returns-in_err-outcome-clause-made
+returns-in_err-outcome-clause-made g c =
+    let p = err_from_is_err_and c.from_residual.result c.from_residual.ensures.1 in
+    Ends c.rename.new.machine c.rename.ensures.made (ends_before c.args.statement.now _ (g.M.Machine.done c.rename.new.machine) _ c.in_err-outcome.field-0.0 c.from_residual.result (p.1 ∙ ap Err p.2) (λ is. c.in_err-outcome.ensures.print (ap Err is))) c.rename.ensures.kept (λ call was. was)
+
+pub returns-in_default-clause-made : goal.returns-in_default-clause-made
+returns-in_default-clause-made g c = Ends c.rename.new.machine c.rename.ensures.made (makes_none _ _) c.rename.ensures.kept (λ call was. was)
 
 pub returns-in_err-say-clause-made : goal.returns-in_err-say-clause-made
-returns-in_err-say-clause-made g c = made_by g (goal.at.returns-in_err-say-clause-made g c).After-say
+returns-in_err-say-clause-made g c =
+    let p = err_from_is_err_and c.from_residual-in_err-say.result c.from_residual-in_err-say.ensures.1 in
+    let said : c.deref.result.now ≡ answer_line c.args.statement.now c.in_ok-outcome.outcome = c.deref.ensures.value ∙ c.in-Ok.ensures in
+    Ends c.rename.new.machine c.rename.ensures.made
+    (ends_unsaid c.args.statement.now _ (g.M.Machine.done c.say.new.machine) c.in_ok-outcome.outcome c.in_err-say.field-0.0 c.from_residual-in_err-say.result (p.1 ∙ ap Err p.2)
+    (λ is. c.in_err-say.ensures.device (ap Err is)) c.in_ok-outcome.ensures.comes (makes_as c.say.ensures.made (λ call is. is ∙ ap Printing said)) (λ is. c.in_err-say.ensures.unmade (ap Err is))) c.rename.ensures.kept c.say.ensures.kept
 
 pub returns-clause-made : goal.returns-clause-made
-returns-clause-made g c = made_by g (goal.at.returns-clause-made g c).After-say
+returns-clause-made g c =
+    let said : c.deref.result.now ≡ answer_line c.args.statement.now c.in_ok-outcome.outcome = c.deref.ensures.value ∙ c.in-Ok.ensures in
+    Ends c.rename.new.machine c.rename.ensures.made
+    (c.in_ok-outcome.outcome, c.in_ok-outcome.ensures.comes, sym c.code_for.ensures, makes_as c.say.ensures.made (λ call is. is ∙ ap Printing said), subst (λ (line : List ℕ). g.M.Machine.done c.say.new.machine (Printing line)) said c.in_ok-say.ensures.done) c.rename.ensures.kept c.say.ensures.kept

@@ -1,6 +1,6 @@
 use Rattle.std.proofs.Common.{◌≡◌, ◌∙◌, ⊎_elim, inl, inr, ℕ, List, sym, ap, subst, arith}
 use Rattle.dscb_codec.specs.declared.Dscb.{Dscb}
-use Rattle.hall_core.proofs.MadeLemmas.{makes_as, makes_then}
+use Rattle.hall_core.proofs.MadeLemmas.{makes_as, makes_none, once_none}
 use Rattle.hall_core.proofs.MomentLemmas.{same_none}
 use Rattle.hall_core.specs.Facts.{Attached, unit_of}
 use Rattle.hall_core.specs.Made.{Does, MakesOnly, Printing}
@@ -8,9 +8,7 @@ use Rattle.hall_core.specs.Moments.{Same}
 use Rattle.volman.specs.Lines.{names_listing}
 use Rattle.vtoc_index.specs.Given.{IsIndexGiven}
 use Rattle.vtoc_index.specs.Index.{IsOfUnit}
-use Rattle.vtoc_index.proofs.GivenLemmas.{index_still}
 use Rattle.volman.specs.Mount.{IsUnmounted}
-use Rattle.volman.proofs.CallsMade.{unmounted_still}
 use Rattle.volman.specs.Made.{IsMountCall, Mounts, Refuses}
 use Rattle.volman.specs.Names.{IsListing, names_in, names_of}
 use Rattle.volman.specs.Run.{PrintsText}
@@ -52,26 +50,30 @@ returns-in-Ok-names_text-clause-made g c =
     let lists = subst (λ (ds : List Dscb). IsListing (names_in ds) listed.0) c.deref.ensures.value listed.1 in
     let text : c.deref-in-Ok-names_text.result.now ≡ names_listing listed.0 = c.deref-in-Ok-names_text.ensures.value ∙ listed.2 in
     let units = sym c.end.ensures.units in
-    Mounts found (subst (λ (us : List Attached). IsOfUnit us found) units c.in-Ok.ensures.unit.0)
-    (subst (λ (us : List Attached). IsIndexGiven (g.H.Hall.done c.end.new.hall) (unit_of us found.unit).size found) units (index_still c.in-Ok.ensures.given c.end.ensures.kept))
-    (makes_then (subst (λ (us : List Attached). MakesOnly (IsMountCall c.args.file.now us) (made c.args.hall.now) (made c.mount.new.hall)) units c.mount.ensures.made) c.end.ensures.made
-    (λ call is. inl is)
-    (λ call is. inr (listed.0, lists, is ∙ ap Printing text)))
-    (λ code. Does _ (listed.0, lists, ap Printing text) (c.end.ensures.done (λ is. omega (arith, code, is))))
-    (⊎_elim (λ done. inl (inl done)) (λ printer. inr (inr (inl printer))) c.end.ensures.which)
+    Mounts c.mount.new.hall
+    (record { only = subst (λ (us : List Attached). MakesOnly (IsMountCall c.args.file.now us (g.H.Hall.done c.mount.new.hall)) (made c.args.hall.now) (made c.mount.new.hall)) units c.mount.ensures.made; once = c.mount.ensures.each; kept = c.mount.ensures.kept })
+    found
+    (subst (λ (us : List Attached). IsOfUnit us found) units c.in-Ok.ensures.unit.0)
+    (subst (λ (us : List Attached). IsIndexGiven (g.H.Hall.done c.mount.new.hall) (unit_of us found.unit).size found) units c.in-Ok.ensures.given)
+    (record {
+      print = record { only = makes_as c.end.ensures.made (λ call is. (listed.0, lists, is ∙ ap Printing text)); once = c.end.ensures.each; kept = c.end.ensures.kept };
+      said = λ code. Does _ (listed.0, lists, ap Printing text) (c.end.ensures.done (λ is. omega (arith, code, is)));
+      status_is = ⊎_elim (λ done. inl done) (λ printer. inr (inl printer)) c.end.ensures.which;
+    })
 
 pub returns-in-Ok-clause-made : goal.returns-in-Ok-clause-made
 returns-in-Ok-clause-made g c =
-    Mounts c.in-Ok.vol c.in-Ok.ensures.unit.0 c.in-Ok.ensures.given (makes_as c.mount.ensures.made (λ call is. inl is)) (λ code. absurd (omega (arith, code, c.code.ensures))) (inr (inr (inr c.code.ensures)))
+    Mounts c.mount.new.hall (record { only = c.mount.ensures.made; once = c.mount.ensures.each; kept = c.mount.ensures.kept }) c.in-Ok.vol c.in-Ok.ensures.unit.0 c.in-Ok.ensures.given
+    (record { print = record { only = makes_none _ _; once = once_none _; kept = λ call was. was }; said = λ code. absurd (omega (arith, code, c.code.ensures)); status_is = inr (inr c.code.ensures) })
 
 pub returns-clause-made : goal.returns-clause-made
 returns-clause-made g c =
-    let made = g.H.Hall.made in
     let units = sym c.refuse.ensures.units in
-    Refuses c.in-Err.why
-    (subst (λ (us : List Attached). IsUnmounted (g.H.Hall.done c.refuse.new.hall) (unit_of us 0).size c.in-Err.why) units (unmounted_still c.in-Err.ensures.reason c.refuse.ensures.kept))
-    (makes_then (subst (λ (us : List Attached). MakesOnly (IsMountCall c.args.file.now us) (made c.args.hall.now) (made c.mount.new.hall)) units c.mount.ensures.made) c.refuse.ensures.made (λ call is. inl is) (λ call is. inr is))
-    c.refuse.ensures.done c.refuse.ensures.status
+    Refuses c.mount.new.hall
+    (record { only = subst (λ (us : List Attached). MakesOnly (IsMountCall c.args.file.now us (g.H.Hall.done c.mount.new.hall)) (g.H.Hall.made c.args.hall.now) (g.H.Hall.made c.mount.new.hall)) units c.mount.ensures.made; once = c.mount.ensures.each; kept = c.mount.ensures.kept })
+    c.in-Err.why
+    (subst (λ (us : List Attached). IsUnmounted (g.H.Hall.done c.mount.new.hall) c.args.file.now us c.in-Err.why) units c.in-Err.ensures.reason)
+    (record { print = record { only = c.refuse.ensures.made; once = c.refuse.ensures.each; kept = c.refuse.ensures.kept }; said = c.refuse.ensures.done; status_is = c.refuse.ensures.answer })
 
 -- the counts of faults, where the file is refused
 pub returns-clause-call : goal.returns-clause-call

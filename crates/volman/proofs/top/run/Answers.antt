@@ -1,10 +1,9 @@
-use Rattle.std.proofs.Common.{rules, arith, ◌≡◌, ◌<◌, ◌+◌, inl, inr, List, ℕ, [], ◌∷◌, length, get_or, Option, Ok, ap, sym, subst, ◌∙◌}
+use Rattle.std.proofs.Common.{rules, arith, ◌≡◌, ◌<◌, ◌+◌, List, ℕ, [], ◌∷◌, length, get_or, Option, Ok, ap, sym, subst, ◌∙◌}
 use Rattle.std.specs.Prelude.{unwrap_or}
 use Rattle.std.proofs.lemmas.List.Quantifiers.{position-Some}
 use Rattle.dscb_codec.specs.declared.Dscb.TheVariants.{F0}
-use Rattle.hall_core.proofs.MadeLemmas.{makes_then}
 use Rattle.hall_core.proofs.MomentLemmas.{durable_same, same_none}
-use Rattle.hall_core.specs.Facts.{Attached, unit_of}
+use Rattle.hall_core.specs.Facts.{Attached, CallsAtMost, unit_of}
 use Rattle.hall_core.specs.Files.{File, file_of}
 use Rattle.hall_core.specs.Made.{MakesOnly}
 use Rattle.hall_core.specs.Moments.{Same}
@@ -15,11 +14,10 @@ use Rattle.vol_model.specs.declared.contents.Run.{Run as VtocRun}
 use Rattle.vtoc_index.specs.Contents.{is_set_named}
 use Rattle.vtoc_index.specs.Given.{IsIndexGiven}
 use Rattle.vtoc_index.specs.Index.{IsMounted, IsOfUnit, track_index}
-use Rattle.vtoc_index.proofs.GivenLemmas.{index_still}
 use Rattle.volman.specs.Mount.{IsUnmounted}
-use Rattle.volman.proofs.CallsMade.{unmounted_still}
+use Rattle.volman.proofs.CallsMade.{statement_as}
 use Rattle.volman.specs.Machine.{shelf_with}
-use Rattle.volman.specs.Made.{HasAnswered, IsMountCall, IsStatementCall, Mounts, OnPack, Refuses}
+use Rattle.volman.specs.Made.{IsMountCall, Mounts, OnPack, OnStatement, Refuses}
 use Rattle.volman.specs.Run.{Does, WorksOn}
 use Rattle.volman.specs.Statement.{item_of}
 use Rattle.volman.specs.Task.{statement_task, task_on}
@@ -88,27 +86,32 @@ pub returns-in-Ok-clause-made : goal.returns-in-Ok-clause-made
 returns-in-Ok-clause-made g c =
     let made = g.H.Hall.made in
     let done = g.H.Hall.done in
+    let synced = g.H.Hall.behind_sync in
+    let calls = g.H.Hall.calls in
     let found = c.in-Ok.vol in
     let statement = c.args.statement.now in
     let ran = c.run_statement-status in
     let ended = ran.result.1.now in
     let units = sym ran.ensures.units in
-    let behind : OnPack c.args.file.now (g.H.Hall.facts ended).units ran.result.0 (λ vol. IsStatementCall vol statement (done ended)) (λ vol. HasAnswered vol statement ran.result.0 (done ended)) (made c.args.hall.now) (made ended) (done ended) =
-    Mounts found (subst (λ (us : List Attached). IsOfUnit us found) units c.in-Ok.ensures.unit.0)
-    (subst (λ (us : List Attached). IsIndexGiven (done ended) (unit_of us found.unit).size found) units (index_still c.in-Ok.ensures.given ran.ensures.kept))
-    (makes_then (subst (λ (us : List Attached). MakesOnly (IsMountCall c.args.file.now us) (made c.args.hall.now) (made c.mount.new.hall)) units c.mount.ensures.made) ran.ensures.made (λ call is. inl is) (λ call is. inr is))
-    ran.ensures.answered ran.ensures.status in
+    let on : OnStatement made done synced calls found statement ran.result.0 c.mount.new.hall ended = statement_as made done synced calls (λ h. h.now) ran.ensures.made in
+    let behind : OnPack made done synced calls c.args.file.now (g.H.Hall.facts ended).units ran.result.0 (λ vol mid. OnStatement made done synced calls vol statement ran.result.0 mid ended × CallsAtMost 1 1 2 1 (calls mid) (calls ended)) c.args.hall.now ended =
+    Mounts c.mount.new.hall
+    (record { only = subst (λ (us : List Attached). MakesOnly (IsMountCall c.args.file.now us (done c.mount.new.hall)) (made c.args.hall.now) (made c.mount.new.hall)) units c.mount.ensures.made; once = c.mount.ensures.each; kept = c.mount.ensures.kept })
+    found
+    (subst (λ (us : List Attached). IsOfUnit us found) units c.in-Ok.ensures.unit.0)
+    (subst (λ (us : List Attached). IsIndexGiven (done c.mount.new.hall) (unit_of us found.unit).size found) units c.in-Ok.ensures.given)
+    (on, ran.ensures.calls) in
     let borrowed = sym (ap (λ (l : List ℕ). get_or l 0 0) ran.ensures.references) in
-    subst (λ h. OnPack c.args.file.now (g.H.Hall.facts h).units ran.result.0 (λ vol. IsStatementCall vol statement (done h)) (λ vol. HasAnswered vol statement ran.result.0 (done h)) (made c.args.hall.now) (made h) (done h)) (sym (c.hall-1.given.1 borrowed)) behind
+    subst (λ h. OnPack made done synced calls c.args.file.now (g.H.Hall.facts h).units ran.result.0 (λ vol mid. OnStatement made done synced calls vol statement ran.result.0 mid h × CallsAtMost 1 1 2 1 (calls mid) (calls h)) c.args.hall.now h) (sym (c.hall-1.given.1 borrowed)) behind
 
 pub returns-in-Err-clause-made : goal.returns-in-Err-clause-made
 returns-in-Err-clause-made g c =
-    let made = g.H.Hall.made in
     let units = sym c.refuse.ensures.units in
-    Refuses c.in-Err.why
-    (subst (λ (us : List Attached). IsUnmounted (g.H.Hall.done c.refuse.new.hall) (unit_of us 0).size c.in-Err.why) units (unmounted_still c.in-Err.ensures.reason c.refuse.ensures.kept))
-    (makes_then (subst (λ (us : List Attached). MakesOnly (IsMountCall c.args.file.now us) (made c.args.hall.now) (made c.mount.new.hall)) units c.mount.ensures.made) c.refuse.ensures.made (λ call is. inl is) (λ call is. inr is))
-    c.refuse.ensures.done c.refuse.ensures.status
+    Refuses c.mount.new.hall
+    (record { only = subst (λ (us : List Attached). MakesOnly (IsMountCall c.args.file.now us (g.H.Hall.done c.mount.new.hall)) (g.H.Hall.made c.args.hall.now) (g.H.Hall.made c.mount.new.hall)) units c.mount.ensures.made; once = c.mount.ensures.each; kept = c.mount.ensures.kept })
+    c.in-Err.why
+    (subst (λ (us : List Attached). IsUnmounted (g.H.Hall.done c.mount.new.hall) c.args.file.now us c.in-Err.why) units c.in-Err.ensures.reason)
+    (record { print = record { only = c.refuse.ensures.made; once = c.refuse.ensures.each; kept = c.refuse.ensures.kept }; said = c.refuse.ensures.done; status_is = c.refuse.ensures.answer })
 
 -- the counts of faults, where the file is refused
 pub returns-in-Err-clause-call : goal.returns-in-Err-clause-call

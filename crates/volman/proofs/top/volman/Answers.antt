@@ -1,6 +1,6 @@
 use Rattle.std.proofs.Common.{◌≡◌, ◌∙◌, ℕ, List, inl, inr, ⊎_elim, sym, ap, subst, Err, Some, arith}
 use Rattle.std.specs.Prelude.{◌⊎◌, Option}
-use Rattle.hall_core.proofs.MadeLemmas.{makes_none}
+use Rattle.hall_core.proofs.MadeLemmas.{makes_none, once_none}
 use Rattle.hall_core.proofs.MomentLemmas.{same_none}
 use Rattle.dadsm_ops.specs.Operations.{image_named}
 use Rattle.hall_core.specs.Facts.{AttachesOnce}
@@ -85,33 +85,33 @@ pub returns-in-None-clause-made : goal.returns-in-None-clause-made
 unfolding words_line
 returns-in-None-clause-made g c =
     let asked = asked_as c.in-Ok.is c.deref.ensures.value (sym c.in-None.ensures) in
-    request_as _ _ _ _ _ _ asked (says_only c.end.ensures.made (λ is. c.end.ensures.done (λ no. omega (arith, is, no))) c.end.ensures.which)
+    request_as _ _ _ _ _ _ _ _ _ asked (says_only c.end.ensures.made c.end.ensures.each c.end.ensures.kept (λ is. c.end.ensures.done (λ no. omega (arith, is, no))) c.end.ensures.which)
 
 pub returns-in-Some-Names-clause-made : goal.returns-in-Some-Names-clause-made
 returns-in-Some-Names-clause-made g c =
     let asked = asked_as c.in-Ok.is c.deref.ensures.value (sym c.in-Some-Names.ensures ∙ ap (λ a. Some (request_in a)) c.in-Some-Names.field-0-is) in
-    request_as _ _ _ _ _ _ asked c.names.ensures.made
+    request_as _ _ _ _ _ _ _ _ _ asked c.names.ensures.made
 
 pub returns-in-Ok-read_deck-clause-made : goal.returns-in-Ok-read_deck-clause-made
 returns-in-Ok-read_deck-clause-made g c =
     let asked = asked_as c.in-Ok.is c.deref.ensures.value (sym c.in-Some-Run.ensures ∙ ap (λ a. Some (request_in a)) c.in-Some-Run.field-0-is) in
-    request_as _ _ _ _ _ _ asked (Stated c.in-Ok-read_deck.statement (λ tells. (c.in-Ok-read_deck.ensures.deck tells).0) c.run.ensures.made)
+    request_as _ _ _ _ _ _ _ _ _ asked (Stated c.in-Ok-read_deck.statement (λ tells. (c.in-Ok-read_deck.ensures.deck tells).0) c.run.ensures.made)
 
 pub returns-in-Err-Form-clause-made : goal.returns-in-Err-Form-clause-made
 unfolding deck_line
 returns-in-Err-Form-clause-made g c =
     let asked = asked_as c.in-Ok.is c.deref.ensures.value (sym c.in-Some-Run.ensures ∙ ap (λ a. Some (request_in a)) c.in-Some-Run.field-0-is) in
     let end = c.end-in-Err-Form.ensures in
-    request_as _ _ _ _ _ _ asked (Formless (λ tells. c.read_deck.ensures.form tells (c.in-Err-Form.is ∙ ap Err c.in-Err-Form.field-0-is)) (says_only end.made (λ is. end.done (λ no. omega (arith, is, no))) end.which))
+    request_as _ _ _ _ _ _ _ _ _ asked (Formless (λ tells. c.read_deck.ensures.form tells (c.in-Err-Form.is ∙ ap Err c.in-Err-Form.field-0-is)) (says_only end.made end.each end.kept (λ is. end.done (λ no. omega (arith, is, no))) end.which))
 
 pub returns-clause-made : goal.returns-clause-made
 returns-clause-made g c =
     let asked = asked_as c.in-Ok.is c.deref.ensures.value (sym c.in-Some-Run.ensures ∙ ap (λ a. Some (request_in a)) c.in-Some-Run.field-0-is) in
-    request_as _ _ _ _ _ _ asked (Unread c.code-in-Err-Read.ensures (makes_none _ _))
+    request_as _ _ _ _ _ _ _ _ _ asked (Unread c.code-in-Err-Read.ensures (record { only = makes_none _ _; kept = λ call was. was }))
 
 pub returns-in_default-clause-made : goal.returns-in_default-clause-made
 returns-in_default-clause-made g c =
-    request_as _ _ _ _ _ _ (ap asked_in c.in_default.is) (record { made = makes_none _ _; said = λ is. absurd (omega (arith, is, c.code.ensures)); status_is = inr (inr c.code.ensures) })
+    request_as _ _ _ _ _ _ _ _ _ (ap asked_in c.in_default.is) (record { print = record { only = makes_none _ _; once = once_none _; kept = λ call was. was }; said = λ is. absurd (omega (arith, is, c.code.ensures)); status_is = inr (inr c.code.ensures) })
 
 pub returns-in-Ok-read_deck-clause-unbegun : goal.returns-in-Ok-read_deck-clause-unbegun
 returns-in-Ok-read_deck-clause-unbegun g c unbegun = c.run.ensures.unbegun (omega (arith, unbegun, c.run.ensures.call.which))

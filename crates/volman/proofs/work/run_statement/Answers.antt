@@ -1,9 +1,8 @@
-use Rattle.std.proofs.Common.{◌≡◌, ◌∙◌, inl, inr, ⊎_elim, ℕ, ◌≤◌, List, [], ◌∷◌, Ok, IsErrOf, refl, sym, ap, subst, arith, rules}
+use Rattle.std.proofs.Common.{◌≡◌, ◌∙◌, inl, inr, ⊎_elim, ℕ, ◌≤◌, List, [], ◌∷◌, Ok, Err, IsErrOf, refl, sym, ap, subst, arith, rules}
 use Rattle.hall_core.specs.Facts.{CallsAtMost, unit_of}
 use Rattle.hall_core.specs.Files.{File, image_of}
-use Rattle.hall_core.specs.Made.{MakesOnly, StaysDone, Syncing}
+use Rattle.hall_core.specs.Made.{MakesOnce, MakesOnly, StaysDone, Syncing}
 use Rattle.hall_core.specs.Steps.{seen}
-use Rattle.hall_core.proofs.MadeLemmas.{makes_as, makes_then}
 use Rattle.pack_spec.specs.Volume.{volume_of}
 use Rattle.vol_model.specs.declared.contents.Volume.{Volume}
 use Rattle.vol_model.specs.Calls.{Keeps}
@@ -14,10 +13,10 @@ use Rattle.vol_model.specs.declared.answers.Stop.TheVariants.{Device, Memory, Pr
 use Rattle.vtoc_index.specs.declared.vol.Vol.{Vol}
 use Rattle.vtoc_index.proofs.KeptLemmas.{mounted_of}
 use Rattle.volman.specs.Machine.{ChangesOnlyNames, HoldsFor, shelf_in, shelf_named, shelf_with}
-use Rattle.volman.specs.Made.{HasAnswered, IsStatementCall}
+use Rattle.volman.specs.Made.{MakesEach, OnStatement}
 use Rattle.volman.specs.Run.{IsCalmSince, StopStands, Synced, WorksOn}
 use Rattle.volman.specs.Statement.{item_of, operation_on}
-use Rattle.volman.proofs.CallsMade.{answered_still, has_answered, statement_call, statement_call_still}
+use Rattle.volman.proofs.CallsMade.{answered_by, failed_by, unprinted_by, wanting_by}
 use Rattle.volman.proofs.Machines.{same_base, same_unit_name}
 use Rattle.volman.proofs.Works.{cut_by, durable_behind, has_worked, has_worked_unprinted, have_line, stops_worked, works_failed, works_finished, works_unprinted}
 use Rattle.volman.proofs.work.run_statement.Goals as goal
@@ -103,11 +102,25 @@ returns-clause-units g c =
 
 pub returns-clause-reported : goal.returns-clause-reported
 returns-clause-reported g c =
+    let F = g.H.Hall.facts in
+    let ran = c.run_rename-ran.result in
+    let call = c.run_rename-ran.ensures.call in
+    let devices : ¬ IsErrOf ran Device → (F c.close-hall.result).dev_faults ≡ (F c.args.hall).dev_faults = λ other. ap (λ h. (F h).dev_faults) c.close-hall.ensures ∙ call.no_device other ∙ ap (λ h. (F h).dev_faults) c.open-machine.ensures.hall in
+    let prints : ¬ IsErrOf ran Print → (F c.close-hall.result).print_faults ≡ (F c.args.hall).print_faults = λ other. ap (λ h. (F h).print_faults) c.close-hall.ensures ∙ call.no_print other ∙ ap (λ h. (F h).print_faults) c.open-machine.ensures.hall in
     elim c.match-ran.branch [
       | in-Ok w ↦ search rules
-      | in-Err-Device w ↦ search rules
-      | in-Err-Print w ↦ search rules
-      | in-Err-Memory w ↦ search rules
+      | in-Err-Device w ↦
+          let failed : IsErrOf ran Device = search rules in
+          record { devices = λ other. absurd (other (w.status-is ∙ w.code-status.ensures)); prints = λ _. ap (λ h. (F h).print_faults) w.hall-is ∙ prints (λ printer. let no : Err Device ≡ Err Print = sym failed ∙ printer in cc no) }
+      | in-Err-Print w ↦
+          let failed : IsErrOf ran Print = search rules in
+          record { devices = λ _. ap (λ h. (F h).dev_faults) w.hall-is ∙ devices (λ device. let no : Err Print ≡ Err Device = sym failed ∙ device in cc no); prints = λ other. absurd (other (w.status-is ∙ w.code-status-in-Err-Print.ensures)) }
+      | in-Err-Memory w ↦
+          let failed : IsErrOf ran Memory = search rules in
+          record {
+            devices = λ _. ap (λ h. (F h).dev_faults) w.hall-is ∙ devices (λ device. let no : Err Memory ≡ Err Device = sym failed ∙ device in cc no);
+            prints = λ _. ap (λ h. (F h).print_faults) w.hall-is ∙ prints (λ printer. let no : Err Memory ≡ Err Print = sym failed ∙ printer in cc no);
+          }
     ]
 
 pub returns-clause-unchanged : goal.returns-clause-unchanged
@@ -174,50 +187,37 @@ returns-clause-made g c =
     let number = c.number_of-volume in
     let made = g.H.Hall.made in
     let done = g.H.Hall.done in
+    let synced = g.H.Hall.behind_sync in
+    let calls = g.H.Hall.calls in
     let statement = c.args.statement.now in
-    let vol = c.args.vol in
-    let new = c.run_rename-ran.new.machine.hall in
-    let ran : MakesOnly (IsStatementCall vol statement (done new)) (made c.args.hall) (made new) =
-    subst (λ h. MakesOnly (IsStatementCall vol statement (done new)) (made h) (made new)) opened.hall
-    (makes_as c.run_rename-ran.ensures.made
-    (λ call is. subst (λ (v : Vol). IsStatementCall v statement (done new) call) opened.vol (statement_call machine.vol statement number.result (done new) number.ensures.there number.ensures.found call is)))
-    in
-    let closed : c.close-hall.result ≡ new = c.close-hall.ensures in
-    let kept : c.match-ran.hall ≡ c.close-hall.result → MakesOnly (IsStatementCall vol statement (done c.match-ran.hall)) (made c.args.hall) (made c.match-ran.hall) =
-    λ is. subst (λ h. MakesOnly (IsStatementCall vol statement (done h)) (made c.args.hall) (made h)) (sym (is ∙ closed)) ran in
+    let ran = c.run_rename-ran.new.machine in
+    let result = c.run_rename-ran.result in
+    let status = c.match-ran.status in
+    let from_machine : (h : _) → OnStatement made done synced calls machine.vol statement status machine.hall h → c.match-ran.hall ≡ h → OnStatement made done synced calls c.args.vol statement status c.args.hall c.match-ran.hall =
+    λ h on is. subst (λ x. OnStatement made done synced calls c.args.vol statement status c.args.hall x) (sym is)
+    (subst (λ x. OnStatement made done synced calls c.args.vol statement status x h) opened.hall (subst (λ (v : Vol). OnStatement made done synced calls v statement status machine.hall h) opened.vol on)) in
     elim c.match-ran.branch [
       | in-Ok w ↦
           let finish = w.finish-status in
-          let stays : StaysDone (done new) (done finish.new.hall) = subst (λ h. StaysDone (done h) (done finish.new.hall)) closed finish.ensures.kept in
-          let answered = subst (λ (v : Vol). HasAnswered v statement w.in-Ok.code (done new)) opened.vol (has_answered machine.vol statement number.result w.in-Ok.code (done new) number.ensures.there number.ensures.found w.in-Ok.ensures.answered) in
-          subst (λ h. MakesOnly (IsStatementCall vol statement (done h)) (made c.args.hall) (made h)) (sym w.hall-is)
-          (makes_then ran (subst (λ h. MakesOnly (λ call. call ≡ Syncing) (made h) (made finish.new.hall)) closed finish.ensures.made)
-          (λ call is. statement_call_still vol statement call stays is)
-          (λ call is. inr (inr (is, (w.in-Ok.code, answered_still answered stays)))))
-      | in-Err-Device w ↦ kept w.hall-is
-      | in-Err-Print w ↦ kept w.hall-is
-      | in-Err-Memory w ↦ kept w.hall-is
-    ]
-
-pub returns-clause-answered : goal.returns-clause-answered
-returns-clause-answered g c is =
-    let machine = c.open-machine.result in
-    let opened = c.open-machine.ensures in
-    let number = c.number_of-volume in
-    let done = g.H.Hall.done in
-    let statement = c.args.statement.now in
-    let new = c.run_rename-ran.new.machine.hall in
-    elim c.match-ran.branch [
-      | in-Ok w ↦
-          let finish = w.finish-status in
-          let same : w.in-Ok.code ≡ c.match-ran.status = ⊎_elim (λ ok. sym (w.status-is ∙ ok)) (λ (fault : finish.result ≡ 22). let status : c.match-ran.status ≡ 22 = w.status-is ∙ fault in absurd (omega (arith, is, status))) finish.ensures.status in
-          let stays : StaysDone (done new) (done c.match-ran.hall) =
-          subst (λ h. StaysDone (done new) (done h)) (sym w.hall-is) (subst (λ h. StaysDone (done h) (done finish.new.hall)) c.close-hall.ensures finish.ensures.kept) in
-          let answered = subst (λ (v : Vol). HasAnswered v statement w.in-Ok.code (done new)) opened.vol (has_answered machine.vol statement number.result w.in-Ok.code (done new) number.ensures.there number.ensures.found w.in-Ok.ensures.answered) in
-          subst (λ (n : ℕ). HasAnswered c.args.vol statement n (done c.match-ran.hall)) same (answered_still answered stays)
-      | in-Err-Device w ↦ let status : c.match-ran.status ≡ 22 = w.status-is ∙ w.code-status.ensures in absurd (omega (arith, is, status))
-      | in-Err-Print w ↦ let status : c.match-ran.status ≡ 24 = w.status-is ∙ w.code-status-in-Err-Print.ensures in absurd (omega (arith, is, status))
-      | in-Err-Memory w ↦ let status : c.match-ran.status ≡ 25 = w.status-is ∙ w.code-status-in-Err-Memory.ensures in absurd (omega (arith, is, status))
+          let sync : MakesEach made done synced calls (λ call. call ≡ Syncing) ran.hall finish.new.hall = record {
+            only = subst (λ h. MakesOnly (λ call. call ≡ Syncing) (made h) (made finish.new.hall)) c.close-hall.ensures finish.ensures.made;
+            once = subst (λ h. MakesOnce (made h) (made finish.new.hall)) c.close-hall.ensures finish.ensures.each;
+            kept = subst (λ h. StaysDone (done h) (done finish.new.hall)) c.close-hall.ensures finish.ensures.kept;
+          }
+          in
+          from_machine finish.new.hall
+          (answered_by (λ m. m.hall) made done synced calls machine.vol statement number.result number.ensures.there number.ensures.found w.in-Ok.code status machine ran finish.new.hall w.in-Ok.ensures.made sync
+          (⊎_elim (λ (ok : finish.result ≡ w.in-Ok.code). inl (w.status-is ∙ ok, finish.ensures.behind (λ (bad : finish.result ≡ 22). omega (arith, ok, bad, w.in-Ok.ensures.codes)))) (λ (fault : finish.result ≡ 22). inr (w.status-is ∙ fault)) finish.ensures.status))
+          w.hall-is
+      | in-Err-Device w ↦
+          let failed : IsErrOf result Device = search rules in
+          from_machine ran.hall (failed_by (λ m. m.hall) made done synced calls machine.vol statement number.result number.ensures.there number.ensures.found status machine ran result failed c.run_rename-ran.ensures.made (w.status-is ∙ w.code-status.ensures)) (w.hall-is ∙ c.close-hall.ensures)
+      | in-Err-Print w ↦
+          let failed : IsErrOf result Print = search rules in
+          from_machine ran.hall (unprinted_by (λ m. m.hall) made done synced calls machine.vol statement number.result number.ensures.there number.ensures.found status machine ran result failed c.run_rename-ran.ensures.made (w.status-is ∙ w.code-status-in-Err-Print.ensures)) (w.hall-is ∙ c.close-hall.ensures)
+      | in-Err-Memory w ↦
+          let failed : IsErrOf result Memory = search rules in
+          from_machine ran.hall (wanting_by (λ m. m.hall) made done synced calls machine.vol statement number.result number.ensures.there number.ensures.found status machine ran result failed c.run_rename-ran.ensures.made (w.status-is ∙ w.code-status-in-Err-Memory.ensures)) (w.hall-is ∙ c.close-hall.ensures)
     ]
 
 -- what was done is done still

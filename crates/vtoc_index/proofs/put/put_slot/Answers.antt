@@ -229,7 +229,7 @@ returns-in_err-hold-clause-buffer g c =
     let v = c.args.vol.now in
     let place = c.place_of-place in
     ⊎_elim
-    (λ emptied. Emptied (emptied ∙ ap (λ (n : ℕ). record v.buf { track = n; records = [] }) place.ensures.track))
+    (λ emptied. Emptied (λ holds. emptied.0 (holds.0 ∙ sym place.ensures.track, omega (arith, holds.1, place.ensures.number))) (emptied.1 ∙ ap (λ (n : ℕ). record v.buf { track = n; records = [] }) place.ensures.track))
     (λ seen. Seen (slot_seen v c.args.slot place.result.number place.result.track _ _ c.hold.new.buf place.ensures.track place.ensures.number (λ call was. was) seen))
     c.in_err-hold.ensures.lost
 

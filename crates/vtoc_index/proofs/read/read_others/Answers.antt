@@ -3,7 +3,7 @@ use Rattle.std.specs.Prelude.{Ok, Err}
 use Rattle.std.proofs.lemmas.Result.{err_from_is_err_and}
 use Rattle.ckd_image.specs.declared.header.Geometry.{Geometry}
 use Rattle.hall_core.specs.Files.{image_of}
-use Rattle.hall_core.proofs.MadeLemmas.{makes_as, makes_none}
+use Rattle.hall_core.proofs.MadeLemmas.{makes_as, makes_none, once_none}
 use Rattle.hall_core.proofs.MomentLemmas.{same_none, same_then}
 use Rattle.pack_spec.specs.Label.{records_on}
 use Rattle.pack_spec.specs.Vtoc.{slots_on}
@@ -13,8 +13,8 @@ use Rattle.vtoc_index.specs.Calls.{tracks_to_read}
 use Rattle.track_records.specs.Calls.{HasGiven, records_by}
 use Rattle.vtoc_index.specs.Given.{AreFound, IsTrackReason}
 use Rattle.vtoc_index.specs.Reading.{AreNumbered, AreTracksRead}
-use Rattle.vtoc_index.proofs.CallsMade.{begins_further, begins_same, buffer_read, call_done, call_fails, call_stays, has_track, refuses_at, not_device, reads_then, reads_within, stands_whole, stay_more, stay_none, track_more, track_reason}
-use Rattle.vtoc_index.proofs.GivenLemmas.{broken_lacks, err_at, found_more, found_still, other_lacks, track_given, track_lacks}
+use Rattle.vtoc_index.proofs.CallsMade.{begins_further, begins_same, buffer_read, call_done, call_fails, call_stays, has_track, refuses_at, not_device, reads_then, reads_within, stands_whole, stay_more, stay_none, track_long, track_more, track_once, track_reason}
+use Rattle.vtoc_index.proofs.GivenLemmas.{broken_lacks, err_at, found_more, found_still, next_more, other_lacks, track_given, track_lacks}
 use Rattle.vtoc_index.proofs.Images.{same_image}
 use Rattle.vtoc_index.proofs.ReadsMade.{good_are_read}
 use Rattle.vtoc_index.proofs.TracksRead.{last_of, numbered_more, read_more, slots_are, track_refused}
@@ -27,7 +27,9 @@ loop-track-init g c =
     let image = image_of (g.H.Hall.meaning c.args.hall.now).state (g.H.Hall.facts c.args.hall.now) c.args.unit in
     record {
       calls = (omega arith, omega arith, omega arith, omega arith, omega arith);
-      made = makes_none _ _;
+      tracks = makes_none _ _;
+      made = λ first are. makes_none _ _;
+      each = once_none _;
       kept = λ call was. was;
       seen = λ given. given;
       given = λ first are. subst (λ (n : ℕ). AreFound (g.H.Hall.done c.args.hall.now) c.args.unit c.args.geometry start n first c.args.found.now) one are;
@@ -131,7 +133,11 @@ loop-track-preserved g c =
         omega (arith, l.invariant.calls.3, c.in_ok-count.ensures.calls.3),
         omega (arith, l.invariant.calls.4, c.in_ok-count.ensures.calls.4),
       );
-      made = track_more c.args.unit c.args.geometry l.buf.geometry (start + 1) l.track (start + (l.track - start)) (start + (l.track + 1 - start)) l.invariant.made c.in_ok-count.ensures.made l.invariant.geometry (omega (arith, l.auto.track)) (omega (arith, l.auto.track)) (omega (arith, next));
+      tracks = track_more c.args.unit c.args.geometry l.buf.geometry (start + 1) l.track (start + (l.track - start)) (start + (l.track + 1 - start)) l.invariant.tracks c.in_ok-count.ensures.made l.invariant.geometry (omega (arith, l.auto.track)) (omega (arith, l.auto.track)) (omega (arith, next));
+      made = λ first are.
+          let given = l.invariant.given first are in
+          next_more c.args.unit c.args.geometry l.buf.geometry c.args.vtoc (l.track - start) l.track given.slots l.found.firsts.items (l.invariant.made first are) c.in_ok-count.ensures.made c.in_ok-count.ensures.kept l.invariant.geometry at (omega (arith, l.auto.track, c.loop-track-test.true)) given.given;
+      each = track_once c.args.unit c.args.geometry l.buf.geometry (start + 1) (start + (l.track - start)) l.track l.invariant.each l.invariant.tracks c.in_ok-count.ensures.each c.in_ok-count.ensures.made l.invariant.geometry (omega (arith, l.auto.track)) (track_long c.requires.whole);
       kept = λ call was. c.in_ok-count.ensures.kept call (l.invariant.kept call was);
       seen = λ _. track_given None _ _ _ _ _ l.invariant.geometry (sym held.track_is) c.in_ok-count.ensures.given;
       given = λ first are.
@@ -284,30 +290,30 @@ returns-clause-far g c =
     let n = l.track - c.args.vtoc.start in
     reads_within (n - 1) (length l.found.firsts.items - length c.args.found.now.firsts.items + 1) (g.H.Hall.calls c.args.hall.now) (g.H.Hall.calls l.hall) (omega (arith, l.invariant.numbers.tracks, c.requires.numbers.tracks)) l.invariant.calls
 
-pub returns-in_err-count-clause-made : goal.returns-in_err-count-clause-made
-returns-in_err-count-clause-made g c =
+pub returns-in_err-count-clause-tracks : goal.returns-in_err-count-clause-tracks
+returns-in_err-count-clause-tracks g c =
     let l = c.loop-track in
     let start = c.args.vtoc.start in
-    track_more c.args.unit c.args.geometry l.buf.geometry (start + 1) l.track (start + (l.track - start)) (start + c.args.vtoc.len) l.invariant.made c.in_err-count.ensures.made l.invariant.geometry
+    track_more c.args.unit c.args.geometry l.buf.geometry (start + 1) l.track (start + (l.track - start)) (start + c.args.vtoc.len) l.invariant.tracks c.in_err-count.ensures.made l.invariant.geometry
     (omega (arith, l.auto.track))
     (omega (arith, c.loop-track-test.true))
     (omega (arith, l.auto.track, c.loop-track-test.true))
 
-pub returns-in_err-add-clause-made : goal.returns-in_err-add-clause-made
-returns-in_err-add-clause-made g c =
+pub returns-in_err-add-clause-tracks : goal.returns-in_err-add-clause-tracks
+returns-in_err-add-clause-tracks g c =
     let l = c.loop-track in
     let start = c.args.vtoc.start in
-    track_more c.args.unit c.args.geometry l.buf.geometry (start + 1) l.track (start + (l.track - start)) (start + c.args.vtoc.len) l.invariant.made c.in_ok-count.ensures.made l.invariant.geometry
+    track_more c.args.unit c.args.geometry l.buf.geometry (start + 1) l.track (start + (l.track - start)) (start + c.args.vtoc.len) l.invariant.tracks c.in_ok-count.ensures.made l.invariant.geometry
     (omega (arith, l.auto.track))
     (omega (arith, c.loop-track-test.true))
     (omega (arith, l.auto.track, c.loop-track-test.true))
 
-pub returns-clause-made : goal.returns-clause-made
-returns-clause-made g c =
+pub returns-clause-tracks : goal.returns-clause-tracks
+returns-clause-tracks g c =
     let l = c.loop-track in
     let start = c.args.vtoc.start in
     let all : l.track - start ≤ c.args.vtoc.len = omega (arith, c.loop-track-test.false, l.auto.track, l.auto.track-end, c.requires.tracks.0) in
-    makes_as l.invariant.made (λ call is. (is.0, is.1, omega (arith, is.2, all), is.3))
+    makes_as l.invariant.tracks (λ call is. (is.0, is.1, omega (arith, is.2, all), is.3))
 
 -- what was done, and what the reads gave
 pub returns-in_err-count-clause-kept : goal.returns-in_err-count-clause-kept
@@ -356,3 +362,30 @@ returns-in_err-add-clause-reason g c first are =
     (⊎_elim (λ memory. inr (inl memory))
     (λ other. inr (inr (track_lacks done c.args.unit c.args.geometry vtoc (l.track - vtoc.start) l.track c.in_err-add.field-0.0 before.slots l.found.firsts.items low at before.given (other_lacks c.args.geometry l.track c.read_track.new.buf.records (track_given None _ _ _ _ _ l.invariant.geometry refl c.in_ok-count.ensures.given) other.1) other.0)))
     c.in_err-add.ensures.refused)
+
+-- which reads are made, and none twice
+pub returns-in_err-count-clause-made : goal.returns-in_err-count-clause-made
+returns-in_err-count-clause-made g c first are =
+    let l = c.loop-track in
+    let start = c.args.vtoc.start in
+    let given = l.invariant.given first are in
+    next_more c.args.unit c.args.geometry l.buf.geometry c.args.vtoc (l.track - start) l.track given.slots l.found.firsts.items (l.invariant.made first are) c.in_err-count.ensures.made c.in_err-count.ensures.kept l.invariant.geometry (omega (arith, l.auto.track)) (omega (arith, l.auto.track, c.loop-track-test.true)) given.given
+
+pub returns-in_err-add-clause-made : goal.returns-in_err-add-clause-made
+returns-in_err-add-clause-made g c first are =
+    let l = c.loop-track in
+    let start = c.args.vtoc.start in
+    let given = l.invariant.given first are in
+    next_more c.args.unit c.args.geometry l.buf.geometry c.args.vtoc (l.track - start) l.track given.slots l.found.firsts.items (l.invariant.made first are) c.in_ok-count.ensures.made c.in_ok-count.ensures.kept l.invariant.geometry (omega (arith, l.auto.track)) (omega (arith, l.auto.track, c.loop-track-test.true)) given.given
+
+pub returns-in_err-count-clause-each : goal.returns-in_err-count-clause-each
+returns-in_err-count-clause-each g c =
+    let l = c.loop-track in
+    let start = c.args.vtoc.start in
+    track_once c.args.unit c.args.geometry l.buf.geometry (start + 1) (start + (l.track - start)) l.track l.invariant.each l.invariant.tracks c.in_err-count.ensures.each c.in_err-count.ensures.made l.invariant.geometry (omega (arith, l.auto.track)) (track_long c.requires.whole)
+
+pub returns-in_err-add-clause-each : goal.returns-in_err-add-clause-each
+returns-in_err-add-clause-each g c =
+    let l = c.loop-track in
+    let start = c.args.vtoc.start in
+    track_once c.args.unit c.args.geometry l.buf.geometry (start + 1) (start + (l.track - start)) l.track l.invariant.each l.invariant.tracks c.in_ok-count.ensures.each c.in_ok-count.ensures.made l.invariant.geometry (omega (arith, l.auto.track)) (track_long c.requires.whole)

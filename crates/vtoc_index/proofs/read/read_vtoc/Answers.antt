@@ -3,17 +3,16 @@ use Rattle.std.specs.Prelude.{Ok, Err}
 use Rattle.ckd_image.specs.declared.header.Geometry.{Geometry}
 use Rattle.pack_spec.specs.declared.address.Address.{Address}
 use Rattle.pack_spec.specs.Vtoc.{vtoc_by}
-use Rattle.vtoc_index.specs.Given.{BadHeader, BadSlot, Cut, IsLabelGiven, IsLabelLacking, IsReasonGiven, IsVtocReason, NoVtoc, Outside, Unlabelled, first_bytes}
-use Rattle.pack_spec.specs.Label.{is_inside}
+use Rattle.vtoc_index.specs.Given.{BadHeader, BadSlot, Cut, IsLabelGiven, IsLabelLacking, IsReasonGiven, IsVtocReason, NoVtoc, OnLabel, Outside, Unlabelled, first_bytes}
+use Rattle.pack_spec.specs.Label.{is_inside, label_of, track_of_address}
+use Rattle.pack_spec.specs.declared.MountErr.TheVariants.{VtocTrack}
+use Rattle.vtoc_index.proofs.FirstSlots.{extent_on_label, label_is}
+use Rattle.vtoc_index.proofs.Reasons.{extent_refused, refuses}
 use Rattle.vtoc_index.proofs.GivenLemmas.{err_at, extent_all, header_still}
 use Rattle.vtoc_index.proofs.PutCalls.{given_still}
 use Rattle.std.proofs.lemmas.Result.{err_from_is_err_and}
 use Rattle.hall_core.specs.Facts.{unit_of}
 use Rattle.hall_core.specs.Files.{image_of}
-use Rattle.hall_core.specs.Made.{MakesOnly}
-use Rattle.hall_core.proofs.MadeLemmas.{makes_then}
-use Rattle.track_records.specs.Calls.{track_read}
-use Rattle.vtoc_index.specs.Calls.{IsMountRead}
 use Rattle.pack_spec.specs.Slots.{slots_of_vtoc}
 use Rattle.track_records.specs.Buffers.{Buffer}
 use Rattle.track_records.specs.Written.{StandsOn}
@@ -21,7 +20,8 @@ use Rattle.vtoc_index.specs.Contents.{AreRead}
 use Rattle.vtoc_index.specs.Index.{AreFirsts}
 use Rattle.vtoc_index.specs.Reading.{AreTracksRead, vtoc_on}
 use Rattle.vtoc_index.specs.declared.slots.ReadSlot.{ReadSlot}
-use Rattle.vtoc_index.proofs.CallsMade.{reason_at, reads_then}
+use Rattle.vtoc_index.proofs.CallsMade.{reason_at, reads_then, track_long}
+use Rattle.vtoc_index.proofs.MountReads.{header_made, label_made, label_once, vtoc_made, vtoc_once}
 use Rattle.vtoc_index.proofs.Firsts.{before_last}
 use Rattle.vtoc_index.proofs.Images.{image_length, same_image}
 use Rattle.vtoc_index.proofs.Mounts.{label_reason, label_seen, mounted, outside_reason, slots_reason, vtoc_reason}
@@ -168,7 +168,7 @@ returns-in_err-vtoc-clause-reads g c told =
     let label = label_seen image seen geometry c.in_ok-buf.buf.geometry c.in_ok-label.label same alike (c.in_ok-label.ensures.label told) in
     let later = image_of (g.H.Hall.meaning c.read_label.new.hall).state (g.H.Hall.facts c.read_label.new.hall) c.args.unit in
     let still : later ≡ image = same_image (g.H.Hall.meaning c.read_label.new.hall).state (g.H.Hall.meaning c.read_geometry.new.hall).state (g.H.Hall.facts c.read_label.new.hall) (g.H.Hall.facts c.read_geometry.new.hall) c.args.unit (c.in_ok-label.ensures.told told).state c.in_ok-label.ensures.call.units ∙ same in
-    image_of_vtoc image later geometry c.in_ok-label.label (g.H.Hall.calls c.args.hall.now) (g.H.Hall.calls c.read_label.new.hall) (g.H.Hall.calls c.read_slots.new.hall) still (c.in_ok-geometry.ensures.read told) label (sym c.if-not-is_inside.ensures) (reads_then 1 1 (g.H.Hall.calls c.args.hall.now) (g.H.Hall.calls c.read_geometry.new.hall) (g.H.Hall.calls c.read_label.new.hall) c.in_ok-geometry.ensures.calls c.in_ok-label.ensures.calls) (c.in_err-vtoc.ensures.reads told)
+    image_of_vtoc image later geometry c.in_ok-label.label (g.H.Hall.calls c.args.hall.now) (g.H.Hall.calls c.read_label.new.hall) (g.H.Hall.calls c.read_slots.new.hall) still (c.in_ok-geometry.ensures.read told) label (sym c.if-not-is_inside.ensures) (omega (arith, c.track.ensures.exact, c.if-track-eq-LABEL_TRACK.false)) (reads_then 1 1 (g.H.Hall.calls c.args.hall.now) (g.H.Hall.calls c.read_geometry.new.hall) (g.H.Hall.calls c.read_label.new.hall) c.in_ok-geometry.ensures.calls c.in_ok-label.ensures.calls) (c.in_err-vtoc.ensures.reads told)
 
 pub returns-in_err-slots-clause-reads : goal.returns-in_err-slots-clause-reads
 returns-in_err-slots-clause-reads g c told =
@@ -180,7 +180,7 @@ returns-in_err-slots-clause-reads g c told =
     let label = label_seen image seen geometry c.in_ok-buf.buf.geometry c.in_ok-label.label same alike (c.in_ok-label.ensures.label told) in
     let later = image_of (g.H.Hall.meaning c.read_label.new.hall).state (g.H.Hall.facts c.read_label.new.hall) c.args.unit in
     let still : later ≡ image = same_image (g.H.Hall.meaning c.read_label.new.hall).state (g.H.Hall.meaning c.read_geometry.new.hall).state (g.H.Hall.facts c.read_label.new.hall) (g.H.Hall.facts c.read_geometry.new.hall) c.args.unit (c.in_ok-label.ensures.told told).state c.in_ok-label.ensures.call.units ∙ same in
-    image_of_vtoc image later geometry c.in_ok-label.label (g.H.Hall.calls c.args.hall.now) (g.H.Hall.calls c.read_label.new.hall) (g.H.Hall.calls c.read_slots.new.hall) still (c.in_ok-geometry.ensures.read told) label (sym c.if-not-is_inside.ensures) (reads_then 1 1 (g.H.Hall.calls c.args.hall.now) (g.H.Hall.calls c.read_geometry.new.hall) (g.H.Hall.calls c.read_label.new.hall) c.in_ok-geometry.ensures.calls c.in_ok-label.ensures.calls) (c.in_ok-vtoc.ensures.reads told)
+    image_of_vtoc image later geometry c.in_ok-label.label (g.H.Hall.calls c.args.hall.now) (g.H.Hall.calls c.read_label.new.hall) (g.H.Hall.calls c.read_slots.new.hall) still (c.in_ok-geometry.ensures.read told) label (sym c.if-not-is_inside.ensures) (omega (arith, c.track.ensures.exact, c.if-track-eq-LABEL_TRACK.false)) (reads_then 1 1 (g.H.Hall.calls c.args.hall.now) (g.H.Hall.calls c.read_geometry.new.hall) (g.H.Hall.calls c.read_label.new.hall) c.in_ok-geometry.ensures.calls c.in_ok-label.ensures.calls) (c.in_ok-vtoc.ensures.reads told)
 
 pub returns-clause-reads : goal.returns-clause-reads
 returns-clause-reads g c told =
@@ -192,7 +192,7 @@ returns-clause-reads g c told =
     let label = label_seen image seen geometry c.in_ok-buf.buf.geometry c.in_ok-label.label same alike (c.in_ok-label.ensures.label told) in
     let later = image_of (g.H.Hall.meaning c.read_label.new.hall).state (g.H.Hall.facts c.read_label.new.hall) c.args.unit in
     let still : later ≡ image = same_image (g.H.Hall.meaning c.read_label.new.hall).state (g.H.Hall.meaning c.read_geometry.new.hall).state (g.H.Hall.facts c.read_label.new.hall) (g.H.Hall.facts c.read_geometry.new.hall) c.args.unit (c.in_ok-label.ensures.told told).state c.in_ok-label.ensures.call.units ∙ same in
-    image_of_vtoc image later geometry c.in_ok-label.label (g.H.Hall.calls c.args.hall.now) (g.H.Hall.calls c.read_label.new.hall) (g.H.Hall.calls c.read_slots.new.hall) still (c.in_ok-geometry.ensures.read told) label (sym c.if-not-is_inside.ensures) (reads_then 1 1 (g.H.Hall.calls c.args.hall.now) (g.H.Hall.calls c.read_geometry.new.hall) (g.H.Hall.calls c.read_label.new.hall) c.in_ok-geometry.ensures.calls c.in_ok-label.ensures.calls) (c.in_ok-vtoc.ensures.reads told)
+    image_of_vtoc image later geometry c.in_ok-label.label (g.H.Hall.calls c.args.hall.now) (g.H.Hall.calls c.read_label.new.hall) (g.H.Hall.calls c.read_slots.new.hall) still (c.in_ok-geometry.ensures.read told) label (sym c.if-not-is_inside.ensures) (omega (arith, c.track.ensures.exact, c.if-track-eq-LABEL_TRACK.false)) (reads_then 1 1 (g.H.Hall.calls c.args.hall.now) (g.H.Hall.calls c.read_geometry.new.hall) (g.H.Hall.calls c.read_label.new.hall) c.in_ok-geometry.ensures.calls c.in_ok-label.ensures.calls) (c.in_ok-vtoc.ensures.reads told)
 
 -- what the reads gave
 pub returns-clause-given : goal.returns-clause-given
@@ -217,6 +217,7 @@ returns-clause-given g c =
       given = found.1.given;
       dscbs = held.0;
       lawful = held.1;
+      apart = omega (arith, c.in_ok-vtoc.ensures.numbers.0.begins, c.track.ensures.exact, c.if-track-eq-LABEL_TRACK.false);
       last = c.in_ok-vtoc.ensures.last;
       buffer = c.in_ok-vtoc.ensures.seen;
     }
@@ -287,14 +288,143 @@ returns-in_err-slots-clause-reason g c =
     (BadSlot vtoc found.1.slots c.read_slots.new.found.firsts.items (subst (λ (at : Address). vtoc_by geometry at (first_bytes found.1.slots) ≡ Ok vtoc) label.2.vtoc extent) found.1.given first))
     (c.in_err-slots.ensures.refused found.1.slots slots))
 
--- the reads of header, label and slots
+-- a VTOC that begins on the label's track
+pub returns-then-track-eq-LABEL_TRACK-clause-refused : goal.returns-then-track-eq-LABEL_TRACK-clause-refused
+returns-then-track-eq-LABEL_TRACK-clause-refused g c told =
+    let geometry = c.in_ok-geometry.geometry in
+    let image = image_of (g.H.Hall.meaning c.args.hall.now).state (g.H.Hall.facts c.args.hall.now) c.args.unit in
+    let seen = image_of (g.H.Hall.meaning c.read_geometry.new.hall).state (g.H.Hall.facts c.read_geometry.new.hall) c.args.unit in
+    let same : seen ≡ image = same_image (g.H.Hall.meaning c.read_geometry.new.hall).state (g.H.Hall.meaning c.args.hall.now).state (g.H.Hall.facts c.read_geometry.new.hall) (g.H.Hall.facts c.args.hall.now) c.args.unit (c.in_ok-geometry.ensures.told told).state c.in_ok-geometry.ensures.call.units in
+    let alike : c.in_ok-buf.buf.geometry ≡ geometry = ap (λ (b : Buffer). b.geometry) c.in_ok-buf.ensures in
+    let x = c.in_ok-label.label in
+    let label = label_seen image seen geometry c.in_ok-buf.buf.geometry x same alike (c.in_ok-label.ensures.label told) in
+    let content = label_is (label_of image geometry) x label in
+    let there = sym c.track.ensures.exact ∙ c.if-track-eq-LABEL_TRACK.true in
+    vtoc_reason image image geometry x (VtocTrack 0) refl (c.in_ok-geometry.ensures.read told) label (sym c.if-not-is_inside.ensures)
+    (refuses (extent_refused image geometry (vtoc_on image geometry x.vtoc) (VtocTrack 0) (extent_on_label image geometry x.vtoc content.0 content.1 there)))
+
+pub returns-then-track-eq-LABEL_TRACK-clause-reads : goal.returns-then-track-eq-LABEL_TRACK-clause-reads
+returns-then-track-eq-LABEL_TRACK-clause-reads g c told = two_of_image (image_of (g.H.Hall.meaning c.args.hall.now).state (g.H.Hall.facts c.args.hall.now) c.args.unit) c.in_ok-geometry.geometry (g.H.Hall.calls c.args.hall.now) (g.H.Hall.calls c.read_label.new.hall) (c.in_ok-geometry.ensures.read told) (reads_then 1 1 (g.H.Hall.calls c.args.hall.now) (g.H.Hall.calls c.read_geometry.new.hall) (g.H.Hall.calls c.read_label.new.hall) c.in_ok-geometry.ensures.calls c.in_ok-label.ensures.calls)
+
+pub returns-then-track-eq-LABEL_TRACK-clause-reason : goal.returns-then-track-eq-LABEL_TRACK-clause-reason
+returns-then-track-eq-LABEL_TRACK-clause-reason g c =
+    let geometry = c.in_ok-geometry.geometry in
+    let alike : c.in_ok-buf.buf.geometry ≡ geometry = ap (λ (b : Buffer). b.geometry) c.in_ok-buf.ensures in
+    let label = c.in_ok-label.ensures.given in
+    OnLabel geometry (header_still c.in_ok-geometry.ensures.given c.in_ok-label.ensures.kept) label.0 (subst (λ (x : Geometry). IsLabelGiven (g.H.Hall.done c.read_label.new.hall) c.args.unit x label.0) alike label.1)
+    (ap (track_of_address geometry) (sym label.2.vtoc) ∙ sym c.track.ensures.exact ∙ c.if-track-eq-LABEL_TRACK.true) refl
+
+-- ---- which reads are made, and none twice
+
+pub returns-in_err-geometry-clause-made : goal.returns-in_err-geometry-clause-made
+returns-in_err-geometry-clause-made g c = header_made c.args.unit (unit_of (g.H.Hall.facts c.args.hall.now).units c.args.unit).size c.in_err-geometry.ensures.made
+
+pub returns-in_err-buf-clause-made : goal.returns-in_err-buf-clause-made
+returns-in_err-buf-clause-made g c = header_made c.args.unit (unit_of (g.H.Hall.facts c.args.hall.now).units c.args.unit).size c.in_ok-geometry.ensures.made
+
+pub returns-in_err-label-clause-made : goal.returns-in_err-label-clause-made
+returns-in_err-label-clause-made g c =
+    let geometry = c.in_ok-geometry.geometry in
+    let alike : c.in_ok-buf.buf.geometry ≡ geometry = ap (λ (b : Buffer). b.geometry) c.in_ok-buf.ensures in
+    let size = (unit_of (g.H.Hall.facts c.args.hall.now).units c.args.unit).size in
+    label_made c.args.unit size geometry c.in_ok-buf.buf.geometry c.in_ok-geometry.ensures.made c.in_err-label.ensures.made alike (header_still c.in_ok-geometry.ensures.given c.in_err-label.ensures.kept)
+
+pub returns-in_err-label-clause-each : goal.returns-in_err-label-clause-each
+returns-in_err-label-clause-each g c =
+    label_once c.args.unit (unit_of (g.H.Hall.facts c.args.hall.now).units c.args.unit).size c.in_ok-buf.buf.geometry c.in_ok-geometry.ensures.each c.in_ok-geometry.ensures.made c.in_err-label.ensures.each c.in_err-label.ensures.made
+
+pub returns-then-not-is_inside-clause-made : goal.returns-then-not-is_inside-clause-made
+returns-then-not-is_inside-clause-made g c =
+    let geometry = c.in_ok-geometry.geometry in
+    let alike : c.in_ok-buf.buf.geometry ≡ geometry = ap (λ (b : Buffer). b.geometry) c.in_ok-buf.ensures in
+    let size = (unit_of (g.H.Hall.facts c.args.hall.now).units c.args.unit).size in
+    label_made c.args.unit size geometry c.in_ok-buf.buf.geometry c.in_ok-geometry.ensures.made c.in_ok-label.ensures.made alike (header_still c.in_ok-geometry.ensures.given c.in_ok-label.ensures.kept)
+
+pub returns-then-not-is_inside-clause-each : goal.returns-then-not-is_inside-clause-each
+returns-then-not-is_inside-clause-each g c =
+    label_once c.args.unit (unit_of (g.H.Hall.facts c.args.hall.now).units c.args.unit).size c.in_ok-buf.buf.geometry c.in_ok-geometry.ensures.each c.in_ok-geometry.ensures.made c.in_ok-label.ensures.each c.in_ok-label.ensures.made
+
+pub returns-then-track-eq-LABEL_TRACK-clause-made : goal.returns-then-track-eq-LABEL_TRACK-clause-made
+returns-then-track-eq-LABEL_TRACK-clause-made g c =
+    let geometry = c.in_ok-geometry.geometry in
+    let alike : c.in_ok-buf.buf.geometry ≡ geometry = ap (λ (b : Buffer). b.geometry) c.in_ok-buf.ensures in
+    let size = (unit_of (g.H.Hall.facts c.args.hall.now).units c.args.unit).size in
+    label_made c.args.unit size geometry c.in_ok-buf.buf.geometry c.in_ok-geometry.ensures.made c.in_ok-label.ensures.made alike (header_still c.in_ok-geometry.ensures.given c.in_ok-label.ensures.kept)
+
+pub returns-then-track-eq-LABEL_TRACK-clause-each : goal.returns-then-track-eq-LABEL_TRACK-clause-each
+returns-then-track-eq-LABEL_TRACK-clause-each g c =
+    label_once c.args.unit (unit_of (g.H.Hall.facts c.args.hall.now).units c.args.unit).size c.in_ok-buf.buf.geometry c.in_ok-geometry.ensures.each c.in_ok-geometry.ensures.made c.in_ok-label.ensures.each c.in_ok-label.ensures.made
+
+pub returns-in_err-vtoc-clause-made : goal.returns-in_err-vtoc-clause-made
+returns-in_err-vtoc-clause-made g c =
+    let geometry = c.in_ok-geometry.geometry in
+    let alike : c.in_ok-buf.buf.geometry ≡ geometry = ap (λ (b : Buffer). b.geometry) c.in_ok-buf.ensures in
+    let size = (unit_of (g.H.Hall.facts c.args.hall.now).units c.args.unit).size in
+    let label = c.in_ok-label.ensures.given in
+    let later = c.in_err-vtoc.ensures.kept in
+    vtoc_made c.args.unit size geometry c.in_ok-buf.buf.geometry c.in_ok-label.label.vtoc label.0 c.in_ok-geometry.ensures.made c.in_ok-label.ensures.made c.in_err-vtoc.ensures.made alike (header_still c.in_ok-geometry.ensures.given (λ call was. later call (c.in_ok-label.ensures.kept call was)))
+    (given_still (subst (λ (x : Geometry). IsLabelGiven (g.H.Hall.done c.read_label.new.hall) c.args.unit x label.0) alike label.1) later)
+    label.2.vtoc (sym c.if-not-is_inside.ensures) (omega (arith, c.track.ensures.exact, c.if-track-eq-LABEL_TRACK.false))
+
+pub returns-in_err-vtoc-clause-each : goal.returns-in_err-vtoc-clause-each
+returns-in_err-vtoc-clause-each g c =
+    let geometry = c.in_ok-geometry.geometry in
+    let alike : c.in_ok-buf.buf.geometry ≡ geometry = ap (λ (b : Buffer). b.geometry) c.in_ok-buf.ensures in
+    let size = (unit_of (g.H.Hall.facts c.args.hall.now).units c.args.unit).size in
+    vtoc_once c.args.unit size geometry c.in_ok-buf.buf.geometry _ _ c.in_ok-geometry.ensures.each c.in_ok-geometry.ensures.made c.in_ok-label.ensures.each c.in_ok-label.ensures.made c.in_err-vtoc.ensures.each c.in_err-vtoc.ensures.tracks alike (omega (arith, c.track.ensures.exact, c.if-track-eq-LABEL_TRACK.false)) (track_long c.in_ok-geometry.ensures.whole)
+
 pub returns-in_err-slots-clause-made : goal.returns-in_err-slots-clause-made
 returns-in_err-slots-clause-made g c =
-    let made = g.H.Hall.made in
-    let unit = c.args.unit in
     let geometry = c.in_ok-geometry.geometry in
-    let whole = c.in_ok-geometry.ensures.whole in
     let alike : c.in_ok-buf.buf.geometry ≡ geometry = ap (λ (b : Buffer). b.geometry) c.in_ok-buf.ensures in
-    let tracks : MakesOnly (IsMountRead unit (unit_of (g.H.Hall.facts c.args.hall.now).units unit).size) (made c.read_geometry.new.hall) (made c.read_slots.new.hall) =
-    makes_then c.in_ok-label.ensures.made c.in_ok-vtoc.ensures.made (λ call is. inr (geometry, whole, 0, is ∙ ap (λ (x : Geometry). track_read unit x 0) alike)) (λ call is. inr (geometry, whole, is.0, is.3)) in
-    makes_then c.in_ok-geometry.ensures.made tracks (λ call is. inl is) (λ call is. is)
+    let size = (unit_of (g.H.Hall.facts c.args.hall.now).units c.args.unit).size in
+    let label = c.in_ok-label.ensures.given in
+    let later = c.in_ok-vtoc.ensures.kept in
+    vtoc_made c.args.unit size geometry c.in_ok-buf.buf.geometry c.in_ok-label.label.vtoc label.0 c.in_ok-geometry.ensures.made c.in_ok-label.ensures.made c.in_ok-vtoc.ensures.made alike (header_still c.in_ok-geometry.ensures.given (λ call was. later call (c.in_ok-label.ensures.kept call was)))
+    (given_still (subst (λ (x : Geometry). IsLabelGiven (g.H.Hall.done c.read_label.new.hall) c.args.unit x label.0) alike label.1) later)
+    label.2.vtoc (sym c.if-not-is_inside.ensures) (omega (arith, c.track.ensures.exact, c.if-track-eq-LABEL_TRACK.false))
+
+pub returns-in_err-slots-clause-each : goal.returns-in_err-slots-clause-each
+returns-in_err-slots-clause-each g c =
+    let geometry = c.in_ok-geometry.geometry in
+    let alike : c.in_ok-buf.buf.geometry ≡ geometry = ap (λ (b : Buffer). b.geometry) c.in_ok-buf.ensures in
+    let size = (unit_of (g.H.Hall.facts c.args.hall.now).units c.args.unit).size in
+    vtoc_once c.args.unit size geometry c.in_ok-buf.buf.geometry _ _ c.in_ok-geometry.ensures.each c.in_ok-geometry.ensures.made c.in_ok-label.ensures.each c.in_ok-label.ensures.made c.in_ok-vtoc.ensures.each c.in_ok-vtoc.ensures.tracks alike (omega (arith, c.track.ensures.exact, c.if-track-eq-LABEL_TRACK.false)) (track_long c.in_ok-geometry.ensures.whole)
+
+pub returns-clause-made : goal.returns-clause-made
+returns-clause-made g c =
+    let geometry = c.in_ok-geometry.geometry in
+    let alike : c.in_ok-buf.buf.geometry ≡ geometry = ap (λ (b : Buffer). b.geometry) c.in_ok-buf.ensures in
+    let size = (unit_of (g.H.Hall.facts c.args.hall.now).units c.args.unit).size in
+    let label = c.in_ok-label.ensures.given in
+    let later = c.in_ok-vtoc.ensures.kept in
+    vtoc_made c.args.unit size geometry c.in_ok-buf.buf.geometry c.in_ok-label.label.vtoc label.0 c.in_ok-geometry.ensures.made c.in_ok-label.ensures.made c.in_ok-vtoc.ensures.made alike (header_still c.in_ok-geometry.ensures.given (λ call was. later call (c.in_ok-label.ensures.kept call was)))
+    (given_still (subst (λ (x : Geometry). IsLabelGiven (g.H.Hall.done c.read_label.new.hall) c.args.unit x label.0) alike label.1) later)
+    label.2.vtoc (sym c.if-not-is_inside.ensures) (omega (arith, c.track.ensures.exact, c.if-track-eq-LABEL_TRACK.false))
+
+pub returns-clause-each : goal.returns-clause-each
+returns-clause-each g c =
+    let geometry = c.in_ok-geometry.geometry in
+    let alike : c.in_ok-buf.buf.geometry ≡ geometry = ap (λ (b : Buffer). b.geometry) c.in_ok-buf.ensures in
+    let size = (unit_of (g.H.Hall.facts c.args.hall.now).units c.args.unit).size in
+    vtoc_once c.args.unit size geometry c.in_ok-buf.buf.geometry _ _ c.in_ok-geometry.ensures.each c.in_ok-geometry.ensures.made c.in_ok-label.ensures.each c.in_ok-label.ensures.made c.in_ok-vtoc.ensures.each c.in_ok-vtoc.ensures.tracks alike (omega (arith, c.track.ensures.exact, c.if-track-eq-LABEL_TRACK.false)) (track_long c.in_ok-geometry.ensures.whole)
+
+-- what was done before is done still
+
+pub returns-in_err-label-clause-kept : goal.returns-in_err-label-clause-kept
+returns-in_err-label-clause-kept g c call was = c.in_err-label.ensures.kept call (c.in_ok-geometry.ensures.kept call was)
+
+pub returns-then-not-is_inside-clause-kept : goal.returns-then-not-is_inside-clause-kept
+returns-then-not-is_inside-clause-kept g c call was = c.in_ok-label.ensures.kept call (c.in_ok-geometry.ensures.kept call was)
+
+pub returns-then-track-eq-LABEL_TRACK-clause-kept : goal.returns-then-track-eq-LABEL_TRACK-clause-kept
+returns-then-track-eq-LABEL_TRACK-clause-kept g c call was = c.in_ok-label.ensures.kept call (c.in_ok-geometry.ensures.kept call was)
+
+pub returns-in_err-vtoc-clause-kept : goal.returns-in_err-vtoc-clause-kept
+returns-in_err-vtoc-clause-kept g c call was = c.in_err-vtoc.ensures.kept call (c.in_ok-label.ensures.kept call (c.in_ok-geometry.ensures.kept call was))
+
+pub returns-in_err-slots-clause-kept : goal.returns-in_err-slots-clause-kept
+returns-in_err-slots-clause-kept g c call was = c.in_ok-vtoc.ensures.kept call (c.in_ok-label.ensures.kept call (c.in_ok-geometry.ensures.kept call was))
+
+pub returns-clause-kept : goal.returns-clause-kept
+returns-clause-kept g c call was = c.in_ok-vtoc.ensures.kept call (c.in_ok-label.ensures.kept call (c.in_ok-geometry.ensures.kept call was))

@@ -1,5 +1,8 @@
 use Rattle.std.proofs.Common.{⊎_elim, inl, inr, ap, ◌∙◌, refl, Err, rules}
+use Rattle.dadsm_ops.specs.Naming.{refusal_answered}
 use Rattle.hall_core.proofs.MadeLemmas.{done_as, makes_as}
+use Rattle.vol_model.specs.declared.answers.StoreErr.{StoreErr}
+use Rattle.vol_model.specs.declared.refusals.Refusal.TheVariants.{NoVolume}
 use Rattle.volman.proofs.Machines.{applies_zero, applies_done, applies_elsewhere, applies_fault, applies_refused, keeps_all, keeps_begun, keeps_idle, keeps_promise, kept_at, promises_at, puts_failed}
 use Rattle.vtoc_index.proofs.KeptLemmas.{mounted_of}
 use Rattle.volman.proofs.machine.PackMachine.rename.Goals as goal
@@ -79,3 +82,15 @@ returns-in-Ok-clause-slots g c = ⊎_elim (λ same. inl same) (λ put. inr (done
 
 pub returns-in-Err-Device-clause-slots : goal.returns-in-Err-Device-clause-slots
 returns-in-Err-Device-clause-slots g c = ⊎_elim (λ same. inl same) (λ put. inr (done_as put.1 (λ call is. (c.if-v-ne0.false, is)))) c.rename.ensures.slots
+
+pub returns-then-v-ne0-clause-buffer : goal.returns-then-v-ne0-clause-buffer
+returns-then-v-ne0-clause-buffer g c answered = absurd (answered NoVolume refl)
+
+pub returns-in-Err-Refused-clause-buffer : goal.returns-in-Err-Refused-clause-buffer
+returns-in-Err-Refused-clause-buffer g c answered = absurd (answered c.in-Err-Refused.refusal refl)
+
+pub returns-in-Ok-clause-buffer : goal.returns-in-Ok-clause-buffer
+returns-in-Ok-clause-buffer g c answered = (c.if-v-ne0.false, c.in-Ok.ensures.buffer refl)
+
+pub returns-in-Err-Device-clause-buffer : goal.returns-in-Err-Device-clause-buffer
+returns-in-Err-Device-clause-buffer g c answered = (c.if-v-ne0.false, c.in-Err-Device.ensures.buffer (ap (λ (e : StoreErr). refusal_answered {T = Unit {0}} (Err e)) c.in-Err-Device.field-0-is))

@@ -8,6 +8,7 @@ use Rattle.hall_core.specs.Files.{File}
 use Rattle.hall_core.specs.Made.{HallCall, HasDone, MakesOnly}
 use Rattle.hall_core.specs.Moments.{Meaning}
 use Rattle.hall_core.specs.Steps.{seen}
+use Rattle.track_records.specs.Buffers.{Buffer}
 use Rattle.vol_model.specs.Calls.{Applies, IsIdle, Keeps}
 use Rattle.vol_model.specs.Shelf.{step}
 use Rattle.vol_model.specs.declared.answers.MachErr.{MachErr}
@@ -15,7 +16,7 @@ use Rattle.vol_model.specs.declared.contents.Shelf.{Shelf}
 use Rattle.vol_model.specs.declared.requests.Op.{Op}
 use Rattle.vol_model.specs.declared.requests.Op.TheVariants.{Rename}
 use Rattle.vtoc_index.specs.declared.vol.Vol.{Vol}
-use Rattle.volman.specs.Machine.{ChangesOnlyNames, HoldsFor, IsOperationCall, IsOperationWrite, KeepsIndex, OperationCalls, shelf_named}
+use Rattle.volman.specs.Machine.{ChangesOnlyNames, HoldsBehind, HoldsFor, IsOperationCall, IsOperationWrite, KeepsIndex, OperationCalls, shelf_named}
 use Rattle.volman.proofs.machine.PackMachineMachine.apply.Goals as goal
 
 for_rename : {T : Type 0} {result : Result T MachErr} (shelf : Shelf) (v : ℕ) (old new : Dsn) (op : Op) → op ≡ Rename v old new → IsIdle (step shelf op) result → IsIdle (step shelf (Rename v old new)) result
@@ -69,6 +70,12 @@ returns-clause-slots g c = slots_as _ _ _ c.args.op.now (search rules) c.args.se
 
 pub returns-clause-reason : goal.returns-clause-reason
 returns-clause-reason g c r is = ((returns-clause-index g c).refused r is).0
+
+buffer_as : (v : ℕ) (from to : Dsn) (op : Op) → op ≡ Rename v from to → (before : Vol) (done : HallCall → Type 0) (buf : Buffer) → HoldsBehind (Rename v from to) before done buf → HoldsBehind op before done buf
+buffer_as v from to op is before done buf = subst (λ (o : Op). HoldsBehind o before done buf) (sym is)
+
+pub returns-clause-buffer : goal.returns-clause-buffer
+returns-clause-buffer g c answered = buffer_as _ _ _ c.args.op.now (search rules) c.args.self.now.vol (g.H.Hall.done c.rename.new.self.hall) c.rename.new.self.vol.buf (c.rename.ensures.buffer answered)
 
 held_as : (v : ℕ) (from to : Dsn) (op : Op) → op ≡ Rename v from to → (vol : Vol) → HoldsFor op vol → HoldsFor (Rename v from to) vol
 held_as v from to op is vol = subst (λ (o : Op). HoldsFor o vol) is

@@ -1,4 +1,3 @@
-use Rattle.volman.proofs.CallsMade.{call_still, write_still}
 use Rattle.volman.proofs.Machines.{keeps_printed, printed_at, prints_at, prints_done, prints_failed}
 use Rattle.volman.proofs.machine.PackMachineMachine.print.Goals as goal
 
@@ -13,15 +12,3 @@ returns-in-Err-clause-shelf g c told = prints_at _ _ c.args.self.now.vol.unit c.
 
 pub returns-in-Err-clause-promise : goal.returns-in-Err-clause-promise
 returns-in-Err-clause-promise g c told = printed_at _ _ c.args.self.now.vol.unit c.print.ensures.call.units (g.H.Hall.meaning c.args.self.now.hall) (g.H.Hall.meaning c.print.new.self) (keeps_printed (g.met.H.Hall.counts_now c.args.self.now.hall) (c.print.ensures.told told))
-
-pub returns-in-Ok-clause-still : goal.returns-in-Ok-clause-still
-returns-in-Ok-clause-still g c first op was = write_still op first.vol c.print.ensures.kept was
-
-pub returns-in-Err-clause-still : goal.returns-in-Err-clause-still
-returns-in-Err-clause-still g c first op was = write_still op first.vol c.print.ensures.kept was
-
-pub returns-in-Ok-clause-leaves : goal.returns-in-Ok-clause-leaves
-returns-in-Ok-clause-leaves g c first op call was = call_still op first.vol call c.print.ensures.kept was
-
-pub returns-in-Err-clause-leaves : goal.returns-in-Err-clause-leaves
-returns-in-Err-clause-leaves g c first op call was = call_still op first.vol call c.print.ensures.kept was
