@@ -2,7 +2,7 @@
 ghost use Rattle.std.specs.Prelude.{◌≡◌, ◌⊎◌, ◌≤◌, ℕ, List, length, IsTrue, IfOk, IfErr, IsErrOf, OnOk, OnErr, Some, None, Ok, Err};
 ghost use Rattle.hall_core.specs.Facts.{CallsAtMost, unit_of};
 ghost use Rattle.hall_core.specs.Files.{image_of};
-ghost use Rattle.hall_core.specs.Made.{HasDone, MakesOnly, StaysDone};
+ghost use Rattle.hall_core.specs.Made.{DoneSince, HasDone, MakesOnly, StaysDone};
 ghost use Rattle.hall_core.specs.Moments.{IsDurable};
 ghost use Rattle.pack_spec.specs.Volume.{volume_of};
 ghost use Rattle.vol_model.specs.Shelf.{rename_on};
@@ -41,18 +41,18 @@ pub fn rename<H: Hall>(hall: &mut H, vol: &mut Vol, old: &Dsn, new: &Dsn) -> Res
     ensures index { vol.new ≡ record vol.old { slots = vol.new.slots; buf = vol.new.buf } }
     ensures entry { OnOk result (RenamesEntry old.now.bytes new.now.bytes vol.old.slots.items vol.new.slots.items) }
     ensures held { OnOk result (HoldsRenamed old.now.bytes new.now.bytes vol.old vol.new) }
-    ensures slots { (vol.new.slots.items ≡ vol.old.slots.items) ⊎ (RenamesEntry old.now.bytes new.now.bytes vol.old.slots.items vol.new.slots.items × HasDone (WritesSlotNamed old.now.bytes new.now.bytes vol.old (H.done hall.new)) (H.done hall.new)) }
+    ensures slots { let did = DoneSince (H.calls hall.old).reads (H.done hall.new) in (vol.new.slots.items ≡ vol.old.slots.items) ⊎ (RenamesEntry old.now.bytes new.now.bytes vol.old.slots.items vol.new.slots.items × HasDone (WritesSlotNamed old.now.bytes new.now.bytes vol.old did) did) }
     ensures ahead { IsTrue H.tells → OnErr result (IsBeforeOr vol.old (image_of (H.meaning hall.new).state (H.facts hall.new) vol.old.unit) vol.new) }
     ensures refused { (r : Refusal) → IsErrOf result (StoreErr.Refused r) → (hall.new ≡ hall.old) × (vol.new ≡ vol.old) }
     ensures reason { refusal_answered result ≡ refusal_in vol.old.slots.items old.now.bytes new.now.bytes }
     ensures memory { IsErrOf result StoreErr.Memory → ⊥ }
     ensures call { StoreCall (H.facts hall.old) (H.facts hall.new) result }
     ensures calls { CallsAtMost 1 1 1 0 (H.calls hall.old) (H.calls hall.new) }
-    ensures made { MakesOnly (IsRenameCall old.now.bytes new.now.bytes vol.old (H.done hall.new)) (H.made hall.old) (H.made hall.new) }
+    ensures made { MakesOnly (IsRenameCall old.now.bytes new.now.bytes vol.old (DoneSince (H.calls hall.old).reads (H.done hall.new))) (H.made hall.old) (H.made hall.new) }
     ensures kept { StaysDone (H.done hall.old) (H.done hall.new) }
     ensures behind { OnOk result (H.behind_sync hall.new) }
-    ensures done { OnOk result (HasDone (WritesSlotNamed old.now.bytes new.now.bytes vol.old (H.done hall.new)) (H.done hall.new)) }
-    ensures buffer { refusal_answered result ≡ None → HoldsNamed old.now.bytes new.now.bytes vol.old (H.done hall.new) vol.new.buf }
+    ensures done { let did = DoneSince (H.calls hall.old).reads (H.done hall.new) in OnOk result (HasDone (WritesSlotNamed old.now.bytes new.now.bytes vol.old did) did) }
+    ensures buffer { refusal_answered result ≡ None → HoldsNamed old.now.bytes new.now.bytes vol.old (DoneSince (H.calls hall.old).reads (H.done hall.new)) vol.new.buf }
     ensures again { RenameCalls old.now.bytes new.now.bytes vol.old vol.new (H.calls hall.old) (H.calls hall.new) result }
 {
     let slot = slot_to_rename(vol, old, new)?;

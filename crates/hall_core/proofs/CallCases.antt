@@ -7,7 +7,7 @@ use Rattle.hall_core.specs.Cards.{GivesNext}
 use Rattle.hall_core.specs.Files.{File, patched, written, Attaches, IsPending, AfterWrite, AfterSync, AfterPrint, untold}
 use Rattle.hall_core.specs.History.{wrote, synced, printed, passed, with_write, with_writes, meaning_after}
 use Rattle.hall_core.specs.HistoryLaws.{nothing_kept, since_now}
-use Rattle.hall_core.specs.Made.{HallCall, HasDone, Does, MakesOnce, MakesOnly, StaysDone, Attaching, Giving, Lacking, Noting, Printing, Reading, Syncing, Writing}
+use Rattle.hall_core.specs.Made.{DoneSince, HallCall, HasDone, Does, MakesOnce, MakesOnly, StaysDone, Attaching, Giving, Lacking, Noting, Printing, Reading, Syncing, Writing}
 use Rattle.hall_core.specs.Moments.{Meaning}
 use Rattle.hall_core.proofs.CallLemmas.{same_passed, write_done, write_failed, write_lacking, sync_done, sync_failed, print_done, print_failed}
 use Rattle.hall_core.proofs.StepLemmas.{write_leaves}
@@ -297,7 +297,7 @@ sync_alone_is_made (Writing unit at bytes) other = omega arith
 sync_alone_is_made Syncing other = absurd (other refl)
 sync_alone_is_made (Printing bytes) other = omega arith
 sync_alone_is_made (Noting unit track) other = omega arith
-sync_alone_is_made (Giving unit at bytes) other = omega arith
+sync_alone_is_made (Giving before unit at bytes) other = omega arith
 sync_alone_is_made (Lacking name) other = omega arith
 
 other_call_is_made : ¬ MakesOnly (λ call. call ≡ Printing []) (λ call. 0) synced_once
@@ -330,7 +330,7 @@ sync_is_made_once = (once, once_more, λ each. let wrong : 2 ≤ 1 = each Syncin
     once Syncing = omega arith
     once (Printing bytes) = omega arith
     once (Noting unit track) = omega arith
-    once (Giving unit at bytes) = omega arith
+    once (Giving before unit at bytes) = omega arith
     once (Lacking name) = omega arith
 
     once_more : MakesOnce synced_once synced_twice
@@ -340,7 +340,7 @@ sync_is_made_once = (once, once_more, λ each. let wrong : 2 ≤ 1 = each Syncin
     once_more Syncing = omega arith
     once_more (Printing bytes) = omega arith
     once_more (Noting unit track) = omega arith
-    once_more (Giving unit at bytes) = omega arith
+    once_more (Giving before unit at bytes) = omega arith
     once_more (Lacking name) = omega arith
 
 -- Two reads of other bytes are made once each; two of the same aren't, though no other read is made.
@@ -355,8 +355,23 @@ reads_are_made_once = (once, λ each. let wrong : 2 ≤ 1 = each (Reading 0 0 1)
     once Syncing = omega arith
     once (Printing bytes) = omega arith
     once (Noting unit track) = omega arith
-    once (Giving unit at bytes) = omega arith
+    once (Giving before unit at bytes) = omega arith
     once (Lacking name) = omega arith
+
+-- a read, which gave one byte when three had been counted, and a write
+some_done : HallCall → Type 0
+some_done call = (call ≡ Giving 3 0 512 (1 ∷ [])) ⊎ (call ≡ Writing 0 5 (1 ∷ []))
+
+-- That read was done since three reads, and since fewer; not since a fourth. Another one, at its place but counted later, wasn't; and of a write it doesn't matter.
+read_is_done_since :
+    DoneSince 3 some_done (Giving 3 0 512 (1 ∷ []))
+    × DoneSince 2 some_done (Giving 3 0 512 (1 ∷ []))
+    × (¬ DoneSince 4 some_done (Giving 3 0 512 (1 ∷ [])))
+    × (¬ DoneSince 3 some_done (Giving 4 0 512 (1 ∷ [])))
+    × DoneSince 9 some_done (Writing 0 5 (1 ∷ []))
+    × (¬ DoneSince 0 some_done (Writing 0 6 (1 ∷ [])))
+unfolding some_done
+read_is_done_since = ((omega arith, inl refl), (omega arith, inl refl), λ late. let wrong = late.0 in omega (arith, wrong), λ other. ⊎_elim (λ is. cc is) (λ is. cc is) other.1, inr refl, λ other. ⊎_elim (λ is. cc is) (λ is. cc is) other)
 
 -- Of these calls one was done where just that is said to be; another one isn't it, nor is one of which nothing is said.
 one_is_done :

@@ -1,7 +1,7 @@
 -- Calls by what they are made with, one behind the other.
 use Rattle.std.proofs.Common.{ℕ, ◌+◌, ◌<◌, ⊎_elim, arith}
 use Rattle.std.proofs.lemmas.Bool.{cases_lt}
-use Rattle.hall_core.specs.Made.{HallCall, HasDone, Does, MakesOnce, MakesOnly, StaysDone}
+use Rattle.hall_core.specs.Made.{Attaching, DoneSince, Giving, HallCall, HasDone, Does, Lacking, MakesOnce, MakesOnly, Noting, Printing, Reading, StaysDone, Syncing, Writing}
 
 -- no call makes none but any
 pub makes_none : (these : HallCall → Type 0) (made : HallCall → ℕ) → MakesOnly these made made
@@ -39,3 +39,24 @@ done_still (Does call is was) kept = Does call is (kept call was)
 
 pub done_as : {these those done : HallCall → Type 0} → HasDone these done → ((call : HallCall) → these call → those call) → HasDone those done
 done_as (Does call is was) within = Does call (within call is) was
+
+-- what was done since so many reads was done, and is done still since as many
+pub since_done : (reads : ℕ) (done : HallCall → Type 0) → StaysDone (DoneSince reads done) done
+since_done reads done (Attaching name) was = was
+since_done reads done (Reading unit at len) was = was
+since_done reads done (Writing unit at bytes) was = was
+since_done reads done Syncing was = was
+since_done reads done (Printing bytes) was = was
+since_done reads done (Noting unit track) was = was
+since_done reads done (Giving before unit at bytes) was = was.1
+since_done reads done (Lacking name) was = was
+
+pub since_still : {done later : HallCall → Type 0} (reads : ℕ) → StaysDone done later → StaysDone (DoneSince reads done) (DoneSince reads later)
+since_still reads kept (Attaching name) was = kept (Attaching name) was
+since_still reads kept (Reading unit at len) was = kept (Reading unit at len) was
+since_still reads kept (Writing unit at bytes) was = kept (Writing unit at bytes) was
+since_still reads kept Syncing was = kept Syncing was
+since_still reads kept (Printing bytes) was = kept (Printing bytes) was
+since_still reads kept (Noting unit track) was = kept (Noting unit track) was
+since_still reads kept (Giving before unit at bytes) was = (was.0, kept (Giving before unit at bytes) was.1)
+since_still reads kept (Lacking name) was = kept (Lacking name) was

@@ -12,7 +12,8 @@ pub enum HallErr {
     Missing,
     /// The device failed, or in a print the printer, and its count of faults rose.
     Failed,
-    /// Memory ran out, and nothing changed. Only an attachment answers so.
+    /// Memory ran out. Only an attachment answers so. The files, the units, the counts of faults and the time stay; it may
+    /// be counted as a call.
     Memory,
 }
 
@@ -57,15 +58,15 @@ pub trait Hall {
     /// What holds behind a sync that is done, as long as no other call comes.
     ghost behind_sync: { Self → Type 0 };
 
-    /// What holds of a write or a print, with these arguments, that was done, of a read that gave these bytes, and of an
-    /// attachment that found no such file; no call takes it back.
+    /// What holds of a write or a print, with these arguments, that was done, of a read that gave these bytes, with how
+    /// many reads were counted before it, and of an attachment that found no such file; no call takes it back.
     ghost done: { Self → HallCall → Type 0 };
 
     /// Attaches a file as the next unit, and gives the number of the unit.
     ///
     /// A unit keeps the size that its file has now. Of the errors, `Missing` says that there is no
-    /// such file, and `Failed` that the count of device faults rose; after `Memory` all is as it was.
-    /// No error adds a unit.
+    /// such file, and `Failed` that the count of device faults rose; after `Memory` the files, the units, the
+    /// counts of faults and the time are as they were. No error adds a unit.
     fn attach(&mut self, name: &str) -> Result<u8, HallErr>
         requires few { length (facts self.old).units < 255 }
         requires once { ¬ IsAttached (facts self.old).units name.now }
@@ -94,7 +95,7 @@ pub trait Hall {
         ensures calls { CallsAtMost 1 0 0 0 (calls self.old) (calls self.new) }
         ensures made { MakesOnly (λ call. call ≡ Reading unit at (length buf.old)) (made self.old) (made self.new) }
         ensures each { MakesOnce (made self.old) (made self.new) }
-        ensures done { OnOk result (done self.new (Giving unit at buf.new)) }
+        ensures done { OnOk result (done self.new (Giving (calls self.old).reads unit at buf.new)) }
         ensures kept { StaysDone (done self.old) (done self.new) }
         ensures error { IfErr result (λ e. e ≡ HallErr.Failed) };
 

@@ -297,7 +297,7 @@ on_the_next_track is = let wrong : 65 ≡ 0 = ap (λ (l : List ℕ). get_or l 37
 
 -- ---- a track by all of its records, or by its first
 
--- the front of track 0, R1, R2, and what stands in the place of R2 and is R9
+-- the front of track 0, R1, R2, and what stands in the place of R2 and is record 9
 abbrev front : List ℕ
 front = replicate 12 0 ++ (8 ∷ replicate 8 0)
 

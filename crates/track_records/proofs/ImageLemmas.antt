@@ -41,17 +41,17 @@ broken_read image bytes held g far c h track u at geometry cylinder head same is
     (track_is (λ (n m : ℕ) (b : List ℕ). records_of n m u b ≡ None) image bytes g far c h track geometry cylinder head (same ∙ is) none, track_is (λ (n m : ℕ) (b : List ℕ). BreaksAt n m u b at) image bytes g far c h track geometry cylinder head (same ∙ is) breaks)
 
 -- and so of the bytes that a read gave
-pub given_is : (P : ℕ → ℕ → List ℕ → Type 0) (done : HallCall → Type 0) (unit : ℕ) (bytes held : List ℕ) (g far : Geometry) (c h track : ℕ) → g ≡ far → c ≡ track / heads_of g → h ≡ track % heads_of g → bytes ≡ held → length held ≡ g.track_size → done (Giving unit (512 + track * g.track_size) held) → P c h bytes → HasGiven done unit far track (λ given. P (track / heads_of far) (track % heads_of far) given)
+pub given_is : {before : ℕ} (P : ℕ → ℕ → List ℕ → Type 0) (done : HallCall → Type 0) (unit : ℕ) (bytes held : List ℕ) (g far : Geometry) (c h track : ℕ) → g ≡ far → c ≡ track / heads_of g → h ≡ track % heads_of g → bytes ≡ held → length held ≡ g.track_size → done (Giving before unit (512 + track * g.track_size) held) → P c h bytes → HasGiven done unit far track (λ given. P (track / heads_of far) (track % heads_of far) given)
 given_is P done unit bytes held g far c h track geometry cylinder head same size gave said =
     subst (λ (y : Geometry). HasGiven done unit y track (λ given. P (track / heads_of y) (track % heads_of y) given)) geometry
     (Gives held size gave (subst (λ (n : ℕ). P n (track % heads_of g) held) cylinder (subst (λ (n : ℕ). P c n held) head (subst (λ (b : List ℕ). P c h b) same said))))
 
-pub records_given : (done : HallCall → Type 0) (unit : ℕ) (bytes held places : List ℕ) (g far : Geometry) (c h track : ℕ) (u : Option ℕ) → g ≡ far → c ≡ track / heads_of g → h ≡ track % heads_of g → bytes ≡ held → length held ≡ g.track_size → done (Giving unit (512 + track * g.track_size) held)
+pub records_given : {before : ℕ} (done : HallCall → Type 0) (unit : ℕ) (bytes held places : List ℕ) (g far : Geometry) (c h track : ℕ) (u : Option ℕ) → g ≡ far → c ≡ track / heads_of g → h ≡ track % heads_of g → bytes ≡ held → length held ≡ g.track_size → done (Giving before unit (512 + track * g.track_size) held)
     → records_of c h u bytes ≡ Some (records_at bytes places) → HasGiven done unit far track (λ given. records_by far u track given ≡ Some (records_at held places))
 records_given done unit bytes held places g far c h track u geometry cylinder head same size gave found =
     given_is (λ (n m : ℕ) (b : List ℕ). records_of n m u b ≡ Some (records_at held places)) done unit bytes held g far c h track geometry cylinder head same size gave (found ∙ ap (λ (b : List ℕ). Some (records_at b places)) same)
 
-pub broken_given : (done : HallCall → Type 0) (unit : ℕ) (bytes held : List ℕ) (g far : Geometry) (c h track : ℕ) (u : Option ℕ) (at : ℕ) → g ≡ far → c ≡ track / heads_of g → h ≡ track % heads_of g → bytes ≡ held → length held ≡ g.track_size → done (Giving unit (512 + track * g.track_size) held)
+pub broken_given : {before : ℕ} (done : HallCall → Type 0) (unit : ℕ) (bytes held : List ℕ) (g far : Geometry) (c h track : ℕ) (u : Option ℕ) (at : ℕ) → g ≡ far → c ≡ track / heads_of g → h ≡ track % heads_of g → bytes ≡ held → length held ≡ g.track_size → done (Giving before unit (512 + track * g.track_size) held)
     → records_of c h u bytes ≡ None → BreaksAt c h u bytes at → IsGivenBroken done unit far u track (BadCount at)
 broken_given done unit bytes held g far c h track u at geometry cylinder head same size gave none breaks =
     given_is (λ (n m : ℕ) (b : List ℕ). (records_of n m u b ≡ None) × BreaksAt n m u b at) done unit bytes held g far c h track geometry cylinder head same size gave (none, breaks)

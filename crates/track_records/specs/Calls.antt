@@ -23,7 +23,7 @@ track_read unit g track = Reading unit (512 + track * g.track_size) g.track_size
 
 -- bytes that a read of a track gave, of which this holds
 pub data HasGiven (done : HallCall → Type 0) (unit : ℕ) (g : Geometry) (track : ℕ) (holds : List ℕ → Type 0) : Type 0 where
-  Gives : (bytes : List ℕ) → length bytes ≡ g.track_size → done (Giving unit (512 + track * g.track_size) bytes) → holds bytes → HasGiven done unit g track holds
+  Gives : {before : ℕ} (bytes : List ℕ) → length bytes ≡ g.track_size → done (Giving before unit (512 + track * g.track_size) bytes) → holds bytes → HasGiven done unit g track holds
 
 -- the records of a track whose bytes are these, up to one of them or to its end
 abbrev pub records_by : Geometry → Option ℕ → ℕ → List ℕ → Option (List Record)

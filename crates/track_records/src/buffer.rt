@@ -4,7 +4,7 @@ ghost use Rattle.std.specs.Option.{option_map};
 ghost use Rattle.ckd_image.specs.Reading.{front_record, is_record_at};
 ghost use Rattle.hall_core.specs.Facts.{CallsAtMost, DeviceCall, unit_of};
 ghost use Rattle.hall_core.specs.Files.{AfterWrite, image_of, patched};
-ghost use Rattle.hall_core.specs.Made.{Giving, MakesOnce, MakesOnly, StaysDone, Writing};
+ghost use Rattle.hall_core.specs.Made.{DoneSince, Giving, MakesOnce, MakesOnly, StaysDone, Writing};
 ghost use Rattle.hall_core.specs.Moments.{Same};
 ghost use Rattle.pack_spec.specs.Label.{heads_of, records_on, track_bytes};
 ghost use Rattle.track_records.specs.Buffers.{IsContentOf, IsPartOf};
@@ -181,8 +181,8 @@ pub fn read_records<H: Hall>(
     ensures made { MakesOnly (λ call. call ≡ track_read unit buf.old.geometry track) (H.made hall.old) (H.made hall.new) }
     ensures each { MakesOnce (H.made hall.old) (H.made hall.new) }
     ensures kept { StaysDone (H.done hall.old) (H.done hall.new) }
-    ensures given { IfOk result (λ _. HasGiven (H.done hall.new) unit buf.old.geometry track (λ bytes. records_by buf.old.geometry upto track bytes ≡ Some buf.new.records)) }
-    ensures broke { IfErr result (IsGivenBroken (H.done hall.new) unit buf.old.geometry upto track) }
+    ensures given { IfOk result (λ _. HasGiven (DoneSince (H.calls hall.old).reads (H.done hall.new)) unit buf.old.geometry track (λ bytes. records_by buf.old.geometry upto track bytes ≡ Some buf.new.records)) }
+    ensures broke { IfErr result (IsGivenBroken (DoneSince (H.calls hall.old).reads (H.done hall.new)) unit buf.old.geometry upto track) }
 {
     buf.begin(unit, track);
     let geometry = buf.geometry;
@@ -225,8 +225,8 @@ pub fn read_records_or_first<H: Hall>(
     ensures made { MakesOnly (λ call. call ≡ track_read unit buf.old.geometry track) (H.made hall.old) (H.made hall.new) }
     ensures each { MakesOnce (H.made hall.old) (H.made hall.new) }
     ensures kept { StaysDone (H.done hall.old) (H.done hall.new) }
-    ensures given { IfOk result (λ count. HasGiven (H.done hall.new) unit buf.old.geometry track (AreAllOrFirst (track / heads_of buf.old.geometry) (track % heads_of buf.old.geometry) count buf.new.records)) }
-    ensures broke { IfErr result (λ e. (e ≡ TrackErr.Device) ⊎ HasGiven (H.done hall.new) unit buf.old.geometry track (LacksFirst buf.old.geometry track e)) }
+    ensures given { IfOk result (λ count. HasGiven (DoneSince (H.calls hall.old).reads (H.done hall.new)) unit buf.old.geometry track (AreAllOrFirst (track / heads_of buf.old.geometry) (track % heads_of buf.old.geometry) count buf.new.records)) }
+    ensures broke { IfErr result (λ e. (e ≡ TrackErr.Device) ⊎ HasGiven (DoneSince (H.calls hall.old).reads (H.done hall.new)) unit buf.old.geometry track (LacksFirst buf.old.geometry track e)) }
 {
     buf.begin(unit, track);
     let geometry = buf.geometry;
@@ -257,7 +257,7 @@ fn fill<H: Hall>(
     ensures made { MakesOnly (λ call. call ≡ track_read unit geometry track) (H.made hall.old) (H.made hall.new) }
     ensures each { MakesOnce (H.made hall.old) (H.made hall.new) }
     ensures kept { StaysDone (H.done hall.old) (H.done hall.new) }
-    ensures done { OnOk result (H.done hall.new (Giving unit (512 + track * geometry.track_size) bytes.new.items)) }
+    ensures done { OnOk result (H.done hall.new (Giving (H.calls hall.old).reads unit (512 + track * geometry.track_size) bytes.new.items)) }
 {
     let at = HEADER_LEN as u64 + u64::from(track) * u64::from(geometry.track_size);
     let Ok(()) = hall.read(unit, at, bytes) else {

@@ -30,7 +30,7 @@ struct Pack {
 }
 
 // One cylinder of a 2311. Behind the full track stand one with another head, one with another cylinder,
-// one on which R1 ends a byte behind the track, one with R1 and then R9, and one on which six X'FF' that
+// one on which R1 ends a byte behind the track, one with R1 and then record 9, and one on which six X'FF' that
 // are no end marker stand in the place of R1.
 const SMALL: Pack = Pack {
     geometry: Geometry {

@@ -3,7 +3,7 @@ use Rattle.std.proofs.Common.{◌≡◌, ◌≢◌, ◌⊎◌, ◌∙◌, ⊎_el
 use Rattle.std.specs.Prelude.{Option, Some, None, Result, Ok, Err, IfSome}
 use Rattle.hall_core.proofs.MadeLemmas.{makes_as, makes_none}
 use Rattle.hall_core.specs.Facts.{Attached, Calls}
-use Rattle.hall_core.specs.Made.{Attaching, HallCall, HasDone, MakesOnce, MakesOnly, Printing, Reading, StaysDone, Syncing}
+use Rattle.hall_core.specs.Made.{Attaching, DoneSince, HallCall, HasDone, MakesOnce, MakesOnly, Printing, Reading, StaysDone, Syncing}
 use Rattle.util_syntax.specs.declared.statement.Rename.{Rename as Statement}
 use Rattle.vol_model.specs.declared.refusals.Refusal.{Refusal}
 use Rattle.vol_model.specs.declared.answers.Stop.{Stop}
@@ -11,7 +11,7 @@ use Rattle.vol_model.specs.declared.answers.Stop.TheVariants.{Device, Memory, Pr
 use Rattle.vtoc_index.specs.declared.vol.Vol.{Vol}
 use Rattle.vtoc_index.specs.Given.{IsMountRead, OfFirst, OfHeader, OfLabel, OfNext, OfOther, OfVtoc}
 use Rattle.volman.specs.Machine.{IsOperationCall, IsOperationWrite, refusal_by}
-use Rattle.volman.specs.Made.{Answered, CameTo, EndsStatement, IsOutcome, IsStatementCall, Makes, MakesEach, OnRequest, OnStatement, Operates, SaysOnly, Unanswered, Unprinted}
+use Rattle.volman.specs.Made.{Answered, CameTo, EndsStatement, Faulted, IsOutcome, IsStatementCall, Makes, MakesEach, OnRequest, OnStatement, Operates, RanOut, SaysOnly, Unprinted}
 use Rattle.volman.specs.Statement.{ComesTo, Ends, EndsInLine, RunsStatement, answer_line, operation_on}
 use Rattle.volman.specs.Words.{Request}
 
@@ -61,76 +61,82 @@ outcome_of vol s volume done (Err r) there found comes =
 
 -- ---- what ends a statement on a machine
 
--- nothing is called behind an operation that failed, or behind which memory ran out
-pub ends_before : (s : Statement) (comes : Result (Unit {0}) Refusal → Type 0) (done : HallCall → Type 0) (made : HallCall → ℕ) (e : Stop) (r : Result ℕ Stop) → r ≡ Err e → e ≢ Print → EndsInLine s comes done made made r
-ends_before s comes done made Device r is other = subst (EndsInLine s comes done made made) (sym is) (makes_none (λ call. ⊥) made)
-ends_before s comes done made Memory r is other = subst (EndsInLine s comes done made made) (sym is) (makes_none (λ call. ⊥) made)
-ends_before s comes done made Print r is other = absurd (other refl)
+-- nothing is called behind an operation that failed, or in which memory ran out
+pub ends_before : (s : Statement) (comes : Result (Unit {0}) Refusal → Type 0) (few : Type 0) (done : HallCall → Type 0) (made : HallCall → ℕ) (e : Stop) (r : Result ℕ Stop) → r ≡ Err e → e ≢ Print → (e ≡ Memory → few) → EndsInLine s comes few done made made r
+ends_before s comes few done made Device r is other wanting = subst (EndsInLine s comes few done made made) (sym is) (makes_none (λ call. ⊥) made)
+ends_before s comes few done made Memory r is other wanting = subst (EndsInLine s comes few done made made) (sym is) (makes_none (λ call. ⊥) made, inr (wanting refl))
+ends_before s comes few done made Print r is other wanting = absurd (other refl)
 
 -- the line wasn't printed
-pub ends_unsaid : (s : Statement) (comes : Result (Unit {0}) Refusal → Type 0) (done : HallCall → Type 0) {old new : HallCall → ℕ} (outcome : Result (Unit {0}) Refusal) (e : Stop) (r : Result ℕ Stop) → r ≡ Err e → e ≢ Device → comes outcome → MakesOnly (λ call. call ≡ Printing (answer_line s outcome)) old new → (e ≡ Memory → MakesOnly (λ call. ⊥) old new) → EndsInLine s comes done old new r
-ends_unsaid s comes done outcome Device r is other came line none = absurd (other refl)
-ends_unsaid s comes done {old} {new} outcome Memory r is other came line none = subst (EndsInLine s comes done old new) (sym is) (none refl)
-ends_unsaid s comes done {old} {new} outcome Print r is other came line none = subst (EndsInLine s comes done old new) (sym is) (outcome, came, line)
+pub ends_unsaid : (s : Statement) (comes : Result (Unit {0}) Refusal → Type 0) (few : Type 0) (done : HallCall → Type 0) {old new : HallCall → ℕ} (outcome : Result (Unit {0}) Refusal) (e : Stop) (r : Result ℕ Stop) → r ≡ Err e → e ≢ Device → comes outcome → MakesOnly (λ call. call ≡ Printing (answer_line s outcome)) old new → (e ≡ Memory → MakesOnly (λ call. ⊥) old new) → EndsInLine s comes few done old new r
+ends_unsaid s comes few done outcome Device r is other came line none = absurd (other refl)
+ends_unsaid s comes few done {old} {new} outcome Memory r is other came line none = subst (EndsInLine s comes few done old new) (sym is) (none refl, inl (outcome, came))
+ends_unsaid s comes few done {old} {new} outcome Print r is other came line none = subst (EndsInLine s comes few done old new) (sym is) (outcome, came, line)
 
 -- ---- a statement, from its operation to its end
 
 module _ {M T : Type 0} (hall : M → T) (made : T → HallCall → ℕ) (done : T → HallCall → Type 0) (synced : T → Type 0) (calls : T → Calls) (vol : Vol) (s : Statement) (volume : Option ℕ) (there : vol.serial ≡ s.serial → volume ≡ Some 0) (found : IfSome volume (λ v. (v ≡ 0) × (vol.serial ≡ s.serial))) where
-  -- what may come of the operation, and what it may call, up to a machine
-  abbrev pub Comes : M → Result (Unit {0}) Refusal → Type 0
-  Comes behind outcome = ComesTo volume (λ v. HasDone (IsOperationWrite (operation_on s v) vol (done (hall behind))) (done (hall behind)) × synced (hall behind)) (λ v r. refusal_by (operation_on s v) vol.slots.items ≡ Some r) outcome
+  -- what was done from a machine to another
+  abbrev pub DidOn : M → M → HallCall → Type 0
+  DidOn old behind = DoneSince (calls (hall old)).reads (done (hall behind))
 
-  abbrev pub May : M → HallCall → Type 0
-  May behind call = (v : ℕ) × (volume ≡ Some v) × IsOperationCall (operation_on s v) vol (done (hall behind)) call
+  -- what may come of the operation, and what it may call, from a machine to another
+  abbrev pub Comes : M → M → Result (Unit {0}) Refusal → Type 0
+  Comes old behind outcome = ComesTo volume (λ v. HasDone (IsOperationWrite (operation_on s v) vol (DidOn old behind)) (DidOn old behind) × synced (hall behind)) (λ v r. refusal_by (operation_on s v) vol.slots.items ≡ Some r) outcome
+
+  abbrev pub May : M → M → HallCall → Type 0
+  May old behind call = (v : ℕ) × (volume ≡ Some v) × IsOperationCall (operation_on s v) vol (DidOn old behind) call
 
   -- the statement, with this answer
   abbrev pub Ran : Result ℕ Stop → M → M → Type 0
-  Ran result old ran = RunsStatement (λ m. made (hall m)) (λ m call. done (hall m) call) May Comes s result old ran
+  Ran result old ran = RunsStatement (λ m. made (hall m)) (λ m call. done (hall m) call) (λ m. calls (hall m)) (May old) (Comes old) s result old ran
 
-  came_to : (behind : M) (outcome : Result (Unit {0}) Refusal) → Comes behind outcome → CameTo made done synced calls vol s (hall behind) outcome
-  came_to behind (Ok x) comes = (outcome_of vol s volume (done (hall behind)) (Ok x) there found (comes.0, comes.1, comes.2.0), comes.2.1)
-  came_to behind (Err r) comes = (outcome_of vol s volume (done (hall behind)) (Err r) there found comes, tt)
+  came_to : (old behind : M) (outcome : Result (Unit {0}) Refusal) → Comes old behind outcome → CameTo made done synced calls vol s (hall old) (hall behind) outcome
+  came_to old behind (Ok x) comes = (outcome_of vol s volume (DidOn old behind) (Ok x) there found (comes.0, comes.1, comes.2.0), comes.2.1)
+  came_to old behind (Err r) comes = (outcome_of vol s volume (DidOn old behind) (Err r) there found comes, tt)
 
-  operated : (old behind : M) → MakesOnly (May behind) (made (hall old)) (made (hall behind)) → MakesOnly (IsStatementCall vol s (done (hall behind))) (made (hall old)) (made (hall behind))
+  operated : (old behind : M) → MakesOnly (May old behind) (made (hall old)) (made (hall behind)) → MakesOnly (IsStatementCall vol s (DidOn old behind)) (made (hall old)) (made (hall behind))
   operated old behind ops =
       makes_as ops
       (λ call is.
       let at = some_is volume (λ v. (v ≡ 0) × (vol.serial ≡ s.serial)) found is.0 is.1 in
-      (at.1, subst (λ (v : ℕ). IsOperationCall (operation_on s v) vol (done (hall behind)) call) at.0 is.2))
+      (at.1, subst (λ (v : ℕ). IsOperationCall (operation_on s v) vol (DidOn old behind) call) at.0 is.2))
 
   pub answered_by : (code status : ℕ) (old ran : M) (new : T) → Ran (Ok code) old ran → MakesEach made done synced calls (λ call. call ≡ Syncing) (hall ran) new → ((status ≡ code) × synced new) ⊎ (status ≡ 22) → OnStatement made done synced calls vol s status (hall old) new
   answered_by code status old ran new (Ends behind ops line first last) sync status_is =
-      Operates (hall behind) (record { only = operated old behind ops; kept = first }) (Answered line.0 (came_to behind line.0 line.1) (hall ran) (record { only = line.3; kept = last }) line.4 sync (⊎_elim (λ is. inl (is.0 ∙ sym line.2, is.1)) (λ fault. inr fault) status_is))
+      Operates (hall behind) (record { only = operated old behind ops; kept = first }) (Answered line.0 (came_to old behind line.0 line.1) (hall ran) (record { only = line.3; kept = last }) line.4 sync (⊎_elim (λ is. inl (is.0 ∙ sym line.2, is.1)) (λ fault. inr fault) status_is))
 
   pub unprinted_by : (status : ℕ) (old ran : M) (r : Result ℕ Stop) → r ≡ Err Print → Ran r old ran → status ≡ 24 → OnStatement made done synced calls vol s status (hall old) (hall ran)
   unprinted_by status old ran r is run status_is = ended (subst (λ (result : Result ℕ Stop). Ran result old ran) is run)
     where
       ended : Ran (Err Print) old ran → OnStatement made done synced calls vol s status (hall old) (hall ran)
-      ended (Ends behind ops line first last) = Operates (hall behind) (record { only = operated old behind ops; kept = first }) (Unprinted line.0 (came_to behind line.0 line.1) (record { only = line.2; kept = last }) status_is)
+      ended (Ends behind ops line first last) = Operates (hall behind) (record { only = operated old behind ops; kept = first }) (Unprinted line.0 (came_to old behind line.0 line.1) (record { only = line.2; kept = last }) status_is)
 
   pub failed_by : (status : ℕ) (old ran : M) (r : Result ℕ Stop) → r ≡ Err Device → Ran r old ran → status ≡ 22 → OnStatement made done synced calls vol s status (hall old) (hall ran)
   failed_by status old ran r is run status_is = ended (subst (λ (result : Result ℕ Stop). Ran result old ran) is run)
     where
       ended : Ran (Err Device) old ran → OnStatement made done synced calls vol s status (hall old) (hall ran)
-      ended (Ends behind ops none first last) = Operates (hall behind) (record { only = operated old behind ops; kept = first }) (Unanswered (record { only = none; kept = last }) (inl status_is))
+      ended (Ends behind ops none first last) = Operates (hall behind) (record { only = operated old behind ops; kept = first }) (Faulted (record { only = none; kept = last }) status_is)
 
   pub wanting_by : (status : ℕ) (old ran : M) (r : Result ℕ Stop) → r ≡ Err Memory → Ran r old ran → status ≡ 25 → OnStatement made done synced calls vol s status (hall old) (hall ran)
   wanting_by status old ran r is run status_is = ended (subst (λ (result : Result ℕ Stop). Ran result old ran) is run)
     where
       ended : Ran (Err Memory) old ran → OnStatement made done synced calls vol s status (hall old) (hall ran)
-      ended (Ends behind ops none first last) = Operates (hall behind) (record { only = operated old behind ops; kept = first }) (Unanswered (record { only = none; kept = last }) (inr status_is))
+      ended (Ends behind ops none first last) =
+          Operates (hall behind) (record { only = operated old behind ops; kept = first }) (RanOut (record { only = none.0; kept = last }) status_is (⊎_elim (λ came. inl (came.0, came_to old behind came.0 came.1)) (λ few. inr few) none.1))
 
 -- a statement on a hall that is borrowed is one on the hall itself
 pub statement_as :
     {T T' : Type 0} (made : T → HallCall → ℕ) (done : T → HallCall → Type 0) (synced : T → Type 0) (calls : T → Calls) (hall : T' → T) {vol : Vol} {s : Statement} {status : ℕ} {old new : T'}
     → OnStatement (λ h. made (hall h)) (λ h call. done (hall h) call) (λ h. synced (hall h)) (λ h. calls (hall h)) vol s status old new
     → OnStatement made done synced calls vol s status (hall old) (hall new)
-statement_as made done synced calls hall {vol} {s} {status} {new = new} (Operates behind operation answer) = Operates (hall behind) (passes operation) (ends behind answer)
+statement_as made done synced calls hall {vol} {s} {status} {old} {new} (Operates behind operation answer) = Operates (hall behind) (passes operation) (ends behind answer)
   where
     passes : {these : HallCall → Type 0} {old new : _} → Makes (λ h. made (hall h)) (λ h call. done (hall h) call) (λ h. synced (hall h)) (λ h. calls (hall h)) these old new → Makes made done synced calls these (hall old) (hall new)
     passes made = record { only = made.only; kept = made.kept }
 
-    ends : (behind : _) → EndsStatement (λ h. made (hall h)) (λ h call. done (hall h) call) (λ h. synced (hall h)) (λ h. calls (hall h)) vol s status behind new → EndsStatement made done synced calls vol s status (hall behind) (hall new)
-    ends behind (Unanswered none is) = Unanswered (passes none) is
+    ends : (behind : _) → EndsStatement (λ h. made (hall h)) (λ h call. done (hall h) call) (λ h. synced (hall h)) (λ h. calls (hall h)) vol s status old behind new → EndsStatement made done synced calls vol s status (hall old) (hall behind) (hall new)
+    ends behind (Faulted none is) = Faulted (passes none) is
+    ends behind (RanOut none is came_or_few) = RanOut (passes none) is came_or_few
     ends behind (Unprinted outcome came line is) = Unprinted outcome came (passes line) is
     ends behind (Answered outcome came said line printed sync is) = Answered outcome came (hall said) (passes line) printed (record { only = sync.only; once = sync.once; kept = sync.kept }) is

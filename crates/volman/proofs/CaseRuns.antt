@@ -15,7 +15,7 @@ numbers_in (Writing unit at bytes) = 2 ∷ unit ∷ at ∷ bytes
 numbers_in Syncing = 3 ∷ []
 numbers_in (Printing bytes) = 4 ∷ bytes
 numbers_in (Noting unit track) = 5 ∷ unit ∷ track ∷ []
-numbers_in (Giving unit at bytes) = 6 ∷ unit ∷ at ∷ bytes
+numbers_in (Giving before unit at bytes) = 6 ∷ before ∷ unit ∷ at ∷ bytes
 numbers_in (Lacking name) = 7 ∷ name
 
 -- one of these numbers, counted from 0
@@ -32,7 +32,7 @@ call_with numbers =
     else (if at 0 == 3 then Syncing
     else (if at 0 == 4 then Printing (drop 1 numbers)
     else (if at 0 == 5 then Noting (at 1) (at 2)
-    else (if at 0 == 6 then Giving (at 1) (at 2) (drop 3 numbers)
+    else (if at 0 == 6 then Giving (at 1) (at 2) (at 3) (drop 4 numbers)
     else Lacking (drop 1 numbers)))))))
 
 call_is : (call : HallCall) → call_with (numbers_in call) ≡ call
@@ -43,12 +43,12 @@ call_is (Writing unit at bytes) = refl
 call_is Syncing = refl
 call_is (Printing bytes) = refl
 call_is (Noting unit track) = refl
-call_is (Giving unit at bytes) = refl
+call_is (Giving before unit at bytes) = refl
 call_is (Lacking name) = refl
 
 -- it is a call that is made: what a read gave is told beside the read, and what is lacking beside the attachment
 abbrev pub is_made : HallCall → Bool
-is_made (Giving unit at bytes) = false
+is_made (Giving before unit at bytes) = false
 is_made (Lacking name) = false
 is_made call = true
 
@@ -163,7 +163,7 @@ none_printed (call ∷ run) none = first call (none_printed run (λ text. let al
     first (Writing unit at bytes) others none = omega (arith, others)
     first Syncing others none = omega (arith, others)
     first (Noting unit track) others none = omega (arith, others)
-    first (Giving unit at bytes) others none = omega (arith, others)
+    first (Giving before unit at bytes) others none = omega (arith, others)
     first (Lacking name) others none = omega (arith, others)
 
 -- what was done at a moment is one of all calls of the run

@@ -100,7 +100,7 @@ one_unit = record { name = codes "w.img"; size = 41472 } ∷ []
 
 -- a read of the header gave that of the small pack
 gave_header : HallCall → Type 0
-gave_header call = call ≡ Giving 0 0 (take 512 image)
+gave_header call = call ≡ Giving 0 0 0 (take 512 image)
 
 -- a call that mounts it attaches the file, or reads the first unit
 pub mounts_not : {file : List ℕ} (units : List Attached) {done : HallCall → Type 0} (call : HallCall) → ¬ (call ≡ Attaching file) → ((at len : ℕ) → ¬ (call ≡ Reading 0 at len)) → ¬ IsMountCall file units done call
@@ -285,9 +285,9 @@ none_done : {these : HallCall → Type 0} → ¬ HasDone these nothing
 unfolding nothing
 none_done (Does call is was) = was
 
-none_given : (unit at : ℕ) (bytes : List ℕ) → ¬ nothing (Giving unit at bytes)
+none_given : (before unit at : ℕ) (bytes : List ℕ) → ¬ nothing (Giving before unit at bytes)
 unfolding nothing
-none_given unit at bytes gave = gave
+none_given before unit at bytes gave = gave
 
 -- a call of a rename is a read, a note, a write or a sync: no print, and no attachment
 pub prints_not : {old new : List ℕ} {before : Vol} {done : HallCall → Type 0} {text : List ℕ} → ¬ IsRenameCall old new before done (Printing text)
@@ -306,7 +306,7 @@ pub record WritesAt (v : Vol) (old : List ℕ) (at : ℕ) : Type 0 where
   pub found : position (is_set_named old) v.slots.items ≡ Some slot
   pub place : at ≡ place_of v.buf (slots_in_front v.firsts.items slot)
 
-pub writes_at : {old new bytes : List ℕ} {v : Vol} {at : ℕ} {done : HallCall → Type 0} → ((unit at : ℕ) (bytes : List ℕ) → ¬ done (Giving unit at bytes)) → IsRenameCall old new v done (Writing 0 at bytes) → WritesAt v old at
+pub writes_at : {old new bytes : List ℕ} {v : Vol} {at : ℕ} {done : HallCall → Type 0} → ((before unit at : ℕ) (bytes : List ℕ) → ¬ done (Giving before unit at bytes)) → IsRenameCall old new v done (Writing 0 at bytes) → WritesAt v old at
 writes_at {old} {v = v} {at = at} {done = done} ungiven =
     ⊎_elim
     (λ names. ⊎_elim (λ is. let no = is.0 in absurd (cc no)) (⊎_elim (λ is. let no = is.0 in absurd (cc no)) (λ is. written names.slot names.found.found is.buf is.seen (ap (number 2) is.writes ∙ is.place))) names.puts)
@@ -314,7 +314,7 @@ writes_at {old} {v = v} {at = at} {done = done} ungiven =
   where
     written : (slot : ℕ) → position (is_set_named old) v.slots.items ≡ Some slot → (buf : Buffer) → IsSeen v.buf (track_of_slot v slot) (slots_in_front v.firsts.items slot + 1) done buf → at ≡ place_of buf (slots_in_front v.firsts.items slot) → WritesAt v old at
     written slot found buf (Held holds same) place = record { slot = slot; found = found; place = place ∙ ap (λ (b : Buffer). place_of b (slots_in_front v.firsts.items slot)) same }
-    written slot found buf (Read not same (Gives bytes size gave is)) place = absurd (ungiven _ _ _ gave)
+    written slot found buf (Read not same (Gives bytes size gave is)) place = absurd (ungiven _ _ _ _ gave)
 
 module _ (any : Vol) where
   -- the operation of the statement on the volume of this number

@@ -9,7 +9,7 @@ use Rattle.dscb_codec.specs.declared.Dscb.{Dscb}
 use Rattle.dscb_codec.specs.declared.Dscb.TheVariants as formats
 use Rattle.dscb_codec.specs.declared.F1.{F1}
 use Rattle.hall_core.specs.Facts.{Attached, CallsAtMost, uncounted}
-use Rattle.hall_core.specs.Made.{HallCall, HasDone, Does, MakesOnly, StaysDone, Attaching, Giving, Lacking, Printing, Reading, Syncing}
+use Rattle.hall_core.specs.Made.{DoneSince, HallCall, HasDone, Does, MakesOnly, StaysDone, Attaching, Giving, Lacking, Printing, Reading, Syncing}
 use Rattle.pack_spec.specs.declared.MountErr.{MountErr}
 use Rattle.pack_spec.specs.declared.MountErr.TheVariants as mount
 use Rattle.pack_spec.specs.Label.{label_in, track_bytes}
@@ -21,6 +21,7 @@ use Rattle.vtoc_index.specs.Index.{IsOfUnit}
 use Rattle.vtoc_index.specs.declared.vol.Vol.{Vol}
 use Rattle.vtoc_index.proofs.GivenCases.{first_is_there, gave_all, gave_some, holding, index_is_given, label_is_there, zeros_are_no_label}
 use Rattle.vtoc_index.proofs.GivenLemmas.{index_still, reason_still}
+use Rattle.vtoc_index.proofs.TracksGiven.{given_one}
 use Rattle.vtoc_index.proofs.SmallPack.{first_track, format_4, format_5, header_is_read, image, index, one_cylinder, pack01, slot_on, two_tracks}
 use Rattle.volman.specs.Lines.{deck_line, reason_of, unit_line, words_line}
 use Rattle.volman.specs.Made.{Answered, Formless, IsMountCall, IsNamesPrint, IsRefusalPrint, IsRefusalStatus, IsStatementCall, Makes, MakesEach, Mounts, OnPack, OnRequest, OnStatement, Operates, Refuses, SaysNames, SaysOnly, SaysWhy, Stated, Unread}
@@ -63,8 +64,8 @@ call_is_made_once = (
 )
 
 -- What was done is done still: from a hall where a read gave bytes none leads to one of which that isn't said.
-what_was_done_is_kept : ¬ Makes {T = ℕ} (λ n call. 0) (λ n call. (n ≡ 1) × (call ≡ Giving 0 0 [])) (λ n. ⊤) (λ n. uncounted) (λ call. ⊤) 1 2
-what_was_done_is_kept makes = let still = (makes.kept (Giving 0 0 []) (refl, refl)).0 in omega (arith, still)
+what_was_done_is_kept : ¬ Makes {T = ℕ} (λ n call. 0) (λ n call. (n ≡ 1) × (call ≡ Giving 0 0 0 [])) (λ n. ⊤) (λ n. uncounted) (λ call. ⊤) 1 2
+what_was_done_is_kept makes = let still = (makes.kept (Giving 0 0 0 []) (refl, refl)).0 in omega (arith, still)
 
 -- one print of a text is only that
 print_alone : (these : HallCall → Type 0) (text : List ℕ) → these (Printing text) → Each (Printing text ∷ []) these 0 1
@@ -156,13 +157,13 @@ abbrev mounting : List HallCall → List HallCall
 mounting rest =
     Attaching file
     ∷ Reading 0 0 512
-    ∷ Giving 0 0 (take 512 image)
+    ∷ Giving 0 0 0 (take 512 image)
     ∷ Reading 0 512 4096
-    ∷ Giving 0 512 (track_bytes image one_cylinder 0)
+    ∷ Giving 1 0 512 (track_bytes image one_cylinder 0)
     ∷ Reading 0 4608 4096
-    ∷ Giving 0 4608 (track_bytes image one_cylinder 1)
+    ∷ Giving 2 0 4608 (track_bytes image one_cylinder 1)
     ∷ Reading 0 8704 4096
-    ∷ Giving 0 8704 (track_bytes image one_cylinder 2)
+    ∷ Giving 3 0 8704 (track_bytes image one_cylinder 2)
     ∷ rest
 
 module _ (rest : List HallCall) where
@@ -183,7 +184,7 @@ module _ (rest : List HallCall) where
 
   first_there : AreGiven Mounted 0 one_cylinder 1 1 (slot_on 1 1 format_4 ∷ slot_on 1 2 format_5 ∷ []) (0 ∷ [])
   unfolding track_bytes
-  first_there = ([], [], format_4 ∷ format_5 ∷ [], (refl, refl), Gives (track_bytes image one_cylinder 1) refl (inr (inr (inr (inr (inr (inr (inl refl))))))) first_is_there, refl, refl)
+  first_there = given_one Mounted 0 one_cylinder 1 (format_4 ∷ format_5 ∷ []) (Gives (track_bytes image one_cylinder 1) refl (inr (inr (inr (inr (inr (inr (inl refl))))))) first_is_there)
 
   gave_these : StaysDone gave_all Mounted
   unfolding gave_all gave_some
@@ -238,10 +239,10 @@ abbrev missing : List ℕ → List HallCall
 missing text = Attaching file ∷ Lacking file ∷ Printing text ∷ []
 
 abbrev unread : List ℕ → List HallCall
-unread text = Attaching file ∷ Reading 0 0 512 ∷ Giving 0 0 (take 512 image) ∷ Printing text ∷ []
+unread text = Attaching file ∷ Reading 0 0 512 ∷ Giving 0 0 0 (take 512 image) ∷ Printing text ∷ []
 
 abbrev unlabelled : List ℕ → List HallCall
-unlabelled text = Attaching file ∷ Reading 0 0 512 ∷ Giving 0 0 (take 512 image) ∷ Reading 0 512 4096 ∷ Giving 0 512 (replicate 4096 0) ∷ Printing text ∷ []
+unlabelled text = Attaching file ∷ Reading 0 0 512 ∷ Giving 0 0 0 (take 512 image) ∷ Reading 0 512 4096 ∷ Giving 1 0 512 (replicate 4096 0) ∷ Printing text ∷ []
 
 -- A file that is missing, and a pack with no label, are refused by the line of that.
 missing_file_is_refused : (acts : Vol → ℕ → Type 0) → Pack (missing (unit_line file mount.NoFile)) [] 21 acts 0 3
@@ -302,15 +303,15 @@ unlabelled_pack_is_refused acts = Refuses 5 read mount.NoLabel (Unfit 41472 refl
 
 -- what reads gave in a run without a read of the label's track, or with zeros for that
 bytes_in : HallCall → List ℕ
-bytes_in call = drop 3 (numbers_in call)
+bytes_in call = drop 4 (numbers_in call)
 
 module _ (text : List ℕ) where
-  given_unread : {unit at : ℕ} {bytes : List ℕ} → IsIn (unread text) (Giving unit at bytes) → (at ≡ 0) × (bytes ≡ take 512 image)
+  given_unread : {before unit at : ℕ} {bytes : List ℕ} → IsIn (unread text) (Giving before unit at bytes) → (at ≡ 0) × (bytes ≡ take 512 image)
   unfolding bytes_in
   given_unread =
-      ⊎_elim (λ no. absurd (cc no)) (⊎_elim (λ no. absurd (cc no)) (⊎_elim (λ is. (ap (number 2) is, ap bytes_in is)) (⊎_elim (λ no. absurd (cc no)) (λ no. absurd no))))
+      ⊎_elim (λ no. absurd (cc no)) (⊎_elim (λ no. absurd (cc no)) (⊎_elim (λ is. (ap (number 3) is, ap bytes_in is)) (⊎_elim (λ no. absurd (cc no)) (λ no. absurd no))))
 
-  given_zeros : {unit at : ℕ} {bytes : List ℕ} → IsIn (unlabelled text) (Giving unit at bytes) → ((at ≡ 0) × (bytes ≡ take 512 image)) ⊎ ((at ≡ 512) × (bytes ≡ replicate 4096 0))
+  given_zeros : {before unit at : ℕ} {bytes : List ℕ} → IsIn (unlabelled text) (Giving before unit at bytes) → ((at ≡ 0) × (bytes ≡ take 512 image)) ⊎ ((at ≡ 512) × (bytes ≡ replicate 4096 0))
   unfolding bytes_in
   given_zeros =
       ⊎_elim
@@ -318,10 +319,10 @@ module _ (text : List ℕ) where
       (⊎_elim
       (λ no. absurd (cc no))
       (⊎_elim
-      (λ is. inl (ap (number 2) is, ap bytes_in is))
+      (λ is. inl (ap (number 3) is, ap bytes_in is))
       (⊎_elim
       (λ no. absurd (cc no))
-      (⊎_elim (λ is. inr (ap (number 2) is, ap bytes_in is)) (⊎_elim (λ no. absurd (cc no)) (λ no. absurd no))))))
+      (⊎_elim (λ is. inr (ap (number 3) is, ap bytes_in is)) (⊎_elim (λ no. absurd (cc no)) (λ no. absurd no))))))
 
 -- the header is one of this geometry, and of no other
 header_read : (bytes : List ℕ) → bytes ≡ take 512 image → geometry_of bytes 41472 ≡ Ok one_cylinder
@@ -554,22 +555,26 @@ deck_is_run any = (Stated (statement pack01) refl (pack_is_acted_on any renaming
     run : List HallCall
     run = mounting renaming
 
+    -- what was done behind the mount, up to the sync of the write
+    did : HallCall → Type 0
+    did = DoneSince (calls run 9).reads (done run 11)
+
     May : HallCall → Type 0
-    May = IsStatementCall (holding any) (statement pack01) (done run 11)
+    May = IsStatementCall (holding any) (statement pack01) did
 
     there : done run 11 write
     there = inr (inr (inr (inr (inr (inr (inr (inr (inr (inl refl)))))))))
 
     operates : MakesOnly May (made run 9) (made run 11)
     operates call other =
-        let first = unmade write call (λ is. other (subst May (sym is) (refl, c_is_put any (done run 11)))) in
-        let second = unmade Syncing call (λ is. other (subst May (sym is) (refl, sync_is_made any (done run 11) there))) in
+        let first = unmade write call (λ is. other (subst May (sym is) (refl, c_is_put any did))) in
+        let second = unmade Syncing call (λ is. other (subst May (sym is) (refl, sync_is_made any did there))) in
         omega (arith, first, second)
 
     stated : OnStatement (made run) (done run) (synced run) (calls run) (holding any) (statement pack01) 0 9 13
     stated =
         Operates 11 (record { only = operates; kept = done_later run 9 11 (omega arith) })
-        (Answered (Ok tt) ((refl, written any (done run 11) there), refl) 12
+        (Answered (Ok tt) ((refl, written any did there), refl) 12
         (record { only = λ call other. let none = unmade ok_line call other in omega (arith, none); kept = done_later run 11 12 (omega arith) }) (inr (inr (inr (inr (inr (inr (inr (inr (inr (inr (inr (inl refl))))))))))))
         (record { only = λ call other. let none = unmade Syncing call other in omega (arith, none); once = λ call. let one = at_most Syncing call in omega (arith, one); kept = done_later run 12 13 (omega arith) })
         (inl (refl, refl)))

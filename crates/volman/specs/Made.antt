@@ -2,7 +2,7 @@
 use Rattle.std.specs.Prelude.{◌≡◌, ◌≢◌, ◌⊎◌, ℕ, List, Option, Some, None, Result, Ok, Err, OnOk}
 use Rattle.dscb_codec.specs.declared.Dscb.{Dscb}
 use Rattle.hall_core.specs.Facts.{Attached, Calls, CallsAtMost, unit_of}
-use Rattle.hall_core.specs.Made.{HallCall, HasDone, MakesOnce, MakesOnly, StaysDone, Attaching, Printing, Syncing}
+use Rattle.hall_core.specs.Made.{DoneSince, HallCall, HasDone, MakesOnce, MakesOnly, StaysDone, Attaching, Printing, Syncing}
 use Rattle.pack_spec.specs.declared.MountErr.{MountErr}
 use Rattle.pack_spec.specs.declared.MountErr.TheVariants.{Memory, Device}
 use Rattle.util_syntax.specs.declared.statement.Rename.{Rename}
@@ -82,19 +82,24 @@ module _ {T : Type 0} (made : T → HallCall → ℕ) (done : T → HallCall →
     pub said : status ≡ 0 → HasDone (IsNamesPrint vol.slots.items) (done new)
     pub status_is : (status ≡ 0) ⊎ ((status ≡ 24) ⊎ (status ≡ 25))
 
-  -- what a statement came to on a pack, by the index: its slot was written and synced, or it is refused
-  abbrev pub CameTo : Vol → Rename → T → Result (Unit {0}) Refusal → Type 0
-  CameTo vol s behind outcome = IsOutcome vol s (done behind) outcome × OnOk outcome (synced behind)
+  -- what was done up to a hall, and of reads what they gave since another one
+  abbrev pub Did : T → T → HallCall → Type 0
+  Did old new = DoneSince (calls old).reads (done new)
 
-  -- What was called behind the operation of a statement on a pack: nothing, with the status of a fault of the device or of want of memory; or the print of the line of what it came to, and where that was done, a sync. The status is the condition code where that was done too.
-  pub data EndsStatement (vol : Vol) (s : Rename) (status : ℕ) (behind new : T) : Type 0 where
-    Unanswered : Makes (λ call. ⊥) behind new → (status ≡ 22) ⊎ (status ≡ 25) → EndsStatement vol s status behind new
-    Unprinted : (outcome : Result (Unit {0}) Refusal) → CameTo vol s behind outcome → Makes (IsLinePrint s outcome) behind new → status ≡ 24 → EndsStatement vol s status behind new
-    Answered : (outcome : Result (Unit {0}) Refusal) → CameTo vol s behind outcome → (said : T) → Makes (IsLinePrint s outcome) behind said → done said (Printing (answer_line s outcome)) → MakesEach (λ call. call ≡ Syncing) said new → ((status ≡ code_for outcome) × synced new) ⊎ (status ≡ 22) → EndsStatement vol s status behind new
+  -- what a statement came to on a pack from one hall to another, by the index and by what was read between them: its slot was written and synced, or it is refused
+  abbrev pub CameTo : Vol → Rename → T → T → Result (Unit {0}) Refusal → Type 0
+  CameTo vol s old behind outcome = IsOutcome vol s (Did old behind) outcome × OnOk outcome (synced behind)
 
-  -- What was called for a statement on a pack, by its index: its operation, and then what ends the statement.
+  -- What was called behind the operation of a statement on a pack: nothing, with the status of a fault of the device; nothing, with that of want of memory, where the operation came to something, or one read at most and no other call was counted for it; or the print of the line of what it came to, and where that was done, a sync. The status is the condition code where that was done too.
+  pub data EndsStatement (vol : Vol) (s : Rename) (status : ℕ) (old behind new : T) : Type 0 where
+    Faulted : Makes (λ call. ⊥) behind new → status ≡ 22 → EndsStatement vol s status old behind new
+    RanOut : Makes (λ call. ⊥) behind new → status ≡ 25 → ((outcome : Result (Unit {0}) Refusal) × CameTo vol s old behind outcome) ⊎ CallsAtMost 1 0 0 0 (calls old) (calls behind) → EndsStatement vol s status old behind new
+    Unprinted : (outcome : Result (Unit {0}) Refusal) → CameTo vol s old behind outcome → Makes (IsLinePrint s outcome) behind new → status ≡ 24 → EndsStatement vol s status old behind new
+    Answered : (outcome : Result (Unit {0}) Refusal) → CameTo vol s old behind outcome → (said : T) → Makes (IsLinePrint s outcome) behind said → done said (Printing (answer_line s outcome)) → MakesEach (λ call. call ≡ Syncing) said new → ((status ≡ code_for outcome) × synced new) ⊎ (status ≡ 22) → EndsStatement vol s status old behind new
+
+  -- What was called for a statement on a pack, by its index: its operation, by the index with its buffer and by what was read since, and then what ends the statement.
   pub data OnStatement (vol : Vol) (s : Rename) (status : ℕ) (old new : T) : Type 0 where
-    Operates : (behind : T) → Makes (IsStatementCall vol s (done behind)) old behind → EndsStatement vol s status behind new → OnStatement vol s status old new
+    Operates : (behind : T) → Makes (IsStatementCall vol s (Did old behind)) old behind → EndsStatement vol s status old behind new → OnStatement vol s status old new
 
   -- What was called over the file of a pack: the calls that mount it, and then, where it isn't mounted, the print of why, as its size, reads or an attachment gave the reason; and where it is, what acts by its index, as reads gave that.
   pub data OnPack (file : List ℕ) (units : List Attached) (status : ℕ) (acts : Vol → T → Type 0) (old new : T) : Type 0 where

@@ -3,7 +3,7 @@ ghost use Rattle.std.specs.Prelude.{◌≡◌, ◌≢◌, ◌⊎◌, [], ◌∷�
 ghost use Rattle.dadsm_ops.specs.Through.{IsBeforeOr};
 ghost use Rattle.hall_core.specs.Facts.{CallsAtMost, unit_of};
 ghost use Rattle.hall_core.specs.Files.{image_of};
-ghost use Rattle.hall_core.specs.Made.{HallCall, HasDone, MakesOnly, Printing, StaysDone};
+ghost use Rattle.hall_core.specs.Made.{DoneSince, HallCall, HasDone, MakesOnly, Printing, StaysDone};
 ghost use Rattle.hall_core.specs.Moments.{IsDurable};
 ghost use Rattle.hall_core.specs.Steps.{seen};
 ghost use Rattle.hall_core.proofs.MomentLemmas.{durable_seen, counts_now_seen, only_now_seen};
@@ -83,17 +83,17 @@ impl<H: Hall> PackMachine<H> {
         ensures idle { IsTrue H.tells → IsIdle (step (shelf_named (unit_of (H.facts self.old.hall).units self.old.vol.unit).name (H.meaning self.old.hall).state) (Op.Rename v old.now new.now)) result → Keeps (H.meaning self.old.hall).clock [] (ChangesOnlyNames (unit_of (H.facts self.old.hall).units self.old.vol.unit).name self.old.vol.geometry self.old.vol.vtoc (H.meaning self.old.hall)) (ChangesOnlyNames (unit_of (H.facts self.new.hall).units self.new.vol.unit).name self.new.vol.geometry self.new.vol.vtoc (H.meaning self.new.hall)) }
         ensures call { MachineCall (status_of self.old.is_sound (H.facts self.old.hall) self.old.vol) (status_of self.new.is_sound (H.facts self.new.hall) self.new.vol) result }
         ensures calls { CallsAtMost 1 1 1 0 (H.calls self.old.hall) (H.calls self.new.hall) }
-        ensures made { MakesOnly (IsOperationCall (Op.Rename v old.now new.now) self.old.vol (H.done self.new.hall)) (H.made self.old.hall) (H.made self.new.hall) }
+        ensures made { MakesOnly (IsOperationCall (Op.Rename v old.now new.now) self.old.vol (DoneSince (H.calls self.old.hall).reads (H.done self.new.hall))) (H.made self.old.hall) (H.made self.new.hall) }
         ensures behind { OnOk result (H.behind_sync self.new.hall) }
-        ensures slots { (self.new.vol.slots.items ≡ self.old.vol.slots.items) ⊎ HasDone (IsOperationWrite (Op.Rename v old.now new.now) self.old.vol (H.done self.new.hall)) (H.done self.new.hall) }
+        ensures slots { let did = DoneSince (H.calls self.old.hall).reads (H.done self.new.hall) in (self.new.vol.slots.items ≡ self.old.vol.slots.items) ⊎ HasDone (IsOperationWrite (Op.Rename v old.now new.now) self.old.vol did) did }
         ensures kept { StaysDone (H.done self.old.hall) (H.done self.new.hall) }
-        ensures done { OnOk result (HasDone (IsOperationWrite (Op.Rename v old.now new.now) self.old.vol (H.done self.new.hall)) (H.done self.new.hall)) }
+        ensures done { let did = DoneSince (H.calls self.old.hall).reads (H.done self.new.hall) in OnOk result (HasDone (IsOperationWrite (Op.Rename v old.now new.now) self.old.vol did) did) }
         ensures held { HoldsFor (Op.Rename v old.now new.now) self.old.vol → CallsAtMost 0 1 1 0 (H.calls self.old.hall) (H.calls self.new.hall) }
         ensures refused { (r : Refusal) → IsErrOf result (MachErr.Refused r) → CallsAtMost 0 0 0 0 (H.calls self.old.hall) (H.calls self.new.hall) }
         ensures untouched { (r : Refusal) → IsErrOf result (MachErr.Refused r) → MakesOnly (λ call. ⊥) (H.made self.old.hall) (H.made self.new.hall) }
         ensures memory { IsErrOf result MachErr.Memory → ⊥ }
         ensures index { KeepsIndex (Op.Rename v old.now new.now) self.old.vol self.new.vol result }
-        ensures buffer { ((r : Refusal) → ¬ IsErrOf result (MachErr.Refused r)) → HoldsBehind (Op.Rename v old.now new.now) self.old.vol (H.done self.new.hall) self.new.vol.buf }
+        ensures buffer { ((r : Refusal) → ¬ IsErrOf result (MachErr.Refused r)) → HoldsBehind (Op.Rename v old.now new.now) self.old.vol (DoneSince (H.calls self.old.hall).reads (H.done self.new.hall)) self.new.vol.buf }
         ensures again { OperationCalls (Op.Rename v old.now new.now) self.old.vol self.new.vol (H.calls self.old.hall) (H.calls self.new.hall) result }
         ensures ahead { IsTrue H.tells → OnErr result (IsBeforeOr self.old.vol (image_of (H.meaning self.new.hall).state (H.facts self.new.hall) self.old.vol.unit) self.new.vol) }
         ensures print { IsErrOf result MachErr.Print → ⊥ }
@@ -126,11 +126,11 @@ impl<H: Hall> Machine for PackMachine<H> {
 
     ghost made = { λ m. H.made m.hall };
 
-    ghost may_make = { λ first op m call. IsOperationCall op first.vol (H.done m.hall) call };
+    ghost may_make = { λ first op m call. IsOperationCall op first.vol (DoneSince (H.calls first.hall).reads (H.done m.hall)) call };
 
     ghost done = { λ m call. H.done m.hall call };
 
-    ghost has_done = { λ first op m. HasDone (IsOperationWrite op first.vol (H.done m.hall)) (H.done m.hall) };
+    ghost has_done = { λ first op m. let did = DoneSince (H.calls first.hall).reads (H.done m.hall) in HasDone (IsOperationWrite op first.vol did) did };
 
     ghost behind_done = { λ m. H.behind_sync m.hall };
 
@@ -163,18 +163,18 @@ impl<H: Hall> Machine for PackMachine<H> {
         ensures idle { IsTrue H.tells → IsIdle (step (shelf_named (unit_of (H.facts self.old.hall).units self.old.vol.unit).name (H.meaning self.old.hall).state) op.now) result → Keeps (H.meaning self.old.hall).clock [] (ChangesOnlyNames (unit_of (H.facts self.old.hall).units self.old.vol.unit).name self.old.vol.geometry self.old.vol.vtoc (H.meaning self.old.hall)) (ChangesOnlyNames (unit_of (H.facts self.new.hall).units self.new.vol.unit).name self.new.vol.geometry self.new.vol.vtoc (H.meaning self.new.hall)) }
         ensures call { MachineCall (status_of self.old.is_sound (H.facts self.old.hall) self.old.vol) (status_of self.new.is_sound (H.facts self.new.hall) self.new.vol) result }
         ensures calls { CallsAtMost 1 1 1 0 (H.calls self.old.hall) (H.calls self.new.hall) }
-        ensures made { MakesOnly (IsOperationCall op.now self.old.vol (H.done self.new.hall)) (H.made self.old.hall) (H.made self.new.hall) }
+        ensures made { MakesOnly (IsOperationCall op.now self.old.vol (DoneSince (H.calls self.old.hall).reads (H.done self.new.hall))) (H.made self.old.hall) (H.made self.new.hall) }
         ensures behind { OnOk result (H.behind_sync self.new.hall) }
-        ensures slots { (self.new.vol.slots.items ≡ self.old.vol.slots.items) ⊎ HasDone (IsOperationWrite op.now self.old.vol (H.done self.new.hall)) (H.done self.new.hall) }
+        ensures slots { let did = DoneSince (H.calls self.old.hall).reads (H.done self.new.hall) in (self.new.vol.slots.items ≡ self.old.vol.slots.items) ⊎ HasDone (IsOperationWrite op.now self.old.vol did) did }
         ensures kept { StaysDone (H.done self.old.hall) (H.done self.new.hall) }
-        ensures has_done { OnOk result (HasDone (IsOperationWrite op.now self.old.vol (H.done self.new.hall)) (H.done self.new.hall)) }
+        ensures has_done { let did = DoneSince (H.calls self.old.hall).reads (H.done self.new.hall) in OnOk result (HasDone (IsOperationWrite op.now self.old.vol did) did) }
         ensures reason { (r : Refusal) → IsErrOf result (MachErr.Refused r) → refusal_by op.now self.old.vol.slots.items ≡ Some r }
         ensures held { HoldsFor op.now self.old.vol → CallsAtMost 0 1 1 0 (H.calls self.old.hall) (H.calls self.new.hall) }
         ensures refused { (r : Refusal) → IsErrOf result (MachErr.Refused r) → CallsAtMost 0 0 0 0 (H.calls self.old.hall) (H.calls self.new.hall) }
         ensures untouched { (r : Refusal) → IsErrOf result (MachErr.Refused r) → MakesOnly (λ call. ⊥) (H.made self.old.hall) (H.made self.new.hall) }
         ensures memory { IsErrOf result MachErr.Memory → ⊥ }
         ensures index { KeepsIndex op.now self.old.vol self.new.vol result }
-        ensures buffer { ((r : Refusal) → ¬ IsErrOf result (MachErr.Refused r)) → HoldsBehind op.now self.old.vol (H.done self.new.hall) self.new.vol.buf }
+        ensures buffer { ((r : Refusal) → ¬ IsErrOf result (MachErr.Refused r)) → HoldsBehind op.now self.old.vol (DoneSince (H.calls self.old.hall).reads (H.done self.new.hall)) self.new.vol.buf }
         ensures again { OperationCalls op.now self.old.vol self.new.vol (H.calls self.old.hall) (H.calls self.new.hall) result }
         ensures ahead { IsTrue H.tells → OnErr result (IsBeforeOr self.old.vol (image_of (H.meaning self.new.hall).state (H.facts self.new.hall) self.old.vol.unit) self.new.vol) }
         ensures print { IsErrOf result MachErr.Print → ⊥ }

@@ -21,9 +21,9 @@ const FIRST_CARD: u32 = 1;
 /// The machine is asked for the operation once, and not where there is no such volume, and for one print.
 /// An error comes where the machine has one, or where there is no memory for the line. The line is printed
 /// once the operation is done: so where the print failed, the operation is done, and nothing but the print came
-/// behind it; where the device failed, nothing is printed; and where memory ran out and the shelf is as before,
-/// nothing was written nor synced. Where the statement is to be refused, nothing but the print is called, whatever comes
-/// of that.
+/// behind it; where the device failed, nothing is printed; and where memory ran out, the operation came to
+/// something, or one read at most was made for it, and where the shelf is as before, nothing was written nor
+/// synced. Where the statement is to be refused, nothing but the print is called, whatever comes of that.
 pub fn run_rename<M: Machine>(
     alloc: Global,
     machine: &mut M,
@@ -41,7 +41,7 @@ pub fn run_rename<M: Machine>(
     ensures line { IsTrue M.tells → IsErrOf result Stop.Print → (before : M) × OnlyPrints (M.status machine.old) (M.status before) (M.meaning before) (M.meaning machine.new) (M.promise before) (M.promise machine.new) }
     ensures promise { IsTrue M.tells → Keeps (M.meaning machine.old).clock (item_of (M.meaning machine.old).state statement.now).operations (M.promise machine.old) (M.promise machine.new) }
     ensures calls { CallsAtMost 1 1 1 1 (M.calls machine.old) (M.calls machine.new) }
-    ensures made { RunsStatement M.made M.done (λ behind call. (v : ℕ) × (volume ≡ Some v) × M.may_make machine.old (operation_on statement.now v) behind call) (λ behind. ComesTo volume (λ v. M.has_done machine.old (operation_on statement.now v) behind × M.behind_done behind) (λ v r. M.refuses machine.old (operation_on statement.now v) r)) statement.now result machine.old machine.new }
+    ensures made { RunsStatement M.made M.done M.calls (λ behind call. (v : ℕ) × (volume ≡ Some v) × M.may_make machine.old (operation_on statement.now v) behind call) (λ behind. ComesTo volume (λ v. M.has_done machine.old (operation_on statement.now v) behind × M.behind_done behind) (λ v r. M.refuses machine.old (operation_on statement.now v) r)) statement.now result machine.old machine.new }
     ensures kept { StaysDone (M.done machine.old) (M.done machine.new) }
     ensures held { (v : ℕ) → volume ≡ Some v → M.holds machine.old (operation_on statement.now v) → CallsAtMost 0 1 1 1 (M.calls machine.old) (M.calls machine.new) }
     ensures refused { IfOk result (λ code. code ≡ 8 → CallsAtMost 0 0 0 1 (M.calls machine.old) (M.calls machine.new)) }

@@ -120,7 +120,7 @@ pub fn volman<C: Cards, H: Hall>(
     // of at most 257 tracks; for a statement one read more, one write and two syncs; and one print. Nothing is written
     // nor synced where no statement is asked for, nor where one isn't begun; and nothing is written for a statement
     // that is refused. With a fault of the printer there is no sync behind the print, and where memory ran out no print,
-    // nor, over a hall that tells, a write or a sync unless a file is changed.
+    // and no write without its sync, nor, over a hall that tells, a write or a sync unless a file is changed.
     ensures calls { AttachesOnce 260 1 2 1 (H.calls hall.old) (H.calls hall.new) }
     ensures made { OnRequest H.made H.done H.behind_sync H.calls (asked_in words) (λ deck. IsTrue C.tells → deck_of (C.left cards.old) ≡ deck) (H.facts hall.new).units result hall.old hall.new }
     ensures no_statement { ((file : List ℕ) → asked_in words ≢ Some (Run file)) → AttachesOnce 259 0 0 1 (H.calls hall.old) (H.calls hall.new) }

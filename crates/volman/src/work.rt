@@ -29,7 +29,8 @@ use vtoc_index::Vol;
 ///
 /// No write is pending before. The sync comes behind the line, and is the last call where a condition code is given.
 /// Behind a fault the hall is one that a stop may leave; behind one of the printer the statement is done, and no write
-/// is pending; behind want of memory it may be done, and nothing was printed.
+/// is pending; behind want of memory it is done and synced, or refused, or one read at most was made for it, and
+/// nothing was printed.
 pub fn run_statement<H: Hall>(alloc: Global, statement: &Rename, vol: Vol, hall: H) -> (u8, H)
     requires unit { IsOfUnit (H.facts hall).units vol }
     requires mounted { IsTrue H.tells → IsMounted (image_of (H.meaning hall).state (H.facts hall) vol.unit) vol }

@@ -1,6 +1,7 @@
 -- The index of the small pack, and why a pack is refused, by what reads gave. Each comment names what a near reading would let through.
-use Rattle.std.proofs.Common.{◌≡◌, ◌⊎◌, ◌+◌, ◌*◌, ◌≤◌, ⊎_elim, inl, inr, ℕ, zero, suc, List, [], ◌∷◌, ◌++◌, drop, get_or, replicate, take, Some, None, refl, sym, ap, subst, ◌∙◌, arith}
+use Rattle.std.proofs.Common.{◌≡◌, ◌⊎◌, ◌+◌, ◌*◌, ◌≤◌, ◌<◌, ⊎_elim, inl, inr, ℕ, zero, suc, List, [], ◌∷◌, ◌++◌, drop, get_or, length, replicate, take, Some, None, refl, sym, ap, ap₂, subst, ◌∙◌, arith}
 use Rattle.std.specs.Prelude.{Option, Ok, Err, option_and_then, slice_range}
+use Rattle.std.specs.List.{flat_map}
 use Rattle.ckd_image.specs.declared.header.Geometry.{Geometry}
 use Rattle.ckd_image.specs.Header.{geometry_of}
 use Rattle.ckd_image.specs.Reading.{is_front, records_of, records_to_end, records_up_to}
@@ -11,6 +12,7 @@ use Rattle.pack_spec.specs.declared.MountErr.TheVariants.{NoLabel, VtocTrack}
 use Rattle.pack_spec.specs.declared.addressed.VtocSlot.{VtocSlot}
 use Rattle.pack_spec.specs.declared.address.Address.{Address}
 use Rattle.pack_spec.specs.Label.{address_at, label_in, track_bytes, track_of_address}
+use Rattle.pack_spec.specs.Slots.{addressed_from}
 use Rattle.pack_spec.specs.Vtoc.{first_slot, slots_in, vtoc_by}
 use Rattle.pack_spec.specs.Written.{label_bytes, label_records, slot_record}
 use Rattle.track_records.specs.Calls.{Gives, HasGiven, records_by, track_read}
@@ -21,25 +23,30 @@ use Rattle.vtoc_index.proofs.CallsMade.{header_apart}
 use Rattle.vtoc_index.proofs.ExtentLaw.{begins}
 use Rattle.vtoc_index.proofs.GivenLemmas.{header_still}
 use Rattle.vtoc_index.proofs.PutCalls.{given_still}
+use Rattle.vtoc_index.proofs.TracksGiven.{given_one}
 use Rattle.vtoc_index.proofs.MountCases.{no_slot_breaks_a_rule}
 use Rattle.vtoc_index.proofs.SmallPack.{a, are_dscbs, b, data_set, extent, first_track, format_4, format_5, four_slots, header_is_read, image, index, one_cylinder, pack01, slot_on, two_tracks}
 
 -- what reads of the header, the label's track and the first track of the VTOC gave; and of all tracks of it
 unfoldable pub gave_some : HallCall → Type 0
-gave_some call = (call ≡ Giving 0 0 (take 512 image)) ⊎ ((call ≡ Giving 0 512 (track_bytes image one_cylinder 0)) ⊎ (call ≡ Giving 0 4608 (track_bytes image one_cylinder 1)))
+gave_some call = (call ≡ Giving 0 0 0 (take 512 image)) ⊎ ((call ≡ Giving 1 0 512 (track_bytes image one_cylinder 0)) ⊎ (call ≡ Giving 2 0 4608 (track_bytes image one_cylinder 1)))
 
 unfoldable pub gave_all : HallCall → Type 0
-gave_all call = gave_some call ⊎ (call ≡ Giving 0 8704 (track_bytes image one_cylinder 2))
+gave_all call = gave_some call ⊎ (call ≡ Giving 3 0 8704 (track_bytes image one_cylinder 2))
 
 -- the header, and a track of zeros for the label's
 gave_zeros : HallCall → Type 0
-gave_zeros call = (call ≡ Giving 0 0 (take 512 image)) ⊎ (call ≡ Giving 0 512 (replicate 4096 0))
+gave_zeros call = (call ≡ Giving 0 0 0 (take 512 image)) ⊎ (call ≡ Giving 1 0 512 (replicate 4096 0))
 
 at_in : HallCall → ℕ
-at_in (Giving unit at bytes) = at
+at_in (Giving before unit at bytes) = at
 at_in call = 0
 
-some_same : {x y : List ℕ} → Some x ≡ Some y → x ≡ y
+bytes_in : HallCall → List ℕ
+bytes_in (Giving before unit at bytes) = bytes
+bytes_in call = []
+
+some_same : {X : Type 0} {x y : X} → Some x ≡ Some y → x ≡ y
 some_same is = cc
 
 pub label_is_there : option_and_then label_in (records_by one_cylinder (Some 3) 0 (track_bytes image one_cylinder 0)) ≡ Some (label_bytes pack01 first_track)
@@ -53,6 +60,12 @@ first_is_there = refl
 second_is_there : option_and_then slots_in (records_by one_cylinder None 2 (track_bytes image one_cylinder 2)) ≡ Some (data_set b ∷ data_set a ∷ [])
 unfolding track_bytes records_of is_front records_to_end
 second_is_there = refl
+
+-- the bytes of the slots of each track of the VTOC
+abbrev on_track : ℕ → List (List ℕ)
+on_track zero = []
+on_track (suc zero) = format_4 ∷ format_5 ∷ []
+on_track (suc (suc track)) = data_set b ∷ data_set a ∷ []
 
 -- the records of the second track of the VTOC
 abbrev pub both_sets : List Record
@@ -89,21 +102,19 @@ module _ (any : Vol) where
     serial = refl;
     slots = four_slots;
     extent = refl;
-    given = (
-      slot_on 1 1 format_4 ∷ slot_on 1 2 format_5 ∷ [],
-      0 ∷ [],
-      data_set b ∷ data_set a ∷ [],
-      ([], [], format_4 ∷ format_5 ∷ [], (refl, refl), Gives (track_bytes image one_cylinder 1) refl (inl (inr (inr refl))) first_is_there, refl, refl),
-      Gives (track_bytes image one_cylinder 2) refl (inr refl) second_is_there,
-      refl,
-      refl,
-    );
+    given = record { found = on_track; read = read; slots_are = refl; firsts_are = refl };
     dscbs = are_dscbs;
     lawful = no_slot_breaks_a_rule;
     apart = omega arith;
     last = refl;
     buffer = Gives (track_bytes image one_cylinder 2) refl (inr refl) second_is_whole;
   }
+    where
+      read : (track : ℕ) → 1 ≤ track → track < 1 + 2 → AreSlotsGiven gave_all 0 one_cylinder track (on_track track)
+      read zero low high = absurd (omega (arith, low))
+      read (suc zero) low high = Gives (track_bytes image one_cylinder 1) refl (inl (inr (inr refl))) first_is_there
+      read (suc (suc zero)) low high = Gives (track_bytes image one_cylinder 2) refl (inr refl) second_is_there
+      read (suc (suc (suc track))) low high = absurd (omega (arith, high))
 
   -- what the reads gave of the label's track is that of the image
   label_given : (content : List ℕ) → IsLabelGiven gave_all 0 one_cylinder content → content ≡ label_bytes pack01 first_track
@@ -119,7 +130,7 @@ module _ (any : Vol) where
       gave
     where
       bytes_of : HallCall → List ℕ
-      bytes_of (Giving unit at bytes) = bytes
+      bytes_of (Giving before unit at bytes) = bytes
       bytes_of call = []
 
       same : (bytes : List ℕ) → bytes ≡ track_bytes image one_cylinder 0 → option_and_then label_in (records_by one_cylinder (Some 3) 0 bytes) ≡ Some content → content ≡ label_bytes pack01 first_track
@@ -138,7 +149,7 @@ module _ (any : Vol) where
   buffer_is_given is = no_record is.buffer
     where
       bytes_of : HallCall → List ℕ
-      bytes_of (Giving unit at bytes) = bytes
+      bytes_of (Giving before unit at bytes) = bytes
       bytes_of call = []
 
       empty : ¬ (Some both_sets ≡ Some [])
@@ -163,7 +174,7 @@ module _ (any : Vol) where
   -- No read gave the second track, or none gave anything.
   track_was_not_read : (¬ IsIndexGiven gave_some 41472 (index any)) × (¬ IsIndexGiven (λ call. ⊥) 41472 (index any))
   unfolding gave_some at_in
-  track_was_not_read = ((λ is. unread is.given.4), λ is. unseen is.header)
+  track_was_not_read = ((λ is. unread (is.given.read 2 (omega arith) (omega arith))), λ is. unseen is.header)
     where
       unread : {found : List (List ℕ)} → ¬ AreSlotsGiven gave_some 0 one_cylinder 2 found
       unread (Gives bytes size gave is) =
@@ -176,6 +187,67 @@ module _ (any : Vol) where
 
       unseen : {size : ℕ} → ¬ IsHeaderGiven (λ call. ⊥) 0 size one_cylinder
       unseen (GivesHeader bytes long gave is) = gave
+
+-- What holds of what the first track of the VTOC gave holds of that of the image.
+first_all : {holds : List ℕ → Type 0} → HasGiven gave_all 0 one_cylinder 1 holds → holds (track_bytes image one_cylinder 1)
+unfolding gave_all gave_some at_in bytes_in
+first_all {holds} (Gives bytes size gave is) = subst holds (first bytes gave) is
+  where
+    first : {before : ℕ} (bytes : List ℕ) → gave_all (Giving before 0 4608 bytes) → bytes ≡ track_bytes image one_cylinder 1
+    first bytes =
+        ⊎_elim
+        (⊎_elim
+        (λ header. let wrong : 4608 ≡ 0 = ap at_in header in absurd (omega (arith, wrong)))
+        (⊎_elim
+        (λ label. let wrong : 4608 ≡ 512 = ap at_in label in absurd (omega (arith, wrong)))
+        (λ first. ap bytes_in first)))
+        (λ second. let wrong : 4608 ≡ 8704 = ap at_in second in absurd (omega (arith, wrong)))
+
+-- The same of the second.
+second_all : {holds : List ℕ → Type 0} → HasGiven gave_all 0 one_cylinder 2 holds → holds (track_bytes image one_cylinder 2)
+unfolding gave_all gave_some at_in bytes_in
+second_all {holds} (Gives bytes size gave is) = subst holds (second bytes gave) is
+  where
+    second : {before : ℕ} (bytes : List ℕ) → gave_all (Giving before 0 8704 bytes) → bytes ≡ track_bytes image one_cylinder 2
+    second bytes =
+        ⊎_elim
+        (⊎_elim
+        (λ header. let wrong : 8704 ≡ 0 = ap at_in header in absurd (omega (arith, wrong)))
+        (⊎_elim
+        (λ label. let wrong : 8704 ≡ 512 = ap at_in label in absurd (omega (arith, wrong)))
+        (λ first. let wrong : 8704 ≡ 4608 = ap at_in first in absurd (omega (arith, wrong)))))
+        (λ second. ap bytes_in second)
+
+-- So the slots of its two tracks are the four of the image, and the numbers of their first slots 0 and 2.
+four_are_given : (slots : List VtocSlot) (firsts : List ℕ) → AreGiven gave_all 0 one_cylinder 1 2 slots firsts → (slots ≡ four_slots) × (firsts ≡ 0 ∷ 2 ∷ [])
+four_are_given slots firsts given = (
+  given.slots_are ∙ ap₂ (λ (x y : List (List ℕ)). addressed_from one_cylinder 1 1 x ++ (addressed_from one_cylinder 2 1 y ++ [])) first second,
+  given.firsts_are ∙ ap (λ (x : List (List ℕ)). 0 ∷ length (addressed_from one_cylinder 1 1 x ++ []) ∷ []) first,
+)
+  where
+    first : given.found 1 ≡ format_4 ∷ format_5 ∷ []
+    first = some_same (sym (first_all (given.read 1 (omega arith) (omega arith))) ∙ first_is_there)
+
+    second : given.found 2 ≡ data_set b ∷ data_set a ∷ []
+    second = some_same (sym (second_all (given.read 2 (omega arith) (omega arith))) ∙ second_is_there)
+
+-- The slots aren't given in another order, of the tracks or on one of them, nor fewer of them; nor numbers of first slots that are off by one.
+slots_are_in_order :
+    ((firsts : List ℕ) → ¬ AreGiven gave_all 0 one_cylinder 1 2 (slot_on 2 1 (data_set b) ∷ slot_on 2 2 (data_set a) ∷ slot_on 1 1 format_4 ∷ slot_on 1 2 format_5 ∷ []) firsts)
+    × ((firsts : List ℕ) → ¬ AreGiven gave_all 0 one_cylinder 1 2 (slot_on 1 2 format_5 ∷ slot_on 1 1 format_4 ∷ slot_on 2 1 (data_set b) ∷ slot_on 2 2 (data_set a) ∷ []) firsts)
+    × ((firsts : List ℕ) → ¬ AreGiven gave_all 0 one_cylinder 1 2 (slot_on 1 1 format_4 ∷ slot_on 1 2 format_5 ∷ slot_on 2 1 (data_set b) ∷ []) firsts)
+    × (¬ AreGiven gave_all 0 one_cylinder 1 2 four_slots (1 ∷ 3 ∷ []))
+    × (¬ AreGiven gave_all 0 one_cylinder 1 2 four_slots (0 ∷ 3 ∷ []))
+slots_are_in_order = (
+  λ firsts given. let wrong : 2 ≡ 1 = ap (in_address 3) (four_are_given _ firsts given).0 in omega (arith, wrong),
+  λ firsts given. let wrong : 2 ≡ 1 = ap (in_address 4) (four_are_given _ firsts given).0 in omega (arith, wrong),
+  λ firsts given. let wrong : 3 ≡ 4 = ap (λ (l : List VtocSlot). length l) (four_are_given _ firsts given).0 in omega (arith, wrong),
+  λ given. let wrong : 1 ≡ 0 = ap (λ (l : List ℕ). get_or l 0 9) (four_are_given four_slots _ given).1 in omega (arith, wrong),
+  λ given. let wrong : 3 ≡ 2 = ap (λ (l : List ℕ). get_or l 1 9) (four_are_given four_slots _ given).1 in omega (arith, wrong),
+)
+  where
+    in_address : ℕ → List VtocSlot → ℕ
+    in_address k slots = get_or (flat_map (λ (s : VtocSlot). s.address) slots) k 9
 
 -- A pack is said to have no label where the label's track was read and has none: not where it wasn't read.
 pack_has_no_label : IsReasonGiven gave_zeros 0 41472 NoLabel × (¬ IsReasonGiven (λ call. ⊥) 0 41472 NoLabel)
@@ -201,7 +273,7 @@ pack_has_no_label = (
 
 -- the header and the label's track alone
 gave_label : HallCall → Type 0
-gave_label call = (call ≡ Giving 0 0 (take 512 image)) ⊎ (call ≡ Giving 0 512 (track_bytes image one_cylinder 0))
+gave_label call = (call ≡ Giving 0 0 0 (take 512 image)) ⊎ (call ≡ Giving 1 0 512 (track_bytes image one_cylinder 0))
 
 -- the header, and a label's track whose label leads to that track itself; and beside these other bytes of that track, with the slot of a VTOC of it and the next
 abbrev own : Address
@@ -217,14 +289,10 @@ own_slots : List ℕ
 own_slots = new_track 0 0 (slot_record own own_format_4 ∷ []) 4096
 
 gave_own : HallCall → Type 0
-gave_own call = (call ≡ Giving 0 0 (take 512 image)) ⊎ (call ≡ Giving 0 512 own_track)
+gave_own call = (call ≡ Giving 0 0 0 (take 512 image)) ⊎ (call ≡ Giving 1 0 512 own_track)
 
 gave_both : HallCall → Type 0
-gave_both call = gave_own call ⊎ (call ≡ Giving 0 512 own_slots)
-
-bytes_in : HallCall → List ℕ
-bytes_in (Giving unit at bytes) = bytes
-bytes_in call = []
+gave_both call = gave_own call ⊎ (call ≡ Giving 2 0 512 own_slots)
 
 -- of a read, its unit, its offset and how many bytes it reads
 number : ℕ → HallCall → ℕ
@@ -240,7 +308,7 @@ header_some : (g : Geometry) → IsHeaderGiven gave_some 0 41472 g → g ≡ one
 unfolding gave_some at_in bytes_in
 header_some g (GivesHeader bytes long gave is) = let same : Ok g ≡ Ok one_cylinder = sym is ∙ ap (λ (l : List ℕ). geometry_of l 41472) (header bytes gave) ∙ header_is_read in cc
   where
-    header : (bytes : List ℕ) → gave_some (Giving 0 0 bytes) → bytes ≡ take 512 image
+    header : {before : ℕ} (bytes : List ℕ) → gave_some (Giving before 0 0 bytes) → bytes ≡ take 512 image
     header bytes =
         ⊎_elim
         (λ header. ap bytes_in header)
@@ -252,7 +320,7 @@ label_some : {holds : List ℕ → Type 0} → HasGiven gave_some 0 one_cylinder
 unfolding gave_some at_in bytes_in
 label_some {holds} (Gives bytes size gave is) = subst holds (label bytes gave) is
   where
-    label : (bytes : List ℕ) → gave_some (Giving 0 512 bytes) → bytes ≡ track_bytes image one_cylinder 0
+    label : {before : ℕ} (bytes : List ℕ) → gave_some (Giving before 0 512 bytes) → bytes ≡ track_bytes image one_cylinder 0
     label bytes =
         ⊎_elim
         (λ header. let wrong : 512 ≡ 0 = ap at_in header in absurd (omega (arith, wrong)))
@@ -264,7 +332,7 @@ first_some : {holds : List ℕ → Type 0} → HasGiven gave_some 0 one_cylinder
 unfolding gave_some at_in bytes_in
 first_some {holds} (Gives bytes size gave is) = subst holds (first bytes gave) is
   where
-    first : (bytes : List ℕ) → gave_some (Giving 0 4608 bytes) → bytes ≡ track_bytes image one_cylinder 1
+    first : {before : ℕ} (bytes : List ℕ) → gave_some (Giving before 0 4608 bytes) → bytes ≡ track_bytes image one_cylinder 1
     first bytes =
         ⊎_elim
         (λ header. let wrong : 4608 ≡ 0 = ap at_in header in absurd (omega (arith, wrong)))
@@ -307,7 +375,7 @@ reads_are_four call (OfVtoc g header label given inside behind read) = inr (inr 
 -- The header is read first, then the label's track, and the first and the second track of the VTOC; each by what the reads before it gave, and the second by the extent of the first.
 each_mounts :
     IsMountRead (λ call. ⊥) 0 41472 (Reading 0 0 512)
-    × IsMountRead (λ call. call ≡ Giving 0 0 (take 512 image)) 0 41472 (Reading 0 512 4096)
+    × IsMountRead (λ call. call ≡ Giving 0 0 0 (take 512 image)) 0 41472 (Reading 0 512 4096)
     × IsMountRead gave_label 0 41472 (Reading 0 4608 4096)
     × IsMountRead gave_some 0 41472 (Reading 0 8704 4096)
 unfolding gave_label gave_some track_bytes
@@ -318,7 +386,7 @@ each_mounts = (
   OfVtoc one_cylinder (GivesHeader (take 512 image) refl (inl refl) header_is_read) (label_bytes pack01 first_track) (Gives (track_bytes image one_cylinder 0) refl (inr (inl refl)) label_is_there) refl (omega arith)
       (OfOther two_tracks (Gives (track_bytes image one_cylinder 1) refl (inr (inr refl)) extent_is_there)
       (OfNext 1 (omega arith) (slot_on 1 1 format_4 ∷ slot_on 1 2 format_5 ∷ []) (0 ∷ [])
-      ([], [], format_4 ∷ format_5 ∷ [], (refl, refl), Gives (track_bytes image one_cylinder 1) refl (inr (inr refl)) first_is_there, refl, refl)
+      (given_one gave_some 0 one_cylinder 1 (format_4 ∷ format_5 ∷ []) (Gives (track_bytes image one_cylinder 1) refl (inr (inr refl)) first_is_there))
       refl)),
 )
 
@@ -406,11 +474,11 @@ own_slots_are_no_label = refl
 no_vtoc_on_its_track : IsVtocRead gave_both 0 one_cylinder own (Reading 0 4608 4096) × (¬ IsMountRead gave_both 0 41472 (Reading 0 4608 4096))
 unfolding gave_both gave_own own_slots records_of is_front records_to_end records_up_to at_in bytes_in number
 no_vtoc_on_its_track = (
-  OfOther (record { start = 0; len = 2 }) (Gives own_slots refl (inr refl) refl) (OfNext 1 (omega arith) (slot_on 0 1 own_format_4 ∷ []) (0 ∷ []) ([], [], own_format_4 ∷ [], (refl, refl), Gives own_slots refl (inr refl) refl, refl, refl) refl),
+  OfOther (record { start = 0; len = 2 }) (Gives own_slots refl (inr refl) refl) (OfNext 1 (omega arith) (slot_on 0 1 own_format_4 ∷ []) (0 ∷ []) (given_one gave_both 0 one_cylinder 0 (own_format_4 ∷ []) (Gives own_slots refl (inr refl) refl)) refl),
   not_read,
 )
   where
-    header_bytes_both : (bytes : List ℕ) → gave_both (Giving 0 0 bytes) → bytes ≡ take 512 image
+    header_bytes_both : {before : ℕ} (bytes : List ℕ) → gave_both (Giving before 0 0 bytes) → bytes ≡ take 512 image
     header_bytes_both bytes =
         ⊎_elim
         (⊎_elim
@@ -459,8 +527,8 @@ label_on_its_track = (
         omega (arith, wrong)
 
     no_slots : (start len : ℕ) (slots : List VtocSlot) (firsts : List ℕ) → 1 ≤ start → AreGiven gave_label 0 one_cylinder start len slots firsts → slots ≡ []
-    no_slots start zero slots firsts behind given = given.0
-    no_slots start (suc len) slots firsts behind given = absurd (label_alone (start + len) (omega (arith, behind)) given.4)
+    no_slots start zero slots firsts behind given = given.slots_are
+    no_slots start (suc len) slots firsts behind given = absurd (label_alone start behind (given.read start (omega arith) (omega arith)))
 
     begins_there : (o : Option (List ℕ)) (vtoc : Run) → vtoc_by one_cylinder first_track o ≡ Ok vtoc → vtoc.start ≡ 1
     begins_there None vtoc is = cc

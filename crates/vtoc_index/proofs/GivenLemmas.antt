@@ -1,5 +1,5 @@
 -- Tracks that were read, by what the reads gave.
-use Rattle.std.proofs.Common.{◌≡◌, ◌∙◌, ◌+◌, ℕ, zero, suc, Bool, true, false, cond, List, [], ◌∷◌, ◌++◌, length, map, take, Option, Some, None, refl, sym, ap, subst, arith, append_assoc, append-nil}
+use Rattle.std.proofs.Common.{◌≡◌, ◌∙◌, ◌+◌, ℕ, suc, Bool, true, false, cond, List, [], ◌∷◌, ◌++◌, length, map, take, Option, Some, None, refl, sym, ap, subst, arith, append_assoc, append-nil}
 use Rattle.std.specs.Prelude.{◌<◌, ◌≤◌, Ok, Err, IfErr, Result, option_and_then, slice_get, ◌&&◌}
 use Rattle.std.specs.List.{list_all}
 use Rattle.ckd_image.specs.declared.header.Geometry.{Geometry}
@@ -23,6 +23,7 @@ use Rattle.vtoc_index.specs.declared.slots.ReadSlot.{ReadSlot}
 use Rattle.vtoc_index.specs.declared.tracks.ReadSlots.{ReadSlots}
 use Rattle.vtoc_index.specs.declared.vol.Vol.{Vol}
 use Rattle.vtoc_index.proofs.PutCalls.{given_still}
+use Rattle.vtoc_index.proofs.TracksGiven.{given_more, given_none}
 use Rattle.vtoc_index.proofs.TracksRead.{AreRead-append, AreRead-length}
 
 -- what was given was given still, where nothing is taken back of what was done
@@ -31,9 +32,7 @@ pub header_still : {done later : HallCall → Type 0} {unit size : ℕ} {g : Geo
 header_still (GivesHeader bytes long gave is) kept = GivesHeader bytes long (kept _ gave) is
 
 pub tracks_still : {done later : HallCall → Type 0} (unit : ℕ) (g : Geometry) (start len : ℕ) (slots : List VtocSlot) (firsts : List ℕ) → StaysDone done later → AreGiven done unit g start len slots firsts → AreGiven later unit g start len slots firsts
-tracks_still unit g start zero slots firsts kept given = given
-tracks_still unit g start (suc len) slots firsts kept given =
-    (given.0, given.1, given.2, tracks_still unit g start len given.0 given.1 kept given.3, given_still given.4 kept, given.5, given.6)
+tracks_still unit g start len slots firsts kept given = record { found = given.found; read = λ track low high. given_still (given.read track low high) kept; slots_are = given.slots_are; firsts_are = given.firsts_are }
 
 pub found_still : {done later : HallCall → Type 0} {unit : ℕ} {g : Geometry} {start len : ℕ} {first : List VtocSlot} {found : ReadSlots} → AreFound done unit g start len first found → StaysDone done later → AreFound later unit g start len first found
 found_still {unit = unit} {g = g} {start = start} {len = len} {found = found} are kept = record { slots = are.slots; given = tracks_still unit g start len are.slots found.firsts.items kept are.given; read = are.read; begins = are.begins }
@@ -68,7 +67,7 @@ label_given unit g records given x says = label_by unit g records x (label_in re
 
 -- no track was read yet
 pub found_none : (done : HallCall → Type 0) (unit : ℕ) (g : Geometry) (start : ℕ) (found : ReadSlots) → found.slots.items ≡ [] → found.firsts.items ≡ [] → AreFound done unit g start 0 [] found
-found_none done unit g start found no_slots no_firsts = record { slots = []; given = (refl, no_firsts); read = subst (λ (l : List ReadSlot). AreRead l []) (sym no_slots) tt; begins = ([], refl) }
+found_none done unit g start found no_slots no_firsts = record { slots = []; given = given_none done unit g start [] found.firsts.items refl no_firsts; read = subst (λ (l : List ReadSlot). AreRead l []) (sym no_slots) tt; begins = ([], refl) }
 
 -- one more track
 pub found_more :
@@ -82,9 +81,10 @@ pub found_more :
 found_more done unit g start len track first records old new at are given firsts adds =
     let here : AreSlotsGiven done unit g (start + len) adds.bytes = subst (λ (t : ℕ). AreSlotsGiven done unit g t adds.bytes) at (slots_given unit g track records adds.bytes given adds.are_slots) in
     let more : addressed_from g track 1 adds.bytes ≡ addressed_from g (start + len) 1 adds.bytes = ap (λ (t : ℕ). addressed_from g t 1 adds.bytes) at in
+    let numbers : new.firsts.items ≡ old.firsts.items ++ length are.slots ∷ [] = firsts ∙ ap (λ (n : ℕ). old.firsts.items ++ n ∷ []) (AreRead-length old.slots.items are.slots are.read) in
     record {
       slots = are.slots ++ addressed_from g (start + len) 1 adds.bytes;
-      given = (are.slots, old.firsts.items, adds.bytes, are.given, here, refl, firsts ∙ ap (λ (n : ℕ). old.firsts.items ++ n ∷ []) (AreRead-length old.slots.items are.slots are.read));
+      given = subst (AreGiven done unit g start (suc len) (are.slots ++ addressed_from g (start + len) 1 adds.bytes)) (sym numbers) (given_more done unit g start len are.slots old.firsts.items adds.bytes are.given here);
       read =
           subst (λ (l : List ReadSlot). AreRead l (are.slots ++ addressed_from g (start + len) 1 adds.bytes)) (sym adds.added)
           (AreRead-append old.slots.items adds.slots are.slots (addressed_from g (start + len) 1 adds.bytes) are.read (subst (λ (l : List VtocSlot). AreRead adds.slots l) more adds.read));
@@ -163,7 +163,7 @@ track_lacks done unit g vtoc k track e slots firsts low at given lacks is =
 
 -- the first track of a VTOC lacks slots
 pub first_lacks : (done : HallCall → Type 0) (unit : ℕ) (g : Geometry) (vtoc : Run) (e : MountErr) → 1 ≤ vtoc.len → AreSlotsLacking done unit g vtoc.start → e ≡ VtocTrack vtoc.start → IsTrackReason done unit g vtoc e
-first_lacks done unit g vtoc e some lacks is = track_lacks done unit g vtoc 0 vtoc.start e [] [] (omega (arith, some)) (omega arith) (refl, refl) lacks is
+first_lacks done unit g vtoc e some lacks is = track_lacks done unit g vtoc 0 vtoc.start e [] [] (omega (arith, some)) (omega arith) (given_none done unit g vtoc.start [] [] refl refl) lacks is
 
 pub vtoc_still : {done later : HallCall → Type 0} {unit : ℕ} {g : Geometry} {at : Address} {e : MountErr} → IsVtocReason done unit g at e → StaysDone done later → IsVtocReason later unit g at e
 vtoc_still (BadExtent extent) kept = BadExtent (given_still extent kept)

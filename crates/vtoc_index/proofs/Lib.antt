@@ -25,6 +25,7 @@ pub mod HeldLemmas
 pub mod VtocPut
 pub mod BegunLemmas
 pub mod PutCalls
+pub mod TracksGiven
 pub mod GivenLemmas
 pub mod PutLaw
 pub mod ExtentLaw
@@ -35,6 +36,6 @@ mod Cases
 pub mod SmallPack
 pub mod MountCases
 pub mod PutCases
-mod MadeCases
+pub mod MadeCases
 pub mod GivenCases
 mod RuleCases

@@ -5,15 +5,15 @@ use Rattle.std.specs.Option.{option_map}
 use Rattle.ckd_image.specs.Reading.{is_front, records_of, records_to_end, records_up_to}
 use Rattle.ckd_image.specs.Track.{Record}
 use Rattle.dscb_codec.specs.Layout.{IsDscb}
-use Rattle.hall_core.specs.Made.{HallCall, Attaching, Giving, Lacking, Noting, Printing, Reading, Syncing, Writing}
+use Rattle.hall_core.specs.Made.{DoneSince, HallCall, Attaching, Giving, Lacking, Noting, Printing, Reading, Syncing, Writing}
 use Rattle.pack_spec.specs.Label.{track_bytes}
 use Rattle.track_records.specs.Buffers.{Buffer}
-use Rattle.track_records.specs.Calls.{Gives, records_by, track_read}
+use Rattle.track_records.specs.Calls.{Gives, HasGiven, records_by, track_read}
 use Rattle.track_records.specs.Updates.{HasLengths, with_parts}
 use Rattle.track_records.specs.Written.{place_of}
 use Rattle.vtoc_index.specs.Calls.{IsTrackRead}
 use Rattle.vtoc_index.specs.Index.{slots_in_front}
-use Rattle.vtoc_index.specs.Puts.{Broken, Changed, Emptied, Held, HoldsPut, HoldsRecord, HoldsSlot, IsPutCall, IsSeen, LacksSlot, Other, Read, Seen, track_of_slot}
+use Rattle.vtoc_index.specs.Puts.{Broken, Changed, Emptied, Held, HoldsPut, HoldsRecord, HoldsSlot, IsPutCall, IsSeen, IsSlotWrite, LacksSlot, Other, Read, Seen, track_of_slot}
 use Rattle.vtoc_index.specs.declared.vol.Vol.{Vol}
 use Rattle.vtoc_index.proofs.PutCases.{c_stands, set_c}
 use Rattle.vtoc_index.proofs.SmallPack.{a, b, c, data_set, image, index, one_cylinder}
@@ -26,7 +26,7 @@ numbers_in (Writing unit at bytes) = 2 ∷ unit ∷ at ∷ bytes
 numbers_in Syncing = 3 ∷ []
 numbers_in (Printing bytes) = 4 ∷ bytes
 numbers_in (Noting unit track) = 5 ∷ unit ∷ track ∷ []
-numbers_in (Giving unit at bytes) = 6 ∷ unit ∷ at ∷ bytes
+numbers_in (Giving before unit at bytes) = 6 ∷ before ∷ unit ∷ at ∷ bytes
 numbers_in (Lacking name) = 7 ∷ name
 
 number : ℕ → HallCall → ℕ
@@ -66,10 +66,10 @@ nothing call = ⊥
 
 -- the third track of the small pack was read, or as many zeros were given for it
 gave_track : HallCall → Type 0
-gave_track call = call ≡ Giving 0 8704 (track_bytes image one_cylinder 2)
+gave_track call = call ≡ Giving 3 0 8704 (track_bytes image one_cylinder 2)
 
 gave_zeros : HallCall → Type 0
-gave_zeros call = call ≡ Giving 0 8704 (replicate 4096 0)
+gave_zeros call = call ≡ Giving 3 0 8704 (replicate 4096 0)
 
 third_track_is_read : records_by one_cylinder (Some 2) 2 (track_bytes image one_cylinder 2) ≡ Some (buffer_with a).records
 unfolding buffer_with track_bytes records_of is_front records_to_end records_up_to
@@ -162,26 +162,28 @@ module _ (any : Vol) where
       lacks_not (Other buf seen none) = none (subst (λ (other : Buffer). HasLengths other.records 1 44 96) (sym (held_is_seen a gave_zeros buf seen)) (refl, refl))
       lacks_not (Broken not given) = not (refl, omega arith)
 
+  unheld : ¬ HoldsRecord (index any).buf 2 2
+  unheld held = let wrong : 2 ≤ 0 = held.1 in omega (arith, wrong)
+
+  -- where a read gave the track, the slot is written at its place
+  pub unheld_is_written : {done : HallCall → Type 0} (before : ℕ) → done (Giving before 0 8704 (track_bytes image one_cylinder 2)) → IsSlotWrite (index any) 3 set_c done (Writing 0 8881 (data_set c))
+  unfolding buffer_with track_bytes
+  unheld_is_written before gave = record { bytes = data_set c; dscb = c_stands; size = refl; buf = buffer_with a; seen = Read unheld refl (Gives (track_bytes image one_cylinder 2) refl gave third_track_is_read); lengths = (refl, refl); at = 8881; place = refl; inside = omega arith; writes = refl }
+
   -- Where it isn't held, it is written behind a read that gave the track, and noted behind one that gave none; and neither where nothing was read.
   unheld_slot_is_looked_at :
       Puts (index any) gave_track (Writing 0 8881 (data_set c))
       × (¬ Puts (index any) nothing (Writing 0 8881 (data_set c)))
       × Puts (index any) gave_zeros (Noting 0 2)
       × (¬ Puts (index any) nothing (Noting 0 2))
-  unfolding Puts nothing gave_track gave_zeros buffer_with track_bytes
+  unfolding Puts nothing gave_track gave_zeros
   unheld_slot_is_looked_at = (
-    inr (inr (record { bytes = data_set c; dscb = c_stands; size = refl; buf = buffer_with a; seen = Read unheld refl (Gives (track_bytes image one_cylinder 2) third_is_long refl third_track_is_read); lengths = (refl, refl); at = 8881; place = refl; inside = omega arith; writes = refl })),
+    inr (inr (unheld_is_written 3 refl)),
     λ puts. seen_not (written_there (index any) nothing 8881 (data_set c) puts).1,
     inr (inl (refl, Broken unheld (Gives (replicate 4096 0) refl refl zeros_are_no_track))),
     λ puts. lacks_not (noted_there (index any) nothing 2 puts).1,
   )
     where
-      unheld : ¬ HoldsRecord (index any).buf 2 2
-      unheld held = let wrong : 2 ≤ 0 = held.1 in omega (arith, wrong)
-
-      third_is_long : length (track_bytes image one_cylinder 2) ≡ 4096
-      third_is_long = refl
-
       unseen : {buf : Buffer} → ¬ IsSeen (index any).buf 2 2 nothing buf
       unseen (Held held same) = unheld held
       unseen (Read not same (Gives bytes size gave is)) = gave
@@ -192,6 +194,34 @@ module _ (any : Vol) where
       lacks_not : ¬ LacksSlot (index any).buf 2 2 nothing
       lacks_not (Other buf seen none) = unseen seen
       lacks_not (Broken not (Gives bytes size gave is)) = gave
+
+  -- A read that was made before serves neither for the write nor for the note.
+  earlier_read_is_no_look :
+      Puts (index any) (DoneSince 3 gave_track) (Writing 0 8881 (data_set c))
+      × (¬ Puts (index any) (DoneSince 4 gave_track) (Writing 0 8881 (data_set c)))
+      × Puts (index any) (DoneSince 3 gave_zeros) (Noting 0 2)
+      × (¬ Puts (index any) (DoneSince 4 gave_zeros) (Noting 0 2))
+  unfolding Puts gave_track gave_zeros number numbers_in
+  earlier_read_is_no_look = (
+    inr (inr (unheld_is_written 3 (omega arith, refl))),
+    λ puts. unseen gave_track (λ before bytes gave. ap (number 1) gave) (written_there (index any) (DoneSince 4 gave_track) 8881 (data_set c) puts).1.1,
+    inr (inl (refl, Broken unheld (Gives (replicate 4096 0) refl (omega arith, refl) zeros_are_no_track))),
+    λ puts. unnoted (noted_there (index any) (DoneSince 4 gave_zeros) 2 puts).1,
+  )
+    where
+      ungiven : (gave : HallCall → Type 0) {holds : List ℕ → Type 0} → ((before : ℕ) (bytes : List ℕ) → gave (Giving before 0 8704 bytes) → before ≡ 3) → ¬ HasGiven (DoneSince 4 gave) 0 one_cylinder 2 holds
+      ungiven gave third (Gives {before = before} bytes size was is) =
+          let low : 4 ≤ before = was.0 in
+          let same = third before bytes was.1 in
+          omega (arith, low, same)
+
+      unseen : (gave : HallCall → Type 0) {buf : Buffer} → ((before : ℕ) (bytes : List ℕ) → gave (Giving before 0 8704 bytes) → before ≡ 3) → ¬ IsSeen (index any).buf 2 2 (DoneSince 4 gave) buf
+      unseen gave third (Held held same) = unheld held
+      unseen gave third (Read not same given) = ungiven gave third given
+
+      unnoted : ¬ LacksSlot (index any).buf 2 2 (DoneSince 4 gave_zeros)
+      unnoted (Other buf seen none) = unseen gave_zeros (λ before bytes gave. ap (number 1) gave) seen
+      unnoted (Broken not given) = ungiven gave_zeros (λ before bytes gave. ap (number 1) gave) given
 
   -- Behind it the buffer holds the track as it is seen, with C in the slot or as it was; and not C in another one, nor nothing of it where it held the slot. Where it held no record, it may hold none.
   buffer_behind_is_put :

@@ -3,7 +3,8 @@ use Rattle.std.proofs.Common.{◌≡◌, ◌⊎◌, ◌≤◌, ⊎_elim, inl, in
 use Rattle.ckd_image.specs.declared.header.Geometry.{Geometry}
 use Rattle.dscb_codec.specs.declared.Dscb.{Dscb}
 use Rattle.dscb_codec.specs.Layout.{IsDscb}
-use Rattle.hall_core.specs.Made.{HallCall, Noting, StaysDone, Writing}
+use Rattle.hall_core.specs.Made.{DoneSince, HallCall, Noting, StaysDone, Writing}
+use Rattle.hall_core.proofs.MadeLemmas.{since_done}
 use Rattle.track_records.specs.Buffers.{Buffer}
 use Rattle.track_records.specs.Calls.{Gives, HasGiven, records_by, track_read}
 use Rattle.track_records.specs.Reads.{IsGivenBroken}
@@ -19,6 +20,10 @@ use Rattle.vtoc_index.specs.declared.vol.Vol.{Vol}
 
 pub given_still : {done later : HallCall → Type 0} {unit track : ℕ} {g : Geometry} {holds : List ℕ → Type 0} → HasGiven done unit g track holds → StaysDone done later → HasGiven later unit g track holds
 given_still (Gives bytes size gave is) kept = Gives bytes size (kept _ gave) is
+
+-- what a read gave since so many were counted, a read gave
+pub given_ever : {done : HallCall → Type 0} {reads unit track : ℕ} {g : Geometry} {holds : List ℕ → Type 0} → HasGiven (DoneSince reads done) unit g track holds → HasGiven done unit g track holds
+given_ever {done} {reads} given = given_still given (since_done reads done)
 
 -- of a track that is reported broken the bytes that were given have no records
 pub broken_given : (done : HallCall → Type 0) (unit : ℕ) (g : Geometry) (upto : Option ℕ) (track : ℕ) (e : TrackErr) (at : ℕ) → e ≡ BadCount at → IsGivenBroken done unit g upto track e → HasGiven done unit g track (λ bytes. records_by g upto track bytes ≡ None)

@@ -1,6 +1,6 @@
 -- The index of a VTOC by what the reads of its pack gave, which is said over each hall, in this project's profile.
-use Rattle.std.specs.Prelude.{◌≡◌, ◌⊎◌, ℕ, ◌+◌, ◌≤◌, ◌<◌, false, true, List, [], ◌∷◌, ◌++◌, length, Option, Some, None, Result, Ok, Err, option_and_then, slice_get, slice_range}
-use Rattle.std.proofs.Common.{zero, suc}
+use Rattle.std.specs.Prelude.{◌≡◌, ◌⊎◌, ℕ, ◌+◌, ◌≤◌, ◌<◌, false, true, List, [], ◌++◌, length, map, Option, Some, None, Result, Ok, Err, option_and_then, slice_get, slice_range}
+use Rattle.std.specs.List.{flat_map, range_with_len}
 use Rattle.std.specs.Option.{option_map}
 use Rattle.ckd_image.specs.declared.header.Geometry.{Geometry}
 use Rattle.ckd_image.specs.declared.header.ImageErr.{ImageErr}
@@ -24,7 +24,7 @@ use Rattle.vtoc_index.specs.declared.vol.Vol.{Vol}
 
 -- bytes that a read of a header gave, by which a pack of this size has this geometry
 pub data IsHeaderGiven (done : HallCall → Type 0) (unit size : ℕ) (g : Geometry) : Type 0 where
-  GivesHeader : (bytes : List ℕ) → length bytes ≡ 512 → done (Giving unit 0 bytes) → geometry_of bytes size ≡ Ok g → IsHeaderGiven done unit size g
+  GivesHeader : {before : ℕ} (bytes : List ℕ) → length bytes ≡ 512 → done (Giving before unit 0 bytes) → geometry_of bytes size ≡ Ok g → IsHeaderGiven done unit size g
 
 -- a read of the label's track gave these data of a label
 abbrev pub IsLabelGiven : (HallCall → Type 0) → ℕ → Geometry → List ℕ → Type 0
@@ -34,15 +34,16 @@ IsLabelGiven done unit g content = HasGiven done unit g 0 (λ bytes. option_and_
 abbrev pub AreSlotsGiven : (HallCall → Type 0) → ℕ → Geometry → ℕ → List (List ℕ) → Type 0
 AreSlotsGiven done unit g track found = HasGiven done unit g track (λ bytes. option_and_then slots_in (records_by g None track bytes) ≡ Some found)
 
--- the slots of so many tracks from this one on, and the numbers of the first slots of these, as a read of each gave them
-abbrev pub AreGiven : (HallCall → Type 0) → ℕ → Geometry → ℕ → ℕ → List VtocSlot → List ℕ → Type 0
-AreGiven done unit g start zero slots firsts = (slots ≡ []) × (firsts ≡ [])
-AreGiven done unit g start (suc len) slots firsts =
-    (before : List VtocSlot) × (numbers : List ℕ) × (found : List (List ℕ))
-    × AreGiven done unit g start len before numbers
-    × AreSlotsGiven done unit g (start + len) found
-    × (slots ≡ before ++ addressed_from g (start + len) 1 found)
-    × (firsts ≡ numbers ++ length before ∷ [])
+-- the slots on so many tracks from this one on, in order, where each track has slots of the bytes that are found on it
+abbrev pub slots_by : Geometry → (ℕ → List (List ℕ)) → ℕ → ℕ → List VtocSlot
+slots_by g found start len = flat_map (λ track. addressed_from g track 1 (found track)) (range_with_len start len)
+
+-- So many tracks from this one on have these slots, by what a read of each gave; and these are the numbers of their first slots, counted from 0 over all of them.
+pub record AreGiven (done : HallCall → Type 0) (unit : ℕ) (g : Geometry) (start len : ℕ) (slots : List VtocSlot) (firsts : List ℕ) : Type 0 where
+  pub found : ℕ → List (List ℕ)
+  pub read : (track : ℕ) → start ≤ track → track < start + len → AreSlotsGiven done unit g track (found track)
+  pub slots_are : slots ≡ slots_by g found start len
+  pub firsts_are : firsts ≡ map (λ tracks. length (slots_by g found start tracks)) (range_with_len 0 len)
 
 -- the bytes of the first of these slots
 abbrev pub first_bytes : List VtocSlot → Option (List ℕ)
@@ -99,7 +100,7 @@ pub data IsVtocReason (done : HallCall → Type 0) (unit : ℕ) (g : Geometry) (
 -- why a header of a pack of this size is refused: it doesn't fit in, or a read of it gave bytes of no geometry
 pub data IsHeaderReason (done : HallCall → Type 0) (unit size : ℕ) (e : MountErr) : Type 0 where
   TooShort : size < 512 → e ≡ Image BadMagic → IsHeaderReason done unit size e
-  NoGeometry : (bytes : List ℕ) → length bytes ≡ 512 → done (Giving unit 0 bytes) → (why : ImageErr) → geometry_of bytes size ≡ Err why → e ≡ Image why → IsHeaderReason done unit size e
+  NoGeometry : {before : ℕ} (bytes : List ℕ) → length bytes ≡ 512 → done (Giving before unit 0 bytes) → (why : ImageErr) → geometry_of bytes size ≡ Err why → e ≡ Image why → IsHeaderReason done unit size e
 
 -- Why a pack of this size is refused, by what reads of it gave: the first of these rules that is broken, unless the device failed or memory ran out.
 pub data IsReasonGiven (done : HallCall → Type 0) (unit size : ℕ) (e : MountErr) : Type 0 where

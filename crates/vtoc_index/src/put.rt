@@ -2,7 +2,7 @@
 ghost use Rattle.std.specs.Prelude.{◌≡◌, ◌⊎◌, ◌<◌, ◌≤◌, ◌+◌, ◌-◌, [], length, filter, nat_le, slice_index, IsOk, IsTrue, OnOk, OnErr};
 ghost use Rattle.hall_core.specs.Facts.{CallsAtMost, DeviceCall, unit_of};
 ghost use Rattle.hall_core.specs.Files.{image_of};
-ghost use Rattle.hall_core.specs.Made.{HasDone, MakesOnly, Noting, StaysDone};
+ghost use Rattle.hall_core.specs.Made.{DoneSince, HasDone, MakesOnly, Noting, StaysDone};
 ghost use Rattle.hall_core.specs.Moments.{Same};
 ghost use Rattle.track_records.specs.Calls.{HasTrack, track_read};
 ghost use Rattle.track_records.specs.Updates.{HasLengths};
@@ -44,10 +44,10 @@ pub fn put_slot<H: Hall>(hall: &mut H, vol: &mut Vol, slot: u32, dscb: &Dscb) ->
     ensures call { DeviceCall (H.facts hall.old) (H.facts hall.new) result }
     ensures slot { OnOk result (HoldsDscb (slots_in_front vol.old.firsts.items slot) dscb.now vol.new.buf.records) }
     ensures calls { CallsAtMost 1 1 0 0 (H.calls hall.old) (H.calls hall.new) }
-    ensures made { MakesOnly (IsPutCall vol.old slot dscb.now (H.done hall.new)) (H.made hall.old) (H.made hall.new) }
-    ensures done { OnOk result (HasDone (IsSlotWrite vol.old slot dscb.now (H.done hall.new)) (H.done hall.new)) }
+    ensures made { MakesOnly (IsPutCall vol.old slot dscb.now (DoneSince (H.calls hall.old).reads (H.done hall.new))) (H.made hall.old) (H.made hall.new) }
+    ensures done { let did = DoneSince (H.calls hall.old).reads (H.done hall.new) in OnOk result (HasDone (IsSlotWrite vol.old slot dscb.now did) did) }
     ensures kept { StaysDone (H.done hall.old) (H.done hall.new) }
-    ensures buffer { HoldsPut vol.old slot dscb.now (H.done hall.new) vol.new.buf }
+    ensures buffer { HoldsPut vol.old slot dscb.now (DoneSince (H.calls hall.old).reads (H.done hall.new)) vol.new.buf }
     ensures unwritten { OnErr result (¬ HasLengths vol.new.buf.records (slots_in_front vol.old.firsts.items slot) 44 96 → CallsAtMost 1 0 0 0 (H.calls hall.old) (H.calls hall.new)) }
     ensures again { HoldsSlot vol.old slot → CallsAtMost 0 1 0 0 (H.calls hall.old) (H.calls hall.new) }
     ensures few { ¬ HoldsSlot vol.old slot → IsReadUpTo (slots_in_front vol.old.firsts.items slot + 1) vol.new.buf.records }
@@ -116,10 +116,10 @@ fn hold<H: Hall>(hall: &mut H, unit: u8, place: Place, buf: &mut TrackBuf) -> Re
     ensures told { IsTrue H.tells → Same (H.meaning hall.old) (H.meaning hall.new) }
     ensures call { DeviceCall (H.facts hall.old) (H.facts hall.new) result }
     ensures calls { CallsAtMost 1 0 0 0 (H.calls hall.old) (H.calls hall.new) }
-    ensures made { MakesOnly (λ call. ((call ≡ track_read unit buf.old.geometry place.track) × (¬ HoldsRecord buf.old place.track place.number)) ⊎ ((call ≡ Noting unit place.track) × LacksSlot buf.old place.track place.number (H.done hall.new))) (H.made hall.old) (H.made hall.new) }
+    ensures made { MakesOnly (λ call. ((call ≡ track_read unit buf.old.geometry place.track) × (¬ HoldsRecord buf.old place.track place.number)) ⊎ ((call ≡ Noting unit place.track) × LacksSlot buf.old place.track place.number (DoneSince (H.calls hall.old).reads (H.done hall.new)))) (H.made hall.old) (H.made hall.new) }
     ensures kept { StaysDone (H.done hall.old) (H.done hall.new) }
-    ensures seen { OnOk result (IsSeen buf.old place.track place.number (H.done hall.new) buf.new) }
-    ensures lost { OnErr result (((¬ HoldsRecord buf.old place.track place.number) × (buf.new ≡ record buf.old { track = place.track; records = [] })) ⊎ IsSeen buf.old place.track place.number (H.done hall.new) buf.new) }
+    ensures seen { OnOk result (IsSeen buf.old place.track place.number (DoneSince (H.calls hall.old).reads (H.done hall.new)) buf.new) }
+    ensures lost { OnErr result (((¬ HoldsRecord buf.old place.track place.number) × (buf.new ≡ record buf.old { track = place.track; records = [] })) ⊎ IsSeen buf.old place.track place.number (DoneSince (H.calls hall.old).reads (H.done hall.new)) buf.new) }
 {
     fetch(hall, unit, place, buf)?;
     if !holds_slot(buf, place.number) {
@@ -145,9 +145,9 @@ fn fetch<H: Hall>(hall: &mut H, unit: u8, place: Place, buf: &mut TrackBuf) -> R
     ensures told { IsTrue H.tells → Same (H.meaning hall.old) (H.meaning hall.new) }
     ensures call { DeviceCall (H.facts hall.old) (H.facts hall.new) result }
     ensures calls { CallsAtMost 1 0 0 0 (H.calls hall.old) (H.calls hall.new) }
-    ensures made { MakesOnly (λ call. ((call ≡ track_read unit buf.old.geometry place.track) × (¬ HoldsRecord buf.old place.track place.number)) ⊎ ((call ≡ Noting unit place.track) × LacksSlot buf.old place.track place.number (H.done hall.new))) (H.made hall.old) (H.made hall.new) }
+    ensures made { MakesOnly (λ call. ((call ≡ track_read unit buf.old.geometry place.track) × (¬ HoldsRecord buf.old place.track place.number)) ⊎ ((call ≡ Noting unit place.track) × LacksSlot buf.old place.track place.number (DoneSince (H.calls hall.old).reads (H.done hall.new)))) (H.made hall.old) (H.made hall.new) }
     ensures kept { StaysDone (H.done hall.old) (H.done hall.new) }
-    ensures seen { OnOk result (IsSeen buf.old place.track place.number (H.done hall.new) buf.new) }
+    ensures seen { OnOk result (IsSeen buf.old place.track place.number (DoneSince (H.calls hall.old).reads (H.done hall.new)) buf.new) }
 {
     if buf.track() == place.track && usize::from(place.number) <= buf.len() {
         return Ok(());

@@ -1,6 +1,7 @@
 use Rattle.std.proofs.Common.{⊎_elim, inl, inr}
 use Rattle.hall_core.specs.Facts.{unit_of}
 use Rattle.hall_core.proofs.MadeLemmas.{done_as, makes_as}
+use Rattle.hall_core.specs.Made.{DoneSince}
 use Rattle.dadsm_ops.proofs.Renaming.{holds_renamed, named_call, named_holds, named_write, puts_name, puts_name_not, rename_calls, renames, renames_entry, renames_not}
 use Rattle.dadsm_ops.proofs.naming.rename.Goals as goal
 
@@ -72,31 +73,31 @@ pub returns-in-Ok-clause-made : goal.returns-in-Ok-clause-made
 returns-in-Ok-clause-made g c =
     let v = c.args.vol.now in
     let found = c.in_ok-slot.ensures.found in
-    makes_as c.in-Ok.ensures.made (named_call c.args.old.now.bytes c.args.new.now.bytes v (g.H.Hall.done c.put_through.new.hall) c.in_ok-slot.slot c.index.result.now c.under_name-dscb.result found c.index.ensures c.under_name-dscb.ensures.exact)
+    makes_as c.in-Ok.ensures.made (named_call c.args.old.now.bytes c.args.new.now.bytes v (DoneSince (g.H.Hall.calls c.args.hall.now).reads (g.H.Hall.done c.put_through.new.hall)) c.in_ok-slot.slot c.index.result.now c.under_name-dscb.result found c.index.ensures c.under_name-dscb.ensures.exact)
 
 pub returns-in-Err-clause-made : goal.returns-in-Err-clause-made
 returns-in-Err-clause-made g c =
     let v = c.args.vol.now in
     let found = c.in_ok-slot.ensures.found in
-    makes_as c.in-Err.ensures.made (named_call c.args.old.now.bytes c.args.new.now.bytes v (g.H.Hall.done c.put_through.new.hall) c.in_ok-slot.slot c.index.result.now c.under_name-dscb.result found c.index.ensures c.under_name-dscb.ensures.exact)
+    makes_as c.in-Err.ensures.made (named_call c.args.old.now.bytes c.args.new.now.bytes v (DoneSince (g.H.Hall.calls c.args.hall.now).reads (g.H.Hall.done c.put_through.new.hall)) c.in_ok-slot.slot c.index.result.now c.under_name-dscb.result found c.index.ensures c.under_name-dscb.ensures.exact)
 
 pub returns-in-Ok-clause-done : goal.returns-in-Ok-clause-done
 returns-in-Ok-clause-done g c =
     let v = c.args.vol.now in
     let found = c.in_ok-slot.ensures.found in
-    done_as c.in-Ok.ensures.done (named_write c.args.old.now.bytes c.args.new.now.bytes v (g.H.Hall.done c.put_through.new.hall) c.in_ok-slot.slot c.index.result.now c.under_name-dscb.result found c.index.ensures c.under_name-dscb.ensures.exact)
+    done_as c.in-Ok.ensures.done (named_write c.args.old.now.bytes c.args.new.now.bytes v (DoneSince (g.H.Hall.calls c.args.hall.now).reads (g.H.Hall.done c.put_through.new.hall)) c.in_ok-slot.slot c.index.result.now c.under_name-dscb.result found c.index.ensures c.under_name-dscb.ensures.exact)
 
 pub returns-in-Ok-clause-buffer : goal.returns-in-Ok-clause-buffer
 returns-in-Ok-clause-buffer g c answered =
     let v = c.args.vol.now in
     let found = c.in_ok-slot.ensures.found in
-    named_holds c.args.old.now.bytes c.args.new.now.bytes v (g.H.Hall.done c.put_through.new.hall) c.put_through.new.vol.buf c.in_ok-slot.slot c.index.result.now c.under_name-dscb.result found c.index.ensures c.under_name-dscb.ensures.exact c.in-Ok.ensures.buffer
+    named_holds c.args.old.now.bytes c.args.new.now.bytes v (DoneSince (g.H.Hall.calls c.args.hall.now).reads (g.H.Hall.done c.put_through.new.hall)) c.put_through.new.vol.buf c.in_ok-slot.slot c.index.result.now c.under_name-dscb.result found c.index.ensures c.under_name-dscb.ensures.exact c.in-Ok.ensures.buffer
 
 pub returns-in-Err-clause-buffer : goal.returns-in-Err-clause-buffer
 returns-in-Err-clause-buffer g c answered =
     let v = c.args.vol.now in
     let found = c.in_ok-slot.ensures.found in
-    named_holds c.args.old.now.bytes c.args.new.now.bytes v (g.H.Hall.done c.put_through.new.hall) c.put_through.new.vol.buf c.in_ok-slot.slot c.index.result.now c.under_name-dscb.result found c.index.ensures c.under_name-dscb.ensures.exact c.in-Err.ensures.buffer
+    named_holds c.args.old.now.bytes c.args.new.now.bytes v (DoneSince (g.H.Hall.calls c.args.hall.now).reads (g.H.Hall.done c.put_through.new.hall)) c.put_through.new.vol.buf c.in_ok-slot.slot c.index.result.now c.under_name-dscb.result found c.index.ensures c.under_name-dscb.ensures.exact c.in-Err.ensures.buffer
 
 -- the slots are as before, or so where that was written
 pub returns-in-Ok-clause-slots : goal.returns-in-Ok-clause-slots
@@ -111,6 +112,6 @@ returns-in-Err-clause-slots g c =
     (λ same. inl same)
     (λ put. inr (
       renames_entry c.args.old.now.bytes c.args.new.now.bytes v.slots.items c.put_through.new.vol.slots.items c.in_ok-slot.slot c.index.result.now c.under_name-dscb.result found c.index.ensures dscb put.0,
-      done_as put.1 (named_write c.args.old.now.bytes c.args.new.now.bytes v (g.H.Hall.done c.put_through.new.hall) c.in_ok-slot.slot c.index.result.now c.under_name-dscb.result found c.index.ensures dscb),
+      done_as put.1 (named_write c.args.old.now.bytes c.args.new.now.bytes v (DoneSince (g.H.Hall.calls c.args.hall.now).reads (g.H.Hall.done c.put_through.new.hall)) c.in_ok-slot.slot c.index.result.now c.under_name-dscb.result found c.index.ensures dscb),
     ))
     c.in-Err.ensures.slots

@@ -5,8 +5,8 @@ use Rattle.vtoc_index.proofs.BegunLemmas.{same_image}
 use Rattle.vtoc_index.proofs.HeldLemmas.{still_slot}
 use Rattle.hall_core.specs.Facts.{Attached, unit_of}
 use Rattle.hall_core.specs.Files.{image_of}
-use Rattle.hall_core.proofs.MadeLemmas.{done_as, done_still, makes_as, makes_then}
-use Rattle.hall_core.specs.Made.{HasDone}
+use Rattle.hall_core.proofs.MadeLemmas.{done_as, done_still, makes_as, makes_then, since_still}
+use Rattle.hall_core.specs.Made.{DoneSince, HasDone}
 use Rattle.vtoc_index.specs.Puts.{IsSlotWrite}
 use Rattle.vtoc_index.proofs.PutCalls.{call_still, holds_still, write_still}
 use Rattle.vtoc_index.specs.declared.vol.Vol.{Vol}
@@ -68,17 +68,19 @@ pub returns-in_err-put_slot-clause-made : goal.returns-in_err-put_slot-clause-ma
 returns-in_err-put_slot-clause-made g c = makes_as c.in_err-put_slot.ensures.made (λ call is. inl is)
 
 -- a sync is made behind the write alone
-wrote : (g : Over) (c : After-make_durable g) → HasDone (IsSlotWrite c.args.vol.now c.args.slot c.args.dscb.now (g.H.Hall.done c.make_durable.new.hall)) (g.H.Hall.done c.make_durable.new.hall)
-wrote g c = done_still (done_as c.in_ok-put_slot.ensures.done (λ call is. write_still is c.make_durable.ensures.kept)) c.make_durable.ensures.kept
+wrote : (g : Over) (c : After-make_durable g) → HasDone (IsSlotWrite c.args.vol.now c.args.slot c.args.dscb.now (DoneSince (g.H.Hall.calls c.args.hall.now).reads (g.H.Hall.done c.make_durable.new.hall))) (DoneSince (g.H.Hall.calls c.args.hall.now).reads (g.H.Hall.done c.make_durable.new.hall))
+wrote g c =
+    let reads = (g.H.Hall.calls c.args.hall.now).reads in
+    done_still (done_as c.in_ok-put_slot.ensures.done (λ call is. write_still is (since_still reads c.make_durable.ensures.kept))) (since_still reads c.make_durable.ensures.kept)
 
 pub returns-clause-made : goal.returns-clause-made
 returns-clause-made g c =
     let w = (goal.at.returns-clause-made g c).After-make_durable in
-    makes_then c.in_ok-put_slot.ensures.made c.make_durable.ensures.made (λ call is. inl (call_still call c.make_durable.ensures.kept is)) (λ call is. inr (is, wrote g w))
+    makes_then c.in_ok-put_slot.ensures.made c.make_durable.ensures.made (λ call is. inl (call_still call (since_still (g.H.Hall.calls c.args.hall.now).reads c.make_durable.ensures.kept) is)) (λ call is. inr (is, wrote g w))
 
 -- a sync leaves the buffer
 pub returns-clause-buffer : goal.returns-clause-buffer
-returns-clause-buffer g c = holds_still c.in_ok-put_slot.ensures.buffer c.make_durable.ensures.kept
+returns-clause-buffer g c = holds_still c.in_ok-put_slot.ensures.buffer (since_still _ c.make_durable.ensures.kept)
 
 pub returns-clause-done : goal.returns-clause-done
 returns-clause-done g c = on_ok c.make_durable.result _ (wrote g (goal.at.returns-clause-done g c).After-make_durable)

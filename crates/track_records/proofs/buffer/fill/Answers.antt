@@ -23,4 +23,5 @@ returns-clause-done g c =
     let whole : take v.len (bytes ++ drop (length bytes) v.items) ≡ bytes = take_at bytes (drop (length bytes) v.items) v.len (omega (arith, v.ok.0, same)) in
     let place : 512 + c.from.result * c.from-2.result ≡ 512 + c.args.track * c.args.geometry.track_size =
     ap (λ (n : ℕ). 512 + n * c.from-2.result) c.from.ensures ∙ ap (λ (n : ℕ). 512 + c.args.track * n) c.from-2.ensures in
-    subst (λ (b : List ℕ). g.H.Hall.done c.read.new.self (Giving c.args.unit (512 + c.args.track * c.args.geometry.track_size) b)) (sym whole) (subst (λ (n : ℕ). g.H.Hall.done c.read.new.self (Giving c.args.unit n bytes)) place c.in-Ok.ensures.done)
+    let before = (g.H.Hall.calls c.args.hall.now).reads in
+    subst (λ (b : List ℕ). g.H.Hall.done c.read.new.self (Giving before c.args.unit (512 + c.args.track * c.args.geometry.track_size) b)) (sym whole) (subst (λ (n : ℕ). g.H.Hall.done c.read.new.self (Giving before c.args.unit n bytes)) place c.in-Ok.ensures.done)

@@ -1,5 +1,6 @@
-use Rattle.std.proofs.Common.{◌/◌, ◌%◌, ap, ◌∙◌, ℕ}
+use Rattle.std.proofs.Common.{◌/◌, ◌%◌, ap, ◌∙◌, ℕ, arith}
 use Rattle.hall_core.specs.Files.{image_of}
+use Rattle.hall_core.specs.Made.{DoneSince}
 use Rattle.track_records.specs.Buffers.{Buffer}
 use Rattle.track_records.proofs.ImageLemmas.{broken_given, broken_read, records_given, records_read}
 use Rattle.track_records.proofs.buffer.read_records.Goals as goal
@@ -30,8 +31,8 @@ returns-clause-given g c =
     let heads = c.from-heads.ensures ∙ c.heads.ensures in
     elim c.match-put_places.branch [
       | in-Ok w ↦
-          rw w.result-is (records_given (g.H.Hall.done c.fill.new.hall) c.args.unit c.deref.result.now c.fill.new.bytes.items c.put_places.new.places.items c.buf.inside.geometry c.args.buf.now.geometry _ _ c.args.track c.args.upto
-          (ap (λ (b : Buffer). b.geometry) (c.buf.view_is ∙ c.begin.ensures)) (ap (λ (n : ℕ). c.args.track / n) heads) (ap (λ (n : ℕ). c.args.track % n) heads) c.deref.ensures.value c.in_ok-fill.ensures.size c.in_ok-fill.ensures.done w.in-Ok.ensures.records)
+          rw w.result-is (records_given {before = (g.H.Hall.calls c.args.hall.now).reads} (DoneSince (g.H.Hall.calls c.args.hall.now).reads (g.H.Hall.done c.fill.new.hall)) c.args.unit c.deref.result.now c.fill.new.bytes.items c.put_places.new.places.items c.buf.inside.geometry c.args.buf.now.geometry _ _ c.args.track c.args.upto
+          (ap (λ (b : Buffer). b.geometry) (c.buf.view_is ∙ c.begin.ensures)) (ap (λ (n : ℕ). c.args.track / n) heads) (ap (λ (n : ℕ). c.args.track % n) heads) c.deref.ensures.value c.in_ok-fill.ensures.size (omega arith, c.in_ok-fill.ensures.done) w.in-Ok.ensures.records)
       | in-Err w ↦ rw w.result-is tt
     ]
 
@@ -41,6 +42,6 @@ returns-clause-broke g c =
     elim c.match-put_places.branch [
       | in-Ok w ↦ rw w.result-is tt
       | in-Err w ↦
-          rw w.result-is (broken_given (g.H.Hall.done c.fill.new.hall) c.args.unit c.deref.result.now c.fill.new.bytes.items c.buf.inside.geometry c.args.buf.now.geometry _ _ c.args.track c.args.upto w.in-Err.field-0.at
-          (ap (λ (b : Buffer). b.geometry) (c.buf.view_is ∙ c.begin.ensures)) (ap (λ (n : ℕ). c.args.track / n) heads) (ap (λ (n : ℕ). c.args.track % n) heads) c.deref.ensures.value c.in_ok-fill.ensures.size c.in_ok-fill.ensures.done w.in-Err.ensures.broken w.in-Err.ensures.breaks)
+          rw w.result-is (broken_given {before = (g.H.Hall.calls c.args.hall.now).reads} (DoneSince (g.H.Hall.calls c.args.hall.now).reads (g.H.Hall.done c.fill.new.hall)) c.args.unit c.deref.result.now c.fill.new.bytes.items c.buf.inside.geometry c.args.buf.now.geometry _ _ c.args.track c.args.upto w.in-Err.field-0.at
+          (ap (λ (b : Buffer). b.geometry) (c.buf.view_is ∙ c.begin.ensures)) (ap (λ (n : ℕ). c.args.track / n) heads) (ap (λ (n : ℕ). c.args.track % n) heads) c.deref.ensures.value c.in_ok-fill.ensures.size (omega arith, c.in_ok-fill.ensures.done) w.in-Err.ensures.broken w.in-Err.ensures.breaks)
     ]

@@ -1,5 +1,6 @@
-use Rattle.std.proofs.Common.{◌≡◌, ◌/◌, ◌%◌, ap, subst, inr, ◌∙◌, ℕ, List, Option}
+use Rattle.std.proofs.Common.{◌≡◌, ◌/◌, ◌%◌, ap, subst, inr, ◌∙◌, ℕ, List, Option, arith}
 use Rattle.hall_core.specs.Files.{image_of}
+use Rattle.hall_core.specs.Made.{DoneSince}
 use Rattle.track_records.specs.Buffers.{Buffer, records_at}
 use Rattle.track_records.specs.Reads.{AreAllOrFirst, BreaksFirst}
 use Rattle.track_records.proofs.ImageLemmas.{given_is, track_is}
@@ -42,8 +43,8 @@ returns-clause-given g c =
     let places = c.put_places_or_first.new.places.items in
     elim c.match-put_places_or_first.branch [
       | in-Ok w ↦
-          rw w.result-is (given_is (λ (n m : ℕ) (b : List ℕ). AreAllOrFirst n m w.in-Ok.count (records_at filled places) b) (g.H.Hall.done c.fill.new.hall) c.args.unit c.deref.result.now filled c.buf.inside.geometry c.args.buf.now.geometry _ _ c.args.track
-          (ap (λ (b : Buffer). b.geometry) (c.buf.view_is ∙ c.begin.ensures)) (ap (λ (n : ℕ). c.args.track / n) heads) (ap (λ (n : ℕ). c.args.track % n) heads) c.deref.ensures.value c.in_ok-fill.ensures.size c.in_ok-fill.ensures.done
+          rw w.result-is (given_is {before = (g.H.Hall.calls c.args.hall.now).reads} (λ (n m : ℕ) (b : List ℕ). AreAllOrFirst n m w.in-Ok.count (records_at filled places) b) (DoneSince (g.H.Hall.calls c.args.hall.now).reads (g.H.Hall.done c.fill.new.hall)) c.args.unit c.deref.result.now filled c.buf.inside.geometry c.args.buf.now.geometry _ _ c.args.track
+          (ap (λ (b : Buffer). b.geometry) (c.buf.view_is ∙ c.begin.ensures)) (ap (λ (n : ℕ). c.args.track / n) heads) (ap (λ (n : ℕ). c.args.track % n) heads) c.deref.ensures.value c.in_ok-fill.ensures.size (omega arith, c.in_ok-fill.ensures.done)
           (held _ _ w.in-Ok.count c.deref.result.now filled places c.deref.ensures.value w.in-Ok.ensures.records))
       | in-Err w ↦ rw w.result-is tt
     ]
@@ -54,6 +55,6 @@ returns-clause-broke g c =
     elim c.match-put_places_or_first.branch [
       | in-Ok w ↦ rw w.result-is tt
       | in-Err w ↦
-          rw w.result-is (inr (given_is (λ (n m : ℕ) (b : List ℕ). BreaksFirst n m w.in-Err.fault.at b) (g.H.Hall.done c.fill.new.hall) c.args.unit c.deref.result.now c.fill.new.bytes.items c.buf.inside.geometry c.args.buf.now.geometry _ _ c.args.track
-          (ap (λ (b : Buffer). b.geometry) (c.buf.view_is ∙ c.begin.ensures)) (ap (λ (n : ℕ). c.args.track / n) heads) (ap (λ (n : ℕ). c.args.track % n) heads) c.deref.ensures.value c.in_ok-fill.ensures.size c.in_ok-fill.ensures.done w.in-Err.ensures.broken))
+          rw w.result-is (inr (given_is {before = (g.H.Hall.calls c.args.hall.now).reads} (λ (n m : ℕ) (b : List ℕ). BreaksFirst n m w.in-Err.fault.at b) (DoneSince (g.H.Hall.calls c.args.hall.now).reads (g.H.Hall.done c.fill.new.hall)) c.args.unit c.deref.result.now c.fill.new.bytes.items c.buf.inside.geometry c.args.buf.now.geometry _ _ c.args.track
+          (ap (λ (b : Buffer). b.geometry) (c.buf.view_is ∙ c.begin.ensures)) (ap (λ (n : ℕ). c.args.track / n) heads) (ap (λ (n : ℕ). c.args.track % n) heads) c.deref.ensures.value c.in_ok-fill.ensures.size (omega arith, c.in_ok-fill.ensures.done) w.in-Err.ensures.broken))
     ]

@@ -1,4 +1,4 @@
-use Rattle.std.proofs.Common.{◌≡◌, Err, refl, rules, sym, subst, ◌∙◌, ap, List, ℕ, [], ◌∷◌}
+use Rattle.std.proofs.Common.{inl, ◌≡◌, Err, refl, rules, sym, subst, ◌∙◌, ap, List, ℕ, [], ◌∷◌}
 use Rattle.std.proofs.lemmas.Result.{err_from_is_err_and}
 use Rattle.hall_core.proofs.MadeLemmas.{makes_as, makes_none}
 use Rattle.hall_core.specs.Made.{Printing}
@@ -89,17 +89,17 @@ returns-clause-idle g c told none =
 pub returns-in_err-outcome-clause-made : goal.returns-in_err-outcome-clause-made
 returns-in_err-outcome-clause-made g c =
     let p = err_from_is_err_and c.from_residual.result c.from_residual.ensures.1 in
-    Ends c.rename.new.machine c.rename.ensures.made (ends_before c.args.statement.now _ (g.M.Machine.done c.rename.new.machine) _ c.in_err-outcome.field-0.0 c.from_residual.result (p.1 ∙ ap Err p.2) (λ is. c.in_err-outcome.ensures.print (ap Err is))) c.rename.ensures.kept (λ call was. was)
+    Ends c.rename.new.machine c.rename.ensures.made (ends_before c.args.statement.now _ _ (g.M.Machine.done c.rename.new.machine) _ c.in_err-outcome.field-0.0 c.from_residual.result (p.1 ∙ ap Err p.2) (λ is. c.in_err-outcome.ensures.print (ap Err is)) (λ is. c.in_err-outcome.ensures.memory (ap Err is))) c.rename.ensures.kept (λ call was. was)
 
 pub returns-in_default-clause-made : goal.returns-in_default-clause-made
-returns-in_default-clause-made g c = Ends c.rename.new.machine c.rename.ensures.made (makes_none _ _) c.rename.ensures.kept (λ call was. was)
+returns-in_default-clause-made g c = Ends c.rename.new.machine c.rename.ensures.made (makes_none _ _, inl (c.in_ok-outcome.outcome, c.in_ok-outcome.ensures.comes)) c.rename.ensures.kept (λ call was. was)
 
 pub returns-in_err-say-clause-made : goal.returns-in_err-say-clause-made
 returns-in_err-say-clause-made g c =
     let p = err_from_is_err_and c.from_residual-in_err-say.result c.from_residual-in_err-say.ensures.1 in
     let said : c.deref.result.now ≡ answer_line c.args.statement.now c.in_ok-outcome.outcome = c.deref.ensures.value ∙ c.in-Ok.ensures in
     Ends c.rename.new.machine c.rename.ensures.made
-    (ends_unsaid c.args.statement.now _ (g.M.Machine.done c.say.new.machine) c.in_ok-outcome.outcome c.in_err-say.field-0.0 c.from_residual-in_err-say.result (p.1 ∙ ap Err p.2)
+    (ends_unsaid c.args.statement.now _ _ (g.M.Machine.done c.say.new.machine) c.in_ok-outcome.outcome c.in_err-say.field-0.0 c.from_residual-in_err-say.result (p.1 ∙ ap Err p.2)
     (λ is. c.in_err-say.ensures.device (ap Err is)) c.in_ok-outcome.ensures.comes (makes_as c.say.ensures.made (λ call is. is ∙ ap Printing said)) (λ is. c.in_err-say.ensures.unmade (ap Err is))) c.rename.ensures.kept c.say.ensures.kept
 
 pub returns-clause-made : goal.returns-clause-made

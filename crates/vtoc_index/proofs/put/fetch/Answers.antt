@@ -1,6 +1,7 @@
 use Rattle.std.proofs.Common.{◌≡◌, ◌∙◌, ap, arith, inl, inr, ℕ, subst, sym, Some, None}
-use Rattle.hall_core.proofs.MadeLemmas.{makes_then}
+use Rattle.hall_core.proofs.MadeLemmas.{makes_then, since_still}
 use Rattle.hall_core.specs.Files.{image_of}
+use Rattle.hall_core.specs.Made.{DoneSince}
 use Rattle.track_records.specs.Buffers.{Buffer}
 use Rattle.track_records.specs.Calls.{HasGiven, records_by}
 use Rattle.track_records.specs.Written.{StandsOn}
@@ -40,14 +41,15 @@ returns-in-Ok-clause-seen g c =
     let b = c.args.buf.now in
     let buf = c.read_records.new.buf in
     let same : buf ≡ record b { track = c.args.place.track; records = buf.records } = c.in-Ok.ensures.buffer ∙ ap (λ (unit : ℕ). record b { unit = unit; track = c.args.place.track; records = buf.records }) (sym c.requires.unit) in
-    Read (not_held g (goal.at.returns-in-Ok-clause-seen g c).After-read_records) same (subst (λ (unit : ℕ). HasGiven (g.H.Hall.done c.read_records.new.hall) unit b.geometry c.args.place.track (λ bytes. records_by b.geometry (Some c.args.place.number) c.args.place.track bytes ≡ Some buf.records)) (sym c.requires.unit) c.in-Ok.ensures.given)
+    Read (not_held g (goal.at.returns-in-Ok-clause-seen g c).After-read_records) same (subst (λ (unit : ℕ). HasGiven (DoneSince (g.H.Hall.calls c.args.hall.now).reads (g.H.Hall.done c.read_records.new.hall)) unit b.geometry c.args.place.track (λ bytes. records_by b.geometry (Some c.args.place.number) c.args.place.track bytes ≡ Some buf.records)) (sym c.requires.unit) c.in-Ok.ensures.given)
 
 pub returns-in-Err-BadCount-clause-made : goal.returns-in-Err-BadCount-clause-made
 returns-in-Err-BadCount-clause-made g c =
     let b = c.args.buf.now in
-    let done = g.H.Hall.done in
+    let reads = (g.H.Hall.calls c.args.hall.now).reads in
+    let did = DoneSince reads (g.H.Hall.done c.read_records.new.hall) in
     let read = c.in-Err-BadCount in
     let not = not_held g (goal.at.returns-in-Err-BadCount-clause-made g c).After-read_records in
-    let broken = broken_given (done c.read_records.new.hall) c.args.unit b.geometry (Some c.args.place.number) c.args.place.track _ read.field-0-0 read.field-0-is read.ensures.broke in
-    let given = subst (λ (unit : ℕ). HasGiven (done c.read_records.new.hall) unit b.geometry c.args.place.track (λ bytes. records_by b.geometry (Some c.args.place.number) c.args.place.track bytes ≡ None)) (sym c.requires.unit) broken in
-    makes_then read.ensures.made c.differs.ensures.made (λ call is. inl (is, not)) (λ call is. inr (is, lacks_still (Broken not given) c.differs.ensures.kept))
+    let broken = broken_given did c.args.unit b.geometry (Some c.args.place.number) c.args.place.track _ read.field-0-0 read.field-0-is read.ensures.broke in
+    let given = subst (λ (unit : ℕ). HasGiven did unit b.geometry c.args.place.track (λ bytes. records_by b.geometry (Some c.args.place.number) c.args.place.track bytes ≡ None)) (sym c.requires.unit) broken in
+    makes_then read.ensures.made c.differs.ensures.made (λ call is. inl (is, not)) (λ call is. inr (is, lacks_still (Broken not given) (since_still reads c.differs.ensures.kept)))

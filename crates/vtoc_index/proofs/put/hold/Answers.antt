@@ -1,5 +1,5 @@
 use Rattle.std.proofs.Common.{◌≡◌, ◌-◌, ⊎_elim, inl, inr, subst, sym, false, true, arith}
-use Rattle.hall_core.proofs.MadeLemmas.{makes_then}
+use Rattle.hall_core.proofs.MadeLemmas.{makes_then, since_still}
 use Rattle.hall_core.specs.Files.{image_of}
 use Rattle.track_records.specs.Buffers.{Buffer}
 use Rattle.track_records.proofs.UpdateLemmas.{lengths_there}
@@ -25,12 +25,12 @@ returns-then-not-holds_slot-clause-call g c =
     never (c.if-not-holds_slot.ensures.other stands.0 (held_slot image b c.args.place.number has stands.1 c.requires.first stands.0)))
 
 pub returns-then-not-holds_slot-clause-lost : goal.returns-then-not-holds_slot-clause-lost
-returns-then-not-holds_slot-clause-lost g c = inr (seen_still c.in_ok-fetch.ensures.seen c.differs.ensures.kept)
+returns-then-not-holds_slot-clause-lost g c = inr (seen_still c.in_ok-fetch.ensures.seen (since_still _ c.differs.ensures.kept))
 
 pub returns-then-not-holds_slot-clause-made : goal.returns-then-not-holds_slot-clause-made
 returns-then-not-holds_slot-clause-made g c =
     let seen = c.in_ok-fetch.ensures.seen in
-    let kept = c.differs.ensures.kept in
+    let kept = since_still (g.H.Hall.calls c.args.hall.now).reads c.differs.ensures.kept in
     makes_then c.in_ok-fetch.ensures.made c.differs.ensures.made
     (λ call. ⊎_elim (λ is. inl is) (λ is. inr (is.0, lacks_still is.1 kept)))
     (λ call is. inr (is, Other c.fetch.new.buf (seen_still seen kept) (λ has. never (c.if-not-holds_slot.ensures.other (omega (arith, c.requires.first, lengths_there c.fetch.new.buf.records (c.args.place.number - 1) 44 96 has)) has))))

@@ -4,8 +4,8 @@ use Rattle.std.proofs.lemmas.Result.{IfOk-from_err}
 use Rattle.ckd_image.specs.declared.header.Geometry.{Geometry}
 use Rattle.hall_core.specs.Facts.{Attached, unit_of}
 use Rattle.hall_core.specs.Files.{image_of, patched}
-use Rattle.hall_core.specs.Made.{Does, HallCall, MakesOnly, Writing}
-use Rattle.hall_core.proofs.MadeLemmas.{makes_as, makes_then}
+use Rattle.hall_core.specs.Made.{Does, DoneSince, HallCall, MakesOnly, Writing}
+use Rattle.hall_core.proofs.MadeLemmas.{makes_as, makes_then, since_still}
 use Rattle.track_records.specs.Buffers.{Buffer}
 use Rattle.track_records.specs.Updates.{HasLengths, with_parts}
 use Rattle.track_records.specs.Written.{StandsOn, place_of}
@@ -189,28 +189,28 @@ returns-clause-few g c = few_then g (goal.at.returns-clause-few g c).After-updat
 -- ---- the calls by what they are made with, and the buffer
 
 -- the track that is held, as it is seen
-seen_is : (g : Over) (c : After-update g) → IsSeen c.args.vol.now.buf (track_of_slot c.args.vol.now c.args.slot) (front_of c.args.vol.now c.args.slot + 1) (g.H.Hall.done c.update.new.hall) c.hold.new.buf
+seen_is : (g : Over) (c : After-update g) → IsSeen c.args.vol.now.buf (track_of_slot c.args.vol.now c.args.slot) (front_of c.args.vol.now c.args.slot + 1) (DoneSince (g.H.Hall.calls c.args.hall.now).reads (g.H.Hall.done c.update.new.hall)) c.hold.new.buf
 seen_is g c =
     let place = c.place_of-place in
-    slot_seen c.args.vol.now c.args.slot place.result.number place.result.track _ _ c.hold.new.buf place.ensures.track place.ensures.number c.update.ensures.kept c.in_ok-hold.ensures.seen
+    slot_seen c.args.vol.now c.args.slot place.result.number place.result.track _ _ c.hold.new.buf place.ensures.track place.ensures.number (since_still (g.H.Hall.calls c.args.hall.now).reads c.update.ensures.kept) c.in_ok-hold.ensures.seen
 
 pub returns-in_err-hold-clause-made : goal.returns-in_err-hold-clause-made
 returns-in_err-hold-clause-made g c =
     let place = c.place_of-place in
     makes_as c.in_err-hold.ensures.made (put_reads c.args.vol.now c.args.slot place.result.number place.result.track c.args.dscb.now _ _ c.requires.unit.buffer.0 place.ensures.track place.ensures.number (λ call was. was))
 
-write_is : (g : Over) (c : After-update g) (call : HallCall) → call ≡ Writing c.hold.new.buf.unit (place_of c.hold.new.buf (c.place_of-place.result.number - 1)) (c.split_at.result.0.now ++ c.split_at.result.1.now) → IsSlotWrite c.args.vol.now c.args.slot c.args.dscb.now (g.H.Hall.done c.update.new.hall) call
+write_is : (g : Over) (c : After-update g) (call : HallCall) → call ≡ Writing c.hold.new.buf.unit (place_of c.hold.new.buf (c.place_of-place.result.number - 1)) (c.split_at.result.0.now ++ c.split_at.result.1.now) → IsSlotWrite c.args.vol.now c.args.slot c.args.dscb.now (DoneSince (g.H.Hall.calls c.args.hall.now).reads (g.H.Hall.done c.update.new.hall)) call
 write_is g c =
     let place = c.place_of-place in
     slot_write c.args.vol.now c.args.slot (place.result.number - 1) c.args.dscb.now _ c.hold.new.buf c.split_at.result.0.now c.split_at.result.1.now c.encode-bytes.result (seen_is g c) c.in_ok-hold.ensures.lengths
     (c.in_ok-hold.ensures.stays.0 ∙ c.requires.unit.buffer.0, c.in_ok-hold.ensures.stays.1 ∙ c.requires.unit.buffer.1)
     (c.in_ok-hold.ensures.track ∙ place.ensures.track) (front_is g c) (bytes_is g c) c.encode-bytes.ensures.fields (search rules) c.update.ensures.inside
 
-made_then : (g : Over) (c : After-update g) → MakesOnly (IsPutCall c.args.vol.now c.args.slot c.args.dscb.now (g.H.Hall.done c.update.new.hall)) (g.H.Hall.made c.args.hall.now) (g.H.Hall.made c.update.new.hall)
+made_then : (g : Over) (c : After-update g) → MakesOnly (IsPutCall c.args.vol.now c.args.slot c.args.dscb.now (DoneSince (g.H.Hall.calls c.args.hall.now).reads (g.H.Hall.done c.update.new.hall))) (g.H.Hall.made c.args.hall.now) (g.H.Hall.made c.update.new.hall)
 made_then g c =
     let place = c.place_of-place in
     makes_then c.in_ok-hold.ensures.made c.update.ensures.made
-    (put_reads c.args.vol.now c.args.slot place.result.number place.result.track c.args.dscb.now _ _ c.requires.unit.buffer.0 place.ensures.track place.ensures.number c.update.ensures.kept)
+    (put_reads c.args.vol.now c.args.slot place.result.number place.result.track c.args.dscb.now _ _ c.requires.unit.buffer.0 place.ensures.track place.ensures.number (since_still (g.H.Hall.calls c.args.hall.now).reads c.update.ensures.kept))
     (λ call is. inr (inr (write_is g c call is)))
 
 pub returns-in_err-update-clause-made : goal.returns-in_err-update-clause-made
@@ -233,7 +233,7 @@ returns-in_err-hold-clause-buffer g c =
     (λ seen. Seen (slot_seen v c.args.slot place.result.number place.result.track _ _ c.hold.new.buf place.ensures.track place.ensures.number (λ call was. was) seen))
     c.in_err-hold.ensures.lost
 
-changed : (g : Over) (c : After-update g) → HoldsPut c.args.vol.now c.args.slot c.args.dscb.now (g.H.Hall.done c.update.new.hall) c.update.new.buf
+changed : (g : Over) (c : After-update g) → HoldsPut c.args.vol.now c.args.slot c.args.dscb.now (DoneSince (g.H.Hall.calls c.args.hall.now).reads (g.H.Hall.done c.update.new.hall)) c.update.new.buf
 changed g c =
     let held = c.hold.new.buf in
     let front = front_of c.args.vol.now c.args.slot in

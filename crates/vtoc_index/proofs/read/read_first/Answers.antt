@@ -10,6 +10,7 @@ use Rattle.vtoc_index.specs.Reading.{vtoc_on}
 use Rattle.vtoc_index.proofs.CallsMade.{refuses_at}
 use Rattle.vtoc_index.proofs.FirstTrack.{broken_held, extent_given, held_broken, held_extent, held_whole, lacking_extent, lacking_given, not_held, whole_given}
 use Rattle.vtoc_index.proofs.GivenLemmas.{err_at, first_lacks}
+use Rattle.vtoc_index.proofs.PutCalls.{given_ever}
 use Rattle.vtoc_index.proofs.Reasons.{refuses, extent_refused}
 use Rattle.vtoc_index.proofs.TracksRead.{first_broken}
 use Rattle.vtoc_index.proofs.read.read_first.Goals as goal
@@ -51,13 +52,13 @@ returns-clause-read g c told =
 -- by what the read gave
 pub returns-in-Err-BadCount-clause-reason : goal.returns-in-Err-BadCount-clause-reason
 returns-in-Err-BadCount-clause-reason g c =
-    inr (BadExtent (lacking_given c.args.unit c.args.buf.now.geometry c.args.geometry c.args.at c.track-track.result _ c.in-Err-BadCount.field-0-0 c.requires.buffer c.track-track.ensures.exact c.in-Err-BadCount.field-0-is c.in-Err-BadCount.ensures.broke))
+    inr (BadExtent (given_ever (lacking_given c.args.unit c.args.buf.now.geometry c.args.geometry c.args.at c.track-track.result _ c.in-Err-BadCount.field-0-0 c.requires.buffer c.track-track.ensures.exact c.in-Err-BadCount.field-0-is c.in-Err-BadCount.ensures.broke)))
 
 pub returns-in_err-vtoc-clause-reason : goal.returns-in_err-vtoc-clause-reason
 returns-in_err-vtoc-clause-reason g c =
     let p = err_from_is_err_and c.from_residual.result c.from_residual.ensures.1 in
     err_at (λ e. (e ≡ Device) ⊎ IsVtocReason (g.H.Hall.done c.read_records_or_first.new.hall) c.args.unit c.args.geometry c.args.at e) c.from_residual.result c.in_err-vtoc.field-0.0 (p.1 ∙ ap Err p.2)
-    (inr (BadExtent (extent_given c.args.unit c.args.buf.now.geometry c.args.geometry c.args.at c.track-track.result c.in-Ok.held _ _ c.requires.buffer c.track-track.ensures.exact c.in-Ok.ensures.given c.in_err-vtoc.ensures.refused)))
+    (inr (BadExtent (extent_given c.args.unit c.args.buf.now.geometry c.args.geometry c.args.at c.track-track.result c.in-Ok.held _ _ c.requires.buffer c.track-track.ensures.exact (given_ever c.in-Ok.ensures.given) c.in_err-vtoc.ensures.refused)))
 
 pub returns-in_default-clause-reason : goal.returns-in_default-clause-reason
 returns-in_default-clause-reason g c =
@@ -65,10 +66,10 @@ returns-in_default-clause-reason g c =
     let done = g.H.Hall.done c.read_records_or_first.new.hall in
     let extent = c.in_ok-vtoc.ensures.extent in
     let start : c.track-track.result ≡ vtoc.start = c.track-track.ensures.exact ∙ sym extent.begins in
-    inr (NoSlots vtoc (extent_given c.args.unit c.args.buf.now.geometry c.args.geometry c.args.at c.track-track.result c.in-Ok.held _ _ c.requires.buffer c.track-track.ensures.exact c.in-Ok.ensures.given c.in_ok-vtoc.ensures.found)
+    inr (NoSlots vtoc (extent_given c.args.unit c.args.buf.now.geometry c.args.geometry c.args.at c.track-track.result c.in-Ok.held _ _ c.requires.buffer c.track-track.ensures.exact (given_ever c.in-Ok.ensures.given) c.in_ok-vtoc.ensures.found)
     (first_lacks done c.args.unit c.args.geometry vtoc (VtocTrack c.track-track.result) extent.some
-    (broken_held c.args.unit c.args.buf.now.geometry c.args.geometry c.track-track.result vtoc.start c.in-Ok.held _ c.requires.buffer start (not_held c.in-Ok.held c.in_default.not-Some) c.in-Ok.ensures.given) (ap VtocTrack start)))
+    (broken_held c.args.unit c.args.buf.now.geometry c.args.geometry c.track-track.result vtoc.start c.in-Ok.held _ c.requires.buffer start (not_held c.in-Ok.held c.in_default.not-Some) (given_ever c.in-Ok.ensures.given)) (ap VtocTrack start)))
 
 pub returns-clause-given : goal.returns-clause-given
 returns-clause-given g c =
-    whole_given c.args.unit c.args.buf.now.geometry c.args.geometry c.track-track.result c.in_ok-vtoc.vtoc.start c.in-Ok.held c.in-Some.count _ c.requires.buffer (c.track-track.ensures.exact ∙ sym c.in_ok-vtoc.ensures.extent.begins) c.in-Some.is c.in-Ok.ensures.given
+    whole_given c.args.unit c.args.buf.now.geometry c.args.geometry c.track-track.result c.in_ok-vtoc.vtoc.start c.in-Ok.held c.in-Some.count _ c.requires.buffer (c.track-track.ensures.exact ∙ sym c.in_ok-vtoc.ensures.extent.begins) c.in-Some.is (given_ever c.in-Ok.ensures.given)

@@ -5,7 +5,7 @@ use Rattle.dscb_codec.specs.declared.Dscb.{Dscb}
 use Rattle.ebcdic_names.specs.declared.names.Dsn.{Dsn}
 use Rattle.hall_core.specs.Facts.{Calls, unit_of}
 use Rattle.hall_core.specs.Files.{File}
-use Rattle.hall_core.specs.Made.{HallCall, HasDone, MakesOnly}
+use Rattle.hall_core.specs.Made.{DoneSince, HallCall, HasDone, MakesOnly}
 use Rattle.hall_core.specs.Moments.{Meaning}
 use Rattle.hall_core.specs.Steps.{seen}
 use Rattle.track_records.specs.Buffers.{Buffer}
@@ -54,19 +54,19 @@ made_as : (v : ℕ) (from to : Dsn) (op : Op) → op ≡ Rename v from to → (b
 made_as v from to op is before done old new = subst (λ (o : Op). MakesOnly (IsOperationCall o before done) old new) (sym is)
 
 pub returns-clause-made : goal.returns-clause-made
-returns-clause-made g c = made_as _ _ _ c.args.op.now (search rules) c.args.self.now.vol (g.H.Hall.done c.rename.new.self.hall) (g.H.Hall.made c.args.self.now.hall) (g.H.Hall.made c.rename.new.self.hall) c.rename.ensures.made
+returns-clause-made g c = made_as _ _ _ c.args.op.now (search rules) c.args.self.now.vol (DoneSince (g.H.Hall.calls c.args.self.now.hall).reads (g.H.Hall.done c.rename.new.self.hall)) (g.H.Hall.made c.args.self.now.hall) (g.H.Hall.made c.rename.new.self.hall) c.rename.ensures.made
 
 done_as : {T : Type 0} (result : Result T MachErr) (v : ℕ) (from to : Dsn) (op : Op) → op ≡ Rename v from to → (before : Vol) (done : HallCall → Type 0) → OnOk result (HasDone (IsOperationWrite (Rename v from to) before done) done) → OnOk result (HasDone (IsOperationWrite op before done) done)
 done_as result v from to op is before done = subst (λ (o : Op). OnOk result (HasDone (IsOperationWrite o before done) done)) (sym is)
 
 pub returns-clause-has_done : goal.returns-clause-has_done
-returns-clause-has_done g c = done_as c.rename.result _ _ _ c.args.op.now (search rules) c.args.self.now.vol (g.H.Hall.done c.rename.new.self.hall) c.rename.ensures.done
+returns-clause-has_done g c = done_as c.rename.result _ _ _ c.args.op.now (search rules) c.args.self.now.vol (DoneSince (g.H.Hall.calls c.args.self.now.hall).reads (g.H.Hall.done c.rename.new.self.hall)) c.rename.ensures.done
 
 slots_as : (v : ℕ) (from to : Dsn) (op : Op) → op ≡ Rename v from to → (before : Vol) (slots : List Dscb) (done : HallCall → Type 0) → (slots ≡ before.slots.items) ⊎ HasDone (IsOperationWrite (Rename v from to) before done) done → (slots ≡ before.slots.items) ⊎ HasDone (IsOperationWrite op before done) done
 slots_as v from to op is before slots done = subst (λ (o : Op). (slots ≡ before.slots.items) ⊎ HasDone (IsOperationWrite o before done) done) (sym is)
 
 pub returns-clause-slots : goal.returns-clause-slots
-returns-clause-slots g c = slots_as _ _ _ c.args.op.now (search rules) c.args.self.now.vol c.rename.new.self.vol.slots.items (g.H.Hall.done c.rename.new.self.hall) c.rename.ensures.slots
+returns-clause-slots g c = slots_as _ _ _ c.args.op.now (search rules) c.args.self.now.vol c.rename.new.self.vol.slots.items (DoneSince (g.H.Hall.calls c.args.self.now.hall).reads (g.H.Hall.done c.rename.new.self.hall)) c.rename.ensures.slots
 
 pub returns-clause-reason : goal.returns-clause-reason
 returns-clause-reason g c r is = ((returns-clause-index g c).refused r is).0
@@ -75,7 +75,7 @@ buffer_as : (v : ℕ) (from to : Dsn) (op : Op) → op ≡ Rename v from to → 
 buffer_as v from to op is before done buf = subst (λ (o : Op). HoldsBehind o before done buf) (sym is)
 
 pub returns-clause-buffer : goal.returns-clause-buffer
-returns-clause-buffer g c answered = buffer_as _ _ _ c.args.op.now (search rules) c.args.self.now.vol (g.H.Hall.done c.rename.new.self.hall) c.rename.new.self.vol.buf (c.rename.ensures.buffer answered)
+returns-clause-buffer g c answered = buffer_as _ _ _ c.args.op.now (search rules) c.args.self.now.vol (DoneSince (g.H.Hall.calls c.args.self.now.hall).reads (g.H.Hall.done c.rename.new.self.hall)) c.rename.new.self.vol.buf (c.rename.ensures.buffer answered)
 
 held_as : (v : ℕ) (from to : Dsn) (op : Op) → op ≡ Rename v from to → (vol : Vol) → HoldsFor op vol → HoldsFor (Rename v from to) vol
 held_as v from to op is vol = subst (λ (o : Op). HoldsFor o vol) is
