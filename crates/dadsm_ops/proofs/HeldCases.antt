@@ -1,6 +1,6 @@
 -- The buffer behind a rename on the small pack, in which A, in the fourth slot, becomes C, and the calls of it. Each comment names what a near reading would let through.
 use Rattle.std.proofs.Common.{◌≡◌, ◌≤◌, ◌<◌, ◌+◌, ⊎_elim, inl, inr, ℕ, List, [], ◌∷◌, drop, get_or, take, Option, Some, None, refl, sym, ap, subst, ◌∙◌, arith}
-use Rattle.std.specs.Prelude.{◌⊎◌, Ok, Err, slice_get, unwrap_or}
+use Rattle.std.specs.Prelude.{Ok, Err, slice_get, unwrap_or}
 use Rattle.std.specs.Option.{option_map}
 use Rattle.ckd_image.specs.Track.{Record}
 use Rattle.dscb_codec.specs.declared.Dscb.{Dscb}
@@ -16,6 +16,7 @@ use Rattle.vtoc_index.specs.Index.{slots_in_front, track_index}
 use Rattle.vtoc_index.specs.Puts.{Changed, Emptied, Held, HoldsDscb, HoldsPut, HoldsSlot, IsPutCall, IsReadUpTo, IsSeen, Read, Seen}
 use Rattle.vtoc_index.specs.declared.vol.Vol.{Vol}
 use Rattle.vtoc_index.proofs.HeldLemmas.{key_held}
+use Rattle.vtoc_index.proofs.MadeCases.{buffer_behind_no_put, buffer_with, gave_longer, gave_track, gave_zeros, longer_key, nothing, read_and_noted, read_once, read_set_is_put_back, seen_track_is_emptied, uncalled}
 use Rattle.vtoc_index.proofs.PutCases.{c_stands}
 use Rattle.vtoc_index.proofs.SmallPack.{a, b, c, data_set, f1, f4, f5, four_slots, image, index, slots_are_read}
 use Rattle.dadsm_ops.specs.Naming.{HoldsNamed, HoldsRenamed, IsRenameCall, IsToRename, RenameCalls, RenamesEntry, WritesSlotNamed, under_name}
@@ -214,10 +215,7 @@ module _ (any : Vol) where
     λ calls. let wrong : 0xC2 ≡ 0xC3 = same_first (take 44 (data_set b)) c (key_there c 2 (set_record c ∷ set_record b ∷ []) (calls.synced (omega arith)).1) in omega (arith, wrong),
   )
 
-  -- nothing is known to be done, or that C was written
-  nothing : HallCall → Type 0
-  nothing call = ⊥
-
+  -- C was written
   wrote_c : HallCall → Type 0
   wrote_c call = call ≡ Writing 0 8881 (data_set c)
 
@@ -284,24 +282,24 @@ module _ (any : Vol) where
   behind : ℕ → List Record → Buffer
   behind track records = record (index any).buf { track = track; records = records }
 
-  -- what a rename of A to C leaves in the buffer of an index that had these records of the second track, where nothing is known to be done
-  abbrev Leaves : List Record → Buffer → Type 0
-  Leaves held = HoldsNamed a c (before 2 held) nothing
+  -- what a rename of A to C leaves in the buffer of an index that had these records of the second track, by what was done and by how often each call was made
+  abbrev Leaves : (HallCall → Type 0) → (HallCall → ℕ) → List Record → Buffer → Type 0
+  Leaves done made held = HoldsNamed a c (before 2 held) done uncalled made
 
   -- what putting C into the fourth slot leaves there
-  abbrev PutsC : List Record → Buffer → Type 0
-  PutsC held = HoldsPut (before 2 held) 3 (formats.F1 (f1 c)) nothing
+  abbrev PutsC : (HallCall → Type 0) → (HallCall → ℕ) → List Record → Buffer → Type 0
+  PutsC done made held = HoldsPut (before 2 held) 3 (formats.F1 (f1 c)) done uncalled made
 
   -- The one is the other.
-  c_is_put : (held : List Record) (buf : Buffer) → Leaves held buf → PutsC held buf
+  c_is_put : {done : HallCall → Type 0} {made : HallCall → ℕ} (held : List Record) (buf : Buffer) → Leaves done made held buf → PutsC done made held buf
   unfolding before
-  c_is_put held buf leaves =
+  c_is_put {done} {made} held buf leaves =
       let slot = sym (renames_the_fourth leaves.slot leaves.found) in
       let set : Some (formats.F1 (f1 a)) ≡ Some leaves.dscb = subst (λ (n : ℕ). slice_get (index any).slots.items n ≡ Some leaves.dscb) slot leaves.held in
       let dscb : leaves.dscb ≡ formats.F1 (f1 a) = cc in
-      subst (λ (d : Dscb). HoldsPut (before 2 held) 3 (under_name c d) nothing buf) dscb (subst (λ (n : ℕ). HoldsPut (before 2 held) n (under_name c leaves.dscb) nothing buf) slot leaves.holds)
+      subst (λ (d : Dscb). HoldsPut (before 2 held) 3 (under_name c d) done uncalled made buf) dscb (subst (λ (n : ℕ). HoldsPut (before 2 held) n (under_name c leaves.dscb) done uncalled made buf) slot leaves.holds)
 
-  leaves_it_put : (held : List Record) (buf : Buffer) → PutsC held buf → Leaves held buf
+  leaves_it_put : {done : HallCall → Type 0} {made : HallCall → ℕ} (held : List Record) (buf : Buffer) → PutsC done made held buf → Leaves done made held buf
   unfolding before
   leaves_it_put held buf holds = record { slot = 3; found = to_rename; dscb = formats.F1 (f1 a); held = refl; holds = holds }
 
@@ -309,56 +307,75 @@ module _ (any : Vol) where
   letter_in : ℕ → Buffer → ℕ
   letter_in k buf = get_or (unwrap_or (option_map (λ (x : Record). x.key) (slice_get buf.records k)) []) 0 0
 
-  -- a buffer of the second track with B and then A or C
+  -- a buffer of the second track with B and then C
   abbrev HasLetters : Buffer → Type 0
-  HasLetters buf = (buf.track ≡ 2) × ((letter_in 0 buf ≡ 0xC2) × ((letter_in 1 buf ≡ 0xC1) ⊎ (letter_in 1 buf ≡ 0xC3)))
+  HasLetters buf = (buf.track ≡ 2) × ((letter_in 0 buf ≡ 0xC2) × (letter_in 1 buf ≡ 0xC3))
 
   both_are_seen : (buf : Buffer) → IsSeen (before 2 both_sets).buf 2 2 nothing buf → buf ≡ (before 2 both_sets).buf
   unfolding before both_sets
   both_are_seen buf (Held held same) = same
   both_are_seen buf (Read not same given) = absurd (not (refl, omega arith))
 
-  letters_behind : (buf : Buffer) → PutsC both_sets buf → HasLetters buf
+  letters_behind : (buf : Buffer) → PutsC nothing uncalled both_sets buf → HasLetters buf
   unfolding before both_sets set_record letter_in
-  letters_behind buf (Emptied not same) = absurd (not (refl, omega arith))
-  letters_behind buf (Seen seen) = let is = both_are_seen buf seen in (ap (λ (b : Buffer). b.track) is, (ap (letter_in 0) is, inl (ap (letter_in 1) is)))
+  letters_behind buf (Emptied not unread same) = absurd (not (refl, omega arith))
+  letters_behind buf (Seen seen lacks) = absurd (lacks (subst (λ (b : Buffer). HasLengths b.records 1 44 96) (sym (both_are_seen buf seen)) (refl, refl)))
   letters_behind buf (Changed held seen bytes dscb size lengths same) =
       let is = same ∙ ap (λ (b : Buffer). record b { records = with_parts 1 (take 44 bytes) (drop 44 bytes) b.records }) (both_are_seen held seen) in
-      (ap (λ (b : Buffer). b.track) is, (ap (letter_in 0) is, inr (ap (letter_in 1) is ∙ ap (λ (l : List ℕ). get_or l 0 0) dscb.0)))
+      (ap (λ (b : Buffer). b.track) is, (ap (letter_in 0) is, ap (letter_in 1) is ∙ ap (λ (l : List ℕ). get_or l 0 0) dscb.0))
 
-  -- Behind it the buffer has both sets, or C in place of A.
-  sets_are_behind : Leaves both_sets (behind 2 both_sets) × Leaves both_sets (behind 2 (set_record b ∷ set_record c ∷ []))
+  -- Behind it the buffer has C in place of A.
+  set_is_behind : Leaves nothing uncalled both_sets (behind 2 (set_record b ∷ set_record c ∷ []))
   unfolding before both_sets set_record behind
-  sets_are_behind = (
-    leaves_it_put both_sets (behind 2 both_sets) (Seen (Held (refl, omega arith) refl)),
-    leaves_it_put both_sets (behind 2 (set_record b ∷ set_record c ∷ [])) (Changed (behind 2 both_sets) (Held (refl, omega arith) refl) (data_set c) c_stands refl (refl, refl) refl),
-  )
+  set_is_behind = leaves_it_put both_sets (behind 2 (set_record b ∷ set_record c ∷ [])) (Changed (behind 2 both_sets) (Held (refl, omega arith) refl) (data_set c) c_stands refl (refl, refl) refl)
 
-  -- it has the track before, or no record where it had both, or C in place of B, or B in place of A
+  -- it has A again, as where the write failed; or the track before, or no record where it had both, or C in place of B, or B in place of A
   others_behind :
-      (¬ Leaves both_sets (behind 1 (set_record b ∷ set_record c ∷ [])))
-      × (¬ Leaves both_sets (behind 2 []))
-      × (¬ Leaves both_sets (behind 2 (set_record c ∷ set_record a ∷ [])))
-      × (¬ Leaves both_sets (behind 2 (set_record b ∷ set_record b ∷ [])))
-  unfolding behind set_record letter_in
+      (¬ Leaves nothing uncalled both_sets (behind 2 both_sets))
+      × (¬ Leaves nothing uncalled both_sets (behind 1 (set_record b ∷ set_record c ∷ [])))
+      × (¬ Leaves nothing uncalled both_sets (behind 2 []))
+      × (¬ Leaves nothing uncalled both_sets (behind 2 (set_record c ∷ set_record a ∷ [])))
+      × (¬ Leaves nothing uncalled both_sets (behind 2 (set_record b ∷ set_record b ∷ [])))
+  unfolding behind both_sets set_record letter_in
   others_behind = (
+    λ leaves. let wrong : 0xC1 ≡ 0xC3 = (letters_behind (behind 2 both_sets) (c_is_put both_sets _ leaves)).1.1 in omega (arith, wrong),
     λ leaves. let wrong : 1 ≡ 2 = (letters_behind (behind 1 (set_record b ∷ set_record c ∷ [])) (c_is_put both_sets _ leaves)).0 in omega (arith, wrong),
     λ leaves. let wrong : 0 ≡ 0xC2 = (letters_behind (behind 2 []) (c_is_put both_sets _ leaves)).1.0 in omega (arith, wrong),
     λ leaves. let wrong : 0xC3 ≡ 0xC2 = (letters_behind (behind 2 (set_record c ∷ set_record a ∷ [])) (c_is_put both_sets _ leaves)).1.0 in omega (arith, wrong),
-    λ leaves.
-        ⊎_elim (λ (wrong : 0xC2 ≡ 0xC1). omega (arith, wrong)) (λ (wrong : 0xC2 ≡ 0xC3). omega (arith, wrong))
-        (letters_behind (behind 2 (set_record b ∷ set_record b ∷ [])) (c_is_put both_sets _ leaves)).1.1,
+    λ leaves. let wrong : 0xC2 ≡ 0xC3 = (letters_behind (behind 2 (set_record b ∷ set_record b ∷ [])) (c_is_put both_sets _ leaves)).1.1 in omega (arith, wrong),
   )
 
-  -- Where it had no record of the track and no read gave any, it has none: not the sets of the pack, nor C in place of A. Nor is there a set named C that could become A.
+  -- Where it had no record of the track, it has none if nothing but the read was called, or the bytes that were given break the grammar; and the track with a longer key, where that was given.
+  no_set_is_behind :
+      Leaves nothing read_once [] (behind 2 [])
+      × Leaves gave_zeros read_and_noted [] (behind 2 [])
+      × Leaves gave_longer read_and_noted [] longer_key
+  unfolding before behind
+  no_set_is_behind =
+      let put = buffer_behind_no_put any in
+      (leaves_it_put [] (behind 2 []) put.0, leaves_it_put [] (behind 2 []) put.1, leaves_it_put [] longer_key put.2)
+
+  -- The track was read, and it has A again.
+  read_set_is_behind_again : ¬ Leaves gave_track read_once [] (buffer_with a)
+  unfolding before
+  read_set_is_behind_again leaves = read_set_is_put_back any (c_is_put [] (buffer_with a) leaves)
+
+  -- The track was given with the longer key, or none was given, and a note was made: it has none all the same.
+  longer_track_is_emptied :
+      (¬ Leaves gave_longer read_and_noted [] (behind 2 []))
+      × (¬ Leaves nothing read_and_noted [] (behind 2 []))
+  unfolding before behind
+  longer_track_is_emptied =
+      let none = seen_track_is_emptied any in
+      (λ leaves. none.0 (c_is_put [] (behind 2 []) leaves), λ leaves. none.1 (c_is_put [] (behind 2 []) leaves))
+
+  -- Where it had no record of the track and no read gave any, it has not the sets of the pack, nor C in place of A. Nor is there a set named C that could become A.
   none_behind_without_a_read :
-      Leaves [] (behind 2 [])
-      × (¬ Leaves [] (behind 2 both_sets))
-      × (¬ Leaves [] (behind 2 (set_record b ∷ set_record c ∷ [])))
-      × (¬ HoldsNamed c a (before 2 both_sets) nothing (behind 2 both_sets))
+      (¬ Leaves nothing read_once [] (behind 2 both_sets))
+      × (¬ Leaves nothing read_once [] (behind 2 (set_record b ∷ set_record c ∷ [])))
+      × (¬ HoldsNamed c a (before 2 both_sets) nothing uncalled uncalled (behind 2 both_sets))
   unfolding before both_sets behind nothing
   none_behind_without_a_read = (
-    leaves_it_put [] (behind 2 []) (Emptied (λ (holds : HoldsSlot (before 2 []) 3). let none : 1 < 0 = holds.1 in omega (arith, none)) refl),
     λ leaves. some_not (c_is_put [] (behind 2 both_sets) leaves),
     λ leaves. some_not (c_is_put [] (behind 2 (set_record b ∷ set_record c ∷ [])) leaves),
     λ leaves. let none : ◌≡◌ {A = Option ℕ} None (Some leaves.slot) = leaves.found.found in absurd (cc),
@@ -368,9 +385,9 @@ module _ (any : Vol) where
       unseen (Held held same) = let wrong : 2 ≤ 0 = held.1 in omega (arith, wrong)
       unseen (Read not same (Gives bytes size gave is)) = gave
 
-      some_not : {x : Record} {xs : List Record} → ¬ PutsC [] (behind 2 (x ∷ xs))
-      some_not (Emptied not same) = cc (ap (λ (b : Buffer). b.records) same)
-      some_not (Seen seen) = unseen seen
+      some_not : {x : Record} {xs : List Record} → ¬ PutsC nothing read_once [] (behind 2 (x ∷ xs))
+      some_not (Emptied not unread same) = cc (ap (λ (b : Buffer). b.records) same)
+      some_not (Seen seen lacks) = unseen seen
       some_not (Changed held seen bytes dscb size lengths same) = unseen seen
 
   -- The buffer alone may be another; but C isn't in the index where it isn't on the image.

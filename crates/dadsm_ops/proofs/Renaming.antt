@@ -84,9 +84,9 @@ named_call old new v done slot x d found read named call =
     (λ synced. inr (synced.0, done_as synced.1 (named_write old new v done slot x d found read named)))
 
 -- and the buffer behind the put is that behind the rename
-pub named_holds : (old new : List ℕ) (v : Vol) (done : HallCall → Type 0) (buf : Buffer) (slot : ℕ) (x d : Dscb) → IsToRename v.slots.items old new slot → x ≡ get_or v.slots.items slot x → d ≡ under_name new x → HoldsPut v slot d done buf → HoldsNamed old new v done buf
-named_holds old new v done buf slot x d found read named holds =
-    record { slot = slot; found = found; dscb = x; held = held_there old v.slots.items slot x found.found read; holds = subst (λ (y : Dscb). HoldsPut v slot y done buf) named holds }
+pub named_holds : (old new : List ℕ) (v : Vol) (done : HallCall → Type 0) (made made' : HallCall → ℕ) (buf : Buffer) (slot : ℕ) (x d : Dscb) → IsToRename v.slots.items old new slot → x ≡ get_or v.slots.items slot x → d ≡ under_name new x → HoldsPut v slot d done made made' buf → HoldsNamed old new v done made made' buf
+named_holds old new v done made made' buf slot x d found read named holds =
+    record { slot = slot; found = found; dscb = x; held = held_there old v.slots.items slot x found.found read; holds = subst (λ (y : Dscb). HoldsPut v slot y done made made' buf) named holds }
 
 -- they are so still, where nothing is taken back of what was done
 pub named_write_still : {old new : List ℕ} {v : Vol} {done later : HallCall → Type 0} → HasDone (WritesSlotNamed old new v done) done → StaysDone done later → HasDone (WritesSlotNamed old new v later) later

@@ -91,13 +91,13 @@ pub record WritesSlotNamed (old new : List ℕ) (before : Vol) (done : HallCall 
   pub held : slice_get before.slots.items slot ≡ Some dscb
   pub writes : IsSlotWrite before slot (under_name new dscb) done call
 
--- The buffer of an index behind a rename that isn't refused: that behind the slot of the old name being put under the new one.
-pub record HoldsNamed (old new : List ℕ) (before : Vol) (done : HallCall → Type 0) (buf : Buffer) : Type 0 where
+-- The buffer of an index behind a rename that isn't refused, by how often each call was made before and behind: that behind the slot of the old name being put under the new one.
+pub record HoldsNamed (old new : List ℕ) (before : Vol) (done : HallCall → Type 0) (made made' : HallCall → ℕ) (buf : Buffer) : Type 0 where
   pub slot : ℕ
   pub found : IsToRename before.slots.items old new slot
   pub dscb : Dscb
   pub held : slice_get before.slots.items slot ≡ Some dscb
-  pub holds : HoldsPut before slot (under_name new dscb) done buf
+  pub holds : HoldsPut before slot (under_name new dscb) done made made' buf
 
 -- a call of a rename, by the index before and by what was done: one that puts the slot under its new name, or a sync where that was written
 abbrev pub IsRenameCall : List ℕ → List ℕ → Vol → (HallCall → Type 0) → HallCall → Type 0

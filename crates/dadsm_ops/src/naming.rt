@@ -52,7 +52,7 @@ pub fn rename<H: Hall>(hall: &mut H, vol: &mut Vol, old: &Dsn, new: &Dsn) -> Res
     ensures kept { StaysDone (H.done hall.old) (H.done hall.new) }
     ensures behind { OnOk result (H.behind_sync hall.new) }
     ensures done { let did = DoneSince (H.calls hall.old).reads (H.done hall.new) in OnOk result (HasDone (WritesSlotNamed old.now.bytes new.now.bytes vol.old did) did) }
-    ensures buffer { refusal_answered result ≡ None → HoldsNamed old.now.bytes new.now.bytes vol.old (DoneSince (H.calls hall.old).reads (H.done hall.new)) vol.new.buf }
+    ensures buffer { refusal_answered result ≡ None → HoldsNamed old.now.bytes new.now.bytes vol.old (DoneSince (H.calls hall.old).reads (H.done hall.new)) (H.made hall.old) (H.made hall.new) vol.new.buf }
     ensures again { RenameCalls old.now.bytes new.now.bytes vol.old vol.new (H.calls hall.old) (H.calls hall.new) result }
 {
     let slot = slot_to_rename(vol, old, new)?;

@@ -41,7 +41,7 @@ pub(crate) fn put_through<H: Hall>(
     ensures kept { StaysDone (H.done hall.old) (H.done hall.new) }
     ensures behind { OnOk result (H.behind_sync hall.new) }
     ensures done { let did = DoneSince (H.calls hall.old).reads (H.done hall.new) in OnOk result (HasDone (IsSlotWrite vol.old slot dscb.now did) did) }
-    ensures buffer { HoldsPut vol.old slot dscb.now (DoneSince (H.calls hall.old).reads (H.done hall.new)) vol.new.buf }
+    ensures buffer { HoldsPut vol.old slot dscb.now (DoneSince (H.calls hall.old).reads (H.done hall.new)) (H.made hall.old) (H.made hall.new) vol.new.buf }
     ensures again { HoldsSlot vol.old slot → CallsAtMost 0 1 1 0 (H.calls hall.old) (H.calls hall.new) }
     ensures few { ¬ HoldsSlot vol.old slot → IsReadUpTo (slots_in_front vol.old.firsts.items slot + 1) vol.new.buf.records }
     ensures unwritten { OnErr result (¬ HasLengths vol.new.buf.records (slots_in_front vol.old.firsts.items slot) 44 96 → CallsAtMost 1 0 0 0 (H.calls hall.old) (H.calls hall.new)) }

@@ -1,7 +1,7 @@
 -- The calls of a run by what is asked for, and what they were made with.
-use Rattle.std.proofs.Common.{◌≡◌, ◌≢◌, ◌⊎◌, ◌∙◌, ⊎_elim, inl, inr, refl, subst, sym, ℕ, List}
+use Rattle.std.proofs.Common.{◌≡◌, ◌⊎◌, ◌∙◌, ⊎_elim, inl, inr, subst, sym, ℕ, List}
 use Rattle.std.specs.Prelude.{Option, Some, None, Result, Ok, Err, IfSome}
-use Rattle.hall_core.proofs.MadeLemmas.{makes_as, makes_none}
+use Rattle.hall_core.proofs.MadeLemmas.{makes_as}
 use Rattle.hall_core.specs.Facts.{Attached, Calls}
 use Rattle.hall_core.specs.Made.{Attaching, DoneSince, HallCall, HasDone, MakesOnce, MakesOnly, Printing, Reading, StaysDone, Syncing}
 use Rattle.util_syntax.specs.declared.statement.Rename.{Rename as Statement}
@@ -10,10 +10,10 @@ use Rattle.vol_model.specs.declared.answers.Stop.{Stop}
 use Rattle.vol_model.specs.declared.answers.Stop.TheVariants.{Device, Memory, Print}
 use Rattle.vtoc_index.specs.declared.vol.Vol.{Vol}
 use Rattle.vtoc_index.specs.Given.{IsMountRead, OfFirst, OfHeader, OfLabel, OfNext, OfOther, OfVtoc}
-use Rattle.volman.specs.Machine.{IsOperationCall, IsOperationWrite, refusal_by}
-use Rattle.volman.specs.Made.{Answered, CameTo, EndsStatement, Faulted, IsOutcome, IsStatementCall, Makes, MakesEach, OnRequest, OnStatement, Operates, RanOut, SaysOnly, Unprinted}
-use Rattle.volman.specs.Statement.{ComesTo, Ends, EndsInLine, RunsStatement, answer_line, operation_on}
-use Rattle.volman.specs.Words.{Request}
+use Rattle.shelf_machine.specs.Machine.{IsOperationCall, IsOperationWrite, refusal_by}
+use Rattle.run_spec.specs.Made.{Answered, CameTo, EndsStatement, Faulted, IsOutcome, IsStatementCall, Makes, MakesEach, OnRequest, OnStatement, Operates, RanOut, SaysOnly, Unprinted}
+use Rattle.job_runner.specs.Statement.{ComesTo, Ends, RunsStatement, operation_on}
+use Rattle.run_spec.specs.Words.{Request}
 
 -- what holds where this is asked for holds of what the words ask for, which is the same
 pub request_as : {T : Type 0} (made : T → HallCall → ℕ) (done : T → HallCall → Type 0) (synced : T → Type 0) (calls : T → Calls) {asked request : Option Request} (decks : Option Statement → Type 0) (units : List Attached) (status : ℕ) (old new : T) → asked ≡ request → OnRequest made done synced calls request decks units status old new → OnRequest made done synced calls asked decks units status old new
@@ -58,20 +58,6 @@ outcome_of vol s volume done (Err r) there found comes =
     let is = some_is volume (λ v. (v ≡ 0) × (vol.serial ≡ s.serial)) found some.0 some.1 in
     inr (is.1, subst (λ (v : ℕ). refusal_by (operation_on s v) vol.slots.items ≡ Some r) is.0 some.2))
     comes
-
--- ---- what ends a statement on a machine
-
--- nothing is called behind an operation that failed, or in which memory ran out
-pub ends_before : (s : Statement) (comes : Result (Unit {0}) Refusal → Type 0) (few : Type 0) (done : HallCall → Type 0) (made : HallCall → ℕ) (e : Stop) (r : Result ℕ Stop) → r ≡ Err e → e ≢ Print → (e ≡ Memory → few) → EndsInLine s comes few done made made r
-ends_before s comes few done made Device r is other wanting = subst (EndsInLine s comes few done made made) (sym is) (makes_none (λ call. ⊥) made)
-ends_before s comes few done made Memory r is other wanting = subst (EndsInLine s comes few done made made) (sym is) (makes_none (λ call. ⊥) made, inr (wanting refl))
-ends_before s comes few done made Print r is other wanting = absurd (other refl)
-
--- the line wasn't printed
-pub ends_unsaid : (s : Statement) (comes : Result (Unit {0}) Refusal → Type 0) (few : Type 0) (done : HallCall → Type 0) {old new : HallCall → ℕ} (outcome : Result (Unit {0}) Refusal) (e : Stop) (r : Result ℕ Stop) → r ≡ Err e → e ≢ Device → comes outcome → MakesOnly (λ call. call ≡ Printing (answer_line s outcome)) old new → (e ≡ Memory → MakesOnly (λ call. ⊥) old new) → EndsInLine s comes few done old new r
-ends_unsaid s comes few done outcome Device r is other came line none = absurd (other refl)
-ends_unsaid s comes few done {old} {new} outcome Memory r is other came line none = subst (EndsInLine s comes few done old new) (sym is) (none refl, inl (outcome, came))
-ends_unsaid s comes few done {old} {new} outcome Print r is other came line none = subst (EndsInLine s comes few done old new) (sym is) (outcome, came, line)
 
 -- ---- a statement, from its operation to its end
 

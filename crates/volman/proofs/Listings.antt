@@ -22,7 +22,7 @@ use Rattle.vtoc_index.specs.declared.vol.Vol.{Vol}
 use Rattle.vtoc_index.specs.Contents.{AreDscbs}
 use Rattle.vtoc_index.specs.Index.{IsMounted}
 use Rattle.vtoc_index.proofs.SetFields.{format_byte-is, name-is}
-use Rattle.volman.specs.Names.{IsListing, names_in, names_of, set_name}
+use Rattle.run_spec.specs.Names.{IsListing, names_in, names_of, set_name}
 
 -- the name in a slot, if it is a data set's
 name_at : (d : Dscb) (bytes : List ℕ) → IsDscb d bytes → cond (is_data_set bytes) (Some (take 44 bytes)) None ≡ set_name d

@@ -4,8 +4,8 @@ use Rattle.std.specs.Prelude.{◌⊎◌, Result}
 use Rattle.std.proofs.lemmas.List.{append-nil, append_cancel_left}
 use Rattle.hall_core.specs.Files.{AfterPrint, File, IsPrefixOf}
 use Rattle.hall_core.specs.Moments.{IsDurable, Meaning, Same}
-use Rattle.volman.specs.Run.{AddsPrefix, Does, IsFinal, KeepsFiles, LeavesFiles, PrintsText}
-use Rattle.volman.specs.Task.{Says}
+use Rattle.run_spec.specs.Run.{AddsPrefix, Does, IsFinal, KeepsFiles, LeavesFiles, PrintsText}
+use Rattle.run_spec.specs.Task.{Says}
 
 -- a text between one and the same with more behind it
 between : (old p new q text : List ℕ) → IsPrefixOf old p → IsPrefixOf p new → new ≡ old ++ q → IsPrefixOf q text → AddsPrefix text old p

@@ -32,16 +32,16 @@ use Rattle.vol_model.proofs.Steps.{renames_of}
 use Rattle.vol_model.proofs.Stops.{HasNoEmptyLine, no_empty_line_in_items, stop_is_between, stop_before_first_event}
 use Rattle.vtoc_index.specs.declared.vol.Vol.{Vol}
 use Rattle.vtoc_index.specs.Index.{IsMounted}
-use Rattle.volman.specs.Machine.{ChangesNames, ChangesOnlyNames, shelf_in, shelf_named, shelf_with}
-use Rattle.volman.specs.Made.{IsCutOff}
-use Rattle.volman.specs.Run.{AttachesAtMost, Does, Headline, HasWorked, HasWorkedUnprinted, IsCalmSince, IsFinal, Later, OnFile, StandsFor, StopStands, Synced, WorksOn}
-use Rattle.volman.specs.Statement.{answer_line, item_by, item_of, item_on, operation_on}
-use Rattle.volman.specs.Deck.{deck_of}
-use Rattle.volman.specs.Lines.{deck_line, unit_line, words_line}
-use Rattle.volman.specs.Mount.{IsPackIn, RefusesFile}
-use Rattle.volman.specs.Task.{Says, Task, Works, names_task, statement_task, task_for, task_of, task_on}
-use Rattle.volman.specs.Words.{Names, Request, Run as Running}
-use Rattle.volman.proofs.Machines.{same_plan}
+use Rattle.shelf_machine.specs.Machine.{ChangesNames, ChangesOnlyNames, shelf_in, shelf_named, shelf_with}
+use Rattle.run_spec.specs.Made.{IsCutOff}
+use Rattle.run_spec.specs.Run.{AttachesAtMost, Does, Headline, HasWorked, HasWorkedUnprinted, IsCalmSince, IsFinal, Later, OnFile, StandsFor, StopStands, Synced, WorksOn}
+use Rattle.job_runner.specs.Statement.{answer_line, item_by, item_of, item_on, operation_on}
+use Rattle.run_spec.specs.Deck.{deck_of}
+use Rattle.run_spec.specs.Lines.{deck_line, unit_line, words_line}
+use Rattle.run_spec.specs.Mount.{IsPackIn, RefusesFile}
+use Rattle.run_spec.specs.Task.{Says, Task, Works, names_task, statement_task, task_for, task_of, task_on}
+use Rattle.run_spec.specs.Words.{Names, Request, Run as Running}
+use Rattle.shelf_machine.proofs.Machines.{same_plan}
 use Rattle.volman.proofs.Tasks.{durable_left, kept_then, nothing_said}
 
 -- ---- one volume

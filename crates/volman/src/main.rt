@@ -6,30 +6,19 @@ ghost use Rattle.std.specs.Prelude.{◌≡◌, ◌≢◌, [], IfOk, IfErr, IsOkA
 ghost use Rattle.std.specs.Vec.Iter.{into_iter_items};
 ghost use Rattle.std.specs.IoError.{error_kind};
 ghost use Rattle.std.specs.Process.{exit_status};
-ghost use Rattle.volman.specs.Run.{IsStatus};
+ghost use Rattle.run_spec.specs.Run.{IsStatus};
 
-mod deck;
-mod file_hall;
-mod machine;
 mod mount;
-mod names;
-mod reason;
-mod statement;
-mod status;
-mod std_cards;
-mod text;
 mod top;
-mod words;
 mod work;
 
-use file_hall::FileHall;
+use hall_files::{FileHall, StdCards};
 use std::alloc::{AllocError, Global};
 use std::env::{self, Args};
 use std::fs::{File, Files};
 use std::io::{self, ErrorKind, Input, Print};
 use std::process::ExitCode;
 use std::rt::Env;
-use std_cards::StdCards;
 
 fn main(rt: HostRuntime) -> ExitCode {
     run(&rt)
@@ -60,7 +49,5 @@ fn words_in(alloc: Global, given: io::Result<Args>) -> Result<Vec<String>, Alloc
     }
 }
 
-#[cfg(test)]
-mod system;
 #[cfg(test)]
 mod tests;

@@ -8,9 +8,9 @@ ghost use Rattle.vtoc_index.specs.Calls.{reads_to_mount};
 ghost use Rattle.vtoc_index.specs.Given.{IsIndexGiven};
 ghost use Rattle.vtoc_index.specs.Index.{IsOfUnit};
 ghost use Rattle.vtoc_index.specs.Puts.{HoldsItsTrack};
-ghost use Rattle.volman.specs.Made.{IsMountCall};
-ghost use Rattle.volman.specs.Mount.{IsPackIn, IsUnmounted, RefusesFile};
-ghost use Rattle.volman.specs.Run.{AttachesAtMost};
+ghost use Rattle.run_spec.specs.Made.{IsMountCall};
+ghost use Rattle.run_spec.specs.Mount.{IsPackIn, IsUnmounted, RefusesFile};
+ghost use Rattle.run_spec.specs.Run.{AttachesAtMost};
 
 use hall_core::{Hall, HallErr};
 use std::alloc::Global;

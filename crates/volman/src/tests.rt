@@ -4,6 +4,7 @@ ghost use Rattle.hall_core.specs.Memory.{facts_of};
 
 mod broken;
 mod cut;
+mod edge;
 mod fickle;
 mod machines;
 mod packs;
@@ -11,6 +12,7 @@ mod program;
 mod run;
 mod scarce;
 mod stops;
+mod system;
 mod words_and_decks;
 mod work_pack;
 

@@ -9,27 +9,26 @@ ghost use Rattle.vol_model.specs.declared.contents.Volume.{Volume};
 ghost use Rattle.vtoc_index.specs.Calls.{reads_to_mount};
 ghost use Rattle.vtoc_index.specs.Index.{IsMounted};
 ghost use Rattle.vtoc_index.specs.declared.vol.Vol.{Vol};
-ghost use Rattle.volman.specs.Deck.{TakesAtMost, deck_of};
-ghost use Rattle.volman.specs.Lines.{names_listing, unit_line};
-ghost use Rattle.volman.specs.Machine.{shelf_with};
-ghost use Rattle.volman.specs.Made.{IsCutOff, IsRefusalPrint, IsRefusalStatus, OnPack, OnRequest, OnStatement, SaysNames};
-ghost use Rattle.volman.specs.Mount.{IsOnLastTrack};
-ghost use Rattle.volman.specs.Names.{IsListing, names_in};
+ghost use Rattle.run_spec.specs.Deck.{TakesAtMost, deck_of};
+ghost use Rattle.run_spec.specs.Lines.{names_listing, unit_line};
+ghost use Rattle.shelf_machine.specs.Machine.{shelf_with};
+ghost use Rattle.run_spec.specs.Made.{IsCutOff, IsRefusalPrint, IsRefusalStatus, OnPack, OnRequest, OnStatement, SaysNames};
+ghost use Rattle.run_spec.specs.Mount.{IsOnLastTrack};
+ghost use Rattle.run_spec.specs.Names.{IsListing, names_in};
 ghost use Rattle.hall_core.specs.Moments.{IsDurable};
-ghost use Rattle.volman.specs.Run.{AttachesAsked, CountsReported, Does, Headline, IsStatus, IsUnasked, IsUnbegun, Later, LeavesFiles, OnFile, PrintsText, code_of};
-ghost use Rattle.volman.specs.Statement.{IsCode, item_of};
-ghost use Rattle.volman.specs.Task.{Says, names_task, statement_task, task_on};
-ghost use Rattle.volman.specs.Words.{Names, Run, asked_in, request_of};
+ghost use Rattle.run_spec.specs.Run.{AttachesAsked, CountsReported, Does, Headline, IsStatus, IsUnasked, IsUnbegun, Later, LeavesFiles, OnFile, PrintsText, code_of};
+ghost use Rattle.job_runner.specs.Statement.{IsCode, item_of};
+ghost use Rattle.run_spec.specs.Task.{Says, names_task, statement_task, task_on};
+ghost use Rattle.run_spec.specs.Words.{Names, Run, asked_in, request_of};
 
-use crate::deck::{DeckErr, read_deck};
 use crate::mount::mount;
-use crate::names::names_in;
-use crate::status::Status;
-use crate::text::{DECK_LINE, WORDS_LINE, listing, unit_line};
-use crate::words::{Action, action_of};
 use crate::work::run_statement;
 use dscb_codec::Dscb;
 use hall_core::{Cards, Hall};
+use run_spec::{
+    Action, DECK_LINE, DeckErr, Status, WORDS_LINE, action_of, listing, names_in, read_deck,
+    unit_line,
+};
 use std::alloc::{AllocError, Global};
 use util_syntax::Rename;
 use vtoc_index::MountErr;

@@ -4,7 +4,7 @@ use Rattle.std.specs.Prelude.{nat_le, ◌&&◌, ◌==◌, slice_get, slice_index
 use Rattle.std.specs.Option.{option_map}
 use Rattle.std.specs.Bool.{IsFalse}
 use Rattle.std.proofs.lemmas.Bool.{and_parts, leb-true, le-leb}
-use Rattle.std.proofs.lemmas.List.{length-map, length-take}
+use Rattle.std.proofs.lemmas.List.{length-drop, length-map, length-take}
 use Rattle.std.proofs.lemmas.Slice.Eq.{bytes_eq-Decides}
 use Rattle.ckd_image.specs.declared.header.Geometry.{Geometry}
 use Rattle.ckd_image.specs.Track.{Record, end_marker}
@@ -187,3 +187,11 @@ data_held k d records held = ap (λ (l : List Record). option_map (λ (x : Recor
 pub still_slot : (old new : List Record) (n k : ℕ) (key content : List ℕ) → n ≡ k → HasLengths old n 44 96 → 44 ≡ length key → 96 ≡ length content → new ≡ with_parts n key content old → HasLengths new k 44 96
 still_slot old new n k key content at has long wide is =
     subst (λ (l : List Record). HasLengths l k 44 96) (sym is) (subst (λ (m : ℕ). HasLengths (with_parts n key content old) m 44 96) at (lengths_held n key content old has long wide))
+
+-- a record that got a DSCB has the lengths of a slot
+pub dscb_lengths : (k : ℕ) (d : Dscb) (records : List Record) → HoldsDscb k d records → HasLengths records k 44 96
+dscb_lengths k d records held =
+    still_slot held.before records k k (take 44 held.bytes) (drop 44 held.bytes) refl held.lengths
+    (omega (arith, held.size, length-take 44 held.bytes))
+    (omega (arith, held.size, length-drop 44 held.bytes))
+    held.put

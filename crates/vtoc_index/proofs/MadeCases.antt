@@ -1,11 +1,13 @@
 -- The calls that mount the small pack and put one slot of it, by what they are made with. Each comment names what a near reading would let through.
-use Rattle.std.proofs.Common.{◌≡◌, ◌≤◌, ◌<◌, ◌+◌, ◌*◌, ⊎_elim, inl, inr, ℕ, List, [], ◌∷◌, drop, get_or, length, replicate, take, Some, None, refl, sym, subst, ap, ◌∙◌, arith}
-use Rattle.std.specs.Prelude.{slice_get, unwrap_or}
+use Rattle.std.proofs.Common.{◌≡◌, ◌≤◌, ◌<◌, ◌+◌, ◌*◌, ⊎_elim, inl, inr, ℕ, Bool, true, false, cond, eqb, List, [], ◌∷◌, drop, get_or, length, replicate, take, Some, None, refl, sym, subst, ap, ◌∙◌, arith}
+use Rattle.std.specs.Prelude.{◌&&◌, slice_get, unwrap_or}
+use Rattle.std.proofs.lemmas.Bool.{and_parts, eqb-true}
 use Rattle.std.specs.Option.{option_map}
 use Rattle.ckd_image.specs.Reading.{is_front, records_of, records_to_end, records_up_to}
 use Rattle.ckd_image.specs.Track.{Record}
 use Rattle.dscb_codec.specs.Layout.{IsDscb}
-use Rattle.hall_core.specs.Made.{DoneSince, HallCall, Attaching, Giving, Lacking, Noting, Printing, Reading, Syncing, Writing}
+use Rattle.hall_core.specs.Files.{patched}
+use Rattle.hall_core.specs.Made.{DoneSince, HallCall, MakesOnly, Attaching, Giving, Lacking, Noting, Printing, Reading, Syncing, Writing}
 use Rattle.pack_spec.specs.Label.{track_bytes}
 use Rattle.track_records.specs.Buffers.{Buffer}
 use Rattle.track_records.specs.Calls.{Gives, HasGiven, records_by, track_read}
@@ -49,7 +51,7 @@ tracks_of_the_vtoc_are_read = (
 )
 
 -- a buffer with two sets on the third track, the second of this name
-buffer_with : List ℕ → Buffer
+pub buffer_with : List ℕ → Buffer
 buffer_with name = record {
   geometry = one_cylinder;
   unit = 0;
@@ -61,14 +63,14 @@ buffer_with name = record {
 }
 
 -- nothing is known to be done
-nothing : HallCall → Type 0
+unfoldable pub nothing : HallCall → Type 0
 nothing call = ⊥
 
 -- the third track of the small pack was read, or as many zeros were given for it
-gave_track : HallCall → Type 0
+pub gave_track : HallCall → Type 0
 gave_track call = call ≡ Giving 3 0 8704 (track_bytes image one_cylinder 2)
 
-gave_zeros : HallCall → Type 0
+pub gave_zeros : HallCall → Type 0
 gave_zeros call = call ≡ Giving 3 0 8704 (replicate 4096 0)
 
 third_track_is_read : records_by one_cylinder (Some 2) 2 (track_bytes image one_cylinder 2) ≡ Some (buffer_with a).records
@@ -78,6 +80,67 @@ third_track_is_read = refl
 zeros_are_no_track : records_by one_cylinder (Some 2) 2 (replicate 4096 0) ≡ None
 unfolding records_of is_front
 zeros_are_no_track = refl
+
+-- the third track with a byte more in the key of its second set, and one less in the data
+longer_track : List ℕ
+longer_track = patched (track_bytes image one_cylinder 2) 174 (45 ∷ 0 ∷ 95 ∷ [])
+
+-- a buffer of it
+pub longer_key : Buffer
+longer_key = record (buffer_with a) {
+  records =
+      record { address = 0 ∷ 0 ∷ 0 ∷ 2 ∷ []; key = take 44 (data_set b); «data» = drop 44 (data_set b) }
+      ∷ record { address = 0 ∷ 0 ∷ 0 ∷ 2 ∷ []; key = take 45 (data_set a); «data» = drop 45 (data_set a) }
+      ∷ [];
+}
+
+-- it was given for the third track
+pub gave_longer : HallCall → Type 0
+gave_longer call = call ≡ Giving 3 0 8704 longer_track
+
+longer_is_read : records_by one_cylinder (Some 2) 2 longer_track ≡ Some longer_key.records
+unfolding longer_track longer_key patched track_bytes records_of is_front records_to_end records_up_to
+longer_is_read = refl
+
+-- the bytes that a read gave
+bytes_in : HallCall → List ℕ
+bytes_in (Giving before unit at bytes) = bytes
+bytes_in call = []
+
+-- how often each call was made: never; the read of the third track once; or that, and each note once
+pub uncalled : HallCall → ℕ
+uncalled call = 0
+
+pub read_once : HallCall → ℕ
+read_once (Reading unit at len) = cond (eqb unit 0 && (eqb at 8704 && eqb len 4096)) 1 0
+read_once call = 0
+
+pub read_and_noted : HallCall → ℕ
+read_and_noted (Noting unit track) = 1
+read_and_noted call = read_once call
+
+-- nothing is counted then but that read
+only_the_read : MakesOnly (λ call. call ≡ track_read 0 one_cylinder 2) uncalled read_once
+unfolding uncalled read_once
+only_the_read (Reading unit at len) other = counted _ (λ is. other (is_read is))
+  where
+    counted : (test : Bool) → (test ≡ true → ⊥) → cond test 1 0 ≤ 0
+    counted true none = absurd (none refl)
+    counted false none = omega arith
+
+    is_read : (eqb unit 0 && (eqb at 8704 && eqb len 4096)) ≡ true → Reading unit at len ≡ Reading 0 8704 4096
+    is_read is =
+        let parts = and_parts _ _ is in
+        let rest = and_parts _ _ parts.1 in
+        let first : unit ≡ 0 = eqb-true unit 0 parts.0 in
+        let second : at ≡ 8704 = eqb-true at 8704 rest.0 in
+        let third : len ≡ 4096 = eqb-true len 4096 rest.1 in
+        cc
+only_the_read call other = omega arith
+
+-- the first letter of the second key in a buffer, or 0 where there is none
+second_letter : Buffer → ℕ
+second_letter buf = get_or (unwrap_or (option_map (λ (x : Record). x.key) (slice_get buf.records 1)) []) 0 0
 
 module _ (any : Vol) where
   -- C is put into the fourth slot, the second of its track, by an index that holds that track, with B and another set
@@ -223,36 +286,101 @@ module _ (any : Vol) where
       unnoted (Other buf seen none) = unseen gave_zeros (λ before bytes gave. ap (number 1) gave) seen
       unnoted (Broken not given) = ungiven gave_zeros (λ before bytes gave. ap (number 1) gave) given
 
-  -- Behind it the buffer holds the track as it is seen, with C in the slot or as it was; and not C in another one, nor nothing of it where it held the slot. Where it held no record, it may hold none.
+  -- Behind it the buffer holds the track as it is seen, with C in the slot; and not as it was, with a slot there, as where the write failed and A was put back; nor C in another one, nor nothing of it where it held the slot.
   buffer_behind_is_put :
-      HoldsPut (holding a) 3 set_c nothing (buffer_with c)
-      × HoldsPut (holding a) 3 set_c nothing (buffer_with a)
-      × HoldsPut (index any) 3 set_c nothing (record (index any).buf { track = 2; records = [] })
-      × (¬ HoldsPut (holding a) 3 set_c nothing (buffer_with b))
-      × (¬ HoldsPut (holding a) 3 set_c nothing (record (buffer_with a) { records = [] }))
-  unfolding holding nothing buffer_with
+      HoldsPut (holding a) 3 set_c nothing uncalled uncalled (buffer_with c)
+      × (¬ HoldsPut (holding a) 3 set_c nothing uncalled uncalled (buffer_with a))
+      × (¬ HoldsPut (holding a) 3 set_c nothing uncalled uncalled (buffer_with b))
+      × (¬ HoldsPut (holding a) 3 set_c nothing uncalled uncalled (record (buffer_with a) { records = [] }))
+  unfolding holding nothing buffer_with second_letter
   buffer_behind_is_put = (
     Changed (buffer_with a) (Held (refl, omega arith) refl) (data_set c) c_stands refl (refl, refl) refl,
-    Seen (Held (refl, omega arith) refl),
-    Emptied (λ (holds : HoldsSlot (index any) 3). let none : 1 < 0 = holds.1 in omega (arith, none)) refl,
-    other_not,
+    others_not a 0xC1 refl (λ is. omega (arith, is)),
+    others_not b 0xC2 refl (λ is. omega (arith, is)),
     none_not,
   )
     where
-      second_letter : Buffer → ℕ
-      second_letter buf = get_or (unwrap_or (option_map (λ (x : Record). x.key) (slice_get buf.records 1)) []) 0 0
+      others_not : (name : List ℕ) (letter : ℕ) → second_letter (buffer_with name) ≡ letter → (letter ≡ 0xC3 → ⊥) → ¬ HoldsPut (holding a) 3 set_c nothing uncalled uncalled (buffer_with name)
+      others_not name letter is other (Emptied not unread same) = let wrong : 2 ≡ 0 = ap (λ (buf : Buffer). length buf.records) same in omega (arith, wrong)
+      others_not name letter is other (Seen seen lacks) = lacks (subst (λ (buf : Buffer). HasLengths buf.records 1 44 96) (sym (held_is_seen a nothing (buffer_with name) seen)) (refl, refl))
+      others_not name letter is other (Changed seen held bytes dscb size lengths same) =
+          let put : second_letter (buffer_with name) ≡ get_or (take 44 bytes) 0 0 = ap second_letter same ∙ ap (λ (buf : Buffer). second_letter (record buf { records = with_parts 1 (take 44 bytes) (drop 44 bytes) buf.records })) (held_is_seen a nothing seen held) in
+          let named : get_or (take 44 bytes) 0 0 ≡ 0xC3 = ap (λ (l : List ℕ). get_or l 0 0) dscb.0 in
+          other (sym is ∙ put ∙ named)
 
-      other_not : ¬ HoldsPut (holding a) 3 set_c nothing (buffer_with b)
-      other_not (Emptied not same) = let wrong : 2 ≡ 0 = ap (λ (buf : Buffer). length buf.records) same in omega (arith, wrong)
-      other_not (Seen seen) = let wrong : 0xC2 ≡ 0xC1 = ap second_letter (held_is_seen a nothing (buffer_with b) seen) in omega (arith, wrong)
-      other_not (Changed seen is bytes dscb size lengths same) =
-          let letter : 0xC2 ≡ get_or (take 44 bytes) 0 0 = ap second_letter same ∙ ap (λ (buf : Buffer). second_letter (record buf { records = with_parts 1 (take 44 bytes) (drop 44 bytes) buf.records })) (held_is_seen a nothing seen is) in
-          let name : get_or (take 44 bytes) 0 0 ≡ 0xC3 = ap (λ (l : List ℕ). get_or l 0 0) dscb.0 in
-          omega (arith, letter, name)
-
-      none_not : ¬ HoldsPut (holding a) 3 set_c nothing (record (buffer_with a) { records = [] })
-      none_not (Emptied not same) = not (refl, omega arith)
-      none_not (Seen seen) = let wrong : 0 ≡ 2 = ap (λ (buf : Buffer). length buf.records) (held_is_seen a nothing _ seen) in omega (arith, wrong)
+      none_not : ¬ HoldsPut (holding a) 3 set_c nothing uncalled uncalled (record (buffer_with a) { records = [] })
+      none_not (Emptied not unread same) = not (refl, omega arith)
+      none_not (Seen seen lacks) = let wrong : 0 ≡ 2 = ap (λ (buf : Buffer). length buf.records) (held_is_seen a nothing _ seen) in omega (arith, wrong)
       none_not (Changed seen is bytes dscb size lengths same) =
           let wrong : 0 ≡ 2 = ap (λ (buf : Buffer). length buf.records) same ∙ ap (λ (buf : Buffer). length (with_parts 1 (take 44 bytes) (drop 44 bytes) buf.records)) (held_is_seen a nothing seen is) in
           omega (arith, wrong)
+
+  -- no record of the third track
+  abbrev pub emptied : Buffer
+  emptied = record (index any).buf { track = 2; records = [] }
+
+  -- where none is held, the slot isn't
+  slot_not_held : ¬ HoldsSlot (index any) 3
+  slot_not_held holds = let none : 1 < 0 = holds.1 in omega (arith, none)
+
+  -- Where it held no record, it holds none if nothing but the read was called, or the bytes that were given break the grammar; and the track with the longer key, where that was given.
+  pub buffer_behind_no_put :
+      HoldsPut (index any) 3 set_c nothing uncalled read_once emptied
+      × HoldsPut (index any) 3 set_c gave_zeros uncalled read_and_noted emptied
+      × HoldsPut (index any) 3 set_c gave_longer uncalled read_and_noted longer_key
+  unfolding gave_zeros gave_longer longer_key buffer_with longer_track patched track_bytes
+  buffer_behind_no_put = (
+    Emptied slot_not_held (inl only_the_read) refl,
+    Emptied slot_not_held (inr (Gives (replicate 4096 0) refl refl zeros_are_no_track)) refl,
+    Seen (Read unheld refl (Gives longer_track refl refl longer_is_read)) (λ has. let wrong : 44 ≡ 45 = has.0 in omega (arith, wrong)),
+  )
+
+  -- what holds of bytes that a read of the third track gave holds of those that it gave
+  given_is : (given : List ℕ) {holds : List ℕ → Type 0} → HasGiven (λ call. call ≡ Giving 3 0 8704 given) 0 one_cylinder 2 holds → holds given
+  unfolding bytes_in
+  given_is given {holds} (Gives bytes size gave is) = let same : bytes ≡ given = ap bytes_in gave in subst holds same is
+
+  -- and it is seen to hold their records
+  seen_is : (given : List ℕ) (records : List Record) → records_by one_cylinder (Some 2) 2 given ≡ Some records → {buf : Buffer} → IsSeen (index any).buf 2 2 (λ call. call ≡ Giving 3 0 8704 given) buf → records ≡ buf.records
+  seen_is given records are (Held held same) = absurd (unheld held)
+  seen_is given records are {buf} (Read not same gave) = let both : Some records ≡ Some buf.records = sym are ∙ given_is given gave in cc
+
+  -- The track was read, and it holds it as it was, with A in the slot.
+  pub read_set_is_put_back : ¬ HoldsPut (index any) 3 set_c gave_track uncalled read_once (buffer_with a)
+  unfolding gave_track buffer_with second_letter
+  read_set_is_put_back (Emptied not unread same) = let wrong : 2 ≡ 0 = ap (λ (buf : Buffer). length buf.records) same in omega (arith, wrong)
+  read_set_is_put_back (Seen seen lacks) = lacks (refl, refl)
+  read_set_is_put_back (Changed seen is bytes dscb size lengths same) =
+      let records : (buffer_with a).records ≡ seen.records = seen_is (track_bytes image one_cylinder 2) (buffer_with a).records third_track_is_read is in
+      let put : 0xC1 ≡ get_or (take 44 bytes) 0 0 = ap second_letter same ∙ ap (λ (held : List Record). second_letter (record (buffer_with a) { records = with_parts 1 (take 44 bytes) (drop 44 bytes) held })) (sym records) in
+      let named : get_or (take 44 bytes) 0 0 ≡ 0xC3 = ap (λ (l : List ℕ). get_or l 0 0) dscb.0 in
+      omega (arith, put, named)
+
+  -- The track was given with the longer key, or none was given, and a note was made: it holds no record all the same.
+  pub seen_track_is_emptied :
+      (¬ HoldsPut (index any) 3 set_c gave_longer uncalled read_and_noted emptied)
+      × (¬ HoldsPut (index any) 3 set_c nothing uncalled read_and_noted emptied)
+  unfolding gave_longer longer_key uncalled read_and_noted longer_track nothing
+  seen_track_is_emptied = (longer_not, ungiven_not)
+    where
+      noted_too : ¬ MakesOnly (λ call. call ≡ track_read 0 one_cylinder 2) uncalled read_and_noted
+      noted_too only = let wrong : 1 ≤ 0 = only (Noting 0 2) (λ is. cc is) in omega (arith, wrong)
+
+      longer_not : ¬ HoldsPut (index any) 3 set_c gave_longer uncalled read_and_noted emptied
+      longer_not (Emptied not unread same) = ⊎_elim noted_too (λ broke. let both : Some longer_key.records ≡ None = sym longer_is_read ∙ given_is longer_track broke in cc) unread
+      longer_not (Seen seen lacks) = let wrong : 2 ≡ 0 = ap length (seen_is longer_track longer_key.records longer_is_read seen) in omega (arith, wrong)
+      longer_not (Changed seen is bytes dscb size lengths same) =
+          let wrong : 44 ≡ 45 = (subst (λ (records : List Record). HasLengths records 1 44 96) (sym (seen_is longer_track longer_key.records longer_is_read is)) lengths).0 in
+          omega (arith, wrong)
+
+      unseen : {buf : Buffer} → ¬ IsSeen (index any).buf 2 2 nothing buf
+      unseen (Held held same) = unheld held
+      unseen (Read not same (Gives bytes size gave is)) = gave
+
+      ungiven_not : ¬ HoldsPut (index any) 3 set_c nothing uncalled read_and_noted emptied
+      ungiven_not (Emptied not unread same) = ⊎_elim noted_too none_given unread
+        where
+          none_given : {holds : List ℕ → Type 0} → ¬ HasGiven nothing 0 one_cylinder 2 holds
+          none_given (Gives bytes size gave is) = gave
+      ungiven_not (Seen seen lacks) = unseen seen
+      ungiven_not (Changed seen is bytes dscb size lengths same) = unseen is

@@ -1,5 +1,6 @@
 -- The calls that put a DSCB into a slot, by what they are made with.
 use Rattle.std.proofs.Common.{◌≡◌, ◌⊎◌, ◌≤◌, ⊎_elim, inl, inr, ℕ, ◌+◌, ◌*◌, ◌++◌, List, length, Option, None, subst, sym, ap, ◌∙◌, arith}
+use Rattle.ckd_image.specs.Track.{Record}
 use Rattle.ckd_image.specs.declared.header.Geometry.{Geometry}
 use Rattle.dscb_codec.specs.declared.Dscb.{Dscb}
 use Rattle.dscb_codec.specs.Layout.{IsDscb}
@@ -13,8 +14,9 @@ use Rattle.track_records.specs.declared.error.TrackErr.TheVariants.{BadCount, De
 use Rattle.track_records.specs.Updates.{HasLengths}
 use Rattle.track_records.specs.Written.{place_of}
 use Rattle.vtoc_index.specs.Index.{slots_in_front}
-use Rattle.vtoc_index.specs.Puts.{Broken, Changed, Emptied, Held, HoldsPut, HoldsRecord, IsPutCall, IsSeen, IsSlotWrite, LacksSlot, Other, Read, Seen, track_of_slot}
+use Rattle.vtoc_index.specs.Puts.{Broken, Changed, Emptied, Held, HoldsPut, HoldsRecord, IsPutCall, HoldsDscb, IsSeen, IsSlotWrite, IsUnread, LacksSlot, Other, Read, Seen, track_of_slot}
 use Rattle.vtoc_index.specs.declared.vol.Vol.{Vol}
+use Rattle.vtoc_index.proofs.HeldLemmas.{dscb_lengths}
 
 -- what is seen is seen still, where nothing is taken back of what was done
 
@@ -63,10 +65,16 @@ call_still call kept =
     (λ is. inr (inl (is.0, lacks_still is.1 kept)))
     (λ is. inr (inr (write_still is kept))))
 
-pub holds_still : {done later : HallCall → Type 0} {v : Vol} {slot : ℕ} {d : Dscb} {buf : Buffer} → HoldsPut v slot d done buf → StaysDone done later → HoldsPut v slot d later buf
-holds_still (Emptied not same) kept = Emptied not same
-holds_still (Seen seen) kept = Seen (seen_still seen kept)
-holds_still (Changed held seen bytes dscb size lengths same) kept = Changed held (seen_still seen kept) bytes dscb size lengths same
+pub unread_still : {done later : HallCall → Type 0} {old new : HallCall → ℕ} (before : Buffer) (track r : ℕ) → IsUnread before track r done old new → StaysDone done later → IsUnread before track r later old new
+unread_still before track r unread kept = ⊎_elim (λ only. inl only) (λ broke. inr (given_still broke kept)) unread
+
+-- where the record of the slot got its DSCB, the buffer is that with it, whatever was called since
+pub put_still : {done later : HallCall → Type 0} {old new old' new' : HallCall → ℕ} {v : Vol} {slot : ℕ} {d : Dscb} {buf : Buffer} → HoldsPut v slot d done old new buf → HoldsDscb (slots_in_front v.firsts.items slot) d buf.records → StaysDone done later → HoldsPut v slot d later old' new' buf
+put_still {v} {slot} {d} {buf} (Emptied not unread same) put kept =
+    let k = slots_in_front v.firsts.items slot in
+    absurd (subst (λ (records : List Record). HasLengths records k 44 96) (ap (λ (b : Buffer). b.records) same) (dscb_lengths k d buf.records put))
+put_still {v} {slot} {d} {buf} (Seen seen other) put kept = absurd (other (dscb_lengths (slots_in_front v.firsts.items slot) d buf.records put))
+put_still (Changed held seen bytes dscb size lengths same) put kept = Changed held (seen_still seen kept) bytes dscb size lengths same
 
 -- the read of its track, where the index doesn't hold it, and the note of it where it is seen to have no slot there
 pub put_reads :
@@ -87,6 +95,11 @@ put_reads v slot r track d done later geometry at front kept call =
 pub slot_seen : (v : Vol) (slot r track : ℕ) (done later : HallCall → Type 0) (buf : Buffer) → track ≡ track_of_slot v slot → r ≡ slots_in_front v.firsts.items slot + 1 → StaysDone done later → IsSeen v.buf track r done buf → IsSeen v.buf (track_of_slot v slot) (slots_in_front v.firsts.items slot + 1) later buf
 slot_seen v slot r track done later buf at front kept seen =
     subst (λ (n : ℕ). IsSeen v.buf n (slots_in_front v.firsts.items slot + 1) later buf) at (subst (λ (n : ℕ). IsSeen v.buf track n later buf) front (seen_still seen kept))
+
+-- and what can't be seen by them can't be seen of the slot
+pub slot_unread : (v : Vol) (slot r track : ℕ) (done later : HallCall → Type 0) (old new : HallCall → ℕ) → track ≡ track_of_slot v slot → r ≡ slots_in_front v.firsts.items slot + 1 → StaysDone done later → IsUnread v.buf track r done old new → IsUnread v.buf (track_of_slot v slot) (slots_in_front v.firsts.items slot + 1) later old new
+slot_unread v slot r track done later old new at front kept unread =
+    subst (λ (n : ℕ). IsUnread v.buf n (slots_in_front v.firsts.items slot + 1) later old new) at (subst (λ (n : ℕ). IsUnread v.buf track n later old new) front (unread_still v.buf track r unread kept))
 
 -- the write over its record
 pub slot_write :

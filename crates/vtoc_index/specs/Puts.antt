@@ -5,7 +5,7 @@ use Rattle.dscb_codec.specs.Layout.{IsDscb}
 use Rattle.ckd_image.specs.Track.{Record}
 use Rattle.ckd_image.specs.declared.header.Geometry.{Geometry}
 use Rattle.hall_core.specs.Files.{File, AfterWrite, patched}
-use Rattle.hall_core.specs.Made.{HallCall, Noting, Writing}
+use Rattle.hall_core.specs.Made.{HallCall, MakesOnly, Noting, Writing}
 use Rattle.hall_core.specs.Moments.{Meaning}
 use Rattle.pack_spec.specs.Vtoc.{slots_on}
 use Rattle.track_records.specs.Buffers.{Buffer}
@@ -80,11 +80,17 @@ IsPutCall v slot d done call =
     ⊎ (((call ≡ Noting v.unit (track_of_slot v slot)) × LacksSlot v.buf (track_of_slot v slot) (slots_in_front v.firsts.items slot + 1) done)
     ⊎ IsSlotWrite v slot d done call)
 
--- The buffer behind: it holds nothing of the slot's track, where it didn't hold the slot before; or the track as it is seen, or that with the DSCB in the slot.
-pub data HoldsPut (v : Vol) (slot : ℕ) (d : Dscb) (done : HallCall → Type 0) (buf : Buffer) : Type 0 where
-  Emptied : ¬ HoldsSlot v slot → buf ≡ record v.buf { track = track_of_slot v slot; records = [] } → HoldsPut v slot d done buf
-  Seen : IsSeen v.buf (track_of_slot v slot) (slots_in_front v.firsts.items slot + 1) done buf → HoldsPut v slot d done buf
-  Changed : (seen : Buffer) → IsSeen v.buf (track_of_slot v slot) (slots_in_front v.firsts.items slot + 1) done seen → (bytes : List ℕ) → IsDscb d bytes → length bytes ≡ 140 → HasLengths seen.records (slots_in_front v.firsts.items slot) 44 96 → buf ≡ record seen { records = with_parts (slots_in_front v.firsts.items slot) (take 44 bytes) (drop 44 bytes) seen.records } → HoldsPut v slot d done buf
+-- A track up to R = r that can't be seen by the calls from old to new: none was made but its read, or the bytes that a read of it gave break the grammar before Rr and eight bytes behind it are there.
+abbrev pub IsUnread : Buffer → ℕ → ℕ → (HallCall → Type 0) → (HallCall → ℕ) → (HallCall → ℕ) → Type 0
+IsUnread before track r done old new =
+    MakesOnly (λ call. call ≡ track_read before.unit before.geometry track) old new
+    ⊎ HasGiven done before.unit before.geometry track (λ bytes. records_by before.geometry (Some r) track bytes ≡ None)
+
+-- The buffer behind, by how often each call was made before and behind: it holds nothing of the slot's track, where it didn't hold the slot before and the track can't be seen; the track as it is seen, where the record there has other lengths than a slot; or that with the DSCB in the slot.
+pub data HoldsPut (v : Vol) (slot : ℕ) (d : Dscb) (done : HallCall → Type 0) (old new : HallCall → ℕ) (buf : Buffer) : Type 0 where
+  Emptied : ¬ HoldsSlot v slot → IsUnread v.buf (track_of_slot v slot) (slots_in_front v.firsts.items slot + 1) done old new → buf ≡ record v.buf { track = track_of_slot v slot; records = [] } → HoldsPut v slot d done old new buf
+  Seen : IsSeen v.buf (track_of_slot v slot) (slots_in_front v.firsts.items slot + 1) done buf → ¬ HasLengths buf.records (slots_in_front v.firsts.items slot) 44 96 → HoldsPut v slot d done old new buf
+  Changed : (seen : Buffer) → IsSeen v.buf (track_of_slot v slot) (slots_in_front v.firsts.items slot + 1) done seen → (bytes : List ℕ) → IsDscb d bytes → length bytes ≡ 140 → HasLengths seen.records (slots_in_front v.firsts.items slot) 44 96 → buf ≡ record seen { records = with_parts (slots_in_front v.firsts.items slot) (take 44 bytes) (drop 44 bytes) seen.records } → HoldsPut v slot d done old new buf
 
 -- of a track just so many records were read, or none
 abbrev pub IsReadUpTo : ℕ → List Record → Type 0

@@ -8,7 +8,7 @@ ghost use Rattle.track_records.specs.Calls.{HasTrack, track_read};
 ghost use Rattle.track_records.specs.Updates.{HasLengths};
 ghost use Rattle.track_records.specs.Written.{StandsOn};
 ghost use Rattle.vtoc_index.specs.Index.{AreFirsts, IsIndexOf, IsOfUnit, slots_in_front, track_index};
-ghost use Rattle.vtoc_index.specs.Puts.{AfterPut, HasSlot, HoldsDscb, HoldsPut, HoldsRecord, HoldsSlot, IsHeld, IsPutCall, IsReadUpTo, IsSeen, IsSlotWrite, IsWith, LacksSlot};
+ghost use Rattle.vtoc_index.specs.Puts.{AfterPut, HasSlot, HoldsDscb, HoldsPut, HoldsRecord, HoldsSlot, IsHeld, IsPutCall, IsReadUpTo, IsSeen, IsSlotWrite, IsUnread, IsWith, LacksSlot};
 
 use crate::vol::Vol;
 use dscb_codec::{Dscb, encode};
@@ -47,7 +47,7 @@ pub fn put_slot<H: Hall>(hall: &mut H, vol: &mut Vol, slot: u32, dscb: &Dscb) ->
     ensures made { MakesOnly (IsPutCall vol.old slot dscb.now (DoneSince (H.calls hall.old).reads (H.done hall.new))) (H.made hall.old) (H.made hall.new) }
     ensures done { let did = DoneSince (H.calls hall.old).reads (H.done hall.new) in OnOk result (HasDone (IsSlotWrite vol.old slot dscb.now did) did) }
     ensures kept { StaysDone (H.done hall.old) (H.done hall.new) }
-    ensures buffer { HoldsPut vol.old slot dscb.now (DoneSince (H.calls hall.old).reads (H.done hall.new)) vol.new.buf }
+    ensures buffer { HoldsPut vol.old slot dscb.now (DoneSince (H.calls hall.old).reads (H.done hall.new)) (H.made hall.old) (H.made hall.new) vol.new.buf }
     ensures unwritten { OnErr result (¬ HasLengths vol.new.buf.records (slots_in_front vol.old.firsts.items slot) 44 96 → CallsAtMost 1 0 0 0 (H.calls hall.old) (H.calls hall.new)) }
     ensures again { HoldsSlot vol.old slot → CallsAtMost 0 1 0 0 (H.calls hall.old) (H.calls hall.new) }
     ensures few { ¬ HoldsSlot vol.old slot → IsReadUpTo (slots_in_front vol.old.firsts.items slot + 1) vol.new.buf.records }
@@ -119,7 +119,7 @@ fn hold<H: Hall>(hall: &mut H, unit: u8, place: Place, buf: &mut TrackBuf) -> Re
     ensures made { MakesOnly (λ call. ((call ≡ track_read unit buf.old.geometry place.track) × (¬ HoldsRecord buf.old place.track place.number)) ⊎ ((call ≡ Noting unit place.track) × LacksSlot buf.old place.track place.number (DoneSince (H.calls hall.old).reads (H.done hall.new)))) (H.made hall.old) (H.made hall.new) }
     ensures kept { StaysDone (H.done hall.old) (H.done hall.new) }
     ensures seen { OnOk result (IsSeen buf.old place.track place.number (DoneSince (H.calls hall.old).reads (H.done hall.new)) buf.new) }
-    ensures lost { OnErr result (((¬ HoldsRecord buf.old place.track place.number) × (buf.new ≡ record buf.old { track = place.track; records = [] })) ⊎ IsSeen buf.old place.track place.number (DoneSince (H.calls hall.old).reads (H.done hall.new)) buf.new) }
+    ensures lost { let did = DoneSince (H.calls hall.old).reads (H.done hall.new) in OnErr result (((¬ HoldsRecord buf.old place.track place.number) × IsUnread buf.old place.track place.number did (H.made hall.old) (H.made hall.new) × (buf.new ≡ record buf.old { track = place.track; records = [] })) ⊎ IsSeen buf.old place.track place.number did buf.new) }
 {
     fetch(hall, unit, place, buf)?;
     if !holds_slot(buf, place.number) {
@@ -148,6 +148,7 @@ fn fetch<H: Hall>(hall: &mut H, unit: u8, place: Place, buf: &mut TrackBuf) -> R
     ensures made { MakesOnly (λ call. ((call ≡ track_read unit buf.old.geometry place.track) × (¬ HoldsRecord buf.old place.track place.number)) ⊎ ((call ≡ Noting unit place.track) × LacksSlot buf.old place.track place.number (DoneSince (H.calls hall.old).reads (H.done hall.new)))) (H.made hall.old) (H.made hall.new) }
     ensures kept { StaysDone (H.done hall.old) (H.done hall.new) }
     ensures seen { OnOk result (IsSeen buf.old place.track place.number (DoneSince (H.calls hall.old).reads (H.done hall.new)) buf.new) }
+    ensures unread { OnErr result (IsUnread buf.old place.track place.number (DoneSince (H.calls hall.old).reads (H.done hall.new)) (H.made hall.old) (H.made hall.new)) }
 {
     if buf.track() == place.track && usize::from(place.number) <= buf.len() {
         return Ok(());

@@ -1,11 +1,10 @@
 //! Packs that break a rule of mounting, through the top call and through the plain program.
 use super::packs::{Patch, long_vtoc, small_pack};
 use super::{AMPLE, NAMES, hall_with, status};
-use crate::names::Name;
-use crate::text::{listing, unit_line};
 use Patch::{Image, Slot};
 use ckd_image::{DiskType, Geometry, Header};
 use pack_spec::{MountErr, volume};
+use run_spec::{Name, listing, unit_line};
 use std::alloc::{AllocError, Global};
 use std::process::Abort;
 use std::test::Fail;

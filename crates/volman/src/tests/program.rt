@@ -1,8 +1,8 @@
 //! The whole program, over a system with words and cards of its own, and a pack in a file.
 use super::packs::Slot;
+use super::system::System;
 use super::work_pack::{PLAIN, PLAIN_NAMES, assert_names, work_pack};
 use crate::run;
-use crate::system::System;
 use std::fs::{self, File, Files};
 use std::ops::Range;
 use std::process::{Abort, ExitCode};

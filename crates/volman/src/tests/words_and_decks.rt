@@ -1,10 +1,9 @@
 //! What words ask for, and what is read of a deck.
 ghost use Rattle.std.specs.Prelude.{[], false};
 
-use crate::deck::{DeckErr, read_deck};
-use crate::words::{Action, action_of};
 use ebcdic_names::{Dsn, Serial};
 use hall_core::{Cards, MemCards, ReadFault};
+use run_spec::{Action, DeckErr, action_of, read_deck};
 use std::alloc::{AllocError, Global};
 use std::process::Abort;
 use std::test::Fail;

@@ -91,13 +91,13 @@ pub returns-in-Ok-clause-buffer : goal.returns-in-Ok-clause-buffer
 returns-in-Ok-clause-buffer g c answered =
     let v = c.args.vol.now in
     let found = c.in_ok-slot.ensures.found in
-    named_holds c.args.old.now.bytes c.args.new.now.bytes v (DoneSince (g.H.Hall.calls c.args.hall.now).reads (g.H.Hall.done c.put_through.new.hall)) c.put_through.new.vol.buf c.in_ok-slot.slot c.index.result.now c.under_name-dscb.result found c.index.ensures c.under_name-dscb.ensures.exact c.in-Ok.ensures.buffer
+    named_holds c.args.old.now.bytes c.args.new.now.bytes v (DoneSince (g.H.Hall.calls c.args.hall.now).reads (g.H.Hall.done c.put_through.new.hall)) (g.H.Hall.made c.args.hall.now) (g.H.Hall.made c.put_through.new.hall) c.put_through.new.vol.buf c.in_ok-slot.slot c.index.result.now c.under_name-dscb.result found c.index.ensures c.under_name-dscb.ensures.exact c.in-Ok.ensures.buffer
 
 pub returns-in-Err-clause-buffer : goal.returns-in-Err-clause-buffer
 returns-in-Err-clause-buffer g c answered =
     let v = c.args.vol.now in
     let found = c.in_ok-slot.ensures.found in
-    named_holds c.args.old.now.bytes c.args.new.now.bytes v (DoneSince (g.H.Hall.calls c.args.hall.now).reads (g.H.Hall.done c.put_through.new.hall)) c.put_through.new.vol.buf c.in_ok-slot.slot c.index.result.now c.under_name-dscb.result found c.index.ensures c.under_name-dscb.ensures.exact c.in-Err.ensures.buffer
+    named_holds c.args.old.now.bytes c.args.new.now.bytes v (DoneSince (g.H.Hall.calls c.args.hall.now).reads (g.H.Hall.done c.put_through.new.hall)) (g.H.Hall.made c.args.hall.now) (g.H.Hall.made c.put_through.new.hall) c.put_through.new.vol.buf c.in_ok-slot.slot c.index.result.now c.under_name-dscb.result found c.index.ensures c.under_name-dscb.ensures.exact c.in-Err.ensures.buffer
 
 -- the slots are as before, or so where that was written
 pub returns-in-Ok-clause-slots : goal.returns-in-Ok-clause-slots

@@ -1,14 +1,14 @@
-use Rattle.std.proofs.Common.{◌≡◌, ◌⊎◌, List, ap, arith, ℕ, subst, sym, drop, inl, inr, length-drop, length-take, refl, take}
+use Rattle.std.proofs.Common.{◌≡◌, ◌⊎◌, List, ap, ℕ, subst, sym, inl, inr, refl}
 use Rattle.track_records.proofs.WriteLemmas.{on_err, on_ok}
 use Rattle.vtoc_index.specs.Index.{IsIndexOf, slots_in_front}
 use Rattle.vtoc_index.proofs.BegunLemmas.{same_image}
-use Rattle.vtoc_index.proofs.HeldLemmas.{still_slot}
+use Rattle.vtoc_index.proofs.HeldLemmas.{dscb_lengths}
 use Rattle.hall_core.specs.Facts.{Attached, unit_of}
 use Rattle.hall_core.specs.Files.{image_of}
 use Rattle.hall_core.proofs.MadeLemmas.{done_as, done_still, makes_as, makes_then, since_still}
 use Rattle.hall_core.specs.Made.{DoneSince, HasDone}
 use Rattle.vtoc_index.specs.Puts.{IsSlotWrite}
-use Rattle.vtoc_index.proofs.PutCalls.{call_still, holds_still, write_still}
+use Rattle.vtoc_index.proofs.PutCalls.{call_still, put_still, write_still}
 use Rattle.vtoc_index.specs.declared.vol.Vol.{Vol}
 use Rattle.dadsm_ops.specs.Operations.{image_named}
 use Rattle.dadsm_ops.proofs.Writes.{put_fails, put_synced}
@@ -53,16 +53,7 @@ returns-in_err-put_slot-clause-unwritten g c = on_err c.from_residual.result _ c
 
 pub returns-clause-unwritten : goal.returns-clause-unwritten
 returns-clause-unwritten g c =
-    let held = c.in_ok-put_slot.ensures.slot in
-    let front = slots_in_front c.args.vol.now.firsts.items c.args.slot in
-    on_err c.make_durable.result _
-    (λ none.
-    absurd
-    (none
-    (still_slot held.before c.put_slot.new.vol.buf.records front front (take 44 held.bytes) (drop 44 held.bytes) refl held.lengths
-    (omega (arith, held.size, length-take 44 held.bytes))
-    (omega (arith, held.size, length-drop 44 held.bytes))
-    held.put)))
+    on_err c.make_durable.result _ (λ none. absurd (none (dscb_lengths (slots_in_front c.args.vol.now.firsts.items c.args.slot) c.args.dscb.now c.put_slot.new.vol.buf.records c.in_ok-put_slot.ensures.slot)))
 
 pub returns-in_err-put_slot-clause-made : goal.returns-in_err-put_slot-clause-made
 returns-in_err-put_slot-clause-made g c = makes_as c.in_err-put_slot.ensures.made (λ call is. inl is)
@@ -78,9 +69,9 @@ returns-clause-made g c =
     let w = (goal.at.returns-clause-made g c).After-make_durable in
     makes_then c.in_ok-put_slot.ensures.made c.make_durable.ensures.made (λ call is. inl (call_still call (since_still (g.H.Hall.calls c.args.hall.now).reads c.make_durable.ensures.kept) is)) (λ call is. inr (is, wrote g w))
 
--- a sync leaves the buffer
+-- a sync leaves the buffer with the DSCB in the slot
 pub returns-clause-buffer : goal.returns-clause-buffer
-returns-clause-buffer g c = holds_still c.in_ok-put_slot.ensures.buffer (since_still _ c.make_durable.ensures.kept)
+returns-clause-buffer g c = put_still c.in_ok-put_slot.ensures.buffer c.in_ok-put_slot.ensures.slot (since_still _ c.make_durable.ensures.kept)
 
 pub returns-clause-done : goal.returns-clause-done
 returns-clause-done g c = on_ok c.make_durable.result _ (wrote g (goal.at.returns-clause-done g c).After-make_durable)

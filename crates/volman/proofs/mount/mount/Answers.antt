@@ -4,7 +4,7 @@ use Rattle.hall_core.specs.Facts.{Attached, unit_of}
 use Rattle.hall_core.specs.Made.{MakesOnly}
 use Rattle.hall_core.proofs.MadeLemmas.{makes_then, once_then}
 use Rattle.vtoc_index.specs.Given.{IsMountRead, IsReasonGiven}
-use Rattle.volman.specs.Mount.{Unfit}
+use Rattle.run_spec.specs.Mount.{Unfit}
 use Rattle.volman.proofs.CallsMade.{attaches_apart}
 use Rattle.volman.proofs.mount.mount.Given.{Over}
 use Rattle.volman.proofs.mount.mount.Goals as goal

@@ -5,14 +5,14 @@ use Rattle.hall_core.proofs.MomentLemmas.{same_none}
 use Rattle.hall_core.specs.Facts.{Attached, unit_of}
 use Rattle.hall_core.specs.Made.{Does, MakesOnly, Printing}
 use Rattle.hall_core.specs.Moments.{Same}
-use Rattle.volman.specs.Lines.{names_listing}
+use Rattle.run_spec.specs.Lines.{names_listing}
 use Rattle.vtoc_index.specs.Given.{IsIndexGiven}
 use Rattle.vtoc_index.specs.Index.{IsOfUnit}
-use Rattle.volman.specs.Mount.{IsUnmounted}
-use Rattle.volman.specs.Made.{IsMountCall, Mounts, Refuses}
-use Rattle.volman.specs.Names.{IsListing, names_in, names_of}
-use Rattle.volman.specs.Run.{PrintsText}
-use Rattle.volman.specs.Task.{names_task}
+use Rattle.run_spec.specs.Mount.{IsUnmounted}
+use Rattle.run_spec.specs.Made.{IsMountCall, Mounts, Refuses}
+use Rattle.run_spec.specs.Names.{IsListing, names_in, names_of}
+use Rattle.run_spec.specs.Run.{PrintsText}
+use Rattle.run_spec.specs.Task.{names_task}
 use Rattle.volman.proofs.Listings.{listed_right}
 use Rattle.volman.proofs.Tasks.{text_said}
 use Rattle.volman.proofs.Works.{cut_by, nothing_named, on_pack, refused_file, refused_on_file}

@@ -14,13 +14,13 @@ use Rattle.vol_model.specs.declared.contents.Run.{Run as VtocRun}
 use Rattle.vtoc_index.specs.Contents.{is_set_named}
 use Rattle.vtoc_index.specs.Given.{IsIndexGiven}
 use Rattle.vtoc_index.specs.Index.{IsMounted, IsOfUnit, track_index}
-use Rattle.volman.specs.Mount.{IsUnmounted}
+use Rattle.run_spec.specs.Mount.{IsUnmounted}
 use Rattle.volman.proofs.CallsMade.{statement_as}
-use Rattle.volman.specs.Machine.{shelf_with}
-use Rattle.volman.specs.Made.{IsMountCall, Mounts, OnPack, OnStatement, Refuses}
-use Rattle.volman.specs.Run.{Does, WorksOn}
-use Rattle.volman.specs.Statement.{item_of}
-use Rattle.volman.specs.Task.{statement_task, task_on}
+use Rattle.shelf_machine.specs.Machine.{shelf_with}
+use Rattle.run_spec.specs.Made.{IsMountCall, Mounts, OnPack, OnStatement, Refuses}
+use Rattle.run_spec.specs.Run.{Does, WorksOn}
+use Rattle.job_runner.specs.Statement.{item_of}
+use Rattle.run_spec.specs.Task.{statement_task, task_on}
 use Rattle.volman.proofs.Tasks.{durable_left}
 use Rattle.volman.proofs.Works.{nothing_stated, on_pack, refused_file, refused_on_file, worked_then}
 use Rattle.volman.proofs.top.run.Goals as goal

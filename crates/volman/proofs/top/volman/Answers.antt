@@ -9,15 +9,15 @@ use Rattle.hall_core.specs.Moments.{IsDurable}
 use Rattle.util_syntax.specs.declared.statement.Rename.{Rename}
 use Rattle.vtoc_index.specs.Calls.{reads_to_mount}
 use Rattle.vtoc_index.specs.Index.{IsMounted}
-use Rattle.volman.specs.Action.{request_in}
-use Rattle.volman.specs.Mount.{IsOnLastTrack}
-use Rattle.volman.specs.Lines.{deck_line, words_line}
-use Rattle.volman.specs.Made.{Formless, Stated, Unread}
-use Rattle.volman.specs.Run.{AttachesAsked, IsFinal}
-use Rattle.volman.specs.Words.{Request, Run, asked_in}
+use Rattle.run_spec.specs.Action.{request_in}
+use Rattle.run_spec.specs.Mount.{IsOnLastTrack}
+use Rattle.run_spec.specs.Lines.{deck_line, words_line}
+use Rattle.run_spec.specs.Made.{Formless, Stated, Unread}
+use Rattle.run_spec.specs.Run.{AttachesAsked, IsFinal}
+use Rattle.run_spec.specs.Words.{Request, Run, asked_in}
 use Rattle.volman.proofs.Tasks.{text_said}
 use Rattle.volman.proofs.CallsMade.{request_as, says_only}
-use Rattle.volman.proofs.WordLemmas.{asked_as}
+use Rattle.run_spec.proofs.WordLemmas.{asked_as}
 use Rattle.volman.proofs.Works.{answered_deck, answered_form, answered_names, answered_nothing, answered_words, cut_by, stated_durable}
 use Rattle.volman.proofs.top.volman.Goals as goal
 

@@ -17,7 +17,7 @@ use Rattle.std.specs.Vec.{with_item}
 use Rattle.dscb_codec.specs.declared.Dscb.{Dscb}
 use Rattle.vtoc_index.proofs.BegunLemmas.{after_same, not_begun, same_image}
 use Rattle.vtoc_index.proofs.HeldLemmas.{count_kept, still_slot}
-use Rattle.vtoc_index.proofs.PutCalls.{put_reads, slot_seen, slot_write}
+use Rattle.vtoc_index.proofs.PutCalls.{put_reads, slot_seen, slot_unread, slot_write}
 use Rattle.vtoc_index.proofs.PutLaw.{front_of, held_place, index_put, slot_found, slot_put, track_of}
 use Rattle.vtoc_index.proofs.put.put_slot.Given.{Over}
 use Rattle.vtoc_index.proofs.put.put_slot.Goals as goal
@@ -228,12 +228,13 @@ pub returns-in_err-hold-clause-buffer : goal.returns-in_err-hold-clause-buffer
 returns-in_err-hold-clause-buffer g c =
     let v = c.args.vol.now in
     let place = c.place_of-place in
+    let front : place.result.number - 1 ≡ front_of v c.args.slot = omega (arith, place.ensures.number) in
     ⊎_elim
-    (λ emptied. Emptied (λ holds. emptied.0 (holds.0 ∙ sym place.ensures.track, omega (arith, holds.1, place.ensures.number))) (emptied.1 ∙ ap (λ (n : ℕ). record v.buf { track = n; records = [] }) place.ensures.track))
-    (λ seen. Seen (slot_seen v c.args.slot place.result.number place.result.track _ _ c.hold.new.buf place.ensures.track place.ensures.number (λ call was. was) seen))
+    (λ emptied. Emptied (λ holds. emptied.0 (holds.0 ∙ sym place.ensures.track, omega (arith, holds.1, place.ensures.number))) (slot_unread v c.args.slot place.result.number place.result.track _ _ _ _ place.ensures.track place.ensures.number (λ call was. was) emptied.1) (emptied.2 ∙ ap (λ (n : ℕ). record v.buf { track = n; records = [] }) place.ensures.track))
+    (λ seen. Seen (slot_seen v c.args.slot place.result.number place.result.track _ _ c.hold.new.buf place.ensures.track place.ensures.number (λ call was. was) seen) (λ has. c.in_err-hold.ensures.failed (subst (λ (n : ℕ). HasLengths c.hold.new.buf.records n 44 96) (sym front) has)))
     c.in_err-hold.ensures.lost
 
-changed : (g : Over) (c : After-update g) → HoldsPut c.args.vol.now c.args.slot c.args.dscb.now (DoneSince (g.H.Hall.calls c.args.hall.now).reads (g.H.Hall.done c.update.new.hall)) c.update.new.buf
+changed : (g : Over) (c : After-update g) → HoldsPut c.args.vol.now c.args.slot c.args.dscb.now (DoneSince (g.H.Hall.calls c.args.hall.now).reads (g.H.Hall.done c.update.new.hall)) (g.H.Hall.made c.args.hall.now) (g.H.Hall.made c.update.new.hall) c.update.new.buf
 changed g c =
     let held = c.hold.new.buf in
     let front = front_of c.args.vol.now c.args.slot in

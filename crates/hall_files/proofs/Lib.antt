@@ -1,0 +1,3 @@
+mod Units
+mod Outcomes
+mod HallCases

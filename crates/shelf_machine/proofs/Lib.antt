@@ -1,0 +1,3 @@
+pub mod Machines
+mod BaseCases
+mod IndexCases

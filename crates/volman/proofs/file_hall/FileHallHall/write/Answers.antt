@@ -1,5 +1,0 @@
-use Rattle.track_records.proofs.WriteLemmas.{on_ok}
-use Rattle.volman.proofs.file_hall.FileHallHall.write.Goals as goal
-
-pub returns-clause-done : goal.returns-clause-done
-returns-clause-done g c = on_ok c.counted.result _ tt
