@@ -14,5 +14,6 @@ mod UnitLemmas
 pub mod EarlierLemmas
 pub mod MadeLemmas
 pub mod MomentLemmas
+pub mod Outcomes
 pub mod StageLemmas
 pub mod StepLemmas

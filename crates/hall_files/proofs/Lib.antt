@@ -1,3 +1,2 @@
 mod Units
-mod Outcomes
 mod HallCases

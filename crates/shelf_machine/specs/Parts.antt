@@ -12,6 +12,6 @@ hall_of machine = machine.hall
 abbrev pub index_of : {X : Type 0} {g : Ghosts X} → PackMachine X g → Vol
 index_of machine = machine.vol
 
--- whether no call of its hall failed
+-- whether no fault came: no call of its hall failed, and no track was noted to differ
 abbrev pub is_sound : {X : Type 0} {g : Ghosts X} → PackMachine X g → Bool
 is_sound machine = machine.is_sound

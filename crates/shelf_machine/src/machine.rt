@@ -22,7 +22,7 @@ use vtoc_index::Vol;
 
 /// The machine over the image of one pack, which is the only volume of its shelf, of number 0.
 ///
-/// It is sound as long as no call of its hall failed.
+/// It is sound as long as no call of its hall failed, and no track was noted to differ.
 #[derive(Drop)]
 pub struct PackMachine<H: Hall> {
     hall: H,

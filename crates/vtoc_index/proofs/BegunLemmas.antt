@@ -6,7 +6,7 @@ use Rattle.hall_core.specs.Facts.{Facts, Attached, unit_of}
 use Rattle.hall_core.specs.Files.{File, AfterWrite, IsPending, file_of, image_of, written}
 use Rattle.hall_core.specs.Moments.{Meaning, ElapsesExactly, LeftNow, LeavesSame, Same}
 use Rattle.hall_core.proofs.MomentLemmas.{CountsNow, left_back}
-use Rattle.track_records.proofs.WriteLemmas.{on_err}
+use Rattle.hall_core.proofs.Outcomes.{on_err}
 
 left_on : {X : Type 0} {old new : Meaning X} → Same old new → (x : X) (p : List ℕ) → LeftNow old x p → LeftNow new x p
 left_on same x p left = ((same.left x).1 left.0, left.1 ∙ sym same.printed)

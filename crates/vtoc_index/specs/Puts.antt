@@ -80,13 +80,13 @@ IsPutCall v slot d done call =
     ⊎ (((call ≡ Noting v.unit (track_of_slot v slot)) × LacksSlot v.buf (track_of_slot v slot) (slots_in_front v.firsts.items slot + 1) done)
     ⊎ IsSlotWrite v slot d done call)
 
--- A track up to R = r that can't be seen by the calls from old to new: none was made but its read, or the bytes that a read of it gave break the grammar before Rr and eight bytes behind it are there.
+-- What is known where a track up to R = r wasn't seen: no call from old to new was made but its read, or the bytes that a read of it gave break the grammar before Rr and eight bytes behind it are there.
 abbrev pub IsUnread : Buffer → ℕ → ℕ → (HallCall → Type 0) → (HallCall → ℕ) → (HallCall → ℕ) → Type 0
 IsUnread before track r done old new =
     MakesOnly (λ call. call ≡ track_read before.unit before.geometry track) old new
     ⊎ HasGiven done before.unit before.geometry track (λ bytes. records_by before.geometry (Some r) track bytes ≡ None)
 
--- The buffer behind, by how often each call was made before and behind: it holds nothing of the slot's track, where it didn't hold the slot before and the track can't be seen; the track as it is seen, where the record there has other lengths than a slot; or that with the DSCB in the slot.
+-- The buffer behind, by how often each call was made before and behind: it holds nothing of the slot's track, where it didn't hold the slot before and the track wasn't seen; the track as it is seen, where the record there has other lengths than a slot; or that with the DSCB in the slot.
 pub data HoldsPut (v : Vol) (slot : ℕ) (d : Dscb) (done : HallCall → Type 0) (old new : HallCall → ℕ) (buf : Buffer) : Type 0 where
   Emptied : ¬ HoldsSlot v slot → IsUnread v.buf (track_of_slot v slot) (slots_in_front v.firsts.items slot + 1) done old new → buf ≡ record v.buf { track = track_of_slot v slot; records = [] } → HoldsPut v slot d done old new buf
   Seen : IsSeen v.buf (track_of_slot v slot) (slots_in_front v.firsts.items slot + 1) done buf → ¬ HasLengths buf.records (slots_in_front v.firsts.items slot) 44 96 → HoldsPut v slot d done old new buf

@@ -29,8 +29,9 @@ struct Place {
 ///
 /// The write is pending until a sync is done; a stop leaves it whole or absent. `Device` comes where the
 /// track can't be read, or no slot is found there any more, with nothing written; or where the write fails,
-/// which is pending then or was not begun. Then the index keeps the old DSCB, its buffer may have the new
-/// one, and it may be the index of no image any more, so no slot can be put by it.
+/// which is pending then or was not begun. Then the index keeps the old DSCB. Its buffer has the new one where
+/// the write failed; else it has nothing of the track, or the track as it was seen. It may be the index of no
+/// image any more, so no slot can be put by it.
 ///
 /// The bytes follow System Control Blocks, GC28-6628; that one write holds them is this project's profile.
 pub fn put_slot<H: Hall>(hall: &mut H, vol: &mut Vol, slot: u32, dscb: &Dscb) -> Result<(), Device>

@@ -1,5 +1,5 @@
 use Rattle.std.proofs.Common.{◌≡◌, ◌⊎◌, List, ap, ℕ, subst, sym, inl, inr, refl}
-use Rattle.track_records.proofs.WriteLemmas.{on_err, on_ok}
+use Rattle.hall_core.proofs.Outcomes.{on_err, on_ok}
 use Rattle.vtoc_index.specs.Index.{IsIndexOf, slots_in_front}
 use Rattle.vtoc_index.proofs.BegunLemmas.{same_image}
 use Rattle.vtoc_index.proofs.HeldLemmas.{dscb_lengths}

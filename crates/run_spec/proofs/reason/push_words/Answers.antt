@@ -3,7 +3,7 @@ use Rattle.std.proofs.Math.Seq.{split_at, take-append_seam}
 use Rattle.std.specs.List.{flat_map}
 use Rattle.std.proofs.lemmas.Grind.{flat_map-append}
 use Rattle.std.proofs.lemmas.List.{take-append-drop}
-use Rattle.track_records.proofs.WriteLemmas.{on_err}
+use Rattle.hall_core.proofs.Outcomes.{on_err}
 use Rattle.run_spec.specs.Lines.{number_text, with_numbers}
 use Rattle.run_spec.proofs.reason.push_words.Goals as goal
 

@@ -92,17 +92,17 @@ returns-in-Ok-clause-made g c =
     let statement = c.args.statement.now in
     let ran = c.run_statement-status in
     let ended = ran.result.1.now in
-    let units = sym ran.ensures.units in
     let on : OnStatement made done synced calls found statement ran.result.0 c.mount.new.hall ended = statement_as made done synced calls (λ h. h.now) ran.ensures.made in
-    let behind : OnPack made done synced calls c.args.file.now (g.H.Hall.facts ended).units ran.result.0 (λ vol mid. OnStatement made done synced calls vol statement ran.result.0 mid ended × CallsAtMost 1 1 2 1 (calls mid) (calls ended)) c.args.hall.now ended =
+    let on_pack : (h : _) → ended ≡ h → OnPack made done synced calls c.args.file.now (g.H.Hall.facts h).units ran.result.0 (λ vol mid. OnStatement made done synced calls vol statement ran.result.0 mid h × CallsAtMost 1 1 2 1 (calls mid) (calls h)) c.args.hall.now h =
+    λ h same.
+    let units = sym ran.ensures.units ∙ ap (λ hall. (g.H.Hall.facts hall).units) same in
     Mounts c.mount.new.hall
     (record { only = subst (λ (us : List Attached). MakesOnly (IsMountCall c.args.file.now us (done c.mount.new.hall)) (made c.args.hall.now) (made c.mount.new.hall)) units c.mount.ensures.made; once = c.mount.ensures.each; kept = c.mount.ensures.kept })
     found
     (subst (λ (us : List Attached). IsOfUnit us found) units c.in-Ok.ensures.unit.0)
     (subst (λ (us : List Attached). IsIndexGiven (done c.mount.new.hall) (unit_of us found.unit).size found) units c.in-Ok.ensures.given)
-    (on, ran.ensures.calls) in
-    let borrowed = sym (ap (λ (l : List ℕ). get_or l 0 0) ran.ensures.references) in
-    subst (λ h. OnPack made done synced calls c.args.file.now (g.H.Hall.facts h).units ran.result.0 (λ vol mid. OnStatement made done synced calls vol statement ran.result.0 mid h × CallsAtMost 1 1 2 1 (calls mid) (calls h)) c.args.hall.now h) (sym (c.hall-1.given.1 borrowed)) behind
+    (subst (λ h. OnStatement made done synced calls found statement ran.result.0 c.mount.new.hall h × CallsAtMost 1 1 2 1 (calls c.mount.new.hall) (calls h)) same (on, ran.ensures.calls)) in
+    on_pack _ (search rules)
 
 pub returns-in-Err-clause-made : goal.returns-in-Err-clause-made
 returns-in-Err-clause-made g c =

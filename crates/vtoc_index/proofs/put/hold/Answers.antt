@@ -4,7 +4,7 @@ use Rattle.hall_core.proofs.MadeLemmas.{makes_then, since_still}
 use Rattle.hall_core.specs.Files.{image_of}
 use Rattle.track_records.specs.Buffers.{Buffer}
 use Rattle.track_records.proofs.UpdateLemmas.{lengths_there}
-use Rattle.track_records.proofs.WriteLemmas.{on_err}
+use Rattle.hall_core.proofs.Outcomes.{on_err}
 use Rattle.vtoc_index.specs.Puts.{HasSlot, HoldsRecord, Other}
 use Rattle.vtoc_index.proofs.HeldLemmas.{noted, held_slot}
 use Rattle.vtoc_index.proofs.PutCalls.{lacks_still, seen_still}

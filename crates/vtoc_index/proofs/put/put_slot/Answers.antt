@@ -6,11 +6,12 @@ use Rattle.hall_core.specs.Facts.{Attached, unit_of}
 use Rattle.hall_core.specs.Files.{image_of, patched}
 use Rattle.hall_core.specs.Made.{Does, DoneSince, HallCall, MakesOnly, Writing}
 use Rattle.hall_core.proofs.MadeLemmas.{makes_as, makes_then, since_still}
+use Rattle.hall_core.proofs.Outcomes.{on_err}
 use Rattle.track_records.specs.Buffers.{Buffer}
 use Rattle.track_records.specs.Updates.{HasLengths, with_parts}
 use Rattle.track_records.specs.Written.{StandsOn, place_of}
 use Rattle.track_records.proofs.UpdateLemmas.{lengths_there}
-use Rattle.track_records.proofs.WriteLemmas.{on_err, same_write, write_done, write_failed}
+use Rattle.track_records.proofs.WriteLemmas.{same_write, write_done, write_failed}
 use Rattle.vtoc_index.specs.Index.{IsPut, place_of_slot}
 use Rattle.vtoc_index.specs.Puts.{Changed, Emptied, HasSlot, HoldsPut, HoldsSlot, IsHeld, IsPutCall, IsReadUpTo, IsReplaced, IsSeen, IsSlotWrite, Seen, track_of_slot}
 use Rattle.std.specs.Vec.{with_item}

@@ -1,6 +1,6 @@
 use Rattle.std.proofs.Common.{◌≡◌, ◌++◌, ℕ, List, length, take, ap, sym, ◌∙◌, rules}
 use Rattle.std.proofs.Math.Seq.{take-append_seam}
-use Rattle.track_records.proofs.WriteLemmas.{on_err}
+use Rattle.hall_core.proofs.Outcomes.{on_err}
 use Rattle.vtoc_index.specs.Rules.{rows_in}
 use Rattle.vtoc_index.proofs.set_extents.push_further.Goals as goal
 

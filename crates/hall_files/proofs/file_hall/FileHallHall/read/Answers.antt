@@ -1,4 +1,4 @@
-use Rattle.hall_files.proofs.Outcomes.{on_ok}
+use Rattle.hall_core.proofs.Outcomes.{on_ok}
 use Rattle.hall_files.proofs.file_hall.FileHallHall.read.Goals as goal
 
 pub returns-clause-done : goal.returns-clause-done
