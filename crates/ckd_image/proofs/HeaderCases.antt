@@ -90,6 +90,11 @@ read :
 unfolding geometry_of geometry_on
 read = (refl, refl, refl, refl, refl, refl, refl, refl, refl, refl)
 
+-- a file of 512 bytes has a header, which is judged; it has no cylinder
+header_alone : (geometry_of (header (codes "CKD_C370") 10 16 0x11 0 0) 512 ≡ Err Compressed) × (geometry_of (header (codes "CKD_P370") 10 16 0x11 0 0) 512 ≡ Err (BadLength 512))
+unfolding geometry_of geometry_on
+header_alone = (refl, refl)
+
 unknown : geometry_at None numbered 512 ≡ Err (BadType 16)
 unknown = refl
 
@@ -110,5 +115,16 @@ geometries = (
   λ has. let some = has.cylinders in absurd (omega (arith, some)),
   λ has. let most = has.most in absurd (omega (arith, most)),
   λ has. let size = has.track_size in cc,
+  λ has. let whole = has.whole in absurd (omega (arith, whole)),
+)
+
+-- one cylinder is enough, and the length is the geometry's own: neither without its header nor with a cylinder more
+one_cylinder :
+    HasGeometry 41472 (record { device = D2311; cylinders = 1; track_size = 4096 })
+    × (¬ HasGeometry 40960 (record { device = D2311; cylinders = 1; track_size = 4096 }))
+    × (¬ HasGeometry (512 + 2 * 40960) (record { device = D2311; cylinders = 1; track_size = 4096 }))
+one_cylinder = (
+  record { cylinders = omega arith; most = omega arith; track_size = refl; whole = refl },
+  λ has. let whole = has.whole in absurd (omega (arith, whole)),
   λ has. let whole = has.whole in absurd (omega (arith, whole)),
 )

@@ -4,7 +4,7 @@ use Rattle.std.specs.List.{list_all}
 use Rattle.std.specs.Int.{w16, to_be_bytes}
 use Rattle.std.proofs.Common.{zero, suc, get_or, refl, sym, ◌∙◌, ap, subst, arith, lit<, ltb-true, length-take-le, take-append-drop}
 use Rattle.std.proofs.lemmas.Bool.{and_parts}
-use Rattle.ckd_image.specs.Track.{AreRecords, BreaksAt, Follows, IsR0, IsRecord, IsTrack, IsTrackUpTo, Record, home_address, record_bytes, records_bytes}
+use Rattle.ckd_image.specs.Track.{AreRecords, BreaksAt, Follows, IsR0, IsRecord, IsTrack, IsTrackUpTo, Record, count_of, home_address, record_bytes, records_bytes}
 use Rattle.ckd_image.specs.Reading.{data_length, front_record, is_at_end, is_front, is_record_at, key_length, record_length, records_behind, records_of, records_to_end, records_up_to}
 use Rattle.ckd_image.specs.Break.{break_behind, break_of, break_or_after, break_to_end, break_up_to, front_pattern, marker_length, pattern_break, record_break}
 use Rattle.ckd_image.proofs.Grammar.{follows_read, read_follows}
@@ -59,6 +59,16 @@ behind :
     × (records_behind (Some 2) (r1 ++ marker) ≡ None)
 unfolding records_to_end records_up_to
 behind = (refl, refl, refl, refl, refl, refl)
+
+-- where no record may stand any more, an end marker is asked for all the same
+none_left : (records_to_end 0 256 (marker ++ (1 ∷ [])) ≡ Some []) × (records_to_end 0 256 (r1 ++ marker) ≡ None) × (records_to_end 0 256 [] ≡ None)
+unfolding records_to_end
+none_left = (refl, refl, refl)
+
+-- an end marker is one in the place of R255 too, though its bytes could be the count of that, and whatever stands behind it
+marker_for_r255 : (rest : List ℕ) → (records_to_end 1 255 (marker ++ rest) ≡ Some []) × (records_up_to 1 255 (marker ++ rest) ≡ None)
+unfolding records_to_end records_up_to
+marker_for_r255 rest = (refl, refl)
 
 -- ---- where it breaks
 
@@ -125,12 +135,37 @@ seven_behind : (records : List Record) → ¬ Follows 2 3 (Some 1) records (fron
 unfolding records_of is_front records_up_to
 seven_behind records is = let none : None ≡ Some records = follows_read 2 3 (Some 1) records (front ++ (r1 ++ replicate 7 0)) is in cc
 
+-- there may be no record behind R0, and nothing behind the marker
+no_records : IsTrack 2 3 [] (front ++ marker) × Follows 2 3 (Some 0) [] (front ++ replicate 8 0)
+unfolding records_of is_front records_to_end records_up_to
+no_records = (read_follows 2 3 None [] (front ++ marker) (small (front ++ marker) refl) refl, read_follows 2 3 (Some 0) [] (front ++ replicate 8 0) (small (front ++ replicate 8 0) refl) refl)
+
 -- DL has two bytes, and a count of X'FF' alone is a marker
 too_long : (x : Record) → length x.data ≡ 65536 → ¬ IsRecord 1 x
 too_long x long is = absurd (omega (arith, long, is.data_fits))
 
 marker_is_no_count : (content : List ℕ) → length content ≡ 65535 → ¬ IsRecord 255 (record { address = replicate 4 255; key = replicate 255 0; «data» = content })
 marker_is_no_count content long is = is.count (ap (λ (n : ℕ). replicate 4 255 ++ (255 ∷ 255 ∷ to_be_bytes w16 n)) long)
+
+-- a count with one other byte is no marker, and may stand, with 65,535 bytes of data at the most: where CC, R or DL isn't X'FF'
+abbrev longest : List ℕ → List ℕ → Record
+longest address content = record { address = address; key = replicate 255 0; «data» = content }
+
+near_markers :
+    ((content : List ℕ) → length content ≡ 65535 → IsRecord 255 (longest (254 ∷ 255 ∷ 255 ∷ 255 ∷ []) content))
+    × ((content : List ℕ) → length content ≡ 65535 → IsRecord 254 (longest (replicate 4 255) content))
+    × ((content : List ℕ) → length content ≡ 65534 → IsRecord 255 (longest (replicate 4 255) content))
+near_markers = (
+  λ content long. record { number = omega arith; four = refl; key_fits = omega arith; data_fits = omega (arith, long); count = λ same. let byte : 254 ≡ 255 = ap (λ (bytes : List ℕ). get_or bytes 0 0) same in absurd (omega (arith, byte)) },
+  λ content long. record { number = omega arith; four = refl; key_fits = omega arith; data_fits = omega (arith, long); count = λ same. let byte : 254 ≡ 255 = ap (λ (bytes : List ℕ). get_or bytes 4 0) same in absurd (omega (arith, byte)) },
+  λ content long. record { number = omega arith; four = refl; key_fits = omega arith; data_fits = omega (arith, long); count = λ same. last_byte content long same },
+)
+  where
+    last_byte : (content : List ℕ) → length content ≡ 65534 → ¬ (count_of 255 (longest (replicate 4 255) content) ≡ marker)
+    last_byte content long same =
+        let counted : replicate 4 255 ++ (255 ∷ 255 ∷ 255 ∷ 254 ∷ []) ≡ marker = sym (ap (λ (n : ℕ). replicate 4 255 ++ (255 ∷ 255 ∷ to_be_bytes w16 n)) long) ∙ same in
+        let last : 254 ≡ 255 = ap (λ (bytes : List ℕ). get_or bytes 7 0) counted in
+        absurd (omega (arith, last))
 
 -- there is no R256
 last_number : ¬ AreRecords 255 (one ∷ one ∷ [])

@@ -1,7 +1,8 @@
 //! Images of disk packs in the CKD layout of Hercules: devices, header, tracks, and what fits a track.
 //!
-//! Some of it stands here for calls to come, and tests alone use it yet: `fits`, `Header::write`, and of `DiskType` what it
-//! says besides heads, cylinders and track sizes.
+//! Some of it stands here for calls to come, and tests alone use it yet, or what they alone use: `fits`, `Header::write`,
+//! `push_front`, `push_record`, `push_end`, and of `DiskType` all but `from_type_byte`, `heads`, `most_cylinders`,
+//! `largest_record` and `device_word`.
 #![tactic(auto)]
 
 mod device;

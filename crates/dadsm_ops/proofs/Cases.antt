@@ -9,6 +9,7 @@ use Rattle.dscb_codec.specs.declared.Dscb.TheVariants as formats
 use Rattle.dscb_codec.specs.declared.F1.{F1}
 use Rattle.dscb_codec.specs.declared.F3.{F3}
 use Rattle.dscb_codec.specs.declared.F4.{F4}
+use Rattle.dscb_codec.specs.declared.F5.{F5}
 use Rattle.hall_core.specs.Files.{File}
 use Rattle.hall_core.specs.Laws.{other_name}
 use Rattle.pack_spec.specs.Label.{track_bytes}
@@ -323,3 +324,11 @@ module _ (f : F1) where
 -- Want of memory and a fault of the device are no refusals.
 refusals_alone_are_refusals : (refusal_answered {T = ℕ} (Err (Refused NoSet)) ≡ Some NoSet) × (refusal_answered {T = ℕ} (Err Memory) ≡ None) × (refusal_answered {T = ℕ} (Err Device) ≡ None) × (refusal_answered {T = ℕ} (Ok 1) ≡ None)
 refusals_alone_are_refusals = (refl, refl, refl, refl)
+
+-- Each refusal is answered as it is, not as the first one.
+each_refusal_is_answered : (r : Refusal) → refusal_answered {T = ℕ} (Err (Refused r)) ≡ Some r
+each_refusal_is_answered r = refl
+
+-- Nor does free space get a name.
+format_5_is_not_named : (f : F5) → under_name a (formats.F5 f) ≡ formats.F5 f
+format_5_is_not_named f = refl

@@ -24,6 +24,7 @@ use Rattle.vtoc_index.proofs.MountCases.{index_is_mounted}
 use Rattle.vtoc_index.proofs.PutCases.{c_stands, index_then, put, slot_is_put}
 use Rattle.vtoc_index.proofs.SmallPack.{a, b, c, data_set, f1, format_4, format_5, image, index, one_cylinder, slot_on, two_tracks, with_sets}
 use Rattle.dadsm_ops.specs.Operations.{IsDone, Operates, StandsForEither}
+use Rattle.dadsm_ops.specs.Through.{IsBeforeOr}
 use Rattle.dadsm_ops.proofs.Operating.{LeadsTo, operates}
 use Rattle.dadsm_ops.proofs.RenamedImages.{StandsAfter, rename_stands, volume_on_image}
 use Rattle.dadsm_ops.proofs.RenameSetCases.{can_be_renamed, dsn, mounted_then}
@@ -83,6 +84,10 @@ module _ (any : Vol) where
     durable = λ x left. left;
     changes = record { others = λ name apart. rw (other_name pack name (λ same. apart (sym same))) refl; image = renamed.changes };
   }
+
+  -- Where the index has other slots than before, it is that of the image then.
+  renamed_index_is_the_images : IsBeforeOr (index any) put (index_then any)
+  renamed_index_is_the_images = inr (mounted_then any).index
 
   -- A stop in it leaves the image before or after it.
   rename_operates : Operates {T = ℕ} pack step (index_then any) (resting (files 7 image)) (later (files 7 put) (λ x. x ≡ files 7 put) (Either (files 7 image) (files 7 put))) (Ok 1)

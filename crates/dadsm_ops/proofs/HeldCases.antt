@@ -1,24 +1,27 @@
 -- The buffer behind a rename on the small pack, in which A, in the fourth slot, becomes C, and the calls of it. Each comment names what a near reading would let through.
-use Rattle.std.proofs.Common.{◌≡◌, ◌≤◌, ◌<◌, ◌+◌, ⊎_elim, inl, inr, ℕ, List, [], ◌∷◌, drop, get_or, take, Option, Some, None, refl, sym, ap, subst, ◌∙◌, arith}
-use Rattle.std.specs.Prelude.{Ok, Err, slice_get, unwrap_or}
+use Rattle.std.proofs.Common.{◌≡◌, ◌≤◌, ◌<◌, ◌+◌, ⊎_elim, inl, inr, ℕ, List, [], ◌∷◌, ◌++◌, drop, get_or, replicate, take, Option, Some, None, refl, sym, ap, subst, ◌∙◌, arith}
+use Rattle.std.specs.Prelude.{Ok, Err, slice_get, slice_set, unwrap_or}
 use Rattle.std.specs.Option.{option_map}
+use Rattle.std.proofs.lemmas.List.{drop-drop}
+use Rattle.ckd_image.specs.Reading.{is_front, records_of}
 use Rattle.ckd_image.specs.Track.{Record}
 use Rattle.dscb_codec.specs.declared.Dscb.{Dscb}
 use Rattle.dscb_codec.specs.declared.Dscb.TheVariants as formats
 use Rattle.dscb_codec.specs.Layout.{IsDscb}
 use Rattle.hall_core.specs.Facts.{Calls, CallsAtMost, uncounted}
-use Rattle.hall_core.specs.Made.{Does, HallCall, HasDone, Printing, Syncing, Writing}
+use Rattle.hall_core.specs.Made.{Does, Giving, HallCall, HasDone, Noting, Printing, Reading, Syncing, Writing}
 use Rattle.track_records.specs.Buffers.{Buffer}
-use Rattle.track_records.specs.Calls.{Gives}
+use Rattle.track_records.specs.Calls.{Gives, records_by}
 use Rattle.track_records.specs.Updates.{HasLengths, with_parts}
+use Rattle.track_records.specs.Written.{place_of}
 use Rattle.vtoc_index.specs.Contents.{AreDscbs}
 use Rattle.vtoc_index.specs.Index.{slots_in_front, track_index}
-use Rattle.vtoc_index.specs.Puts.{Changed, Emptied, Held, HoldsDscb, HoldsPut, HoldsSlot, IsPutCall, IsReadUpTo, IsSeen, Read, Seen}
+use Rattle.vtoc_index.specs.Puts.{Broken, Changed, Emptied, Held, HoldsDscb, HoldsPut, HoldsSlot, IsPutCall, IsReadUpTo, IsSeen, Read, Seen}
 use Rattle.vtoc_index.specs.declared.vol.Vol.{Vol}
 use Rattle.vtoc_index.proofs.HeldLemmas.{key_held}
 use Rattle.vtoc_index.proofs.MadeCases.{buffer_behind_no_put, buffer_with, gave_longer, gave_track, gave_zeros, longer_key, nothing, read_and_noted, read_once, read_set_is_put_back, seen_track_is_emptied, uncalled}
 use Rattle.vtoc_index.proofs.PutCases.{c_stands}
-use Rattle.vtoc_index.proofs.SmallPack.{a, b, c, data_set, f1, f4, f5, four_slots, image, index, slots_are_read}
+use Rattle.vtoc_index.proofs.SmallPack.{a, b, c, data_set, f1, f4, f5, four_slots, image, index, one_cylinder, set_bytes, slots_are_read}
 use Rattle.dadsm_ops.specs.Naming.{HoldsNamed, HoldsRenamed, IsRenameCall, IsToRename, RenameCalls, RenamesEntry, WritesSlotNamed, under_name}
 use Rattle.dadsm_ops.specs.Through.{IsBeforeOr}
 
@@ -187,6 +190,16 @@ module _ (any : Vol) where
     λ calls. let wrong : 1 ≤ 0 = (calls.unwritten 3 to_rename (λ has. has)).2 in omega (arith, wrong),
   )
 
+  -- Of a rename that is done, where no sync was counted, it isn't asked here what the buffer has.
+  done_is_not_judged_by_lengths : Done (index any) (later c 2 []) (calls_of 1 1 0)
+  unfolding later calls_of
+  done_is_not_judged_by_lengths = record {
+    again = of_slot (λ (slot : ℕ). HoldsSlot (index any) slot → CallsAtMost 0 1 1 0 uncounted (calls_of 1 1 0)) (λ held. let wrong : 1 < 0 = held.1 in absurd (omega (arith, wrong)));
+    few = of_slot (λ (slot : ℕ). ¬ HoldsSlot (index any) slot → IsReadUpTo (slots_in_front (0 ∷ 2 ∷ []) slot + 1) []) (λ none. inl refl);
+    synced = λ (more : 0 < 0). absurd (omega (arith, more));
+    unwritten = tt;
+  }
+
   -- Where a slot is found, a write may fail behind which the index is as it was, or a sync behind which it has C.
   write_over_the_slot_may_fail : Fails (index any) (later a 2 (set_record b ∷ set_record a ∷ [])) (calls_of 1 1 0) × Fails (before 2 []) (later c 2 (set_record b ∷ set_record c ∷ [])) (calls_of 1 1 1)
   unfolding before later calls_of set_record
@@ -214,6 +227,45 @@ module _ (any : Vol) where
     λ calls. let wrong : 0xC3 ≡ 0xC1 = same_first (take 44 (data_set c)) a (key_there a 2 (set_record b ∷ set_record c ∷ []) (calls.synced (omega arith)).1) in omega (arith, wrong),
     λ calls. let wrong : 0xC2 ≡ 0xC3 = same_first (take 44 (data_set b)) c (key_there c 2 (set_record c ∷ set_record b ∷ []) (calls.synced (omega arith)).1) in omega (arith, wrong),
   )
+
+  -- two writes are made where the slot is held, or two syncs, or a print
+  one_write_where_it_is_held :
+      (¬ Done (before 2 both_sets) (later c 2 (set_record b ∷ set_record c ∷ [])) (calls_of 0 2 1))
+      × (¬ Done (before 2 both_sets) (later c 2 (set_record b ∷ set_record c ∷ [])) (calls_of 0 1 2))
+      × (¬ Done (before 2 both_sets) (later c 2 (set_record b ∷ set_record c ∷ [])) (record uncounted { writes = 1; syncs = 1; prints = 1 }))
+  unfolding before both_sets calls_of
+  one_write_where_it_is_held = (
+    λ calls. let wrong : 2 ≤ 1 = (calls.again 3 to_rename (refl, omega arith)).1 in omega (arith, wrong),
+    λ calls. let wrong : 2 ≤ 1 = (calls.again 3 to_rename (refl, omega arith)).2 in omega (arith, wrong),
+    λ calls. let wrong : 1 ≤ 0 = (calls.again 3 to_rename (refl, omega arith)).3 in omega (arith, wrong),
+  )
+
+  -- a second read is made where no slot is found, or a write over a record with the name and no data
+  one_read_over_no_slot :
+      (¬ Fails (index any) (later a 2 []) (calls_of 2 0 0))
+      × (¬ Fails (index any) (later a 2 (set_record b ∷ record { address = []; key = a; «data» = [] } ∷ [])) (calls_of 1 1 0))
+  unfolding later calls_of
+  one_read_over_no_slot = (
+    λ calls. let wrong : 2 ≤ 1 = (calls.unwritten 3 to_rename (λ has. has)).0 in omega (arith, wrong),
+    λ calls. let wrong : 1 ≤ 0 = (calls.unwritten 3 to_rename (λ has. let none : 96 ≡ 0 = has.1 in omega (arith, none))).1 in omega (arith, wrong),
+  )
+
+  -- Behind a sync the buffer has C, and the index too, but that has another set under another name.
+  other_set_of_the_index_stays : ¬ Fails (before 2 []) (record (later c 2 (set_record b ∷ set_record c ∷ [])) { slots = record (index any).slots { items = formats.F4 f4 ∷ formats.F5 f5 ∷ formats.F1 (f1 a) ∷ formats.F1 (f1 c) ∷ [] } }) (calls_of 1 1 1)
+  unfolding before later calls_of
+  other_set_of_the_index_stays calls =
+      let entry = (calls.synced (omega arith)).0 in
+      let slot : 3 ≡ entry.slot = renames_the_fourth entry.slot entry.found in
+      let wrong : 0xC1 ≡ 0xC2 = ap (λ (all : List Dscb). letter all 2) entry.slots ∙ sym (ap (λ (k : ℕ). letter (slice_set (index any).slots.items k (under_name c entry.dscb)) 2) slot) in
+      omega (arith, wrong)
+    where
+      -- the first letter of the name in a slot, or 0 where the slot has no set
+      letter : List Dscb → ℕ → ℕ
+      letter all slot = of (get_or all slot formats.F0)
+        where
+          of : Dscb → ℕ
+          of (formats.F1 set) = get_or set.name 0 0
+          of d = 0
 
   -- C was written
   wrote_c : HallCall → Type 0
@@ -278,6 +330,67 @@ module _ (any : Vol) where
       bytes_in (Writing unit at bytes) = bytes
       bytes_in call = []
 
+  -- the bytes that a call writes
+  abbrev written_in : HallCall → List ℕ
+  written_in (Writing unit at bytes) = bytes
+  written_in call = []
+
+  -- of the write of a rename that they are those of the DSCB under C
+  c_is_written : {done : HallCall → Type 0} (call : HallCall) → WritesSlotNamed a c (before 2 both_sets) done call → IsDscb (formats.F1 (f1 c)) (written_in call)
+  unfolding before both_sets
+  c_is_written call names =
+      let slot = sym (renames_the_fourth names.slot names.found) in
+      let held : Some (formats.F1 (f1 a)) ≡ Some names.dscb = subst (λ (n : ℕ). slice_get (index any).slots.items n ≡ Some names.dscb) slot names.held in
+      let dscb : names.dscb ≡ formats.F1 (f1 a) = cc in
+      let bytes : names.writes.bytes ≡ written_in call = sym (ap (λ (call : HallCall). written_in call) names.writes.writes) in
+      subst (IsDscb (formats.F1 (f1 c))) bytes (subst (λ (d : Dscb). IsDscb (under_name c d) names.writes.bytes) dscb names.writes.dscb)
+
+  -- another byte than one of the name is written: the first of the serial
+  byte_behind_the_name_is_written : ¬ IsRenameCall a c (before 2 both_sets) nothing (Writing 0 8881 (c ++ 0xF1 ∷ 0 ∷ drop 2 set_bytes))
+  byte_behind_the_name_is_written call =
+      let stands = c_is_written (Writing 0 8881 (c ++ 0xF1 ∷ 0 ∷ drop 2 set_bytes)) (written call) in
+      let wrong : 0 ≡ 0xD7 = ap (λ (l : List ℕ). get_or l 0 0) stands.1.1.0 in
+      omega (arith, wrong)
+    where
+      written : {done : HallCall → Type 0} {at : ℕ} {bytes : List ℕ} → IsRenameCall a c (before 2 both_sets) done (Writing 0 at bytes) → WritesSlotNamed a c (before 2 both_sets) done (Writing 0 at bytes)
+      written =
+          ⊎_elim
+          (λ names. ⊎_elim
+          (λ is. let no = is.0 in absurd (cc no))
+          (⊎_elim (λ is. let no = is.0 in absurd (cc no)) (λ is. record { slot = names.slot; found = names.found; dscb = names.dscb; held = names.held; writes = is }))
+          names.puts)
+          (λ synced. let no = synced.0 in absurd (cc no))
+
+  -- a sync is made where another write was done: that of the slot as it was
+  sync_behind_another_write : ¬ IsRenameCall a c (before 2 both_sets) (λ call. call ≡ Writing 0 8881 (data_set a)) Syncing
+  sync_behind_another_write = ⊎_elim (λ names. puts_not names.puts) (λ synced. none_done synced.1)
+    where
+      puts_not : {v : Vol} {slot : ℕ} {d : Dscb} {done : HallCall → Type 0} → ¬ IsPutCall v slot d done Syncing
+      puts_not = ⊎_elim (λ is. let no = is.0 in cc no) (⊎_elim (λ is. let no = is.0 in cc no) (λ is. let no = is.writes in cc no))
+
+      none_done : {done : HallCall → Type 0} → ¬ HasDone (WritesSlotNamed a c (before 2 both_sets) done) (λ call. call ≡ Writing 0 8881 (data_set a))
+      none_done (Does call is was) =
+          let stands = subst (IsDscb (formats.F1 (f1 c))) (ap (λ (call : HallCall). written_in call) was) (c_is_written call is) in
+          let wrong : 0xC1 ≡ 0xC3 = ap (λ (l : List ℕ). get_or l 0 0) stands.0 in
+          omega (arith, wrong)
+
+  -- The track is read where the slot isn't held, and not where it is; and noted where bytes were given that are none.
+  track_is_read_or_noted :
+      IsRenameCall a c (index any) nothing (Reading 0 8704 4096)
+      × (¬ IsRenameCall a c (before 2 both_sets) nothing (Reading 0 8704 4096))
+      × IsRenameCall a c (index any) (λ call. call ≡ Giving 3 0 8704 (replicate 4096 0)) (Noting 0 2)
+  unfolding before both_sets records_of is_front
+  track_is_read_or_noted = (
+    inl (record { slot = 3; found = to_rename; dscb = formats.F1 (f1 a); held = refl; puts = inl (refl, λ held. let wrong : 1 < 0 = held.1 in omega (arith, wrong)) }),
+    ⊎_elim
+        (λ names. ⊎_elim (λ is. is.1 (of_slot (HoldsSlot (before 2 both_sets)) (refl, omega arith) names.slot names.found)) (⊎_elim (λ is. let no = is.0 in cc no) (λ is. let no = is.writes in cc no)) names.puts)
+        (λ synced. let no = synced.0 in cc no),
+    inl (record { slot = 3; found = to_rename; dscb = formats.F1 (f1 a); held = refl; puts = inr (inl (refl, Broken (λ held. let wrong : 2 ≤ 0 = held.1 in omega (arith, wrong)) (Gives (replicate 4096 0) refl refl none))) }),
+  )
+    where
+      none : records_by one_cylinder (Some 2) 2 (replicate 4096 0) ≡ None
+      none = refl
+
   -- a buffer of the pack with this track and these records
   behind : ℕ → List Record → Buffer
   behind track records = record (index any).buf { track = track; records = records }
@@ -316,6 +429,28 @@ module _ (any : Vol) where
   both_are_seen buf (Held held same) = same
   both_are_seen buf (Read not same given) = absurd (not (refl, omega arith))
 
+  -- the write of a rename is of another slot than that of A, or of other bytes behind the name
+  other_slot_is_written : ¬ WritesSlotNamed a c (before 2 both_sets) nothing (Writing 0 8733 (data_set c))
+  unfolding before both_sets set_record
+  other_slot_is_written names =
+      let slot = sym (renames_the_fourth names.slot names.found) in
+      let seen : IsSeen (before 2 both_sets).buf 2 2 nothing names.writes.buf =
+      subst (λ (k : ℕ). IsSeen (before 2 both_sets).buf (1 + track_index (0 ∷ 2 ∷ []) k) (slots_in_front (0 ∷ 2 ∷ []) k + 1) nothing names.writes.buf) slot names.writes.seen in
+      let at : 8733 ≡ names.writes.at = ap (λ (call : HallCall). at_in call) names.writes.writes in
+      let there : place_of names.writes.buf 1 ≡ 8881 = ap (λ (b : Buffer). place_of b 1) (both_are_seen names.writes.buf seen) in
+      let wrong : 8733 ≡ 8881 = at ∙ names.writes.place ∙ ap (λ (k : ℕ). place_of names.writes.buf (slots_in_front (0 ∷ 2 ∷ []) k)) slot ∙ there in
+      omega (arith, wrong)
+    where
+      at_in : HallCall → ℕ
+      at_in (Writing unit at bytes) = at
+      at_in call = 0
+
+  other_bytes_are_written : ¬ WritesSlotNamed a c (before 2 both_sets) nothing (Writing 0 8881 (c ++ 0xF1 ∷ 0 ∷ drop 2 set_bytes))
+  other_bytes_are_written names =
+      let stands = c_is_written (Writing 0 8881 (c ++ 0xF1 ∷ 0 ∷ drop 2 set_bytes)) names in
+      let wrong : 0 ≡ 0xD7 = ap (λ (l : List ℕ). get_or l 0 0) stands.1.1.0 in
+      omega (arith, wrong)
+
   letters_behind : (buf : Buffer) → PutsC nothing uncalled both_sets buf → HasLetters buf
   unfolding before both_sets set_record letter_in
   letters_behind buf (Emptied not unread same) = absurd (not (refl, omega arith))
@@ -344,6 +479,23 @@ module _ (any : Vol) where
     λ leaves. let wrong : 0xC3 ≡ 0xC2 = (letters_behind (behind 2 (set_record c ∷ set_record a ∷ [])) (c_is_put both_sets _ leaves)).1.0 in omega (arith, wrong),
     λ leaves. let wrong : 0xC2 ≡ 0xC3 = (letters_behind (behind 2 (set_record b ∷ set_record b ∷ [])) (c_is_put both_sets _ leaves)).1.1 in omega (arith, wrong),
   )
+
+  -- it has C in place of A, but not the rest of what stood there: another serial
+  rest_of_the_set_is_behind : ¬ Leaves nothing uncalled both_sets (behind 2 (set_record b ∷ record { address = []; key = c; «data» = 0xF1 ∷ 0 ∷ drop 2 set_bytes } ∷ []))
+  unfolding behind before both_sets set_record
+  rest_of_the_set_is_behind leaves = serial_is _ (c_is_put both_sets _ leaves) refl
+    where
+      data_in : Buffer → List ℕ
+      data_in buf = unwrap_or (option_map (λ (x : Record). x.data) (slice_get buf.records 1)) []
+
+      serial_is : (buf : Buffer) → PutsC nothing uncalled both_sets buf → ¬ (data_in buf ≡ 0xF1 ∷ 0 ∷ drop 2 set_bytes)
+      serial_is buf (Emptied not unread same) is = not (refl, omega arith)
+      serial_is buf (Seen seen lacks) is = lacks (subst (λ (b : Buffer). HasLengths b.records 1 44 96) (sym (both_are_seen buf seen)) (refl, refl))
+      serial_is buf (Changed held seen bytes dscb size lengths same) is =
+          let put : data_in buf ≡ drop 44 bytes = ap data_in same ∙ ap (λ (b : Buffer). data_in (record b { records = with_parts 1 (take 44 bytes) (drop 44 bytes) b.records })) (both_are_seen held seen) in
+          let rest : drop 1 (0xF1 ∷ 0 ∷ drop 2 set_bytes) ≡ drop 45 bytes = ap (drop 1) (sym is ∙ put) ∙ drop-drop 1 44 bytes in
+          let wrong : 0 ≡ 0xD7 = ap (λ (l : List ℕ). get_or l 0 0) (ap (take 6) rest ∙ dscb.1.1.0) in
+          omega (arith, wrong)
 
   -- Where it had no record of the track, it has none if nothing but the read was called, or the bytes that were given break the grammar; and the track with a longer key, where that was given.
   no_set_is_behind :

@@ -186,6 +186,23 @@ module _ (image next : List ℕ) (volume after : Volume) (v : Vol) (mounted : Is
       no_memory_changes_nothing : next ≢ image → ¬ Operates {T = ℕ} pack operation v (resting (files 7 image)) (later (files 7 next) (λ x. x ≡ files 7 next) (Either (files 7 image) (files 7 next))) (Err Memory)
       no_memory_changes_nothing apart operates = apart (ap (λ (all : List File). image_named all pack) (operates.memory refl).state)
 
+      -- memory ran out, and a write is pending
+      no_memory_leaves_no_write : (new : Meaning (List File)) → new.left (files 7 next) → next ≢ image → ¬ Operates {T = ℕ} pack operation v (resting (files 7 image)) new (Err Memory)
+      no_memory_leaves_no_write new left apart operates = apart (ap (λ (all : List File). image_named all pack) (((operates.memory refl).left (files 7 next)).0 left))
+
+      -- Where the device failed, the write may be read, and a stop may leave it or not.
+      fault_may_come_behind_the_write : Operates {T = ℕ} pack operation v (resting (files 7 image)) (later (files 7 next) (Either (files 7 image) (files 7 next)) (Either (files 7 image) (files 7 next))) (Err Device)
+      unfolding operates
+      fault_may_come_behind_the_write = record {
+        volume = volume;
+        before = stands;
+        answer = tt;
+        idle = λ r refused. let wrong = sym step ∙ refused in absurd (cc);
+        printed = refl;
+        moments = record { later = operates.moments.later; moments = operates.moments.moments; keeps = operates.moments.keeps };
+        memory = λ is. absurd (let wrong = is in cc);
+      }
+
     -- its step is refused
     module _ (r : Refusal) (step : operation volume ≡ Err r) where
       refused : {T : Type 0} (new : Meaning (List File)) (result : Result T StoreErr) → Operates pack operation v (resting (files 7 image)) new result → Same (resting (files 7 image)) new

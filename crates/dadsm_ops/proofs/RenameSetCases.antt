@@ -25,7 +25,7 @@ use Rattle.vtoc_index.proofs.PutCases.{c_stands, index_then, put, slot_is_put, s
 use Rattle.vtoc_index.proofs.PutLaw.{slot_put}
 use Rattle.vtoc_index.proofs.SmallPack.{Holds, a, b, c, data_set, f1, format_4, format_5, four_slots, holds, image, index, name, one_cylinder, set_bytes, slot_on, slots_are_read, two_tracks, with_sets}
 use Rattle.dadsm_ops.specs.Naming.{RenamesSet, RenamesSome, named_bytes}
-use Rattle.dadsm_ops.proofs.RenameChains.{one_renamed, one_to_do}
+use Rattle.dadsm_ops.proofs.RenameChains.{none_renamed, one_renamed, one_to_do}
 use Rattle.dadsm_ops.proofs.RenamedImages.{CanRename, rename_put}
 use Rattle.dadsm_ops.proofs.SmallFiles.{byte, files, other_byte, pack}
 use Rattle.dadsm_ops.proofs.Writes.{other_file}
@@ -239,6 +239,14 @@ refused_rename_is_left_out any = inl (one_renamed pack 0 (dsn a) (dsn c) [] befo
 renames_are_done_in_turn : Vol → RenamesSome pack (rename a c ∷ rename c d ∷ []) before (having (data_set b) (data_set d))
 renames_are_done_in_turn any =
     inr (having (data_set b) (data_set c), set_is_renamed any, one_renamed pack 0 (dsn c) (dsn d) [] (having (data_set b) (data_set c)) (having (data_set b) (data_set d)) (set_is_renamed_again any))
+
+-- None of them need be done, nor those behind one that is.
+renames_may_be_left_out : Vol → RenamesSome pack (rename a c ∷ rename c d ∷ []) before before × RenamesSome pack (rename a c ∷ rename c d ∷ []) before (having (data_set b) (data_set c))
+renames_may_be_left_out any = (none_renamed pack (rename a c ∷ rename c d ∷ []) before, one_renamed pack 0 (dsn a) (dsn c) (rename c d ∷ []) before (having (data_set b) (data_set c)) (set_is_renamed any))
+
+-- Of what volume an operation is, isn't said here.
+volume_of_a_rename_is_not_judged : Vol → RenamesSome pack (Rename 1 (dsn a) (dsn c) ∷ []) before (having (data_set b) (data_set c))
+volume_of_a_rename_is_not_judged any = one_renamed pack 1 (dsn a) (dsn c) [] before (having (data_set b) (data_set c)) (set_is_renamed any)
 
 -- a byte that no rename has is another
 changed_by_a_rename : (after : List File) (at : ℕ) → byte at after ≢ byte at before → byte at after ≢ byte at (having (data_set b) (data_set c)) → ¬ RenamesSome pack (rename a c ∷ []) before after

@@ -60,6 +60,16 @@ covered :
     × (covers 0 [] 0 ≡ true)
 covered = (refl, refl, refl, refl, refl, refl)
 
+-- nor do fields whose lengths are together those of all bytes, where one begins late or early, the first doesn't begin at the front, or two are exchanged
+begun :
+    (covers 0 (byte 0 7 ∷ half 2 7 ∷ word 3 7 ∷ []) 7 ≡ false)
+    × (covers 0 (byte 0 7 ∷ half 0 7 ∷ word 3 7 ∷ []) 7 ≡ false)
+    × (covers 0 (byte 1 7 ∷ half 1 7 ∷ []) 3 ≡ false)
+    × (covers 1 (byte 0 7 ∷ half 2 7 ∷ []) 4 ≡ false)
+    × (covers 0 (half 1 7 ∷ byte 0 7 ∷ []) 3 ≡ false)
+    × (covers 1 (byte 1 7 ∷ half 2 7 ∷ []) 4 ≡ true)
+begun = (refl, refl, refl, refl, refl, refl)
+
 -- a field holds its first and its last byte, and neither neighbour
 held : (holds_byte 50 (half 51 7) ≡ false) × (holds_byte 51 (half 51 7) ≡ true) × (holds_byte 52 (half 51 7) ≡ true) × (holds_byte 53 (half 51 7) ≡ false)
 held = (refl, refl, refl, refl)
@@ -86,6 +96,10 @@ dscbs :
     × (¬ HasFields (1 ∷ 2 ∷ []) (byte 0 1 ∷ byte 1 3 ∷ []))
     × (¬ HasFields (1 ∷ []) (byte 0 1 ∷ half 0 1 ∷ []))
 dscbs = (refl, λ is. cc, (refl, (refl, tt)), λ has. let second = has.1.0 in cc, λ has. let second = has.1.0 in cc)
+
+-- the first field counts as the last does, and no field is wanted of any bytes
+each_field : (¬ HasFields (1 ∷ 2 ∷ []) (byte 0 3 ∷ byte 1 2 ∷ [])) × HasFields (1 ∷ 2 ∷ []) []
+each_field = (λ has. let first = has.0 in cc, tt)
 
 -- a format 5 with this id and so many rows in front
 free_space : ℕ → ℕ → Dscb

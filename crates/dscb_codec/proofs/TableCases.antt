@@ -1,5 +1,5 @@
 -- The tables of fields, on bytes that are their offsets but for that of the format, so that each field has its own.
-use Rattle.std.specs.Prelude.{ℕ, ◌≡◌, ◌-◌, ◌^◌, true, false, List, [], ◌∷◌, ◌++◌}
+use Rattle.std.specs.Prelude.{ℕ, ◌≡◌, ◌-◌, ◌^◌, true, false, List, [], ◌∷◌, ◌++◌, replicate}
 use Rattle.std.specs.List.{range_with_len}
 use Rattle.std.proofs.Common.{get_or, refl, ap, arith}
 use Rattle.dscb_codec.specs.declared.Dscb.TheVariants as formats
@@ -183,6 +183,13 @@ unfit_in_format_5 :
     × (¬ FitsTypes (formats.F5 (record free { front = extent 4 ∷ extent 14 ∷ extent 24 ∷ extent 34 ∷ extent 4 ∷ extent 14 ∷ extent 24 ∷ extent 34 ∷ [] })))
     × (¬ FitsTypes (formats.F5 (record free { back = entry 45 ∷ entry 50 ∷ entry 55 ∷ entry 60 ∷ entry 65 ∷ entry 70 ∷ entry 75 ∷ entry 80 ∷ [] })))
 unfit_in_format_5 = (λ fits. omega (arith, fits.0.0), λ fits. omega (arith, fits.1.0), λ fits. omega (arith, fits.1.1.0), λ fits. omega (arith, fits.2.0))
+
+-- each row has its bytes, up to the last: ten in both parts of a format 3, and five behind the format byte of a format 5 too
+uneven_rows :
+    (¬ FitsTypes (formats.F3 (record further { front = extent 4 ∷ extent 14 ∷ extent 24 ∷ entry 34 ∷ [] })))
+    × (¬ FitsTypes (formats.F3 (record further { back = extent 45 ∷ extent 55 ∷ extent 65 ∷ extent 75 ∷ extent 85 ∷ extent 95 ∷ extent 105 ∷ extent 115 ∷ entry 125 ∷ [] })))
+    × (¬ FitsTypes (formats.F5 (record free { back = extent 45 ∷ replicate 17 (entry 50) })))
+uneven_rows = (λ fits. omega (arith, fits.1.1.1.1.1.0), λ fits. omega (arith, fits.2.1.1.1.1.1.1.1.1.1.0), λ fits. omega (arith, fits.2.1.0))
 
 -- each byte lies in one field
 all_covered :

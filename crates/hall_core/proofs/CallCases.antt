@@ -1,15 +1,15 @@
 -- What calls may do to what a hall means, on cases at which near readings of the definitions say otherwise.
-use Rattle.std.proofs.Common.{◌≡◌, ◌≤◌, ◌⊎◌, ⊎_elim, inl, inr, ℕ, zero, suc, List, [], ◌∷◌, ◌++◌, ◌∙◌, length, get_or, refl, sym, ap, arith, lit≤, true}
+use Rattle.std.proofs.Common.{◌≡◌, ◌≤◌, ◌⊎◌, ⊎_elim, inl, inr, ℕ, zero, suc, List, [], ◌∷◌, ◌++◌, ◌∙◌, length, get_or, refl, sym, ap, arith, lit<, lit≤, true}
 use Rattle.std.specs.Prelude.{Ok, Err, Result}
 use Rattle.hall_core.specs.declared.hall.HallErr.{HallErr}
 use Rattle.hall_core.specs.declared.hall.HallErr.TheVariants.{Missing, Failed, Memory}
 use Rattle.hall_core.specs.Cards.{GivesNext}
 use Rattle.hall_core.specs.Files.{File, patched, written, Attaches, IsPending, AfterWrite, AfterSync, AfterPrint, untold}
-use Rattle.hall_core.specs.History.{wrote, synced, printed, passed, with_write, with_writes, meaning_after}
+use Rattle.hall_core.specs.History.{Write, wrote, synced, printed, passed, with_write, with_writes, meaning_after}
 use Rattle.hall_core.specs.HistoryLaws.{nothing_kept, since_now}
 use Rattle.hall_core.specs.Made.{DoneSince, HallCall, HasDone, Does, MakesOnce, MakesOnly, StaysDone, Attaching, Giving, Lacking, Noting, Printing, Reading, Syncing, Writing}
 use Rattle.hall_core.specs.Moments.{Meaning}
-use Rattle.hall_core.proofs.CallLemmas.{same_passed, write_done, write_failed, write_lacking, sync_done, sync_failed, print_done, print_failed}
+use Rattle.hall_core.proofs.CallLemmas.{same_passed, same_still, write_done, write_failed, write_lacking, sync_done, sync_failed, sync_lacking, print_done, print_failed, print_lacking}
 use Rattle.hall_core.proofs.StepLemmas.{write_leaves}
 use Rattle.hall_core.proofs.HistoryCases.{holds, files, first_byte, second_byte, nine, failed}
 
@@ -138,11 +138,34 @@ write_is_pending j = (
   λ before. let (d, left, either) = before in ⊎_elim (λ out. ([], out ∙ left_at_first d left)) (λ kept. (true ∷ [], kept ∙ ap (λ (l : List File). with_write l nine) (left_at_first d left))) either,
 )
 
+-- one that failed may be pending and be read too
+write_fails_and_is_read : AfterWrite nine.name 1 (9 ∷ []) at_first behind_write fails
+write_fails_and_is_read = record { printed = write_is_done.printed; done = tt; failed = inr write_is_done.done; pending = inl write_is_pending; ticks = tt; time = write_is_done.time }
+
 none_is_pending : ¬ IsPending nine.name 1 (9 ∷ []) at_first behind_none
 none_is_pending pending = differ (sym (left_at_first _ ((pending (with_write files nine)).1 (files, ([], refl), inr refl))))
 
 durable_is_pending : ¬ IsPending nine.name 1 (9 ∷ []) at_first behind_sync
 durable_is_pending pending = differ (left_behind_sync files ((pending files).1 (files, ([], refl), inl refl)))
+
+-- over a write that is pending already, and isn't made durable by it: a stop may leave out either
+abbrev at_front : Write
+at_front = record nine { at = 0 }
+
+write_over_pending : AfterWrite nine.name 0 (9 ∷ []) behind_write (meaning_after files (wrote nine ∷ wrote at_front ∷ [])) done
+write_over_pending = write_done files (wrote nine ∷ []) at_front refl
+
+second_is_pending : IsPending nine.name 0 (9 ∷ []) behind_write (meaning_after files (wrote nine ∷ wrote at_front ∷ []))
+second_is_pending j = ⊎_elim (λ (pending : IsPending nine.name 0 (9 ∷ []) behind_write (meaning_after files (wrote nine ∷ wrote at_front ∷ []))). pending j) (λ absent. absurd (cc absent.0)) write_over_pending.pending
+
+first_is_durable : ¬ IsPending nine.name 0 (9 ∷ []) behind_write (meaning_after files (wrote nine ∷ synced ∷ wrote at_front ∷ []))
+unfolding written patched
+first_is_durable pending =
+    let write : AfterWrite nine.name 0 (9 ∷ []) behind_sync (meaning_after files (wrote nine ∷ synced ∷ wrote at_front ∷ [])) done = write_done files (wrote nine ∷ synced ∷ []) at_front refl in
+    ⊎_elim
+    (λ out. let tail : 2 ≡ 9 = ap second_byte out in absurd (omega (arith, tail)))
+    (λ kept. let tail : 2 ≡ 9 = ap second_byte kept in absurd (omega (arith, tail)))
+    (write_leaves left_behind_sync write files ((pending files).1 (files, files_behind_write, inl refl)))
 
 other_is_pending : ¬ IsPending nine.name 1 (9 ∷ []) at_first (record behind_write { left = λ j. Unit {0} })
 unfolding written patched
@@ -160,6 +183,10 @@ sync_is_done = sync_done files (wrote nine ∷ [])
 sync_fails : AfterSync behind_write behind_failed_sync fails
 sync_fails = sync_failed files (wrote nine ∷ []) Failed
 
+-- one that failed may take no time
+sync_begins_not : AfterSync behind_write behind_write fails
+sync_begins_not = sync_lacking files (wrote nine ∷ []) Failed
+
 sync_leaves_it_pending : ¬ AfterSync behind_write behind_failed_sync done
 unfolding written patched
 sync_leaves_it_pending sync = differ (sync.done files ([], refl))
@@ -174,11 +201,19 @@ sync_prints sync = absurd (cc sync.printed)
 sync_undoes_it : ¬ AfterSync behind_write (record behind_sync { state = files; left = λ j. j ≡ files }) done
 sync_undoes_it sync = differ sync.state
 
+-- nor where it failed
+sync_fails_and_undoes_it : ¬ AfterSync behind_write (record behind_failed_sync { state = files }) fails
+sync_fails_and_undoes_it sync = differ sync.state
+
 sync_takes_no_time : ¬ AfterSync behind_write (record behind_sync { clock = 1 }) done
 sync_takes_no_time sync = absurd (omega (arith, sync.ticks))
 
 sync_is_not_stopped_within : ¬ AfterSync behind_write (record behind_sync { left_since = λ t j p. (j ≡ with_write files nine) × (p ≡ []) }) done
 sync_is_not_stopped_within sync = differ ((sync.time.since 0 files [] (lit≤ tt)).1 (inr (files_behind_write, refl))).0
+
+-- and that by itself, also where none was said to have left it before
+sync_is_stopped_behind_alone : ¬ AfterSync (record behind_write { left_since = λ t j p. ⊥ }) (record behind_sync { left_since = λ t j p. (j ≡ with_write files nine) × (p ≡ []) }) done
+sync_is_stopped_behind_alone sync = differ ((sync.time.since 0 files [] (lit≤ tt)).1 (inr (files_behind_write, refl))).0
 
 -- a print that is done printed all, one that failed a prefix; and a stop in it leaves each prefix of what was printed
 pub print_is_done : AfterPrint ab at_first behind_print done
@@ -191,6 +226,17 @@ print_fails_within : AfterPrint ab at_first behind_half fails
 print_fails_within =
     let half = print_done files [] (97 ∷ []) in
     record { state = half.state; left = half.left; done = tt; prefix = (97 ∷ [], (98 ∷ [], refl), refl); ticks = tt; time = half.time }
+
+-- that prefix may be all of it; and one that failed may take no time
+print_fails_at_the_end : AfterPrint ab at_first behind_print fails
+print_fails_at_the_end = record { state = print_is_done.state; left = print_is_done.left; done = tt; prefix = print_is_done.prefix; ticks = tt; time = print_is_done.time }
+
+print_begins_not : AfterPrint ab at_first at_first fails
+print_begins_not = print_lacking files [] ab Failed
+
+-- a stop in a print may leave out a write that is pending, though it is read
+print_over_pending : AfterPrint ab behind_write (meaning_after files (wrote nine ∷ printed ab ∷ [])) done
+print_over_pending = print_done files (wrote nine ∷ []) ab
 
 print_is_done_within : ¬ AfterPrint ab at_first behind_half done
 print_is_done_within print = let size : 1 ≡ 2 = ap length print.done in absurd (omega (arith, size))
@@ -220,6 +266,14 @@ print_leaves_more print = differ (sym (left_at_first _ ((print.left (with_write 
 print_takes_no_time : ¬ AfterPrint ab at_first (record behind_print { clock = 0 }) done
 print_takes_no_time print = absurd (omega (arith, print.ticks))
 
+-- a call may take more than one moment
+calls_take_longer : AfterWrite nine.name 1 (9 ∷ []) at_first (record behind_write { clock = 7 }) done × AfterSync behind_write (record behind_sync { clock = 7 }) done × AfterPrint ab at_first (record behind_print { clock = 7 }) done
+calls_take_longer = (
+  record { printed = write_is_done.printed; done = write_is_done.done; failed = tt; pending = inl write_is_pending; ticks = lit< tt; time = record { later = lit≤ tt; since = write_is_done.time.since } },
+  record { state = sync_is_done.state; printed = sync_is_done.printed; done = sync_is_done.done; failed = tt; ticks = lit< tt; time = record { later = lit≤ tt; since = sync_is_done.time.since } },
+  record { state = print_is_done.state; left = print_is_done.left; done = print_is_done.done; prefix = print_is_done.prefix; ticks = lit< tt; time = record { later = lit≤ tt; since = print_is_done.time.since } },
+)
+
 print_is_not_stopped_within : ¬ AfterPrint ab at_first (record behind_print { left_since = λ t j p. (p ≡ []) ⊎ (p ≡ ab) }) done
 print_is_not_stopped_within print = ⊎_elim
     (λ (is : 97 ∷ [] ≡ []). absurd (cc is))
@@ -232,6 +286,16 @@ attach_is_done = record { same = same_passed files []; there = (_, refl); missin
 
 attach_is_missing : Attaches [] at_first behind_none (Err Missing)
 attach_is_missing = record { same = same_passed files []; there = tt; missing = λ is. refl; memory = λ is. absurd (cc is) }
+
+-- where the device fails, the file may be there or not; where memory is wanting, it may be there too
+attach_fails : Attaches nine.name at_first behind_none (Err Failed) × Attaches [] at_first behind_none (Err Failed)
+attach_fails = (
+  record { same = same_passed files []; there = tt; missing = λ is. absurd (cc is); memory = λ is. absurd (cc is) },
+  record { same = same_passed files []; there = tt; missing = λ is. absurd (cc is); memory = λ is. absurd (cc is) },
+)
+
+attach_wants_memory : Attaches nine.name at_first at_first (Err Memory)
+attach_wants_memory = record { same = same_still files []; there = tt; missing = λ is. absurd (cc is); memory = λ is. refl }
 
 attach_of_none : ¬ Attaches [] at_first behind_none (Ok 0)
 attach_of_none attach = absurd (cc attach.there.1)
@@ -265,6 +329,13 @@ some_given = record { next = refl; end = (λ none. absurd (omega (arith, none)),
 
 end_given : Gives [] [] (9 ∷ []) (Ok 0)
 end_given = record { next = refl; end = (λ none. refl, λ none. refl); failed = tt }
+
+-- the last bytes are given before the end is told; and a failure keeps what is to come
+last_given : Gives (1 ∷ []) [] (1 ∷ []) (Ok 1)
+last_given = record { next = refl; end = (λ none. absurd (omega (arith, none)), λ none. absurd (cc none)); failed = tt }
+
+failure_takes_none : Gives (1 ∷ 2 ∷ []) (1 ∷ 2 ∷ []) (9 ∷ []) (Err tt)
+failure_takes_none = record { next = tt; end = tt; failed = refl }
 
 none_given_before_the_end : ¬ Gives (1 ∷ []) (1 ∷ []) (9 ∷ []) (Ok 0)
 none_given_before_the_end gives = absurd (cc (gives.end.0 refl))
@@ -304,6 +375,10 @@ other_call_is_made : ¬ MakesOnly (λ call. call ≡ Printing []) (λ call. 0) s
 unfolding synced_once
 other_call_is_made only = let wrong : 1 ≤ 0 = only Syncing (λ is. cc is) in omega (arith, wrong)
 
+-- What was made before may stand, or a count fall, where another call may be made.
+sync_was_made_before : MakesOnly (λ call. call ≡ Printing []) synced_once synced_once × MakesOnly (λ call. call ≡ Printing []) synced_once (λ call. 0)
+sync_was_made_before = (λ call other. omega arith, λ call other. omega arith)
+
 -- two syncs were made
 synced_twice : HallCall → ℕ
 synced_twice Syncing = 2
@@ -317,6 +392,11 @@ read_each call = 0
 first_twice : HallCall → ℕ
 first_twice (Reading zero zero (suc zero)) = 2
 first_twice call = 0
+
+-- Where one read may be made, none of other bytes was.
+other_read_is_made : ¬ MakesOnly (λ call. call ≡ Reading 0 0 1) (λ call. 0) read_each
+unfolding read_each
+other_read_is_made only = let wrong : 1 ≤ 0 = only (Reading 0 0 2) (λ is. cc is) in omega (arith, wrong)
 
 -- One sync is made once, also where there was one before; two aren't.
 sync_is_made_once : MakesOnce (λ call. 0) synced_once × MakesOnce synced_once synced_twice × (¬ MakesOnce (λ call. 0) synced_twice)
@@ -389,6 +469,13 @@ one_is_done = (Does _ refl refl, another, none)
 
     none : ¬ HasDone (λ call. call ≡ Writing 0 5 (1 ∷ [])) (λ call. ⊥)
     none (Does call is was) = was
+
+-- Of two calls it is enough that one was done; and of no call none was.
+one_of_two_is_done : HasDone (λ call. (call ≡ Syncing) ⊎ (call ≡ Printing [])) (λ call. call ≡ Syncing) × (¬ HasDone (λ call. ⊥) (λ call. call ≡ Syncing))
+one_of_two_is_done = (Does Syncing (inl refl) refl, none)
+  where
+    none : ¬ HasDone (λ call. ⊥) (λ call. call ≡ Syncing)
+    none (Does call is was) = is
 
 -- What is said of a print isn't taken back by what says it of more, and is by what says it of a sync alone.
 done_stays : StaysDone (λ call. call ≡ Printing []) (λ call. (call ≡ Syncing) ⊎ (call ≡ Printing [])) × (¬ StaysDone (λ call. call ≡ Printing []) (λ call. call ≡ Syncing))

@@ -3,7 +3,7 @@ use Rattle.std.proofs.Common.{◌≡◌, ◌≢◌, ◌<◌, ◌-◌, ◌^◌, �
 use Rattle.std.specs.Prelude.{Option, Ok, Err, String, Vec, string_bytes, unwrap_or}
 use Rattle.std.specs.declared.alloc.Global.{Global}
 use Rattle.hall_core.specs.declared.hall.HallErr.TheVariants.{Missing, Failed, Memory}
-use Rattle.hall_core.specs.Facts.{Attached, AttachesOnce, Calls, CallsAtMost, Facts, Rose, unit_of, IsAttached, DeviceCall, ReportedCall, NotedCall, PrintCall, AttachCall}
+use Rattle.hall_core.specs.Facts.{Attached, AttachesOnce, Calls, CallsAtMost, Facts, Rose, uncounted, unit_of, IsAttached, DeviceCall, ReportedCall, NotedCall, PrintCall, AttachCall}
 use Rattle.hall_core.specs.Files.{File, file_of, image_of, HasBytesAt, patched, written, AreWhole, IsPrefixOf}
 use Rattle.hall_core.specs.Held.{file_of_pair, files_of, first_pairs, attached_as, shapes_of, units_at, IsFirst, AreFirst}
 
@@ -77,6 +77,15 @@ are_first (suc (suc k)) low = absurd (omega arith)
 last_is_no_first : ¬ AreFirst three (1 ∷ 2 ∷ [])
 last_is_no_first first = third_is_none (first 1 (lit< tt))
 
+first_place_is_no_first : ¬ AreFirst three (2 ∷ 0 ∷ [])
+first_place_is_no_first first = third_is_none (first 0 (lit< tt))
+
+-- one of them may stand twice
+twice_first : AreFirst three (0 ∷ 0 ∷ [])
+twice_first zero low = first_is
+twice_first (suc zero) low = first_is
+twice_first (suc (suc k)) low = absurd (omega arith)
+
 -- a file is attached where a unit has just its name, the first one or the last
 abbrev two : List Attached
 two = unit_named 1 ∷ unit_named 2 ∷ []
@@ -132,6 +141,9 @@ device_counted_at_both call = let same : 6 ≡ 5 = call.prints in absurd (omega 
 print_failed : PrintCall {T = Unit {0}} {E = Unit {0}} (counted 3 5) (counted 3 6) (Err tt)
 print_failed = record { units = refl; references = refl; devices = refl; later = lit≤ tt; done = tt; failed = refl }
 
+print_done : PrintCall {T = Unit {0}} {E = Unit {0}} (counted 3 5) (counted 3 5) (Ok tt)
+print_done = record { units = refl; references = refl; devices = refl; later = lit≤ tt; done = refl; failed = tt }
+
 print_failed_uncounted : ¬ PrintCall {T = Unit {0}} {E = Unit {0}} (counted 3 5) (counted 3 5) (Err tt)
 print_failed_uncounted call = let rose : Rose 5 5 = call.failed in absurd (omega (arith, rose))
 
@@ -147,6 +159,9 @@ print_counted_though_done call = let same : 6 ≡ 5 = call.done in absurd (omega
 reported : ReportedCall (Unit {0}) (counted 3 5) (counted 4 5)
 reported = record { units = refl; references = refl; prints = refl; later = lit≤ tt; device = λ is. refl; others = λ not. absurd (not tt) }
 
+unreported : ReportedCall ⊥ (counted 3 5) (counted 3 5)
+unreported = record { units = refl; references = refl; prints = refl; later = lit≤ tt; device = λ is. absurd is; others = λ not. refl }
+
 reported_uncounted : ¬ ReportedCall (Unit {0}) (counted 3 5) (counted 3 5)
 reported_uncounted call = stood_still (call.device tt)
 
@@ -161,6 +176,10 @@ reported_at_both call = let same : 6 ≡ 5 = call.prints in absurd (omega (arith
 
 noted : NotedCall (counted 3 5) (counted 4 5)
 noted = record { units = refl; references = refl; prints = refl; later = lit≤ tt }
+
+-- it may also stand still, or rise by more than one
+noted_otherwise : NotedCall (counted 3 5) (counted 3 5) × NotedCall (counted 3 5) (counted 5 5)
+noted_otherwise = (record { units = refl; references = refl; prints = refl; later = lit≤ tt }, record { units = refl; references = refl; prints = refl; later = lit≤ tt })
 
 noted_falls : ¬ NotedCall (counted 3 5) (counted 2 5)
 noted_falls call = absurd (omega (arith, call.later))
@@ -201,6 +220,10 @@ one_print = (lit≤ tt, lit≤ tt, lit≤ tt, lit≤ tt, lit≤ tt)
 no_print_but_one : (¬ CallsAtMost 0 0 0 1 (made 3 3 3 3 3) (made 3 3 3 5 3)) × (¬ CallsAtMost 0 0 0 1 (made 3 3 3 3 3) (made 3 4 3 3 3))
 no_print_but_one = (λ calls. omega (arith, calls.3), λ calls. omega (arith, calls.1))
 
+-- that is a bound from above alone: it says nothing of a count that fell
+fewer_calls : CallsAtMost 0 0 0 0 (made 3 3 3 3 3) (made 2 2 2 2 2)
+fewer_calls = (lit≤ tt, lit≤ tt, lit≤ tt, lit≤ tt, lit≤ tt)
+
 -- an attachment, where it is allowed, beside the others, and no second
 one_attachment : AttachesOnce 0 0 0 0 (made 3 3 3 3 3) (made 3 3 3 3 4) × AttachesOnce 1 2 3 4 (made 3 3 3 3 3) (made 4 5 6 7 4)
 one_attachment = ((lit≤ tt, lit≤ tt, lit≤ tt, lit≤ tt, lit≤ tt), (lit≤ tt, lit≤ tt, lit≤ tt, lit≤ tt, lit≤ tt))
@@ -212,6 +235,10 @@ no_other_attachment :
     × (¬ AttachesOnce 1 2 3 4 (made 3 3 3 3 3) (made 3 3 7 3 3))
     × (¬ AttachesOnce 1 2 3 4 (made 3 3 3 3 3) (made 3 3 3 8 3))
 no_other_attachment = (λ calls. omega (arith, calls.4), λ calls. omega (arith, calls.0), λ calls. omega (arith, calls.1), λ calls. omega (arith, calls.2), λ calls. omega (arith, calls.3))
+
+-- a hall that counts none has none of any kind
+none_counted : uncounted ≡ made 0 0 0 0 0
+none_counted = refl
 
 -- past its type's end a count, which needn't rise there, doesn't fall either
 abbrev end : ℕ
@@ -254,11 +281,23 @@ attach_names_another call = let head : 9 ≡ 8 = ap (λ (units : List Attached).
 attach_adds_though_missing : ¬ AttachCall (9 ∷ []) (counted 3 5) (counted_three 3 5) (Err Missing)
 attach_adds_though_missing call = let size : 3 ≡ 2 = ap length call.stays in absurd (omega (arith, size))
 
+attach_adds_though_failed : ¬ AttachCall (9 ∷ []) (counted 3 5) (counted_three 4 5) (Err Failed)
+attach_adds_though_failed call = let size : 3 ≡ 2 = ap length call.stays in absurd (omega (arith, size))
+
 attach_missing : AttachCall (9 ∷ []) (counted 3 5) (counted 3 5) (Err Missing)
 attach_missing = record { added = tt; stays = refl; references = refl; prints = refl; later = lit≤ tt; failed = λ is. absurd (cc is); others = λ not. refl; memory = λ is. absurd (cc is) }
 
 attach_counts_a_missing_file : ¬ AttachCall (9 ∷ []) (counted 3 5) (counted 4 5) (Err Missing)
 attach_counts_a_missing_file call = let same : 4 ≡ 3 = call.others (λ is. absurd (cc is)) in absurd (omega (arith, same))
+
+attach_counts_though_done : ¬ AttachCall (9 ∷ []) (counted 3 5) (counted_three 4 5) (Ok 2)
+attach_counts_though_done call = let same : 4 ≡ 3 = call.others (λ is. absurd (cc is)) in absurd (omega (arith, same))
+
+attach_fails : AttachCall (9 ∷ []) (counted 3 5) (counted 4 5) (Err Failed)
+attach_fails = record { added = tt; stays = refl; references = refl; prints = refl; later = lit≤ tt; failed = λ is. refl; others = λ not. absurd (not refl); memory = λ is. absurd (cc is) }
+
+attach_wants_memory : AttachCall (9 ∷ []) (counted 3 5) (counted 3 5) (Err Memory)
+attach_wants_memory = record { added = tt; stays = refl; references = refl; prints = refl; later = lit≤ tt; failed = λ is. absurd (cc is); others = λ not. refl; memory = λ is. refl }
 
 attach_fails_uncounted : ¬ AttachCall (9 ∷ []) (counted 3 5) (counted 3 5) (Err Failed)
 attach_fails_uncounted call = stood_still (call.failed refl)
@@ -295,6 +334,9 @@ another_hall same = let head : 8 ≡ 7 = ap (λ (l : List ℕ). get_or l 0 0) sa
 
 device_drops_a_unit : ¬ DeviceCall {T = Unit {0}} {E = Unit {0}} (counted 3 5) (with_units (unit_named 1 ∷ [])) (Ok tt)
 device_drops_a_unit call = one_is_gone call.units
+
+device_exchanges_units : ¬ DeviceCall {T = Unit {0}} {E = Unit {0}} (counted 3 5) (with_units (unit_named 2 ∷ unit_named 1 ∷ [])) (Ok tt)
+device_exchanges_units call = let first : 2 ≡ 1 = ap (λ (units : List Attached). (unit_of units 0).size) call.units in absurd (omega (arith, first))
 
 device_of_another_hall : ¬ DeviceCall {T = Unit {0}} {E = Unit {0}} (counted 3 5) of_another (Ok tt)
 device_of_another_hall call = another_hall call.references
@@ -350,8 +392,15 @@ has_all = (_, refl, refl)
 has_last : HasBytesAt files (1 ∷ []) 2 (13 ∷ [])
 has_last = (_, refl, refl)
 
+-- not all up to the end
+has_within : HasBytesAt files (1 ∷ []) 1 (12 ∷ [])
+has_within = (_, refl, refl)
+
 has_none_at_the_end : HasBytesAt files (1 ∷ []) 3 []
 has_none_at_the_end = (_, refl, refl)
+
+has_none_past_the_end : HasBytesAt files (1 ∷ []) 9 []
+has_none_past_the_end = (_, refl, refl)
 
 bytes_there : (at : ℕ) (bytes : List ℕ) → HasBytesAt files (1 ∷ []) at bytes → bytes ≡ take (length bytes) (drop at (11 ∷ 12 ∷ 13 ∷ []))
 bytes_there at bytes (image, is, read) = read ∙ ap (λ (l : List ℕ). take (length bytes) (drop at l)) (sym (ap (λ (o : Option (List ℕ)). unwrap_or o []) is))
@@ -392,10 +441,20 @@ patched_by_none : patched (1 ∷ 2 ∷ 3 ∷ []) 1 [] ≡ 1 ∷ 2 ∷ 3 ∷ []
 unfolding patched
 patched_by_none = refl
 
+-- over the end and behind it, where no write of a hall comes: it grows, with no gap
+patched_over_the_end : (patched (1 ∷ 2 ∷ []) 1 (8 ∷ 9 ∷ []) ≡ 1 ∷ 8 ∷ 9 ∷ []) × (patched (1 ∷ []) 3 (9 ∷ []) ≡ 1 ∷ 9 ∷ [])
+unfolding patched
+patched_over_the_end = (refl, refl)
+
 -- the first file of the name is written over, and no other
 written_at_1 : written files (1 ∷ []) 1 (9 ∷ []) ≡ record { name = 1 ∷ []; bytes = 11 ∷ 9 ∷ 13 ∷ [] } ∷ record { name = 2 ∷ []; bytes = [] } ∷ record { name = 1 ∷ []; bytes = 21 ∷ [] } ∷ []
 unfolding written patched
 written_at_1 = refl
+
+-- also where it stands behind another file, which stays
+written_behind_another : written (record { name = 1 ∷ []; bytes = 11 ∷ 12 ∷ [] } ∷ record { name = 2 ∷ []; bytes = 21 ∷ 22 ∷ [] } ∷ []) (2 ∷ []) 0 (9 ∷ []) ≡ record { name = 1 ∷ []; bytes = 11 ∷ 12 ∷ [] } ∷ record { name = 2 ∷ []; bytes = 9 ∷ 22 ∷ [] } ∷ []
+unfolding written patched
+written_behind_another = refl
 
 written_to_none : written files (3 ∷ []) 0 (9 ∷ []) ≡ files
 unfolding written patched
@@ -411,6 +470,15 @@ whole (suc k) low = absurd (omega arith)
 
 no_units : AreWhole files []
 no_units k low = absurd (omega arith)
+
+-- each of two, and not only the first
+both_whole : AreWhole files (unit_of_size 1 3 ++ unit_of_size 2 0)
+both_whole zero low = (11 ∷ 12 ∷ 13 ∷ [], refl, refl)
+both_whole (suc zero) low = ([], refl, refl)
+both_whole (suc (suc k)) low = absurd (omega arith)
+
+second_is_missing : ¬ AreWhole files (unit_of_size 1 3 ++ unit_of_size 3 0)
+second_is_missing whole = absurd (cc ((whole 1 (lit< tt)).1))
 
 size_of_whole : (size : ℕ) → AreWhole files (unit_of_size 1 size) → 3 ≡ size
 size_of_whole size whole = let unit = whole 0 (lit< tt) in ap (λ (o : Option (List ℕ)). length (unwrap_or o [])) unit.1 ∙ unit.2

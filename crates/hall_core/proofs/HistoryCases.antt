@@ -133,6 +133,10 @@ second_alone left =
 part_behind : ¬ MayLeaveAt files prints 1 files (97 ∷ [])
 part_behind left = absurd (let (q, rest, is) = left.text in cc is)
 
+-- at a moment that never came it is as at the last one
+past_the_last : MayLeaveAt files prints 7 files (97 ∷ 98 ∷ []) × (¬ MayLeaveAt files prints 7 files (97 ∷ []))
+past_the_last = (record { files = ([], refl); text = ([], ([], refl), refl) }, λ left. absurd (let (q, rest, is) = left.text in cc is))
+
 -- what a stop leaves of a disk, in a print
 left_in_print : LeftIn (new_disk files) (97 ∷ 98 ∷ []) files (97 ∷ [])
 left_in_print = (([], refl), (97 ∷ [], (98 ∷ [], refl), refl))
@@ -151,6 +155,10 @@ left_out = (0, lit≤ tt, lit≤ tt, record { files = ([], refl); text = ([], ([
 
 left_in : MayLeaveSince files syncs 0 (with_write files nine) []
 left_in = (1, lit≤ tt, lit≤ tt, record { files = (true ∷ [], refl); text = ([], ([], refl), refl) })
+
+-- also a stop in the sync
+left_out_in_sync : MayLeaveAt files syncs 1 files [] × MayLeaveAt files syncs 1 (with_write files nine) []
+left_out_in_sync = (record { files = ([], refl); text = ([], ([], refl), refl) }, record { files = (true ∷ [], refl); text = ([], ([], refl), refl) })
 
 -- since the sync, the last moment, it keeps it
 kept_behind : MayLeaveSince files syncs 2 (with_write files nine) []

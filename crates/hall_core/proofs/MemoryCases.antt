@@ -1,8 +1,8 @@
 -- What a hall and cards in memory show of themselves, on cases at which near readings of the definitions say otherwise.
 use Rattle.std.proofs.Common.{◌≡◌, ◌≢◌, ◌-◌, ◌^◌, ⊎_elim, inl, inr, ℕ, zero, suc, List, [], ◌∷◌, ◌++◌, length, refl, sym, ◌∙◌, ap, subst, arith, length-append, lit<}
-use Rattle.std.specs.Prelude.{Ok, Err, Contains, true, take, String, Vec}
+use Rattle.std.specs.Prelude.{Ok, Err, Contains, true, take, String, Vec, Some, None}
 use Rattle.std.specs.declared.alloc.Global.{Global}
-use Rattle.hall_core.specs.declared.hall.HallErr.TheVariants.{Failed, Memory}
+use Rattle.hall_core.specs.declared.hall.HallErr.TheVariants.{Failed, Memory, Missing}
 use Rattle.hall_core.specs.declared.mem_hall.step.Call.{Call}
 use Rattle.hall_core.specs.declared.mem_hall.step.Call.TheVariants.{Sync}
 use Rattle.hall_core.specs.declared.mem_hall.step.Call.TheVariants as kinds
@@ -10,8 +10,8 @@ use Rattle.hall_core.specs.declared.mem_hall.step.Step.TheVariants.{Write, Print
 use Rattle.hall_core.specs.declared.mem_hall.MemHall.{MemHall}
 use Rattle.hall_core.specs.declared.mem_cards.MemCards.{MemCards}
 use Rattle.hall_core.specs.Facts.{unit_of}
-use Rattle.hall_core.specs.Held.{attached_as, file_of_pair}
-use Rattle.hall_core.specs.History.{Event, after_all, new_disk, printed, synced, wrote}
+use Rattle.hall_core.specs.Held.{attached_as, file_of_pair, files_of}
+use Rattle.hall_core.specs.History.{Event, after_all, new_disk, passed, printed, synced, wrote}
 use Rattle.hall_core.specs.Memory.{EndsInSync, calls_of, disk_at, events_of, facts_of, failing_calls, first_files, meaning_of, number_of_calls, calls_left, bytes_left, LacksRoom, HasRoom, NextCallFails, KeepsAllButRoom, KeepsRecord, KeepsRoom, KeepsSetup, Records, IsExactCall}
 use Rattle.hall_core.specs.MemoryCards.{IsNextRead, bytes_left as bytes_to_come, failing_reads, faults_counted, number_of_reads}
 
@@ -100,6 +100,9 @@ module _ (old new : MemHall) where
   fails_otherwise : failing_calls new ≢ failing_calls old → ¬ IsExactCall {T = Unit {0}} 2 Sync synced old new (Ok tt)
   fails_otherwise other exact = other exact.setup.failing
 
+  is_given_otherwise : first_files new ≢ first_files old → ¬ IsExactCall {T = Unit {0}} 2 Sync synced old new (Ok tt)
+  is_given_otherwise other exact = other exact.setup.first
+
 -- one that has no room fails and uses none, and one with room whose number isn't to fail is done
 module _ (old new : MemHall) where
   done_without_room : LacksRoom old 2 → ¬ IsExactCall {T = Unit {0}} 2 Sync synced old new (Ok tt)
@@ -119,6 +122,38 @@ module _ (old new : MemHall) where
 
   is_off_the_record_with_room : HasRoom old 2 → calls_of new ≡ calls_of old → ¬ IsExactCall {T = Unit {0}} 2 Sync synced old new (Ok tt)
   is_off_the_record_with_room room same exact = absurd (let more = ap length (sym same ∙ (exact.room room).calls) in omega (arith, more, length-append (calls_of old) (Sync ∷ [])))
+
+  fails_off_the_record_with_room : HasRoom old 2 → calls_of new ≡ calls_of old → ¬ IsExactCall {T = Unit {0}} 2 Sync passed old new (Err Failed)
+  fails_off_the_record_with_room room same exact = absurd (let more = ap length (sym same ∙ (exact.room room).calls) in omega (arith, more, length-append (calls_of old) (Sync ∷ [])))
+
+-- so these go exactly: one that is done, one whose number is to fail and which is on the record, an attachment that finds no file, and one without room
+module _ (old new : MemHall) (setup : KeepsSetup old new) where
+  lacks_none : HasRoom old 2 → ¬ LacksRoom old 2
+  lacks_none room lacks = ⊎_elim (λ none. absurd (omega (arith, none, room.calls))) (λ few. absurd (omega (arith, few, room.bytes))) lacks
+
+  done_exactly : HasRoom old 2 → ¬ NextCallFails old → Records 2 Sync synced old new → IsExactCall {T = Unit {0}} 2 Sync synced old new (Ok tt)
+  done_exactly room number records = record {
+    failed = (λ is. absurd (cc is), ⊎_elim (λ lacks. absurd (lacks_none room lacks)) (λ fails. absurd (number fails)));
+    memory = λ is. cc is;
+    lacking = λ lacks. absurd (lacks_none room lacks);
+    room = λ is. records;
+    setup = setup;
+  }
+
+  fails_exactly : HasRoom old 2 → NextCallFails old → Records 2 Sync passed old new → IsExactCall {T = Unit {0}} 2 Sync passed old new (Err Failed)
+  fails_exactly room number records = record { failed = (λ is. inr number, λ either. refl); memory = λ is. cc is; lacking = λ lacks. absurd (lacks_none room lacks); room = λ is. records; setup = setup }
+
+  misses_exactly : HasRoom old 2 → ¬ NextCallFails old → Records 2 kinds.Attach passed old new → IsExactCall {T = ℕ} 2 kinds.Attach passed old new (Err Missing)
+  misses_exactly room number records = record {
+    failed = (λ is. absurd (cc is), ⊎_elim (λ lacks. absurd (lacks_none room lacks)) (λ fails. absurd (number fails)));
+    memory = λ is. cc is;
+    lacking = λ lacks. absurd (lacks_none room lacks);
+    room = λ is. records;
+    setup = setup;
+  }
+
+  lacks_exactly : LacksRoom old 2 → KeepsRoom old new → KeepsRecord old new → IsExactCall {T = Unit {0}} 2 Sync synced old new (Err Failed)
+  lacks_exactly lacks keeps stays = record { failed = (λ is. inl lacks, λ either. refl); memory = λ is. cc is; lacking = λ is. (keeps, stays); room = λ room. absurd (lacks_none room lacks); setup = setup }
 
 -- the calls, what was done, what the hall was made with and its facts are kept each by itself
 module _ (old new : MemHall) where
@@ -166,6 +201,17 @@ module _ (hall : MemHall) where
 
   two_were_numbered : hall.calls.items ≡ Sync ∷ Sync ∷ [] → number_of_calls hall ≡ 2
   two_were_numbered calls = ap length calls
+
+  -- the first files are those of the copy, once it was made, and not the present ones
+  first_are_copied : (copy : Vec (String Global × Vec ℕ Global) Global) → hall.first ≡ Some copy → first_files hall ≡ files_of copy.items
+  first_are_copied copy first = rw first refl
+
+  first_are_present : hall.first ≡ None → first_files hall ≡ files_of hall.files.items
+  first_are_present first = rw first refl
+
+  -- what it holds is what was done over these, and not over the present ones
+  holds_the_copy : (copy : Vec (String Global × Vec ℕ Global) Global) → hall.first ≡ Some copy → events_of hall ≡ [] → (meaning_of hall).state ≡ files_of copy.items
+  holds_the_copy copy first events = ap (λ (es : List Event). (after_all (new_disk (first_files hall)) es).files) events ∙ first_are_copied copy first
 
   rooms : (calls_left hall ≡ hall.room_calls) × (bytes_left hall ≡ hall.room_bytes)
   rooms = (refl, refl)

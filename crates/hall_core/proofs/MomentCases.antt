@@ -8,10 +8,10 @@ use Rattle.hall_core.specs.HistoryLaws.{since_now}
 use Rattle.hall_core.specs.Moments.{Meaning, LeftNow, IsDurable, LeavesSame, ElapsesExactly, Elapses, Same}
 use Rattle.hall_core.specs.Steps.{seen, Leaves, IsBeforeOrAfter, StepTo, Stage, Exit, OutsideCalls}
 use Rattle.hall_core.proofs.CallLemmas.{same_passed, write_done, sync_done, print_done}
-use Rattle.hall_core.proofs.MomentLemmas.{elapses_from_exactly}
-use Rattle.hall_core.proofs.StepLemmas.{write_leaves, write_then_sync}
+use Rattle.hall_core.proofs.MomentLemmas.{elapses_from_exactly, elapses_weaker}
+use Rattle.hall_core.proofs.StepLemmas.{elapses_write, failed_write, write_leaves, write_then_sync}
 use Rattle.hall_core.proofs.StageLemmas.{begins, next, says, says_leaves, stops}
-use Rattle.hall_core.proofs.HistoryCases.{holds, files, first_byte, second_byte, nine, one_printed}
+use Rattle.hall_core.proofs.HistoryCases.{holds, files, first_byte, second_byte, nine, prints, one_printed}
 use Rattle.hall_core.proofs.CallCases.{done, fails, ab, at_first, behind_none, behind_write, behind_sync, behind_print, differ, left_at_first, left_behind_sync, files_behind_write, sync_is_done, write_is_done, print_is_done}
 
 write_left : behind_write.left (with_write files nine)
@@ -92,6 +92,16 @@ left_is_lost P time = time.keeps 0 files [] (lit≤ tt) (0, lit≤ tt, lit≤ tt
 time_goes_back : (P : List File → List ℕ → Type 0) → ¬ Elapses behind_write (record behind_write { clock = 0 }) P
 time_goes_back P time = absurd (omega (arith, time.later))
 
+-- that holds of what stops left since each earlier moment, and not only since the last
+earlier_is_lost : ¬ Elapses behind_print (record behind_print { left_since = λ t j p. behind_print.left_since 1 j p }) (λ j p. ⊥)
+earlier_is_lost time = let size : 1 ≡ 2 = ap length (since_now files prints files (97 ∷ []) (time.keeps 0 files (97 ∷ []) (lit≤ tt) (0, lit≤ tt, lit≤ tt, one_printed))).1 in absurd (omega (arith, size))
+
+earlier_comes_late : ¬ Elapses behind_none (record behind_none { left_since = λ t j p. behind_none.left_since t j p ⊎ (t ≡ 0) }) (λ j p. ⊥)
+earlier_comes_late time = ⊎_elim
+    (λ before. ⊎_elim (λ first. absurd (cc (none_since files ab first))) (λ now. absurd (cc now.1)) (((same_passed files []).time.since 0 files ab (lit≤ tt)).0 before))
+    (λ none. none)
+    (time.moments 0 files ab (lit≤ tt) (inr refl))
+
 -- the same where it is said exactly
 exactly_goes_back : ¬ ElapsesExactly behind_write (record behind_write { clock = 0 }) (λ j p. ⊥)
 exactly_goes_back time = absurd (omega (arith, time.later))
@@ -101,6 +111,12 @@ exactly_is_forgotten time = print_is_forgotten (elapses_from_exactly time (λ j 
 
 exactly_is_lost : ¬ ElapsesExactly at_first (record behind_none { left_since = λ t j p. ⊥ }) (λ j p. ⊥)
 exactly_is_lost time = left_is_lost (λ j p. ⊥) (elapses_from_exactly time (λ j p left. left))
+
+exactly_lost_earlier : ¬ ElapsesExactly behind_print (record behind_print { left_since = λ t j p. behind_print.left_since 1 j p }) (λ j p. ⊥)
+exactly_lost_earlier time = earlier_is_lost (elapses_from_exactly time (λ j p left. left))
+
+exactly_comes_late : ¬ ElapsesExactly behind_none (record behind_none { left_since = λ t j p. behind_none.left_since t j p ⊎ (t ≡ 0) }) (λ j p. ⊥)
+exactly_comes_late time = earlier_comes_late (elapses_from_exactly time (λ j p left. left))
 
 -- and then all that has P comes to it
 more_than_comes : ¬ ElapsesExactly at_first behind_none (λ j p. p ≡ ab)
@@ -129,6 +145,10 @@ unseen_behind_sync = (
   λ left. let (j, now, is) = left in let same : 9 ≡ 2 = sym (ap second_byte (left_behind_sync j now)) ∙ is in absurd (omega (arith, same)),
   λ left. let (j, since, is) = left in let same : 9 ≡ 2 = sym (ap second_byte (left_behind_sync j (since_now files (wrote nine ∷ synced ∷ []) j [] since).0)) ∙ is in absurd (omega (arith, same)),
 )
+
+-- with the text that it left then
+part_unseen_behind_print : ¬ (seen second_byte behind_print).left_since 1 2 (97 ∷ [])
+part_unseen_behind_print (j, since, is) = let size : 1 ≡ 2 = ap length (since_now files prints j (97 ∷ []) since).1 in absurd (omega (arith, size))
 
 -- what a stop leaves has P, all of it, and with what was printed
 leaves_either : Leaves behind_write (λ j p. (j ≡ files) ⊎ (j ≡ with_write files nine))
@@ -160,6 +180,18 @@ one_step = write_then_sync (λ j. j) durable_at_first write_is_done sync_is_done
 no_step : ¬ StepTo (λ j. j) (with_write files nine) at_first behind_write done
 no_step step = durable_behind_write step.done.1
 
+-- one that failed may leave the write pending
+step_fails : StepTo (λ j. j) (with_write files nine) at_first behind_write fails
+step_fails = failed_write (λ j. j) fails refl durable_at_first write_is_done
+
+-- done, nothing is pending, also none that isn't seen
+step_is_pending_unseen : ¬ StepTo first_byte 1 at_first behind_write done
+step_is_pending_unseen step = durable_behind_write step.done.1
+
+-- a stop in it may leave what was before, also where none was said to have left it yet
+step_is_stopped_before : StepTo (λ j. j) (with_write files nine) (record at_first { left_since = λ t j p. ⊥ }) (record behind_sync { left_since = λ t j p. IsBeforeOrAfter files (with_write files nine) [] j p }) done
+step_is_stopped_before = record { done = one_step.done; printed = one_step.printed; moments = record { later = lit≤ tt; moments = λ t j p low has. inr has; keeps = λ t j p low none. absurd none } }
+
 -- it goes where it says, prints nothing, and a stop in it leaves nothing else
 step_stays : ¬ StepTo (λ j. j) (with_write files nine) at_first behind_none done
 step_stays step = differ step.done.0
@@ -185,6 +217,9 @@ at_end = next at_start one_step refl (inr refl, refl)
 
 not_yet : ¬ Stage (λ j. j) InOrder at_first behind_write (with_write files nine) []
 not_yet stage = durable_behind_write stage.durable
+
+not_yet_unseen : ¬ Stage first_byte (λ y p. Unit {0}) at_first behind_write 1 []
+not_yet_unseen stage = durable_behind_write stage.durable
 
 not_back : ¬ Stage (λ j. j) InOrder at_first behind_sync files []
 not_back stage = differ (sym stage.state)
@@ -221,6 +256,12 @@ counted dev print = record { units = []; references = []; dev_faults = dev; prin
 
 either_rose : OutsideCalls (counted 3 5) (counted 3 6) fails
 either_rose = record { units = refl; references = refl; devices = lit≤ tt; prints = lit≤ tt; done = tt; failed = inr (refl, refl) }
+
+device_rose : OutsideCalls (counted 3 5) (counted 4 5) fails
+device_rose = record { units = refl; references = refl; devices = lit≤ tt; prints = lit≤ tt; done = tt; failed = inl (refl, refl) }
+
+none_rose : OutsideCalls (counted 3 5) (counted 3 5) done
+none_rose = record { units = refl; references = refl; devices = lit≤ tt; prints = lit≤ tt; done = (refl, refl); failed = tt }
 
 neither_rose : ¬ OutsideCalls (counted 3 5) (counted 3 5) fails
 neither_rose calls = ⊎_elim (λ dev. absurd (omega (arith, dev.0))) (λ print. absurd (omega (arith, print.1))) calls.failed
@@ -331,6 +372,15 @@ in_order =
     let both = (next once second_step refl (inr (inl (inr refl, refl)))).done in
     let print : AfterPrint ab behind_both (meaning_after files (wrote five ∷ synced ∷ wrote nine ∷ synced ∷ printed ab ∷ [])) done = print_done files (wrote five ∷ synced ∷ wrote nine ∷ synced ∷ []) ab in
     record { exit = says both print (λ q prefix. inr (inr (refl, (q, prefix, refl)))); left = inr (λ j left. let said = says_leaves both print j left in inr (ap sum said.0, said.1)) }
+
+-- so they are where the first one failed and is pending, though a stop may leave it out
+first_is_pending : WritesInOrder sum with_five (with_write with_five nine) ab at_first (meaning_after files (wrote five ∷ [])) fails
+first_is_pending =
+    let write : AfterWrite five.name 0 (5 ∷ []) at_first (meaning_after files (wrote five ∷ [])) done = write_done files [] five refl in
+    record {
+      exit = stops fails refl (elapses_weaker (elapses_write (λ j. j) durable_at_first write) (λ j p left. inl (⊎_elim (λ before. inl (ap sum before)) (λ after. inr (ap sum after)) left.0, left.1)));
+      left = inl (λ j left. (⊎_elim (λ before. inl (ap sum before)) (λ after. inr (ap sum after)) (write_leaves durable_at_first write j left), refl));
+    }
 
 -- with no sync between them they aren't: a stop may leave the second one alone
 second_alone : ¬ IsInOrder sum files with_five (with_write with_five nine) [] ab (holds 1 9) []

@@ -124,6 +124,19 @@ last_not_within within = pool_is_wanting_of (within 1 (lit< tt))
 last_not_writable : ¬ AreWritable units 3 (failed ∷ last ∷ [])
 last_not_writable within = unwritable (within 1 (lit< tt))
 
+-- nor the first, where the last is
+first_not_within : ¬ AreWithin units 4 0 (Print 1 2 ∷ failed ∷ [])
+first_not_within within = let needed = (within 0 (lit< tt)).from_text in absurd (omega (arith, needed))
+
+first_not_writable : ¬ AreWritable units 3 (last ∷ failed ∷ [])
+first_not_writable within = unwritable (within 0 (lit< tt))
+
+-- what is printed isn't asked of any
+all_writable : AreWritable units 4 (Print 5 6 ∷ last ∷ [])
+all_writable zero low = record { unit = lit≤ tt; size = lit≤ tt; from_pool = lit≤ tt }
+all_writable (suc zero) low = last_writable
+all_writable (suc (suc k)) low = absurd (omega arith)
+
 -- bytes that a write needs aren't asked of what was printed
 all_printed : ArePrinted 3 (last ∷ Print 1 2 ∷ [])
 all_printed zero low = lit≤ tt
@@ -132,6 +145,9 @@ all_printed (suc (suc k)) low = absurd (omega arith)
 
 last_not_printed : ¬ ArePrinted 2 (last ∷ Print 1 2 ∷ [])
 last_not_printed all = let needed = all 1 (lit< tt) in absurd (omega (arith, needed))
+
+first_not_printed : ¬ ArePrinted 2 (Print 1 2 ∷ last ∷ [])
+first_not_printed all = let needed = all 0 (lit< tt) in absurd (omega (arith, needed))
 
 -- writes in their order, done and failed; of these those that were done
 writes : writes_at units pool steps ≡ of_failed ∷ of_last ∷ []

@@ -3,9 +3,9 @@ use Rattle.std.proofs.Common.{◌≡◌, ◌≢◌, ◌∙◌, sym, [], ◌∷�
 use Rattle.std.specs.Prelude.{string_bytes}
 use Rattle.std.specs.IoError.{error_kind}
 use Rattle.std.specs.declared.io.Error.{Error}
-use Rattle.std.specs.declared.io.ErrorKind.TheVariants.{NotFound, NotADirectory, PermissionDenied, InvalidInput, InvalidFilename, IsADirectory, AlreadyExists, FilesystemLoop, Interrupted, ResourceBusy, StaleNetworkFileHandle, OutOfMemory, Other, Uncategorized}
+use Rattle.std.specs.declared.io.ErrorKind.TheVariants.{NotFound, NotADirectory, PermissionDenied, ReadOnlyFilesystem, InvalidInput, InvalidFilename, IsADirectory, AlreadyExists, FilesystemLoop, Interrupted, ResourceBusy, StaleNetworkFileHandle, OutOfMemory, Other, Uncategorized}
 use Rattle.std.specs.declared.io.ErrorKind.{ErrorKind}
-use Rattle.hall_files.specs.FileHall.{SaysMissing, facts_of, files_of, notes_of, units_in, units_of}
+use Rattle.hall_files.specs.FileHall.{SaysMissing, SaysReadOnly, facts_of, files_of, notes_of, units_in, units_of}
 use Rattle.hall_files.specs.declared.file_hall.Unit.{Unit}
 use Rattle.hall_files.specs.declared.file_hall.FileHall.{FileHall}
 
@@ -52,3 +52,13 @@ names_that_are_no_files = (apart_from_missing InvalidInput (λ is. cc) (λ is. c
 -- and those of a system that didn't serve
 what_the_system_refused : IsOther Interrupted × IsOther ResourceBusy × IsOther StaleNetworkFileHandle × IsOther OutOfMemory × IsOther Other × IsOther Uncategorized
 what_the_system_refused = (apart_from_missing Interrupted (λ is. cc) (λ is. cc), apart_from_missing ResourceBusy (λ is. cc) (λ is. cc), apart_from_missing StaleNetworkFileHandle (λ is. cc) (λ is. cc), apart_from_missing OutOfMemory (λ is. cc) (λ is. cc), apart_from_missing Other (λ is. cc) (λ is. cc), apart_from_missing Uncategorized (λ is. cc) (λ is. cc))
+
+-- a file is opened to read alone where there is no leave to write it, and where nothing may be written; not where it is missing, nor where the system didn't serve
+read_only_files : ((e : Error) → error_kind e ≡ PermissionDenied → SaysReadOnly e) × ((e : Error) → error_kind e ≡ ReadOnlyFilesystem → SaysReadOnly e)
+read_only_files = (λ e denied. inl denied, λ e medium. inr medium)
+
+apart_from_read_only : (kind : ErrorKind) → kind ≢ PermissionDenied → kind ≢ ReadOnlyFilesystem → (e : Error) → error_kind e ≡ kind → ¬ SaysReadOnly e
+apart_from_read_only kind denied medium e is only = ⊎_elim (λ one. denied (sym is ∙ one)) (λ other. medium (sym is ∙ other)) only
+
+failed_openings : ((e : Error) → error_kind e ≡ NotFound → ¬ SaysReadOnly e) × ((e : Error) → error_kind e ≡ Interrupted → ¬ SaysReadOnly e) × ((e : Error) → error_kind e ≡ ResourceBusy → ¬ SaysReadOnly e) × ((e : Error) → error_kind e ≡ Other → ¬ SaysReadOnly e)
+failed_openings = (apart_from_read_only NotFound (λ is. cc) (λ is. cc), apart_from_read_only Interrupted (λ is. cc) (λ is. cc), apart_from_read_only ResourceBusy (λ is. cc) (λ is. cc), apart_from_read_only Other (λ is. cc) (λ is. cc))

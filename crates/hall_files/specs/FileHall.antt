@@ -1,8 +1,8 @@
--- What a hall over real files tells, which of its units are noted, and which files it finds missing.
+-- What a hall over real files tells, which of its units are noted, and which files it finds missing or opens to read alone.
 use Rattle.std.specs.Prelude.{◌≡◌, ◌⊎◌, Bool, List, [], map, string_bytes}
 use Rattle.std.specs.IoError.{error_kind}
 use Rattle.std.specs.declared.io.Error.{Error}
-use Rattle.std.specs.declared.io.ErrorKind.TheVariants.{NotFound, NotADirectory}
+use Rattle.std.specs.declared.io.ErrorKind.TheVariants.{NotFound, NotADirectory, PermissionDenied, ReadOnlyFilesystem}
 use Rattle.std.specs.declared.fs.File.{File}
 use Rattle.hall_core.specs.Facts.{Attached, Facts}
 use Rattle.hall_files.specs.declared.file_hall.Unit.{Unit}
@@ -31,3 +31,7 @@ notes_of hall = map (λ (u : Unit). u.is_written) (units_in hall)
 -- an error says that no file has the name: there is no entry of that name, or what should be its folder is none
 abbrev pub SaysMissing : Error → Type 0
 SaysMissing error = (error_kind error ≡ NotFound) ⊎ (error_kind error ≡ NotADirectory)
+
+-- an error says that the file may not be written: there is no leave to do it, or nothing on the medium may be written
+abbrev pub SaysReadOnly : Error → Type 0
+SaysReadOnly error = (error_kind error ≡ PermissionDenied) ⊎ (error_kind error ≡ ReadOnlyFilesystem)

@@ -7,7 +7,7 @@
 //! call of the hall that answers `Failed` counts a fault, once, and else `differs` alone does.
 ghost use Rattle.std.specs.Prelude.{◌≡◌, ◌+◌, ◌-◌, ◌^◌, ◌<◌, ◌≤◌, ◌↔◌, min, length, refl, Err, IfOk, IfErr, OnOk, OnErr, IsErrOf, IsTrue, true, false, []};
 ghost use Rattle.hall_core.specs.Facts.{Rose};
-ghost use Rattle.hall_files.specs.FileHall.{SaysMissing};
+ghost use Rattle.hall_files.specs.FileHall.{SaysMissing, SaysReadOnly};
 
 use hall_core::{Hall, HallErr, fault};
 use std::alloc::Global;
@@ -54,11 +54,22 @@ fn open<R: Files<File = File>>(rt: &R, name: &str) -> io::Result<(File, u64)> {
     }
     let opened = match OpenOptions::new().read(true).write(true).open(rt, name) {
         Ok(file) => file,
-        Err(_) => File::open(rt, name)?,
+        Err(error) if is_read_only(error) => File::open(rt, name)?,
+        Err(error) => return Err(error),
     };
     let file = opened.try_clone()?;
     let size = file.metadata()?.len();
     Ok((file, size))
+}
+
+// Whether the file may not be written, but perhaps be read.
+fn is_read_only(error: Error) -> bool
+    ensures { IsTrue result ↔ SaysReadOnly error }
+{
+    matches!(
+        error.kind(),
+        ErrorKind::PermissionDenied | ErrorKind::ReadOnlyFilesystem
+    )
 }
 
 // Whether no file has the name: there is no entry of that name, or what should be its folder is none.

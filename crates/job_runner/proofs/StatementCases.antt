@@ -1,6 +1,6 @@
 -- A RENAME statement on small shelves, and the prints behind it, computed by the definitions of Statement.antt. Each comment names a wrong definition that the case tells from the right one.
-use Rattle.std.proofs.Common.{◌≡◌, ◌≢◌, ◌≤◌, ℕ, Bool, true, false, List, [], ◌∷◌, codes, replicate, Some, None, refl, arith}
-use Rattle.std.specs.Prelude.{Ok, Err}
+use Rattle.std.proofs.Common.{◌≡◌, ◌≢◌, ◌≤◌, ◌∙◌, ⊎_elim, inl, inr, ℕ, Bool, true, false, List, [], ◌∷◌, codes, replicate, Option, Some, None, refl, ap, arith}
+use Rattle.std.specs.Prelude.{Ok, Err, unwrap_or}
 use Rattle.std.specs.Fmt.{digits}
 use Rattle.ebcdic_names.specs.CodePage.{ascii_of, code_page}
 use Rattle.ebcdic_names.specs.Names.{shown}
@@ -17,10 +17,10 @@ use Rattle.vol_model.specs.declared.contents.DataSet.{DataSet}
 use Rattle.vol_model.specs.declared.contents.Shelf.{Shelf}
 use Rattle.vol_model.specs.declared.contents.Volume.{Volume}
 use Rattle.vol_model.specs.declared.refusals.Refusal.{Refusal}
-use Rattle.vol_model.specs.declared.refusals.Refusal.TheVariants.{NoSet, SetExists, WrongKind}
+use Rattle.vol_model.specs.declared.refusals.Refusal.TheVariants.{NoSet, NoVolume, SetExists, WrongKind}
 use Rattle.vol_model.specs.declared.requests.Op.{Op}
 use Rattle.vol_model.specs.declared.requests.Op.TheVariants as operations
-use Rattle.job_runner.specs.Statement.{OnlyPrints, answer_line, code_for, item_by, item_of, item_on, item_with, operation_on}
+use Rattle.job_runner.specs.Statement.{ComesTo, OnlyPrints, answer_line, code_for, item_by, item_of, item_on, item_with, operation_on}
 
 -- the name A. and one letter
 abbrev a_dot : ℕ → Dsn
@@ -47,6 +47,34 @@ two = serial 0xF2
 
 abbrev renames : Dsn → Serial → Dsn → Rename
 renames old of new = record { old = old; serial = of; new = new }
+
+-- ---- what a statement comes to
+
+-- It comes to OK, or to a refusal, by what is so on the volume of its number, and not on another; and to NO-VOLUME, and no other refusal, where it has none.
+comes_to_on_its_volume :
+    ComesTo (Some 0) (λ v. v ≡ 0) (λ v r. ⊥) (Ok tt)
+    × (¬ ComesTo (Some 0) (λ v. v ≡ 1) (λ v r. ⊥) (Ok tt))
+    × (¬ ComesTo None (λ v. v ≡ 0) (λ v r. ⊥) (Ok tt))
+    × ComesTo (Some 0) (λ v. ⊥) (λ v r. v ≡ 0) (Err NoSet)
+    × (¬ ComesTo (Some 0) (λ v. ⊥) (λ v r. v ≡ 1) (Err NoSet))
+    × (¬ ComesTo (Some 0) (λ v. ⊥) (λ v r. r ≡ SetExists) (Err NoSet))
+    × (¬ ComesTo (Some 0) (λ v. ⊥) (λ v r. r ≡ SetExists) (Err NoVolume))
+    × ComesTo None (λ v. ⊥) (λ v r. ⊥) (Err NoVolume)
+    × (¬ ComesTo None (λ v. ⊥) (λ v r. r ≡ NoSet) (Err NoSet))
+comes_to_on_its_volume = (
+  (0, refl, refl),
+  (λ is. let no : 0 ≡ 1 = number is.1 ∙ is.2 in omega (arith, no)),
+  (λ is. cc is.1),
+  inr (0, refl, refl),
+  ⊎_elim (λ none. cc none.0) (λ is. let no : 0 ≡ 1 = number is.1 ∙ is.2 in omega (arith, no)),
+  ⊎_elim (λ none. cc none.0) (λ is. cc is.2),
+  ⊎_elim (λ none. cc none.0) (λ is. cc is.2),
+  inl (refl, refl),
+  ⊎_elim (λ none. cc none.1) (λ is. cc is.1),
+)
+  where
+    number : {v w : ℕ} → Some v ≡ Some w → v ≡ w
+    number is = ap (λ (o : Option ℕ). unwrap_or o 0) is
 
 -- ---- the parts of an item
 

@@ -1,6 +1,6 @@
 -- What a machine held at each moment, computed by the definitions of Past.antt. Each comment names a wrong definition that the case tells from the right one.
 use Rattle.std.proofs.Common.{◌≡◌, ◌≤◌, ℕ, zero, suc, List, [], ◌∷◌, length, true, refl, sym, ap, ◌∙◌, arith, lit≤}
-use Rattle.std.specs.Prelude.{Ok}
+use Rattle.std.specs.Prelude.{Ok, Err}
 use Rattle.ebcdic_names.specs.declared.names.Dsn.{Dsn}
 use Rattle.map_machine.specs.declared.past.Done.{Done}
 use Rattle.map_machine.specs.declared.past.Done.TheVariants.{Printed, Renamed}
@@ -8,6 +8,7 @@ use Rattle.map_machine.specs.Held.{meaning_of, now_of, status_of}
 use Rattle.map_machine.specs.Past.{Moment, before, before_all, meaning_after, moment_at}
 use Rattle.map_machine.specs.declared.machine.MapMachine.{MapMachine}
 use Rattle.vol_model.specs.declared.contents.Shelf.{Shelf}
+use Rattle.vol_model.specs.declared.refusals.Refusal.{Refusal}
 use Rattle.vol_model.specs.declared.requests.Op.TheVariants.{Rename}
 use Rattle.vol_model.specs.Events.{behind}
 use Rattle.vol_model.specs.Shelf.{IsLawful, step}
@@ -20,6 +21,10 @@ held shelf text = record { shelf = shelf; text = text }
 -- as many bytes are kept as the record says, not dropped from the end
 first_bytes_are_kept : (s : Shelf) → before (Printed 2) (held s (65 ∷ 66 ∷ 67 ∷ [])) ≡ held s (65 ∷ 66 ∷ [])
 first_bytes_are_kept s = refl
+
+-- a rename back that is refused leaves the shelf, and a rename is of no byte
+refused_back : (s : Shelf) (v : ℕ) (a b : Dsn) (r : Refusal) → step s (Rename v b a) ≡ Err r → before (Renamed v a b) (held s (65 ∷ [])) ≡ held s (65 ∷ [])
+refused_back s v a b r refused = ap (λ x. held (behind s x) (65 ∷ [])) refused
 
 -- a set named a became b, a byte was printed, and b became c; on volumes of any two numbers
 module _ (s1 s2 s3 : Shelf) (v w : ℕ) (a b c : Dsn) (lawful : IsLawful s1) (first : step s1 (Rename v a b) ≡ Ok s2) (second : step s2 (Rename w b c) ≡ Ok s3) where
@@ -87,6 +92,10 @@ module _ (s1 s2 s3 : Shelf) (v w : ℕ) (a b c : Dsn) (lawful : IsLawful s1) (fi
       printed_by (suc (suc zero)) low high = refl
       printed_by (suc (suc (suc zero))) low high = refl
       printed_by (suc (suc (suc (suc k)))) low high = absurd (omega arith)
+
+  -- nor is anything left since a moment that is yet to come
+  none_to_come : (shelf : Shelf) (text : List ℕ) → ¬ (meaning_after log now).left_since 4 shelf text
+  none_to_come shelf text (k, low, high, is, said) = omega (arith, low, high)
 
   -- the shelf and the text are of one moment: with nothing printed it isn't the present shelf
   of_one_moment : (shelf : Shelf) → (meaning_after log now).left_since 1 shelf [] → shelf ≡ s2

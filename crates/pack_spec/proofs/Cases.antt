@@ -4,7 +4,7 @@ use Rattle.std.specs.Prelude.{Ok, Err}
 use Rattle.ckd_image.specs.declared.device.DiskType.TheVariants.{D2311, D2314, D3330}
 use Rattle.pack_spec.specs.Label.{heads_of}
 use Rattle.pack_spec.specs.Views.{Answers, record_of, tracks_of}
-use Rattle.pack_spec.specs.declared.MountErr.TheVariants.{Memory, NoLabel, BadVtoc}
+use Rattle.pack_spec.specs.declared.MountErr.TheVariants.{Memory, NoFile, NoLabel, BadVtoc, VtocTrack, Device}
 
 -- what is found or refused is what is meant; want of memory is answered of anything, and no other error is
 answers :
@@ -16,6 +16,21 @@ answers :
     × (¬ Answers {X = ℕ} (Ok 3) (Err NoLabel))
     × (¬ Answers {X = ℕ} (Err BadVtoc) (Err NoLabel))
 answers = (refl, λ is. cc, λ is. cc, λ no. absurd (no refl), λ no. refl, λ is. let same = is (λ same. cc) in cc, λ is. let same = is (λ same. cc) in cc)
+
+-- a device that fails excuses no answer, nor does a file that isn't there; and a fault is the same with its number alone
+other_answers :
+    (¬ Answers {X = ℕ} (Ok 3) (Err Device))
+    × (¬ Answers {X = ℕ} (Err NoLabel) (Err Device))
+    × (¬ Answers {X = ℕ} (Ok 3) (Err NoFile))
+    × Answers {X = ℕ} (Err (VtocTrack 3)) (Err (VtocTrack 3))
+    × (¬ Answers {X = ℕ} (Err (VtocTrack 3)) (Err (VtocTrack 4)))
+other_answers = (
+  λ is. let same = is (λ same. cc) in cc,
+  λ is. let same = is (λ same. cc) in cc,
+  λ is. let same = is (λ same. cc) in cc,
+  λ no. refl,
+  λ is. let same = is (λ same. cc) in cc,
+)
 
 -- ten, twenty and nineteen heads
 tracks : (tracks_of (record { device = D2311; cylinders = 3; track_size = 4096 }) ≡ 30) × (tracks_of (record { device = D2314; cylinders = 3; track_size = 7680 }) ≡ 60) × (tracks_of (record { device = D3330; cylinders = 3; track_size = 13312 }) ≡ 57)

@@ -104,6 +104,17 @@ dscbs :
 unfolding dscb_fault extents_fault has_types has_extents has_chain counted_extents first_extents further_extents format_3_of
 dscbs = (refl, refl, refl, refl, refl, refl, refl)
 
+-- the extents of a format 1 alone are judged: in this slot the bytes of a format 1 that count its extents say one, and that has a type that isn't read
+abbrev typed_as : ℕ → List ℕ
+typed_as format = replicate 44 0 ++ (format ∷ replicate 14 0) ++ (1 ∷ replicate 45 0) ++ (0x40 ∷ replicate 34 0)
+
+judged_extents :
+    (dscb_fault pack [] 7 (slot 1 (typed_as 0xF1)) ≡ Some (UnsupportedExtent 7))
+    × (dscb_fault pack [] 7 (slot 1 (typed_as 0xF3)) ≡ None)
+    × (dscb_fault pack [] 7 (slot 1 (typed_as 0xF5)) ≡ None)
+unfolding dscb_fault extents_fault has_types has_extents has_chain counted_extents first_extents further_extents format_3_of
+judged_extents = (refl, refl, refl)
+
 -- the names of data sets alone are compared, all 44 bytes of them
 named :
     (is_named (7 ∷ replicate 43 0) (slot 1 (set 7 0 0 0)) ≡ true)
@@ -122,6 +133,11 @@ names :
     × (name_faults thrice ≡ DuplicateName 3 2 ∷ DuplicateName 5 2 ∷ [])
 unfolding name_fault name_faults
 names = (refl, refl, refl, refl)
+
+-- a slot that isn't a data set may have the name of one
+other_names : (name_fault thrice 6 (slot 7 (set 7 0 0 0)) ≡ Some (DuplicateName 6 2)) × (name_fault thrice 6 (slot 7 (dscb 7 0xF3)) ≡ None) × (name_fault thrice 6 (slot 7 (set 9 0 0 0)) ≡ None)
+unfolding name_fault
+other_names = (refl, refl, refl)
 
 -- slots 0 and 1 go first, then each slot by itself, and names last
 abbrev broken : List VtocSlot

@@ -126,6 +126,10 @@ slots = (refl, refl, refl, refl, refl, refl, refl, refl, refl, refl)
 second_record : (first_slot (parts 44 96 ∷ parts 44 96 ∷ []) ≡ None) × (first_slot (parts 44 96 ∷ parts 45 95 ∷ []) ≡ None)
 second_record = (refl, refl)
 
+-- both lengths are those of a slot: neither a byte less nor one more in the key or in the data, also where the other length is right
+slot_lengths : (is_slot (parts 43 96) ≡ false) × (is_slot (parts 45 96) ≡ false) × (is_slot (parts 44 95) ≡ false) × (is_slot (parts 44 97) ≡ false)
+slot_lengths = (refl, refl, refl, refl)
+
 -- a slot with an extent at 105, from cylinder 3 and head 7 to a cylinder and a head
 abbrev extent_to : ℕ → ℕ → List ℕ
 extent_to cylinder head = replicate 107 9 ++ (0 ∷ 3 ∷ 0 ∷ 7 ∷ 0 ∷ cylinder ∷ 0 ∷ head ∷ replicate 25 9)
@@ -298,6 +302,27 @@ sixteen : (has_extents pack leads_astray (set 16) ≡ true) × (has_extents pack
 unfolding has_extents counted_extents first_extents further_extents format_3_of
 sixteen = (refl, refl, refl)
 
+-- the format 3 of a set, with these two extents first
+abbrev further_of : List ℕ → List ℕ → VtocSlot
+further_of fourth fifth = set_at 5 (replicate 4 3 ++ fourth ++ fifth ++ replicate 20 0 ++ (0xF3 ∷ replicate 95 0))
+
+-- in the format 3 too an extent that is counted mayn't be empty, but may be on cylinder boundaries; what isn't counted there isn't judged
+types_in_format_3 :
+    (has_types (further_of (own 1 3) (own 0x81 4) ∷ []) (set 5) ≡ true)
+    × (has_types (further_of (own 0x81 3) (own 0x40 4) ∷ []) (set 4) ≡ true)
+    × (has_types (further_of (own 1 3) (own 0x40 4) ∷ []) (set 5) ≡ false)
+    × (has_types (further_of (own 0 3) (own 1 4) ∷ []) (set 4) ≡ false)
+unfolding has_types counted_extents first_extents further_extents format_3_of
+types_in_format_3 = (refl, refl, refl, refl)
+
+-- there too those that are counted lie on the pack, and the others may lie anywhere
+on_pack_in_format_3 :
+    (has_extents pack (further_of (own 1 3) (own 1 4) ∷ []) (set 5) ≡ true)
+    × (has_extents pack (further_of (own 1 3) (typed 1) ∷ []) (set 4) ≡ true)
+    × (has_extents pack (further_of (own 1 3) (typed 1) ∷ []) (set 5) ≡ false)
+unfolding has_extents counted_extents first_extents further_extents format_3_of
+on_pack_in_format_3 = (refl, refl, refl)
+
 -- a chain is shared with a data set of a lower slot whose pointer counts and is the same
 shared :
     (is_shared (set_at 1 (set 4) ∷ []) (set 4) ≡ true)
@@ -351,6 +376,10 @@ named_bytes :
     × (slot_fault 7 (Some (Unsupported 0xF2)) 0xF4 ≡ Some (UnsupportedDscb 7 0xF2))
     × (slot_fault 7 (Some (BadFormat 0xC7)) 0xF4 ≡ Some (BadDscb 7 0xC7))
 named_bytes = (refl, refl, refl, refl)
+
+-- a free slot, a format 3 and a format 5 may stand anywhere behind slot 0
+any_slots : (slot_fault 7 None 0 ≡ None) × (slot_fault 7 None 0xF3 ≡ None) × (slot_fault 7 None 0xF5 ≡ None)
+any_slots = (refl, refl, refl)
 
 data_sets : (is_data_set (set 0) ≡ true) × (is_data_set (slot_at 1 0xF3).bytes ≡ false)
 data_sets = (refl, refl)

@@ -1,18 +1,20 @@
 -- The bytes of written labels and slots, on cases at which near readings of their definitions give something else.
-use Rattle.std.specs.Prelude.{ℕ, ◌≡◌, true, List, [], ◌∷◌, ◌++◌, Some, None, length, map, replicate, slice_range}
+use Rattle.std.specs.Prelude.{ℕ, ◌≡◌, true, List, [], ◌∷◌, ◌++◌, Some, None, Ok, Err, length, map, replicate, slice_range, take}
 use Rattle.std.proofs.Common.{refl}
 use Rattle.ckd_image.specs.declared.device.DiskType.TheVariants.{D2311}
 use Rattle.ckd_image.specs.declared.header.Geometry.{Geometry}
 use Rattle.ckd_image.specs.Track.{Record, records_bytes}
 use Rattle.ckd_image.specs.Reading.{is_front, records_of, records_to_end, records_up_to}
 use Rattle.ckd_image.specs.Writing.{new_track}
-use Rattle.pack_spec.specs.declared.MountErr.TheVariants.{VtocTrack}
+use Rattle.vol_model.specs.Order.{in_order, rank}
+use Rattle.pack_spec.specs.declared.MountErr.TheVariants.{BadVtoc, NoFormat4, VtocTrack}
 use Rattle.pack_spec.specs.declared.address.Address.{Address}
 use Rattle.pack_spec.specs.declared.addressed.VtocSlot.{VtocSlot}
 use Rattle.pack_spec.specs.Label.{address_at, label_in, label_of, records_on, track_bytes}
-use Rattle.pack_spec.specs.Vtoc.{is_slot, slot_bytes, slots_on}
+use Rattle.pack_spec.specs.Vtoc.{is_slot, slot_bytes, slots_on, vtoc_at, vtoc_of}
 use Rattle.pack_spec.specs.Slots.{slots_at, slots_of_vtoc}
-use Rattle.pack_spec.specs.Faults.{track_fault}
+use Rattle.pack_spec.specs.Faults.{dscb_fault, dscb_faults, front_faults, name_fault, name_faults, slots_faults, track_fault, track_faults, vtoc_fault}
+use Rattle.pack_spec.specs.Volume.{data_sets_in, volume_with, volume_within}
 use Rattle.pack_spec.specs.Written.{label_bytes, label_records, slot_record}
 
 -- ABC and three blanks in EBCDIC
@@ -157,3 +159,37 @@ over_tracks :
     × (slots_of_vtoc pack small (record { start = 1; len = 0 }) ≡ [])
 unfolding slots_of_vtoc slots_at slots_on records_on track_bytes records_of is_front records_to_end
 over_tracks = (refl, refl, refl, refl, refl)
+
+-- a pack whose label leads to cylinder 0 and head 1, where this track stands
+abbrev led_to : List ℕ → List ℕ
+led_to track = header ++ new_track 0 0 (label_records serial (record { cylinder = 0; head = 1 })) 400 ++ track
+
+-- a slot with the extent of that one track at 105, and the track on which it is R1 of two
+abbrev first : List ℕ
+first = replicate 107 9 ++ (0 ∷ 0 ∷ 0 ∷ 1 ∷ 0 ∷ 0 ∷ 0 ∷ 1 ∷ replicate 25 9)
+
+abbrev second : List ℕ
+second = new_track 0 1 (map (slot_record (record { cylinder = 0; head = 1 })) (first ∷ other ∷ [])) 400
+
+-- the extent of the VTOC is taken from R1, whatever stands behind that; where R1 is none or is no slot, the track is named
+found_vtocs :
+    (vtoc_of (led_to second) small ≡ Ok (record { start = 1; len = 1 }))
+    × (vtoc_of (led_to (take 169 second ++ replicate 231 0)) small ≡ Ok (record { start = 1; len = 1 }))
+    × (vtoc_of (led_to (take 21 second ++ replicate 379 0)) small ≡ Err (VtocTrack 1))
+    × (vtoc_of (led_to (new_track 0 1 (slot_records 0 1) 400)) small ≡ Err BadVtoc)
+    × (vtoc_of (led_to (new_track 0 1 (label_records serial vtoc) 400)) small ≡ Err (VtocTrack 1))
+    × (vtoc_of (led_to (new_track 0 1 [] 400)) small ≡ Err (VtocTrack 1))
+unfolding vtoc_of vtoc_at label_of label_in records_on track_bytes records_of is_front records_up_to
+found_vtocs = (refl, refl, refl, refl, refl, refl)
+
+-- the same with a format 4 on R1 and a free slot on R2
+abbrev free_pack : List ℕ
+free_pack = led_to (new_track 0 1 (map (slot_record (record { cylinder = 0; head = 1 })) ((replicate 44 4 ++ (0xF4 ∷ replicate 62 9) ++ (0 ∷ 0 ∷ 0 ∷ 1 ∷ 0 ∷ 0 ∷ 0 ∷ 1 ∷ replicate 25 9)) ∷ replicate 140 0 ∷ [])) 400)
+
+-- it stands for a volume with the serial of its label and no data set; and where a rule is broken, there is none
+volumes :
+    (volume_within free_pack small (Ok (record { start = 1; len = 1 }))
+    ≡ Ok (record { serial = record { bytes = serial }; geometry = small; vtoc = record { start = 1; len = 1 }; slots = 2; sets = []; catalog = None }))
+    × (volume_within (led_to second) small (Ok (record { start = 1; len = 1 })) ≡ Err NoFormat4)
+unfolding volume_with data_sets_in in_order rank vtoc_fault track_faults track_fault slots_faults front_faults dscb_faults dscb_fault name_faults name_fault slots_of_vtoc slots_at slots_on label_of label_in records_on track_bytes records_of is_front records_to_end records_up_to
+volumes = (refl, refl)

@@ -1,6 +1,11 @@
 -- The calls of a run by what they are made with, on cases that a near reading of Made.antt, Mount.antt, Machine.antt and Statement.antt answers otherwise. Each comment names what such a reading would let through.
 use Rattle.std.proofs.Common.{◌≡◌, ◌+◌, ⊎_elim, inl, inr, ℕ, List, [], ◌∷◌, codes, drop, get_or, length, replicate, take, Option, Some, None, refl, sym, ap, ◌∙◌, arith, length-append}
-use Rattle.std.specs.Prelude.{⊤, position, Ok, Err}
+use Rattle.std.specs.Prelude.{⊤, Bool, position, Ok, Err}
+use Rattle.std.specs.Cmp.{IsStrictWeakOrder}
+use Rattle.std.specs.Cmp.Lexicographic.{slice_cmp}
+use Rattle.std.specs.Ordering.{is_lt, nat_cmp}
+use Rattle.std.proofs.lemmas.Cmp.{nat_list_cmp_total}
+use Rattle.std.proofs.lemmas.List.Sorted.{ranks_by}
 use Rattle.std.specs.Fmt.{digits}
 use Rattle.ckd_image.specs.declared.header.Geometry.{Geometry}
 use Rattle.ckd_image.specs.declared.header.ImageErr.TheVariants.{BadMagic}
@@ -18,9 +23,10 @@ use Rattle.track_records.specs.Calls.{Gives}
 use Rattle.track_records.specs.Written.{place_of}
 use Rattle.util_syntax.specs.Lines.{card_number, outcome_words, result_line}
 use Rattle.util_syntax.specs.declared.statement.Rename.{Rename}
+use Rattle.vol_model.proofs.Ranks.{ranked-sorted, ranked-stable, ranked-unique}
 use Rattle.vol_model.specs.Words.{refusal_words}
 use Rattle.vol_model.specs.declared.refusals.Refusal.{Refusal}
-use Rattle.vol_model.specs.declared.refusals.Refusal.TheVariants.{NoSet, NoVolume}
+use Rattle.vol_model.specs.declared.refusals.Refusal.TheVariants.{NoSet, NoVolume, SetExists}
 use Rattle.dadsm_ops.specs.Naming.{IsRenameCall, WritesSlotNamed}
 use Rattle.vtoc_index.specs.Contents.{is_set_named}
 use Rattle.vtoc_index.specs.Given.{BadHeader, Cut, GivesHeader, IsHeaderGiven, IsMountRead, IsReasonGiven, NoGeometry, NoVtoc, OfFirst, OfHeader, OfLabel, OfNext, OfOther, OfVtoc, OnLabel, Outside, TooShort, Unlabelled}
@@ -42,9 +48,17 @@ use Rattle.run_spec.proofs.CaseRuns.{number, numbers_in}
 abbrev pub statement : List ℕ → Rename
 statement serial = record { old = record { bytes = a }; serial = record { bytes = serial }; new = record { bytes = c } }
 
+-- that C, which isn't there, becomes A on the pack of this serial
+abbrev lacking : List ℕ → Rename
+lacking serial = record { old = record { bytes = c }; serial = record { bytes = serial }; new = record { bytes = a } }
+
 -- a name of one letter, with a blank behind it
 abbrev pub short : List ℕ
 short = 0xC1 ∷ 0x40 ∷ []
+
+-- and another, which stands behind it
+abbrev short_b : List ℕ
+short_b = 0xC2 ∷ 0x40 ∷ []
 
 -- nothing is known to be done
 nothing : HallCall → Type 0
@@ -245,9 +259,9 @@ refusal_has_its_status = (
   ),
 )
 
--- The statuses of the device, the printer and memory say that a run was cut off; that of a refusal doesn't, nor does 0.
-status_is_cut_off : (IsCutOff 22 × IsCutOff 24 × IsCutOff 25) × (¬ IsCutOff 21) × (¬ IsCutOff 0)
-status_is_cut_off = ((inl refl, inr (inl refl), inr (inr refl)), (λ no. omega (arith, no)), λ no. omega (arith, no))
+-- The statuses of the device, the printer and memory say that a run was cut off; that of a refusal doesn't, nor does 0, nor does 23 between them, which is that of cards that can't be read.
+status_is_cut_off : (IsCutOff 22 × IsCutOff 24 × IsCutOff 25) × (¬ IsCutOff 21) × (¬ IsCutOff 0) × (¬ IsCutOff 23)
+status_is_cut_off = ((inl refl, inr (inl refl), inr (inr refl)), (λ no. omega (arith, no)), (λ no. omega (arith, no)), λ no. omega (arith, no))
 
 -- A refusal is printed for its own cause, and none for a fault of the device or want of memory.
 refusal_is_printed_for_its_cause :
@@ -275,6 +289,26 @@ no_name_is_left_out set is = wrong is.0 is.1 (ap (λ (call : HallCall). drop 1 (
     wrong : (listed : List (List ℕ)) → IsListing (short ∷ []) listed → [] ≡ names_listing listed → ⊥
     wrong [] lists none = absurd (omega (arith, ap length (lists.same short)))
     wrong (name ∷ names) lists none = absurd (omega (arith, ap length none, length-append {A = ℕ}))
+
+-- The names are printed in the order of their bytes, and not in that of the slots.
+names_are_printed_in_order :
+    (set other : F1)
+    → IsNamesPrint (formats.F1 (record set { name = short_b }) ∷ formats.F1 (record other { name = short }) ∷ []) (Printing (codes "A\nB\n"))
+    × (¬ IsNamesPrint (formats.F1 (record set { name = short_b }) ∷ formats.F1 (record other { name = short }) ∷ []) (Printing (codes "B\nA\n")))
+unfolding names_listing name_line shown ascii_of code_page
+names_are_printed_in_order set other = ((short ∷ short_b ∷ [], record { sorted = ranked-sorted is_lower lower_is_order (short_b ∷ short ∷ []); same = ranked-stable is_lower lower_is_order (short_b ∷ short ∷ []) }, refl), λ is. wrong is.0 is.1 is.2)
+  where
+    is_lower : List ℕ → List ℕ → Bool
+    is_lower x y = is_lt (slice_cmp nat_cmp x y)
+
+    lower_is_order : IsStrictWeakOrder is_lower
+    lower_is_order = ranks_by nat_list_cmp_total (λ x. x)
+
+    wrong : (listed : List (List ℕ)) → IsListing (short_b ∷ short ∷ []) listed → Printing (codes "B\nA\n") ≡ Printing (names_listing listed) → ⊥
+    wrong listed lists is =
+        let ranked : listed ≡ short ∷ short_b ∷ [] = ranked-unique is_lower lower_is_order (short_b ∷ short ∷ []) listed lists.sorted lists.same in
+        let first : 66 ≡ 65 = ap (number 1) (is ∙ ap (λ (l : List (List ℕ)). Printing (names_listing l)) ranked) in
+        omega (arith, first)
 
 names_are_not_synced : (dscbs : List Dscb) → ¬ IsNamesPrint dscbs Syncing
 names_are_not_synced dscbs is = let no = is.2 in cc no
@@ -341,6 +375,10 @@ module _ (any : Vol) where
   unfolding wrote
   c_was_written = Does _ (refl, c_is_written wrote) refl
 
+  -- It is written on the only volume, and so by no operation on another.
+  other_volume_is_not_written : ¬ HasDone (IsOperationWrite (operation_on (statement pack01) 1) (holding any) wrote) wrote
+  other_volume_is_not_written (Does call is was) = let no = is.0 in omega (arith, no)
+
   -- It writes the DSCB under C, and makes a sync where that was written, on the only volume: no sync where it wasn't, nor on another volume, no print, and no write over another record of the track.
   operation_is_made :
       May 0 nothing (Writing 0 8881 (data_set c))
@@ -373,7 +411,7 @@ module _ (any : Vol) where
   pub unrefused : (done : HallCall → Type 0) (r : Refusal) → ¬ IsOutcome (holding any) (statement pack01) done (Err r)
   unrefused done r = ⊎_elim (λ other. other.0 refl) (λ reason. let none : ◌≡◌ {A = Option Refusal} None (Some r) = reason.1 in cc none)
 
-  -- The statement comes to OK where C was written, and not where nothing was done, nor to a refusal; on a pack of another serial it comes to the refusal for that, and neither to another nor to OK.
+  -- The statement comes to OK where C was written, and not where nothing was done, nor to a refusal; on a pack of another serial it comes to the refusal for that, and neither to another nor to OK. One whose data set isn't there comes to the refusal for that on its pack, and not to another; and on a pack of another serial it doesn't come to it.
   statement_has_its_outcome :
       IsOutcome (holding any) (statement pack01) wrote (Ok tt)
       × (¬ IsOutcome (holding any) (statement pack01) nothing (Ok tt))
@@ -381,6 +419,9 @@ module _ (any : Vol) where
       × IsOutcome (holding any) (statement []) nothing (Err NoVolume)
       × (¬ IsOutcome (holding any) (statement []) nothing (Err NoSet))
       × (¬ IsOutcome (holding any) (statement []) wrote (Ok tt))
+      × IsOutcome (holding any) (lacking pack01) nothing (Err NoSet)
+      × (¬ IsOutcome (holding any) (lacking pack01) nothing (Err SetExists))
+      × (¬ IsOutcome (holding any) (lacking []) nothing (Err NoSet))
   statement_has_its_outcome = (
     (refl, c_was_written),
     λ is. none_done is.1,
@@ -388,6 +429,9 @@ module _ (any : Vol) where
     inl (another_serial, refl),
     ⊎_elim (λ is. cc is.1) (λ is. another_serial is.0),
     λ is. another_serial is.0,
+    inr (refl, refl),
+    ⊎_elim (λ is. is.0 refl) (λ is. cc is.1),
+    ⊎_elim (λ is. cc is.1) (λ is. another_serial is.0),
   )
 
   -- Where the volume has its serial, the write and the sync of its operation are calls of a statement: no sync where the write wasn't done, neither of them on a pack of another serial, no print of the line, and no attachment.

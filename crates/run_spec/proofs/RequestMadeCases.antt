@@ -8,7 +8,7 @@ use Rattle.ckd_image.specs.Reading.{is_front, records_of, records_to_end, record
 use Rattle.dscb_codec.specs.declared.Dscb.{Dscb}
 use Rattle.dscb_codec.specs.declared.Dscb.TheVariants as formats
 use Rattle.dscb_codec.specs.declared.F1.{F1}
-use Rattle.hall_core.specs.Facts.{Attached, CallsAtMost, uncounted}
+use Rattle.hall_core.specs.Facts.{Attached, Calls, CallsAtMost, uncounted}
 use Rattle.hall_core.specs.Made.{DoneSince, HallCall, HasDone, Does, MakesOnly, StaysDone, Attaching, Giving, Lacking, Printing, Reading, Syncing}
 use Rattle.pack_spec.specs.declared.MountErr.{MountErr}
 use Rattle.pack_spec.specs.declared.MountErr.TheVariants as mount
@@ -24,7 +24,7 @@ use Rattle.vtoc_index.proofs.GivenLemmas.{index_still, reason_still}
 use Rattle.vtoc_index.proofs.TracksGiven.{given_one}
 use Rattle.vtoc_index.proofs.SmallPack.{first_track, format_4, format_5, header_is_read, image, index, one_cylinder, pack01, slot_on, two_tracks}
 use Rattle.run_spec.specs.Lines.{deck_line, reason_of, unit_line, words_line}
-use Rattle.run_spec.specs.Made.{Answered, Formless, IsMountCall, IsNamesPrint, IsRefusalPrint, IsRefusalStatus, IsStatementCall, Makes, MakesEach, Mounts, OnPack, OnRequest, OnStatement, Operates, Refuses, SaysNames, SaysOnly, SaysWhy, Stated, Unread}
+use Rattle.run_spec.specs.Made.{Answered, CallsOfStatement, Formless, IsMountCall, IsNamesPrint, IsRefusalPrint, IsRefusalStatus, IsStatementCall, Makes, MakesEach, Mounts, OnPack, OnRequest, OnStatement, Operates, Refuses, SaysNames, SaysOnly, SaysWhy, Stated, Unread}
 use Rattle.run_spec.specs.Mount.{IsUnmounted, Missing, Unattached, Unfit}
 use Rattle.run_spec.specs.Words.{Names, Request, Run}
 use Rattle.run_spec.proofs.CaseRuns.{AreApart, IsIn, calls, done, done_later, done_ever, made, made_once, none_printed, number, numbers_in, once, synced, told_lacking, unmade, weight}
@@ -100,7 +100,7 @@ text_is_said text = (
 
 -- ---- why a file is refused
 
--- With 21 the line of the reason was printed: not where nothing was, nor where that of another reason was, and nothing is synced with it; and with 22 the device failed, and then none is printed.
+-- With 21 the line of the reason was printed: not where nothing was, nor where that of another reason was; it isn't printed twice, and nothing is synced with it; and with 22 the device failed, and then none is printed.
 reason_is_said :
     Why (Printing (unit_line file mount.NoLabel) ∷ []) mount.NoLabel 21 0 1
     × Why [] mount.Device 22 0 0
@@ -108,6 +108,7 @@ reason_is_said :
     × (¬ Why (Printing (unit_line file mount.NoFile) ∷ []) mount.NoLabel 21 0 1)
     × (¬ Why (Printing (unit_line file mount.Device) ∷ []) mount.Device 22 0 1)
     × (¬ Why (Printing (unit_line file mount.NoLabel) ∷ Syncing ∷ []) mount.NoLabel 21 0 2)
+    × (¬ Why (Printing (unit_line file mount.NoLabel) ∷ Printing (unit_line file mount.NoLabel) ∷ []) mount.NoLabel 21 0 2)
 unfolding unit_line reason_of
 reason_is_said = (
   record { print = print_alone (IsRefusalPrint file mount.NoLabel) _ ((λ no. cc no), (λ no. cc no), refl); said = λ is. inl refl; status_is = inr ((λ no. cc no), inr ((λ no. cc no), inl refl)) },
@@ -116,6 +117,7 @@ reason_is_said = (
   λ why. ⊎_elim (λ is. let wrong : 76 ≡ 70 = ap (number 22) is in omega (arith, wrong)) (λ no. no) (why.said refl),
   λ why. let more : made (Printing (unit_line file mount.Device) ∷ []) 1 (Printing (unit_line file mount.Device)) ≤ 0 = why.print.only (Printing (unit_line file mount.Device)) (λ is. is.1 refl) in omega (arith, more, made_once (Printing (unit_line file mount.Device)) refl),
   λ why. let more : made (Printing (unit_line file mount.NoLabel) ∷ Syncing ∷ []) 2 Syncing ≤ 0 = why.print.only Syncing (λ no. cc no.2) in omega (arith, more, made_once Syncing refl),
+  λ why. let line : HallCall = Printing (unit_line file mount.NoLabel) in let twice : made (line ∷ line ∷ []) 2 line ≤ 1 = why.print.once line in omega (arith, twice, made_once line refl),
 )
 
 -- a fault of the device and want of memory don't have the status of a line
@@ -132,19 +134,21 @@ module _ (any : Vol) (set : F1) where
   abbrev one_set : Vol
   one_set = record (index any) { slots = record (index any).slots { len = 2; cap = 2; items = formats.F1 (record set { name = short }) ∷ formats.F0 ∷ []; ok = (refl, omega arith); small = omega arith } }
 
-  -- With 0 the names were printed: not where nothing was, and not with a sync; and no status is given but that or one of a fault of the printer or of memory.
+  -- With 0 the names were printed: not where nothing was, not with a sync, and not twice; and no status is given but that or one of a fault of the printer or of memory.
   names_are_said :
       Lists (Printing (codes "A\n") ∷ []) one_set 0 0 1
       × Lists [] one_set 24 0 0
       × (¬ Lists [] one_set 0 0 0)
       × (¬ Lists (Printing (codes "A\n") ∷ Syncing ∷ []) one_set 0 0 2)
       × (¬ Lists [] one_set 21 0 0)
+      × (¬ Lists (Printing (codes "A\n") ∷ Printing (codes "A\n") ∷ []) one_set 0 0 2)
   names_are_said = (
     record { print = print_alone (IsNamesPrint one_set.slots.items) _ (names_are_printed set); said = λ is. Does _ (names_are_printed set) (inl refl); status_is = inl refl },
     record { print = none_alone [] (IsNamesPrint one_set.slots.items) 0; said = λ is. absurd (omega (arith, is)); status_is = inr (inl refl) },
     λ lists. none_done (lists.said refl),
     λ lists. let more : made (Printing (codes "A\n") ∷ Syncing ∷ []) 2 Syncing ≤ 0 = lists.print.only Syncing (λ no. cc no.2) in omega (arith, more, made_once Syncing refl),
     λ lists. let no = lists.status_is in omega (arith, no),
+    λ lists. let twice : made (Printing (codes "A\n") ∷ Printing (codes "A\n") ∷ []) 2 (Printing (codes "A\n")) ≤ 1 = lists.print.once (Printing (codes "A\n")) in omega (arith, twice, made_once (Printing (codes "A\n")) refl),
   )
     where
       none_done : ¬ HasDone (IsNamesPrint one_set.slots.items) (λ call. ⊥)
@@ -432,6 +436,38 @@ nothing_acts_unread text acts (Mounts mid each vol of_unit given does) = unlabel
     unlabelled_so : ¬ IsLabelGiven (done (unread text) mid) vol.unit vol.geometry given.label
     unlabelled_so (Gives bytes size gave is) = let at = (given_unread text (done_ever (unread text) mid _ gave)).0 in omega (arith, at)
 
+-- the header is read twice, and the device fails; or the pack is mounted behind such a read more, and a text is printed
+abbrev header : HallCall
+header = Reading 0 0 512
+
+abbrev reread : List HallCall
+reread = Attaching file ∷ header ∷ header ∷ []
+
+abbrev mounted_again : List ℕ → List HallCall
+mounted_again text = header ∷ mounting (Printing text ∷ [])
+
+-- No read of a mount is made twice, neither where the file is refused then nor where it is mounted.
+mount_reads_once :
+    (text : List ℕ)
+    → (¬ Asked reread (Some (Names file)) (λ deck. ⊤) one_unit 22 0 3)
+    × (¬ Asked (mounted_again text) (Some (Names file)) (λ deck. ⊤) one_unit 0 0 11)
+mount_reads_once text = (reread_not, mounted_not)
+  where
+    reread_not : ¬ Asked reread (Some (Names file)) (λ deck. ⊤) one_unit 22 0 3
+    reread_not (Refuses mid each why unmounted said) =
+        let once_at_most : made reread mid header ≤ 1 = each.once header in
+        let none_behind : made reread 3 header ≤ made reread mid header = said.print.only header (λ no. cc no.2) in
+        omega (arith, once_at_most, none_behind, made_once header refl)
+    reread_not (Mounts mid each vol of_unit given lists) = let no = lists.status_is in omega (arith, no)
+
+    mounted_not : ¬ Asked (mounted_again text) (Some (Names file)) (λ deck. ⊤) one_unit 0 0 11
+    mounted_not (Refuses mid each why unmounted said) = let no = said.status_is in omega (arith, no)
+    mounted_not (Mounts mid each vol of_unit given lists) =
+        let run : List HallCall = mounted_again text in
+        let once_at_most : made run mid header ≤ 1 = each.once header in
+        let none_behind : made run 11 header ≤ made run mid header = lists.print.only header (λ no. cc no.2) in
+        omega (arith, once_at_most, none_behind, made_once header refl)
+
 -- ---- what is asked for
 
 -- Words that ask for nothing make a print of their refusal, which 20 says was made, and no call else: no other text, nothing is attached, and no other status is given but that of a fault of the printer or of memory.
@@ -543,6 +579,53 @@ deck_is_refused = (
 -- the deck is the statement by which A becomes C
 abbrev deck_of_it : Option Rename → Type 0
 deck_of_it deck = deck ≡ Some (statement pack01)
+
+-- the line that refuses a deck
+abbrev deck_refusal : HallCall
+deck_refusal = Printing (codes "VOLMAN DECK FORM\n")
+
+-- A deck that is a statement isn't refused as none: neither with the status of that, nor with that of a fault of the printer.
+statement_is_not_refused : (¬ Asked (deck_refusal ∷ []) (Some (Run file)) deck_of_it [] 26 0 1) × (¬ Asked (deck_refusal ∷ []) (Some (Run file)) deck_of_it [] 24 0 1)
+unfolding unit_line
+statement_is_not_refused = (refused_not, failed_not)
+  where
+    refused_not : ¬ Asked (deck_refusal ∷ []) (Some (Run file)) deck_of_it [] 26 0 1
+    refused_not (Unread status none) = omega (arith, status)
+    refused_not (Formless deck says) = cc deck
+    refused_not (Stated s deck (Refuses mid each why unmounted said)) = let no = said.status_is in omega (arith, no)
+    refused_not (Stated s deck (Mounts mid each vol of_unit given acts)) = let low = of_unit.attached in omega (arith, low)
+
+    other_line : {why : MountErr} → ¬ IsRefusalPrint file why deck_refusal
+    other_line is = let wrong : 68 ≡ 85 = ap (number 8) is.2 in omega (arith, wrong)
+
+    failed_not : ¬ Asked (deck_refusal ∷ []) (Some (Run file)) deck_of_it [] 24 0 1
+    failed_not (Unread status none) = omega (arith, status)
+    failed_not (Formless deck says) = cc deck
+    failed_not (Stated s deck (Refuses mid each why unmounted said)) =
+        let before : made (deck_refusal ∷ []) mid deck_refusal ≤ 0 = each.only deck_refusal (mount_prints_not [] _) in
+        let all : made (deck_refusal ∷ []) 1 deck_refusal ≤ made (deck_refusal ∷ []) mid deck_refusal = said.print.only deck_refusal other_line in
+        omega (arith, before, all, made_once deck_refusal refl)
+    failed_not (Stated s deck (Mounts mid each vol of_unit given acts)) = let low = of_unit.attached in omega (arith, low)
+
+-- No statement is run but that of the deck, and so none where the deck is none.
+no_other_statement_is_run : ¬ Asked (mounting renaming) (Some (Run file)) (λ deck. deck ≡ None) one_unit 0 0 13
+no_other_statement_is_run (Unread status none) = omega (arith, status)
+no_other_statement_is_run (Formless deck says) = let no = says.status_is in omega (arith, no)
+no_other_statement_is_run (Stated s deck on) = cc deck
+
+-- so many reads, writes, syncs, prints and attachments
+abbrev counted : ℕ → ℕ → ℕ → ℕ → ℕ → Calls
+counted reads writes syncs prints attachments = record { reads = reads; writes = writes; syncs = syncs; prints = prints; attachments = attachments }
+
+-- One read, one write, two syncs and one print are made for a statement on a pack: not one more of any, and no attachment.
+calls_of_statement :
+    CallsOfStatement (counted 3 3 3 3 3) (counted 4 4 5 4 3)
+    × (¬ CallsOfStatement (counted 3 3 3 3 3) (counted 5 4 5 4 3))
+    × (¬ CallsOfStatement (counted 3 3 3 3 3) (counted 4 5 5 4 3))
+    × (¬ CallsOfStatement (counted 3 3 3 3 3) (counted 4 4 6 4 3))
+    × (¬ CallsOfStatement (counted 3 3 3 3 3) (counted 4 4 5 5 3))
+    × (¬ CallsOfStatement (counted 3 3 3 3 3) (counted 4 4 5 4 4))
+calls_of_statement = ((omega arith, omega arith, omega arith, omega arith, omega arith), λ few. omega (arith, few.0), λ few. omega (arith, few.1), λ few. omega (arith, few.2), λ few. omega (arith, few.3), λ few. omega (arith, few.4))
 
 -- the line is printed twice
 abbrev twice : List HallCall

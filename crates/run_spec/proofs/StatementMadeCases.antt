@@ -1,5 +1,5 @@
 -- The calls of a statement from its operation to its end, on runs that a near reading of Made.antt and Statement.antt answers otherwise. Each comment names what such a reading would let through.
-use Rattle.std.proofs.Common.{◌≡◌, ◌≤◌, ◌<◌, ⊎_elim, inl, inr, ℕ, zero, suc, List, [], ◌∷◌, Some, None, refl, sym, ap, subst, ◌∙◌, arith}
+use Rattle.std.proofs.Common.{◌≡◌, ◌≤◌, ◌<◌, ◌+◌, ⊎_elim, inl, inr, ℕ, zero, suc, List, [], ◌∷◌, Some, None, refl, sym, ap, subst, ◌∙◌, arith}
 use Rattle.std.specs.Prelude.{⊤, Option, Result, Ok, Err}
 use Rattle.hall_core.proofs.MadeLemmas.{since_done}
 use Rattle.hall_core.specs.Facts.{CallsAtMost}
@@ -195,6 +195,60 @@ module _ (any : Vol) where
       last_sync : MakesEach (made renaming) (done renaming) (synced renaming) (calls renaming) (λ call. call ≡ Syncing) 3 4
       last_sync = record { only = λ call other. let none = unmade Syncing call other in omega (arith, none); once = λ call. let one = at_most Syncing call in omega (arith, one); kept = done_later renaming 3 4 (omega arith) }
 
+  -- With 25 no line was printed behind the operation and no sync made, and one that came to nothing made neither a sync nor a print.
+  memory_runs_out_before_the_line :
+      (¬ EndsSo renaming (statement pack01) 25 2 3)
+      × (¬ EndsSo (Syncing ∷ []) (statement pack01) 25 0 1)
+      × (¬ EndsSo (Syncing ∷ []) (statement pack01) 25 1 1)
+      × (¬ EndsSo (ok_line ∷ []) (statement pack01) 25 1 1)
+  memory_runs_out_before_the_line = (line_not, sync_not, synced_not, printed_not)
+    where
+      no_code : (outcome : Result (Unit {0}) Refusal) → ¬ (25 ≡ code_for outcome)
+      no_code (Ok x) is = omega (arith, is)
+      no_code (Err r) is = omega (arith, is)
+
+      line_not : ¬ EndsSo renaming (statement pack01) 25 2 3
+      line_not (Faulted none is) = omega (arith, is)
+      line_not (RanOut none is came_or_few) = let more : made renaming 3 ok_line ≤ made renaming 2 ok_line = none.only ok_line (λ no. no) in omega (arith, more, made_once ok_line refl)
+      line_not (Unprinted outcome came only is) = omega (arith, is)
+      line_not (Answered outcome came said only was sync is) = ⊎_elim (λ no. no_code outcome no.0) (λ no. omega (arith, no)) is
+
+      sync_not : ¬ EndsSo (Syncing ∷ []) (statement pack01) 25 0 1
+      sync_not (Faulted none is) = omega (arith, is)
+      sync_not (RanOut none is came_or_few) = let more : made (Syncing ∷ []) 1 Syncing ≤ made (Syncing ∷ []) 0 Syncing = none.only Syncing (λ no. no) in omega (arith, more, made_once Syncing refl)
+      sync_not (Unprinted outcome came only is) = omega (arith, is)
+      sync_not (Answered outcome came said only was sync is) = ⊎_elim (λ no. no_code outcome no.0) (λ no. omega (arith, no)) is
+
+      none_came : (outcome : Result (Unit {0}) Refusal) → ¬ Came (Syncing ∷ []) (statement pack01) 1 outcome
+      none_came (Ok x) came = none_written (Syncing ∷ []) 1 (λ at bytes. ⊎_elim (λ no. cc no) (λ no. no)) came.0.1
+      none_came (Err r) came = unrefused any (did (Syncing ∷ []) 1) r came.0
+
+      synced_not : ¬ EndsSo (Syncing ∷ []) (statement pack01) 25 1 1
+      synced_not (Faulted none is) = omega (arith, is)
+      synced_not (RanOut none is came_or_few) = ⊎_elim (λ came. none_came came.0 came.1) (λ few. let syncs = few.2 in omega (arith, syncs)) came_or_few
+      synced_not (Unprinted outcome came only is) = omega (arith, is)
+      synced_not (Answered outcome came said only was sync is) = none_came outcome came
+
+      none_printed : (outcome : Result (Unit {0}) Refusal) → ¬ Came (ok_line ∷ []) (statement pack01) 1 outcome
+      none_printed (Ok x) came = let no = came.1 in cc no
+      none_printed (Err r) came = unrefused any (did (ok_line ∷ []) 1) r came.0
+
+      printed_not : ¬ EndsSo (ok_line ∷ []) (statement pack01) 25 1 1
+      printed_not (Faulted none is) = omega (arith, is)
+      printed_not (RanOut none is came_or_few) = ⊎_elim (λ came. none_printed came.0 came.1) (λ few. let prints = few.3 in omega (arith, prints)) came_or_few
+      printed_not (Unprinted outcome came only is) = omega (arith, is)
+      printed_not (Answered outcome came said only was sync is) = none_printed outcome came
+
+  -- Behind the line one sync alone is made.
+  line_is_synced_once : ¬ EndsSo (no_volume_line ∷ Syncing ∷ Syncing ∷ []) (statement []) 8 0 3
+  line_is_synced_once (Faulted none is) = omega (arith, is)
+  line_is_synced_once (RanOut none is came_or_few) = omega (arith, is)
+  line_is_synced_once (Unprinted outcome came only is) = omega (arith, is)
+  line_is_synced_once (Answered outcome came said only was sync is) =
+      let twice : made (no_volume_line ∷ Syncing ∷ Syncing ∷ []) 3 Syncing ≤ made (no_volume_line ∷ Syncing ∷ Syncing ∷ []) said Syncing + 1 = sync.once Syncing in
+      let before : made (no_volume_line ∷ Syncing ∷ Syncing ∷ []) said Syncing ≤ 0 = only.only Syncing (λ no. cc no) in
+      omega (arith, twice, before, made_once Syncing refl)
+
   is_write : (n : ℕ) (call : HallCall) → call ≡ write → IsStatementCall (holding any) (statement pack01) (did renaming n) call
   is_write n call is = subst (IsStatementCall (holding any) (statement pack01) (did renaming n)) (sym is) (refl, c_is_put any (did renaming n))
 
@@ -229,10 +283,33 @@ module _ (any : Vol) where
   none_synced (suc (suc zero)) is none = cc is
   none_synced (suc (suc (suc n))) is none = omega (arith, none, made_once ok_line refl)
 
-  -- Code 0 isn't given where the operation wasn't synced before the line, nor where the line was printed before the write.
-  line_waits_for_the_sync : (¬ On unsynced (statement pack01) 0 0 3) × (¬ On early (statement pack01) 0 0 4)
-  line_waits_for_the_sync = (unsynced_not, early_not)
+  -- Code 0 isn't given where the operation wasn't synced before the line, nor where the line was printed before the write; and where it wasn't synced, the line goes neither with a fault of the printer nor with one of the device.
+  line_waits_for_the_sync :
+      (¬ On unsynced (statement pack01) 0 0 3)
+      × (¬ On early (statement pack01) 0 0 4)
+      × (¬ On unsynced (statement pack01) 24 0 2)
+      × (¬ On unsynced (statement pack01) 22 0 2)
+  line_waits_for_the_sync = (unsynced_not, early_not, untried, unfaulted)
     where
+      none_came : (n : ℕ) (outcome : Result (Unit {0}) Refusal) → made unsynced n ok_line ≤ 0 → ¬ Came unsynced (statement pack01) n outcome
+      none_came n (Ok x) none came = none_synced n came.1 none
+      none_came n (Err r) none came = unrefused_there unsynced n r came
+
+      untried : ¬ On unsynced (statement pack01) 24 0 2
+      untried (Operates behind ops (Faulted none is)) = omega (arith, is)
+      untried (Operates behind ops (RanOut none is came_or_few)) = omega (arith, is)
+      untried (Operates behind ops (Unprinted outcome came only is)) = none_came behind outcome (ops.only ok_line (λ call. prints_not call.1.1)) came
+      untried (Operates behind ops (Answered outcome came said only was sync is)) = none_came behind outcome (ops.only ok_line (λ call. prints_not call.1.1)) came
+
+      unfaulted : ¬ On unsynced (statement pack01) 22 0 2
+      unfaulted (Operates behind ops (Faulted none is)) =
+          let at_all : made unsynced 2 ok_line ≤ made unsynced behind ok_line = none.only ok_line (λ no. no) in
+          let before : made unsynced behind ok_line ≤ 0 = ops.only ok_line (λ call. prints_not call.1.1) in
+          omega (arith, at_all, before, made_once ok_line refl)
+      unfaulted (Operates behind ops (RanOut none is came_or_few)) = omega (arith, is)
+      unfaulted (Operates behind ops (Unprinted outcome came only is)) = omega (arith, is)
+      unfaulted (Operates behind ops (Answered outcome came said only was sync is)) = none_came behind outcome (ops.only ok_line (λ call. prints_not call.1.1)) came
+
       unsynced_not : ¬ On unsynced (statement pack01) 0 0 3
       unsynced_not (Operates behind ops (Faulted none is)) = omega (arith, is)
       unsynced_not (Operates behind ops (RanOut none is came_or_few)) = omega (arith, is)
@@ -251,14 +328,32 @@ module _ (any : Vol) where
       early_not (Operates behind ops (Answered (Err r) came said only was sync is)) = unrefused_there early behind r came
       early_not (Operates behind ops (Answered (Ok x) came said only was sync is)) = none_early behind came.1 (ops.only ok_line (λ call. prints_not call.1.1))
 
-  -- Code 0 isn't given where nothing was written, nor where the line wasn't printed, nor before the last sync; and code 8 isn't given with the line of OK.
+  -- Code 0 isn't given where nothing was written, nor where the line wasn't printed, nor before the last sync; and code 8 isn't given with the line of OK. A sync made before the statement isn't enough: where nothing was written, neither code 0 nor a fault of the printer goes with the line of OK.
   code_says_what_was_done :
       (¬ On unwritten (statement pack01) 0 0 3)
       × (¬ On unprinted (statement pack01) 0 0 3)
       × (¬ On renaming (statement pack01) 0 0 3)
       × (¬ On renaming (statement pack01) 8 0 4)
-  code_says_what_was_done = (unwritten_not, unprinted_not, before_the_last, other_code)
+      × (¬ On unwritten (statement pack01) 0 1 3)
+      × (¬ On unwritten (statement pack01) 24 1 2)
+  code_says_what_was_done = (unwritten_not, unprinted_not, before_the_last, other_code, synced_before, untried)
     where
+      none_came : (n : ℕ) (outcome : Result (Unit {0}) Refusal) → ¬ Came unwritten (statement pack01) n outcome
+      none_came n (Ok x) came = none_written unwritten n (λ at bytes. ⊎_elim (λ no. cc no) (⊎_elim (λ no. cc no) (⊎_elim (λ no. cc no) (λ no. no)))) came.0.1
+      none_came n (Err r) came = unrefused_there unwritten n r came
+
+      synced_before : ¬ On unwritten (statement pack01) 0 1 3
+      synced_before (Operates behind ops (Faulted none is)) = omega (arith, is)
+      synced_before (Operates behind ops (RanOut none is came_or_few)) = omega (arith, is)
+      synced_before (Operates behind ops (Unprinted outcome came only is)) = omega (arith, is)
+      synced_before (Operates behind ops (Answered outcome came said only was sync is)) = none_came behind outcome came
+
+      untried : ¬ On unwritten (statement pack01) 24 1 2
+      untried (Operates behind ops (Faulted none is)) = omega (arith, is)
+      untried (Operates behind ops (RanOut none is came_or_few)) = omega (arith, is)
+      untried (Operates behind ops (Unprinted outcome came only is)) = none_came behind outcome came
+      untried (Operates behind ops (Answered outcome came said only was sync is)) = none_came behind outcome came
+
       unwritten_not : ¬ On unwritten (statement pack01) 0 0 3
       unwritten_not (Operates behind ops (Faulted none is)) = omega (arith, is)
       unwritten_not (Operates behind ops (RanOut none is came_or_few)) = omega (arith, is)
@@ -424,7 +519,7 @@ module _ (any : Vol) where
 
   -- ---- on a machine
 
-  -- What ends a statement by its answer: the print of its line with its code, or with a fault of the printer, which may be none; and nothing behind another fault. No code goes with another outcome or where the line wasn't printed, no fault of the device and no want of memory with the line, and neither a code nor a fault of the printer with a sync.
+  -- What ends a statement by its answer: the print of its line with its code, or with a fault of the printer, which may be none; and nothing behind another fault. No code goes with another outcome or where the line wasn't printed, no fault of the device and no want of memory with the line, and neither a code nor a fault of the printer with a sync; nor is a line tried where the statement came to nothing.
   answer_ends_the_statement :
       Line (done renaming 3) 2 3 (Ok 0)
       × Line nothing 2 3 (Err Print)
@@ -439,6 +534,7 @@ module _ (any : Vol) where
       × (¬ Line (done renaming 3) 2 3 (Err Memory))
       × Cut ⊤
       × (¬ Cut ⊥)
+      × (¬ EndsInLine (statement pack01) (λ outcome. ⊥) ⊤ nothing (made renaming 2) (made renaming 3) (Err Print))
   answer_ends_the_statement = (
     (Ok tt, refl, refl, ok_printed, inr (inr (inl refl))),
     (Ok tt, refl, ok_printed),
@@ -453,9 +549,10 @@ module _ (any : Vol) where
     λ is. let more : made renaming 3 ok_line ≤ made renaming 2 ok_line = is.0 ok_line (λ no. no) in omega (arith, more, made_once ok_line refl),
     (λ call other. omega arith, inr tt),
     λ is. ⊎_elim (λ came. came.1) (λ no. no) is.1,
+    λ is. is.1,
   )
 
-  -- The statement runs on a machine by its operation and what ends it, or up to a fault of the device at that. Its code isn't given without the sync of the operation, nor where the line wasn't printed, nor that of another outcome; and neither a fault of the device is answered where the line was printed, nor want of memory.
+  -- The statement runs on a machine by its operation and what ends it, or up to a fault of the device at that. Its code isn't given without the sync of the operation, nor where the line wasn't printed, nor that of another outcome; and neither a fault of the device is answered where the line was printed, nor want of memory. One of the printer is answered behind the operation, and not where that has no sync.
   statement_runs :
       Runs renaming (Ok 0) 0 3
       × Runs renaming (Err Device) 0 1
@@ -467,6 +564,8 @@ module _ (any : Vol) where
       × Runs renaming (Err Memory) 0 2
       × Runs renaming (Err Memory) 0 0
       × (¬ Runs renaming (Err Memory) 0 1)
+      × Runs renaming (Err Print) 0 3
+      × (¬ Runs unsynced (Err Print) 0 2)
   statement_runs = (
     Ends 2 operation_made (Ok tt, ok_came, refl, ok_printed, inr (inr (inl refl))) (done_later renaming 0 2 (omega arith)) (done_later renaming 2 3 (omega arith)),
     Ends 1 (λ call other. let none = unmade write call (λ is. other (is_write 1 call is)) in omega (arith, none)) (λ call other. omega arith) (done_later renaming 0 1 (omega arith)) (λ call was. was),
@@ -478,6 +577,8 @@ module _ (any : Vol) where
     Ends 2 operation_made (λ call other. omega arith, inl (Ok tt, ok_came)) (done_later renaming 0 2 (omega arith)) (λ call was. was),
     Ends 0 (λ call other. omega arith) (λ call other. omega arith, inr (omega arith, omega arith, omega arith, omega arith, omega arith)) (λ call was. was) (λ call was. was),
     unsynced_memory,
+    Ends 2 operation_made (Ok tt, ok_came, ok_printed) (done_later renaming 0 2 (omega arith)) (done_later renaming 2 3 (omega arith)),
+    unsynced_print,
   )
     where
       unsynced_memory : ¬ Runs renaming (Err Memory) 0 1
@@ -491,6 +592,9 @@ module _ (any : Vol) where
 
       unsynced_not : ¬ Runs unsynced (Ok 0) 0 2
       unsynced_not (Ends behind ops line first last) = unsynced_came line.0 behind line.1 (ops ok_line (λ call. prints_not call.1.1))
+
+      unsynced_print : ¬ Runs unsynced (Err Print) 0 2
+      unsynced_print (Ends behind ops line first last) = unsynced_came line.0 behind line.1 (ops ok_line (λ call. prints_not call.1.1))
 
       unprinted_not : ¬ Runs unprinted (Ok 0) 0 3
       unprinted_not (Ends behind ops line first last) = ⊎_elim (λ no. cc no) (⊎_elim (λ no. cc no) (⊎_elim (λ no. cc no) (λ no. no))) line.4

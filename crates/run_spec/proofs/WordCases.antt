@@ -39,13 +39,14 @@ file_words = (refl, refl, refl, refl, refl)
 digits_count : (value_of 48 ≡ 0) × (value_of 57 ≡ 9)
 digits_count = (refl, refl)
 
--- days run from 1 to 366 in each year
-days : (is_day 48 48 49 ≡ true) × (is_day 51 54 54 ≡ true) × (is_day 48 48 48 ≡ false) × (is_day 51 54 55 ≡ false)
-days = (refl, refl, refl, refl)
+-- days run from 1 to 366 in each year, the tens before the ones
+days : (is_day 48 48 49 ≡ true) × (is_day 51 54 54 ≡ true) × (is_day 48 48 48 ≡ false) × (is_day 51 54 55 ≡ false) × (is_day 51 53 55 ≡ true) × (is_day 51 55 53 ≡ false)
+days = (refl, refl, refl, refl, refl, refl)
 
--- a date has five digits, the year first
+-- a date has five digits, the year first, and no other character in any place
 dates : (is_date (codes "75032") ≡ true) × (is_date (codes "00366") ≡ true) × (is_date (codes "36600") ≡ false) × (is_date (codes "7503") ≡ false) × (is_date (codes "750320") ≡ false) × (is_date (codes "7503A") ≡ false) × (is_date (codes "A5032") ≡ false)
-dates = (refl, refl, refl, refl, refl, refl, refl)
+    × (is_date (codes "7A032") ≡ false) × (is_date (codes "75A32") ≡ false) × (is_date (codes "75-32") ≡ false) × (is_date (codes "750A2") ≡ false)
+dates = (refl, refl, refl, refl, refl, refl, refl, refl, refl, refl, refl)
 
 -- `names` is written so to its last letter, and no other word; a file stands behind it, whose name may be that word
 names_alone : (names_request (codes "names") (codes "w.img") ≡ Some (Names (codes "w.img"))) × (names_request (codes "names") (codes "names") ≡ Some (Names (codes "names")))

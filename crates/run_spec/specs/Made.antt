@@ -51,6 +51,10 @@ IsStatementCall vol s done call = (vol.serial ≡ s.serial) × IsOperationCall (
 abbrev pub IsLinePrint : Rename → Result (Unit {0}) Refusal → HallCall → Type 0
 IsLinePrint s outcome call = call ≡ Printing (answer_line s outcome)
 
+-- one read, one write, two syncs and one print at most are made for a statement on a pack that is mounted
+abbrev pub CallsOfStatement : Calls → Calls → Type 0
+CallsOfStatement old new = CallsAtMost 1 1 2 1 old new
+
 -- Over a hall that is reached call by call: how often each call was made up to it, which were done, what holds behind a sync, and how many were made.
 module _ {T : Type 0} (made : T → HallCall → ℕ) (done : T → HallCall → Type 0) (synced : T → Type 0) (calls : T → Calls) where
   -- From one hall to another no call was made but these, and what was done before is done still.
@@ -110,7 +114,7 @@ module _ {T : Type 0} (made : T → HallCall → ℕ) (done : T → HallCall →
   pub data OnDeck (decks : Option Rename → Type 0) (file : List ℕ) (units : List Attached) (status : ℕ) (old new : T) : Type 0 where
     Unread : status ≡ 23 → Makes (λ call. ⊥) old new → OnDeck decks file units status old new
     Formless : decks None → SaysOnly deck_line 26 status old new → OnDeck decks file units status old new
-    Stated : (s : Rename) → decks (Some s) → OnPack file units status (λ vol mid. OnStatement vol s status mid new × CallsAtMost 1 1 2 1 (calls mid) (calls new)) old new → OnDeck decks file units status old new
+    Stated : (s : Rename) → decks (Some s) → OnPack file units status (λ vol mid. OnStatement vol s status mid new × CallsOfStatement (calls mid) (calls new)) old new → OnDeck decks file units status old new
 
   -- what was called where the words ask for this, the deck may be one of these, and these units are attached in the end
   abbrev pub OnRequest : Option Request → (Option Rename → Type 0) → List Attached → ℕ → T → T → Type 0

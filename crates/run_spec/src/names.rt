@@ -5,7 +5,7 @@ ghost use Rattle.run_spec.specs.Names.{names_in, set_name};
 use dscb_codec::Dscb;
 use std::alloc::{AllocError, Global};
 
-/// The name of a data set: 44 bytes in EBCDIC, with blanks behind it.
+/// The name of a data set: the 44 bytes of its key, as they stand on the pack, which may be any.
 pub type Name = [u8; 44];
 
 /// The names in the format 1 DSCBs among these, in their order. Fails only for want of memory.

@@ -2,15 +2,16 @@
 ghost use Rattle.std.specs.Prelude.{◌≡◌, IfOk};
 ghost use Rattle.run_spec.specs.Lines.{unit_line, names_listing};
 
+use crate::names::Name;
 use crate::reason::push_reason;
 use std::alloc::{AllocError, Global};
 use util_syntax::push_name_in_ascii;
 use vtoc_index::MountErr;
 
-/// Where the words are refused.
+/// The line that is printed where the words are refused.
 pub const WORDS_LINE: &[u8; 13] = b"VOLMAN WORDS\n";
 
-/// Where the deck is refused.
+/// The line that is printed where the deck is refused.
 pub const DECK_LINE: &[u8; 17] = b"VOLMAN DECK FORM\n";
 
 /// The line that says why a file is refused.
@@ -28,7 +29,7 @@ pub fn unit_line(alloc: Global, file: &str, why: MountErr) -> Result<Vec<u8>, Al
 
 /// The names, each on a line without the blanks behind it.
 #[tactic(auto, unfolding(crate::specs::Lines::names_listing, crate::specs::Lines::name_line))]
-pub fn listing(alloc: Global, names: &[[u8; 44]]) -> Result<Vec<u8>, AllocError>
+pub fn listing(alloc: Global, names: &[Name]) -> Result<Vec<u8>, AllocError>
     ensures { IfOk result (λ text. text.items ≡ names_listing names.now) }
 {
     let mut text = Vec::new(alloc);

@@ -1,5 +1,5 @@
 -- An index behind a rename on the small pack, in which A, in the fourth slot, becomes C, as `KeepsIndex` of Machine.antt has it. Each comment names what a near reading would let through.
-use Rattle.std.proofs.Common.{◌≡◌, ◌≤◌, ◌<◌, ◌+◌, ⊎_elim, inl, inr, ℕ, List, [], ◌∷◌, drop, get_or, take, Option, Some, None, refl, sym, ap, subst, ◌∙◌, arith}
+use Rattle.std.proofs.Common.{◌≡◌, ◌≤◌, ◌<◌, ◌+◌, ⊎_elim, inl, inr, ℕ, List, [], ◌∷◌, drop, get_or, length, take, Option, Some, None, refl, sym, ap, subst, ◌∙◌, arith}
 use Rattle.std.specs.Prelude.{Result, Ok, Err, IsErrOf, slice_get, slice_set}
 use Rattle.ckd_image.specs.Track.{Record}
 use Rattle.dscb_codec.specs.declared.Dscb.{Dscb}
@@ -50,6 +50,16 @@ renamed_alone after renames =
     let held : Some (formats.F1 (f1 a)) ≡ Some renames.dscb = subst (λ (k : ℕ). slice_get slots k ≡ Some renames.dscb) (sym slot) renames.held in
     let dscb : formats.F1 (f1 a) ≡ renames.dscb = cc in
     renames.slots ∙ ap (λ (k : ℕ). slice_set slots k (under_name c renames.dscb)) (sym slot) ∙ ap (λ (d : Dscb). slice_set slots 3 (under_name c d)) (sym dscb)
+
+-- That there is no such volume is named before each reason of the slots; on the only volume it is the reason of the slots, by the old name and the new one.
+volume_is_named_first :
+    (refusal_by (op 1 c a) slots ≡ Some NoVolume)
+    × (refusal_by (op 1 a b) slots ≡ Some NoVolume)
+    × (refusal_by (op 1 a c) slots ≡ Some NoVolume)
+    × (refusal_by (op 0 c a) slots ≡ Some NoSet)
+    × (refusal_by (op 0 a b) slots ≡ Some SetExists)
+    × (refusal_by (op 0 a c) slots ≡ None)
+volume_is_named_first = (refl, refl, refl, refl, refl, refl)
 
 -- the first letter of the name in a slot, or 0 where the slot has no set
 letter : List Dscb → ℕ → ℕ
@@ -147,6 +157,19 @@ module _ (any : Vol) where
   -- Nothing else of the index changes.
   rest_of_the_index_stays : ¬ Keeps (op 0 a c) (index any) (record (index any) { unit = 1 }) (Err Device)
   rest_of_the_index_stays keeps = let wrong : 1 ≡ 0 = ap (λ (v : Vol). v.unit) keeps.others in omega (arith, wrong)
+
+  -- neither its geometry, nor its VTOC, nor its serial, nor the numbers of its first slots
+  each_part_of_the_index_stays :
+      (¬ Keeps (op 0 a c) (index any) (record (index any) { geometry = record (index any).geometry { cylinders = 2 } }) (Err Device))
+      × (¬ Keeps (op 0 a c) (index any) (record (index any) { vtoc = record { start = 1; len = 3 } }) (Err Device))
+      × (¬ Keeps (op 0 a c) (index any) (record (index any) { serial = record { bytes = [] } }) (Err Device))
+      × (¬ Keeps (op 0 a c) (index any) (record (index any) { firsts = record (index any).firsts { items = 0 ∷ 3 ∷ [] } }) (Err Device))
+  each_part_of_the_index_stays = (
+    λ keeps. let wrong : 2 ≡ 1 = ap (λ (v : Vol). v.geometry.cylinders) keeps.others in omega (arith, wrong),
+    λ keeps. let wrong : 3 ≡ 2 = ap (λ (v : Vol). v.vtoc.len) keeps.others in omega (arith, wrong),
+    λ keeps. let wrong : 0 ≡ 6 = ap (λ (v : Vol). length v.serial.bytes) keeps.others in omega (arith, wrong),
+    λ keeps. let wrong : 3 ≡ 2 = ap (λ (v : Vol). get_or v.firsts.items 1 0) keeps.others in omega (arith, wrong),
+  )
 
   -- the index with the set in its buffer
   abbrev holding : Vol

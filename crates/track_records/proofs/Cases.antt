@@ -8,19 +8,19 @@ use Rattle.std.specs.Option.{option_map}
 use Rattle.ckd_image.specs.declared.device.DiskType.TheVariants.{D2311, D2314}
 use Rattle.ckd_image.specs.declared.header.Geometry.{Geometry}
 use Rattle.ckd_image.specs.Reading.{is_front, records_of, records_to_end, records_up_to}
-use Rattle.ckd_image.specs.Break.{break_of, break_up_to, pattern_break}
+use Rattle.ckd_image.specs.Break.{break_of, break_to_end, break_up_to, pattern_break}
 use Rattle.ckd_image.specs.Track.{BreaksAt, Follows, Record, end_marker}
 use Rattle.ckd_image.proofs.GrammarBreak.{kept_part}
 use Rattle.ckd_image.proofs.GrammarFirstBreak.{break_breaks}
 use Rattle.ckd_image.proofs.GrammarRecord.{AreBytes}
 use Rattle.hall_core.specs.Facts.{Attached, Facts}
 use Rattle.hall_core.specs.Files.{patched}
-use Rattle.hall_core.specs.Made.{Reading}
+use Rattle.hall_core.specs.Made.{HallCall, Giving, Reading}
 use Rattle.pack_spec.specs.Label.{records_on, track_bytes}
 use Rattle.pack_spec.specs.Views.{tracks_of}
 use Rattle.track_records.specs.Buffers.{Buffer, records_at, are_places, places_from, IsPartOf, IsContentOf}
-use Rattle.track_records.specs.Calls.{HasTrack, TrackCall, track_read}
-use Rattle.track_records.specs.Reads.{AreAllOrFirst, BreaksFirst, IsBroken, LacksFirst}
+use Rattle.track_records.specs.Calls.{Gives, HasGiven, HasTrack, TrackCall, records_by, track_read}
+use Rattle.track_records.specs.Reads.{AreAllOrFirst, BreaksFirst, IsBroken, IsGivenBroken, LacksFirst}
 use Rattle.track_records.specs.declared.error.TrackErr.TheVariants.{BadCount, Device}
 use Rattle.track_records.specs.Updates.{length_of, offset_of, with_parts, HasLengths, StandFrom}
 use Rattle.track_records.specs.Written.{IsUpdated, StandsOn, place_of, with_record}
@@ -408,3 +408,141 @@ lacks_on_its_track found = (λ lacks. lacks, tt)
 -- the byte is that of the track, and none is named where the first is whole
 lacks_there : LacksFirst small 0 (BadCount 25) broken_before × (¬ LacksFirst small 0 (BadCount 26) broken_before) × (¬ LacksFirst small 0 (BadCount 38) broken_behind)
 lacks_there = (breaks_at_r.0, breaks_nowhere_else.1, (has_first 38).1)
+
+-- ---- what reads gave
+
+-- a pack of tracks of so many bytes, and a hall whose fifth read gave these bytes of a unit
+abbrev sized : ℕ → Geometry
+sized size = record small { track_size = size }
+
+gave : ℕ → ℕ → List ℕ → HallCall → Type 0
+gave unit at found call = call ≡ Giving 4 unit at found
+
+-- of bytes that were given, their unit, their offset and what they are
+unit_in : HallCall → ℕ
+unit_in (Giving before unit at found) = unit
+unit_in call = 9
+
+at_in : HallCall → ℕ
+at_in (Giving before unit at found) = at
+at_in call = 9
+
+bytes_in : HallCall → List ℕ
+bytes_in (Giving before unit at found) = found
+bytes_in call = []
+
+-- what holds of a track that was given holds of these bytes
+given_is : (unit at : ℕ) (bytes : List ℕ) (g : Geometry) (track : ℕ) {holds : List ℕ → Type 0} → HasGiven (gave unit at bytes) unit g track holds → holds bytes
+unfolding gave bytes_in
+given_is unit at bytes g track {holds} (Gives found size was is) = let same : found ≡ bytes = ap bytes_in was in subst holds same is
+
+-- A read of the second track gave its bytes: none of another unit or track, nor fewer than it has, nor others; and the read alone gave none.
+bytes_are_given :
+    HasGiven (gave 1 563 good) 1 (sized 51) 1 (λ bytes. bytes ≡ good)
+    × (¬ HasGiven (gave 0 563 good) 1 (sized 51) 1 (λ bytes. bytes ≡ good))
+    × (¬ HasGiven (gave 1 512 good) 1 (sized 51) 1 (λ bytes. bytes ≡ good))
+    × (¬ HasGiven (gave 1 563 (take 50 good)) 1 (sized 51) 1 (λ bytes. bytes ≡ take 50 good))
+    × (¬ HasGiven (gave 1 563 (good ++ 0 ∷ [])) 1 (sized 51) 1 (λ bytes. bytes ≡ good ++ 0 ∷ []))
+    × (¬ HasGiven (gave 1 563 good) 1 (sized 51) 1 (λ bytes. bytes ≡ broken_behind))
+    × (¬ HasGiven (λ call. call ≡ Reading 1 563 51) 1 (sized 51) 1 (λ bytes. Unit {0}))
+unfolding gave unit_in at_in bytes_in
+bytes_are_given = (Gives good refl refl refl, unit_not, at_not, fewer_not, more_not, other_not, read_not)
+  where
+    unit_not : ¬ HasGiven (gave 0 563 good) 1 (sized 51) 1 (λ bytes. bytes ≡ good)
+    unit_not (Gives bytes size was is) = let wrong : 1 ≡ 0 = ap unit_in was in omega (arith, wrong)
+
+    at_not : ¬ HasGiven (gave 1 512 good) 1 (sized 51) 1 (λ bytes. bytes ≡ good)
+    at_not (Gives bytes size was is) = let wrong : 563 ≡ 512 = ap at_in was in omega (arith, wrong)
+
+    fewer_not : ¬ HasGiven (gave 1 563 (take 50 good)) 1 (sized 51) 1 (λ bytes. bytes ≡ take 50 good)
+    fewer_not (Gives bytes size was is) = let wrong : length bytes ≡ 50 = ap length is in omega (arith, wrong, size)
+
+    more_not : ¬ HasGiven (gave 1 563 (good ++ 0 ∷ [])) 1 (sized 51) 1 (λ bytes. bytes ≡ good ++ 0 ∷ [])
+    more_not (Gives bytes size was is) = let wrong : length bytes ≡ 52 = ap length is in omega (arith, wrong, size)
+
+    other_not : ¬ HasGiven (gave 1 563 good) 1 (sized 51) 1 (λ bytes. bytes ≡ broken_behind)
+    other_not (Gives bytes size was is) = let wrong : 2 ≡ 9 = ap (λ (l : List ℕ). get_or l 38 0) (sym (ap bytes_in was) ∙ is) in omega (arith, wrong)
+
+    read_not : ¬ HasGiven (λ call. call ≡ Reading 1 563 51) 1 (sized 51) 1 (λ bytes. Unit {0})
+    read_not (Gives bytes size was is) = let wrong : 1 ≡ 9 = ap unit_in was in omega (arith, wrong)
+
+-- track 25 is head 5 of cylinder 2, and what is read of it goes up to the record that was
+records_are_of_the_track : (found : List ℕ) → (records_by small (Some 3) 25 found ≡ records_of 2 5 (Some 3) found) × (records_by small None 25 found ≡ records_of 2 5 None found)
+records_are_of_the_track found = (refl, refl)
+
+-- so the bytes of track 0 are read as those of no other head, and as far as asked
+records_are_read : (records_by small None 0 good ≡ Some (r1 ∷ r2 ∷ [])) × (records_by small (Some 1) 0 good ≡ Some (r1 ∷ [])) × (records_by small None 1 good ≡ None) × (records_by small None 10 good ≡ None)
+unfolding records_of is_front records_to_end records_up_to
+records_are_read = (refl, refl, refl, refl)
+
+-- where the grammar breaks behind the first record, it does so at the R of the next
+behind_breaks : BreaksAt 0 0 None broken_behind 38
+unfolding break_of break_to_end pattern_break is_front
+behind_breaks = break_breaks 0 0 None broken_behind 38 (small_bytes broken_behind refl) tt refl
+
+-- A track is reported broken at the byte at which the bytes that were given break, as far as was asked: not at a neighbour, nor where good ones or none were given; a fault of the device says nothing of them.
+track_is_given_broken :
+    IsGivenBroken (gave 1 512 broken_before) 1 (sized 38) (Some 1) 0 (BadCount 25)
+    × (¬ IsGivenBroken (gave 1 512 broken_before) 1 (sized 38) (Some 1) 0 (BadCount 24))
+    × (¬ IsGivenBroken (gave 1 512 broken_before) 1 (sized 38) (Some 1) 0 (BadCount 26))
+    × IsGivenBroken (gave 1 512 broken_behind) 1 (sized 51) None 0 (BadCount 38)
+    × (¬ IsGivenBroken (gave 1 512 broken_behind) 1 (sized 51) (Some 1) 0 (BadCount 38))
+    × ((at : ℕ) → ¬ IsGivenBroken (gave 1 512 good) 1 (sized 51) None 0 (BadCount at))
+    × (¬ IsGivenBroken (λ call. ⊥) 1 (sized 38) (Some 1) 0 (BadCount 25))
+    × IsGivenBroken (λ call. ⊥) 1 (sized 38) (Some 1) 0 Device
+unfolding gave records_of is_front records_to_end records_up_to how_many
+track_is_given_broken = (
+  Gives broken_before refl refl (breaks_at_r.0.1.0, breaks_at_r.0.1.1),
+  λ given. let there = given_is 1 512 broken_before (sized 38) 0 given in breaks_once broken_before 24 25 there.1 breaks_at_r.0.1.1 (lit< tt),
+  λ given. let there = given_is 1 512 broken_before (sized 38) 0 given in breaks_once broken_before 25 26 breaks_at_r.0.1.1 there.1 (lit< tt),
+  Gives broken_behind refl refl (refl, behind_breaks),
+  λ given. let there = given_is 1 512 broken_behind (sized 51) 0 given in omega (arith, ap how_many there.0),
+  λ at given. let there = given_is 1 512 good (sized 51) 0 given in omega (arith, ap how_many there.0),
+  none_given,
+  tt,
+)
+  where
+    none_given : ¬ IsGivenBroken (λ call. ⊥) 1 (sized 38) (Some 1) 0 (BadCount 25)
+    none_given (Gives bytes size was is) = was
+
+-- The same of an image: its track breaks at that byte, and at no neighbour.
+image_broken : List ℕ
+image_broken = replicate 512 0 ++ broken_before
+
+track_is_broken : IsBroken image_broken small (Some 1) 0 (BadCount 25) × (¬ IsBroken image_broken small (Some 1) 0 (BadCount 24)) × (¬ IsBroken image_broken small (Some 1) 0 (BadCount 26))
+unfolding image_broken records_on track_bytes
+track_is_broken = (
+  (breaks_at_r.0.1.0, breaks_at_r.0.1.1),
+  λ broken. breaks_once broken_before 24 25 broken.1 breaks_at_r.0.1.1 (lit< tt),
+  λ broken. breaks_once broken_before 25 26 breaks_at_r.0.1.1 broken.1 (lit< tt),
+)
+
+-- track 25 breaks as head 5 of cylinder 2, as far as was asked
+given_broken_on_its_track : (done : HallCall → Type 0) → IsGivenBroken done 1 small (Some 3) 25 (BadCount 7) → HasGiven done 1 small 25 (λ found. (records_of 2 5 (Some 3) found ≡ None) × BreaksAt 2 5 (Some 3) found 7)
+given_broken_on_its_track done given = given
+
+-- the front of head 3 of cylinder 0, and behind it a record, or one of another number
+abbrev third_front : List ℕ
+third_front = (0 ∷ 0 ∷ 0 ∷ 0 ∷ 3 ∷ []) ++ (0 ∷ 0 ∷ 0 ∷ 3 ∷ 0 ∷ 0 ∷ 0 ∷ 8 ∷ []) ++ replicate 8 0
+
+abbrev third_good : List ℕ
+third_good = third_front ++ (0 ∷ 0 ∷ 0 ∷ 3 ∷ 1 ∷ 2 ∷ 0 ∷ 3 ∷ 65 ∷ 66 ∷ 97 ∷ 98 ∷ 99 ∷ []) ++ end_marker
+
+abbrev third_broken : List ℕ
+third_broken = third_front ++ (0 ∷ 0 ∷ 0 ∷ 3 ∷ 9 ∷ 0 ∷ 0 ∷ 1 ∷ 100 ∷ []) ++ end_marker
+
+-- Cylinder and head have their places: what is held or broken as head 3 of cylinder 0 isn't held as head 0 of cylinder 3, nor broken there at the same byte.
+cylinder_goes_before_head :
+    AreAllOrFirst 0 3 (Some 1) (first ∷ []) third_good
+    × (¬ AreAllOrFirst 3 0 (Some 1) (first ∷ []) third_good)
+    × BreaksFirst 0 3 25 third_broken
+    × BreaksFirst 3 0 2 third_broken
+    × LacksFirst small 3 (BadCount 25) third_broken
+unfolding records_of is_front records_to_end records_up_to how_many break_of break_up_to pattern_break
+cylinder_goes_before_head = (
+  (refl, refl),
+  λ are. absurd (omega (arith, ap how_many are.0)),
+  (refl, (refl, break_breaks 0 3 (Some 1) third_broken 25 (small_bytes third_broken refl) (lit< tt) refl)),
+  (refl, (refl, break_breaks 3 0 (Some 1) third_broken 2 (small_bytes third_broken refl) (lit< tt) refl)),
+  (refl, (refl, break_breaks 0 3 (Some 1) third_broken 25 (small_bytes third_broken refl) (lit< tt) refl)),
+)

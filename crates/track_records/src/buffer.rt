@@ -200,8 +200,9 @@ pub fn read_records<H: Hall>(
     }
 }
 
-/// Reads the records behind R0 of a track into the buffer up to the end marker, or where the track breaks
-/// that grammar, its first record alone. Gives their number, and none where the track breaks the grammar.
+/// Reads the records behind R0 of a track into the buffer up to the end marker, or where the track breaks the
+/// grammar (`track_of` of `ckd_image`) behind its first record, that record alone. Gives their number, or `None` where
+/// it is the first alone.
 ///
 /// The track is counted from 0 over the unit, and read in one read, as `read_records` does.
 ///

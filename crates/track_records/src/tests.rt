@@ -6,7 +6,7 @@ ghost use Rattle.track_records.specs.Calls.{HasTrack};
 mod odd;
 
 use super::*;
-use ckd_image::{DiskType, Geometry, Header};
+use ckd_image::{DiskType, Geometry, Header, push_end, push_front};
 use hall_core::{Call, Device, Hall, MemHall};
 use odd::Odd;
 use std::alloc::{AllocError, Global};
@@ -118,13 +118,6 @@ const CHANGES: [Change; 3] = [
     ),
 ];
 
-// The home address and R0 of a track.
-fn push_front(image: &mut Vec<u8>, cylinder: u8, head: u8) -> Result<(), AllocError> {
-    image.extend_from_slice(&[0, 0, cylinder, 0, head])?;
-    image.extend_from_slice(&[0, cylinder, 0, head, 0, 0, 0, 8])?;
-    image.extend_from_slice(&[0; 8])
-}
-
 // What the pack has on a track, where the full one has these records.
 fn row_of<'a>(pack: &Pack, cylinder: u8, head: u8, records: &'a [u8]) -> (u8, u8, &'a [u8]) {
     for (at, home, bytes) in pack.rows {
@@ -145,10 +138,9 @@ fn image(alloc: Global, pack: &Pack, records: &[u8]) -> Result<Vec<u8>, AllocErr
         for head in 0..pack.heads {
             let end = image.len() + pack.geometry.track_size as usize;
             let (c, h, bytes) = row_of(pack, cylinder, head, records);
-            push_front(&mut image, c, h)?;
+            push_front(&mut image, c.into(), h.into())?;
             image.extend_from_slice(bytes)?;
-            image.extend_from_slice(&[0xFF; 8])?;
-            image.resize(end, 0)?;
+            push_end(&mut image, end)?;
         }
     }
     Ok(image)

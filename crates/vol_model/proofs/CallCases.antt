@@ -12,7 +12,7 @@ use Rattle.vol_model.specs.declared.refusals.Refusal.{Refusal}
 use Rattle.vol_model.specs.declared.requests.Op.{Op}
 use Rattle.vol_model.specs.declared.requests.Op.TheVariants.{Rename}
 use Rattle.vol_model.specs.Shelf.{step}
-use Rattle.vol_model.specs.Calls.{Asked, AsksAtMost, Status, sound_after, MachineCall, Answers, IsIdle, IsJudgedInMemory, Applies, Prints, Keeps}
+use Rattle.vol_model.specs.Calls.{Asked, AsksAtMost, asked_nothing, Status, sound_after, MachineCall, Answers, IsIdle, IsJudgedInMemory, Applies, Prints, Keeps}
 use Rattle.vol_model.specs.Events.{Do, Say, StopsIn, behind}
 use Rattle.vol_model.specs.Runs.{Runs, RunCall, sound_behind}
 
@@ -45,6 +45,10 @@ asked_once = ((lit≤ tt, lit≤ tt), (lit≤ tt, lit≤ tt), (lit≤ tt, lit≤
 
 asked_no_more : (¬ AsksAtMost 1 0 (asked 3 3) (asked 5 3)) × (¬ AsksAtMost 1 0 (asked 3 3) (asked 3 4)) × (¬ AsksAtMost 0 1 (asked 3 3) (asked 4 3)) × (¬ AsksAtMost 0 1 (asked 3 3) (asked 3 5))
 asked_no_more = (λ most. omega (arith, most.0), λ most. omega (arith, most.1), λ most. omega (arith, most.0), λ most. omega (arith, most.1))
+
+-- at first nothing was asked for
+nothing_was_asked : asked_nothing ≡ asked 0 0
+nothing_was_asked = refl
 
 -- both faults end it, not that of the device alone
 faults_are_not_sound : (sound_after (fails Device) ≡ false) × (sound_after (fails Print) ≡ false)
@@ -117,6 +121,10 @@ lost_for_want call = let never = call.sound in cc
 -- it stands on what it stood on
 base_changed : ¬ MachineCall (counts true 3 5) (record { is_sound = true; base = (7 ∷ []) ∷ []; dev_faults = 3; print_faults = 5 }) done
 base_changed call = let never = call.base in cc
+
+-- what is done keeps whatever it stood on, and all counts
+base_stays : MachineCall (record (counts true 3 5) { base = (7 ∷ []) ∷ [] }) (record (counts true 3 5) { base = (7 ∷ []) ∷ [] }) done
+base_stays = record { base = refl; sound = refl; devices = lit≤ tt; prints = lit≤ tt; device = λ is. absurd (cc is); print = λ is. absurd (cc is); no_device = λ other. refl; no_print = λ other. refl }
 
 -- of a run the same
 run_device_fault : RunCall (counts true 3 5) (counts false 4 5) (ends stop.Device)
@@ -287,6 +295,39 @@ module _ (op : Op) (s t u : Shelf) (r : Refusal) where
   refused_is_done : step s op ≡ Err r → {P : Shelf → List ℕ → Type 0} → ¬ Applies op before (held s (64 ∷ []) 1 P) done
   refused_is_done is applies = let never = sym is ∙ applies.answer in cc
 
+  -- a refusal is answered with its reason, and want of memory where there is none; all but the time is as it was
+  refusal_is_answered : step s op ≡ Err r → Applies op before (held s (64 ∷ []) 1 (just s (64 ∷ []))) (fails (Refused r))
+  refusal_is_answered is = record {
+    answer = (is, refl);
+    refused = λ known why refused. let same = sym is ∙ refused in cc;
+    idle = λ nothing. record { state = refl; printed = refl; left = λ shelf. (λ left. left, λ left. left); time = record { later = lit≤ tt; since = λ time shelf p early. (λ left. inl left, λ left. ⊎_elim (λ was. was) (λ now. now) left) } };
+    printed = refl;
+    moments = record { later = lit≤ tt; moments = λ time shelf p early left. inl left; keeps = λ time shelf p early left. left };
+  }
+
+  want_is_answered : step s op ≡ Ok t → Applies op before (held s (64 ∷ []) 1 (just s (64 ∷ []))) (fails Memory)
+  want_is_answered is = record {
+    answer = refl;
+    refused = λ known why refused. let never = sym is ∙ refused in absurd (cc never);
+    idle = λ nothing. record { state = refl; printed = refl; left = λ shelf. (λ left. left, λ left. left); time = record { later = lit≤ tt; since = λ time shelf p early. (λ left. inl left, λ left. ⊎_elim (λ was. was) (λ now. now) left) } };
+    printed = refl;
+    moments = record { later = lit≤ tt; moments = λ time shelf p early left. inl left; keeps = λ time shelf p early left. left };
+  }
+
+  -- where no stop left anything so far, one leaves the shelf before the step too
+  shelf_before_is_left : step s op ≡ Ok t → Applies op (held s (64 ∷ []) 0 (λ shelf p. ⊥)) (held t (64 ∷ []) 1 (either (just s (64 ∷ [])) (just t (64 ∷ [])))) done
+  shelf_before_is_left is = record {
+    answer = is;
+    refused = λ known why refused. let never = sym is ∙ refused in absurd (cc never);
+    idle = ⊎_elim (λ refused. let never = sym is ∙ refused.1 in absurd (cc never)) (λ want. absurd (cc want));
+    printed = refl;
+    moments = record {
+      later = lit≤ tt;
+      moments = λ time shelf p early left. ⊎_elim (λ was. inr (inl was.0, was.1)) (λ stepped. inr (inr (is ∙ ap (λ x. Ok x) (sym stepped.0)), stepped.1)) left;
+      keeps = λ time shelf p early left. absurd left;
+    };
+  }
+
   -- neither a fault nor want of memory comes in place of a refusal that is found in memory
   fault_before_a_refusal : IsJudgedInMemory op → step s op ≡ Err r → {new : Meaning Shelf} → ¬ Applies op before new (fails Device)
   fault_before_a_refusal known is applies = let never = applies.refused known r is in cc
@@ -305,6 +346,20 @@ module _ (op : Op) (s t u : Shelf) (r : Refusal) where
       later = lit≤ tt;
       moments = λ time shelf p early left. ⊎_elim (λ was. inl was) (λ whole. inr (whole.0, (65 ∷ 66 ∷ [], ([], refl), λ told. whole.1))) left;
       keeps = λ time shelf p early left. inl left;
+    };
+  }
+
+  -- a stop in it leaves none of the bytes, or some of them, not all or none
+  some_are_left : Prints true (65 ∷ 66 ∷ []) (held s (64 ∷ []) 0 (λ shelf p. ⊥)) (held s (64 ∷ 65 ∷ 66 ∷ []) 1 (either (just s (64 ∷ [])) (just s (64 ∷ 65 ∷ [])))) done
+  some_are_left = record {
+    shelf = refl;
+    done = λ told. refl;
+    memory = λ is. absurd (cc is);
+    prefix = (65 ∷ 66 ∷ [], ([], refl), λ told. refl);
+    moments = record {
+      later = lit≤ tt;
+      moments = λ time shelf p early left. inr (⊎_elim (λ none. (none.0, ([], (65 ∷ 66 ∷ [], refl), λ told. none.1))) (λ some. (some.0, (65 ∷ [], (66 ∷ [], refl), λ told. some.1))) left);
+      keeps = λ time shelf p early left. absurd left;
     };
   }
 
@@ -363,6 +418,23 @@ module _ (op : Op) (s t u : Shelf) (r : Refusal) where
     moments = record { later = lit≤ tt; moments = λ time shelf p early left. inl left; keeps = λ time shelf p early left. left };
   }
 
+  -- nor of what a stop leaves of it; but a stop leaves no other shelf
+  untold_stop : Prints false (65 ∷ []) before (held s [] 1 (either (just s (64 ∷ [])) (just s []))) done
+  untold_stop = record {
+    shelf = refl;
+    done = λ told. absurd (cc told);
+    memory = λ is. absurd (cc is);
+    prefix = ([], (65 ∷ [], refl), λ told. absurd (cc told));
+    moments = record {
+      later = lit≤ tt;
+      moments = λ time shelf p early left. ⊎_elim (λ was. inl was) (λ none. inr (none.0, ([], (65 ∷ [], refl), λ told. absurd (cc told)))) left;
+      keeps = λ time shelf p early left. inl left;
+    };
+  }
+
+  untold_stop_keeps_the_shelf : {answer : Answer} → Prints false (65 ∷ []) before (held s [] 1 (either (just s (64 ∷ [])) (just u []))) answer → u ≡ s
+  untold_stop_keeps_the_shelf prints = ⊎_elim (λ was. was.0) (λ printed. printed.0) (prints.moments.moments 0 u [] (lit≤ tt) (inr (refl, refl)))
+
   untold_shelf : {answer : Answer} {P : Shelf → List ℕ → Type 0} → Prints false (65 ∷ []) before (held t [] 1 P) answer → t ≡ s
   untold_shelf prints = prints.shelf
 
@@ -372,6 +444,26 @@ module _ (op : Op) (s t u : Shelf) (r : Refusal) where
 
   run_prints : {P : Shelf → List ℕ → Type 0} → ¬ Runs true (Say (65 ∷ []) ∷ []) before (held s (64 ∷ []) 1 P) finished
   run_prints runs = let never = runs.printed refl in cc
+
+  -- its text comes behind what was printed before, at a stop too
+  run_goes_on : Runs true (Do op ∷ Say (65 ∷ []) ∷ []) before (held (behind s (step s op)) (64 ∷ 65 ∷ []) 1 (either (just s (64 ∷ [])) (just (behind s (step s op)) (64 ∷ 65 ∷ [])))) finished
+  run_goes_on = record {
+    shelf = refl;
+    printed = λ told. refl;
+    moments = record {
+      later = lit≤ tt;
+      moments = λ time shelf p early left. ⊎_elim (λ was. inl was) (λ whole. inr (65 ∷ [], λ told. whole.1, inr (inl (whole.0, ([], refl))))) left;
+      keeps = λ time shelf p early left. inl left;
+    };
+  }
+
+  -- of one that ended early neither is said
+  run_ends_early : Runs true (Do op ∷ Say (65 ∷ []) ∷ []) before (held u [] 1 (just s (64 ∷ []))) (ends stop.Device)
+  run_ends_early = record {
+    shelf = tt;
+    printed = tt;
+    moments = record { later = lit≤ tt; moments = λ time shelf p early left. inl left; keeps = λ time shelf p early left. left };
+  }
 
   -- a stop that leaves a byte of the line leaves the shelf behind the operation, also in a run that ended early; it is counted from the shelf at the begin, not from the one in the end
   line_is_behind : {answer : Outcome} → Runs true (Do op ∷ Say (65 ∷ []) ∷ []) before (held t (64 ∷ []) 1 (either (just s (64 ∷ [])) (just u (64 ∷ 65 ∷ [])))) answer → u ≡ behind s (step s op)
@@ -390,6 +482,25 @@ module _ (op : Op) (s t u : Shelf) (r : Refusal) where
     moments = record { later = lit≤ tt; moments = λ time shelf p early left. inl left; keeps = λ time shelf p early left. left };
   }
 
+  -- nor of what a stop leaves of it; but a stop leaves a shelf of these events
+  untold_run_stop : Runs false (Say (65 ∷ []) ∷ []) before (held s [] 1 (either (just s (64 ∷ [])) (just s []))) finished
+  untold_run_stop = record {
+    shelf = refl;
+    printed = λ told. absurd (cc told);
+    moments = record {
+      later = lit≤ tt;
+      moments = λ time shelf p early left. ⊎_elim (λ was. inl was) (λ none. inr ([], λ told. absurd (cc told), inl (none.0, (65 ∷ [], refl)))) left;
+      keeps = λ time shelf p early left. inl left;
+    };
+  }
+
+  untold_run_stop_keeps_the_shelf : {answer : Outcome} → Runs false (Say (65 ∷ []) ∷ []) before (held s [] 1 (either (just s (64 ∷ [])) (just u []))) answer → u ≡ s
+  untold_run_stop_keeps_the_shelf runs = ⊎_elim (λ was. was.0) (λ stopped. by_line stopped.0 stopped.2) (runs.moments.moments 0 u [] (lit≤ tt) (inr (refl, refl)))
+    where
+      by_line : (q : List ℕ) → StopsIn s (Say (65 ∷ []) ∷ []) u q → u ≡ s
+      by_line q (inl in_line) = in_line.0
+      by_line q (inr end) = end.2.0
+
   untold_run_keeps_the_shelf : {P : Shelf → List ℕ → Type 0} → Runs false (Say (65 ∷ []) ∷ []) before (held t [] 1 P) finished → t ≡ s
   untold_run_keeps_the_shelf runs = runs.shelf
 
@@ -399,6 +510,10 @@ made_till_now = λ ops since files early promise. early
 
 made_now : ¬ Keeps 2 [] (λ ops since files. Unit {0}) (λ ops since files. since < 2)
 made_now keeps = let never : 2 < 2 = keeps [] 2 [] (lit≤ tt) tt in absurd (omega (arith, never))
+
+-- since the same moment, not since the clock's
+made_since : ¬ Keeps 2 [] (λ ops since files. since ≡ 1) (λ ops since files. since ≡ 2)
+made_since keeps = let never : 1 ≡ 2 = keeps [] 1 [] (lit≤ tt) refl in absurd (omega (arith, never))
 
 -- of the same files
 made_of_files : (f : File) → ¬ Keeps 2 [] (λ ops since files. files ≡ f ∷ []) (λ ops since files. files ≡ [])

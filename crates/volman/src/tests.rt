@@ -123,7 +123,7 @@ fn assert_reached(rt: &impl Abort, alloc: Global, image: &[u8], case: Case) -> R
 }
 
 #[test]
-fn each_status_is_reached(rt: HostRuntime) -> Result<(), Fail> {
+fn each_status_of_names_is_reached(rt: HostRuntime) -> Result<(), Fail> {
     let image = pack(rt.alloc(), TWO_SETS)?;
     for case in CASES {
         assert_reached(&rt, rt.alloc(), &image, *case)?;

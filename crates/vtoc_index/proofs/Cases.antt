@@ -28,7 +28,7 @@ use Rattle.vtoc_index.specs.Calls.{MountCall}
 use Rattle.vtoc_index.specs.Contents.{AreDscbs, AreRead, IsContent, IsRead, with_bytes}
 use Rattle.vtoc_index.specs.Index.{AreFirsts, IsIndexOf, IsOfUnit, IsPut, IsReason, firsts_of, place_of_slot, serial_on, slots_in_front, track_index}
 use Rattle.vtoc_index.specs.Kept.{IsKept}
-use Rattle.vtoc_index.specs.Puts.{HasSlot, IsHeld, IsReplaced, IsWith, SameBut}
+use Rattle.vtoc_index.specs.Puts.{HasSlot, IsHeld, IsReadUpTo, IsReplaced, IsWith, SameBut}
 use Rattle.vtoc_index.specs.Reading.{Adds, AreNumbered, AreTracksRead, IsExtent, IsLabel, LastTrackHas, Refuses, Says, record_number, slot_of}
 use Rattle.vtoc_index.specs.Rules.{HasExtentsOf}
 use Rattle.vtoc_index.specs.declared.label.Label.{Label}
@@ -331,3 +331,40 @@ module _ (image : List ℕ) (v : Vol) where
   -- behind an error the index is as before, but for its buffer
   other_unit : (d : Dscb) → ¬ IsWith {T = Unit {0}} {E = Unit {0}} 0 d v (record v { unit = v.unit + 1 }) (Err tt)
   other_unit d is = let same : v.unit + 1 ≡ v.unit = ap (λ (x : Vol). x.unit) is.failed.others in absurd (omega (arith, same))
+
+-- of a track that is read up to its second record two are held, or none
+read_up_to : (x : Record) → IsReadUpTo 2 [] × IsReadUpTo 2 (x ∷ x ∷ []) × (¬ IsReadUpTo 2 (x ∷ [])) × (¬ IsReadUpTo 2 (x ∷ x ∷ x ∷ []))
+read_up_to x = (
+  inl refl,
+  inr refl,
+  λ is. elim is [ inl none ↦ cc | inr two ↦ omega (arith, two) ],
+  λ is. elim is [ inl none ↦ cc | inr two ↦ omega (arith, two) ],
+)
+
+-- a track may have 255 slots, and one behind others begins with the slot behind theirs
+firsts_are_full : AreFirsts 0 (0 ∷ []) 255 × AreFirsts 0 (0 ∷ 255 ∷ []) 510 × (¬ AreFirsts 0 (0 ∷ 256 ∷ []) 300) × (¬ AreFirsts 0 (0 ∷ 3 ∷ []) 2)
+firsts_are_full = (
+  (refl, (255, omega arith, refl)),
+  (refl, (255, omega arith, (refl, (255, omega arith, refl)))),
+  λ are. omega (arith, are.1.1, are.1.2.0),
+  λ are. omega (arith, are.1.2.0, are.1.2.1.2),
+)
+
+-- the buffer alone may hold another track, with other records
+other_track : (v : Vol) (x : Record) → SameBut v (record v { buf = record v.buf { track = v.buf.track + 1; records = x ∷ v.buf.records } })
+other_track v x = record { others = refl; geometry = refl; unit = refl }
+
+-- a fault of the device raises the count by one, and want of memory leaves it, as a read that is done does
+called : (facts : Facts) → facts.dev_faults ≡ 3
+    → MountCall {T = ℕ} facts (record facts { dev_faults = 4 }) (Err Device)
+    × (¬ MountCall {T = ℕ} facts (record facts { dev_faults = 5 }) (Err Device))
+    × MountCall {T = ℕ} facts facts (Err Memory)
+    × (¬ MountCall {T = ℕ} facts (record facts { dev_faults = 4 }) (Err Memory))
+    × MountCall {T = ℕ} facts facts (Ok 1)
+called facts is = (
+  record { units = refl; references = refl; prints = refl; later = omega (arith, is); device = λ rose. rw is refl; others = λ no. absurd (no refl) },
+  λ call. let rose = call.device refl in absurd (omega (arith, is, rose)),
+  record { units = refl; references = refl; prints = refl; later = omega arith; device = λ rose. cc; others = λ no. refl },
+  λ call. let still = call.others (λ no. cc) in absurd (omega (arith, is, still)),
+  record { units = refl; references = refl; prints = refl; later = omega arith; device = λ rose. cc; others = λ no. refl },
+)

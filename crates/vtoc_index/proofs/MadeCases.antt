@@ -1,11 +1,11 @@
 -- The calls that mount the small pack and put one slot of it, by what they are made with. Each comment names what a near reading would let through.
-use Rattle.std.proofs.Common.{◌≡◌, ◌≤◌, ◌<◌, ◌+◌, ◌*◌, ⊎_elim, inl, inr, ℕ, Bool, true, false, cond, eqb, List, [], ◌∷◌, drop, get_or, length, replicate, take, Some, None, refl, sym, subst, ap, ◌∙◌, arith}
+use Rattle.std.proofs.Common.{◌≡◌, ◌≤◌, ◌<◌, ◌+◌, ◌*◌, ⊎_elim, inl, inr, ℕ, Bool, true, false, cond, eqb, List, [], ◌∷◌, ◌++◌, drop, get_or, length, length-drop, replicate, take, Option, Some, None, refl, sym, subst, ap, ◌∙◌, arith}
 use Rattle.std.specs.Prelude.{◌&&◌, slice_get, unwrap_or}
 use Rattle.std.proofs.lemmas.Bool.{and_parts, eqb-true}
 use Rattle.std.specs.Option.{option_map}
 use Rattle.ckd_image.specs.Reading.{is_front, records_of, records_to_end, records_up_to}
 use Rattle.ckd_image.specs.Track.{Record}
-use Rattle.dscb_codec.specs.Layout.{IsDscb}
+use Rattle.dscb_codec.specs.Layout.{IsDscb, f1_fields}
 use Rattle.hall_core.specs.Files.{patched}
 use Rattle.hall_core.specs.Made.{DoneSince, HallCall, MakesOnly, Attaching, Giving, Lacking, Noting, Printing, Reading, Syncing, Writing}
 use Rattle.pack_spec.specs.Label.{track_bytes}
@@ -18,7 +18,7 @@ use Rattle.vtoc_index.specs.Index.{slots_in_front}
 use Rattle.vtoc_index.specs.Puts.{Broken, Changed, Emptied, Held, HoldsPut, HoldsRecord, HoldsSlot, IsPutCall, IsSeen, IsSlotWrite, LacksSlot, Other, Read, Seen, track_of_slot}
 use Rattle.vtoc_index.specs.declared.vol.Vol.{Vol}
 use Rattle.vtoc_index.proofs.PutCases.{c_stands, set_c}
-use Rattle.vtoc_index.proofs.SmallPack.{a, b, c, data_set, image, index, one_cylinder}
+use Rattle.vtoc_index.proofs.SmallPack.{a, all_stand, b, c, data_set, f1, image, index, one_cylinder}
 
 -- the kind of a call, and its numbers and bytes
 numbers_in : HallCall → List ℕ
@@ -119,6 +119,11 @@ pub read_and_noted : HallCall → ℕ
 read_and_noted (Noting unit track) = 1
 read_and_noted call = read_once call
 
+-- and each read once, of whatever track
+each_read_once : HallCall → ℕ
+each_read_once (Reading unit at len) = 1
+each_read_once call = 0
+
 -- nothing is counted then but that read
 only_the_read : MakesOnly (λ call. call ≡ track_read 0 one_cylinder 2) uncalled read_once
 unfolding uncalled read_once
@@ -141,6 +146,58 @@ only_the_read call other = omega arith
 -- the first letter of the second key in a buffer, or 0 where there is none
 second_letter : Buffer → ℕ
 second_letter buf = get_or (unwrap_or (option_map (λ (x : Record). x.key) (slice_get buf.records 1)) []) 0 0
+
+-- the third track with no end marker behind its sets, so that it breaks the grammar there
+broken_behind : List ℕ
+broken_behind = patched (track_bytes image one_cylinder 2) 317 (replicate 8 0)
+
+gave_broken_behind : HallCall → Type 0
+gave_broken_behind call = call ≡ Giving 3 0 8704 broken_behind
+
+broken_behind_is_read : (records_by one_cylinder (Some 2) 2 broken_behind ≡ Some (buffer_with a).records) × (records_by one_cylinder None 2 broken_behind ≡ None)
+unfolding broken_behind buffer_with patched track_bytes records_of is_front records_to_end records_up_to
+broken_behind_is_read = (refl, refl)
+
+broken_behind_size : length broken_behind ≡ 4096
+unfolding broken_behind patched track_bytes
+broken_behind_size = refl
+
+longer_size : length longer_track ≡ 4096
+unfolding longer_track patched track_bytes
+longer_size = refl
+
+-- the good track up to its first record
+first_alone_is_read : records_by one_cylinder (Some 1) 2 (track_bytes image one_cylinder 2) ≡ Some (take 1 (buffer_with a).records)
+unfolding buffer_with track_bytes records_of is_front records_to_end records_up_to
+first_alone_is_read = refl
+
+option_length : Option (List Record) → ℕ
+option_length None = 0
+option_length (Some records) = length records
+
+-- buffers with C in both slots of the third track, and with a byte more behind C in the second
+both_are_c : Buffer
+both_are_c = record (buffer_with c) {
+  records =
+      record { address = 0 ∷ 0 ∷ 0 ∷ 2 ∷ []; key = take 44 (data_set c); «data» = drop 44 (data_set c) }
+      ∷ record { address = 0 ∷ 0 ∷ 0 ∷ 2 ∷ []; key = take 44 (data_set c); «data» = drop 44 (data_set c) }
+      ∷ [];
+}
+
+byte_more : Buffer
+byte_more = record (buffer_with c) {
+  records =
+      record { address = 0 ∷ 0 ∷ 0 ∷ 2 ∷ []; key = take 44 (data_set b); «data» = drop 44 (data_set b) }
+      ∷ record { address = 0 ∷ 0 ∷ 0 ∷ 2 ∷ []; key = take 44 (data_set c); «data» = drop 44 (data_set c) ++ 0 ∷ [] }
+      ∷ [];
+}
+
+-- the first letter of the first key in a buffer, and how long the data of the second record are
+first_letter : Buffer → ℕ
+first_letter buf = get_or (unwrap_or (option_map (λ (x : Record). x.key) (slice_get buf.records 0)) []) 0 0
+
+second_size : Buffer → ℕ
+second_size buf = length (unwrap_or (option_map (λ (x : Record). x.«data») (slice_get buf.records 1)) [])
 
 module _ (any : Vol) where
   -- C is put into the fourth slot, the second of its track, by an index that holds that track, with B and another set
@@ -384,3 +441,279 @@ module _ (any : Vol) where
           none_given (Gives bytes size gave is) = gave
       ungiven_not (Seen seen lacks) = unseen seen
       ungiven_not (Changed seen is bytes dscb size lengths same) = unseen is
+
+  -- the index with the two sets in its buffer as the track before, with the longer key in it, and with this as data of the first record
+  abbrev elsewhere : Vol
+  elsewhere = record (index any) { buf = record (buffer_with a) { track = 1 } }
+
+  abbrev longer : Vol
+  longer = record (index any) { buf = longer_key }
+
+  wide : List ℕ → Vol
+  wide content = record (index any) {
+    buf = record (buffer_with a) {
+      records =
+          record { address = 0 ∷ 0 ∷ 0 ∷ 2 ∷ []; key = take 44 (data_set b); «data» = content }
+          ∷ record { address = 0 ∷ 0 ∷ 0 ∷ 2 ∷ []; key = take 44 (data_set a); «data» = drop 44 (data_set a) }
+          ∷ [];
+    };
+  }
+
+  -- a buffer with B alone
+  first_alone : Buffer
+  first_alone = record (buffer_with a) { records = take 1 (buffer_with a).records }
+
+  -- The slot's track is seen by its read where another track is held, or one record too few; as far as to the slot, whether or not it breaks behind that; and as that track of the same unit and pack. What is held isn't looked at again.
+  track_is_seen_by_its_read :
+      IsSeen elsewhere.buf 2 2 gave_track (buffer_with a)
+      × IsSeen first_alone 2 2 gave_track (buffer_with a)
+      × IsSeen (index any).buf 2 1 gave_track first_alone
+      × IsSeen (index any).buf 2 2 gave_broken_behind (buffer_with a)
+      × (¬ IsSeen elsewhere.buf 2 2 nothing elsewhere.buf)
+      × (¬ IsSeen first_alone 2 2 nothing first_alone)
+      × (¬ IsSeen (index any).buf 2 1 gave_track (buffer_with a))
+      × (¬ IsSeen (buffer_with b) 2 2 gave_track (buffer_with a))
+      × (¬ IsSeen (index any).buf 2 2 gave_track (record (buffer_with a) { track = 1 }))
+      × (¬ IsSeen (index any).buf 2 2 gave_track (record (buffer_with a) { unit = 1 }))
+      × (¬ IsSeen (index any).buf 2 2 gave_track (record (buffer_with a) { geometry = record one_cylinder { cylinders = 2 } }))
+  unfolding gave_track gave_broken_behind nothing first_alone buffer_with second_letter option_length track_bytes
+  track_is_seen_by_its_read = (
+    Read (λ held. let wrong : 1 ≡ 2 = held.0 in omega (arith, wrong)) refl (Gives (track_bytes image one_cylinder 2) refl refl third_track_is_read),
+    Read (λ held. let wrong : 2 ≤ 1 = held.1 in omega (arith, wrong)) refl (Gives (track_bytes image one_cylinder 2) refl refl third_track_is_read),
+    Read (λ held. let wrong : 1 ≤ 0 = held.1 in omega (arith, wrong)) refl (Gives (track_bytes image one_cylinder 2) refl refl first_alone_is_read),
+    Read unheld refl (Gives broken_behind broken_behind_size refl broken_behind_is_read.0),
+    other_not,
+    few_not,
+    more_not,
+    again_not,
+    λ seen. let wrong : 1 ≡ 2 = ap (λ (buf : Buffer). buf.track) (as_before seen) in omega (arith, wrong),
+    λ seen. let wrong : 1 ≡ 0 = ap (λ (buf : Buffer). buf.unit) (as_before seen) in omega (arith, wrong),
+    λ seen. let wrong : 2 ≡ 1 = ap (λ (buf : Buffer). buf.geometry.cylinders) (as_before seen) in omega (arith, wrong),
+  )
+    where
+      other_not : ¬ IsSeen elsewhere.buf 2 2 nothing elsewhere.buf
+      other_not (Held held same) = let wrong : 1 ≡ 2 = held.0 in omega (arith, wrong)
+      other_not (Read not same (Gives bytes size gave is)) = gave
+
+      few_not : ¬ IsSeen first_alone 2 2 nothing first_alone
+      few_not (Held held same) = let wrong : 2 ≤ 1 = held.1 in omega (arith, wrong)
+      few_not (Read not same (Gives bytes size gave is)) = gave
+
+      more_not : ¬ IsSeen (index any).buf 2 1 gave_track (buffer_with a)
+      more_not (Held held same) = let wrong : 1 ≤ 0 = held.1 in omega (arith, wrong)
+      more_not (Read not same given) =
+          let both : Some first_alone.records ≡ Some (buffer_with a).records = sym first_alone_is_read ∙ given_is (track_bytes image one_cylinder 2) given in
+          let wrong : 1 ≡ 2 = ap option_length both in
+          omega (arith, wrong)
+
+      again_not : ¬ IsSeen (buffer_with b) 2 2 gave_track (buffer_with a)
+      again_not (Held held same) = let wrong : 0xC1 ≡ 0xC2 = ap second_letter same in omega (arith, wrong)
+      again_not (Read not same given) = not (refl, omega arith)
+
+      as_before : {buf : Buffer} → IsSeen (index any).buf 2 2 gave_track buf → buf ≡ record (index any).buf { track = 2; records = buf.records }
+      as_before (Held held same) = absurd (unheld held)
+      as_before (Read not same given) = same
+
+  -- a call by which it is put is of its kind
+  is_write : (v : Vol) (done : HallCall → Type 0) (unit at : ℕ) (bytes : List ℕ) → Puts v done (Writing unit at bytes) → IsSlotWrite v 3 set_c done (Writing unit at bytes)
+  unfolding Puts numbers_in number
+  is_write v done unit at bytes =
+      ⊎_elim
+      (λ is. let wrong : 2 ≡ 1 = ap (number 0) is.0 in absurd (omega (arith, wrong)))
+      (⊎_elim
+      (λ is. let wrong : 2 ≡ 5 = ap (number 0) is.0 in absurd (omega (arith, wrong)))
+      (λ is. is))
+
+  is_note : (v : Vol) (done : HallCall → Type 0) (unit track : ℕ) → Puts v done (Noting unit track) → (Noting unit track ≡ Noting v.unit (track_of_slot v 3)) × LacksSlot v.buf (track_of_slot v 3) (slots_in_front v.firsts.items 3 + 1) done
+  unfolding Puts numbers_in number
+  is_note v done unit track =
+      ⊎_elim
+      (λ is. let wrong : 5 ≡ 1 = ap (number 0) is.0 in absurd (omega (arith, wrong)))
+      (⊎_elim
+      (λ is. is)
+      (λ is. let wrong : 5 ≡ 2 = ap (number 0) is.writes in absurd (omega (arith, wrong))))
+
+  is_read : (v : Vol) (done : HallCall → Type 0) (unit at len : ℕ) → Puts v done (Reading unit at len) → Reading unit at len ≡ track_read v.unit v.geometry (track_of_slot v 3)
+  unfolding Puts numbers_in number
+  is_read v done unit at len =
+      ⊎_elim
+      (λ is. is.0)
+      (⊎_elim
+      (λ is. let wrong : 1 ≡ 5 = ap (number 0) is.0 in absurd (omega (arith, wrong)))
+      (λ is. let wrong : 1 ≡ 2 = ap (number 0) is.writes in absurd (omega (arith, wrong))))
+
+  -- what is seen where the longer key was given, or is held, has no slot there
+  longer_is_none : {buf : Buffer} → IsSeen (index any).buf 2 2 gave_longer buf → ¬ HasLengths buf.records 1 44 96
+  unfolding gave_longer longer_key
+  longer_is_none {buf} seen has = let wrong : 44 ≡ 45 = (subst (λ (records : List Record). HasLengths records 1 44 96) (sym (seen_is longer_track longer_key.records longer_is_read seen)) has).0 in omega (arith, wrong)
+
+  held_longer_is_none : {buf : Buffer} → IsSeen longer_key 2 2 nothing buf → ¬ HasLengths buf.records 1 44 96
+  unfolding longer_key buffer_with
+  held_longer_is_none (Held held same) has = let wrong : 44 ≡ 45 = (subst (λ (other : Buffer). HasLengths other.records 1 44 96) same has).0 in omega (arith, wrong)
+  held_longer_is_none (Read not same given) has = not (refl, omega arith)
+
+  -- Where a record of other lengths is seen, by a read or as it is held, that is noted, and nothing is written over it; and where the track breaks only behind the slot, the slot is written and nothing is noted.
+  other_record_is_noted :
+      Puts (index any) gave_longer (Noting 0 2)
+      × (¬ Puts (index any) gave_longer (Writing 0 8881 (data_set c)))
+      × Puts longer nothing (Noting 0 2)
+      × (¬ Puts longer nothing (Writing 0 8881 (data_set c)))
+      × Puts (index any) gave_broken_behind (Writing 0 8881 (data_set c))
+      × (¬ Puts (index any) gave_broken_behind (Noting 0 2))
+  unfolding Puts gave_longer gave_broken_behind longer_key buffer_with
+  other_record_is_noted = (
+    inr (inl (refl, Other longer_key (Read unheld refl (Gives longer_track longer_size refl longer_is_read)) (λ has. let wrong : 44 ≡ 45 = has.0 in omega (arith, wrong)))),
+    λ puts. let is = is_write (index any) gave_longer 0 8881 (data_set c) puts in longer_is_none is.seen is.lengths,
+    inr (inl (refl, Other longer_key (Held (refl, omega arith) refl) (λ has. let wrong : 44 ≡ 45 = has.0 in omega (arith, wrong)))),
+    λ puts. let is = is_write longer nothing 0 8881 (data_set c) puts in held_longer_is_none is.seen is.lengths,
+    inr (inr (record { bytes = data_set c; dscb = c_stands; size = refl; buf = buffer_with a; seen = Read unheld refl (Gives broken_behind broken_behind_size refl broken_behind_is_read.0); lengths = (refl, refl); at = 8881; place = refl; inside = omega arith; writes = refl })),
+    λ puts. lacks_not (is_note (index any) gave_broken_behind 0 2 puts).1,
+  )
+    where
+      lacks_not : ¬ LacksSlot (index any).buf 2 2 gave_broken_behind
+      lacks_not (Other buf seen none) = none (subst (λ (records : List Record). HasLengths records 1 44 96) (seen_is broken_behind (buffer_with a).records broken_behind_is_read.0 seen) (refl, refl))
+      lacks_not (Broken not given) = let wrong : Some (buffer_with a).records ≡ None = sym broken_behind_is_read.0 ∙ given_is broken_behind given in cc
+
+  -- Where the track was read and broke, another track or unit is noted, or read; where it is held, another unit is written, or a byte more than a slot has.
+  calls_of_another_put_it_not :
+      (¬ Puts (index any) gave_zeros (Noting 0 1))
+      × (¬ Puts (index any) gave_zeros (Noting 1 2))
+      × (¬ Puts (index any) gave_zeros (Reading 0 4608 4096))
+      × (¬ Puts (index any) gave_zeros (Reading 1 8704 4096))
+      × (¬ Puts (holding a) nothing (Writing 1 8881 (data_set c)))
+      × (IsDscb set_c (data_set c ++ 0 ∷ []) × (¬ Puts (holding a) nothing (Writing 0 8881 (data_set c ++ 0 ∷ []))))
+  unfolding numbers_in number holding
+  calls_of_another_put_it_not = (
+    λ puts. let wrong : 1 ≡ 2 = ap (number 2) (is_note (index any) gave_zeros 0 1 puts).0 in omega (arith, wrong),
+    λ puts. let wrong : 1 ≡ 0 = ap (number 1) (is_note (index any) gave_zeros 1 2 puts).0 in omega (arith, wrong),
+    λ puts. let wrong : 4608 ≡ 8704 = ap (number 2) (is_read (index any) gave_zeros 0 4608 4096 puts) in omega (arith, wrong),
+    λ puts. let wrong : 1 ≡ 0 = ap (number 1) (is_read (index any) gave_zeros 1 8704 4096 puts) in omega (arith, wrong),
+    λ puts. let wrong : 1 ≡ 0 = ap (number 1) (is_write (holding a) nothing 1 8881 (data_set c) puts).writes in omega (arith, wrong),
+    (
+      all_stand (data_set c ++ 0 ∷ []) (f1_fields (f1 c)) refl,
+      λ puts.
+          let is = is_write (holding a) nothing 0 8881 (data_set c ++ 0 ∷ []) puts in
+          let size : 141 ≡ length is.bytes = ap (λ (call : HallCall). length (drop 3 (numbers_in call))) is.writes in
+          omega (arith, size, is.size),
+    ),
+  )
+
+  -- A slot that ends with its track is written; where it would end a byte behind that, as by a buffer with a longer record before it, it isn't.
+  slot_is_written_on_its_track : IsSlotWrite (wide (replicate 3875 0)) 3 set_c nothing (Writing 0 12660 (data_set c)) × ((call : HallCall) → ¬ IsSlotWrite (wide (replicate 3876 0)) 3 set_c nothing call)
+  unfolding wide buffer_with
+  slot_is_written_on_its_track = (
+    record { bytes = data_set c; dscb = c_stands; size = refl; buf = (wide (replicate 3875 0)).buf; seen = Held (refl, omega arith) refl; lengths = (refl, refl); at = 12660; place = refl; inside = omega arith; writes = refl },
+    λ call is. ends_behind is.buf is.at is.seen is.place is.inside,
+  )
+    where
+      ends_behind : (buf : Buffer) (at : ℕ) → IsSeen (wide (replicate 3876 0)).buf 2 2 nothing buf → at ≡ place_of buf 1 → ¬ (at + 140 ≤ 12800)
+      ends_behind buf at (Held held same) place inside = let there : at ≡ 12661 = place ∙ ap (λ (other : Buffer). place_of other 1) same in omega (arith, there, inside)
+      ends_behind buf at (Read not same given) place inside = not (refl, omega arith)
+
+  -- Behind it the buffer holds C in the slot of the track that was read; nothing of the slot's track where another was held and the read gave none; and a longer record as it is held.
+  buffer_behind_is_seen :
+      HoldsPut (index any) 3 set_c gave_track uncalled read_once (buffer_with c)
+      × HoldsPut elsewhere 3 set_c nothing uncalled read_once emptied
+      × HoldsPut longer 3 set_c nothing uncalled uncalled longer_key
+  unfolding gave_track longer_key buffer_with track_bytes
+  buffer_behind_is_seen = (
+    Changed (buffer_with a) (Read unheld refl (Gives (track_bytes image one_cylinder 2) refl refl third_track_is_read)) (data_set c) c_stands refl (refl, refl) refl,
+    Emptied (λ holds. let wrong : 1 ≡ 2 = holds.0 in omega (arith, wrong)) (inl only_the_read) refl,
+    Seen (Held (refl, omega arith) refl) (λ has. let wrong : 44 ≡ 45 = has.0 in omega (arith, wrong)),
+  )
+
+  -- It holds nothing as the track before, or nothing where the track broke only behind the slot and a note was made; C in both slots; C with a byte more; or C over a longer record.
+  buffer_behind_is_no_other :
+      (¬ HoldsPut elsewhere 3 set_c nothing uncalled read_once (record emptied { track = 1 }))
+      × (¬ HoldsPut (index any) 3 set_c gave_broken_behind uncalled read_and_noted emptied)
+      × (¬ HoldsPut (holding a) 3 set_c nothing uncalled uncalled both_are_c)
+      × (¬ HoldsPut (holding a) 3 set_c nothing uncalled uncalled byte_more)
+      × (¬ HoldsPut longer 3 set_c nothing uncalled uncalled (buffer_with c))
+  unfolding holding both_are_c byte_more buffer_with first_letter uncalled read_and_noted second_letter nothing longer_key second_size gave_broken_behind
+  buffer_behind_is_no_other = (before_not, broken_not, both_not, more_not, over_not)
+    where
+      unseen : {buf : Buffer} → ¬ IsSeen elsewhere.buf 2 2 nothing buf
+      unseen (Held held same) = let wrong : 1 ≡ 2 = held.0 in omega (arith, wrong)
+      unseen (Read not same (Gives bytes size gave is)) = gave
+
+      before_not : ¬ HoldsPut elsewhere 3 set_c nothing uncalled read_once (record emptied { track = 1 })
+      before_not (Emptied not unread same) = let wrong : 1 ≡ 2 = ap (λ (buf : Buffer). buf.track) same in omega (arith, wrong)
+      before_not (Seen seen lacks) = unseen seen
+      before_not (Changed seen is bytes dscb size lengths same) = unseen is
+
+      noted_too : ¬ MakesOnly (λ call. call ≡ track_read 0 one_cylinder 2) uncalled read_and_noted
+      noted_too only = let wrong : 1 ≤ 0 = only (Noting 0 2) (λ is. cc is) in omega (arith, wrong)
+
+      broken_not : ¬ HoldsPut (index any) 3 set_c gave_broken_behind uncalled read_and_noted emptied
+      broken_not (Emptied not unread same) = ⊎_elim noted_too (λ broke. let both : Some (buffer_with a).records ≡ None = sym broken_behind_is_read.0 ∙ given_is broken_behind broke in cc) unread
+      broken_not (Seen seen lacks) = let wrong : 2 ≡ 0 = ap length (seen_is broken_behind (buffer_with a).records broken_behind_is_read.0 seen) in omega (arith, wrong)
+      broken_not (Changed seen is bytes dscb size lengths same) =
+          let records : (buffer_with a).records ≡ seen.records = seen_is broken_behind (buffer_with a).records broken_behind_is_read.0 is in
+          let wrong : 0 ≡ 2 = ap (λ (buf : Buffer). length buf.records) same ∙ ap (λ (held : List Record). length (with_parts 1 (take 44 bytes) (drop 44 bytes) held)) (sym records) in
+          omega (arith, wrong)
+
+      put_in : (bytes : List ℕ) (seen : Buffer) → IsSeen (buffer_with a) 2 2 nothing seen → record seen { records = with_parts 1 (take 44 bytes) (drop 44 bytes) seen.records } ≡ record (buffer_with a) { records = with_parts 1 (take 44 bytes) (drop 44 bytes) (buffer_with a).records }
+      put_in bytes seen is = ap (λ (buf : Buffer). record buf { records = with_parts 1 (take 44 bytes) (drop 44 bytes) buf.records }) (held_is_seen a nothing seen is)
+
+      both_not : ¬ HoldsPut (holding a) 3 set_c nothing uncalled uncalled both_are_c
+      both_not (Emptied not unread same) = not (refl, omega arith)
+      both_not (Seen seen lacks) = lacks (refl, refl)
+      both_not (Changed seen is bytes dscb size lengths same) = let wrong : 0xC3 ≡ 0xC2 = ap first_letter (same ∙ put_in bytes seen is) in omega (arith, wrong)
+
+      more_not : ¬ HoldsPut (holding a) 3 set_c nothing uncalled uncalled byte_more
+      more_not (Emptied not unread same) = not (refl, omega arith)
+      more_not (Seen seen lacks) = let wrong : 97 ≡ 96 = ap second_size (held_is_seen a nothing byte_more seen) in omega (arith, wrong)
+      more_not (Changed seen is bytes dscb size lengths same) =
+          let wrong : 97 ≡ length (drop 44 bytes) = ap second_size (same ∙ put_in bytes seen is) in
+          omega (arith, wrong, length-drop 44 bytes, size)
+
+      over_not : ¬ HoldsPut longer 3 set_c nothing uncalled uncalled (buffer_with c)
+      over_not (Emptied not unread same) = not (refl, omega arith)
+      over_not (Seen seen lacks) = lacks (refl, refl)
+      over_not (Changed seen is bytes dscb size lengths same) = held_longer_is_none is lengths
+
+  -- Nothing was given, and other tracks were read too: so it isn't known to hold nothing.
+  other_reads_empty_it_not : ¬ HoldsPut (index any) 3 set_c nothing uncalled each_read_once emptied
+  unfolding nothing uncalled each_read_once
+  other_reads_empty_it_not = empty_not
+    where
+      read_too : ¬ MakesOnly (λ call. call ≡ track_read 0 one_cylinder 2) uncalled each_read_once
+      read_too only = let wrong : 1 ≤ 0 = only (Reading 0 4608 4096) first_track_not in omega (arith, wrong)
+        where
+          first_track_not : ¬ (Reading 0 4608 4096 ≡ track_read 0 one_cylinder 2)
+          first_track_not is = let at : 4608 ≡ 8704 = ap at_of is in omega (arith, at)
+            where
+              at_of : HallCall → ℕ
+              at_of (Reading unit at len) = at
+              at_of call = 0
+
+      unseen : {buf : Buffer} → ¬ IsSeen (index any).buf 2 2 nothing buf
+      unseen (Held held same) = unheld held
+      unseen (Read not same (Gives bytes size gave is)) = gave
+
+      none_given : {holds : List ℕ → Type 0} → ¬ HasGiven nothing 0 one_cylinder 2 holds
+      none_given (Gives bytes size gave is) = gave
+
+      empty_not : ¬ HoldsPut (index any) 3 set_c nothing uncalled each_read_once emptied
+      empty_not (Emptied not unread same) = ⊎_elim read_too none_given unread
+      empty_not (Seen seen lacks) = unseen seen
+      empty_not (Changed seen is bytes dscb size lengths same) = unseen is
+
+  -- It stays the buffer of its unit and of the slot's track, emptied or with C.
+  buffer_behind_is_of_its_track : (¬ HoldsPut (index any) 3 set_c nothing uncalled read_once (record emptied { unit = 1 })) × (¬ HoldsPut (holding a) 3 set_c nothing uncalled uncalled (record (buffer_with c) { track = 1 }))
+  unfolding nothing holding buffer_with
+  buffer_behind_is_of_its_track = (unit_not, track_not)
+    where
+      unseen : {buf : Buffer} → ¬ IsSeen (index any).buf 2 2 nothing buf
+      unseen (Held held same) = unheld held
+      unseen (Read not same (Gives bytes size gave is)) = gave
+
+      unit_not : ¬ HoldsPut (index any) 3 set_c nothing uncalled read_once (record emptied { unit = 1 })
+      unit_not (Emptied not unread same) = let wrong : 1 ≡ 0 = ap (λ (buf : Buffer). buf.unit) same in omega (arith, wrong)
+      unit_not (Seen seen lacks) = unseen seen
+      unit_not (Changed seen is bytes dscb size lengths same) = unseen is
+
+      track_not : ¬ HoldsPut (holding a) 3 set_c nothing uncalled uncalled (record (buffer_with c) { track = 1 })
+      track_not (Emptied not unread same) = not (refl, omega arith)
+      track_not (Seen seen lacks) = lacks (refl, refl)
+      track_not (Changed seen is bytes dscb size lengths same) = let wrong : 1 ≡ 2 = ap (λ (buf : Buffer). buf.track) same ∙ ap (λ (buf : Buffer). buf.track) (held_is_seen a nothing seen is) in omega (arith, wrong)

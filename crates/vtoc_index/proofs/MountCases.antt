@@ -1,17 +1,17 @@
 -- A whole image and its index, computed. Each comment in small letters names what a near reading would let through.
-use Rattle.std.proofs.Common.{◌≡◌, ◌≢◌, inl, inr, ℕ, List, [], ◌∷◌, ◌++◌, length, map, get_or, replicate, Some, None, refl, sym, ap, subst, ◌∙◌, arith}
+use Rattle.std.proofs.Common.{◌≡◌, ◌≢◌, ◌+◌, ◌*◌, inl, inr, ℕ, zero, suc, List, [], ◌∷◌, ◌++◌, length, map, get_or, replicate, Some, None, refl, sym, ap, subst, ◌∙◌, arith}
 use Rattle.std.specs.Prelude.{Option, Ok, Err, slice_range, take}
 use Rattle.std.specs.Option.{option_map}
 use Rattle.ckd_image.specs.declared.device.DiskType.TheVariants.{D2311, D2314}
 use Rattle.ckd_image.specs.declared.header.Geometry.{Geometry}
 use Rattle.ckd_image.specs.declared.header.ImageErr.TheVariants.{BadLength}
-use Rattle.ckd_image.specs.Header.{geometry_of, geometry_on, header_bytes}
+use Rattle.ckd_image.specs.Header.{HasGeometry, geometry_of, geometry_on, header_bytes}
 use Rattle.ckd_image.specs.Reading.{is_front, records_of, records_to_end, records_up_to}
 use Rattle.ckd_image.specs.Track.{Record}
 use Rattle.ckd_image.specs.Writing.{new_track}
 use Rattle.dscb_codec.specs.declared.Dscb.{Dscb}
 use Rattle.dscb_codec.specs.declared.Dscb.TheVariants as formats
-use Rattle.hall_core.specs.Facts.{Attached}
+use Rattle.hall_core.specs.Facts.{Attached, unit_of}
 use Rattle.pack_spec.specs.Label.{label_in, label_of, records_on, track_bytes}
 use Rattle.pack_spec.specs.Faults.{dscb_fault, dscb_faults, extents_fault, front_faults, name_fault, name_faults, slots_faults, track_fault, track_faults, vtoc_fault}
 use Rattle.pack_spec.specs.Slots.{counted_extents, first_extents, format_3_of, further_extents, has_chain, has_extents, has_types, slots_at, slots_of_vtoc}
@@ -28,7 +28,7 @@ use Rattle.vol_model.specs.declared.contents.Run.{Run}
 use Rattle.vol_model.specs.Order.{in_order, rank}
 use Rattle.vtoc_index.specs.Calls.{reads_to_mount, tracks_to_read, vtoc_reads}
 use Rattle.vtoc_index.specs.Contents.{AreDscbs}
-use Rattle.vtoc_index.specs.Index.{IsIndexOf, IsMounted, IsOfUnit, IsReason, firsts_of, place_of_slot, serial_on, slots_before}
+use Rattle.vtoc_index.specs.Index.{AreFirsts, IsIndexOf, IsMounted, IsOfUnit, IsReason, firsts_of, place_of_slot, serial_on, slots_before}
 use Rattle.vtoc_index.specs.Kept.{IsKept}
 use Rattle.vtoc_index.specs.Puts.{IsHeld}
 use Rattle.vtoc_index.specs.Reading.{vtoc_on}
@@ -400,3 +400,89 @@ index_is_that_of_the_image_and_no_more any = record {
 
 two_sets_of_one_name_are_not_mounted : (v : Vol) → ¬ IsMounted (with_sets (data_set a ∷ data_set a ∷ [])) v
 two_sets_of_one_name_are_not_mounted v = not_mounted (with_sets (data_set a ∷ data_set a ∷ [])) (DuplicateName 3 2) two_sets_have_one_name v
+
+-- Given one part, an index is the image's, and without it it isn't: its geometry, where it has a cylinder more; its serial, where the last byte is another; and the numbers of first slots, where they are counted anew on each track.
+module _ (any : Vol) where
+  abbrev more_cylinders : Geometry
+  more_cylinders = record one_cylinder { cylinders = 2 }
+
+  geometry_is_that_of_the_header : (geometry_of (take 512 image) (length image) ≡ Ok more_cylinders → IsIndexOf image (record (index any) { geometry = more_cylinders })) × (¬ IsIndexOf image (record (index any) { geometry = more_cylinders }))
+  unfolding label_of label_in records_on track_bytes records_of is_front records_to_end records_up_to track_faults track_fault slots_of_vtoc slots_at slots_on firsts_of
+  geometry_is_that_of_the_header = (
+    λ header. record { header = header; serial = refl; tracks = refl; slots = are_dscbs; firsts = refl; buffer = inl refl },
+    λ is. let same : Ok more_cylinders ≡ Ok one_cylinder = sym is.header ∙ header_is_read in let wrong : more_cylinders ≡ one_cylinder = cc in omega (arith, ap (λ (g : Geometry). g.cylinders) wrong),
+  )
+
+  abbrev other_serial : List ℕ
+  other_serial = 0xD7 ∷ 0xC1 ∷ 0xC3 ∷ 0xD2 ∷ 0xF0 ∷ 0xF2 ∷ []
+
+  serial_is_that_of_the_label : (serial_on image one_cylinder ≡ Some other_serial → IsIndexOf image (record (index any) { serial = record { bytes = other_serial } })) × (¬ IsIndexOf image (record (index any) { serial = record { bytes = other_serial } }))
+  unfolding track_faults track_fault slots_of_vtoc slots_at slots_on records_on track_bytes records_of is_front records_to_end firsts_of
+  serial_is_that_of_the_label = (
+    λ serial. record { header = header_is_read; serial = serial; tracks = refl; slots = are_dscbs; firsts = refl; buffer = inl refl },
+    λ is. let same : Some other_serial ≡ Some pack01 = sym is.serial ∙ serial_is_read in let bytes : other_serial ≡ pack01 = cc in let wrong : 0xF2 ≡ 0xF1 = ap (λ (l : List ℕ). get_or l 5 0) bytes in omega (arith, wrong),
+  )
+
+  abbrev counted_anew : Vol
+  counted_anew = record (index any) { firsts = record (index any).firsts { len = 2; cap = 2; items = 0 ∷ 0 ∷ []; ok = (refl, omega arith); small = omega arith } }
+
+  slots_are_numbered_on : (0 ∷ 0 ∷ [] ≡ firsts_of image one_cylinder two_tracks → IsIndexOf image counted_anew) × (¬ IsIndexOf image counted_anew)
+  unfolding track_faults track_fault slots_of_vtoc slots_at slots_on records_on track_bytes records_of is_front records_to_end
+  slots_are_numbered_on = (
+    λ firsts. record { header = header_is_read; serial = serial_is_read; tracks = refl; slots = are_dscbs; firsts = firsts; buffer = inl refl },
+    λ is. let wrong : 0 ≡ 2 = ap (λ (l : List ℕ). get_or l 1 9) (is.firsts ∙ slots_are_counted) in omega (arith, wrong),
+  )
+
+  -- The VTOC of a unit may end with its last track.
+  vtoc_may_end_the_unit : IsOfUnit (record { name = []; size = 41472 } ∷ []) (record (index any) { vtoc = record { start = 8; len = 2 } }) × (¬ IsOfUnit (record { name = []; size = 41472 } ∷ []) (record (index any) { vtoc = record { start = 9; len = 2 } }))
+  vtoc_may_end_the_unit = (
+    record {
+      attached = omega arith;
+      whole = record { cylinders = omega arith; most = omega arith; track_size = refl; whole = refl };
+      inside = omega arith;
+      tracks = refl;
+      few = omega arith;
+      most = omega arith;
+      firsts = (refl, (2, omega arith, (refl, (2, omega arith, refl))));
+      buffer = (refl, refl);
+    },
+    λ is. omega (arith, is.inside),
+  )
+
+-- the numbers of the first slots of so many tracks that have 255 each, from this number on
+full_from : ℕ → ℕ → List ℕ
+full_from number zero = []
+full_from number (suc tracks) = number ∷ full_from (number + 255) tracks
+
+full_are_firsts : (number tracks : ℕ) → AreFirsts number (full_from number tracks) (number + tracks * 255)
+unfolding full_from
+full_are_firsts number zero = omega arith
+full_are_firsts number (suc tracks) = (refl, (255, omega arith, subst (AreFirsts (number + 255) (full_from (number + 255) tracks)) (omega arith) (full_are_firsts (number + 255) tracks)))
+
+full_are_many : (number tracks : ℕ) → length (full_from number tracks) ≡ tracks
+unfolding full_from
+full_are_many number zero = refl
+full_are_many number (suc tracks) = let rest = full_are_many (number + 255) tracks in omega (arith, rest)
+
+-- a 2314 of 203 cylinders
+abbrev large : Geometry
+large = record { device = D2314; cylinders = 203; track_size = 7680 }
+
+abbrev large_unit : List Attached
+large_unit = record { name = []; size = 31181312 } ∷ []
+
+-- A VTOC may have 257 tracks of 255 slots each, which are 65,535 slots.
+full_vtoc_is_of_its_unit : (v : Vol) → v.unit ≡ 0 → v.geometry ≡ large → v.vtoc ≡ record { start = 1; len = 257 } → v.firsts.items ≡ full_from 0 257 → length v.slots.items ≡ 65535 → (v.buf.geometry ≡ v.geometry) × (v.buf.unit ≡ v.unit) → IsOfUnit large_unit v
+full_vtoc_is_of_its_unit v unit geometry vtoc firsts slots buffer =
+    let start = ap (λ (run : Run). run.start) vtoc in
+    let len = ap (λ (run : Run). run.len) vtoc in
+    record {
+      attached = omega (arith, unit);
+      whole = subst (HasGeometry (unit_of large_unit v.unit).size) (sym geometry) (subst (λ (u : ℕ). HasGeometry (unit_of large_unit u).size large) (sym unit) (record { cylinders = omega arith; most = omega arith; track_size = refl; whole = refl }));
+      inside = omega (arith, start, len, ap tracks_of geometry);
+      tracks = ap length firsts ∙ full_are_many 0 257 ∙ sym len;
+      few = omega (arith, len);
+      most = omega (arith, slots);
+      firsts = subst (λ (l : List ℕ). AreFirsts 0 l (length v.slots.items)) (sym firsts) (subst (AreFirsts 0 (full_from 0 257)) (sym slots) (full_are_firsts 0 257));
+      buffer = buffer;
+    }

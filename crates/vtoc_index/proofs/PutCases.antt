@@ -1,5 +1,5 @@
 -- One slot of the small pack is put, computed. Each comment in small letters names what a near reading would let through.
-use Rattle.std.proofs.Common.{◌≡◌, ◌≢◌, ◌⊎◌, ◌≤◌, ◌<◌, ◌+◌, ◌*◌, ⊎_elim, inl, inr, ℕ, zero, suc, List, [], ◌∷◌, ◌++◌, codes, drop, get_or, length, length-drop, take, replicate, Option, Some, None, refl, sym, ap, subst, ◌∙◌, arith}
+use Rattle.std.proofs.Common.{◌≡◌, ◌≢◌, ◌⊎◌, ◌≤◌, ◌<◌, ◌+◌, ◌*◌, ⊎_elim, inl, inr, ℕ, zero, suc, List, [], ◌∷◌, ◌++◌, codes, drop, get_or, length, length-drop, map, take, replicate, Option, Some, None, refl, sym, ap, subst, ◌∙◌, arith}
 use Rattle.std.specs.Prelude.{Result, Ok, Err, slice_get, unwrap_or}
 use Rattle.std.specs.Option.{option_map}
 use Rattle.std.proofs.lemmas.List.{drop_all}
@@ -23,9 +23,10 @@ use Rattle.pack_spec.specs.Label.{label_in, label_of, records_on, track_bytes}
 use Rattle.pack_spec.specs.Slots.{slots_at, slots_of_vtoc}
 use Rattle.pack_spec.specs.Vtoc.{slots_on}
 use Rattle.pack_spec.specs.Written.{label_bytes}
+use Rattle.track_records.specs.Buffers.{Buffer}
 use Rattle.vtoc_index.specs.Contents.{AreDscbs, with_bytes}
 use Rattle.vtoc_index.specs.Index.{IsPut, place_of_slot, slots_in_front, track_index}
-use Rattle.vtoc_index.specs.Puts.{AfterPut, HoldsDscb, HoldsItsTrack, HoldsSlot, IsReplaced}
+use Rattle.vtoc_index.specs.Puts.{AfterPut, HoldsDscb, HoldsItsTrack, HoldsSlot, IsReplaced, IsWith}
 use Rattle.vtoc_index.specs.declared.vol.Vol.{Vol}
 use Rattle.vtoc_index.proofs.HeldLemmas.{data_held, key_held}
 use Rattle.vtoc_index.proofs.MountCases.{index_is_mounted}
@@ -401,3 +402,48 @@ index_has_the_slot any after done =
     let held : AreDscbs (index any).slots.items slots_then = subst (AreDscbs (index any).slots.items) put_is_read done.done.1.slots in
     let wrong : 0xC3 ≡ 0xC1 = ap (λ (l : List ℕ). get_or l 0 0) held.1.1.1.0.0 in
     omega (arith, wrong)
+
+-- What holds of the index behind: where the slot is put it has the DSCB there, with any buffer of its unit, and all other slots as before; after an error it has none.
+module _ (any : Vol) where
+  abbrev other_track : Buffer
+  other_track = record (index any).buf { track = 1; records = record_of 44 b [] ∷ [] }
+
+  -- the slot before it has C too, or the serial is another
+  abbrev both_then : Vol
+  both_then = record (index any) { slots = record (index any).slots { items = formats.F4 f4 ∷ formats.F5 f5 ∷ set_c ∷ set_c ∷ []; ok = (refl, omega arith); small = omega arith } }
+
+  abbrev renamed_then : Vol
+  renamed_then = record (index_then any) { serial = record { bytes = replicate 6 0xC1 } }
+
+  index_holds_the_dscb_once_it_is_put :
+      IsReplaced 3 set_c (index any) (record (index_then any) { buf = other_track })
+      × IsWith {T = ℕ} {E = ℕ} 3 set_c (index any) (index_then any) (Ok 1)
+      × IsWith {T = ℕ} {E = ℕ} 3 set_c (index any) (record (index any) { buf = other_track }) (Err 1)
+      × (¬ IsWith {T = ℕ} {E = ℕ} 3 set_c (index any) (index_then any) (Err 1))
+      × (¬ IsReplaced 3 set_c (index any) both_then)
+      × (¬ IsReplaced 3 set_c (index any) renamed_then)
+  unfolding record_of
+  index_holds_the_dscb_once_it_is_put = (
+    record { items = refl; others = refl; geometry = refl; unit = refl },
+    record { done = slot_is_replaced any; failed = tt },
+    record { done = tt; failed = record { others = refl; geometry = refl; unit = refl } },
+    λ with. let items = ap (λ (v : Vol). v.slots.items) with.failed.others in let wrong : 0xC3 ≡ 0xC1 = ap (letter 3) items in omega (arith, wrong),
+    λ replaced. let wrong : 0xC3 ≡ 0xC2 = ap (letter 2) replaced.items in omega (arith, wrong),
+    λ replaced. let wrong : 0xC1 ≡ 0xD7 = ap (λ (v : Vol). get_or v.serial.bytes 0 0) replaced.others in omega (arith, wrong),
+  )
+    where
+      name_of : Dscb → List ℕ
+      name_of (formats.F1 f) = f.name
+      name_of _ = []
+
+      letter : ℕ → List Dscb → ℕ
+      letter k items = get_or (get_or (map name_of items) k []) 0 0
+
+  -- it is done, and the image is as before, which is that of the index before
+  image_has_the_slot : (v' : Vol) (after : Meaning (List File)) → ¬ AfterPut {T = ℕ} {E = ℕ} file (index any) 3 set_c v' image image old after (Ok 1)
+  unfolding patched
+  image_has_the_slot v' after done =
+      let bytes : done.bytes ≡ data_set c = decoded_encoded set_c done.bytes (data_set c) done.size refl done.dscb c_stands in
+      let same : image ≡ patched image 8881 (data_set c) = done.done.0.written ∙ ap (patched image 8881) bytes in
+      let wrong : 0xC1 ≡ 0xC3 = ap (λ (l : List ℕ). get_or l 8881 0) same in
+      omega (arith, wrong)

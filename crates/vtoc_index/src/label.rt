@@ -70,14 +70,14 @@ fn label_held(buf: &TrackBuf) -> Result<Label, MountErr>
     ensures three { OnOk result (length buf.now.records ≡ 3) }
     ensures refused { IfErr result (λ e. (e ≡ MountErr.NoLabel) × (label_in buf.now.records ≡ None)) }
 {
-    match label_data(buf) {
-        Some(label) => Ok(label_of(label)),
+    match label_data_held(buf) {
+        Some(label) => Ok(fields_of_label(label)),
         None => Err(MountErr::NoLabel),
     }
 }
 
 // The data of the label, where the buffer holds the first three records of a pack.
-fn label_data(buf: &TrackBuf) -> Option<&[u8]>
+fn label_data_held(buf: &TrackBuf) -> Option<&[u8]>
     ensures exact { option_copied result ≡ label_in buf.now.records }
     ensures len { IfSome result (λ label. length label.now ≡ 80) }
     ensures three { IfSome result (λ _. length buf.now.records ≡ 3) }
@@ -133,7 +133,7 @@ fn data_held(buf: &TrackBuf, r: u8) -> &[u8]
 }
 
 // What these data of a label say.
-fn label_of(label: &[u8]) -> Label
+fn fields_of_label(label: &[u8]) -> Label
     requires { length label.now ≡ 80 }
     ensures serial { result.serial.bytes ≡ slice_range label.now 4 10 }
     ensures vtoc { result.vtoc ≡ address_at 11 label.now }

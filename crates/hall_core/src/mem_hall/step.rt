@@ -5,9 +5,9 @@
 pub enum Call {
     /// A file was to be attached.
     Attach,
-    /// Bytes of a unit were to be read, from the offset `at` on, in bytes.
+    /// Bytes of a unit, whose number counts from 0, were to be read, from the offset `at` on, in bytes.
     Read { unit: u8, at: u64 },
-    /// Bytes were to be written over those of a unit, from the offset `at` on, in bytes.
+    /// Bytes were to be written over those of a unit, whose number counts from 0, from the offset `at` on, in bytes.
     Write { unit: u8, at: u64 },
     /// The writes were to be made durable.
     Sync,

@@ -180,6 +180,7 @@ fn headers_and_lengths_are_named(rt: HostRuntime) -> Result<(), Fail> {
     for (magic, len, reason) in HEADERS {
         let image = headed(rt.alloc(), magic, *len)?;
         assert_refused(&rt, rt.alloc(), &image, reason)?;
+        assert_alike(&rt, rt.alloc(), &image)?;
     }
     Ok(())
 }
@@ -214,14 +215,21 @@ fn cut_packs_are_judged_as_the_plain_program_does(rt: HostRuntime) -> Result<(),
     Ok(())
 }
 
-// Fifty bytes each of the header, of the label's track and of both tracks of the VTOC.
+// The first 24 bytes of the header, and fifty each of the label's track and of both tracks of the VTOC, one at a time.
 #[test]
 fn changed_bytes_are_judged_as_the_plain_program_does(rt: HostRuntime) -> Result<(), Fail> {
-    for (begin, span) in [(0, 24), (512, 320), (37376, 640), (41472, 640)] {
-        for step in 0..50 {
+    let whole = small_pack(rt.alloc(), &[])?;
+    for (begin, span, steps) in [
+        (0, 24, 24),
+        (512, 300, 50),
+        (37376, 640, 50),
+        (41472, 640, 50),
+    ] {
+        for step in 0..steps {
             let at = begin + step * 13 % span;
             let byte = if step % 2 == 0 { 0xFF } else { step as u8 };
             let image = small_pack(rt.alloc(), &[Image(at, byte)])?;
+            assert!(rt; image.as_slice() != whole.as_slice(), "at {at}");
             assert_alike(&rt, rt.alloc(), &image)?;
         }
     }

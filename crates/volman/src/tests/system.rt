@@ -40,6 +40,7 @@ pub(crate) struct System<'a, R> {
     words: &'a [&'a str],
     deck: Deck<'a>,
     faults: Range<u64>,
+    kind: ErrorKind,
     calls: Cell<u64>,
     printed: RefCell<Vec<u8>>,
 }
@@ -60,9 +61,16 @@ impl<'a, R> System<'a, R> {
             words,
             deck: Deck { rest: cards },
             faults,
+            kind: ErrorKind::BrokenPipe,
             calls: Cell::new(0),
             printed: RefCell::new(Vec::new(alloc)),
         }
+    }
+
+    /// The same system, with this as the kind of each fault.
+    pub(crate) fn failing_with(mut self, kind: ErrorKind) -> System<'a, R> {
+        self.kind = kind;
+        self
     }
 
     /// The number of calls for files and prints that were made.
@@ -80,7 +88,7 @@ impl<'a, R> System<'a, R> {
         let number = self.calls.get();
         self.calls.set(number.saturating_add(1));
         if self.faults.contains(&number) {
-            return Err(Error::from(ErrorKind::BrokenPipe));
+            return Err(Error::from(self.kind));
         }
         Ok(())
     }

@@ -1,7 +1,7 @@
 use Rattle.std.proofs.Common.{◌≡◌, length, sym, ◌∙◌}
 use Rattle.pack_spec.proofs.Labels.{label_in-other}
 use Rattle.vtoc_index.proofs.Labels.{label_found, label_not}
-use Rattle.vtoc_index.proofs.label.label_data.Goals as goal
+use Rattle.vtoc_index.proofs.label.label_data_held.Goals as goal
 
 pub returns-then-len-from-clause-exact : goal.returns-then-len-from-clause-exact
 returns-then-len-from-clause-exact c = sym (label_in-other c.args.buf.now.records (λ is. c.if-len-from.true (c.len.ensures ∙ is ∙ sym c.from.ensures)))
