@@ -38,4 +38,5 @@ pub mod MountCases
 pub mod PutCases
 pub mod MadeCases
 pub mod GivenCases
+mod ReasonCases
 mod RuleCases
