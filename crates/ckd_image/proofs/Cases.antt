@@ -106,6 +106,10 @@ reading x = ((refl, refl), λ is. let count = is.1 in cc, (refl, refl), λ is. l
 break_and_records : (x : Record) → (¬ IsReadingOf (Some 3) (Some (x ∷ [])) (Ok 1)) × (¬ IsReadingOf (Some 3) (Some (x ∷ [])) (Err 3))
 break_and_records x = (λ is. let break = is.0 in cc, λ is. let records = is.1 in cc)
 
+-- where nothing is read no records are counted, and where nothing breaks no byte is named, be it 0
+nothing_read : (¬ IsReadingOf None None (Ok 0)) × (¬ IsReadingOf None None (Err 0)) × IsReadingOf None (Some []) (Ok 0) × IsReadingOf (Some 0) None (Err 0)
+nothing_read = (λ is. let count = is.1 in cc, λ is. let break = is.0 in cc, (refl, refl), (refl, refl))
+
 -- count, key and data of R1, and of a home address; R0 has no key and eight bytes
 written :
     (record_bytes 1 (record { address = 0 ∷ 9 ∷ 0 ∷ 7 ∷ []; key = 75 ∷ 75 ∷ []; «data» = 68 ∷ 68 ∷ 68 ∷ [] }) ≡ r1)

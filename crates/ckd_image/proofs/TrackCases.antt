@@ -60,6 +60,44 @@ behind :
 unfolding records_to_end records_up_to
 behind = (refl, refl, refl, refl, refl, refl)
 
+-- a record of no key and no data is whole with its count
+empty_at_front : (is_record_at 1 (0 ∷ 0 ∷ 0 ∷ 0 ∷ 1 ∷ 0 ∷ 0 ∷ 0 ∷ []) ≡ true) × (front_record (0 ∷ 0 ∷ 0 ∷ 0 ∷ 1 ∷ 0 ∷ 0 ∷ 0 ∷ []) ≡ record { address = replicate 4 0; key = []; «data» = [] })
+empty_at_front = (refl, refl)
+
+-- CC and HH of R0's count and its data may be any
+free_front : (is_front 2 3 (changed 5 9 front) ≡ true) × (is_front 2 3 (changed 8 9 front) ≡ true) × (is_front 2 3 (changed 13 9 front) ≡ true) × (is_front 2 3 (changed 20 9 front) ≡ true)
+unfolding is_front
+free_front = (refl, refl, refl, refl)
+
+-- R2 without a key, and data of one byte
+abbrev r2 : List ℕ
+r2 = 0 ∷ 0 ∷ 0 ∷ 0 ∷ 2 ∷ 0 ∷ 0 ∷ 1 ∷ 80 ∷ []
+
+abbrev two : Record
+two = record { address = replicate 4 0; key = []; «data» = 80 ∷ [] }
+
+-- records are read in their order, each under the next number
+in_order :
+    (records_behind None (r1 ++ (r2 ++ marker)) ≡ Some (one ∷ two ∷ []))
+    × (records_behind (Some 2) (r1 ++ (r2 ++ marker)) ≡ Some (one ∷ two ∷ []))
+    × (records_behind None (r1 ++ (r1 ++ marker)) ≡ None)
+    × (records_behind (Some 2) (r1 ++ (r1 ++ marker)) ≡ None)
+unfolding records_to_end records_up_to
+in_order = (refl, refl, refl, refl)
+
+-- a record without key and data
+abbrev bare : Record
+bare = record { address = replicate 4 0; key = []; «data» = [] }
+
+-- so many of these from R1 on, and what stands behind them
+abbrev bare_ones_then : ℕ → List ℕ → List ℕ
+bare_ones_then n rest = records_bytes 1 (replicate n bare) ++ rest
+
+-- a track is read to its R255 and a marker behind that, and there is no R256, though no byte could say that it is one
+most_are_read : (records_behind None (bare_ones_then 255 marker) ≡ Some (replicate 255 bare)) × (records_behind None (bare_ones_then 255 (r1 ++ marker)) ≡ None) × (records_behind None (bare_ones_then 256 marker) ≡ None)
+unfolding records_to_end
+most_are_read = (refl, refl, refl)
+
 -- where no record may stand any more, an end marker is asked for all the same
 none_left : (records_to_end 0 256 (marker ++ (1 ∷ [])) ≡ Some []) × (records_to_end 0 256 (r1 ++ marker) ≡ None) × (records_to_end 0 256 [] ≡ None)
 unfolding records_to_end
@@ -97,6 +135,82 @@ first_of_two = (refl, refl, refl)
 break_behind_front : (break_behind None (r1 ++ replicate 8 0) ≡ Some 17) × (break_behind (Some 1) (r1 ++ replicate 8 0) ≡ None) × (break_behind (Some 2) (r1 ++ marker) ≡ Some 17)
 unfolding break_to_end break_up_to
 break_behind_front = (refl, refl, refl)
+
+-- bytes that aren't judged may be any, but have to be there, and so have the others; the first that is another or is missing counts, and what stands behind them doesn't
+patterns :
+    (pattern_break [] [] ≡ None)
+    × (pattern_break [] (1 ∷ []) ≡ None)
+    × (pattern_break (None ∷ Some 7 ∷ Some 8 ∷ []) (1 ∷ 7 ∷ 8 ∷ 9 ∷ []) ≡ None)
+    × (pattern_break (None ∷ Some 7 ∷ Some 8 ∷ []) (1 ∷ 6 ∷ 9 ∷ []) ≡ Some 1)
+    × (pattern_break (None ∷ Some 7 ∷ Some 8 ∷ []) (1 ∷ 7 ∷ 9 ∷ []) ≡ Some 2)
+    × (pattern_break (None ∷ Some 7 ∷ Some 8 ∷ []) (1 ∷ 7 ∷ []) ≡ Some 2)
+    × (pattern_break (Some 7 ∷ None ∷ []) (7 ∷ []) ≡ Some 1)
+unfolding pattern_break
+patterns = (refl, refl, refl, refl, refl, refl, refl)
+
+-- fewer than five bytes have no R that could be another, but five have; a record of a count alone is whole; and R is judged before how many bytes there are
+breaks_of_few :
+    (record_break true 1 (take 3 r1) ≡ Some 3)
+    × (record_break false 1 [] ≡ Some 0)
+    × (record_break false 2 (take 5 r1) ≡ Some 4)
+    × (record_break true 1 (0 ∷ 0 ∷ 0 ∷ 0 ∷ 1 ∷ 0 ∷ 0 ∷ 0 ∷ []) ≡ None)
+    × (record_break false 2 (take 12 r1) ≡ Some 4)
+    × (record_break true 1 (replicate 6 255) ≡ Some 6)
+breaks_of_few = (refl, refl, refl, refl, refl, refl)
+
+-- an earlier break counts where there is no later one too
+earlier_alone : break_or_after (Some 3) 10 None ≡ Some 3
+earlier_alone = refl
+
+-- where no record may stand any more, the first byte that is none of the marker counts, and not R
+marker_breaks :
+    (break_to_end 0 256 (marker ++ (1 ∷ [])) ≡ None)
+    × (break_to_end 0 256 (255 ∷ 255 ∷ replicate 8 0) ≡ Some 2)
+    × (break_to_end 0 256 (r1 ++ marker) ≡ Some 0)
+    × (break_to_end 0 256 [] ≡ Some 0)
+unfolding break_to_end
+marker_breaks = (refl, refl, refl, refl)
+
+-- a marker stands in the place of any record, also of R255; the records are judged under the next numbers, each behind the one before
+to_end_breaks :
+    (break_to_end 1 255 (marker ++ (1 ∷ [])) ≡ None)
+    × (break_to_end 1 1 marker ≡ None)
+    × (break_to_end 3 1 (r1 ++ (r2 ++ marker)) ≡ None)
+    × (break_to_end 3 1 (r1 ++ (r1 ++ marker)) ≡ Some 17)
+    × (break_to_end 3 1 (r1 ++ (r2 ++ replicate 7 255)) ≡ Some 29)
+    × (break_to_end 1 1 (r1 ++ (r2 ++ marker)) ≡ Some 13)
+unfolding break_to_end
+to_end_breaks = (refl, refl, refl, refl, refl, refl)
+
+-- up to a record a marker may stand behind it, but not in its place: R is the byte that is wrong, and of R255 the first that isn't one of its count
+up_to_breaks :
+    (break_up_to 0 2 marker ≡ None)
+    × (break_up_to 0 2 (take 7 marker) ≡ Some 7)
+    × (break_up_to 1 1 marker ≡ Some 4)
+    × (break_up_to 1 254 (marker ++ (1 ∷ [])) ≡ Some 4)
+    × (break_up_to 1 255 (marker ++ (1 ∷ [])) ≡ Some 7)
+    × (break_up_to 2 1 (r1 ++ (r2 ++ marker)) ≡ None)
+    × (break_up_to 2 1 (r1 ++ (r1 ++ marker)) ≡ Some 17)
+    × (break_up_to 2 1 (r1 ++ (r2 ++ replicate 7 0)) ≡ Some 29)
+    × (break_up_to 2 1 (r1 ++ take 6 r2) ≡ Some 19)
+unfolding break_up_to
+up_to_breaks = (refl, refl, refl, refl, refl, refl, refl, refl, refl)
+
+-- 255 records don't break, and behind them only a marker is looked for
+most_break : (break_behind None (bare_ones_then 255 marker) ≡ None) × (break_behind None (bare_ones_then 255 (replicate 8 0)) ≡ Some 2040)
+unfolding break_to_end
+most_break = (refl, refl)
+
+-- the front is judged before the records, and they behind its 21 bytes
+front_breaks :
+    (break_of 2 3 None (front ++ (r1 ++ marker)) ≡ None)
+    × (break_of 3 2 None (front ++ (r1 ++ marker)) ≡ Some 2)
+    × (break_of 2 3 None (changed 12 9 front ++ replicate 8 0) ≡ Some 12)
+    × (break_of 2 3 (Some 1) (take 20 front) ≡ Some 20)
+    × (break_of 2 3 (Some 1) front ≡ Some 21)
+    × (break_of 2 3 (Some 0) (front ++ replicate 8 0) ≡ None)
+unfolding break_of break_to_end break_up_to pattern_break
+front_breaks = (refl, refl, refl, refl, refl, refl)
 
 -- ---- the grammar
 

@@ -66,6 +66,10 @@ last_changed = 0 ∷ 0 ∷ 1 ∷ 1 ∷ 2 ∷ 2 ∷ 3 ∷ 9 ∷ []
 inside_changed : List ℕ
 inside_changed = 0 ∷ 0 ∷ 9 ∷ 1 ∷ 2 ∷ 9 ∷ 3 ∷ 3 ∷ []
 
+-- and but for the first byte of track 0
+front_changed : List ℕ
+front_changed = 9 ∷ 0 ∷ 1 ∷ 1 ∷ 2 ∷ 2 ∷ 3 ∷ 3 ∷ []
+
 -- three of them, the last of which is whole, or lacks its last byte
 ends_in_the_vtoc : List ℕ
 ends_in_the_vtoc = 0 ∷ 0 ∷ 1 ∷ 1 ∷ 2 ∷ 2 ∷ []
@@ -105,6 +109,25 @@ module _ (header : List ℕ) (size : length header ≡ 512) where
       others (suc (suc zero)) outside = absurd (outside (omega arith, omega arith))
       others (suc (suc (suc zero))) outside = same_tracks before inside_changed 3 refl
       others (suc (suc (suc (suc n)))) outside = same_tracks before inside_changed (suc (suc (suc (suc n)))) (none n inside_changed (omega arith) ∙ sym (none n before (omega arith)))
+
+  -- So may the first byte behind the header, where the VTOC begins on the first track.
+  first_track_may_be_of_the_vtoc : DiffersInVtoc pairs (record { start = 0; len = 1 }) (header ++ before) (header ++ front_changed)
+  unfolding before front_changed
+  first_track_may_be_of_the_vtoc = record {
+    size = length-append header front_changed ∙ sym (length-append header before);
+    header = take_at header front_changed 512 size ∙ sym (take_at header before 512 size);
+    tracks = others;
+  }
+    where
+      none : (n : ℕ) (xs : List ℕ) → length xs ≤ 8 → take 2 (drop (suc (suc (suc (suc n))) * 2) xs) ≡ []
+      none n xs few = ap (take 2) (drop_all (suc (suc (suc (suc n))) * 2) xs (omega (arith, few)))
+
+      others : (track : ℕ) → ¬ IsIn (record { start = 0; len = 1 }) track → track_bytes (header ++ front_changed) pairs track ≡ track_bytes (header ++ before) pairs track
+      others zero outside = absurd (outside (omega arith, omega arith))
+      others (suc zero) outside = same_tracks before front_changed 1 refl
+      others (suc (suc zero)) outside = same_tracks before front_changed 2 refl
+      others (suc (suc (suc zero))) outside = same_tracks before front_changed 3 refl
+      others (suc (suc (suc (suc n)))) outside = same_tracks before front_changed (suc (suc (suc (suc n)))) (none n front_changed (omega arith) ∙ sym (none n before (omega arith)))
 
   -- Those on the track before it and on the one behind it may not.
   track_before_the_vtoc_stays : ¬ DiffersInVtoc pairs vtoc (header ++ before) (header ++ first_changed)

@@ -1,5 +1,5 @@
 -- A rename as an operation on the volume, computed on the small pack: what is told of it for any image has an image. Each comment in small letters names what a near reading would let through.
-use Rattle.std.proofs.Common.{◌≡◌, ◌≢◌, ◌+◌, ◌*◌, ⊎_elim, inl, inr, ℕ, List, [], ◌∷◌, get_or, refl, sym, ap, subst, ◌∙◌, arith}
+use Rattle.std.proofs.Common.{◌≡◌, ◌≢◌, ◌+◌, ◌*◌, ⊎_elim, inl, inr, ℕ, List, [], ◌∷◌, ◌++◌, drop, get_or, take, refl, sym, ap, subst, ◌∙◌, arith}
 use Rattle.std.specs.Prelude.{Result, Ok, Err}
 use Rattle.ckd_image.specs.Header.{geometry_of, geometry_on}
 use Rattle.ckd_image.specs.Reading.{is_front, records_of, records_to_end, records_up_to}
@@ -42,6 +42,10 @@ letters (Err e) = 0
 -- an image on which B has become C
 abbrev third : List ℕ
 third = with_sets (data_set c ∷ data_set a ∷ [])
+
+-- an image with another byte at this place
+abbrev changed : ℕ → List ℕ → List ℕ
+changed at bytes = take at bytes ++ (9 ∷ drop (at + 1) bytes)
 
 -- the images stand for three volumes
 volumes_apart : (volume_of image ≢ volume_of put) × (volume_of third ≢ volume_of image) × (volume_of third ≢ volume_of put)
@@ -116,6 +120,18 @@ module _ (any : Vol) where
       let twice = sym renamed.step ∙ done.step in
       let same : renamed.after ≡ done.after = cc in
       volumes_apart.0 (done.stands ∙ ap Ok (sym same) ∙ sym renamed.stands)
+
+  -- The image stood for the same volume, but a byte that isn't of the VTOC was another: of its header, of the track before, or of one behind. No grammar judges the last two.
+  other_bytes_stay :
+      (¬ IsDone pack (step volume) (index_then any) (files 7 (changed 0 image)) (resting (files 7 put)))
+      × (¬ IsDone pack (step volume) (index_then any) (files 7 (changed 512 image)) (resting (files 7 put)))
+      × (¬ IsDone pack (step volume) (index_then any) (files 7 (changed 12800 image)) (resting (files 7 put)))
+  unfolding track_bytes
+  other_bytes_stay = (
+    λ done. let wrong : 67 ≡ 9 = ap (λ (l : List ℕ). get_or l 0 0) done.changes.image.header in omega (arith, wrong),
+    λ done. let wrong : 0 ≡ 9 = ap (λ (l : List ℕ). get_or l 0 0) (done.changes.image.tracks 0 (λ is. omega (arith, is.0))) in omega (arith, wrong),
+    λ done. let wrong : 0 ≡ 9 = ap (λ (l : List ℕ). get_or l 0 0) (done.changes.image.tracks 3 (λ is. omega (arith, is.1))) in omega (arith, wrong),
+  )
 
   -- An image stands for the volume before or after; one on which another set has the name stands for neither, and where the step is refused the one after it isn't meant.
   before_or_after :

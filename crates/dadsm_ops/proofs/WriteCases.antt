@@ -1,5 +1,5 @@
 -- What a write of one slot leaves, computed on an image of one track with two slots. Each comment in small letters names what a near reading would let through.
-use Rattle.std.proofs.Common.{◌≡◌, ◌≢◌, ◌≤◌, ◌+◌, ◌*◌, ⊎_elim, inl, inr, ℕ, zero, suc, List, [], ◌∷◌, ◌++◌, length, codes, drop, get_or, take, replicate, Some, refl, sym, ap, subst, ◌∙◌, arith}
+use Rattle.std.proofs.Common.{◌≡◌, ◌≢◌, ◌<◌, ◌≤◌, ◌+◌, ◌*◌, ⊎_elim, inl, inr, ℕ, zero, suc, List, [], ◌∷◌, ◌++◌, length, codes, drop, get_or, take, replicate, Some, refl, sym, ap, subst, ◌∙◌, arith}
 use Rattle.std.specs.Prelude.{Result, Ok, Err, slice_get, unwrap_or}
 use Rattle.std.specs.Option.{option_map}
 use Rattle.std.proofs.lemmas.List.{drop_all}
@@ -307,6 +307,35 @@ module _ (any : Vol) (f : F1) where
   -- a stop leaves half of a name, where the rename is done or the device failed
   stop_leaves_no_half_of_a_name : {T : Type 0} (new : Meaning (List File)) (x : T) → new.left_since 0 half_named [] → (¬ WritesName pack v b a (resting before) new (Ok x)) × (¬ WritesName {T = T} pack v b a (resting before) new (Err Device))
   stop_leaves_no_half_of_a_name {T} new x left = (no_half {T = T} {E = StoreErr} new (Ok x) left, no_half {T = T} {E = StoreErr} new (Err Device) left)
+
+  -- a stop leaves files of before with a byte printed
+  not_printed : {T E : Type 0} (new : Meaning (List File)) (result : Result T E) → new.left_since 0 before (65 ∷ []) → ¬ PutsName pack v b a (resting before) new result
+  not_printed new result left puts = ⊎_elim
+      (λ (old : (before ≡ before) × (65 ∷ [] ≡ [])). let wrong : 1 ≡ 0 = ap length old.1 in omega (arith, wrong))
+      (λ (stop : IsBeforeOrAfter before puts.after [] before (65 ∷ [])). let wrong : 1 ≡ 0 = ap length stop.1 in omega (arith, wrong))
+      (puts.step.moments.moments 0 before (65 ∷ []) (omega arith) left)
+
+  stop_leaves_the_name_unprinted : {T : Type 0} (new : Meaning (List File)) (x : T) → new.left_since 0 before (65 ∷ []) → (¬ WritesName pack v b a (resting before) new (Ok x)) × (¬ WritesName {T = T} pack v b a (resting before) new (Err Device))
+  stop_leaves_the_name_unprinted {T} new x left = (not_printed {T = T} {E = StoreErr} new (Ok x) left, not_printed {T = T} {E = StoreErr} new (Err Device) left)
+
+  -- a byte is printed
+  name_is_not_printed : {T : Type 0} (new : Meaning (List File)) (x : T) → new.printed ≡ 65 ∷ [] → (¬ WritesName pack v b a (resting before) new (Ok x)) × (¬ WritesName {T = T} pack v b a (resting before) new (Err Device))
+  name_is_not_printed new x text = (
+    λ puts. let wrong : 1 ≡ 0 = ap length (sym text ∙ puts.step.printed) in omega (arith, wrong),
+    λ puts. let wrong : 1 ≡ 0 = ap length (sym text ∙ puts.step.printed) in omega (arith, wrong),
+  )
+
+  -- what a stop left before is forgotten, though that was in time
+  earlier_stops_are_kept : {T : Type 0} (new : Meaning (List File)) (x : T) → ¬ new.left_since 0 before [] → (¬ WritesName pack v b a (resting before) new (Ok x)) × (¬ WritesName {T = T} pack v b a (resting before) new (Err Device))
+  earlier_stops_are_kept new x lost = (λ puts. lost (puts.step.moments.keeps 0 before [] (omega arith) (refl, refl)), λ puts. lost (puts.step.moments.keeps 0 before [] (omega arith) (refl, refl)))
+
+  -- time goes back
+  name_is_put_later : {T : Type 0} (old new : Meaning (List File)) (x : T) → new.clock < old.clock → (¬ WritesName pack v b a old new (Ok x)) × (¬ WritesName {T = T} pack v b a old new (Err Device))
+  name_is_put_later old new x back = (λ puts. omega (arith, back, puts.step.moments.later), λ puts. omega (arith, back, puts.step.moments.later))
+
+  -- it is done, and what is read is as before
+  name_is_read : {T : Type 0} (new : Meaning (List File)) (x : T) → new.state ≡ before → ¬ WritesName pack v b a (resting before) new (Ok x)
+  name_is_read new x same puts = let wrong : 0xC2 ≡ 0xC1 = ap (byte 689) (sym same ∙ puts.step.done.0 ∙ all_named new (Ok x) puts) in omega (arith, wrong)
 
   -- it is done, and a stop still leaves the old name
   name_is_durable : {T : Type 0} (new : Meaning (List File)) (x : T) → new.left before → ¬ WritesName pack v b a (resting before) new (Ok x)

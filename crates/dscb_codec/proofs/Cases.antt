@@ -24,7 +24,8 @@ refusals :
     × (refusal_of (from_44 (0 ∷ 0xF2 ∷ [])) ≡ Some (BadFormat 0))
     × (refusal_of (replicate 43 0 ++ (0xF1 ∷ replicate 96 0)) ≡ Some (BadFormat 0))
     × (refusal_of (replicate 139 0 ++ (1 ∷ [])) ≡ Some (BadFormat 0))
-refusals = (refl, refl, refl, refl, refl, refl, refl, refl, refl, refl, refl, refl)
+    × (refusal_of (1 ∷ replicate 139 0) ≡ Some (BadFormat 0))
+refusals = (refl, refl, refl, refl, refl, refl, refl, refl, refl, refl, refl, refl, refl)
 
 -- numbers have their high byte first, and a field begins where it is said to
 places :
@@ -74,12 +75,15 @@ begun = (refl, refl, refl, refl, refl, refl)
 held : (holds_byte 50 (half 51 7) ≡ false) × (holds_byte 51 (half 51 7) ≡ true) × (holds_byte 52 (half 51 7) ≡ true) × (holds_byte 53 (half 51 7) ≡ false)
 held = (refl, refl, refl, refl)
 
--- two rows of three bytes aren't three of two, and each row has its bytes
+-- two rows of three bytes aren't three of two, nor one of three, and each row has its bytes
 rows : AreRows 3 2 ((1 ∷ 2 ∷ 3 ∷ []) ∷ (4 ∷ 5 ∷ 6 ∷ []) ∷ [])
 rows = (refl, (refl, (refl, tt)))
 
 other_rows : AreRows 2 3 ((1 ∷ 2 ∷ 3 ∷ []) ∷ (4 ∷ 5 ∷ 6 ∷ []) ∷ []) → ⊥
 other_rows are = omega (arith, are.0)
+
+more_rows : AreRows 3 1 ((1 ∷ 2 ∷ 3 ∷ []) ∷ (4 ∷ 5 ∷ 6 ∷ []) ∷ []) → ⊥
+more_rows are = omega (arith, are.0)
 
 uneven_rows : AreRows 2 2 ((1 ∷ 2 ∷ 3 ∷ []) ∷ (4 ∷ []) ∷ []) → ⊥
 uneven_rows are = omega (arith, are.1.0)
@@ -92,10 +96,11 @@ numbers = ((omega arith, (omega arith, tt)), λ below. omega (arith, below.1.0))
 dscbs :
     IsDscb formats.F0 (replicate 140 0)
     × (¬ IsDscb formats.F0 (replicate 139 0 ++ (1 ∷ [])))
+    × (¬ IsDscb formats.F0 (1 ∷ replicate 139 0))
     × HasFields (1 ∷ 2 ∷ []) (byte 0 1 ∷ byte 1 2 ∷ [])
     × (¬ HasFields (1 ∷ 2 ∷ []) (byte 0 1 ∷ byte 1 3 ∷ []))
     × (¬ HasFields (1 ∷ []) (byte 0 1 ∷ half 0 1 ∷ []))
-dscbs = (refl, λ is. cc, (refl, (refl, tt)), λ has. let second = has.1.0 in cc, λ has. let second = has.1.0 in cc)
+dscbs = (refl, λ is. cc, λ is. cc, (refl, (refl, tt)), λ has. let second = has.1.0 in cc, λ has. let second = has.1.0 in cc)
 
 -- the first field counts as the last does, and no field is wanted of any bytes
 each_field : (¬ HasFields (1 ∷ 2 ∷ []) (byte 0 3 ∷ byte 1 2 ∷ [])) × HasFields (1 ∷ 2 ∷ []) []

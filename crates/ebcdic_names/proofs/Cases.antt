@@ -54,6 +54,14 @@ continues = (refl, refl, refl, refl, refl, refl, refl)
 allowed : (level_allows Levels 0 65 ≡ true) × (level_allows Levels 0 48 ≡ false) × (level_allows Levels 0 45 ≡ false) × (level_allows Levels 1 48 ≡ true) × (level_allows Levels 1 45 ≡ true)
 allowed = (refl, refl, refl, refl, refl)
 
+-- with a hyphen in a name of several levels alone; a period is of no level, and a name of one level may have digits too
+hyphens :
+    (continues_level Levels 44 ≡ false) × (continues_level Levels 46 ≡ false) × (continues_level Levels 47 ≡ false) × (continues_level Levels 48 ≡ true) × (continues_level Levels 58 ≡ false)
+    × (level_allows OneLevel 1 45 ≡ false) × (level_allows OneLevel 1 48 ≡ true) × (level_allows OneLevel 0 48 ≡ false) × (level_allows Levels 1 46 ≡ false)
+    × (level_fault Levels (codes "A-1.B-") ≡ None) × (level_fault OneLevel (codes "A-1") ≡ Some (BadChar 1)) × (level_fault OneLevel (codes "A1") ≡ None)
+unfolding char_faults
+hyphens = (refl, refl, refl, refl, refl, refl, refl, refl, refl, refl, refl, refl)
+
 -- the ninth character, number 8 from 0, makes its level too long, and once; that goes before what the character is
 ninth :
     (char_faults Levels 2 7 20 65 ≡ []) × (char_faults Levels 2 8 20 65 ≡ BadLevel 2 ∷ []) × (char_faults Levels 2 9 20 65 ≡ [])
@@ -87,6 +95,11 @@ lengths :
     × (name_fault OneLevel (replicate 9 65) ≡ Some (BadLevel 0)) × (name_fault OneLevel (replicate 8 65) ≡ None)
 unfolding char_faults
 lengths = (refl, refl, refl, refl, refl)
+
+-- so it does in a name of one level, which isn't too long itself before it has 45 characters
+lengths_of_one_level : (name_fault OneLevel [] ≡ Some Empty) × (name_fault OneLevel (replicate 45 63) ≡ Some TooLong) × (name_fault OneLevel (replicate 44 65) ≡ Some (BadLevel 0)) × (name_fault OneLevel (replicate 44 63) ≡ Some (BadChar 0))
+unfolding char_faults
+lengths_of_one_level = (refl, refl, refl, refl)
 
 -- a serial may begin with a digit, and has no hyphen and no period; six characters are not too long
 serials :

@@ -124,6 +124,24 @@ write_fails_elsewhere write = ⊎_elim
     (λ all. let head : 9 ≡ 1 = ap first_byte all in absurd (omega (arith, head)))
     write.failed
 
+-- nor does it print, where it is pending or was not begun; and time doesn't go back
+write_fails_and_prints : ¬ AfterWrite nine.name 1 (9 ∷ []) at_first (record behind_write { printed = ab; left_since = λ t j p. at_first.left_since t j p ⊎ (behind_write.left j × (p ≡ ab)) }) fails
+write_fails_and_prints write = absurd (cc write.printed)
+
+write_prints_in_place : ¬ AfterWrite nine.name 1 (9 ∷ []) at_first (record at_first { printed = ab; left_since = λ t j p. at_first.left_since t j p ⊎ (at_first.left j × (p ≡ ab)) }) fails
+write_prints_in_place write = absurd (cc write.printed)
+
+write_fails_and_time_goes_back : ¬ AfterWrite nine.name 1 (9 ∷ []) behind_none (record behind_none { clock = 0 }) fails
+write_fails_and_time_goes_back write = absurd (omega (arith, write.time.later))
+
+-- and a stop since before it may leave it, where one may leave it now
+write_fails_and_is_forgotten : ¬ AfterWrite nine.name 1 (9 ∷ []) at_first (record behind_write { left_since = at_first.left_since }) fails
+write_fails_and_is_forgotten write = differ (sym (left_at_first _ (since_now files [] _ _ ((write.time.since 0 (with_write files nine) [] (lit≤ tt)).1 (inr ((true ∷ [], refl), refl)))).0))
+
+-- one that was not begun may take time
+write_begins_not_in_time : AfterWrite nine.name 1 (9 ∷ []) at_first behind_none fails
+write_begins_not_in_time = record { printed = refl; done = tt; failed = inl refl; pending = inr (refl, (same_passed files []).left); ticks = tt; time = (same_passed files []).time }
+
 -- one that failed may be left, or else nothing is
 write_failed_is_durable : ¬ AfterWrite nine.name 1 (9 ∷ []) at_first behind_sync fails
 write_failed_is_durable write = ⊎_elim
@@ -194,8 +212,16 @@ sync_leaves_it_pending sync = differ (sync.done files ([], refl))
 sync_failed_is_durable : ¬ AfterSync behind_write behind_sync fails
 sync_failed_is_durable sync = differ (left_behind_sync files ((sync.failed files).1 files_behind_write))
 
+-- nor is more left behind it
+sync_fails_and_leaves_more : ¬ AfterSync behind_sync (record (meaning_after files (wrote nine ∷ synced ∷ passed ∷ [])) { left = behind_write.left }) fails
+sync_fails_and_leaves_more sync = differ (left_behind_sync files ((sync.failed files).0 files_behind_write))
+
 sync_prints : ¬ AfterSync behind_write (record behind_sync { printed = ab }) done
 sync_prints sync = absurd (cc sync.printed)
+
+-- nor does one that failed
+sync_fails_and_prints : ¬ AfterSync behind_write (record behind_failed_sync { printed = ab }) fails
+sync_fails_and_prints sync = absurd (cc sync.printed)
 
 -- it changes nothing that is read, takes time, and a stop in it may leave out what was pending
 sync_undoes_it : ¬ AfterSync behind_write (record behind_sync { state = files; left = λ j. j ≡ files }) done
@@ -214,6 +240,13 @@ sync_is_not_stopped_within sync = differ ((sync.time.since 0 files [] (lit≤ tt
 -- and that by itself, also where none was said to have left it before
 sync_is_stopped_behind_alone : ¬ AfterSync (record behind_write { left_since = λ t j p. ⊥ }) (record behind_sync { left_since = λ t j p. (j ≡ with_write files nine) × (p ≡ []) }) done
 sync_is_stopped_behind_alone sync = differ ((sync.time.since 0 files [] (lit≤ tt)).1 (inr (files_behind_write, refl))).0
+
+-- so it is where it failed, and time doesn't go back
+sync_fails_and_is_not_stopped_within : ¬ AfterSync (record behind_write { left_since = λ t j p. ⊥ }) (record behind_failed_sync { left_since = λ t j p. ⊥ }) fails
+sync_fails_and_is_not_stopped_within sync = (sync.time.since 0 files [] (lit≤ tt)).1 (inr (files_behind_write, refl))
+
+sync_fails_and_time_goes_back : ¬ AfterSync behind_write (record behind_write { clock = 0 }) fails
+sync_fails_and_time_goes_back sync = absurd (omega (arith, sync.time.later))
 
 -- a print that is done printed all, one that failed a prefix; and a stop in it leaves each prefix of what was printed
 pub print_is_done : AfterPrint ab at_first behind_print done
@@ -263,6 +296,27 @@ print_writes print = differ (sym print.state)
 print_leaves_more : ¬ AfterPrint ab at_first (record behind_print { left = behind_write.left }) done
 print_leaves_more print = differ (sym (left_at_first _ ((print.left (with_write files nine)).0 (true ∷ [], refl))))
 
+-- nor where it failed
+print_fails_and_writes : ¬ AfterPrint ab at_first (record behind_half { state = with_write files nine }) fails
+print_fails_and_writes print = differ (sym print.state)
+
+print_fails_and_leaves_more : ¬ AfterPrint ab at_first (record behind_half { left = behind_write.left }) fails
+print_fails_and_leaves_more print = differ (sym (left_at_first _ ((print.left (with_write files nine)).0 (true ∷ [], refl))))
+
+-- and a write that was pending is so behind it, also where it failed
+print_leaves_less : ¬ AfterPrint ab behind_write (record (meaning_after files (wrote nine ∷ printed ab ∷ [])) { left = behind_sync.left }) done
+print_leaves_less print = differ (left_behind_sync files ((print.left files).1 files_behind_write))
+
+print_fails_and_leaves_less : ¬ AfterPrint ab behind_write (record behind_failed_sync { left = behind_sync.left }) fails
+print_fails_and_leaves_less print = differ (left_behind_sync files ((print.left files).1 files_behind_write))
+
+-- one that failed prints no more than the bytes, and time doesn't go back
+print_fails_with_more : ¬ AfterPrint ab at_first (meaning_after files (printed (97 ∷ 98 ∷ 99 ∷ []) ∷ [])) fails
+print_fails_with_more print = let (q, (rest, whole), is) = print.prefix in absurd (let more : (97 ∷ 98 ∷ 99 ∷ []) ++ rest ≡ ab = ap (λ (l : List ℕ). l ++ rest) is ∙ whole in cc more)
+
+print_fails_and_time_goes_back : ¬ AfterPrint ab behind_none (record behind_none { clock = 0 }) fails
+print_fails_and_time_goes_back print = absurd (omega (arith, print.time.later))
+
 print_takes_no_time : ¬ AfterPrint ab at_first (record behind_print { clock = 0 }) done
 print_takes_no_time print = absurd (omega (arith, print.ticks))
 
@@ -279,6 +333,10 @@ print_is_not_stopped_within print = ⊎_elim
     (λ (is : 97 ∷ [] ≡ []). absurd (cc is))
     (λ (is : 97 ∷ [] ≡ ab). let size : 1 ≡ 2 = ap length is in absurd (omega (arith, size)))
     ((print.time.since 0 files (97 ∷ []) (lit≤ tt)).1 (inr (([], refl), ((97 ∷ [], refl), (98 ∷ [], refl)))))
+
+-- so it is within what one printed that failed
+print_fails_and_is_not_stopped_within : ¬ AfterPrint ab at_first (record behind_half { left_since = at_first.left_since }) fails
+print_fails_and_is_not_stopped_within print = absurd (cc (since_now files [] _ _ ((print.time.since 0 files (97 ∷ []) (lit≤ tt)).1 (inr (([], refl), ((97 ∷ [], refl), ([], refl)))))).1)
 
 -- an attachment is done only where the file is there, and reported missing only where it isn't; memory that is wanting takes no time
 attach_is_done : Attaches nine.name at_first behind_none (Ok 0)
@@ -310,6 +368,21 @@ attach_writes : ¬ Attaches nine.name at_first behind_write (Ok 0)
 unfolding written patched
 attach_writes attach = let tail : 9 ≡ 2 = ap second_byte attach.same.state in absurd (omega (arith, tail))
 
+-- nor does one that finds no file, fails or wants memory
+attach_misses_and_writes : (¬ Attaches [] at_first behind_write (Err Missing)) × (¬ Attaches nine.name at_first behind_write (Err Failed)) × (¬ Attaches nine.name at_first (record behind_write { clock = 0 }) (Err Memory))
+attach_misses_and_writes = (λ attach. differ (sym attach.same.state), λ attach. differ (sym attach.same.state), λ attach. differ (sym attach.same.state))
+
+-- nor does it print; and one that is done, misses or fails may take no time
+attach_prints : (¬ Attaches nine.name at_first (record behind_none { printed = ab }) (Ok 0)) × (¬ Attaches [] at_first (record behind_none { printed = ab }) (Err Missing))
+attach_prints = (λ attach. absurd (cc attach.same.printed), λ attach. absurd (cc attach.same.printed))
+
+attach_takes_no_time : Attaches nine.name at_first at_first (Ok 0) × Attaches [] at_first at_first (Err Missing) × Attaches nine.name at_first at_first (Err Failed)
+attach_takes_no_time = (
+  record { same = same_still files []; there = (_, refl); missing = λ is. absurd (cc is); memory = λ is. absurd (cc is) },
+  record { same = same_still files []; there = tt; missing = λ is. refl; memory = λ is. absurd (cc is) },
+  record { same = same_still files []; there = tt; missing = λ is. absurd (cc is); memory = λ is. absurd (cc is) },
+)
+
 -- a hall that tells nothing may leave any files, and has printed nothing
 any_files_untold : untold.left_since 0 files []
 any_files_untold = refl
@@ -319,6 +392,10 @@ nothing_untold = (refl, refl, refl, tt)
 
 no_text_untold : ¬ untold.left_since 0 files (97 ∷ [])
 no_text_untold left = absurd (cc left)
+
+-- also since a time that is yet to come
+later_untold : untold.left_since 7 files [] × (¬ untold.left_since 7 files (97 ∷ []))
+later_untold = (refl, λ left. absurd (cc left))
 
 -- a read of cards gives the next bytes, maybe fewer than there are, and none only at the end; one that failed takes none
 abbrev Gives : List ℕ → List ℕ → List ℕ → Result ℕ (Unit {0}) → Type 0
@@ -337,6 +414,10 @@ last_given = record { next = refl; end = (λ none. absurd (omega (arith, none)),
 failure_takes_none : Gives (1 ∷ 2 ∷ []) (1 ∷ 2 ∷ []) (9 ∷ []) (Err tt)
 failure_takes_none = record { next = tt; end = tt; failed = refl }
 
+-- of how many fit it says nothing: that the number is at most the buffer's length stands beside it in the trait
+more_than_fit : Gives (1 ∷ []) [] (1 ∷ []) (Ok 5)
+more_than_fit = record { next = refl; end = (λ none. absurd (omega (arith, none)), λ none. absurd (cc none)); failed = tt }
+
 none_given_before_the_end : ¬ Gives (1 ∷ []) (1 ∷ []) (9 ∷ []) (Ok 0)
 none_given_before_the_end gives = absurd (cc (gives.end.0 refl))
 
@@ -351,6 +432,17 @@ other_is_given gives = let head : 1 ≡ 2 = ap (λ (l : List ℕ). get_or l 0 0)
 
 failure_takes_one : ¬ Gives (1 ∷ 2 ∷ []) (2 ∷ []) (1 ∷ []) (Err tt)
 failure_takes_one gives = let size : 1 ≡ 2 = ap length gives.failed in absurd (omega (arith, size))
+
+-- nor is one given twice, or put back
+one_is_given_twice : ¬ Gives (1 ∷ 2 ∷ []) (1 ∷ 2 ∷ []) (1 ∷ []) (Ok 1)
+one_is_given_twice gives = let size : 2 ≡ 3 = ap length gives.next in absurd (omega (arith, size))
+
+failure_puts_back : ¬ Gives (2 ∷ []) (1 ∷ 2 ∷ []) (9 ∷ []) (Err tt)
+failure_puts_back gives = let size : 2 ≡ 1 = ap length gives.failed in absurd (omega (arith, size))
+
+-- also where nothing is to come the read may fail
+failure_at_the_end : Gives [] [] (9 ∷ []) (Err tt)
+failure_at_the_end = record { next = tt; end = tt; failed = refl }
 
 -- ---- calls by what they are made with
 
@@ -383,6 +475,21 @@ sync_was_made_before = (λ call other. omega arith, λ call other. omega arith)
 synced_twice : HallCall → ℕ
 synced_twice Syncing = 2
 synced_twice call = 0
+
+-- Where a sync may be made it doesn't matter how often; and no count needs to rise.
+sync_is_made_twice : MakesOnly (λ call. call ≡ Syncing) (λ call. 0) synced_twice × MakesOnly (λ call. call ≡ Syncing) (λ call. 0) (λ call. 0)
+unfolding synced_twice
+sync_is_made_twice = (twice, λ call other. omega arith)
+  where
+    twice : MakesOnly (λ call. call ≡ Syncing) (λ call. 0) synced_twice
+    twice (Attaching name) other = omega arith
+    twice (Reading unit at len) other = omega arith
+    twice (Writing unit at bytes) other = omega arith
+    twice Syncing other = absurd (other refl)
+    twice (Printing bytes) other = omega arith
+    twice (Noting unit track) other = omega arith
+    twice (Giving before unit at bytes) other = omega arith
+    twice (Lacking name) other = omega arith
 
 -- any read was made once; and the read of one byte at 0 twice, with none of others
 read_each : HallCall → ℕ
@@ -423,6 +530,10 @@ sync_is_made_once = (once, once_more, λ each. let wrong : 2 ≤ 1 = each Syncin
     once_more (Giving before unit at bytes) = omega arith
     once_more (Lacking name) = omega arith
 
+-- None need be made, and a count may fall.
+none_is_made_once : MakesOnce synced_once synced_once × MakesOnce synced_twice (λ call. 0)
+none_is_made_once = (λ call. omega arith, λ call. omega arith)
+
 -- Two reads of other bytes are made once each; two of the same aren't, though no other read is made.
 reads_are_made_once : MakesOnce (λ call. 0) read_each × (¬ MakesOnce (λ call. 0) first_twice)
 unfolding read_each first_twice
@@ -452,6 +563,21 @@ read_is_done_since :
     × (¬ DoneSince 0 some_done (Writing 0 6 (1 ∷ [])))
 unfolding some_done
 read_is_done_since = ((omega arith, inl refl), (omega arith, inl refl), λ late. let wrong = late.0 in omega (arith, wrong), λ other. ⊎_elim (λ is. cc is) (λ is. cc is) other.1, inr refl, λ other. ⊎_elim (λ is. cc is) (λ is. cc is) other)
+
+-- Of each other kind of call it doesn't matter when; and what isn't said to be done isn't.
+each_kind_is_done_since :
+    DoneSince 9 (λ call. Unit {0}) (Attaching [])
+    × DoneSince 9 (λ call. Unit {0}) (Reading 0 0 1)
+    × DoneSince 9 (λ call. Unit {0}) Syncing
+    × DoneSince 9 (λ call. Unit {0}) (Printing [])
+    × DoneSince 9 (λ call. Unit {0}) (Noting 0 0)
+    × DoneSince 9 (λ call. Unit {0}) (Lacking [])
+    × (¬ DoneSince 9 (λ call. Unit {0}) (Giving 3 0 0 []))
+    × (¬ DoneSince 0 (λ call. ⊥) Syncing)
+    × (¬ DoneSince 0 (λ call. ⊥) (Printing []))
+    × (¬ DoneSince 0 (λ call. ⊥) (Lacking []))
+    × (¬ DoneSince 0 (λ call. ⊥) (Giving 3 0 0 []))
+each_kind_is_done_since = (tt, tt, tt, tt, tt, tt, λ late. let wrong = late.0 in omega (arith, wrong), λ none. none, λ none. none, λ none. none, λ none. none.1)
 
 -- Of these calls one was done where just that is said to be; another one isn't it, nor is one of which nothing is said.
 one_is_done :

@@ -138,6 +138,13 @@ device_counted_though_done call = let same : 4 ≡ 3 = call.done in absurd (omeg
 device_counted_at_both : ¬ DeviceCall {T = Unit {0}} {E = Unit {0}} (counted 3 5) (counted 4 6) (Err tt)
 device_counted_at_both call = let same : 6 ≡ 5 = call.prints in absurd (omega (arith, same))
 
+-- a call that is done counts no fault of a print either, nor takes one back
+device_counts_a_print : ¬ DeviceCall {T = Unit {0}} {E = Unit {0}} (counted 3 5) (counted 3 6) (Ok tt)
+device_counts_a_print call = let same : 6 ≡ 5 = call.prints in absurd (omega (arith, same))
+
+device_takes_back_a_print : (¬ DeviceCall {T = Unit {0}} {E = Unit {0}} (counted 3 5) (counted 3 4) (Ok tt)) × (¬ DeviceCall {T = Unit {0}} {E = Unit {0}} (counted 3 5) (counted 4 4) (Err tt))
+device_takes_back_a_print = (λ call. let same : 4 ≡ 5 = call.prints in absurd (omega (arith, same)), λ call. let same : 4 ≡ 5 = call.prints in absurd (omega (arith, same)))
+
 print_failed : PrintCall {T = Unit {0}} {E = Unit {0}} (counted 3 5) (counted 3 6) (Err tt)
 print_failed = record { units = refl; references = refl; devices = refl; later = lit≤ tt; done = tt; failed = refl }
 
@@ -152,6 +159,12 @@ print_failed_twice call = let rose : Rose 5 7 = call.failed in absurd (omega (ar
 
 print_counted_at_both : ¬ PrintCall {T = Unit {0}} {E = Unit {0}} (counted 3 5) (counted 4 6) (Err tt)
 print_counted_at_both call = let same : 4 ≡ 3 = call.devices in absurd (omega (arith, same))
+
+print_counts_at_the_device : ¬ PrintCall {T = Unit {0}} {E = Unit {0}} (counted 3 5) (counted 4 5) (Ok tt)
+print_counts_at_the_device call = let same : 4 ≡ 3 = call.devices in absurd (omega (arith, same))
+
+print_takes_back_at_the_device : (¬ PrintCall {T = Unit {0}} {E = Unit {0}} (counted 3 5) (counted 2 5) (Ok tt)) × (¬ PrintCall {T = Unit {0}} {E = Unit {0}} (counted 3 5) (counted 2 6) (Err tt))
+print_takes_back_at_the_device = (λ call. let same : 2 ≡ 3 = call.devices in absurd (omega (arith, same)), λ call. let same : 2 ≡ 3 = call.devices in absurd (omega (arith, same)))
 
 print_counted_though_done : ¬ PrintCall {T = Unit {0}} {E = Unit {0}} (counted 3 5) (counted 3 6) (Ok tt)
 print_counted_though_done call = let same : 6 ≡ 5 = call.done in absurd (omega (arith, same))
@@ -174,6 +187,12 @@ unreported_counted call = let same : 4 ≡ 3 = call.others (λ is. is) in absurd
 reported_at_both : ¬ ReportedCall (Unit {0}) (counted 3 5) (counted 4 6)
 reported_at_both call = let same : 6 ≡ 5 = call.prints in absurd (omega (arith, same))
 
+unreported_counts_a_print : ¬ ReportedCall ⊥ (counted 3 5) (counted 3 6)
+unreported_counts_a_print call = let same : 6 ≡ 5 = call.prints in absurd (omega (arith, same))
+
+reported_takes_back_a_print : (¬ ReportedCall (Unit {0}) (counted 3 5) (counted 4 4)) × (¬ ReportedCall ⊥ (counted 3 5) (counted 3 4))
+reported_takes_back_a_print = (λ call. let same : 4 ≡ 5 = call.prints in absurd (omega (arith, same)), λ call. let same : 4 ≡ 5 = call.prints in absurd (omega (arith, same)))
+
 noted : NotedCall (counted 3 5) (counted 4 5)
 noted = record { units = refl; references = refl; prints = refl; later = lit≤ tt }
 
@@ -186,6 +205,9 @@ noted_falls call = absurd (omega (arith, call.later))
 
 noted_at_both : ¬ NotedCall (counted 3 5) (counted 4 6)
 noted_at_both call = let same : 6 ≡ 5 = call.prints in absurd (omega (arith, same))
+
+noted_counts_a_print : (¬ NotedCall (counted 3 5) (counted 3 6)) × (¬ NotedCall (counted 3 5) (counted 3 4))
+noted_counts_a_print = (λ call. let same : 6 ≡ 5 = call.prints in absurd (omega (arith, same)), λ call. let same : 4 ≡ 5 = call.prints in absurd (omega (arith, same)))
 
 -- calls are counted by kind: of each kind as many as are allowed to it, and none where only another is
 abbrev made : ℕ → ℕ → ℕ → ℕ → ℕ → Calls
@@ -236,6 +258,10 @@ no_other_attachment :
     × (¬ AttachesOnce 1 2 3 4 (made 3 3 3 3 3) (made 3 3 3 8 3))
 no_other_attachment = (λ calls. omega (arith, calls.4), λ calls. omega (arith, calls.0), λ calls. omega (arith, calls.1), λ calls. omega (arith, calls.2), λ calls. omega (arith, calls.3))
 
+-- nor need there be one
+no_attachment : AttachesOnce 0 0 0 0 (made 3 3 3 3 3) (made 3 3 3 3 3)
+no_attachment = (lit≤ tt, lit≤ tt, lit≤ tt, lit≤ tt, lit≤ tt)
+
 -- a hall that counts none has none of any kind
 none_counted : uncounted ≡ made 0 0 0 0 0
 none_counted = refl
@@ -255,6 +281,31 @@ print_falls_to_the_end call = absurd (omega (arith, call.later))
 
 attach_falls_to_the_end : ¬ AttachCall (9 ∷ []) (counted (2 ^ 64) 5) (counted end 5) (Err Failed)
 attach_falls_to_the_end call = absurd (omega (arith, call.later))
+
+-- at the end of both counts a call may be done, and one that failed leaves them there
+device_done_at_the_end : DeviceCall {T = Unit {0}} {E = Unit {0}} (counted end 5) (counted end 5) (Ok tt)
+device_done_at_the_end = record { units = refl; references = refl; prints = refl; later = lit≤ tt; done = refl; failed = tt }
+
+print_done_at_the_end : PrintCall {T = Unit {0}} {E = Unit {0}} (counted 3 end) (counted 3 end) (Ok tt)
+print_done_at_the_end = record { units = refl; references = refl; devices = refl; later = lit≤ tt; done = refl; failed = tt }
+
+print_failed_at_the_end : PrintCall {T = Unit {0}} {E = Unit {0}} (counted 3 end) (counted 3 end) (Err tt)
+print_failed_at_the_end = record { units = refl; references = refl; devices = refl; later = lit≤ tt; done = tt; failed = refl }
+
+reported_at_the_end : ReportedCall (Unit {0}) (counted end 5) (counted end 5) × ReportedCall ⊥ (counted end 5) (counted end 5)
+reported_at_the_end = (
+  record { units = refl; references = refl; prints = refl; later = lit≤ tt; device = λ is. refl; others = λ not. absurd (not tt) },
+  record { units = refl; references = refl; prints = refl; later = lit≤ tt; device = λ is. absurd is; others = λ not. refl },
+)
+
+noted_at_the_end : NotedCall (counted end 5) (counted end 5)
+noted_at_the_end = record { units = refl; references = refl; prints = refl; later = lit≤ tt }
+
+attach_fails_at_the_end : AttachCall (9 ∷ []) (counted end 5) (counted end 5) (Err Failed)
+attach_fails_at_the_end = record { added = tt; stays = refl; references = refl; prints = refl; later = lit≤ tt; failed = λ is. refl; others = λ not. absurd (not refl); memory = λ is. absurd (cc is) }
+
+attach_misses_at_the_end : AttachCall (9 ∷ []) (counted end 5) (counted end 5) (Err Missing)
+attach_misses_at_the_end = record { added = tt; stays = refl; references = refl; prints = refl; later = lit≤ tt; failed = λ is. absurd (cc is); others = λ not. refl; memory = λ is. absurd (cc is) }
 
 -- an attachment: the next unit is numbered by how many there were, and stands behind them
 abbrev counted_three : ℕ → ℕ → Facts
@@ -308,6 +359,26 @@ attach_fails_twice call = rose_by_two (call.failed refl)
 attach_counts_at_both : ¬ AttachCall (9 ∷ []) (counted 3 5) (counted 4 6) (Err Failed)
 attach_counts_at_both call = let same : 6 ≡ 5 = call.prints in absurd (omega (arith, same))
 
+-- nor is a print counted where it is done or finds no file, or taken back
+attach_counts_a_print : (¬ AttachCall (9 ∷ []) (counted 3 5) (counted_three 3 6) (Ok 2)) × (¬ AttachCall (9 ∷ []) (counted 3 5) (counted 3 6) (Err Missing))
+attach_counts_a_print = (λ call. let same : 6 ≡ 5 = call.prints in absurd (omega (arith, same)), λ call. let same : 6 ≡ 5 = call.prints in absurd (omega (arith, same)))
+
+attach_takes_back_a_print : (¬ AttachCall (9 ∷ []) (counted 3 5) (counted_three 3 4) (Ok 2)) × (¬ AttachCall (9 ∷ []) (counted 3 5) (counted 4 4) (Err Failed))
+attach_takes_back_a_print = (λ call. let same : 4 ≡ 5 = call.prints in absurd (omega (arith, same)), λ call. let same : 4 ≡ 5 = call.prints in absurd (omega (arith, same)))
+
+-- a file of any size is attached, also an empty one
+attach_of_an_empty_file : AttachCall (9 ∷ []) (counted 3 5) (record (counted 3 5) { units = two ++ record { name = 9 ∷ []; size = 0 } ∷ [] }) (Ok 2)
+attach_of_an_empty_file = record {
+  added = (refl, (0, refl));
+  stays = tt;
+  references = refl;
+  prints = refl;
+  later = lit≤ tt;
+  failed = λ is. absurd (cc is);
+  others = λ not. refl;
+  memory = λ is. absurd (cc is);
+}
+
 attach_counts_want_of_memory : ¬ AttachCall (9 ∷ []) (counted 3 5) (counted 4 5) (Err Memory)
 attach_counts_want_of_memory call = let same : 4 ≡ 3 = ap (λ (facts : Facts). facts.dev_faults) (call.memory refl) in absurd (omega (arith, same))
 
@@ -332,6 +403,13 @@ one_is_gone same = let size : 1 ≡ 2 = ap length same in absurd (omega (arith, 
 another_hall : ¬ of_another.references ≡ (counted 3 5).references
 another_hall same = let head : 8 ≡ 7 = ap (λ (l : List ℕ). get_or l 0 0) same in absurd (omega (arith, head))
 
+-- as many units in another order aren't the same
+abbrev exchanged : List Attached
+exchanged = unit_named 2 ∷ unit_named 1 ∷ []
+
+not_in_order : ¬ exchanged ≡ two
+not_in_order same = let first : 2 ≡ 1 = ap (λ (units : List Attached). (unit_of units 0).size) same in absurd (omega (arith, first))
+
 device_drops_a_unit : ¬ DeviceCall {T = Unit {0}} {E = Unit {0}} (counted 3 5) (with_units (unit_named 1 ∷ [])) (Ok tt)
 device_drops_a_unit call = one_is_gone call.units
 
@@ -341,11 +419,31 @@ device_exchanges_units call = let first : 2 ≡ 1 = ap (λ (units : List Attache
 device_of_another_hall : ¬ DeviceCall {T = Unit {0}} {E = Unit {0}} (counted 3 5) of_another (Ok tt)
 device_of_another_hall call = another_hall call.references
 
+-- also where it failed
+device_fails_and_drops_a_unit : ¬ DeviceCall {T = Unit {0}} {E = Unit {0}} (counted 3 5) (record (counted 4 5) { units = unit_named 1 ∷ [] }) (Err tt)
+device_fails_and_drops_a_unit call = one_is_gone call.units
+
+device_fails_and_exchanges_units : ¬ DeviceCall {T = Unit {0}} {E = Unit {0}} (counted 3 5) (record (counted 4 5) { units = exchanged }) (Err tt)
+device_fails_and_exchanges_units call = not_in_order call.units
+
+device_fails_of_another_hall : ¬ DeviceCall {T = Unit {0}} {E = Unit {0}} (counted 3 5) (record of_another { dev_faults = 4 }) (Err tt)
+device_fails_of_another_hall call = another_hall call.references
+
 reported_drops_a_unit : ¬ ReportedCall ⊥ (counted 3 5) (with_units (unit_named 1 ∷ []))
 reported_drops_a_unit call = one_is_gone call.units
 
 reported_of_another_hall : ¬ ReportedCall ⊥ (counted 3 5) of_another
 reported_of_another_hall call = another_hall call.references
+
+reported_exchanges_units : (¬ ReportedCall ⊥ (counted 3 5) (with_units exchanged)) × (¬ ReportedCall (Unit {0}) (counted 3 5) (record (counted 4 5) { units = exchanged }))
+reported_exchanges_units = (λ call. not_in_order call.units, λ call. not_in_order call.units)
+
+-- also where a fault is reported
+fault_drops_a_unit : ¬ ReportedCall (Unit {0}) (counted 3 5) (record (counted 4 5) { units = unit_named 1 ∷ [] })
+fault_drops_a_unit call = one_is_gone call.units
+
+fault_of_another_hall : ¬ ReportedCall (Unit {0}) (counted 3 5) (record of_another { dev_faults = 4 })
+fault_of_another_hall call = another_hall call.references
 
 noted_drops_a_unit : ¬ NotedCall (counted 3 5) (with_units (unit_named 1 ∷ []))
 noted_drops_a_unit call = one_is_gone call.units
@@ -353,14 +451,48 @@ noted_drops_a_unit call = one_is_gone call.units
 noted_of_another_hall : ¬ NotedCall (counted 3 5) of_another
 noted_of_another_hall call = another_hall call.references
 
+noted_exchanges_units : (¬ NotedCall (counted 3 5) (with_units exchanged)) × (¬ NotedCall (counted 3 5) (record (counted 4 5) { units = exchanged }))
+noted_exchanges_units = (λ call. not_in_order call.units, λ call. not_in_order call.units)
+
 print_drops_a_unit : ¬ PrintCall {T = Unit {0}} {E = Unit {0}} (counted 3 5) (with_units (unit_named 1 ∷ [])) (Ok tt)
 print_drops_a_unit call = one_is_gone call.units
 
 print_of_another_hall : ¬ PrintCall {T = Unit {0}} {E = Unit {0}} (counted 3 5) of_another (Ok tt)
 print_of_another_hall call = another_hall call.references
 
+print_exchanges_units : ¬ PrintCall {T = Unit {0}} {E = Unit {0}} (counted 3 5) (with_units exchanged) (Ok tt)
+print_exchanges_units call = not_in_order call.units
+
+print_fails_and_drops_a_unit : ¬ PrintCall {T = Unit {0}} {E = Unit {0}} (counted 3 5) (record (counted 3 6) { units = unit_named 1 ∷ [] }) (Err tt)
+print_fails_and_drops_a_unit call = one_is_gone call.units
+
+print_fails_and_exchanges_units : ¬ PrintCall {T = Unit {0}} {E = Unit {0}} (counted 3 5) (record (counted 3 6) { units = exchanged }) (Err tt)
+print_fails_and_exchanges_units call = not_in_order call.units
+
+print_fails_of_another_hall : ¬ PrintCall {T = Unit {0}} {E = Unit {0}} (counted 3 5) (record of_another { print_faults = 6 }) (Err tt)
+print_fails_of_another_hall call = another_hall call.references
+
 attach_of_another_hall : ¬ AttachCall (9 ∷ []) (counted 3 5) (record (counted_three 3 5) { references = 8 ∷ [] }) (Ok 2)
 attach_of_another_hall call = another_hall call.references
+
+attach_fails_of_another_hall : (¬ AttachCall (9 ∷ []) (counted 3 5) (record of_another { dev_faults = 4 }) (Err Failed)) × (¬ AttachCall (9 ∷ []) (counted 3 5) of_another (Err Missing))
+attach_fails_of_another_hall = (λ call. another_hall call.references, λ call. another_hall call.references)
+
+-- one that fails or finds no file leaves the units in their order, and none is gone; one that is done adds to these, and stands behind them
+attach_misses_and_exchanges_units : (¬ AttachCall (9 ∷ []) (counted 3 5) (with_units exchanged) (Err Missing)) × (¬ AttachCall (9 ∷ []) (counted 3 5) (record (counted 4 5) { units = exchanged }) (Err Failed))
+attach_misses_and_exchanges_units = (λ call. not_in_order call.stays, λ call. not_in_order call.stays)
+
+attach_misses_and_drops_a_unit : (¬ AttachCall (9 ∷ []) (counted 3 5) (with_units (unit_named 1 ∷ [])) (Err Missing)) × (¬ AttachCall (9 ∷ []) (counted 3 5) (record (counted 4 5) { units = unit_named 1 ∷ [] }) (Err Failed))
+attach_misses_and_drops_a_unit = (λ call. one_is_gone call.stays, λ call. one_is_gone call.stays)
+
+attach_behind_exchanged_units : ¬ AttachCall (9 ∷ []) (counted 3 5) (with_units (exchanged ++ unit_named 9 ∷ [])) (Ok 2)
+attach_behind_exchanged_units call = let first : 2 ≡ 1 = ap (λ (units : List Attached). (unit_of units 0).size) call.added.1.1 in absurd (omega (arith, first))
+
+attach_in_place_of_a_unit : ¬ AttachCall (9 ∷ []) (counted 3 5) (with_units (unit_named 1 ∷ unit_named 9 ∷ [])) (Ok 2)
+attach_in_place_of_a_unit call = let size : 2 ≡ 3 = ap length call.added.1.1 in absurd (omega (arith, size))
+
+attach_adds_none : ¬ AttachCall (9 ∷ []) (counted 3 5) (counted 3 5) (Ok 2)
+attach_adds_none call = let size : 2 ≡ 3 = ap length call.added.1.1 in absurd (omega (arith, size))
 
 -- three files, of which two have one name
 abbrev files : List File
@@ -480,6 +612,9 @@ both_whole (suc (suc k)) low = absurd (omega arith)
 second_is_missing : ¬ AreWhole files (unit_of_size 1 3 ++ unit_of_size 3 0)
 second_is_missing whole = absurd (cc ((whole 1 (lit< tt)).1))
 
+first_is_missing : ¬ AreWhole files (unit_of_size 3 0 ++ unit_of_size 1 3)
+first_is_missing whole = absurd (cc ((whole 0 (lit< tt)).1))
+
 size_of_whole : (size : ℕ) → AreWhole files (unit_of_size 1 size) → 3 ≡ size
 size_of_whole size whole = let unit = whole 0 (lit< tt) in ap (λ (o : Option (List ℕ)). length (unwrap_or o [])) unit.1 ∙ unit.2
 
@@ -510,6 +645,9 @@ more_begins (rest, is) = absurd (cc is)
 
 second_begins : ¬ IsPrefixOf (2 ∷ []) (1 ∷ 2 ∷ [])
 second_begins (rest, is) = let head : 2 ≡ 1 = ap (λ (l : List ℕ). get_or l 0 0) is in absurd (omega (arith, head))
+
+other_behind_begins : ¬ IsPrefixOf (1 ∷ 3 ∷ []) (1 ∷ 2 ∷ [])
+other_behind_begins (rest, is) = let second : 3 ≡ 2 = ap (λ (l : List ℕ). get_or l 1 0) is in absurd (omega (arith, second))
 
 -- a unit has the name of the file at its place, and its size in bytes
 shapes : units_at (shapes_of files) (2 ∷ 1 ∷ []) ≡ record { name = 1 ∷ []; size = 1 } ∷ record { name = 2 ∷ []; size = 0 } ∷ []

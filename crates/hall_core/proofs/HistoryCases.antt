@@ -100,12 +100,38 @@ failed_left : MayLeave (after (new_disk files) (wrote failed)) (holds 8 2)
 unfolding written patched
 failed_left = (true ∷ [], refl)
 
+-- of two writes over the same byte, the later one stands where both are kept, also in what a stop leaves: it isn't in another order
+abbrev nine_then_wide_pending : Disk
+nine_then_wide_pending = after_all (new_disk files) (wrote nine ∷ wrote wide ∷ [])
+
+each_left : MayLeave nine_then_wide_pending files × MayLeave nine_then_wide_pending (holds 1 9) × MayLeave nine_then_wide_pending (holds 7 6)
+unfolding written patched
+each_left = (([], refl), (true ∷ [], refl), (false ∷ true ∷ [], refl))
+
+left_in_other_order : ¬ MayLeave nine_then_wide_pending (holds 7 9)
+unfolding written patched
+left_in_other_order ([], is) = let head : 7 ≡ 1 = ap first_byte is in absurd (omega (arith, head))
+left_in_other_order (true ∷ [], is) = let head : 7 ≡ 1 = ap first_byte is in absurd (omega (arith, head))
+left_in_other_order (false ∷ [], is) = let head : 7 ≡ 1 = ap first_byte is in absurd (omega (arith, head))
+left_in_other_order (true ∷ false ∷ flags, is) = let head : 7 ≡ 1 = ap first_byte (is ∙ ap (with_writes (with_write files nine)) (nothing_kept flags)) in absurd (omega (arith, head))
+left_in_other_order (false ∷ false ∷ flags, is) = let head : 7 ≡ 1 = ap first_byte (is ∙ ap (with_writes files) (nothing_kept flags)) in absurd (omega (arith, head))
+left_in_other_order (true ∷ true ∷ flags, is) = let tail : 9 ≡ 6 = ap second_byte (is ∙ ap (with_writes (with_write (with_write files nine) wide)) (nothing_kept flags)) in absurd (omega (arith, tail))
+left_in_other_order (false ∷ true ∷ flags, is) = let tail : 9 ≡ 6 = ap second_byte (is ∙ ap (with_writes (with_write files wide)) (nothing_kept flags)) in absurd (omega (arith, tail))
+
+-- a write of a file that isn't there leaves the others as they are
+missing_left : with_write files (record nine { name = 66 ∷ [] }) ≡ files
+unfolding written patched
+missing_left = refl
+
 -- of a print there are bytes of which a stop in it leaves a prefix; of another call, and behind the last, there are none
 print_call : bytes_of_print (Some (printed (97 ∷ 98 ∷ []))) ≡ 97 ∷ 98 ∷ []
 print_call = refl
 
 other_call : bytes_of_print (Some synced) ≡ []
 other_call = refl
+
+other_calls : (bytes_of_print (Some (wrote nine)) ≡ []) × (bytes_of_print (Some passed) ≡ [])
+other_calls = (refl, refl)
 
 no_call : bytes_of_print None ≡ []
 no_call = refl
@@ -129,6 +155,17 @@ second_alone left =
     let head : 98 ≡ 97 = ap (λ (l : List ℕ). get_or l 0 0) (ap (λ (l : List ℕ). l ++ rest) is ∙ whole) in
     absurd (omega (arith, head))
 
+-- in the second print the first one stands before its bytes, whole
+second_within : MayLeaveAt files (printed (90 ∷ []) ∷ prints) 1 files (90 ∷ 97 ∷ [])
+second_within = record { files = ([], refl); text = (97 ∷ [], (98 ∷ [], refl), refl) }
+
+second_without_the_first : ¬ MayLeaveAt files (printed (90 ∷ []) ∷ prints) 1 files (97 ∷ [])
+second_without_the_first left = let (q, part, is) = left.text in let head : 97 ≡ 90 = ap (λ (l : List ℕ). get_or l 0 0) is in absurd (omega (arith, head))
+
+-- nor is another file left in it
+print_leaves_more : ¬ MayLeaveAt files prints 0 changed (97 ∷ [])
+print_leaves_more left = let tail : 9 ≡ 2 = ap second_byte (left.files.1 ∙ ap (with_writes files) (nothing_kept left.files.0)) in absurd (omega (arith, tail))
+
 -- behind it the print is whole
 part_behind : ¬ MayLeaveAt files prints 1 files (97 ∷ [])
 part_behind left = absurd (let (q, rest, is) = left.text in cc is)
@@ -140,6 +177,12 @@ past_the_last = (record { files = ([], refl); text = ([], ([], refl), refl) }, �
 -- what a stop leaves of a disk, in a print
 left_in_print : LeftIn (new_disk files) (97 ∷ 98 ∷ []) files (97 ∷ [])
 left_in_print = (([], refl), (97 ∷ [], (98 ∷ [], refl), refl))
+
+not_left_in_print : (¬ LeftIn (new_disk files) (97 ∷ 98 ∷ []) changed []) × (¬ LeftIn (new_disk files) (97 ∷ 98 ∷ []) files (99 ∷ []))
+not_left_in_print = (
+  λ left. let tail : 9 ≡ 2 = ap second_byte (left.0.1 ∙ ap (with_writes files) (nothing_kept left.0.0)) in absurd (omega (arith, tail)),
+  λ left. let (q, (rest, whole), is) = left.1 in let head : 99 ≡ 97 = ap (λ (l : List ℕ). get_or l 0 0) (ap (λ (l : List ℕ). l ++ rest) is ∙ whole) in absurd (omega (arith, head)),
+)
 
 -- a write and then a sync
 abbrev pub syncs : List Event

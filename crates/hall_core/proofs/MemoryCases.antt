@@ -1,18 +1,23 @@
 -- What a hall and cards in memory show of themselves, on cases at which near readings of the definitions say otherwise.
-use Rattle.std.proofs.Common.{◌≡◌, ◌≢◌, ◌-◌, ◌^◌, ⊎_elim, inl, inr, ℕ, zero, suc, List, [], ◌∷◌, ◌++◌, length, refl, sym, ◌∙◌, ap, subst, arith, length-append, lit<}
-use Rattle.std.specs.Prelude.{Ok, Err, Contains, true, take, String, Vec, Some, None}
+use Rattle.std.proofs.Common.{◌≡◌, ◌≢◌, ◌-◌, ◌^◌, ⊎_elim, inl, inr, ℕ, zero, suc, List, [], ◌∷◌, ◌++◌, get_or, length, refl, sym, ◌∙◌, ap, subst, arith, length-append, lit<, lit≤}
+use Rattle.std.specs.Prelude.{Bool, Ok, Err, Contains, true, false, take, String, Vec, Some, None, string_bytes}
 use Rattle.std.specs.declared.alloc.Global.{Global}
 use Rattle.hall_core.specs.declared.hall.HallErr.TheVariants.{Failed, Memory, Missing}
 use Rattle.hall_core.specs.declared.mem_hall.step.Call.{Call}
 use Rattle.hall_core.specs.declared.mem_hall.step.Call.TheVariants.{Sync}
 use Rattle.hall_core.specs.declared.mem_hall.step.Call.TheVariants as kinds
-use Rattle.hall_core.specs.declared.mem_hall.step.Step.TheVariants.{Write, Print}
+use Rattle.hall_core.specs.declared.mem_hall.step.Step.{Step}
+use Rattle.hall_core.specs.declared.mem_hall.step.Step.TheVariants.{Write, Print, Pass}
 use Rattle.hall_core.specs.declared.mem_hall.MemHall.{MemHall}
 use Rattle.hall_core.specs.declared.mem_cards.MemCards.{MemCards}
-use Rattle.hall_core.specs.Facts.{unit_of}
-use Rattle.hall_core.specs.Held.{attached_as, file_of_pair, files_of}
-use Rattle.hall_core.specs.History.{Event, after_all, new_disk, passed, printed, synced, wrote}
+use Rattle.hall_core.specs.Facts.{Facts, unit_of}
+use Rattle.hall_core.specs.Files.{File, patched, written}
+use Rattle.hall_core.specs.Held.{AreFirst, attached_as, file_of_pair, files_of, shapes_of}
+use Rattle.hall_core.specs.History.{Event, Write as Written, after_all, kept, new_disk, passed, printed, synced, with_write, with_writes, wrote}
+use Rattle.hall_core.specs.HistoryLaws.{nothing_kept}
+use Rattle.hall_core.specs.Laws.{same_name}
 use Rattle.hall_core.specs.Memory.{EndsInSync, calls_of, disk_at, events_of, facts_of, failing_calls, first_files, meaning_of, number_of_calls, calls_left, bytes_left, LacksRoom, HasRoom, NextCallFails, KeepsAllButRoom, KeepsRecord, KeepsRoom, KeepsSetup, Records, IsExactCall}
+use Rattle.hall_core.specs.Replay.{AreWithin}
 use Rattle.hall_core.specs.MemoryCards.{IsNextRead, bytes_left as bytes_to_come, failing_reads, faults_counted, number_of_reads}
 
 -- room for one call, and for five bytes: five may be used, and not six
@@ -245,6 +250,19 @@ module _ (cards : MemCards) where
   counted_though_done : ¬ IsNextRead {T = ℕ} {E = Unit {0}} (at 3 1) (at 4 2) (Ok 7)
   counted_though_done next = let same : 2 ≡ 1 = next.done in absurd (omega (arith, same))
 
+  -- also one that is done is numbered, and each once; and no count falls
+  done_unnumbered : ¬ IsNextRead {T = ℕ} {E = Unit {0}} (at 3 1) (at 3 1) (Ok 7)
+  done_unnumbered next = let same : 3 ≡ 4 = next.number in absurd (omega (arith, same))
+
+  numbered_twice : (¬ IsNextRead {T = ℕ} {E = Unit {0}} (at 3 1) (at 5 1) (Ok 7)) × (¬ IsNextRead {T = ℕ} {E = Unit {0}} (at 3 1) (at 5 2) (Err tt))
+  numbered_twice = (λ next. let same : 5 ≡ 4 = next.number in absurd (omega (arith, same)), λ next. let same : 5 ≡ 4 = next.number in absurd (omega (arith, same)))
+
+  counted_twice : (¬ IsNextRead {T = ℕ} {E = Unit {0}} (at 3 1) (at 4 3) (Err tt)) × (¬ IsNextRead {T = ℕ} {E = Unit {0}} (at 3 1) (at 4 0) (Ok 7))
+  counted_twice = (λ next. let same : 3 ≡ 2 = next.failed in absurd (omega (arith, same)), λ next. let same : 0 ≡ 1 = next.done in absurd (omega (arith, same)))
+
+  done_at_the_end : IsNextRead {T = ℕ} {E = Unit {0}} (at (2 ^ 64 - 1) (2 ^ 64 - 1)) (at (2 ^ 64 - 1) (2 ^ 64 - 1)) (Ok 7)
+  done_at_the_end = record { failing = refl; number = refl; failed = tt; done = refl }
+
   -- each of the three numbers is its own
   numbers : (number_of_reads (at 3 1) ≡ 3) × (faults_counted (at 3 1) ≡ 1) × (failing_reads (at 3 1) ≡ cards.fails.items)
   numbers = (refl, refl, refl)
@@ -252,3 +270,314 @@ module _ (cards : MemCards) where
   -- what was given is gone from the front
   to_come : cards.given ≡ 1 → cards.bytes.items ≡ 5 ∷ 6 ∷ 7 ∷ [] → bytes_to_come cards ≡ 6 ∷ 7 ∷ []
   to_come given bytes = rw (given, bytes) refl
+
+-- halls with no file, which are made here
+module _ (any : MemHall) where
+  abbrev no_files : Vec (String Global × Vec ℕ Global) Global
+  no_files = record any.files { len = 0; cap = 0; items = []; ok = (refl, omega arith); small = omega arith }
+
+  abbrev no_bytes : Vec ℕ Global
+  no_bytes = record any.printed { len = 0; cap = 9; items = []; ok = (refl, omega arith); small = omega arith }
+
+  copy_is_there : ¬ Some no_files ≡ None
+  copy_is_there is = absurd (cc is)
+
+  -- before any call, with room for three calls and five bytes; the call of this number is to fail
+  abbrev made : ℕ → MemHall
+  made number = record any {
+    files = no_files;
+    first = Some no_files;
+    units = record any.units { len = 0; cap = 9; items = []; ok = (refl, omega arith); small = omega arith };
+    calls = record any.calls { len = 0; cap = 9; items = []; ok = (refl, omega arith); small = omega arith };
+    steps = record any.steps { len = 0; cap = 9; items = []; ok = (refl, omega arith); small = omega arith };
+    written = no_bytes;
+    printed = no_bytes;
+    fails = record any.fails { len = 1; cap = 1; items = number ∷ []; ok = (refl, omega arith); small = omega arith };
+    room_calls = 3;
+    room_bytes = 5;
+    dev_faults = 0;
+    print_faults = 0;
+    replay = record { shapes = refl; firsts = λ k low. absurd (omega arith); within = λ k low. absurd (omega arith); present = refl; printed = refl };
+    numbers = refl;
+    copied = λ is. absurd (copy_is_there is);
+    units_room = lit≤ tt;
+    calls_room = lit≤ tt;
+    steps_room = lit≤ tt;
+    written_room = lit≤ tt;
+    printed_room = lit≤ tt;
+  }
+
+  abbrev one_call : Call → Vec Call Global
+  one_call call = record any.calls { len = 1; cap = 9; items = call ∷ []; ok = (refl, omega arith); small = omega arith }
+
+  abbrev one_step : Step → Vec Step Global
+  one_step step = record any.steps { len = 1; cap = 9; items = step ∷ []; ok = (refl, omega arith); small = omega arith }
+
+  print_within : AreWithin [] 0 2 (Print 0 2 ∷ [])
+  print_within zero low = record { unit = lit≤ tt; size = lit≤ tt; from_pool = lit≤ tt; from_text = lit≤ tt }
+  print_within (suc k) low = absurd (omega arith)
+
+  pass_within : AreWithin [] 0 0 (Pass ∷ [])
+  pass_within zero low = record { unit = lit≤ tt; size = lit≤ tt; from_pool = lit≤ tt; from_text = lit≤ tt }
+  pass_within (suc k) low = absurd (omega arith)
+
+  -- behind a print of two bytes, which is done; and behind a sync that failed
+  abbrev behind_print : ℕ → MemHall
+  behind_print number = record (made number) {
+    calls = one_call kinds.Print;
+    steps = one_step (Print 0 2);
+    printed = record any.printed { len = 2; cap = 9; items = 97 ∷ 98 ∷ []; ok = (refl, omega arith); small = omega arith };
+    room_calls = 2;
+    room_bytes = 3;
+    replay = record { shapes = refl; firsts = λ k low. absurd (omega arith); within = print_within; present = refl; printed = refl };
+    numbers = refl;
+    copied = λ is. absurd (copy_is_there is);
+    units_room = lit≤ tt;
+    calls_room = lit≤ tt;
+    steps_room = lit≤ tt;
+    written_room = lit≤ tt;
+    printed_room = lit≤ tt;
+  }
+
+  abbrev behind_sync : ℕ → MemHall
+  behind_sync number = record (made number) {
+    calls = one_call Sync;
+    steps = one_step Pass;
+    room_calls = 2;
+    dev_faults = 1;
+    replay = record { shapes = refl; firsts = λ k low. absurd (omega arith); within = pass_within; present = refl; printed = refl };
+    numbers = refl;
+    copied = λ is. absurd (copy_is_there is);
+    units_room = lit≤ tt;
+    calls_room = lit≤ tt;
+    steps_room = lit≤ tt;
+    written_room = lit≤ tt;
+    printed_room = lit≤ tt;
+  }
+
+  -- what each tells of itself: the print is on the record with its bytes, the sync did nothing, and neither fault is the other
+  told_of_made : (calls_of (made 4) ≡ []) × (events_of (made 4) ≡ []) × (failing_calls (made 4) ≡ 4 ∷ []) × (facts_of (made 4) ≡ record { units = []; references = []; dev_faults = 0; print_faults = 0 })
+  told_of_made = (refl, refl, refl, refl)
+
+  told_of_print : (calls_of (behind_print 4) ≡ kinds.Print ∷ []) × (events_of (behind_print 4) ≡ printed (97 ∷ 98 ∷ []) ∷ []) × ((meaning_of (behind_print 4)).printed ≡ 97 ∷ 98 ∷ []) × ((meaning_of (behind_print 4)).clock ≡ 1)
+  told_of_print = (refl, refl, refl, refl)
+
+  told_of_sync : (calls_of (behind_sync 0) ≡ Sync ∷ []) × (events_of (behind_sync 0) ≡ passed ∷ []) × (facts_of (behind_sync 0) ≡ record { units = []; references = []; dev_faults = 1; print_faults = 0 })
+  told_of_sync = (refl, refl, refl)
+
+  -- before the print nothing was printed, and a stop in it leaves a part of it
+  moments_of_print : ((disk_at (behind_print 4) 0).text ≡ []) × ((disk_at (behind_print 4) 1).text ≡ 97 ∷ 98 ∷ []) × (meaning_of (behind_print 4)).left_since 0 [] (97 ∷ [])
+  moments_of_print = (refl, refl, (0, lit≤ tt, lit≤ tt, record { files = ([], refl); text = (97 ∷ [], (98 ∷ [], refl), refl) }))
+
+  -- there is room for five bytes, and for six there isn't; with no bytes left there is room for a call of none
+  room_of_made : HasRoom (made 4) 5 × (¬ HasRoom (made 4) 6) × LacksRoom (made 4) 6 × (¬ LacksRoom (made 4) 5)
+  room_of_made = (
+    record { calls = lit< tt; bytes = lit≤ tt },
+    λ room. omega (arith, room.bytes),
+    inr (lit< tt),
+    λ lacks. ⊎_elim (λ none. absurd (omega (arith, none))) (λ few. absurd (omega (arith, few))) lacks,
+  )
+
+  abbrev without_bytes : MemHall
+  without_bytes = record (made 4) { room_bytes = 0; written_room = lit≤ tt; printed_room = lit≤ tt }
+
+  room_for_no_bytes : HasRoom without_bytes 0 × (¬ LacksRoom without_bytes 0) × LacksRoom without_bytes 1
+  room_for_no_bytes = (
+    record { calls = lit< tt; bytes = lit≤ tt },
+    λ lacks. ⊎_elim (λ none. absurd (omega (arith, none))) (λ few. absurd (omega (arith, few))) lacks,
+    inr (lit< tt),
+  )
+
+  -- the first call has number 0, and behind a call the next one has number 1
+  numbers_of_calls : NextCallFails (made 0) × (¬ NextCallFails (made 4)) × NextCallFails (behind_sync 1) × (¬ NextCallFails (behind_sync 0))
+  numbers_of_calls = ((0, lit< tt, refl), λ fails. only 4 0 (λ is. absurd (omega (arith, is))) fails, (0, lit< tt, refl), λ fails. only 0 1 (λ is. absurd (omega (arith, is))) fails)
+    where
+      only : (number next : ℕ) → number ≢ next → ¬ Contains {X = ℕ} (number ∷ []) next
+      only number next other (zero, low, is) = other is
+      only number next other (suc k, low, is) = absurd (omega arith)
+
+  -- one call alone, a sync, is the last
+  ends_in_sync : EndsInSync (behind_sync 0) × (¬ EndsInSync (behind_print 4)) × (¬ EndsInSync (made 4))
+  ends_in_sync = (([], refl), λ ends. print_is_last ends.0 ends.1, λ ends. none_is_last ends.0 ends.1)
+    where
+      print_is_last : (before : List Call) → ¬ kinds.Print ∷ [] ≡ before ++ Sync ∷ []
+      print_is_last [] is = absurd (cc is)
+      print_is_last (x ∷ []) is = absurd (cc is)
+      print_is_last (x ∷ y ∷ rest) is = absurd (cc is)
+
+      none_is_last : (before : List Call) → ¬ [] ≡ before ++ Sync ∷ []
+      none_is_last [] is = absurd (cc is)
+      none_is_last (x ∷ rest) is = absurd (cc is)
+
+  -- the print uses one call and two bytes of the room; and the sync that failed a call alone
+  print_is_recorded : Records 2 kinds.Print (printed (97 ∷ 98 ∷ [])) (made 4) (behind_print 4)
+  print_is_recorded = record { calls = refl; events = refl; room_calls = refl; room_bytes = refl }
+
+  sync_is_recorded : Records 0 Sync passed (made 0) (behind_sync 0)
+  sync_is_recorded = record { calls = refl; events = refl; room_calls = refl; room_bytes = refl }
+
+  -- not with fewer bytes or more, nor as another call or event, nor the other way round
+  not_recorded_so :
+      (¬ Records 1 kinds.Print (printed (97 ∷ 98 ∷ [])) (made 4) (behind_print 4))
+      × (¬ Records 3 kinds.Print (printed (97 ∷ 98 ∷ [])) (made 4) (behind_print 4))
+      × (¬ Records 2 Sync (printed (97 ∷ 98 ∷ [])) (made 4) (behind_print 4))
+      × (¬ Records 2 kinds.Print passed (made 4) (behind_print 4))
+      × (¬ Records 0 Sync synced (made 0) (behind_sync 0))
+      × (¬ Records 2 kinds.Print (printed (97 ∷ 98 ∷ [])) (behind_print 4) (made 4))
+  not_recorded_so = (
+    λ records. omega (arith, records.room_bytes),
+    λ records. omega (arith, records.room_bytes),
+    λ records. absurd (cc records.calls),
+    λ records. absurd (cc records.events),
+    λ records. absurd (cc records.events),
+    λ records. omega (arith, records.room_calls),
+  )
+
+  -- the same with a call more of the room, or with none of its bytes used
+  room_is_not_used :
+      (¬ Records 2 kinds.Print (printed (97 ∷ 98 ∷ [])) (made 4) (record (behind_print 4) { room_calls = 3; copied = λ is. absurd (copy_is_there is); units_room = lit≤ tt; calls_room = lit≤ tt; steps_room = lit≤ tt }))
+      × (¬ Records 2 kinds.Print (printed (97 ∷ 98 ∷ [])) (made 4) (record (behind_print 4) { room_bytes = 5; written_room = lit≤ tt; printed_room = lit≤ tt }))
+  room_is_not_used = (λ records. omega (arith, records.room_calls), λ records. omega (arith, records.room_bytes))
+
+  -- so each goes exactly: the print is done, the sync fails by its number, and a print of six bytes fails for want of room and leaves all but the count
+  abbrev lacking : MemHall
+  lacking = record (made 4) { print_faults = 1 }
+
+  each_goes_exactly :
+      IsExactCall {T = Unit {0}} 2 kinds.Print (printed (97 ∷ 98 ∷ [])) (made 4) (behind_print 4) (Ok tt)
+      × IsExactCall {T = Unit {0}} 0 Sync passed (made 0) (behind_sync 0) (Err Failed)
+      × IsExactCall {T = Unit {0}} 6 kinds.Print (printed []) (made 4) lacking (Err Failed)
+  each_goes_exactly = (
+    done_exactly_of,
+    record {
+      failed = (λ is. inr numbers_of_calls.0, λ either. refl);
+      memory = λ is. cc is;
+      lacking = λ lacks. absurd (⊎_elim (λ none. absurd (omega (arith, none))) (λ few. absurd (omega (arith, few))) lacks);
+      room = λ room. sync_is_recorded;
+      setup = record { first = refl; failing = refl };
+    },
+    record {
+      failed = (λ is. inl (inr (lit< tt)), λ either. refl);
+      memory = λ is. cc is;
+      lacking = λ lacks. (record { calls = refl; bytes = refl }, record { calls = refl; events = refl });
+      room = λ room. absurd (omega (arith, room.bytes));
+      setup = record { first = refl; failing = refl };
+    },
+  )
+    where
+      done_exactly_of : IsExactCall {T = Unit {0}} 2 kinds.Print (printed (97 ∷ 98 ∷ [])) (made 4) (behind_print 4) (Ok tt)
+      done_exactly_of = record {
+        failed = (λ is. absurd (cc is), ⊎_elim (λ lacks. absurd (⊎_elim (λ none. absurd (omega (arith, none))) (λ few. absurd (omega (arith, few))) lacks)) (λ fails. absurd (numbers_of_calls.1 fails)));
+        memory = λ is. cc is;
+        lacking = λ lacks. absurd (⊎_elim (λ none. absurd (omega (arith, none))) (λ few. absurd (omega (arith, few))) lacks);
+        room = λ room. print_is_recorded;
+        setup = record { first = refl; failing = refl };
+      }
+
+  -- where there is more room all else stays, but not the room; where another call fails, or one is on the record, not all else
+  abbrev with_room : MemHall
+  with_room = record (made 4) { room_calls = 7; room_bytes = 9; copied = λ is. absurd (copy_is_there is); units_room = lit≤ tt; calls_room = lit≤ tt; steps_room = lit≤ tt; written_room = lit≤ tt; printed_room = lit≤ tt }
+
+  all_but_room : KeepsAllButRoom (made 4) with_room × (¬ KeepsRoom (made 4) with_room) × (¬ KeepsRoom with_room (made 4)) × (¬ KeepsRoom (made 4) (record (made 4) { room_bytes = 6; written_room = lit≤ tt; printed_room = lit≤ tt }))
+  all_but_room = (
+    record { setup = record { first = refl; failing = refl }; record_of_calls = record { calls = refl; events = refl }; facts = refl },
+    λ keeps. omega (arith, keeps.calls),
+    λ keeps. omega (arith, keeps.calls),
+    λ keeps. omega (arith, keeps.bytes),
+  )
+
+  not_all_but_room :
+      (¬ KeepsAllButRoom (made 4) (made 3))
+      × (¬ KeepsAllButRoom (made 4) lacking)
+      × (¬ KeepsAllButRoom (made 4) (behind_print 4))
+      × (¬ KeepsRecord (made 4) (behind_print 4))
+      × (¬ KeepsSetup (made 4) (made 3))
+      × KeepsSetup (made 4) (behind_print 4)
+      × KeepsRecord (made 4) (made 3)
+  not_all_but_room = (
+    λ keeps. let same : 3 ≡ 4 = ap (λ (l : List ℕ). get_or l 0 0) keeps.setup.failing in omega (arith, same),
+    λ keeps. let same : 1 ≡ 0 = ap (λ (facts : Facts). facts.print_faults) keeps.facts in omega (arith, same),
+    λ keeps. absurd (cc keeps.record_of_calls.calls),
+    λ keeps. absurd (cc keeps.calls),
+    λ keeps. let same : 3 ≡ 4 = ap (λ (l : List ℕ). get_or l 0 0) keeps.failing in omega (arith, same),
+    record { first = refl; failing = refl },
+    record { calls = refl; events = refl },
+  )
+
+-- a hall with one file of two bytes, which is made here too: its only unit is that file, and the second byte was written over
+module _ (any : MemHall) (name : String Global) where
+  abbrev holds : ℕ → ℕ → Vec (String Global × Vec ℕ Global) Global
+  holds a b = record any.files { len = 1; cap = 1; items = (name, record any.written { len = 2; cap = 2; items = a ∷ b ∷ []; ok = (refl, omega arith); small = omega arith }) ∷ []; ok = (refl, omega arith); small = omega arith }
+
+  abbrev file : ℕ → ℕ → List File
+  file a b = record { name = string_bytes name; bytes = a ∷ b ∷ [] } ∷ []
+
+  abbrev of_the_file : Written
+  of_the_file = record { name = string_bytes name; at = 1; bytes = 9 ∷ []; is_done = true }
+
+  second_is_written : with_write (file 1 2) of_the_file ≡ file 1 9
+  unfolding written patched
+  second_is_written = rw (same_name (string_bytes name)) refl
+
+  write_within : AreWithin (shapes_of (file 1 9)) 1 0 (Write 0 1 0 1 true ∷ [])
+  write_within zero low = record { unit = lit≤ tt; size = lit≤ tt; from_pool = lit≤ tt; from_text = lit≤ tt }
+  write_within (suc k) low = absurd (omega arith)
+
+  only_file : AreFirst (shapes_of (file 1 9)) (0 ∷ [])
+  only_file zero low = record { inside = lit< tt; before = λ k low. absurd (omega arith) }
+  only_file (suc k) low = absurd (omega arith)
+
+  copy_stands : ¬ Some (holds 1 2) ≡ None
+  copy_stands is = absurd (cc is)
+
+  abbrev behind_write : MemHall
+  behind_write = record any {
+    files = holds 1 9;
+    first = Some (holds 1 2);
+    units = record any.units { len = 1; cap = 9; items = 0 ∷ []; ok = (refl, omega arith); small = omega arith };
+    calls = record any.calls { len = 1; cap = 9; items = kinds.Write 0 1 ∷ []; ok = (refl, omega arith); small = omega arith };
+    steps = record any.steps { len = 1; cap = 9; items = Write 0 1 0 1 true ∷ []; ok = (refl, omega arith); small = omega arith };
+    written = record any.written { len = 1; cap = 9; items = 9 ∷ []; ok = (refl, omega arith); small = omega arith };
+    printed = record any.printed { len = 0; cap = 9; items = []; ok = (refl, omega arith); small = omega arith };
+    fails = record any.fails { len = 0; cap = 0; items = []; ok = (refl, omega arith); small = omega arith };
+    room_calls = 2;
+    room_bytes = 3;
+    dev_faults = 4;
+    print_faults = 5;
+    replay = record { shapes = refl; firsts = only_file; within = write_within; present = second_is_written; printed = refl };
+    numbers = refl;
+    copied = λ is. absurd (copy_stands is);
+    units_room = lit≤ tt;
+    calls_room = lit≤ tt;
+    steps_room = lit≤ tt;
+    written_room = lit≤ tt;
+    printed_room = lit≤ tt;
+  }
+
+  -- its first files are those of the copy, its unit is the present file, and the write is that of the bytes that were written
+  told_of_write :
+      (first_files behind_write ≡ file 1 2)
+      × (facts_of behind_write ≡ record { units = record { name = string_bytes name; size = 2 } ∷ []; references = []; dev_faults = 4; print_faults = 5 })
+      × (events_of behind_write ≡ wrote of_the_file ∷ [])
+      × (number_of_calls behind_write ≡ 1)
+      × (calls_left behind_write ≡ 2)
+      × (bytes_left behind_write ≡ 3)
+  told_of_write = (refl, refl, refl, refl, refl, refl)
+
+  -- it is read with the write; a stop leaves that out or keeps it, and nothing else; and before it there is none
+  means_the_write :
+      ((meaning_of behind_write).state ≡ file 1 9)
+      × (meaning_of behind_write).left (file 1 2)
+      × (meaning_of behind_write).left (with_write (file 1 2) of_the_file)
+      × (¬ (meaning_of behind_write).left (file 9 2))
+      × (disk_at behind_write 0 ≡ new_disk (file 1 2))
+  means_the_write = (second_is_written, ([], refl), (true ∷ [], refl), λ left. of_flags left.0 left.1, refl)
+    where
+      head : List File → ℕ
+      head [] = 0
+      head (f ∷ fs) = get_or f.bytes 0 0
+
+      of_flags : (flags : List Bool) → ¬ file 9 2 ≡ with_writes (file 1 2) (kept flags (of_the_file ∷ []))
+      of_flags [] is = let wrong : 9 ≡ 1 = ap head is in omega (arith, wrong)
+      of_flags (false ∷ flags) is = let wrong : 9 ≡ 1 = ap head (is ∙ ap (with_writes (file 1 2)) (nothing_kept flags)) in omega (arith, wrong)
+      of_flags (true ∷ flags) is = let wrong : 9 ≡ 1 = ap head (is ∙ ap (with_writes (with_write (file 1 2) of_the_file)) (nothing_kept flags) ∙ second_is_written) in omega (arith, wrong)

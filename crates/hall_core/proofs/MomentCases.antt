@@ -1,10 +1,10 @@
 -- Moments and steps, on cases at which near readings of the definitions say otherwise.
 use Rattle.std.proofs.Common.{◌≡◌, ◌⊎◌, ◌+◌, ◌-◌, ◌^◌, ⊎_elim, inl, inr, ℕ, List, [], ◌∷◌, ◌++◌, ◌∙◌, get_or, length, refl, sym, ap, arith, lit≤, true, false}
 use Rattle.hall_core.specs.Example.{HasFirst, IsInOrder, WritesInOrder}
-use Rattle.hall_core.specs.Facts.{Facts}
+use Rattle.hall_core.specs.Facts.{Attached, Facts, unit_of}
 use Rattle.hall_core.specs.Files.{File, AfterPrint, AfterSync, AfterWrite, IsPrefixOf, patched, written}
 use Rattle.hall_core.specs.History.{Write, wrote, synced, printed, with_write, meaning_after}
-use Rattle.hall_core.specs.HistoryLaws.{since_now}
+use Rattle.hall_core.specs.HistoryLaws.{now_since, since_now}
 use Rattle.hall_core.specs.Moments.{Meaning, LeftNow, IsDurable, LeavesSame, ElapsesExactly, Elapses, Same}
 use Rattle.hall_core.specs.Steps.{seen, Leaves, IsBeforeOrAfter, StepTo, Stage, Exit, OutsideCalls}
 use Rattle.hall_core.proofs.CallLemmas.{same_passed, write_done, sync_done, print_done}
@@ -43,6 +43,10 @@ durable_behind_sync = left_behind_sync
 durable_behind_write : ¬ IsDurable behind_write
 durable_behind_write durable = differ (durable files files_behind_write)
 
+-- where a stop leaves nothing at all, nothing else is left: that the state itself is left isn't asked here
+durable_with_nothing_left : IsDurable (record at_first { left = λ j. ⊥ })
+durable_with_nothing_left j none = absurd none
+
 -- the same is left after a call that did nothing; less or more is another thing
 leaves_same : LeavesSame at_first behind_none
 leaves_same = (same_passed files []).left
@@ -71,6 +75,13 @@ something_left_since same = ⊎_elim
     (λ before. differ (sym (left_at_first _ (since_now files [] _ _ before).0)))
     (λ now. differ (sym (left_at_first _ now.0)))
     ((same.time.since 0 (with_write files nine) [] (lit≤ tt)).0 write_left_since)
+
+-- nor is anything lost: not what a stop leaves now, nor what one left
+something_not_left : ¬ Same behind_write (record behind_write { left = behind_sync.left })
+something_not_left same = differ (left_behind_sync files ((same.left files).1 files_behind_write))
+
+something_lost : ¬ Same at_first (record behind_none { left_since = λ t j p. ⊥ })
+something_lost same = (same.time.since 0 files [] (lit≤ tt)).1 (inr (([], refl), refl))
 
 -- to what stops left comes what has P: each prefix that a stop in a print leaves, and not the text before it alone
 prints_in_time : Elapses at_first behind_print (λ j p. IsPrefixOf p ab)
@@ -101,6 +112,25 @@ earlier_comes_late time = ⊎_elim
     (λ before. ⊎_elim (λ first. absurd (cc (none_since files ab first))) (λ now. absurd (cc now.1)) (((same_passed files []).time.since 0 files ab (lit≤ tt)).0 before))
     (λ none. none)
     (time.moments 0 files ab (lit≤ tt) (inr refl))
+
+-- but of stops since a moment behind the first one it says nothing, neither that they left no more nor that none of it is lost
+later_is_not_asked : Elapses at_first behind_none (λ j p. ⊥) × behind_none.left_since 1 files [] × (¬ at_first.left_since 1 files [])
+later_is_not_asked = (
+  record {
+    later = lit≤ tt;
+    moments = λ t j p low left. ⊎_elim (λ before. inl before) (λ now. inl (now_since files [] t j p low now.0 now.1)) (((same_passed files []).time.since t j p low).0 left);
+    keeps = λ t j p low left. ((same_passed files []).time.since t j p low).1 (inl left);
+  },
+  (1, lit≤ tt, lit≤ tt, record { files = ([], refl); text = ([], ([], refl), refl) }),
+  λ left. let (k, low, high, at) = left in omega (arith, low, high),
+)
+
+later_may_be_lost : Elapses (record at_first { left_since = λ t j p. t ≡ 5 }) (record at_first { left_since = λ t j p. ⊥ }) (λ j p. ⊥)
+later_may_be_lost = record { later = lit≤ tt; moments = λ t j p low none. absurd none; keeps = λ t j p low is. absurd (omega (arith, low, is)) }
+
+-- and all that has P needn't come
+less_may_come : Elapses at_first behind_none (λ j p. Unit {0})
+less_may_come = elapses_from_exactly (same_passed files []).time (λ j p left. tt)
 
 -- the same where it is said exactly
 exactly_goes_back : ¬ ElapsesExactly behind_write (record behind_write { clock = 0 }) (λ j p. ⊥)
@@ -199,11 +229,37 @@ step_stays step = differ step.done.0
 step_prints : ¬ StepTo (λ j. j) (with_write files nine) at_first (record behind_sync { printed = ab }) done
 step_prints step = absurd (cc step.printed)
 
+-- nor does it print where it failed
+step_fails_and_prints : ¬ StepTo (λ j. j) (with_write files nine) at_first (record behind_write { printed = ab }) fails
+step_fails_and_prints step = absurd (cc step.printed)
+
 step_leaves_more : ¬ StepTo (λ j. j) files at_first behind_write fails
 step_leaves_more step = ⊎_elim
     (λ before. differ (sym (left_at_first _ (since_now files [] _ _ before).0)))
     (λ left. ⊎_elim (λ before. differ (sym before)) (λ after. differ (sym after)) left.0)
     (step.moments.moments 0 (with_write files nine) [] (lit≤ tt) write_left_since)
+
+-- also where it is done: not other files, nor these with a text
+done_step_leaves_more : ¬ StepTo (λ j. j) (with_write files nine) at_first (record behind_sync { left_since = λ t j p. behind_sync.left_since t j p ⊎ (j ≡ holds 9 2) }) done
+unfolding written patched
+done_step_leaves_more step = ⊎_elim
+    (λ before. let head : 9 ≡ 1 = ap first_byte (left_at_first (holds 9 2) (since_now files [] (holds 9 2) [] before).0) in absurd (omega (arith, head)))
+    (λ left. ⊎_elim (λ before. let head : 9 ≡ 1 = ap first_byte before in absurd (omega (arith, head))) (λ after. let head : 9 ≡ 1 = ap first_byte after in absurd (omega (arith, head))) left.0)
+    (step.moments.moments 0 (holds 9 2) [] (lit≤ tt) (inr refl))
+
+done_step_leaves_a_text : ¬ StepTo (λ j. j) (with_write files nine) at_first (record behind_sync { left_since = λ t j p. behind_sync.left_since t j p ⊎ ((j ≡ files) × (p ≡ ab)) }) done
+done_step_leaves_a_text step = ⊎_elim
+    (λ before. absurd (cc (none_since files ab before)))
+    (λ left. absurd (cc left.1))
+    (step.moments.moments 0 files ab (lit≤ tt) (inr (refl, refl)))
+
+-- nor is what was left before lost
+step_forgets : ¬ StepTo (λ j. j) (with_write files nine) at_first (record behind_sync { left_since = λ t j p. (j ≡ with_write files nine) × (p ≡ []) }) done
+step_forgets step = differ (step.moments.keeps 0 files [] (lit≤ tt) (0, lit≤ tt, lit≤ tt, record { files = ([], refl); text = ([], ([], refl), refl) })).0
+
+-- what is read behind one that failed isn't said, only what stops left
+failed_step_reads_anything : StepTo (λ j. j) (with_write files nine) at_first (record at_first { state = holds 9 2 }) fails
+failed_step_reads_anything = record { done = tt; printed = refl; moments = record { later = lit≤ tt; moments = λ t j p low left. inl left; keeps = λ t j p low left. left } }
 
 -- how far a chain has come is known of what is durable, with the text that was printed
 abbrev InOrder : List File → List ℕ → Type 0
@@ -249,6 +305,10 @@ failed_otherwise exit = ⊎_elim
 
 done_early : ¬ Exit (λ j. j) InOrder at_first behind_write (with_write files nine) [] done
 done_early exit = durable_behind_write exit.done.durable
+
+-- one that is done has come to this state, with this text
+done_elsewhere : (¬ Exit (λ j. j) InOrder at_first behind_sync files [] done) × (¬ Exit (λ j. j) InOrder at_first behind_sync (with_write files nine) ab done)
+done_elsewhere = (λ exit. differ (sym exit.done.state), λ exit. absurd (cc exit.done.printed))
 
 -- where calls of a device and of a printer failed, one count rose, and where they were done, none did
 abbrev counted : ℕ → ℕ → Facts
@@ -297,9 +357,40 @@ other_units calls = absurd (cc calls.units)
 other_hall : ¬ OutsideCalls (counted 3 5) (record (counted 3 5) { references = 8 ∷ [] }) done
 other_hall calls = absurd (cc calls.references)
 
+-- also where they failed
+other_units_though_failed : ¬ OutsideCalls (counted 3 5) (record (counted 4 5) { units = record { name = []; size = 0 } ∷ [] }) fails
+other_units_though_failed calls = absurd (cc calls.units)
+
+other_hall_though_failed : ¬ OutsideCalls (counted 3 5) (record (counted 4 5) { references = 8 ∷ [] }) fails
+other_hall_though_failed calls = absurd (cc calls.references)
+
+-- nor are there as many in another order
+abbrev with_units : ℕ → ℕ → ℕ → Facts
+with_units dev first second = record { units = record { name = []; size = first } ∷ record { name = []; size = second } ∷ []; references = []; dev_faults = dev; print_faults = 5 }
+
+units_exchanged : (¬ OutsideCalls (with_units 3 1 2) (with_units 3 2 1) done) × (¬ OutsideCalls (with_units 3 1 2) (with_units 4 2 1) fails)
+units_exchanged = (
+  λ calls. let first : 2 ≡ 1 = ap (λ (units : List Attached). (unit_of units 0).size) calls.units in absurd (omega (arith, first)),
+  λ calls. let first : 2 ≡ 1 = ap (λ (units : List Attached). (unit_of units 0).size) calls.units in absurd (omega (arith, first)),
+)
+
+-- at the end of both counts they may be done
+none_rose_at_the_end : OutsideCalls (counted (2 ^ 64 - 1) (2 ^ 64 - 1)) (counted (2 ^ 64 - 1) (2 ^ 64 - 1)) done
+none_rose_at_the_end = record { units = refl; references = refl; devices = lit≤ tt; prints = lit≤ tt; done = (refl, refl); failed = tt }
+
 -- a byte of the line is printed only behind both writes, and the first one is there with the second
 line_behind_both : HasFirst 3 4 [] ab 4 (97 ∷ [])
 line_behind_both = inr (refl, (97 ∷ [], (98 ∷ [], refl), refl))
+
+-- none of it or all of it too, and no byte more
+line_of_any_length : HasFirst 3 4 [] ab 4 [] × HasFirst 3 4 [] ab 4 ab
+line_of_any_length = (inl (inr refl, refl), inr (refl, (ab, ([], refl), refl)))
+
+line_with_more : ¬ HasFirst 3 4 [] ab 4 (97 ∷ 98 ∷ 97 ∷ [])
+line_with_more has = ⊎_elim
+    (λ either. absurd (cc either.1))
+    (λ both. let (q, (rest, whole), is) = both.1 in absurd (let more : (97 ∷ 98 ∷ 97 ∷ []) ++ rest ≡ ab = ap (λ (l : List ℕ). l ++ rest) is ∙ whole in cc more))
+    has
 
 line_behind_one : ¬ HasFirst 3 4 [] ab 3 (97 ∷ [])
 line_behind_one has = ⊎_elim (λ either. absurd (cc either.1)) (λ both. absurd (omega (arith, both.0))) has

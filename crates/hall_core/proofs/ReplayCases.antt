@@ -76,6 +76,18 @@ print_needs_no_units = refl
 print_needs_no_pool : pool_needed (Print 1 2) ≡ 0
 print_needs_no_pool = refl
 
+-- a sync, and a call that did nothing, need none of it
+sync_and_pass_within : IsWithin [] 0 0 Sync × IsWithin [] 0 0 Pass × IsWritable [] 0 Sync × IsWritable [] 0 Pass
+sync_and_pass_within = (
+  record { unit = lit≤ tt; size = lit≤ tt; from_pool = lit≤ tt; from_text = lit≤ tt },
+  record { unit = lit≤ tt; size = lit≤ tt; from_pool = lit≤ tt; from_text = lit≤ tt },
+  record { unit = lit≤ tt; size = lit≤ tt; from_pool = lit≤ tt },
+  record { unit = lit≤ tt; size = lit≤ tt; from_pool = lit≤ tt },
+)
+
+units_of_others : (unit_written (Print 1 2) ≡ 0) × (unit_written Sync ≡ 0) × (unit_written Pass ≡ 0)
+units_of_others = (refl, refl, refl)
+
 -- all of that may just be there, and not one less
 last_within : IsWithin units 4 0 last
 last_within = record { unit = lit≤ tt; size = lit≤ tt; from_pool = lit≤ tt; from_text = lit≤ tt }
@@ -168,6 +180,9 @@ last_is_done = refl
 print_is_no_write : is_write (Print 1 2) ≡ false
 print_is_no_write = refl
 
+others_are_no_writes : (is_write last ≡ true) × (is_write Sync ≡ false) × (is_write Pass ≡ false) × (is_done_write Sync ≡ false) × (is_done_write (Print 1 2) ≡ false) × (is_done_write Pass ≡ false)
+others_are_no_writes = (refl, refl, refl, refl, refl, refl)
+
 -- prints in their order
 prints : prints_at text steps ≡ 98 ∷ 99 ∷ 97 ∷ []
 prints = refl
@@ -181,6 +196,9 @@ write_at_3 = refl
 
 print_at_3 : pending_place (Print 1 2) 3 1 ≡ 1
 print_at_3 = refl
+
+others_at_3 : (pending_place failed 3 1 ≡ 1) × (pending_place Pass 3 1 ≡ 1)
+others_at_3 = (refl, refl)
 
 abbrev three : List Step
 three = failed ∷ Sync ∷ last ∷ []
@@ -282,3 +300,16 @@ pool_is_short replay = let few = (replay.within 0 (lit< tt)).from_pool in absurd
 
 text_is_short : ¬ IsReplay files files (0 ∷ []) (Print 0 2 ∷ []) [] (97 ∷ [])
 text_is_short replay = let few = (replay.within 0 (lit< tt)).from_text in absurd (omega (arith, few))
+
+-- nor of a unit that isn't there, though a write to it would change nothing
+unit_is_short : ¬ IsReplay files files (0 ∷ []) (Write 1 0 0 0 true ∷ []) [] []
+unit_is_short replay = let few = (replay.within 0 (lit< tt)).unit in absurd (omega (arith, few))
+
+-- there may be bytes beside those of the steps, written ones, and no unit at all
+spare_bytes : IsReplay files files [] (Sync ∷ Pass ∷ []) (7 ∷ []) []
+spare_bytes = record { shapes = refl; firsts = λ k low. absurd (omega arith); within = both; present = refl; printed = refl }
+  where
+    both : AreWithin [] 1 0 (Sync ∷ Pass ∷ [])
+    both zero low = record { unit = lit≤ tt; size = lit≤ tt; from_pool = lit≤ tt; from_text = lit≤ tt }
+    both (suc zero) low = record { unit = lit≤ tt; size = lit≤ tt; from_pool = lit≤ tt; from_text = lit≤ tt }
+    both (suc (suc k)) low = absurd (omega arith)

@@ -1,6 +1,7 @@
--- What a hall over real files tells, on cases that a near reading of FileHall.antt answers otherwise.
-use Rattle.std.proofs.Common.{◌≡◌, ◌≢◌, ◌∙◌, sym, [], ◌∷◌, map, refl, inl, inr, ⊎_elim, ap}
-use Rattle.std.specs.Prelude.{string_bytes}
+-- What a hall over real files and cards over a reader tell, on cases that a near reading of FileHall.antt and StdCards.antt answers otherwise.
+use Rattle.std.proofs.Common.{◌≡◌, ◌≢◌, ◌<◌, ◌∙◌, sym, subst, zero, suc, Bool, true, false, List, [], ◌∷◌, get_or, length, map, refl, inl, inr, ⊎_elim, ap, arith, lit<}
+use Rattle.std.specs.Prelude.{IsFalse, string_bytes}
+use Rattle.std.specs.List.{All}
 use Rattle.std.specs.IoError.{error_kind}
 use Rattle.std.specs.declared.io.Error.{Error}
 use Rattle.std.specs.declared.io.ErrorKind.TheVariants.{NotFound, NotADirectory, PermissionDenied, ReadOnlyFilesystem, InvalidInput, InvalidFilename, IsADirectory, AlreadyExists, FilesystemLoop, Interrupted, ResourceBusy, StaleNetworkFileHandle, OutOfMemory, Other, Uncategorized}
@@ -8,6 +9,8 @@ use Rattle.std.specs.declared.io.ErrorKind.{ErrorKind}
 use Rattle.hall_files.specs.FileHall.{SaysMissing, SaysReadOnly, facts_of, files_of, notes_of, units_in, units_of}
 use Rattle.hall_files.specs.declared.file_hall.Unit.{Unit}
 use Rattle.hall_files.specs.declared.file_hall.FileHall.{FileHall}
+use Rattle.hall_files.specs.declared.std_cards.StdCards.{StdCards}
+use Rattle.hall_files.specs.StdCards.{faults_counted, reader_of}
 
 -- the units stand in the order of their attachment
 units_in_order : (u v : Unit) → units_of (u ∷ v ∷ []) ≡ record { name = string_bytes u.name; size = u.size } ∷ record { name = string_bytes v.name; size = v.size } ∷ []
@@ -62,3 +65,23 @@ apart_from_read_only kind denied medium e is only = ⊎_elim (λ one. denied (sy
 
 failed_openings : ((e : Error) → error_kind e ≡ NotFound → ¬ SaysReadOnly e) × ((e : Error) → error_kind e ≡ Interrupted → ¬ SaysReadOnly e) × ((e : Error) → error_kind e ≡ ResourceBusy → ¬ SaysReadOnly e) × ((e : Error) → error_kind e ≡ Other → ¬ SaysReadOnly e)
 failed_openings = (apart_from_read_only NotFound (λ is. cc) (λ is. cc), apart_from_read_only Interrupted (λ is. cc) (λ is. cc), apart_from_read_only ResourceBusy (λ is. cc) (λ is. cc), apart_from_read_only Other (λ is. cc) (λ is. cc))
+
+-- what holds behind a sync fails where a unit may have been written, whichever, and holds where none may
+behind_a_sync : {R : Type 0} (hall : FileHall R) (u v : Unit) → hall.units.items ≡ u ∷ v ∷ [] →
+    (u.is_written ≡ true → ¬ All IsFalse (notes_of hall))
+    × (v.is_written ≡ true → ¬ All IsFalse (notes_of hall))
+    × (u.is_written ≡ false → v.is_written ≡ false → All IsFalse (notes_of hall))
+behind_a_sync hall u v are = (
+  λ written none. absurd (cc (sym written ∙ ap (λ (notes : List Bool). get_or notes 0 true) (sym (notes_of_a_hall hall u v are)) ∙ none 0 true (subst (λ (notes : List Bool). 0 < length notes) (sym (notes_of_a_hall hall u v are)) (lit< tt)))),
+  λ written none. absurd (cc (sym written ∙ ap (λ (notes : List Bool). get_or notes 1 true) (sym (notes_of_a_hall hall u v are)) ∙ none 1 true (subst (λ (notes : List Bool). 1 < length notes) (sym (notes_of_a_hall hall u v are)) (lit< tt)))),
+  λ first second. subst (All IsFalse) (sym (notes_of_a_hall hall u v are)) (both first second),
+)
+  where
+    both : u.is_written ≡ false → v.is_written ≡ false → All IsFalse (u.is_written ∷ v.is_written ∷ [])
+    both first second zero d low = first
+    both first second (suc zero) d low = second
+    both first second (suc (suc k)) d low = absurd (omega arith)
+
+-- cards are given by their reader, and their faults are those that they count
+cards_told : {R : Type 0} (cards : StdCards R) (reader : R) → let told : StdCards R = record cards { reader = reader; faults = 3 } in (reader_of told ≡ reader) × (faults_counted told ≡ 3)
+cards_told cards reader = (refl, refl)

@@ -1,5 +1,5 @@
 -- A RENAME statement on small shelves, and the prints behind it, computed by the definitions of Statement.antt. Each comment names a wrong definition that the case tells from the right one.
-use Rattle.std.proofs.Common.{◌≡◌, ◌≢◌, ◌≤◌, ◌∙◌, ⊎_elim, inl, inr, ℕ, Bool, true, false, List, [], ◌∷◌, codes, replicate, Option, Some, None, refl, ap, arith}
+use Rattle.std.proofs.Common.{◌≡◌, ◌≢◌, ◌≤◌, ◌∙◌, ⊎_elim, inl, inr, ℕ, Bool, true, false, List, [], ◌∷◌, ◌++◌, codes, replicate, Option, Some, None, refl, ap, arith}
 use Rattle.std.specs.Prelude.{Ok, Err, unwrap_or}
 use Rattle.std.specs.Fmt.{digits}
 use Rattle.ebcdic_names.specs.CodePage.{ascii_of, code_page}
@@ -20,7 +20,7 @@ use Rattle.vol_model.specs.declared.refusals.Refusal.{Refusal}
 use Rattle.vol_model.specs.declared.refusals.Refusal.TheVariants.{NoSet, NoVolume, SetExists, WrongKind}
 use Rattle.vol_model.specs.declared.requests.Op.{Op}
 use Rattle.vol_model.specs.declared.requests.Op.TheVariants as operations
-use Rattle.job_runner.specs.Statement.{ComesTo, OnlyPrints, answer_line, code_for, item_by, item_of, item_on, item_with, operation_on}
+use Rattle.job_runner.specs.Statement.{ComesTo, IsCode, OnlyPrints, answer_line, code_for, item_by, item_of, item_on, item_with, operation_on}
 
 -- the name A. and one letter
 abbrev a_dot : ℕ → Dsn
@@ -86,6 +86,10 @@ lines_of_answers = (refl, refl)
 -- each refusal has 8, and what is done 0
 codes_of_answers : (code_for (Ok tt) ≡ 0) × ((r : Refusal) → code_for (Err r) ≡ 8)
 codes_of_answers = (refl, λ r. refl)
+
+-- no other condition code is one, though others are multiples of 4 too
+condition_codes : IsCode 0 × IsCode 8 × (¬ IsCode 4) × (¬ IsCode 12) × (¬ IsCode 16)
+condition_codes = (inl refl, inr refl, (λ is. omega (arith, is)), (λ is. omega (arith, is)), λ is. omega (arith, is))
 
 -- an item has just the operations that it is given, in their order; line and code are by what it came to alone
 with_operations : item_with (renames a_b one a_d) (operations.Rename 1 a_b a_d ∷ operations.Rename 0 a_d a_c ∷ []) (Err NoSet) ≡ record { operations = operations.Rename 1 a_b a_d ∷ operations.Rename 0 a_d a_c ∷ []; lines = codes "00001 RENAME A.B NO-SET\n" ∷ []; code = 8 }
@@ -205,3 +209,11 @@ other_shelf shelf other apart prints = apart prints.state
 -- and what it promised holds, also of stops since that moment
 promise_lost : (shelf : Shelf) → ¬ OnlyPrints (standing true 7) (standing true 7) (shelf_at shelf 2) (shelf_at shelf 3) (Till 2) (Till 1)
 promise_lost shelf prints = let never : 2 ≤ 1 = prints.promise [] 2 [] (omega arith) (omega arith) in absurd (omega (arith, never))
+
+-- but not of stops since a later one, of which a machine may promise less
+later_stops : (shelf : Shelf) → OnlyPrints (standing true 7) (standing true 7) (shelf_at shelf 2) (shelf_at shelf 3) (Till 3) (Till 2)
+later_stops shelf = record { sound = refl; base = refl; later = omega arith; state = refl; promise = λ ops t files early was. early }
+
+-- and it holds by the same operations: a print begins none
+no_more_operations : (shelf : Shelf) → OnlyPrints (standing true 7) (standing true 7) (shelf_at shelf 2) (shelf_at shelf 3) (λ ops t files. ops ≡ []) (λ ops t files. ops ≡ [])
+no_more_operations shelf = record { sound = refl; base = refl; later = omega arith; state = refl; promise = λ ops t files early was. ap (λ (l : List Op). l ++ []) was }

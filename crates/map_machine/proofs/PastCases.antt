@@ -118,3 +118,26 @@ module _ (machine : MapMachine) where
 
   means : ((meaning_of machine).state ≡ machine.shelf) × ((meaning_of machine).printed ≡ machine.printed.items) × ((meaning_of machine).clock ≡ length machine.log.items)
   means = (refl, refl, refl)
+
+  -- with two prints on its record, of a byte each: since the first a stop leaves its byte, alone or with the other, and not neither
+  abbrev printed_two : MapMachine
+  printed_two = record machine {
+    printed = record machine.printed { len = 2; cap = 2; items = 65 ∷ 66 ∷ []; ok = (refl, omega arith); small = omega arith };
+    log = record machine.log { len = 2; cap = 2; items = Printed 0 ∷ Printed 1 ∷ []; ok = (refl, omega arith); small = omega arith };
+  }
+
+  left_since_the_first : (meaning_of printed_two).left_since 1 machine.shelf (65 ∷ []) × (meaning_of printed_two).left_since 1 machine.shelf (65 ∷ 66 ∷ []) × (meaning_of printed_two).left_since 0 machine.shelf []
+  left_since_the_first = ((1, lit≤ tt, lit≤ tt, refl, refl), (2, lit≤ tt, lit≤ tt, refl, refl), (0, lit≤ tt, lit≤ tt, refl, refl))
+
+  none_left_since_the_first : (shelf : Shelf) → ¬ (meaning_of printed_two).left_since 1 shelf []
+  none_left_since_the_first shelf (k, low, high, is, said) = text_by k low high said
+    where
+      text_by : (k : ℕ) → 1 ≤ k → k ≤ 2 → ¬ (moment_at printed_two.log.items (now_of printed_two) k).text ≡ []
+      text_by zero low high said = absurd (omega arith)
+      text_by (suc zero) low high said = absurd (cc said)
+      text_by (suc (suc zero)) low high said = absurd (cc said)
+      text_by (suc (suc (suc k))) low high said = absurd (omega arith)
+
+  -- and a stop now leaves the shelf that it holds alone
+  left_now : (shelf : Shelf) → (meaning_of printed_two).left shelf → shelf ≡ machine.shelf
+  left_now shelf left = left

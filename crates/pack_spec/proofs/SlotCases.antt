@@ -15,6 +15,7 @@ use Rattle.pack_spec.specs.Label.{address_at, are_label, ipl1, ipl2, is_inside, 
 use Rattle.pack_spec.specs.Vtoc.{first_slot, is_slot, is_vtoc_extent, slot_bytes, slots_in, vtoc_by}
 use Rattle.pack_spec.specs.Formats.{fault_or, is_data_set, slot_fault}
 use Rattle.pack_spec.specs.Slots.{addressed_from, counted_extents, extent_at, extent_count, first_extents, format_3_of, further_extents, has_chain, has_extents, has_types, is_chained, is_counted_type, is_extent, is_field_type, is_shared, lower_of, pointer_of, record_address, tracks_in, type_of, upper_of}
+use Rattle.pack_spec.specs.Volume.{data_set_of}
 
 -- the most cylinders of a 2314, each of twenty heads
 abbrev pack : Geometry
@@ -314,6 +315,16 @@ types_in_format_3 :
     × (has_types (further_of (own 0 3) (own 1 4) ∷ []) (set 4) ≡ false)
 unfolding has_types counted_extents first_extents further_extents format_3_of
 types_in_format_3 = (refl, refl, refl, refl)
+
+-- the extents of a data set are its own, and then those of its format 3 that it counts, in their order; where the pointer leads to no format 3 it has its own alone
+extents_of_set :
+    ((data_set_of pack (further_of (extent_of 3 7 4 1) (own 0x81 4) ∷ []) (set 5)).extents
+    ≡ record { start = 0; len = 1 } ∷ record { start = 1; len = 1 } ∷ record { start = 2; len = 1 } ∷ record { start = 67; len = 15 } ∷ record { start = 4; len = 1 } ∷ [])
+    × ((data_set_of pack (further_of (extent_of 3 7 4 1) (own 0x81 4) ∷ []) (set 4)).extents
+    ≡ record { start = 0; len = 1 } ∷ record { start = 1; len = 1 } ∷ record { start = 2; len = 1 } ∷ record { start = 67; len = 15 } ∷ [])
+    × ((data_set_of pack leads_astray (set 5)).extents ≡ record { start = 0; len = 1 } ∷ record { start = 1; len = 1 } ∷ record { start = 2; len = 1 } ∷ [])
+unfolding data_set_of counted_extents first_extents further_extents format_3_of
+extents_of_set = (refl, refl, refl)
 
 -- there too those that are counted lie on the pack, and the others may lie anywhere
 on_pack_in_format_3 :

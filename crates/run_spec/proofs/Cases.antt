@@ -17,6 +17,10 @@ refusals_final = (inl (omega arith), (inl (omega arith), inr refl))
 faults_not_final : (n : ℕ) → 22 ≤ n → n ≤ 25 → ¬ IsFinal n
 faults_not_final n low high final = ⊎_elim (λ (few : n ≤ 21). omega (arith, low, few)) (λ (deck : n ≡ 26). omega (arith, high, deck)) final
 
+-- nor is what stands behind the last
+behind_the_last : ¬ IsFinal 27
+behind_the_last final = ⊎_elim (λ (few : 27 ≤ 21). omega (arith, few)) (λ (deck : 27 ≡ 26). omega (arith, deck)) final
+
 -- 0, 8 and 20 to 26 are statuses; what stands between them is none, nor is what stands behind 26, or another condition code
 statuses : IsStatus 0 × (IsStatus 8 × (IsStatus 20 × IsStatus 26))
 statuses = (inl (inl refl), (inl (inr refl), (inr (omega arith, omega arith), inr (omega arith, omega arith))))
@@ -48,11 +52,17 @@ begun_none = (inl (omega arith, omega arith), (inl (omega arith, omega arith), (
 begun_some : (n : ℕ) → (n ≤ 16) ⊎ ((n ≡ 22) ⊎ ((n ≡ 24) ⊎ (n ≡ 25))) → ¬ IsUnbegun n
 begun_some n which is = ⊎_elim (λ few. omega (arith, which, few.0, few.1)) (λ more. omega (arith, which, more)) is
 
+begun_outside : (¬ IsUnbegun 19) × (¬ IsUnbegun 27)
+begun_outside = (⊎_elim (λ few. omega (arith, few.0)) (λ more. omega (arith, more)), ⊎_elim (λ few. omega (arith, few.1)) (λ more. omega (arith, more)))
+
 asked_none : IsUnasked 20 × (IsUnasked 23 × IsUnasked 26)
 asked_none = (inl refl, (inr (inl refl), inr (inr refl)))
 
 asked_some : IsUnasked 21 → ⊥
 asked_some is = ⊎_elim (λ (words : 21 ≡ 20). omega (arith, words)) (λ more. omega (arith, more)) is
+
+asked_else : (n : ℕ) → (n ≤ 16) ⊎ ((n ≡ 22) ⊎ ((n ≡ 24) ⊎ (n ≡ 25))) → ¬ IsUnasked n
+asked_else n which is = omega (arith, which, is)
 
 -- a run asks for its file, and so do names
 run_asks : file_asked (Run (codes "w.img")) ≡ codes "w.img"

@@ -175,6 +175,10 @@ cards_unread = none_on_a_file 23 (omega arith) (λ is. absurd (omega (arith, is)
 deck_refused : ¬ OnFile w (facts [] 3 4) (facts [] 3 4) 26
 deck_refused = none_on_a_file 26 (omega arith) (λ is. absurd (omega (arith, is))) (λ is. absurd (omega (arith, is))) (λ is. absurd (omega (arith, is))) (λ is. absurd (omega (arith, is)))
 
+-- and of condition codes there are two
+other_code : ¬ OnFile w (facts [] 3 4) (facts [] 3 4) 4
+other_code call = let which = call.which in absurd (omega (arith, which))
+
 -- it is the same hall
 other_hall : ¬ OnFile w (facts [] 3 4) (record (facts [] 3 4) { references = 6 ∷ [] }) 0
 other_hall call = let first = ap (λ (rs : List ℕ). get_or rs 0 0) call.references in absurd (omega (arith, first))

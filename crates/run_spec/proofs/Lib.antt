@@ -15,4 +15,5 @@ mod MountCases
 mod CaseRuns
 mod MadeCases
 mod StatementMadeCases
+mod SaidCases
 mod RequestMadeCases

@@ -124,9 +124,9 @@ mounts_not units {done = done} call attach_not other = ⊎_elim attach_not read_
     read_not (OfHeader long is) = other _ _ is
     read_not (OfLabel g header is) = other _ _ is
     read_not (OfVtoc g header label given inside behind (OfFirst is)) = other _ _ is
-    read_not (OfVtoc g header label given inside behind (OfOther vtoc extent (OfNext k low slots firsts tracks is))) = other _ _ is
+    read_not (OfVtoc g header label given inside behind (OfOther vtoc (OfNext k low slots firsts tracks is))) = other _ _ is
 
--- The file is attached, and the header of the first unit read: no other file, no other unit, no write, no read of the label's track where no header was given, and none of a header where no unit is attached.
+-- The file is attached, and the header of the first unit read: no other file, no other unit, no write, no read of the label's track where no header was given, and none of a header where no unit is attached. It is the size of the first that counts.
 file_is_attached_and_read :
     IsMountCall file one_unit nothing (Attaching file)
     × IsMountCall file one_unit nothing (Reading 0 0 512)
@@ -135,6 +135,7 @@ file_is_attached_and_read :
     × (¬ IsMountCall file one_unit gave_header (Writing 0 0 []))
     × (¬ IsMountCall file one_unit nothing (Reading 0 512 4096))
     × (¬ IsMountCall file [] nothing (Reading 0 0 512))
+    × IsMountCall file (record { name = codes "w.img"; size = 512 } ∷ record { name = codes "x.img"; size = 511 } ∷ []) nothing (Reading 0 0 512)
 unfolding nothing gave_header
 file_is_attached_and_read = (
   inl refl,
@@ -144,6 +145,7 @@ file_is_attached_and_read = (
   mounts_not one_unit _ (λ no. cc no) (λ at len no. cc no),
   ⊎_elim (λ is. cc is) (unread (λ is. let wrong : 512 ≡ 0 = ap (number 2) is in omega (arith, wrong))),
   ⊎_elim (λ is. cc is) small,
+  inr (OfHeader (omega arith) refl),
 )
   where
     no_header : {size : ℕ} {g : Geometry} → ¬ IsHeaderGiven (λ call. ⊥) 0 size g
@@ -191,7 +193,7 @@ file_is_missing = (Missing refl refl refl, unfound, another, there, unattached)
     no_reason (Unlabelled g header lacks is) = cc is
     no_reason (Outside g header label given out is) = cc is
     no_reason (OnLabel g header label given on is) = cc is
-    no_reason (NoVtoc g header label given inside why) = header_not header
+    no_reason (NoVtoc g header label given inside behind why) = header_not header
 
     there : ¬ IsUnmounted (λ call. call ≡ Lacking file) file one_unit mount.NoFile
     there (Missing none lacks is) = cc none
@@ -203,14 +205,17 @@ file_is_missing = (Missing refl refl refl, unfound, another, there, unattached)
     unattached (Unattached none is) = ⊎_elim (λ no. cc no) (λ no. cc no) is
     unattached (Unfit size one reason) = cc one
 
--- The device may have failed where no read gave anything, and memory have run out where no unit is attached. No label is said to be lacking where no read gave anything, and the unit isn't one of another name.
+-- The device may have failed where no read gave anything, or at the attachment, and memory have run out where no unit is attached. No label is said to be lacking where no read gave anything, nor is the header said to be cut short by another size than the file's; and the unit isn't one of another name, nor one of two.
 mount_is_cut_off :
     IsUnmounted nothing file one_unit mount.Device
     × IsUnmounted nothing file [] mount.Memory
+    × IsUnmounted nothing file [] mount.Device
     × (¬ IsUnmounted nothing file one_unit mount.NoLabel)
+    × (¬ IsUnmounted nothing file one_unit (mount.Image BadMagic))
     × (¬ IsUnmounted nothing (codes "x.img") one_unit mount.Device)
+    × (¬ IsUnmounted nothing file (record { name = codes "w.img"; size = 41472 } ∷ record { name = codes "x.img"; size = 41472 } ∷ []) mount.Device)
 unfolding nothing
-mount_is_cut_off = (Unfit 41472 refl (Cut (inl refl)), Unattached refl (inr refl), unread, other)
+mount_is_cut_off = (Unfit 41472 refl (Cut (inl refl)), Unattached refl (inr refl), Unattached refl (inl refl), unread, long, other, two)
   where
     header_not : {size : ℕ} {g : Geometry} → ¬ IsHeaderGiven (λ call. ⊥) 0 size g
     header_not (GivesHeader bytes long gave is) = gave
@@ -222,7 +227,7 @@ mount_is_cut_off = (Unfit 41472 refl (Cut (inl refl)), Unattached refl (inr refl
     no_reason (Unlabelled g header lacks is) = header_not header
     no_reason (Outside g header label given out is) = header_not header
     no_reason (OnLabel g header label given on is) = header_not header
-    no_reason (NoVtoc g header label given inside why) = header_not header
+    no_reason (NoVtoc g header label given inside behind why) = header_not header
 
     unread : ¬ IsUnmounted (λ call. ⊥) file one_unit mount.NoLabel
     unread (Missing none lacks is) = cc is
@@ -238,17 +243,43 @@ mount_is_cut_off = (Unfit 41472 refl (Cut (inl refl)), Unattached refl (inr refl
     other (Unattached none is) = cc none
     other (Unfit size one reason) = let wrong : 119 ≡ 120 = ap first_letter one in omega (arith, wrong)
 
--- A reason goes with the status of its print, of a fault of the printer and of want of memory, but not with that of a fault of the device; and such a fault goes with its own status alone, as want of memory does.
+    size_in : List Attached → ℕ
+    size_in [] = 0
+    size_in (unit ∷ units) = unit.size
+
+    no_header : {size : ℕ} → 41472 ≡ size → ¬ IsReasonGiven (λ call. ⊥) 0 size (mount.Image BadMagic)
+    no_header whole (Cut is) = ⊎_elim (λ no. cc no) (λ no. cc no) is
+    no_header whole (BadHeader (TooShort short is)) = omega (arith, whole, short)
+    no_header whole (BadHeader (NoGeometry bytes far gave why none is)) = gave
+    no_header whole (Unlabelled g header lacks is) = header_not header
+    no_header whole (Outside g header label given out is) = header_not header
+    no_header whole (OnLabel g header label given on is) = header_not header
+    no_header whole (NoVtoc g header label given inside behind why) = header_not header
+
+    long : ¬ IsUnmounted (λ call. ⊥) file one_unit (mount.Image BadMagic)
+    long (Missing none lacks is) = cc is
+    long (Unattached none is) = cc none
+    long (Unfit size one reason) = no_header (ap size_in one) reason
+
+    two : ¬ IsUnmounted (λ call. ⊥) file (record { name = codes "w.img"; size = 41472 } ∷ record { name = codes "x.img"; size = 41472 } ∷ []) mount.Device
+    two (Missing none lacks is) = cc none
+    two (Unattached none is) = cc none
+    two (Unfit size one reason) = let wrong : 2 ≡ 1 = ap length one in omega (arith, wrong)
+
+-- A reason goes with the status of its print, of a fault of the printer and of want of memory, but not with that of a fault of the device, nor of cards that can't be read; and such a fault goes with its own status alone, as want of memory does.
 refusal_has_its_status :
     (IsRefusalStatus mount.NoLabel 21 × IsRefusalStatus mount.NoLabel 24 × IsRefusalStatus mount.NoLabel 25)
-    × (¬ IsRefusalStatus mount.NoLabel 22)
+    × ((¬ IsRefusalStatus mount.NoLabel 22) × (¬ IsRefusalStatus mount.NoLabel 23))
     × IsRefusalStatus mount.Device 22
     × ((¬ IsRefusalStatus mount.Device 21) × (¬ IsRefusalStatus mount.Device 24) × (¬ IsRefusalStatus mount.Device 25))
     × IsRefusalStatus mount.Memory 25
     × ((¬ IsRefusalStatus mount.Memory 21) × (¬ IsRefusalStatus mount.Memory 22) × (¬ IsRefusalStatus mount.Memory 24))
 refusal_has_its_status = (
   (inr ((λ no. cc no), inr ((λ no. cc no), inl refl)), inr ((λ no. cc no), inr ((λ no. cc no), inr refl)), inr ((λ no. cc no), inl refl)),
-  ⊎_elim (λ is. cc is.0) (λ is. ⊎_elim (λ no. omega (arith, no)) (λ said. ⊎_elim (λ no. omega (arith, no)) (λ no. omega (arith, no)) said.1) is.1),
+  (
+    ⊎_elim (λ is. cc is.0) (λ is. ⊎_elim (λ no. omega (arith, no)) (λ said. ⊎_elim (λ no. omega (arith, no)) (λ no. omega (arith, no)) said.1) is.1),
+    ⊎_elim (λ is. cc is.0) (λ is. ⊎_elim (λ no. omega (arith, no)) (λ said. ⊎_elim (λ no. omega (arith, no)) (λ no. omega (arith, no)) said.1) is.1),
+  ),
   inl (refl, refl),
   (⊎_elim (λ is. omega (arith, is.1)) (λ is. is.0 refl), ⊎_elim (λ is. omega (arith, is.1)) (λ is. is.0 refl), ⊎_elim (λ is. omega (arith, is.1)) (λ is. is.0 refl)),
   inr ((λ no. cc no), inl refl),
@@ -259,20 +290,22 @@ refusal_has_its_status = (
   ),
 )
 
--- The statuses of the device, the printer and memory say that a run was cut off; that of a refusal doesn't, nor does 0, nor does 23 between them, which is that of cards that can't be read.
-status_is_cut_off : (IsCutOff 22 × IsCutOff 24 × IsCutOff 25) × (¬ IsCutOff 21) × (¬ IsCutOff 0) × (¬ IsCutOff 23)
-status_is_cut_off = ((inl refl, inr (inl refl), inr (inr refl)), (λ no. omega (arith, no)), (λ no. omega (arith, no)), λ no. omega (arith, no))
+-- The statuses of the device, the printer and memory say that a run was cut off; that of a refusal doesn't, of the file or of the deck, nor does 0, nor does 23 between them, which is that of cards that can't be read.
+status_is_cut_off : (IsCutOff 22 × IsCutOff 24 × IsCutOff 25) × (¬ IsCutOff 21) × (¬ IsCutOff 0) × (¬ IsCutOff 23) × (¬ IsCutOff 26)
+status_is_cut_off = ((inl refl, inr (inl refl), inr (inr refl)), (λ no. omega (arith, no)), (λ no. omega (arith, no)), (λ no. omega (arith, no)), λ no. omega (arith, no))
 
--- A refusal is printed for its own cause, and none for a fault of the device or want of memory.
+-- A refusal is printed for its own cause and of its own file, and none for a fault of the device or want of memory.
 refusal_is_printed_for_its_cause :
     IsRefusalPrint file mount.NoFile (Printing (codes "VOLMAN UNIT w.img NO-FILE\n"))
     × (¬ IsRefusalPrint file mount.NoFile (Printing (codes "VOLMAN UNIT w.img NO-LABEL\n")))
+    × (¬ IsRefusalPrint file mount.NoFile (Printing (codes "VOLMAN UNIT x.img NO-FILE\n")))
     × (¬ IsRefusalPrint file mount.Device (Printing (codes "VOLMAN UNIT w.img DEVICE\n")))
     × (¬ IsRefusalPrint file mount.Memory (Printing (codes "VOLMAN UNIT w.img MEMORY\n")))
 unfolding unit_line reason_of
 refusal_is_printed_for_its_cause = (
   ((λ is. cc is), (λ is. cc is), refl),
   λ is. let wrong : 76 ≡ 70 = ap (number 22) is.2 in omega (arith, wrong),
+  λ is. let wrong : 120 ≡ 119 = ap (number 13) is.2 in omega (arith, wrong),
   λ is. is.1 refl,
   λ is. is.0 refl,
 )

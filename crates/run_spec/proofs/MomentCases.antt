@@ -71,6 +71,15 @@ is_synced = record {
   moments = record { later = omega arith; moments = λ t j p early left. inl left; keeps = λ t j p early left. left };
 }
 
+-- a stop in it may leave what was pending before it, though none did until then, and nothing is pending behind it
+left_in_a_sync : Synced (record pending { left_since = λ t j p. ⊥ }) synced 0
+left_in_a_sync = record {
+  state = refl;
+  printed = refl;
+  durable = λ other j left. left;
+  moments = record { later = omega arith; moments = λ t j p early left. inr left; keeps = λ t j p early left. absurd left };
+}
+
 -- failed, all may be pending as before
 sync_failed : Synced pending pending 22
 sync_failed = record {

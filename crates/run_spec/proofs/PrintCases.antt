@@ -85,7 +85,7 @@ text_on_the_way keeps =
 time_back : ¬ KeepsFiles (codes "AB") (at_rest files [] 2) (printing (codes "AB") (codes "AB"))
 time_back keeps = absurd (omega (arith, keeps.moments.later))
 
--- all of the text is printed but where the printer failed, also with want of memory
+-- all of the text is printed but where the printer failed, also with want of memory or a fault of the device
 all_but_24 : PrintsText (codes "AB") before (printing (codes "AB") (codes "A")) 24
 all_but_24 = record { done = λ other. absurd (other refl); files = part_printed }
 
@@ -94,6 +94,9 @@ part_with_0 prints = absurd (omega (arith, ap length (prints.done (λ is. absurd
 
 part_with_25 : ¬ PrintsText (codes "AB") before (printing (codes "AB") (codes "A")) 25
 part_with_25 prints = absurd (omega (arith, ap length (prints.done (λ is. absurd (omega (arith, is))))))
+
+part_with_22 : ¬ PrintsText (codes "AB") before (printing (codes "AB") (codes "A")) 22
+part_with_22 prints = absurd (omega (arith, ap length (prints.done (λ is. absurd (omega (arith, is))))))
 
 -- behind what was printed before, not in its place
 abbrev printing_behind : List ℕ → Meaning (List File)

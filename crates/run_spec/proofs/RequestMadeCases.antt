@@ -1,14 +1,13 @@
 -- The calls of a run by what is asked for, on runs that a near reading of Made.antt answers otherwise. Each comment names what such a reading would let through.
-use Rattle.std.proofs.Common.{◌≡◌, ◌≤◌, ⊎_elim, inl, inr, ℕ, List, [], ◌∷◌, codes, drop, length, replicate, take, Some, None, refl, sym, ap, subst, ◌∙◌, arith}
+use Rattle.std.proofs.Common.{◌≡◌, ◌≤◌, ⊎_elim, inl, inr, ℕ, zero, suc, List, [], ◌∷◌, codes, drop, replicate, take, Some, None, refl, sym, ap, subst, ◌∙◌, arith}
 use Rattle.std.specs.Prelude.{◌⊎◌, ⊤, Option, option_and_then, Result, Ok, Err}
-use Rattle.ckd_image.specs.Header.{geometry_of}
+use Rattle.ckd_image.specs.Header.{geometry_of, geometry_on}
 use Rattle.ckd_image.specs.declared.header.Geometry.{Geometry}
 use Rattle.ckd_image.specs.declared.header.ImageErr.{ImageErr}
+use Rattle.ckd_image.specs.declared.header.ImageErr.TheVariants.{BadMagic}
 use Rattle.ckd_image.specs.Reading.{is_front, records_of, records_to_end, records_up_to}
 use Rattle.dscb_codec.specs.declared.Dscb.{Dscb}
-use Rattle.dscb_codec.specs.declared.Dscb.TheVariants as formats
-use Rattle.dscb_codec.specs.declared.F1.{F1}
-use Rattle.hall_core.specs.Facts.{Attached, Calls, CallsAtMost, uncounted}
+use Rattle.hall_core.specs.Facts.{Attached, Calls, CallsAtMost, unit_of}
 use Rattle.hall_core.specs.Made.{DoneSince, HallCall, HasDone, Does, MakesOnly, StaysDone, Attaching, Giving, Lacking, Printing, Reading, Syncing}
 use Rattle.pack_spec.specs.declared.MountErr.{MountErr}
 use Rattle.pack_spec.specs.declared.MountErr.TheVariants as mount
@@ -16,143 +15,28 @@ use Rattle.pack_spec.specs.Label.{label_in, track_bytes}
 use Rattle.pack_spec.specs.Written.{label_bytes}
 use Rattle.track_records.specs.Calls.{Gives, records_by}
 use Rattle.util_syntax.specs.declared.statement.Rename.{Rename}
-use Rattle.vtoc_index.specs.Given.{AreGiven, IsExtentGiven, IsHeaderGiven, IsIndexGiven, IsLabelGiven, IsReasonGiven, Cut, BadHeader, GivesHeader, NoGeometry, NoVtoc, OfFirst, OfHeader, OfLabel, OfNext, OfOther, OfVtoc, OnLabel, Outside, TooShort, Unlabelled}
+use Rattle.vtoc_index.specs.Given.{AreOfVtoc, IsExtentGiven, IsHeaderGiven, IsIndexGiven, IsLabelGiven, IsMountRead, IsReasonGiven, Cut, BadHeader, GivesHeader, NoGeometry, NoVtoc, OfFirst, OfHeader, OfLabel, OfNext, OfOther, OfVtoc, OnLabel, Outside, TooShort, Unlabelled}
 use Rattle.vtoc_index.specs.Index.{IsOfUnit}
 use Rattle.vtoc_index.specs.declared.vol.Vol.{Vol}
 use Rattle.vtoc_index.proofs.GivenCases.{first_is_there, gave_all, gave_some, holding, index_is_given, label_is_there, zeros_are_no_label}
 use Rattle.vtoc_index.proofs.GivenLemmas.{index_still, reason_still}
-use Rattle.vtoc_index.proofs.TracksGiven.{given_one}
-use Rattle.vtoc_index.proofs.SmallPack.{first_track, format_4, format_5, header_is_read, image, index, one_cylinder, pack01, slot_on, two_tracks}
-use Rattle.run_spec.specs.Lines.{deck_line, reason_of, unit_line, words_line}
-use Rattle.run_spec.specs.Made.{Answered, CallsOfStatement, Formless, IsMountCall, IsNamesPrint, IsRefusalPrint, IsRefusalStatus, IsStatementCall, Makes, MakesEach, Mounts, OnPack, OnRequest, OnStatement, Operates, Refuses, SaysNames, SaysOnly, SaysWhy, Stated, Unread}
+use Rattle.vtoc_index.proofs.TracksGiven.{of_vtoc_one}
+use Rattle.vtoc_index.proofs.SmallPack.{first_track, format_4, format_5, header_is_read, image, one_cylinder, pack01, slot_on, two_tracks}
+use Rattle.run_spec.specs.Lines.{deck_line, unit_line, words_line}
+use Rattle.run_spec.specs.Made.{Answered, CallsOfStatement, Faulted, Formless, IsMountCall, IsNamesPrint, IsRefusalPrint, IsStatementCall, Mounts, OnPack, OnRequest, OnStatement, Operates, RanOut, Refuses, Stated, Unprinted, Unread}
 use Rattle.run_spec.specs.Mount.{IsUnmounted, Missing, Unattached, Unfit}
 use Rattle.run_spec.specs.Words.{Names, Request, Run}
 use Rattle.run_spec.proofs.CaseRuns.{AreApart, IsIn, calls, done, done_later, done_ever, made, made_once, none_printed, number, numbers_in, once, synced, told_lacking, unmade, weight}
-use Rattle.run_spec.proofs.MadeCases.{c_is_put, file, mounts_not, names_are_printed, one_unit, short, statement}
+use Rattle.run_spec.proofs.MadeCases.{c_is_put, file, mounts_not, one_unit, short, statement}
 use Rattle.run_spec.proofs.StatementMadeCases.{at_most, ok_line, renaming, sync_is_made, write, written}
+use Rattle.run_spec.proofs.SaidCases.{Each, Lists, Why, cut_off_is_not_said, print_alone}
 
--- what was called from a moment of a run on to another
-abbrev Each : List HallCall → (HallCall → Type 0) → ℕ → ℕ → Type 0
-Each run = MakesEach (made run) (done run) (synced run) (calls run)
-
-abbrev Says : List HallCall → List ℕ → ℕ → ℕ → ℕ → ℕ → Type 0
-Says run = SaysOnly (made run) (done run) (synced run) (calls run)
-
-abbrev Why : List HallCall → MountErr → ℕ → ℕ → ℕ → Type 0
-Why run = SaysWhy (made run) (done run) (synced run) (calls run) file
-
-abbrev Lists : List HallCall → Vol → ℕ → ℕ → ℕ → Type 0
-Lists run = SaysNames (made run) (done run) (synced run) (calls run)
-
+-- what was called over the file of a pack, and for what is asked, from a moment of a run on to another
 abbrev Pack : List HallCall → List Attached → ℕ → (Vol → ℕ → Type 0) → ℕ → ℕ → Type 0
 Pack run = OnPack (made run) (done run) (synced run) (calls run) file
 
 abbrev Asked : List HallCall → Option Request → (Option Rename → Type 0) → List Attached → ℕ → ℕ → ℕ → Type 0
 Asked run = OnRequest (made run) (done run) (synced run) (calls run)
-
--- ---- a call, and a print
-
--- A call is made once, and no other: not twice.
-call_is_made_once :
-    Each (Attaching file ∷ []) (λ call. call ≡ Attaching file) 0 1
-    × (¬ Each (Attaching file ∷ Attaching file ∷ []) (λ call. call ≡ Attaching file) 0 2)
-    × (¬ Each (Attaching file ∷ Syncing ∷ []) (λ call. call ≡ Attaching file) 0 2)
-call_is_made_once = (
-  record { only = λ call other. let none = unmade (Attaching file) call other in omega (arith, none); once = once (Attaching file ∷ []) (refl, tt); kept = done_later (Attaching file ∷ []) 0 1 (omega arith) },
-  λ each. let twice : made (Attaching file ∷ Attaching file ∷ []) 2 (Attaching file) ≤ 1 = each.once (Attaching file) in omega (arith, twice, made_once (Attaching file) refl),
-  λ each. let more : made (Attaching file ∷ Syncing ∷ []) 2 Syncing ≤ 0 = each.only Syncing (λ no. cc no) in omega (arith, more, made_once Syncing refl),
-)
-
--- What was done is done still: from a hall where a read gave bytes none leads to one of which that isn't said.
-what_was_done_is_kept : ¬ Makes {T = ℕ} (λ n call. 0) (λ n call. (n ≡ 1) × (call ≡ Giving 0 0 0 [])) (λ n. ⊤) (λ n. uncounted) (λ call. ⊤) 1 2
-what_was_done_is_kept makes = let still = (makes.kept (Giving 0 0 0 []) (refl, refl)).0 in omega (arith, still)
-
--- one print of a text is only that
-print_alone : (these : HallCall → Type 0) (text : List ℕ) → these (Printing text) → Each (Printing text ∷ []) these 0 1
-print_alone these text is = record { only = λ call other. let none = unmade (Printing text) call (λ same. other (subst these (sym same) is)) in omega (arith, none); once = once (Printing text ∷ []) (refl, tt); kept = done_later (Printing text ∷ []) 0 1 (omega arith) }
-
--- no call is any
-none_alone : (run : List HallCall) (these : HallCall → Type 0) (n : ℕ) → Each run these n n
-none_alone run these n = record { only = λ call other. omega arith; once = λ call. omega arith; kept = λ call was. was }
-
--- With its status the text was printed: not where nothing was, nor another text; it isn't printed twice, and nothing is synced; and no status is given but that or one of a fault of the printer or of memory.
-text_is_said :
-    (text : List ℕ)
-    → Says (Printing text ∷ []) text 20 20 0 1
-    × Says (Printing text ∷ []) text 20 24 0 0
-    × (¬ Says (Printing text ∷ []) text 20 20 0 0)
-    × (¬ Says (Printing (9 ∷ text) ∷ []) text 20 20 0 1)
-    × (¬ Says (Printing text ∷ Printing text ∷ []) text 20 20 0 2)
-    × (¬ Says (Printing text ∷ Syncing ∷ []) text 20 20 0 2)
-    × (¬ Says (Printing text ∷ []) text 20 22 0 1)
-text_is_said text = (
-  record { print = print_alone (λ call. call ≡ Printing text) text refl; said = λ is. inl refl; status_is = inl refl },
-  record { print = none_alone (Printing text ∷ []) (λ call. call ≡ Printing text) 0; said = λ is. absurd (omega (arith, is)); status_is = inr (inl refl) },
-  λ says. says.said refl,
-  λ says. let more : made (Printing (9 ∷ text) ∷ []) 1 (Printing (9 ∷ text)) ≤ 0 = says.print.only (Printing (9 ∷ text)) (λ no. longer no) in omega (arith, more, made_once (Printing (9 ∷ text)) refl),
-  λ says. let twice : made (Printing text ∷ Printing text ∷ []) 2 (Printing text) ≤ 1 = says.print.once (Printing text) in omega (arith, twice, made_once (Printing text) refl),
-  λ says. let more : made (Printing text ∷ Syncing ∷ []) 2 Syncing ≤ 0 = says.print.only Syncing (λ no. cc no) in omega (arith, more, made_once Syncing refl),
-  λ says. let no = says.status_is in omega (arith, no),
-)
-  where
-    longer : ¬ (Printing (9 ∷ text) ≡ Printing text)
-    longer is = let wrong = ap (λ (call : HallCall). length (numbers_in call)) is in omega (arith, wrong)
-
--- ---- why a file is refused
-
--- With 21 the line of the reason was printed: not where nothing was, nor where that of another reason was; it isn't printed twice, and nothing is synced with it; and with 22 the device failed, and then none is printed.
-reason_is_said :
-    Why (Printing (unit_line file mount.NoLabel) ∷ []) mount.NoLabel 21 0 1
-    × Why [] mount.Device 22 0 0
-    × (¬ Why [] mount.NoLabel 21 0 0)
-    × (¬ Why (Printing (unit_line file mount.NoFile) ∷ []) mount.NoLabel 21 0 1)
-    × (¬ Why (Printing (unit_line file mount.Device) ∷ []) mount.Device 22 0 1)
-    × (¬ Why (Printing (unit_line file mount.NoLabel) ∷ Syncing ∷ []) mount.NoLabel 21 0 2)
-    × (¬ Why (Printing (unit_line file mount.NoLabel) ∷ Printing (unit_line file mount.NoLabel) ∷ []) mount.NoLabel 21 0 2)
-unfolding unit_line reason_of
-reason_is_said = (
-  record { print = print_alone (IsRefusalPrint file mount.NoLabel) _ ((λ no. cc no), (λ no. cc no), refl); said = λ is. inl refl; status_is = inr ((λ no. cc no), inr ((λ no. cc no), inl refl)) },
-  record { print = none_alone [] (IsRefusalPrint file mount.Device) 0; said = λ is. absurd (omega (arith, is)); status_is = inl (refl, refl) },
-  λ why. why.said refl,
-  λ why. ⊎_elim (λ is. let wrong : 76 ≡ 70 = ap (number 22) is in omega (arith, wrong)) (λ no. no) (why.said refl),
-  λ why. let more : made (Printing (unit_line file mount.Device) ∷ []) 1 (Printing (unit_line file mount.Device)) ≤ 0 = why.print.only (Printing (unit_line file mount.Device)) (λ is. is.1 refl) in omega (arith, more, made_once (Printing (unit_line file mount.Device)) refl),
-  λ why. let more : made (Printing (unit_line file mount.NoLabel) ∷ Syncing ∷ []) 2 Syncing ≤ 0 = why.print.only Syncing (λ no. cc no.2) in omega (arith, more, made_once Syncing refl),
-  λ why. let line : HallCall = Printing (unit_line file mount.NoLabel) in let twice : made (line ∷ line ∷ []) 2 line ≤ 1 = why.print.once line in omega (arith, twice, made_once line refl),
-)
-
--- a fault of the device and want of memory don't have the status of a line
-cut_off_is_not_said : (why : MountErr) → (why ≡ mount.Device) ⊎ (why ≡ mount.Memory) → ¬ IsRefusalStatus why 21
-cut_off_is_not_said why cut =
-    ⊎_elim
-    (λ device. omega (arith, device.1))
-    (λ other. ⊎_elim (λ no. omega (arith, no)) (λ said. ⊎_elim (λ device. other.0 device) (λ memory. said.0 memory) cut) other.1)
-
--- ---- the names of a pack
-
-module _ (any : Vol) (set : F1) where
-  -- an index whose slots have one set
-  abbrev one_set : Vol
-  one_set = record (index any) { slots = record (index any).slots { len = 2; cap = 2; items = formats.F1 (record set { name = short }) ∷ formats.F0 ∷ []; ok = (refl, omega arith); small = omega arith } }
-
-  -- With 0 the names were printed: not where nothing was, not with a sync, and not twice; and no status is given but that or one of a fault of the printer or of memory.
-  names_are_said :
-      Lists (Printing (codes "A\n") ∷ []) one_set 0 0 1
-      × Lists [] one_set 24 0 0
-      × (¬ Lists [] one_set 0 0 0)
-      × (¬ Lists (Printing (codes "A\n") ∷ Syncing ∷ []) one_set 0 0 2)
-      × (¬ Lists [] one_set 21 0 0)
-      × (¬ Lists (Printing (codes "A\n") ∷ Printing (codes "A\n") ∷ []) one_set 0 0 2)
-  names_are_said = (
-    record { print = print_alone (IsNamesPrint one_set.slots.items) _ (names_are_printed set); said = λ is. Does _ (names_are_printed set) (inl refl); status_is = inl refl },
-    record { print = none_alone [] (IsNamesPrint one_set.slots.items) 0; said = λ is. absurd (omega (arith, is)); status_is = inr (inl refl) },
-    λ lists. none_done (lists.said refl),
-    λ lists. let more : made (Printing (codes "A\n") ∷ Syncing ∷ []) 2 Syncing ≤ 0 = lists.print.only Syncing (λ no. cc no.2) in omega (arith, more, made_once Syncing refl),
-    λ lists. let no = lists.status_is in omega (arith, no),
-    λ lists. let twice : made (Printing (codes "A\n") ∷ Printing (codes "A\n") ∷ []) 2 (Printing (codes "A\n")) ≤ 1 = lists.print.once (Printing (codes "A\n")) in omega (arith, twice, made_once (Printing (codes "A\n")) refl),
-  )
-    where
-      none_done : ¬ HasDone (IsNamesPrint one_set.slots.items) (λ call. ⊥)
-      none_done (Does call is was) = was
 
 -- ---- the file of a pack
 
@@ -186,9 +70,9 @@ module _ (rest : List HallCall) where
   unfolding track_bytes records_of is_front records_to_end records_up_to
   extent_there = Gives (track_bytes image one_cylinder 1) refl (inr (inr (inr (inr (inr (inr (inl refl))))))) refl
 
-  first_there : AreGiven Mounted 0 one_cylinder 1 1 (slot_on 1 1 format_4 ∷ slot_on 1 2 format_5 ∷ []) (0 ∷ [])
+  first_there : AreOfVtoc Mounted 0 one_cylinder first_track two_tracks 1 (slot_on 1 1 format_4 ∷ slot_on 1 2 format_5 ∷ []) (0 ∷ [])
   unfolding track_bytes
-  first_there = given_one Mounted 0 one_cylinder 1 (format_4 ∷ format_5 ∷ []) (Gives (track_bytes image one_cylinder 1) refl (inr (inr (inr (inr (inr (inr (inl refl))))))) first_is_there)
+  first_there = of_vtoc_one Mounted 0 one_cylinder first_track two_tracks (format_4 ∷ format_5 ∷ []) extent_there (Gives (track_bytes image one_cylinder 1) refl (inr (inr (inr (inr (inr (inr (inl refl))))))) first_is_there) refl
 
   gave_these : StaysDone gave_all Mounted
   unfolding gave_all gave_some
@@ -211,7 +95,7 @@ module _ (rest : List HallCall) where
           let header = unmade (Reading 0 0 512) call (λ is. other (inr (OfHeader (omega arith) is))) in
           let label = unmade (Reading 0 512 4096) call (λ is. other (inr (OfLabel one_cylinder header_there is))) in
           let first = unmade (Reading 0 4608 4096) call (λ is. other (inr (OfVtoc one_cylinder header_there (label_bytes pack01 first_track) label_there refl (omega arith) (OfFirst is)))) in
-          let second = unmade (Reading 0 8704 4096) call (λ is. other (inr (OfVtoc one_cylinder header_there (label_bytes pack01 first_track) label_there refl (omega arith) (OfOther two_tracks extent_there (OfNext 1 (omega arith) _ _ first_there is))))) in
+          let second = unmade (Reading 0 8704 4096) call (λ is. other (inr (OfVtoc one_cylinder header_there (label_bytes pack01 first_track) label_there refl (omega arith) (OfOther two_tracks (OfNext 1 (omega arith) _ _ first_there is))))) in
           omega (arith, attach, header, label, first, second)
 
   -- its index is what these reads gave
@@ -234,6 +118,11 @@ is_of_unit any = record {
 -- What acts by the index of the pack does so behind the reads that gave it.
 pack_is_acted_on : (any : Vol) (rest : List HallCall) (status : ℕ) (acts : Vol → ℕ → Type 0) (n : ℕ) → acts (holding any) 9 → Pack (mounting rest) one_unit status acts 0 n
 pack_is_acted_on any rest status acts n does = Mounts 9 (pack_is_mounted rest) (holding any) (is_of_unit any) (index_there rest any) does
+
+-- And the index is one of an attached unit: none acts whose buffer is of another unit than its own.
+buffer_is_of_the_unit : (run : List HallCall) (n : ℕ) → ¬ Pack run one_unit 0 (λ vol mid. ¬ (vol.buf.unit ≡ vol.unit)) 0 n
+buffer_is_of_the_unit run n (Refuses mid each why unmounted said) = let no = said.status_is in omega (arith, no)
+buffer_is_of_the_unit run n (Mounts mid each vol of_unit given other) = other of_unit.buffer.1
 
 -- nothing is found lacking; an attachment finds no such file; the reads give a good header; or that, and a track of zeros for the label's; and then a text is printed
 abbrev unfound : List ℕ → List HallCall
@@ -346,7 +235,7 @@ unread_reason text e (BadHeader (NoGeometry bytes long gave why none is)) = absu
 unread_reason text e (Unlabelled g header (Gives bytes size gave lacks) is) = let at = (given_unread text gave).0 in absurd (omega (arith, at))
 unread_reason text e (Outside g header label (Gives bytes size gave given) out is) = let at = (given_unread text gave).0 in absurd (omega (arith, at))
 unread_reason text e (OnLabel g header label (Gives bytes size gave given) there is) = let at = (given_unread text gave).0 in absurd (omega (arith, at))
-unread_reason text e (NoVtoc g header label (Gives bytes size gave given) inside why) = let at = (given_unread text gave).0 in absurd (omega (arith, at))
+unread_reason text e (NoVtoc g header label (Gives bytes size gave given) inside behind why) = let at = (given_unread text gave).0 in absurd (omega (arith, at))
 
 -- and behind one and a track of zeros none but that the label is lacking
 unlabelled_reason : (text : List ℕ) (e : MountErr) → IsReasonGiven (IsIn (unlabelled text)) 0 41472 e → ((e ≡ mount.Device) ⊎ (e ≡ mount.Memory)) ⊎ (e ≡ mount.NoLabel)
@@ -371,7 +260,7 @@ unlabelled_reason text e why = reason why
     reason (Unlabelled g header lacks is) = inr is
     reason (Outside g header label given out is) = absurd (unlabelled_so label header given)
     reason (OnLabel g header label given there is) = absurd (unlabelled_so label header given)
-    reason (NoVtoc g header label given inside why) = absurd (unlabelled_so label header given)
+    reason (NoVtoc g header label given inside behind why) = absurd (unlabelled_so label header given)
 
 -- why a file isn't mounted that is attached and of that size, by all that was done
 unmounted_by : (run : List HallCall) (mid : ℕ) {why : MountErr} → IsUnmounted (done run mid) file one_unit why → IsReasonGiven (IsIn run) 0 41472 why
@@ -436,6 +325,106 @@ nothing_acts_unread text acts (Mounts mid each vol of_unit given does) = unlabel
     unlabelled_so : ¬ IsLabelGiven (done (unread text) mid) vol.unit vol.geometry given.label
     unlabelled_so (Gives bytes size gave is) = let at = (given_unread text (done_ever (unread text) mid _ gave)).0 in omega (arith, at)
 
+-- Nothing is synced where a file is refused, not even before its attachment.
+nothing_is_synced_before : (text : List ℕ) → ¬ Asked (Syncing ∷ missing text) (Some (Names file)) (λ deck. ⊤) [] 21 0 4
+nothing_is_synced_before text (Refuses mid each why unmounted said) =
+    let run : List HallCall = Syncing ∷ missing text in
+    let before : made run mid Syncing ≤ 0 = each.only Syncing (mounts_not [] Syncing (λ no. cc no) (λ at len no. cc no)) in
+    let all : made run 4 Syncing ≤ made run mid Syncing = said.print.only Syncing (λ no. cc no.2) in
+    omega (arith, before, all, made_once Syncing refl)
+nothing_is_synced_before text (Mounts mid each vol of_unit given lists) = let no = lists.status_is in omega (arith, no)
+
+-- no call that mounts a pack is a print or a sync
+mount_prints_not : (units : List Attached) {done : HallCall → Type 0} (text : List ℕ) → ¬ IsMountCall file units done (Printing text)
+mount_prints_not units text = mounts_not units (Printing text) (λ no. cc no) (λ at len no. cc no)
+
+mount_syncs_not : (units : List Attached) {done : HallCall → Type 0} → ¬ IsMountCall file units done Syncing
+mount_syncs_not units = mounts_not units Syncing (λ no. cc no) (λ at len no. cc no)
+
+-- a text is printed before the file is found to be lacking, before the reads that mount the pack, or before another read gives a good header than the one behind which the label's track was read
+abbrev lacking_late : List ℕ → List HallCall
+lacking_late text = Attaching file ∷ Printing text ∷ Lacking file ∷ []
+
+abbrev mounted_late : List ℕ → List HallCall
+mounted_late text = Attaching file ∷ Printing text ∷ drop 1 (mounting [])
+
+abbrev label_early : List ℕ → List HallCall
+label_early text = Attaching file ∷ Reading 0 0 512 ∷ Giving 0 0 0 (replicate 512 0) ∷ Reading 0 512 4096 ∷ Printing text ∷ Giving 1 0 0 (take 512 image) ∷ []
+
+zeros_are_no_header : ◌≡◌ {A = Result Geometry ImageErr} (geometry_of (replicate 512 0) 41472) (Err BadMagic)
+unfolding geometry_of geometry_on
+zeros_are_no_header = refl
+
+-- What a reason, an index and a read go by was told before the text is printed, and not behind it.
+nothing_goes_by_what_is_told_later :
+    (text : List ℕ) (acts : Vol → ℕ → Type 0)
+    → (¬ Pack (lacking_late text) [] 21 acts 0 3)
+    × (¬ Pack (mounted_late text) one_unit 0 acts 0 10)
+    × (¬ Pack (label_early text) one_unit 21 acts 0 6)
+unfolding bytes_in
+nothing_goes_by_what_is_told_later text acts = (lacking_not, mounted_not, label_not)
+  where
+    line : HallCall
+    line = Printing text
+
+    lacks_not : (mid : ℕ) → made (lacking_late text) mid line ≤ 0 → ¬ done (lacking_late text) mid (Lacking file)
+    lacks_not zero unsaid lacks = lacks
+    lacks_not (suc zero) unsaid lacks = ⊎_elim (λ no. cc no) (λ no. no) lacks
+    lacks_not (suc (suc mid)) unsaid lacks = omega (arith, unsaid, made_once line refl)
+
+    lacking_not : ¬ Pack (lacking_late text) [] 21 acts 0 3
+    lacking_not (Refuses mid each why (Missing none lacks is) said) = lacks_not mid (each.only line (mount_prints_not [] text)) lacks
+    lacking_not (Refuses mid each why (Unattached none is) said) = cut_off_is_not_said why is said.status_is
+    lacking_not (Refuses mid each why (Unfit size one reason) said) = absurd (cc one)
+    lacking_not (Mounts mid each vol of_unit given does) = let none = of_unit.attached in omega (arith, none)
+
+    header_not : (mid : ℕ) → made (mounted_late text) mid line ≤ 0 → {size : ℕ} {g : Geometry} → ¬ IsHeaderGiven (done (mounted_late text) mid) 0 size g
+    header_not zero unsaid (GivesHeader bytes long gave is) = gave
+    header_not (suc zero) unsaid (GivesHeader bytes long gave is) = ⊎_elim (λ no. cc no) (λ no. no) gave
+    header_not (suc (suc mid)) unsaid given = omega (arith, unsaid, made_once line refl)
+
+    mounted_not : ¬ Pack (mounted_late text) one_unit 0 acts 0 10
+    mounted_not (Refuses mid each why unmounted said) = let no = said.status_is in omega (arith, no)
+    mounted_not (Mounts mid each vol of_unit given does) =
+        let first : vol.unit ≡ 0 = omega (arith, of_unit.attached) in
+        header_not mid (each.only line (mount_prints_not one_unit text)) (subst (λ (u : ℕ). IsHeaderGiven (done (mounted_late text) mid) u (unit_of one_unit u).size vol.geometry) first given.header)
+
+    label : HallCall
+    label = Reading 0 512 4096
+
+    zeros_given : {bytes : List ℕ} → {before unit at : ℕ} → done (label_early text) 4 (Giving before unit at bytes) → bytes ≡ replicate 512 0
+    zeros_given = ⊎_elim (λ no. absurd (cc no)) (⊎_elim (λ no. absurd (cc no)) (⊎_elim (λ is. ap bytes_in is) (⊎_elim (λ no. absurd (cc no)) (λ no. absurd no))))
+
+    zeros_not : (mid : ℕ) → StaysDone (done (label_early text) mid) (done (label_early text) 4) → {g : Geometry} → ¬ IsHeaderGiven (done (label_early text) mid) 0 41472 g
+    zeros_not mid up_to {g} (GivesHeader bytes long gave is) =
+        let wrong : ◌≡◌ {A = Result Geometry ImageErr} (Err BadMagic) (Ok g) = sym zeros_are_no_header ∙ ap (λ (l : List ℕ). geometry_of l 41472) (sym (zeros_given (up_to _ gave))) ∙ is in
+        cc wrong
+
+    header_bad : (mid : ℕ) → made (label_early text) mid line ≤ 0 → {g : Geometry} → ¬ IsHeaderGiven (done (label_early text) mid) 0 41472 g
+    header_bad zero unsaid given = zeros_not 0 (done_later (label_early text) 0 4 (omega arith)) given
+    header_bad (suc zero) unsaid given = zeros_not 1 (done_later (label_early text) 1 4 (omega arith)) given
+    header_bad (suc (suc zero)) unsaid given = zeros_not 2 (done_later (label_early text) 2 4 (omega arith)) given
+    header_bad (suc (suc (suc zero))) unsaid given = zeros_not 3 (done_later (label_early text) 3 4 (omega arith)) given
+    header_bad (suc (suc (suc (suc zero)))) unsaid given = zeros_not 4 (done_later (label_early text) 4 4 (omega arith)) given
+    header_bad (suc (suc (suc (suc (suc mid))))) unsaid given = omega (arith, unsaid, made_once line refl)
+
+    label_may_not : (mid : ℕ) → made (label_early text) mid line ≤ 0 → ¬ IsMountCall file one_unit (done (label_early text) mid) label
+    label_may_not mid unsaid = ⊎_elim (λ no. cc no) of_read
+      where
+        of_read : ¬ IsMountRead (done (label_early text) mid) 0 41472 label
+        of_read (OfHeader long is) = let wrong : 512 ≡ 0 = ap (number 2) is in omega (arith, wrong)
+        of_read (OfLabel g header is) = header_bad mid unsaid header
+        of_read (OfVtoc g header content given inside behind read) = header_bad mid unsaid header
+
+    label_not : ¬ Pack (label_early text) one_unit 21 acts 0 6
+    label_not (Refuses mid each why unmounted said) =
+        let unread : made (label_early text) mid label ≤ 0 = each.only label (label_may_not mid (each.only line (mount_prints_not one_unit text))) in
+        let all : made (label_early text) 6 label ≤ made (label_early text) mid label = said.print.only label (λ no. cc no.2) in
+        omega (arith, unread, all, made_once label refl)
+    label_not (Mounts mid each vol of_unit given does) =
+        let first : vol.unit ≡ 0 = omega (arith, of_unit.attached) in
+        header_bad mid (each.only line (mount_prints_not one_unit text)) (subst (λ (u : ℕ). IsHeaderGiven (done (label_early text) mid) u (unit_of one_unit u).size vol.geometry) first given.header)
+
 -- the header is read twice, and the device fails; or the pack is mounted behind such a read more, and a text is printed
 abbrev header : HallCall
 header = Reading 0 0 512
@@ -483,13 +472,6 @@ words_are_refused = (
   λ said. let more : made (Printing (codes "VOLMAN WORDS\n") ∷ Attaching file ∷ []) 2 (Attaching file) ≤ 0 = said.print.only (Attaching file) (λ no. cc no) in omega (arith, more, made_once (Attaching file) refl),
   λ said. let no = said.status_is in omega (arith, no),
 )
-
--- no call that mounts a pack is a print or a sync
-mount_prints_not : (units : List Attached) {done : HallCall → Type 0} (text : List ℕ) → ¬ IsMountCall file units done (Printing text)
-mount_prints_not units text = mounts_not units (Printing text) (λ no. cc no) (λ at len no. cc no)
-
-mount_syncs_not : (units : List Attached) {done : HallCall → Type 0} → ¬ IsMountCall file units done Syncing
-mount_syncs_not units = mounts_not units Syncing (λ no. cc no) (λ at len no. cc no)
 
 -- nothing is printed where the small pack is mounted alone
 unprinted : (n : ℕ) (text : List ℕ) → ¬ done (mounting []) n (Printing text)
@@ -574,6 +556,12 @@ deck_is_refused = (
     printed (Formless deck says) = deck
     printed (Stated s deck on) = deck
 
+-- Where nothing was called and no deck was read, 23 is the only status.
+cards_have_their_status : (n : ℕ) → ¬ (n ≡ 23) → ¬ Asked [] (Some (Run file)) (λ deck. ⊥) [] n 0 0
+cards_have_their_status n other (Unread status none) = other status
+cards_have_their_status n other (Formless deck says) = deck
+cards_have_their_status n other (Stated s deck on) = deck
+
 -- ---- a statement, from its words to its end
 
 -- the deck is the statement by which A becomes C
@@ -612,6 +600,19 @@ no_other_statement_is_run : ¬ Asked (mounting renaming) (Some (Run file)) (λ d
 no_other_statement_is_run (Unread status none) = omega (arith, status)
 no_other_statement_is_run (Formless deck says) = let no = says.status_is in omega (arith, no)
 no_other_statement_is_run (Stated s deck on) = cc deck
+
+-- Nor is a code given where the pack was mounted and nothing was done for the statement.
+no_code_without_a_statement : ¬ Asked (mounting []) (Some (Run file)) deck_of_it one_unit 0 0 9
+no_code_without_a_statement (Unread status none) = omega (arith, status)
+no_code_without_a_statement (Formless deck says) = cc deck
+no_code_without_a_statement (Stated s deck (Refuses mid each why unmounted said)) = let no = said.status_is in omega (arith, no)
+no_code_without_a_statement (Stated s deck (Mounts mid each vol of_unit given acts)) = unanswered acts.0
+  where
+    unanswered : ¬ OnStatement (made (mounting [])) (done (mounting [])) (synced (mounting [])) (calls (mounting [])) vol s 0 mid 9
+    unanswered (Operates behind ops (Faulted none is)) = omega (arith, is)
+    unanswered (Operates behind ops (RanOut none is came_or_few)) = omega (arith, is)
+    unanswered (Operates behind ops (Unprinted outcome came only is)) = omega (arith, is)
+    unanswered (Operates behind ops (Answered outcome came said only was sync is)) = unprinted said _ was
 
 -- so many reads, writes, syncs, prints and attachments
 abbrev counted : ℕ → ℕ → ℕ → ℕ → ℕ → Calls

@@ -144,6 +144,13 @@ module _ (any : Vol) where
     λ came. ⊎_elim (λ is. cc is.1) (λ is. another_serial any is.0) came.0,
   )
 
+  -- Nor where the slot's track was read alone, which is a call of the operation as well.
+  read_is_no_outcome : ¬ IsOutcome (index any) (statement pack01) (λ call. call ≡ look) (Ok tt)
+  read_is_no_outcome is = never is.1
+    where
+      never : ¬ HasDone (IsOperationWrite (operation_on (statement pack01) 0) (index any) (λ call. call ≡ look)) (λ call. call ≡ look)
+      never (Does call writes was) = let wrong = sym was ∙ writes.1.writes.writes in cc wrong
+
   ok_came : Came renaming (statement pack01) 2 (Ok tt)
   ok_came = statement_came_to_this.0
 
@@ -404,6 +411,41 @@ module _ (any : Vol) where
       let line = made_once (Printing text) refl in
       omega (arith, last, mid, first, line)
 
+  -- With 24 the line of what it came to was tried, and nothing else: no sync is made behind it, and no other text is printed. Nor is 24 given where it came to nothing.
+  line_alone_is_tried :
+      (text : List ℕ) → ¬ (Printing text ≡ ok_line)
+      → (¬ EndsSo renaming (statement pack01) 24 2 4)
+      × (¬ EndsSo (with_text text) (statement pack01) 24 2 4)
+      × (¬ EndsSo renaming (statement pack01) 24 0 0)
+  line_alone_is_tried text other = (synced_not, text_not, nothing_not)
+    where
+      no_code : (outcome : Result (Unit {0}) Refusal) → ¬ (24 ≡ code_for outcome)
+      no_code (Ok x) is = omega (arith, is)
+      no_code (Err r) is = omega (arith, is)
+
+      synced_not : ¬ EndsSo renaming (statement pack01) 24 2 4
+      synced_not (Faulted none is) = omega (arith, is)
+      synced_not (RanOut none is came_or_few) = omega (arith, is)
+      synced_not (Unprinted outcome came only is) = let more : made renaming 4 Syncing ≤ made renaming 2 Syncing = only.only Syncing (λ no. cc no) in omega (arith, more, made_once Syncing refl)
+      synced_not (Answered outcome came said only was sync is) = ⊎_elim (λ no. no_code outcome no.0) (λ no. omega (arith, no)) is
+
+      text_not : ¬ EndsSo (with_text text) (statement pack01) 24 2 4
+      text_not (Faulted none is) = omega (arith, is)
+      text_not (RanOut none is came_or_few) = omega (arith, is)
+      text_not (Unprinted (Err r) came only is) = unrefused_there (with_text text) 2 r came
+      text_not (Unprinted (Ok x) came only is) = let more : made (with_text text) 4 (Printing text) ≤ made (with_text text) 2 (Printing text) = only.only (Printing text) other in omega (arith, more, made_once (Printing text) refl)
+      text_not (Answered outcome came said only was sync is) = ⊎_elim (λ no. no_code outcome no.0) (λ no. omega (arith, no)) is
+
+      none_came : (outcome : Result (Unit {0}) Refusal) → ¬ Came renaming (statement pack01) 0 outcome
+      none_came (Ok x) came = came.1
+      none_came (Err r) came = unrefused_there renaming 0 r came
+
+      nothing_not : ¬ EndsSo renaming (statement pack01) 24 0 0
+      nothing_not (Faulted none is) = omega (arith, is)
+      nothing_not (RanOut none is came_or_few) = omega (arith, is)
+      nothing_not (Unprinted outcome came only is) = none_came outcome came
+      nothing_not (Answered outcome came said only was sync is) = none_came outcome came
+
   -- For each index alone, where no read gave anything: C isn't written at the places of two slots, though each may be the right one by another index.
   one_index_is_used : (vol : Vol) → ¬ OnStatement (made two_writes) (done two_writes) (synced two_writes) (calls two_writes) vol (statement pack01) 22 0 2
   one_index_is_used vol (Operates behind ops ends) =
@@ -425,10 +467,21 @@ module _ (any : Vol) where
           let first : made two_writes behind other_write ≤ 0 = ops.only other_write (λ here. differ (at there) (at here)) in
           omega (arith, first, made_by_it two_writes behind 2 other_write (λ no. cc no) (λ outcome no. cc no) ends, made_once other_write refl)
 
-  -- The slot's track, where the index doesn't hold it, is read for the statement; a read of it that was made before, as where the pack was mounted, isn't one, neither for the write nor for OK behind it. That the write waits for the read isn't said here.
-  track_is_read_for_the_statement : OnUnheld looked 0 0 6 × (¬ OnUnheld looked 0 2 6) × (¬ OnUnheld looked 0 4 6)
+  -- The slot's track, where the index doesn't hold it, is read for the statement; a read of it that was made before, as where the pack was mounted, isn't one, neither for the write nor for OK behind it. What it came to by that read stands where memory ran out then, or the printer failed. That the write waits for the read isn't said here.
+  track_is_read_for_the_statement :
+      OnUnheld looked 0 0 6
+      × (¬ OnUnheld looked 0 2 6)
+      × (¬ OnUnheld looked 0 4 6)
+      × EndsUnheld looked 25 0 4
+      × EndsStatement (made looked) (done looked) (synced looked) (calls looked) (index any) (statement pack01) 24 0 4 5
   unfolding weight
-  track_is_read_for_the_statement = (Operates 4 (record { only = operated; kept = done_later looked 0 4 (omega arith) }) ended, unread, unanswered)
+  track_is_read_for_the_statement = (
+    Operates 4 (record { only = operated; kept = done_later looked 0 4 (omega arith) }) ended,
+    unread,
+    unanswered,
+    RanOut (record { only = λ call other. omega arith; kept = λ call was. was }) refl (inl (Ok tt, came)),
+    Unprinted (Ok tt) came printed refl,
+  )
     where
       named : WritesSlotNamed a c (index any) (did looked 4) write
       named = record { slot = 3; found = record { found = refl; absent = refl; others = refl }; dscb = formats.F1 (f1 a); held = refl; writes = unheld_is_written any 0 (omega arith, inr (inl refl)) }
@@ -452,9 +505,15 @@ module _ (any : Vol) where
           let third = unmade Syncing call (λ is. other (subst May (sym is) sync_made)) in
           omega (arith, first, second, third)
 
+      came : CameTo (made looked) (done looked) (synced looked) (calls looked) (index any) (statement pack01) 0 4 (Ok tt)
+      came = ((refl, Does _ (refl, named) (inr (inr (inl refl)))), refl)
+
+      printed : Makes (made looked) (done looked) (synced looked) (calls looked) (λ call. call ≡ ok_line) 4 5
+      printed = record { only = λ call other. let none = unmade ok_line call other in omega (arith, none); kept = done_later looked 4 5 (omega arith) }
+
       ended : EndsStatement (made looked) (done looked) (synced looked) (calls looked) (index any) (statement pack01) 0 0 4 6
-      ended = Answered (Ok tt) ((refl, Does _ (refl, named) (inr (inr (inl refl)))), refl) 5
-          (record { only = λ call other. let none = unmade ok_line call other in omega (arith, none); kept = done_later looked 4 5 (omega arith) })
+      ended = Answered (Ok tt) came 5
+          printed
           (inr (inr (inr (inr (inl refl)))))
           (record { only = λ call other. let none = unmade Syncing call other in omega (arith, none); once = λ call. let one = at_most Syncing call in omega (arith, one); kept = done_later looked 5 6 (omega arith) })
           (inl (refl, refl))
@@ -552,7 +611,51 @@ module _ (any : Vol) where
     λ is. is.1,
   )
 
-  -- The statement runs on a machine by its operation and what ends it, or up to a fault of the device at that. Its code isn't given without the sync of the operation, nor where the line wasn't printed, nor that of another outcome; and neither a fault of the device is answered where the line was printed, nor want of memory. One of the printer is answered behind the operation, and not where that has no sync.
+  -- No other text is printed beside the line, neither with a code nor with a fault of the printer.
+  answer_is_the_line_alone :
+      (text : List ℕ) → ¬ (Printing text ≡ ok_line)
+      → (¬ EndsInLine (statement pack01) (λ outcome. outcome ≡ Ok tt) ⊥ (done (with_text text) 4) (made (with_text text) 2) (made (with_text text) 4) (Ok 0))
+      × (¬ EndsInLine (statement pack01) (λ outcome. outcome ≡ Ok tt) ⊥ nothing (made (with_text text) 2) (made (with_text text) 4) (Err Print))
+  answer_is_the_line_alone text other = (λ is. more (is.3 (Printing text) (line_not is.1)), λ is. more (is.2 (Printing text) (line_not is.1)))
+    where
+      line_not : {outcome : Result (Unit {0}) Refusal} → outcome ≡ Ok tt → ¬ (Printing text ≡ Printing (answer_line (statement pack01) outcome))
+      line_not is same = other (same ∙ ap (λ (o : Result (Unit {0}) Refusal). Printing (answer_line (statement pack01) o)) is)
+
+      more : ¬ (made (with_text text) 4 (Printing text) ≤ made (with_text text) 2 (Printing text))
+      more is = omega (arith, is, made_once (Printing text) refl)
+
+  -- where memory ran out in an operation that may make any call and comes to nothing
+  abbrev CutOff : List HallCall → ℕ → Type 0
+  CutOff run n = RunsStatement (made run) (done run) (calls run) (λ k call. ⊤) (λ k outcome. ⊥) (statement pack01) (Err Memory) 0 n
+
+  -- One read may have been made in it: not two, and no write, sync or print.
+  memory_runs_out_in_it : CutOff (look ∷ []) 1 × (¬ CutOff (look ∷ look ∷ []) 2) × (¬ CutOff (write ∷ []) 1) × (¬ CutOff (Syncing ∷ []) 1) × (¬ CutOff (ok_line ∷ []) 1)
+  memory_runs_out_in_it = (
+    Ends 1 (λ call other. absurd (other tt)) (λ call other. omega arith, inr (omega arith, omega arith, omega arith, omega arith, omega arith)) (done_later (look ∷ []) 0 1 (omega arith)) (λ call was. was),
+    two_reads,
+    a_write,
+    a_sync,
+    a_print,
+  )
+    where
+      two_reads : ¬ CutOff (look ∷ look ∷ []) 2
+      two_reads (Ends zero ops none first last) = let more : made (look ∷ look ∷ []) 2 look ≤ 0 = none.0 look (λ no. no) in omega (arith, more, made_once look refl)
+      two_reads (Ends (suc zero) ops none first last) = let more : made (look ∷ look ∷ []) 2 look ≤ made (look ∷ look ∷ []) 1 look = none.0 look (λ no. no) in omega (arith, more, made_once look refl)
+      two_reads (Ends (suc (suc n)) ops none first last) = ⊎_elim (λ came. came.1) (λ few. let reads = few.0 in omega (arith, reads)) none.1
+
+      a_write : ¬ CutOff (write ∷ []) 1
+      a_write (Ends zero ops none first last) = let more : made (write ∷ []) 1 write ≤ 0 = none.0 write (λ no. no) in omega (arith, more, made_once write refl)
+      a_write (Ends (suc n) ops none first last) = ⊎_elim (λ came. came.1) (λ few. let writes = few.1 in omega (arith, writes)) none.1
+
+      a_sync : ¬ CutOff (Syncing ∷ []) 1
+      a_sync (Ends zero ops none first last) = let more : made (Syncing ∷ []) 1 Syncing ≤ 0 = none.0 Syncing (λ no. no) in omega (arith, more, made_once Syncing refl)
+      a_sync (Ends (suc n) ops none first last) = ⊎_elim (λ came. came.1) (λ few. let syncs = few.2 in omega (arith, syncs)) none.1
+
+      a_print : ¬ CutOff (ok_line ∷ []) 1
+      a_print (Ends zero ops none first last) = let more : made (ok_line ∷ []) 1 ok_line ≤ 0 = none.0 ok_line (λ no. no) in omega (arith, more, made_once ok_line refl)
+      a_print (Ends (suc n) ops none first last) = ⊎_elim (λ came. came.1) (λ few. let prints = few.3 in omega (arith, prints)) none.1
+
+  -- The statement runs on a machine by its operation and what ends it, or up to a fault of the device at that. Its code isn't given without the sync of the operation, nor where the line wasn't printed, nor that of another outcome; and neither a fault of the device is answered where the line was printed, nor want of memory. One of the printer is answered behind the operation, and not where that has no sync. What was done before the operation is done still behind it.
   statement_runs :
       Runs renaming (Ok 0) 0 3
       × Runs renaming (Err Device) 0 1
@@ -566,6 +669,7 @@ module _ (any : Vol) where
       × (¬ Runs renaming (Err Memory) 0 1)
       × Runs renaming (Err Print) 0 3
       × (¬ Runs unsynced (Err Print) 0 2)
+      × (¬ Runs renaming (Err Device) 1 0)
   statement_runs = (
     Ends 2 operation_made (Ok tt, ok_came, refl, ok_printed, inr (inr (inl refl))) (done_later renaming 0 2 (omega arith)) (done_later renaming 2 3 (omega arith)),
     Ends 1 (λ call other. let none = unmade write call (λ is. other (is_write 1 call is)) in omega (arith, none)) (λ call other. omega arith) (done_later renaming 0 1 (omega arith)) (λ call was. was),
@@ -579,6 +683,7 @@ module _ (any : Vol) where
     unsynced_memory,
     Ends 2 operation_made (Ok tt, ok_came, ok_printed) (done_later renaming 0 2 (omega arith)) (done_later renaming 2 3 (omega arith)),
     unsynced_print,
+    forgotten,
   )
     where
       unsynced_memory : ¬ Runs renaming (Err Memory) 0 1
@@ -595,6 +700,9 @@ module _ (any : Vol) where
 
       unsynced_print : ¬ Runs unsynced (Err Print) 0 2
       unsynced_print (Ends behind ops line first last) = unsynced_came line.0 behind line.1 (ops ok_line (λ call. prints_not call.1.1))
+
+      forgotten : ¬ Runs renaming (Err Device) 1 0
+      forgotten (Ends behind ops none first last) = last write (first write (inl refl))
 
       unprinted_not : ¬ Runs unprinted (Ok 0) 0 3
       unprinted_not (Ends behind ops line first last) = ⊎_elim (λ no. cc no) (⊎_elim (λ no. cc no) (⊎_elim (λ no. cc no) (λ no. no))) line.4

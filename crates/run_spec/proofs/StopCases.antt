@@ -1,9 +1,11 @@
 -- What a run of an item leaves on a pack, on cases that a near reading of Run.antt and Machine.antt answers otherwise. Each comment names a wrong definition that the case tells from the right one.
 use Rattle.std.proofs.Common.{◌≡◌, ◌≢◌, ◌≤◌, ℕ, zero, suc, List, [], ◌∷◌, ◌++◌, length, codes, get_or, inl, inr, ⊎_elim, refl, sym, ap, subst, ◌∙◌, arith}
-use Rattle.std.specs.Prelude.{◌⊎◌, Ok, Err, take}
+use Rattle.std.specs.Prelude.{◌⊎◌, Result, Ok, Err, take}
 use Rattle.dadsm_ops.proofs.RenameSetCases as renames
 use Rattle.dadsm_ops.proofs.SmallFiles as small
+use Rattle.ckd_image.specs.Header.{geometry_of}
 use Rattle.ckd_image.specs.declared.header.Geometry.{Geometry}
+use Rattle.ckd_image.specs.declared.header.ImageErr.TheVariants.{BadMagic}
 use Rattle.dadsm_ops.specs.Operations.{ChangesVtoc, IsIn, image_named}
 use Rattle.ebcdic_names.specs.declared.names.Dsn.{Dsn}
 use Rattle.hall_core.specs.Files.{File}
@@ -11,6 +13,7 @@ use Rattle.hall_core.specs.Moments.{Meaning}
 use Rattle.pack_spec.specs.Label.{track_bytes}
 use Rattle.pack_spec.specs.Volume.{volume_of}
 use Rattle.pack_spec.specs.declared.MountErr.{MountErr}
+use Rattle.pack_spec.specs.declared.MountErr.TheVariants.{Image}
 use Rattle.vol_model.specs.Events.{Event, StandsIn, begun, behind, events_of, shelf_after}
 use Rattle.vol_model.specs.Shelf.{step}
 use Rattle.vol_model.specs.declared.contents.Run.{Run}
@@ -32,6 +35,11 @@ two_volumes image a b stands = absurd (omega (arith, ap (λ (s : Shelf). length 
 
 unmounted : (image : List ℕ) (e : MountErr) (shelf : Shelf) → volume_of image ≡ Err e → (shelf_named file (pack image) ≡ record { volumes = [] }) × (¬ StandsFor file (pack image) shelf)
 unmounted image e shelf fails = (ap shelf_in fails, λ stands. let wrong = sym fails ∙ stands.1 in absurd (cc))
+
+-- nor does the image of one file stand for what is asked of another beside it
+of_another_file : (image : List ℕ) (shelf : Shelf) → ¬ StandsFor (codes "Q") (beside image 1) shelf
+unfolding volume_of geometry_of
+of_another_file image shelf stands = let wrong : ◌≡◌ {A = Result Volume MountErr} (Err (Image BadMagic)) (Ok stands.0) = stands.1 in absurd (cc)
 
 -- nor is it the image of another name
 other_name : (image : List ℕ) → image_named (pack image) (codes "PA") ≡ []
@@ -198,6 +206,10 @@ module _ (volume after : Volume) (op : Op) (image image' : List ℕ) (stands : v
 
   pub keeps_all : StopsInItems file volume (item op ∷ []) before (at_rest (pack image) [] 1)
   keeps_all = record { later = omega arith; stops = λ files printed is. subst (λ (fs : List File). Stops fs printed) (sym is.0) (subst (λ (p : List ℕ). Stops (pack image) p) (sym is.1) nothing_printed_before) }
+
+  -- time may stand still, where nothing was done
+  pub keeps_still : StopsInItems file volume (item op ∷ []) before before
+  keeps_still = record { later = omega arith; stops = keeps_all.stops }
 
   -- time doesn't go back, though each stop is as it may be
   time_back : ¬ StopsInItems file volume (item op ∷ []) (at_rest (pack image) [] 2) done

@@ -93,6 +93,11 @@ names_without_deck : task_of (Some (Names w)) None files ≡ Says 21 (unit_line 
 unfolding task_of
 names_without_deck = refl
 
+-- and where the file is there, its names are the task, whatever the deck is: those of its own volume, behind any other file
+names_of_a_pack : (deck : Option Rename) (image : List ℕ) (volume : Volume) → volume_of image ≡ Ok volume → task_of (Some (Names w)) deck (with_image image) ≡ names_task volume
+unfolding task_of
+names_of_a_pack deck image volume stands = ap (task_for w names_task) stands
+
 -- then the file, by its whole name, before the statement
 file_third : (s : Rename) → task_of (Some (Run w)) (Some s) files ≡ Says 21 (unit_line w mount.NoFile)
 unfolding task_of

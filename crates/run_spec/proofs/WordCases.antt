@@ -1,9 +1,11 @@
 -- Words, decks, names and lines, on cases that a near reading of their definitions answers otherwise.
-use Rattle.std.proofs.Common.{◌≡◌, ℕ, zero, suc, true, false, List, [], ◌∷◌, ◌++◌, length, codes, get_or, Some, None, Err, alloc_error, refl, ap, arith, length-append}
+use Rattle.std.proofs.Common.{◌≡◌, ℕ, zero, suc, true, false, List, [], ◌∷◌, ◌++◌, length, codes, get_or, Some, None, Err, alloc_error, refl, sym, ap, ap₂, arith, length-append}
+use Rattle.std.specs.Prelude.{Ok, String, Vec, string_bytes}
 use Rattle.std.specs.Cmp.Lexicographic.{slice_cmp}
 use Rattle.std.specs.Fmt.{digits}
 use Rattle.std.specs.List.Sorted.{IsSorted}
 use Rattle.std.specs.Ordering.{nat_cmp}
+use Rattle.std.specs.declared.alloc.Global.{Global}
 use Rattle.ckd_image.specs.declared.header.ImageErr.TheVariants as image
 use Rattle.dscb_codec.specs.declared.Dscb.TheVariants as formats
 use Rattle.dscb_codec.specs.declared.F1.{F1}
@@ -21,6 +23,7 @@ use Rattle.run_spec.specs.Lines.{deck_line, image_reason, line, name_line, names
 use Rattle.run_spec.specs.Names.{IsListing, names_in, names_of, set_name}
 use Rattle.run_spec.specs.Words.{Names, Run, asked_in, is_date, is_day, is_file_word, names_request, request_of, run_request, value_of}
 use Rattle.run_spec.specs.declared.words.Action.TheVariants as action
+use Rattle.run_spec.proofs.WordLemmas.{asked_as}
 
 -- ---- words
 
@@ -46,7 +49,8 @@ days = (refl, refl, refl, refl, refl, refl)
 -- a date has five digits, the year first, and no other character in any place
 dates : (is_date (codes "75032") ≡ true) × (is_date (codes "00366") ≡ true) × (is_date (codes "36600") ≡ false) × (is_date (codes "7503") ≡ false) × (is_date (codes "750320") ≡ false) × (is_date (codes "7503A") ≡ false) × (is_date (codes "A5032") ≡ false)
     × (is_date (codes "7A032") ≡ false) × (is_date (codes "75A32") ≡ false) × (is_date (codes "75-32") ≡ false) × (is_date (codes "750A2") ≡ false)
-dates = (refl, refl, refl, refl, refl, refl, refl, refl, refl, refl, refl)
+    × (is_date (codes "75365") ≡ true) × (is_date (codes "75375") ≡ false)
+dates = (refl, refl, refl, refl, refl, refl, refl, refl, refl, refl, refl, refl, refl)
 
 -- `names` is written so to its last letter, and no other word; a file stands behind it, whose name may be that word
 names_alone : (names_request (codes "names") (codes "w.img") ≡ Some (Names (codes "w.img"))) × (names_request (codes "names") (codes "names") ≡ Some (Names (codes "names")))
@@ -56,12 +60,12 @@ names_alone = (refl, refl, refl, refl, refl, refl, refl, refl, refl, refl)
 
 -- each of the four is judged: the two words to their last letter, the date, and the file, in this order
 run_alone : (run_request (codes "run") (codes "--date") (codes "75032") (codes "w.img") ≡ Some (Run (codes "w.img"))) × (run_request (codes "run") (codes "--date") (codes "75032") (codes "75032") ≡ Some (Run (codes "75032")))
-    × (run_request (codes "ru") (codes "--date") (codes "75032") (codes "w.img") ≡ None) × (run_request (codes "RUN") (codes "--date") (codes "75032") (codes "w.img") ≡ None) × (run_request (codes "names") (codes "--date") (codes "75032") (codes "w.img") ≡ None)
+    × (run_request (codes "ru") (codes "--date") (codes "75032") (codes "w.img") ≡ None) × (run_request (codes "runs") (codes "--date") (codes "75032") (codes "w.img") ≡ None) × (run_request (codes "RUN") (codes "--date") (codes "75032") (codes "w.img") ≡ None) × (run_request (codes "names") (codes "--date") (codes "75032") (codes "w.img") ≡ None)
     × (run_request (codes "run") (codes "-date") (codes "75032") (codes "w.img") ≡ None) × (run_request (codes "run") (codes "--dates") (codes "75032") (codes "w.img") ≡ None) × (run_request (codes "run") [] (codes "75032") (codes "w.img") ≡ None)
     × (run_request (codes "run") (codes "--date") (codes "75000") (codes "w.img") ≡ None) × (run_request (codes "run") (codes "--date") [] (codes "w.img") ≡ None)
     × (run_request (codes "run") (codes "--date") (codes "75032") (codes "-w.img") ≡ None) × (run_request (codes "run") (codes "--date") (codes "75032") [] ≡ None)
     × (run_request (codes "run") (codes "--date") (codes "w.img") (codes "75032") ≡ None) × (run_request (codes "--date") (codes "run") (codes "75032") (codes "w.img") ≡ None)
-run_alone = (refl, refl, refl, refl, refl, refl, refl, refl, refl, refl, refl, refl, refl, refl)
+run_alone = (refl, refl, refl, refl, refl, refl, refl, refl, refl, refl, refl, refl, refl, refl, refl)
 
 -- the program's name is any word; the others stand in their order, and none is left out or behind them
 words : (request_of (codes "anything" ∷ codes "names" ∷ codes "w.img" ∷ []) ≡ Some (Names (codes "w.img")))
@@ -80,6 +84,10 @@ other_counts = (refl, refl, refl, refl)
 -- lost words ask for nothing
 lost_words : asked_in (Err alloc_error) ≡ None
 lost_words = refl
+
+-- words that are there ask by the bytes of each, the program's name first
+kept_words : (given : Vec (String Global) Global) (program action file : String Global) → given.items ≡ program ∷ action ∷ file ∷ [] → string_bytes action ≡ codes "names" → string_bytes file ≡ codes "w.img" → asked_in (Ok given) ≡ Some (Names (codes "w.img"))
+kept_words given program action file all first second = asked_as {words = given} refl (sym all) (ap₂ names_request first second)
 
 -- ---- a deck's line
 
@@ -148,6 +156,14 @@ not_in_order lists = let wrong : true ≡ false = lists.sorted 0 [] (omega arith
 signs : ¬ IsListing (a_digit ∷ a ∷ []) (a_digit ∷ a ∷ [])
 signs lists = let wrong : true ≡ false = lists.sorted 0 [] (omega arith) (omega arith) in absurd (cc)
 
+-- a longer one stands in front of a shorter one where its bytes do
+longer_in_front : IsListing ((0xC1 ∷ 0xC1 ∷ []) ∷ (0xC2 ∷ []) ∷ []) ((0xC1 ∷ 0xC1 ∷ []) ∷ (0xC2 ∷ []) ∷ [])
+longer_in_front = record { sorted = in_turn; same = λ x. refl }
+  where
+    in_turn : IsSorted (slice_cmp nat_cmp) ((0xC1 ∷ 0xC1 ∷ []) ∷ (0xC2 ∷ []) ∷ [])
+    in_turn zero d low high = refl
+    in_turn (suc k) d low high = absurd (omega arith)
+
 -- and it has each name as often as it stands: none is left out, and none comes in
 twice_is_twice : ¬ IsListing (a ∷ a ∷ []) (a ∷ [])
 twice_is_twice lists = absurd (omega (arith, ap length (lists.same a)))
@@ -200,3 +216,8 @@ file_and_reason = refl
 name_lines : names_listing ((0xC1 ∷ 0x40 ∷ 0xC2 ∷ 0x40 ∷ []) ∷ (0x40 ∷ 0x40 ∷ []) ∷ (0x00 ∷ []) ∷ []) ≡ codes "A B\n\n.\n"
 unfolding names_listing name_line shown ascii_of code_page
 name_lines = refl
+
+-- where there is no name there is no line, not an empty one
+no_name_lines : names_listing [] ≡ []
+unfolding names_listing
+no_name_lines = refl

@@ -17,7 +17,7 @@ use Rattle.run_spec.proofs.MomentCases.{at_rest}
 use Rattle.run_spec.proofs.PrintCases.{no_end}
 use Rattle.run_spec.proofs.Reported.{one_volume}
 use Rattle.run_spec.proofs.CasePacks.{Changes, beside, beside_stays, file, idle, item, line, pack, stands_once, unchanged}
-use Rattle.run_spec.proofs.StopCases.{keeps, keeps_all, line_without_operation, stop_behind}
+use Rattle.run_spec.proofs.StopCases.{keeps, keeps_all, keeps_still, line_without_operation, stop_behind}
 
 module _ (volume after : Volume) (op : Op) (image image' : List ℕ) (stands : volume_of image ≡ Ok volume) (stands' : volume_of image' ≡ Ok after)
     (steps : step (shelf_with volume) op ≡ Ok (shelf_with after)) (changed : Changes volume (op ∷ []) (pack image) (pack image')) (apart : volume ≢ after) where
@@ -213,6 +213,20 @@ module _ (volume after : Volume) (op : Op) (image image' : List ℕ) (stands : v
       let stop = all.stops 0 (omega arith) (λ files printed left. left) (pack image) line (inl (omega arith, (refl, refl))) in
       line_without_operation volume after op image image' stands stands' steps changed apart (record { shelf = stop.shelf; stands = stop.stands; front = stop.front; text = stop.text; place = stop.place; changes = stop.changes })
 
+  -- and so does one since the begin itself
+  since_the_begin : ¬ WorksOn file volume (item op ∷ []) before (record done { left_since = λ t j p. ((t ≤ 0) × ((j ≡ pack image) × (p ≡ line))) ⊎ ((j ≡ pack image') × (p ≡ line)) }) 22
+  since_the_begin all = line_without_operation volume after op image image' stands stands' steps changed apart (all.stops 0 (omega arith) (λ files printed left. left) (pack image) line (inl (omega arith, (refl, refl))))
+
+  -- time may stand still, where nothing was done
+  works_not : WorksOn file volume (item op ∷ []) before before 25
+  works_not = record {
+    ends = λ final. absurd (no_end 25 (omega arith) (omega arith) final);
+    unprinted = λ is. absurd (omega (arith, is));
+    fault = λ is. absurd (omega (arith, is));
+    later = omega arith;
+    stops = λ t early calm. (keeps_still volume after op image image' stands stands' steps changed apart).stops;
+  }
+
   -- but where something else was, nothing is said of a stop
   never_calm : WorksOn file volume (item op ∷ []) (record before { left_since = λ t j p. j ≡ [] }) (record done { left_since = λ t j p. j ≡ [] }) 22
   never_calm = record {
@@ -221,4 +235,14 @@ module _ (volume after : Volume) (op : Op) (image image' : List ℕ) (stands : v
     fault = λ is. inr worked.printed;
     later = omega arith;
     stops = λ t early calm files printed left. absurd (omega (arith, ap length (calm [] [] refl).0));
+  }
+
+  -- also where that was at the begin, and from a moment behind it on nothing was left yet: such a moment doesn't count
+  calm_in_vain : WorksOn file volume (item op ∷ []) (record before { left_since = λ t j p. (t ≤ 0) × (j ≡ []) }) (record done { left_since = λ t j p. j ≡ [] }) 22
+  calm_in_vain = record {
+    ends = λ final. absurd (no_end 22 (omega arith) (omega arith) final);
+    unprinted = λ is. absurd (omega (arith, is));
+    fault = λ is. inr worked.printed;
+    later = omega arith;
+    stops = λ t early calm files printed left. absurd (omega (arith, ap length (calm [] [] (early, refl)).0));
   }

@@ -1,12 +1,22 @@
 -- What a machine over one pack tells and stands on, on cases that a near reading of Machine.antt answers otherwise.
-use Rattle.std.proofs.Common.{◌≡◌, Bool, true, false, List, [], ◌∷◌, codes, refl, ap}
+use Rattle.std.proofs.Common.{◌≡◌, ◌≢◌, ℕ, Bool, true, false, List, [], ◌∷◌, inl, codes, refl, sym, ap, subst, arith}
 use Rattle.std.specs.Prelude.{Ok, Err}
 use Rattle.ckd_image.specs.declared.device.DiskType.TheVariants.{D2311, D2314}
 use Rattle.ckd_image.specs.declared.header.Geometry.{Geometry}
+use Rattle.dadsm_ops.specs.Operations.{ChangesVtoc}
 use Rattle.hall_core.specs.Facts.{Attached, Facts}
+use Rattle.hall_core.specs.Files.{File, untold}
+use Rattle.hall_core.specs.Moments.{Meaning}
+use Rattle.hall_core.specs.declared.hall.Hall.{Ghosts}
 use Rattle.pack_spec.specs.declared.MountErr.TheVariants as mount
-use Rattle.shelf_machine.specs.Machine.{base_of, numbers_of, shelf_in, status_of, texts_of}
+use Rattle.pack_spec.specs.Volume.{volume_of}
+use Rattle.shelf_machine.specs.Machine.{ChangesNames, ChangesOnlyNames, base_of, numbers_of, shelf_in, shelf_named, status_of, texts_of}
+use Rattle.shelf_machine.specs.Parts.{hall_of, index_of, is_sound as sound}
+use Rattle.shelf_machine.specs.declared.machine.PackMachine.{PackMachine}
+use Rattle.vol_model.specs.declared.contents.Run.{Run}
 use Rattle.vol_model.specs.declared.contents.Volume.{Volume}
+use Rattle.vol_model.specs.declared.requests.Op.{Op}
+use Rattle.vol_model.specs.declared.requests.Op.TheVariants.{Rename}
 use Rattle.vtoc_index.specs.declared.vol.Vol.{Vol}
 
 -- a pack that mounts is one volume
@@ -51,3 +61,44 @@ sound_status v = refl
 lost_status : (v : Vol) → status_of false facts_told (index_told v)
     ≡ record { is_sound = false; base = (5 ∷ 6 ∷ []) ∷ (0x14 ∷ 2 ∷ 4096 ∷ []) ∷ (9 ∷ 10 ∷ []) ∷ (1 ∷ []) ∷ codes "A" ∷ (7 ∷ []) ∷ codes "B" ∷ (8 ∷ []) ∷ []; dev_faults = 3; print_faults = 4 }
 lost_status v = refl
+
+-- a file of this name, with these bytes
+abbrev file : List ℕ → List ℕ → File
+file name bytes = record { name = name; bytes = bytes }
+
+-- the shelf is that of the image which a name stands for: the first file of that name, and not the first of all
+shelf_of_the_name : (image other : List ℕ) → shelf_named (codes "A") (file (codes "B") other ∷ file (codes "A") image ∷ file (codes "A") other ∷ []) ≡ shelf_in (volume_of image)
+shelf_of_the_name image other = refl
+
+-- where no operation is, files change in nothing; and with one they change in their VTOC alone
+module _ (name : List ℕ) (g : Geometry) (vtoc : Run) (before after : List File) (ops : List Op) where
+  none_changes : ChangesNames name g vtoc [] before before
+  none_changes = record { tracks = record { others = λ other apart. refl; image = record { size = refl; header = refl; tracks = λ track out. refl } }; renames = refl }
+
+  another_changes : after ≢ before → ¬ ChangesNames name g vtoc [] before after
+  another_changes apart changes = apart changes.renames
+
+  other_tracks_change : ¬ ChangesVtoc name g vtoc before after → ¬ ChangesNames name g vtoc ops before after
+  other_tracks_change tracks changes = tracks changes.tracks
+
+  -- an operation may also be left undone
+  undone : (op : Op) → ChangesNames name g vtoc ops before after → ChangesNames name g vtoc (op ∷ ops) before after
+  undone (Rename v from to) changes = record { tracks = changes.tracks; renames = inl changes.renames }
+
+-- that is said of each stop since the moment, and of none that only an earlier one reaches
+module _ (name : List ℕ) (g : Geometry) (vtoc : Run) where
+  abbrev left_at_5 : Meaning (List File)
+  left_at_5 = record untold { left_since = λ t j p. t ≡ 5 }
+
+  stops_at_other_moments : ChangesOnlyNames name g vtoc left_at_5 [] 4 []
+  stops_at_other_moments j p is = absurd (omega (arith, is))
+
+  stop_leaves_others : ¬ ChangesOnlyNames name g vtoc left_at_5 [] 5 []
+  stop_leaves_others said = absurd (cc (said (file (codes "A") [] ∷ []) [] refl).renames)
+
+  stops_leave_none : ChangesOnlyNames name g vtoc (record untold { left_since = λ t j p. j ≡ [] }) [] 5 []
+  stops_leave_none j p is = subst (λ (files : List File). ChangesNames name g vtoc [] [] files) (sym is) (none_changes name g vtoc [] [] [])
+
+-- a machine is made of its hall and its index, and is sound as it says, and not otherwise
+parts_of_a_machine : {X : Type 0} {g : Ghosts X} (machine : PackMachine X g) → (hall_of machine ≡ machine.hall) × (index_of machine ≡ machine.vol) × (sound machine ≡ machine.is_sound)
+parts_of_a_machine machine = (refl, refl, refl)

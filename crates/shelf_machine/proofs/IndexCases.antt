@@ -1,10 +1,11 @@
 -- An index behind a rename on the small pack, in which A, in the fourth slot, becomes C, as `KeepsIndex` of Machine.antt has it. Each comment names what a near reading would let through.
-use Rattle.std.proofs.Common.{◌≡◌, ◌≤◌, ◌<◌, ◌+◌, ⊎_elim, inl, inr, ℕ, List, [], ◌∷◌, drop, get_or, length, take, Option, Some, None, refl, sym, ap, subst, ◌∙◌, arith}
+use Rattle.std.proofs.Common.{◌≡◌, ◌≤◌, ◌<◌, ◌+◌, ⊎_elim, inl, inr, ℕ, List, [], ◌∷◌, drop, get_or, length, take, Option, Some, None, refl, sym, ap, subst, ◌∙◌, arith, lit≤}
 use Rattle.std.specs.Prelude.{Result, Ok, Err, IsErrOf, slice_get, slice_set}
 use Rattle.ckd_image.specs.Track.{Record}
 use Rattle.dscb_codec.specs.declared.Dscb.{Dscb}
 use Rattle.dscb_codec.specs.declared.Dscb.TheVariants as formats
 use Rattle.hall_core.specs.Facts.{Calls, uncounted}
+use Rattle.hall_core.specs.Made.{Does, HallCall, HasDone, Syncing, Writing}
 use Rattle.track_records.specs.Buffers.{Buffer}
 use Rattle.vol_model.specs.declared.answers.MachErr.{MachErr}
 use Rattle.vol_model.specs.declared.answers.MachErr.TheVariants.{Refused, Device}
@@ -13,13 +14,13 @@ use Rattle.vol_model.specs.declared.refusals.Refusal.TheVariants.{NoSet, NoVolum
 use Rattle.vol_model.specs.declared.requests.Op.{Op}
 use Rattle.vol_model.specs.declared.requests.Op.TheVariants.{Rename}
 use Rattle.vtoc_index.specs.Index.{slots_in_front, track_index}
-use Rattle.vtoc_index.specs.Puts.{Changed, Held}
+use Rattle.vtoc_index.specs.Puts.{Changed, Held, HoldsSlot, IsPutCall}
 use Rattle.vtoc_index.specs.declared.vol.Vol.{Vol}
 use Rattle.vtoc_index.proofs.HeldLemmas.{key_held}
 use Rattle.vtoc_index.proofs.PutCases.{c_stands}
 use Rattle.vtoc_index.proofs.SmallPack.{a, b, c, data_set, f1, f4, f5, index}
-use Rattle.dadsm_ops.specs.Naming.{HoldsRenamed, RenamesEntry, under_name}
-use Rattle.shelf_machine.specs.Machine.{HoldsBehind, HoldsFor, KeepsIndex, OperationCalls, refusal_by}
+use Rattle.dadsm_ops.specs.Naming.{HoldsRenamed, IsToRename, RenamesEntry, under_name}
+use Rattle.shelf_machine.specs.Machine.{HoldsBehind, HoldsFor, IsOperationCall, IsOperationWrite, KeepsIndex, OperationCalls, refusal_by}
 
 -- A becomes C, on the volume of this number; C has no set, and B is there
 abbrev op : ℕ → List ℕ → List ℕ → Op
@@ -185,6 +186,25 @@ module _ (any : Vol) where
     λ is. absurd (omega (arith, is)),
   )
 
+  -- It may make one write and one sync, where the slot is changed and held behind it; and no sync where the slots stay as they were.
+  abbrev write_and_sync : Calls
+  write_and_sync = record uncounted { writes = 1; syncs = 1 }
+
+  slot_is_held : (slot : ℕ) → IsToRename slots a c slot → HoldsSlot holding slot
+  slot_is_held slot is = let found : Some 3 ≡ Some slot = is.found in let same : 3 ≡ slot = cc in subst (λ (k : ℕ). HoldsSlot holding k) same (refl, omega arith)
+
+  calls_of_a_rename : OperationCalls {T = ℕ} (op 0 a c) holding (renamed (set_record b ∷ set_record c ∷ [])) uncounted write_and_sync (Ok 1) × (¬ OperationCalls {T = ℕ} (op 0 a c) holding holding uncounted write_and_sync (Ok 1))
+  unfolding letter
+  calls_of_a_rename = (
+    λ is. record {
+      again = λ slot found held. (lit≤ tt, lit≤ tt, lit≤ tt, lit≤ tt, lit≤ tt);
+      few = λ slot found none. absurd (none (slot_is_held slot found));
+      synced = λ more. (slots_are_renamed, (let held = set_is_held in record { slot = held.slot; found = held.found; dscb = held.dscb; named = held.named; track = held.track; held = held.held }));
+      unwritten = tt;
+    },
+    λ calls. let wrong : 0xC1 ≡ 0xC3 = ap (λ (all : List Dscb). letter all 3) (renamed_alone slots ((calls refl).synced (omega arith)).0) in omega (arith, wrong),
+  )
+
   -- ---- what is held for an operation
 
   -- the index with these records of the second track in its buffer
@@ -243,3 +263,57 @@ module _ (any : Vol) where
     λ leaves. let wrong : 1 ≡ 0 = leaves.0 in omega (arith, wrong),
     λ leaves. let none : ◌≡◌ {A = Option ℕ} None (Some leaves.1.slot) = leaves.1.found.found in absurd (cc),
   )
+
+  -- ---- the calls of an operation, by what was done
+
+  -- C was written in place of A; and nothing was done
+  wrote_c : HallCall → Type 0
+  wrote_c call = call ≡ Writing 0 8881 (data_set c)
+
+  nothing : HallCall → Type 0
+  nothing call = ⊥
+
+  -- The write of an operation is that of its slot, on the only volume; none is on another volume, nor of a set that isn't there, and no sync is one.
+  write_of_an_operation :
+      (done : HallCall → Type 0)
+      → IsOperationWrite (op 0 a c) (with_records both_sets) done (Writing 0 8881 (data_set c))
+      × (¬ IsOperationWrite (op 1 a c) (with_records both_sets) done (Writing 0 8881 (data_set c)))
+      × (¬ IsOperationWrite (op 0 c a) (with_records both_sets) done (Writing 0 8881 (data_set c)))
+      × (¬ IsOperationWrite (op 0 a c) (with_records both_sets) done Syncing)
+  write_of_an_operation done = (
+    (
+      refl,
+      record {
+        slot = 3;
+        found = record { found = refl; absent = refl; others = refl };
+        dscb = formats.F1 (f1 a);
+        held = refl;
+        writes = record { bytes = data_set c; dscb = c_stands; size = refl; buf = (with_records both_sets).buf; seen = Held (refl, omega arith) refl; lengths = (refl, refl); at = 8881; place = refl; inside = omega arith; writes = refl };
+      },
+    ),
+    λ names. let wrong : 1 ≡ 0 = names.0 in omega (arith, wrong),
+    λ names. let none : ◌≡◌ {A = Option ℕ} None (Some names.1.slot) = names.1.found.found in absurd (cc),
+    λ names. let no = names.1.writes.writes in cc no,
+  )
+
+  -- That write is a call of the operation, and so is a sync behind it; not a sync before it, and neither of them is one on another volume.
+  calls_of_an_operation :
+      IsOperationCall (op 0 a c) (with_records both_sets) nothing (Writing 0 8881 (data_set c))
+      × IsOperationCall (op 0 a c) (with_records both_sets) wrote_c Syncing
+      × (¬ IsOperationCall (op 0 a c) (with_records both_sets) nothing Syncing)
+      × (¬ IsOperationCall (op 1 a c) (with_records both_sets) nothing (Writing 0 8881 (data_set c)))
+      × (¬ IsOperationCall (op 1 a c) (with_records both_sets) wrote_c Syncing)
+  unfolding nothing wrote_c
+  calls_of_an_operation = (
+    (let writes = (write_of_an_operation nothing).0.1 in (refl, inl (record { slot = writes.slot; found = writes.found; dscb = writes.dscb; held = writes.held; puts = inr (inr writes.writes) }))),
+    (refl, inr (refl, Does _ (write_of_an_operation wrote_c).0.1 refl)),
+    λ calls. ⊎_elim (λ names. puts_not_sync names.puts) (λ synced. none_done synced.1) calls.1,
+    λ calls. let wrong : 1 ≡ 0 = calls.0 in omega (arith, wrong),
+    λ calls. let wrong : 1 ≡ 0 = calls.0 in omega (arith, wrong),
+  )
+    where
+      puts_not_sync : {v : Vol} {slot : ℕ} {d : Dscb} {done : HallCall → Type 0} → ¬ IsPutCall v slot d done Syncing
+      puts_not_sync = ⊎_elim (λ is. let no = is.0 in cc no) (⊎_elim (λ is. let no = is.0 in cc no) (λ is. let no = is.writes in cc no))
+
+      none_done : {these : HallCall → Type 0} → ¬ HasDone these (λ call. ⊥)
+      none_done (Does call is was) = was

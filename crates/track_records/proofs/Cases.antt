@@ -45,6 +45,10 @@ lengths = (refl, refl, refl)
 offsets : (offset_of three 0 ≡ 0) × (offset_of three 1 ≡ 13) × (offset_of three 2 ≡ 27) × (offset_of three 3 ≡ 36)
 offsets = (refl, refl, refl, refl)
 
+-- behind the last of them there are no more bytes
+offset_behind_the_last : (offset_of three 7 ≡ 36) × (offset_of [] 1 ≡ 0)
+offset_behind_the_last = (refl, refl)
+
 -- the read of the fourth track of a unit: all of it, behind the header and three tracks
 fourth_track_read : track_read 1 (record { device = D2314; cylinders = 2; track_size = 7680 }) 3 ≡ Reading 1 23552 7680
 fourth_track_read = refl
@@ -62,6 +66,10 @@ has_lengths = ((refl, refl), (refl, refl), (refl, refl))
 
 exchanged : ¬ HasLengths three 0 3 2
 exchanged has = let keys : 3 ≡ 2 = has.0 in absurd (omega (arith, keys))
+
+-- nor is one of them enough
+one_length : (¬ HasLengths three 0 1 3) × (¬ HasLengths three 0 2 4) × (¬ HasLengths three 2 0 0)
+one_length = (λ has. omega (arith, has.0), λ has. omega (arith, has.1), λ has. omega (arith, has.0))
 
 past_the_last : ¬ HasLengths three 3 1 0
 past_the_last has = has
@@ -101,6 +109,14 @@ stand = (refl, (refl, (refl, (refl, tt))))
 -- the first of them is R1, and none is left out
 stand_otherwise : (¬ StandFrom 2 (drop 21 bytes) (first ∷ second ∷ [])) × (¬ StandFrom 1 (drop 21 bytes) (second ∷ []))
 stand_otherwise = (λ stands. let never = stands.0 in absurd (cc), λ stands. absurd (omega (arith, ap (λ (x : Record). length x.key) stands.1.0)))
+
+-- behind the first stands the second, and not the first again, nor another record
+stand_behind : (¬ StandFrom 1 (drop 21 bytes) (first ∷ first ∷ [])) × (¬ StandFrom 1 (drop 21 bytes) (first ∷ second ∷ third ∷ []))
+stand_behind = (λ stands. absurd (omega (arith, ap (λ (x : Record). length x.key) stands.1.1.1.0)), λ stands. let never = stands.1.1.1.1.0 in absurd (cc))
+
+-- the second stands behind the first, and nowhere else; there is no third
+places_behind : (are_places 1 21 bytes (21 ∷ 35 ∷ []) ≡ false) × (are_places 1 21 bytes (21 ∷ 21 ∷ []) ≡ false) × (are_places 1 21 bytes (21 ∷ 34 ∷ 48 ∷ []) ≡ false) × (are_places 1 21 bytes [] ≡ true)
+places_behind = (refl, refl, refl, refl)
 
 part_of : IsPartOf (Some first) (65 ∷ 66 ∷ []) (97 ∷ 98 ∷ 99 ∷ [])
 part_of = (refl, refl)
@@ -143,6 +159,16 @@ has_track = record { attached = omega arith; whole = record { cylinders = omega 
 has_none : (¬ HasTrack units 0 small 10) × (¬ HasTrack units 1 small 0) × (¬ HasTrack (record { name = 80 ∷ []; size = 41473 } ∷ []) 0 small 0)
 has_none = (λ has. omega (arith, has.inside), λ has. omega (arith, has.attached), λ has. let whole = has.whole.whole in omega (arith, whole))
 
+-- the size is that of the unit, and not of another
+abbrev two_units : List Attached
+two_units = record { name = 80 ∷ []; size = 41473 } ∷ record { name = 81 ∷ []; size = 41472 } ∷ []
+
+has_track_of_its_unit : HasTrack two_units 1 small 0 × (¬ HasTrack two_units 0 small 0)
+has_track_of_its_unit = (
+  record { attached = omega arith; whole = record { cylinders = omega arith; most = omega arith; track_size = refl; whole = refl }; inside = omega arith },
+  λ has. let whole = has.whole.whole in omega (arith, whole),
+)
+
 -- a read that is done, or finds the grammar broken, leaves the count of faults, and one that fails raises it
 called : (facts : Facts) → TrackCall {T = ℕ} facts facts (Ok 1) × TrackCall {T = ℕ} facts facts (Err (BadCount 1)) × (¬ TrackCall {T = ℕ} facts (record facts { dev_faults = facts.dev_faults + 1 }) (Err (BadCount 1)))
 called facts = (
@@ -153,6 +179,13 @@ called facts = (
 
 failed : (facts : Facts) → facts.dev_faults ≡ 3 → ¬ TrackCall {T = ℕ} facts facts (Err Device)
 failed facts is call = let rose = call.device refl in absurd (omega (arith, is, rose))
+
+-- where it fails the fault is counted, and where it is done none is
+fault_is_counted : (facts : Facts) → TrackCall {T = ℕ} (record facts { dev_faults = 3 }) (record facts { dev_faults = 4 }) (Err Device) × (¬ TrackCall {T = ℕ} (record facts { dev_faults = 3 }) (record facts { dev_faults = 4 }) (Ok 1))
+fault_is_counted facts = (
+  record { units = refl; references = refl; prints = refl; later = omega arith; device = λ is. omega arith; others = λ no. absurd (no refl) },
+  λ call. let still : 4 ≡ 3 = call.others (λ is. cc) in omega (arith, still),
+)
 
 -- by one: a track that can't be read isn't read again
 failed_twice : (facts : Facts) → facts.dev_faults ≡ 3 → ¬ TrackCall {T = ℕ} facts (record facts { dev_faults = 5 }) (Err Device)

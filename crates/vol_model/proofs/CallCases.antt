@@ -126,6 +126,33 @@ base_changed call = let never = call.base in cc
 base_stays : MachineCall (record (counts true 3 5) { base = (7 ∷ []) ∷ [] }) (record (counts true 3 5) { base = (7 ∷ []) ∷ [] }) done
 base_stays = record { base = refl; sound = refl; devices = lit≤ tt; prints = lit≤ tt; device = λ is. absurd (cc is); print = λ is. absurd (cc is); no_device = λ other. refl; no_print = λ other. refl }
 
+-- so does what is refused, whatever for, and what memory was wanting for
+refusal_stays : (r : Refusal) → MachineCall (counts true 3 5) (counts true 3 5) (fails (Refused r))
+refusal_stays r = record { base = refl; sound = refl; devices = lit≤ tt; prints = lit≤ tt; device = λ is. absurd (cc is); print = λ is. absurd (cc is); no_device = λ other. refl; no_print = λ other. refl }
+
+want_stays : MachineCall (counts true 3 5) (counts true 3 5) (fails Memory)
+want_stays = record { base = refl; sound = refl; devices = lit≤ tt; prints = lit≤ tt; device = λ is. absurd (cc is); print = λ is. absurd (cc is); no_device = λ other. refl; no_print = λ other. refl }
+
+-- it is sound by its answer alone, and not by what it was before
+sound_anew : MachineCall (counts false 3 5) (counts true 3 5) done
+sound_anew = record { base = refl; sound = refl; devices = lit≤ tt; prints = lit≤ tt; device = λ is. absurd (cc is); print = λ is. absurd (cc is); no_device = λ other. refl; no_print = λ other. refl }
+
+-- nor is it lost behind a refusal, or where it is done; and neither of them counts a fault
+lost_though_done : (¬ MachineCall (counts true 3 5) (counts false 3 5) done) × ((r : Refusal) → ¬ MachineCall (counts true 3 5) (counts false 3 5) (fails (Refused r)))
+lost_though_done = (λ call. let never = call.sound in cc, λ r call. let never = call.sound in cc)
+
+done_is_no_fault : (¬ MachineCall (counts true 3 5) (counts true 4 5) done) × (¬ MachineCall (counts true 3 5) (counts true 3 6) done) × (¬ MachineCall (counts true 3 5) (counts true 4 5) (fails Memory)) × ((r : Refusal) → ¬ MachineCall (counts true 3 5) (counts true 3 6) (fails (Refused r)))
+done_is_no_fault = (
+  λ call. let still = call.no_device (λ is. cc) in absurd (omega (arith, still)),
+  λ call. let still = call.no_print (λ is. cc) in absurd (omega (arith, still)),
+  λ call. let still = call.no_device (λ is. cc) in absurd (omega (arith, still)),
+  λ r call. let still = call.no_print (λ is. cc) in absurd (omega (arith, still)),
+)
+
+-- what a machine stands on stays also behind a fault
+base_changed_behind_fault : (¬ MachineCall (counts true 3 5) (record (counts false 4 5) { base = (7 ∷ []) ∷ [] }) (fails Device)) × (¬ MachineCall (counts true 3 5) (record (counts true 3 5) { base = (7 ∷ []) ∷ [] }) (fails Memory))
+base_changed_behind_fault = (λ call. let never = call.base in cc, λ call. let never = call.base in cc)
+
 -- of a run the same
 run_device_fault : RunCall (counts true 3 5) (counts false 4 5) (ends stop.Device)
 run_device_fault = record { base = refl; sound = refl; devices = lit≤ tt; prints = lit≤ tt; device = λ is. refl; print = λ is. absurd (cc); no_device = λ other. absurd (other refl); no_print = λ other. refl }

@@ -27,7 +27,7 @@ attaches_apart {file = file} call is read = no_read (λ unit at len reads. let n
     no_read other (OfHeader long is) = other _ _ _ is
     no_read other (OfLabel g header is) = other _ _ _ is
     no_read other (OfVtoc g header label given inside behind (OfFirst is)) = other _ _ _ is
-    no_read other (OfVtoc g header label given inside behind (OfOther vtoc extent (OfNext k low slots firsts tracks is))) = other _ _ _ is
+    no_read other (OfVtoc g header label given inside behind (OfOther vtoc (OfNext k low slots firsts tracks is))) = other _ _ _ is
 
 -- one text was printed, or the printer failed
 pub says_only : {T : Type 0} {made : T → HallCall → ℕ} {done : T → HallCall → Type 0} {synced : T → Type 0} {calls : T → Calls} {text : List ℕ} {code status : ℕ} {old new : T} → MakesOnly (λ call. call ≡ Printing text) (made old) (made new) → MakesOnce (made old) (made new) → StaysDone (done old) (done new) → (status ≡ code → done new (Printing text)) → (status ≡ code) ⊎ (status ≡ 24) → SaysOnly made done synced calls text code status old new

@@ -13,13 +13,13 @@ use Rattle.hall_core.specs.Files.{File}
 use Rattle.hall_core.specs.Made.{HallCall, MakesOnce, MakesOnly, Reading, StaysDone}
 use Rattle.hall_core.specs.Moments.{Meaning, Same}
 use Rattle.hall_core.proofs.MadeLemmas.{makes_then, once_then}
+use Rattle.pack_spec.specs.declared.address.Address.{Address}
 use Rattle.pack_spec.specs.Label.{label_in, label_of, records_on}
 use Rattle.pack_spec.specs.Views.{tracks_of}
 use Rattle.track_records.specs.Buffers.{Buffer}
 use Rattle.track_records.specs.Calls.{HasTrack, track_read}
 use Rattle.track_records.specs.Reads.{IsBroken}
 use Rattle.track_records.specs.Written.{StandsOn}
-use Rattle.pack_spec.specs.declared.addressed.VtocSlot.{VtocSlot}
 use Rattle.vtoc_index.specs.Given.{AreFound, IsBufferGiven, IsNextRead}
 use Rattle.track_records.specs.declared.error.TrackErr.{TrackErr}
 use Rattle.track_records.specs.declared.error.TrackErr.TheVariants as track_errors
@@ -217,10 +217,10 @@ track_once unit g g' from to track before tracks once read same high long =
 pub record KeepsReading (tells : Bool) (c0 c : Calls) (h0 h : HallCall → ℕ) (d0 d : HallCall → Type 0) (f0 f : Facts) (m0 m : Meaning (List File)) (image : List ℕ) (g : Geometry) (unit : ℕ) (vtoc : Run) (len : ℕ) (b0 b : Buffer) (r0 r : ReadSlots) : Type 0 where
   pub calls : CallsAtMost (len - 1) 0 0 0 c0 c
   pub tracks : MakesOnly (IsTrackRead unit g (vtoc.start + 1) (vtoc.start + len)) h0 h
-  pub made : (first : List VtocSlot) → AreFound d0 unit g vtoc.start 1 first r0 → MakesOnly (IsNextRead d unit g vtoc) h0 h
+  pub made : (at : Address) → AreFound d0 unit g at vtoc 1 r0 b0 → MakesOnly (IsNextRead d unit g at vtoc) h0 h
   pub each : MakesOnce h0 h
   pub kept : StaysDone d0 d
-  pub given : (first : List VtocSlot) → AreFound d0 unit g vtoc.start 1 first r0 → AreFound d unit g vtoc.start len first r
+  pub given : (at : Address) → AreFound d0 unit g at vtoc 1 r0 b0 → AreFound d unit g at vtoc len r b
   pub seen : IsBufferGiven d0 unit g b0 → IsBufferGiven d unit g b
   pub facts : FactsStay f0 f
   pub told : IsTrue tells → Same m0 m

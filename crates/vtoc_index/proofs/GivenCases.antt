@@ -1,6 +1,6 @@
 -- The index of the small pack, and why a pack is refused, by what reads gave. Each comment names what a near reading would let through.
-use Rattle.std.proofs.Common.{◌≡◌, ◌⊎◌, ◌+◌, ◌*◌, ◌≤◌, ◌<◌, ⊎_elim, inl, inr, ℕ, zero, suc, List, [], ◌∷◌, ◌++◌, drop, get_or, length, replicate, take, Some, None, refl, sym, ap, ap₂, subst, ◌∙◌, arith}
-use Rattle.std.specs.Prelude.{Option, Ok, Err, option_and_then, slice_range}
+use Rattle.std.proofs.Common.{◌≡◌, ◌⊎◌, ◌+◌, ◌*◌, ◌≤◌, ◌<◌, ⊎_elim, inl, inr, ℕ, zero, suc, List, [], ◌∷◌, ◌++◌, drop, get_or, length, replicate, take, true, false, Some, None, refl, sym, ap, ap₂, subst, ◌∙◌, arith}
+use Rattle.std.specs.Prelude.{Option, Ok, option_and_then, slice_range}
 use Rattle.std.specs.List.{flat_map}
 use Rattle.ckd_image.specs.declared.header.Geometry.{Geometry}
 use Rattle.ckd_image.specs.Header.{geometry_of}
@@ -8,22 +8,21 @@ use Rattle.ckd_image.specs.Reading.{is_front, records_of, records_to_end, record
 use Rattle.ckd_image.specs.Track.{Record}
 use Rattle.ckd_image.specs.Writing.{new_track}
 use Rattle.hall_core.specs.Made.{HallCall, StaysDone, Giving, Reading}
-use Rattle.pack_spec.specs.declared.MountErr.TheVariants.{NoLabel, VtocTrack}
+use Rattle.pack_spec.specs.declared.MountErr.TheVariants.{BadVtoc, NoLabel, VtocTrack}
 use Rattle.pack_spec.specs.declared.addressed.VtocSlot.{VtocSlot}
 use Rattle.pack_spec.specs.declared.address.Address.{Address}
-use Rattle.pack_spec.specs.Label.{address_at, label_in, track_bytes, track_of_address}
+use Rattle.pack_spec.specs.Label.{address_at, is_inside, label_in, track_bytes, track_of_address}
 use Rattle.pack_spec.specs.Slots.{addressed_from}
 use Rattle.pack_spec.specs.Vtoc.{first_slot, slots_in, vtoc_by}
 use Rattle.pack_spec.specs.Written.{label_bytes, label_records, slot_record}
 use Rattle.track_records.specs.Calls.{Gives, HasGiven, records_by, track_read}
 use Rattle.vol_model.specs.declared.contents.Run.{Run}
-use Rattle.vtoc_index.specs.Given.{AreGiven, AreSlotsGiven, BadExtent, BadHeader, BadSlot, Cut, GivesHeader, IsExtentGiven, IsHeaderGiven, IsIndexGiven, IsLabelGiven, IsMountRead, IsNextRead, IsReasonGiven, IsVtocRead, IsVtocReason, NoGeometry, NoSlots, NoVtoc, OfFirst, OfHeader, OfLabel, OfNext, OfOther, OfVtoc, OnLabel, Outside, TooShort, Unlabelled, first_bytes}
+use Rattle.vtoc_index.specs.Given.{AreGiven, AreSlotsGiven, BadExtent, BadHeader, BadSlot, Cut, GivesHeader, IsExtentGiven, IsHeaderGiven, IsIndexGiven, IsLabelGiven, IsMountRead, IsNextRead, IsReasonGiven, IsVtocRead, IsVtocReason, NoGeometry, NoSlots, NoVtoc, OfFirst, OfHeader, OfLabel, OfNext, OfOther, OfVtoc, OnLabel, Outside, TooShort, Unlabelled}
 use Rattle.vtoc_index.specs.declared.vol.Vol.{Vol}
 use Rattle.vtoc_index.proofs.CallsMade.{header_apart}
-use Rattle.vtoc_index.proofs.ExtentLaw.{begins}
-use Rattle.vtoc_index.proofs.GivenLemmas.{header_still}
+use Rattle.vtoc_index.proofs.GivenLemmas.{begun_by_next, begun_by_reason, header_still}
 use Rattle.vtoc_index.proofs.PutCalls.{given_still}
-use Rattle.vtoc_index.proofs.TracksGiven.{given_one}
+use Rattle.vtoc_index.proofs.TracksGiven.{of_vtoc_one}
 use Rattle.vtoc_index.proofs.MountCases.{no_slot_breaks_a_rule}
 use Rattle.vtoc_index.proofs.SmallPack.{a, are_dscbs, b, data_set, extent, first_track, format_4, format_5, four_slots, header_is_read, image, index, one_cylinder, pack01, slot_on, two_tracks}
 
@@ -57,7 +56,7 @@ pub first_is_there : option_and_then slots_in (records_by one_cylinder None 1 (t
 unfolding track_bytes records_of is_front records_to_end
 first_is_there = refl
 
-second_is_there : option_and_then slots_in (records_by one_cylinder None 2 (track_bytes image one_cylinder 2)) ≡ Some (data_set b ∷ data_set a ∷ [])
+pub second_is_there : option_and_then slots_in (records_by one_cylinder None 2 (track_bytes image one_cylinder 2)) ≡ Some (data_set b ∷ data_set a ∷ [])
 unfolding track_bytes records_of is_front records_to_end
 second_is_there = refl
 
@@ -79,13 +78,24 @@ unfolding track_bytes records_of is_front records_to_end
 second_is_whole = refl
 
 -- the first record of the first track of the VTOC gives its extent
-extent_is_there : vtoc_by one_cylinder first_track (option_and_then first_slot (records_by one_cylinder (Some 1) 1 (track_bytes image one_cylinder 1))) ≡ Ok two_tracks
+pub extent_is_there : vtoc_by one_cylinder first_track (option_and_then first_slot (records_by one_cylinder (Some 1) 1 (track_bytes image one_cylinder 1))) ≡ Ok two_tracks
 unfolding track_bytes records_of is_front records_up_to
 extent_is_there = refl
 
 pub zeros_are_no_label : option_and_then label_in (records_by one_cylinder (Some 3) 0 (replicate 4096 0)) ≡ None
 unfolding records_of is_front
 zeros_are_no_label = refl
+
+-- the slots of both tracks, as reads gave them
+unfoldable pub both_given : AreGiven gave_all 0 one_cylinder 1 2 four_slots (0 ∷ 2 ∷ [])
+unfolding gave_all gave_some track_bytes
+both_given = record { found = on_track; read = read; slots_are = refl; firsts_are = refl }
+  where
+    read : (track : ℕ) → 1 ≤ track → track < 1 + 2 → AreSlotsGiven gave_all 0 one_cylinder track (on_track track)
+    read zero low high = absurd (omega (arith, low))
+    read (suc zero) low high = Gives (track_bytes image one_cylinder 1) refl (inl (inr (inr refl))) first_is_there
+    read (suc (suc zero)) low high = Gives (track_bytes image one_cylinder 2) refl (inr refl) second_is_there
+    read (suc (suc (suc track))) low high = absurd (omega (arith, high))
 
 module _ (any : Vol) where
   -- the index with the last track of the VTOC in its buffer
@@ -94,27 +104,21 @@ module _ (any : Vol) where
 
   -- The index is what the reads of header, label and both tracks gave, and so is its buffer.
   pub index_is_given : IsIndexGiven gave_all 41472 holding
-  unfolding gave_all gave_some track_bytes
+  unfolding gave_all gave_some track_bytes both_given
   index_is_given = record {
     header = GivesHeader (take 512 image) refl (inl (inl refl)) header_is_read;
     label = label_bytes pack01 first_track;
     labelled = Gives (track_bytes image one_cylinder 0) refl (inl (inr (inl refl))) label_is_there;
     serial = refl;
     slots = four_slots;
-    extent = refl;
-    given = record { found = on_track; read = read; slots_are = refl; firsts_are = refl };
+    of_vtoc = record { given = both_given; begun = Gives (track_bytes image one_cylinder 1) refl (inl (inr (inr refl))) extent_is_there; extent = λ some. refl };
     dscbs = are_dscbs;
     lawful = no_slot_breaks_a_rule;
     apart = omega arith;
     last = refl;
     buffer = Gives (track_bytes image one_cylinder 2) refl (inr refl) second_is_whole;
+    held = refl;
   }
-    where
-      read : (track : ℕ) → 1 ≤ track → track < 1 + 2 → AreSlotsGiven gave_all 0 one_cylinder track (on_track track)
-      read zero low high = absurd (omega (arith, low))
-      read (suc zero) low high = Gives (track_bytes image one_cylinder 1) refl (inl (inr (inr refl))) first_is_there
-      read (suc (suc zero)) low high = Gives (track_bytes image one_cylinder 2) refl (inr refl) second_is_there
-      read (suc (suc (suc track))) low high = absurd (omega (arith, high))
 
   -- what the reads gave of the label's track is that of the image
   label_given : (content : List ℕ) → IsLabelGiven gave_all 0 one_cylinder content → content ≡ label_bytes pack01 first_track
@@ -174,7 +178,7 @@ module _ (any : Vol) where
   -- No read gave the second track, or none gave anything.
   track_was_not_read : (¬ IsIndexGiven gave_some 41472 (index any)) × (¬ IsIndexGiven (λ call. ⊥) 41472 (index any))
   unfolding gave_some at_in
-  track_was_not_read = ((λ is. unread (is.given.read 2 (omega arith) (omega arith))), λ is. unseen is.header)
+  track_was_not_read = ((λ is. unread (is.of_vtoc.given.read 2 (omega arith) (omega arith))), λ is. unseen is.header)
     where
       unread : {found : List (List ℕ)} → ¬ AreSlotsGiven gave_some 0 one_cylinder 2 found
       unread (Gives bytes size gave is) =
@@ -189,7 +193,7 @@ module _ (any : Vol) where
       unseen (GivesHeader bytes long gave is) = gave
 
 -- What holds of what the first track of the VTOC gave holds of that of the image.
-first_all : {holds : List ℕ → Type 0} → HasGiven gave_all 0 one_cylinder 1 holds → holds (track_bytes image one_cylinder 1)
+pub first_all : {holds : List ℕ → Type 0} → HasGiven gave_all 0 one_cylinder 1 holds → holds (track_bytes image one_cylinder 1)
 unfolding gave_all gave_some at_in bytes_in
 first_all {holds} (Gives bytes size gave is) = subst holds (first bytes gave) is
   where
@@ -204,7 +208,7 @@ first_all {holds} (Gives bytes size gave is) = subst holds (first bytes gave) is
         (λ second. let wrong : 4608 ≡ 8704 = ap at_in second in absurd (omega (arith, wrong)))
 
 -- The same of the second.
-second_all : {holds : List ℕ → Type 0} → HasGiven gave_all 0 one_cylinder 2 holds → holds (track_bytes image one_cylinder 2)
+pub second_all : {holds : List ℕ → Type 0} → HasGiven gave_all 0 one_cylinder 2 holds → holds (track_bytes image one_cylinder 2)
 unfolding gave_all gave_some at_in bytes_in
 second_all {holds} (Gives bytes size gave is) = subst holds (second bytes gave) is
   where
@@ -267,7 +271,7 @@ pack_has_no_label = (
     unread (Unlabelled g header lacks is) = unseen header
     unread (Outside g header label given out is) = unseen header
     unread (OnLabel g header label given there is) = unseen header
-    unread (NoVtoc g header label given inside why) = unseen header
+    unread (NoVtoc g header label given inside behind why) = unseen header
 
 -- ---- which reads mount the pack
 
@@ -275,7 +279,7 @@ pack_has_no_label = (
 gave_label : HallCall → Type 0
 gave_label call = (call ≡ Giving 0 0 0 (take 512 image)) ⊎ (call ≡ Giving 1 0 512 (track_bytes image one_cylinder 0))
 
--- the header, and a label's track whose label leads to that track itself; and beside these other bytes of that track, with the slot of a VTOC of it and the next
+-- the header, and a label's track whose label leads to that track itself; and beside these other bytes of that track, with the slot of a VTOC of it and the next, or of one that begins elsewhere
 abbrev pub own : Address
 own = record { cylinder = 0; head = 0 }
 
@@ -291,8 +295,11 @@ own_slots = new_track 0 0 (slot_record own own_format_4 ∷ []) 4096
 unfoldable pub gave_own : HallCall → Type 0
 gave_own call = (call ≡ Giving 0 0 0 (take 512 image)) ⊎ (call ≡ Giving 1 0 512 own_track)
 
-gave_both : HallCall → Type 0
-gave_both call = gave_own call ⊎ (call ≡ Giving 2 0 512 own_slots)
+own_others : List ℕ
+own_others = new_track 0 0 (slot_record own format_4 ∷ []) 4096
+
+gave_with : List ℕ → HallCall → Type 0
+gave_with other call = gave_own call ⊎ (call ≡ Giving 2 0 512 other)
 
 -- of a read, its unit, its offset and how many bytes it reads
 unfoldable pub number : ℕ → HallCall → ℕ
@@ -365,12 +372,12 @@ reads_are_four call (OfVtoc g header label given inside behind read) = inr (inr 
     of_next (suc zero) low is = inr is
     of_next (suc (suc k)) low is = absurd (omega (arith, low))
 
-    of_two : IsNextRead gave_some 0 one_cylinder two_tracks call → (call ≡ Reading 0 4608 4096) ⊎ (call ≡ Reading 0 8704 4096)
+    of_two : IsNextRead gave_some 0 one_cylinder first_track two_tracks call → (call ≡ Reading 0 4608 4096) ⊎ (call ≡ Reading 0 8704 4096)
     of_two (OfNext k low slots firsts before is) = of_next k (omega (arith, low)) is
 
     of_vtoc : IsVtocRead gave_some 0 one_cylinder first_track call → (call ≡ Reading 0 4608 4096) ⊎ (call ≡ Reading 0 8704 4096)
     of_vtoc (OfFirst is) = inl is
-    of_vtoc (OfOther vtoc extent next) = of_two (subst (λ (run : Run). IsNextRead gave_some 0 one_cylinder run call) (extent_found vtoc extent) next)
+    of_vtoc (OfOther vtoc next) = of_two (subst (λ (run : Run). IsNextRead gave_some 0 one_cylinder first_track run call) (extent_found vtoc (begun_by_next next)) next)
 
 -- The header is read first, then the label's track, and the first and the second track of the VTOC; each by what the reads before it gave, and the second by the extent of the first.
 each_mounts :
@@ -384,9 +391,9 @@ each_mounts = (
   OfLabel one_cylinder (GivesHeader (take 512 image) refl refl header_is_read) refl,
   OfVtoc one_cylinder (GivesHeader (take 512 image) refl (inl refl) header_is_read) (label_bytes pack01 first_track) (Gives (track_bytes image one_cylinder 0) refl (inr refl) label_is_there) refl (omega arith) (OfFirst refl),
   OfVtoc one_cylinder (GivesHeader (take 512 image) refl (inl refl) header_is_read) (label_bytes pack01 first_track) (Gives (track_bytes image one_cylinder 0) refl (inr (inl refl)) label_is_there) refl (omega arith)
-      (OfOther two_tracks (Gives (track_bytes image one_cylinder 1) refl (inr (inr refl)) extent_is_there)
+      (OfOther two_tracks
       (OfNext 1 (omega arith) (slot_on 1 1 format_4 ∷ slot_on 1 2 format_5 ∷ []) (0 ∷ [])
-      (given_one gave_some 0 one_cylinder 1 (format_4 ∷ format_5 ∷ []) (Gives (track_bytes image one_cylinder 1) refl (inr (inr refl)) first_is_there))
+      (of_vtoc_one gave_some 0 one_cylinder first_track two_tracks (format_4 ∷ format_5 ∷ []) (Gives (track_bytes image one_cylinder 1) refl (inr (inr refl)) extent_is_there) (Gives (track_bytes image one_cylinder 1) refl (inr (inr refl)) first_is_there) refl)
       refl)),
 )
 
@@ -448,7 +455,7 @@ none_is_read_too_early = (no_label, no_second, no_header)
 
     of_vtoc : ¬ IsVtocRead gave_label 0 one_cylinder first_track (Reading 0 8704 4096)
     of_vtoc (OfFirst is) = let wrong : 8704 ≡ 4608 = ap (number 1) is in omega (arith, wrong)
-    of_vtoc (OfOther vtoc extent next) = label_alone 1 (omega arith) extent
+    of_vtoc (OfOther vtoc next) = label_alone 1 (omega arith) (begun_by_next next)
 
     no_second : ¬ IsMountRead gave_label 0 41472 (Reading 0 8704 4096)
     no_second (OfHeader long is) = let wrong : 8704 ≡ 0 = ap (number 1) is in omega (arith, wrong)
@@ -460,7 +467,7 @@ none_is_read_too_early = (no_label, no_second, no_header)
     no_header (OfHeader long is) = omega (arith, long)
     no_header (OfLabel g header is) = header_apart 0 0 g 0 (Reading 0 0 512) refl is
     no_header (OfVtoc g header label given inside behind (OfFirst is)) = header_apart 0 0 g _ (Reading 0 0 512) refl is
-    no_header (OfVtoc g header label given inside behind (OfOther vtoc extent (OfNext k low slots firsts before is))) = header_apart 0 0 g (vtoc.start + k) (Reading 0 0 512) refl is
+    no_header (OfVtoc g header label given inside behind (OfOther vtoc (OfNext k low slots firsts before is))) = header_apart 0 0 g (vtoc.start + k) (Reading 0 0 512) refl is
 
 pub own_label_is_there : option_and_then label_in (records_by one_cylinder (Some 3) 0 own_track) ≡ Some (label_bytes pack01 own)
 unfolding own_track label_in records_of is_front records_to_end records_up_to
@@ -470,47 +477,79 @@ own_slots_are_no_label : option_and_then label_in (records_by one_cylinder (Some
 unfolding own_slots records_of is_front records_to_end records_up_to
 own_slots_are_no_label = refl
 
+own_others_are_no_label : option_and_then label_in (records_by one_cylinder (Some 3) 0 own_others) ≡ None
+unfolding own_others records_of is_front records_to_end records_up_to
+own_others_are_no_label = refl
+
+-- what these reads give of the header and of the label is what the first of them gave
+module _ (other : List ℕ) (none : option_and_then label_in (records_by one_cylinder (Some 3) 0 other) ≡ None) where
+  header_with : (g : Geometry) → IsHeaderGiven (gave_with other) 0 41472 g → g ≡ one_cylinder
+  unfolding gave_with gave_own at_in bytes_in
+  header_with g (GivesHeader bytes long gave is) = let same : Ok g ≡ Ok one_cylinder = sym is ∙ ap (λ (l : List ℕ). geometry_of l 41472) (bytes_are gave) ∙ header_is_read in cc
+    where
+      bytes_are : {before : ℕ} → gave_with other (Giving before 0 0 bytes) → bytes ≡ take 512 image
+      bytes_are =
+          ⊎_elim
+          (⊎_elim
+          (λ header. ap bytes_in header)
+          (λ label. let wrong : 0 ≡ 512 = ap at_in label in absurd (omega (arith, wrong))))
+          (λ slots. let wrong : 0 ≡ 512 = ap at_in slots in absurd (omega (arith, wrong)))
+
+  label_with : (label : List ℕ) → IsLabelGiven (gave_with other) 0 one_cylinder label → label ≡ label_bytes pack01 own
+  unfolding gave_with gave_own at_in bytes_in
+  label_with label (Gives bytes size gave is) =
+      ⊎_elim
+      (⊎_elim
+      (λ header. let wrong : 512 ≡ 0 = ap at_in header in absurd (omega (arith, wrong)))
+      (λ track. sym (some_same (by_bytes own_track (Some (label_bytes pack01 own)) (ap bytes_in track) own_label_is_there))))
+      (λ slots. let wrong : None ≡ Some label = by_bytes other None (ap bytes_in slots) none in absurd (cc wrong))
+      gave
+    where
+      by_bytes : (found : List ℕ) (o : Option (List ℕ)) → bytes ≡ found → option_and_then label_in (records_by one_cylinder (Some 3) 0 found) ≡ o → o ≡ Some label
+      by_bytes found o same there = sym there ∙ ap (λ (l : List ℕ). option_and_then label_in (records_by one_cylinder (Some 3) 0 l)) (sym same) ∙ is
+
+  -- so what holds where the label leads holds of its own track
+  leads_to_own : (P : Geometry → Address → Type 0) (g : Geometry) (label : List ℕ) → IsHeaderGiven (gave_with other) 0 41472 g → IsLabelGiven (gave_with other) 0 g label → P g (address_at 11 label) → P one_cylinder own
+  leads_to_own P g label header given holds =
+      let same = header_with g header in
+      let there = label_with label (subst (λ (x : Geometry). IsLabelGiven (gave_with other) 0 x label) same given) in
+      subst (λ (l : List ℕ). P one_cylinder (address_at 11 l)) there (subst (λ (x : Geometry). P x (address_at 11 label)) same holds)
+
 -- where the label leads to its own track none behind that is read, though other bytes of it have the extent of a VTOC
-no_vtoc_on_its_track : IsVtocRead gave_both 0 one_cylinder own (Reading 0 4608 4096) × (¬ IsMountRead gave_both 0 41472 (Reading 0 4608 4096))
-unfolding gave_both gave_own own_slots records_of is_front records_to_end records_up_to at_in bytes_in number
+no_vtoc_on_its_track : IsVtocRead (gave_with own_slots) 0 one_cylinder own (Reading 0 4608 4096) × (¬ IsMountRead (gave_with own_slots) 0 41472 (Reading 0 4608 4096))
+unfolding gave_with own_slots records_of is_front records_to_end records_up_to number
 no_vtoc_on_its_track = (
-  OfOther (record { start = 0; len = 2 }) (Gives own_slots refl (inr refl) refl) (OfNext 1 (omega arith) (slot_on 0 1 own_format_4 ∷ []) (0 ∷ []) (given_one gave_both 0 one_cylinder 0 (own_format_4 ∷ []) (Gives own_slots refl (inr refl) refl)) refl),
+  OfOther (record { start = 0; len = 2 })
+      (OfNext 1 (omega arith) (slot_on 0 1 own_format_4 ∷ []) (0 ∷ []) (of_vtoc_one (gave_with own_slots) 0 one_cylinder own (record { start = 0; len = 2 }) (own_format_4 ∷ []) (Gives own_slots refl (inr refl) refl) (Gives own_slots refl (inr refl) refl) refl) refl),
   not_read,
 )
   where
-    header_bytes_both : {before : ℕ} (bytes : List ℕ) → gave_both (Giving before 0 0 bytes) → bytes ≡ take 512 image
-    header_bytes_both bytes =
-        ⊎_elim
-        (⊎_elim
-        (λ header. ap bytes_in header)
-        (λ label. let wrong : 0 ≡ 512 = ap at_in label in absurd (omega (arith, wrong))))
-        (λ slots. let wrong : 0 ≡ 512 = ap at_in slots in absurd (omega (arith, wrong)))
-
-    header_both : (g : Geometry) → IsHeaderGiven gave_both 0 41472 g → g ≡ one_cylinder
-    header_both g (GivesHeader bytes long gave is) = let same : Ok g ≡ Ok one_cylinder = sym is ∙ ap (λ (l : List ℕ). geometry_of l 41472) (header_bytes_both bytes gave) ∙ header_is_read in cc
-
-    by_bytes : (label bytes found : List ℕ) (o : Option (List ℕ)) → bytes ≡ found → option_and_then label_in (records_by one_cylinder (Some 3) 0 found) ≡ o → option_and_then label_in (records_by one_cylinder (Some 3) 0 bytes) ≡ Some label → o ≡ Some label
-    by_bytes label bytes found o same there is = sym there ∙ ap (λ (l : List ℕ). option_and_then label_in (records_by one_cylinder (Some 3) 0 l)) (sym same) ∙ is
-
-    label_both : (label : List ℕ) → IsLabelGiven gave_both 0 one_cylinder label → label ≡ label_bytes pack01 own
-    label_both label (Gives bytes size gave is) =
-        ⊎_elim
-        (⊎_elim
-        (λ header. let wrong : 512 ≡ 0 = ap at_in header in absurd (omega (arith, wrong)))
-        (λ track. sym (some_same (by_bytes label bytes own_track (Some (label_bytes pack01 own)) (ap bytes_in track) own_label_is_there is))))
-        (λ slots. let wrong : None ≡ Some label = by_bytes label bytes own_slots None (ap bytes_in slots) own_slots_are_no_label is in absurd (cc wrong))
-        gave
-
     at_label : Reading 0 4608 4096 ≡ track_read 0 one_cylinder 0 → ⊥
     at_label is = let wrong : 4608 ≡ 512 = ap (number 1) is in omega (arith, wrong)
 
-    not_read : ¬ IsMountRead gave_both 0 41472 (Reading 0 4608 4096)
+    not_read : ¬ IsMountRead (gave_with own_slots) 0 41472 (Reading 0 4608 4096)
     not_read (OfHeader long is) = let wrong : 4608 ≡ 0 = ap (number 1) is in omega (arith, wrong)
-    not_read (OfLabel g header is) = at_label (is ∙ ap (λ (x : Geometry). track_read 0 x 0) (header_both g header))
+    not_read (OfLabel g header is) = at_label (is ∙ ap (λ (x : Geometry). track_read 0 x 0) (header_with own_slots own_slots_are_no_label g header))
     not_read (OfVtoc g header label given inside behind read) =
-        let same = header_both g header in
-        let there = label_both label (subst (λ (x : Geometry). IsLabelGiven gave_both 0 x label) same given) in
-        let low : 1 ≤ 0 = subst (λ (l : List ℕ). 1 ≤ track_of_address one_cylinder (address_at 11 l)) there (subst (λ (x : Geometry). 1 ≤ track_of_address x (address_at 11 label)) same behind) in
+        let low : 1 ≤ 0 = leads_to_own own_slots own_slots_are_no_label (λ (x : Geometry) (at : Address). 1 ≤ track_of_address x at) g label header given behind in
+        omega (arith, low)
+
+-- and what those bytes break as a VTOC's is no reason then
+no_reason_on_its_track : IsVtocReason (gave_with own_others) 0 one_cylinder own BadVtoc × (¬ IsReasonGiven (gave_with own_others) 0 41472 BadVtoc)
+unfolding gave_with own_others records_of is_front records_up_to
+no_reason_on_its_track = (BadExtent (Gives own_others refl (inr refl) refl), no_reason)
+  where
+    no_reason : ¬ IsReasonGiven (gave_with own_others) 0 41472 BadVtoc
+    no_reason (Cut is) = ⊎_elim (λ device. cc device) (λ memory. cc memory) is
+    no_reason (BadHeader (TooShort short is)) = omega (arith, short)
+    no_reason (BadHeader (NoGeometry bytes long gave why none is)) = cc is
+    no_reason (Unlabelled g header lacks is) = cc is
+    no_reason (Outside g header label given out is) =
+        let wrong : true ≡ false = leads_to_own own_others own_others_are_no_label (λ (x : Geometry) (at : Address). is_inside x at ≡ false) g label header given out in
+        cc wrong
+    no_reason (OnLabel g header label given there is) = cc is
+    no_reason (NoVtoc g header label given inside behind why) =
+        let low : 1 ≤ 0 = leads_to_own own_others own_others_are_no_label (λ (x : Geometry) (at : Address). 1 ≤ track_of_address x at) g label header given behind in
         omega (arith, low)
 
 -- A label that leads to its own track gives that as the broken one of the VTOC; one that leads to the next doesn't.
@@ -526,23 +565,10 @@ label_on_its_track = (
         let wrong : 1 ≡ 0 = led (λ (x : Geometry) (at : Address). track_of_address x at ≡ 0) g label (header_still header label_stays) (given_still given label_stays) there in
         omega (arith, wrong)
 
-    no_slots : (start len : ℕ) (slots : List VtocSlot) (firsts : List ℕ) → 1 ≤ start → AreGiven gave_label 0 one_cylinder start len slots firsts → slots ≡ []
-    no_slots start zero slots firsts behind given = given.slots_are
-    no_slots start (suc len) slots firsts behind given = absurd (label_alone start behind (given.read start (omega arith) (omega arith)))
-
-    begins_there : (o : Option (List ℕ)) (vtoc : Run) → vtoc_by one_cylinder first_track o ≡ Ok vtoc → vtoc.start ≡ 1
-    begins_there None vtoc is = cc
-    begins_there (Some slot) vtoc is = begins one_cylinder first_track vtoc slot is
-
-    no_extent : (vtoc : Run) (slots : List VtocSlot) → slots ≡ [] → ¬ (vtoc_by one_cylinder first_track (first_bytes slots) ≡ Ok vtoc)
-    no_extent vtoc slots none is = let wrong : Err (VtocTrack 1) ≡ Ok vtoc = sym (ap (λ (l : List VtocSlot). vtoc_by one_cylinder first_track (first_bytes l)) none) ∙ is in cc
-
     no_vtoc : ¬ IsVtocReason gave_label 0 one_cylinder first_track (VtocTrack 0)
     no_vtoc (BadExtent extent) = label_alone 1 (omega arith) extent
-    no_vtoc (NoSlots vtoc extent why) = label_alone 1 (omega arith) extent
-    no_vtoc (BadSlot vtoc slots firsts is given fault) =
-        let start = begins_there (first_bytes slots) vtoc is in
-        no_extent vtoc slots (no_slots vtoc.start vtoc.len slots firsts (omega (arith, start)) given) is
+    no_vtoc (NoSlots vtoc why) = label_alone 1 (omega arith) (begun_by_reason why)
+    no_vtoc (BadSlot vtoc slots firsts are fault) = label_alone 1 (omega arith) are.begun
 
     leads_on : ¬ IsReasonGiven gave_label 0 41472 (VtocTrack 0)
     leads_on (Cut is) = ⊎_elim (λ device. cc device) (λ memory. cc memory) is
@@ -551,5 +577,5 @@ label_on_its_track = (
     leads_on (Unlabelled g header lacks is) = cc is
     leads_on (Outside g header label given out is) = cc is
     leads_on (OnLabel g header label given there is) = other header given there
-    leads_on (NoVtoc g header label given inside why) =
+    leads_on (NoVtoc g header label given inside behind why) =
         no_vtoc (led (λ (x : Geometry) (at : Address). IsVtocReason gave_label 0 x at (VtocTrack 0)) g label (header_still header label_stays) (given_still given label_stays) why)

@@ -1,5 +1,5 @@
 -- Tracks that were read, by what the reads gave.
-use Rattle.std.proofs.Common.{◌≡◌, ◌∙◌, ◌+◌, ℕ, suc, Bool, true, false, cond, List, [], ◌∷◌, ◌++◌, length, map, take, Option, Some, None, refl, sym, ap, subst, arith, append_assoc, append-nil}
+use Rattle.std.proofs.Common.{◌≡◌, ◌∙◌, ◌+◌, ℕ, suc, Bool, true, false, cond, List, [], ◌∷◌, ◌++◌, length, map, take, Option, Some, None, refl, sym, ap, ap₂, subst, arith}
 use Rattle.std.specs.Prelude.{◌<◌, ◌≤◌, Ok, Err, IfErr, Result, option_and_then, slice_get, ◌&&◌}
 use Rattle.std.specs.List.{list_all}
 use Rattle.ckd_image.specs.declared.header.Geometry.{Geometry}
@@ -10,20 +10,21 @@ use Rattle.pack_spec.specs.declared.address.Address.{Address}
 use Rattle.pack_spec.specs.declared.addressed.VtocSlot.{VtocSlot}
 use Rattle.pack_spec.specs.declared.MountErr.{MountErr}
 use Rattle.pack_spec.specs.declared.MountErr.TheVariants.{VtocTrack}
-use Rattle.pack_spec.specs.Label.{label_in}
+use Rattle.pack_spec.specs.Label.{address_at, label_in}
 use Rattle.pack_spec.specs.Slots.{addressed_from}
 use Rattle.pack_spec.specs.Vtoc.{first_slot, is_slot, slot_bytes, slots_in, vtoc_by}
+use Rattle.track_records.specs.Buffers.{Buffer}
 use Rattle.track_records.specs.Calls.{Gives, HasGiven, records_by, track_read}
 use Rattle.vol_model.specs.declared.contents.Run.{Run}
 use Rattle.vtoc_index.specs.Contents.{AreRead}
-use Rattle.vtoc_index.specs.Given.{AreFound, AreGiven, AreSlotsGiven, AreSlotsLacking, BadExtent, BadHeader, BadSlot, Cut, GivesHeader, IsHeaderGiven, IsIndexGiven, IsLabelGiven, IsLabelLacking, IsMountRead, IsNextRead, IsReasonGiven, IsTrackReason, IsVtocRead, IsVtocReason, NoGeometry, NoSlots, NoVtoc, OfFirst, OfHeader, OfLabel, OfNext, OfOther, OfVtoc, OnLabel, Outside, TooShort, TrackLacks, Unlabelled, first_bytes}
+use Rattle.vtoc_index.specs.Given.{AreFound, AreGiven, AreOfVtoc, AreSlotsGiven, AreSlotsLacking, BadExtent, BadHeader, BadSlot, Cut, GivesHeader, IsExtentGiven, IsHeaderGiven, IsIndexGiven, IsLabelGiven, IsLabelLacking, IsMountRead, IsNextRead, IsReasonGiven, IsTrackReason, IsVtocRead, IsVtocReason, NoGeometry, NoSlots, NoVtoc, OfFirst, OfHeader, OfLabel, OfNext, OfOther, OfVtoc, OnLabel, Outside, TooShort, TrackLacks, Unlabelled}
 use Rattle.vtoc_index.specs.Reading.{Adds, IsLabel, Says}
 use Rattle.vtoc_index.specs.declared.label.Label.{Label}
 use Rattle.vtoc_index.specs.declared.slots.ReadSlot.{ReadSlot}
 use Rattle.vtoc_index.specs.declared.tracks.ReadSlots.{ReadSlots}
 use Rattle.vtoc_index.specs.declared.vol.Vol.{Vol}
 use Rattle.vtoc_index.proofs.PutCalls.{given_still}
-use Rattle.vtoc_index.proofs.TracksGiven.{given_more, given_none}
+use Rattle.vtoc_index.proofs.TracksGiven.{given_more, given_one, of_vtoc_none}
 use Rattle.vtoc_index.proofs.TracksRead.{AreRead-append, AreRead-length}
 
 -- what was given was given still, where nothing is taken back of what was done
@@ -31,11 +32,22 @@ use Rattle.vtoc_index.proofs.TracksRead.{AreRead-append, AreRead-length}
 pub header_still : {done later : HallCall → Type 0} {unit size : ℕ} {g : Geometry} → IsHeaderGiven done unit size g → StaysDone done later → IsHeaderGiven later unit size g
 header_still (GivesHeader bytes long gave is) kept = GivesHeader bytes long (kept _ gave) is
 
-pub tracks_still : {done later : HallCall → Type 0} (unit : ℕ) (g : Geometry) (start len : ℕ) (slots : List VtocSlot) (firsts : List ℕ) → StaysDone done later → AreGiven done unit g start len slots firsts → AreGiven later unit g start len slots firsts
+abbrev pub tracks_still : {done later : HallCall → Type 0} (unit : ℕ) (g : Geometry) (start len : ℕ) (slots : List VtocSlot) (firsts : List ℕ) → StaysDone done later → AreGiven done unit g start len slots firsts → AreGiven later unit g start len slots firsts
 tracks_still unit g start len slots firsts kept given = record { found = given.found; read = λ track low high. given_still (given.read track low high) kept; slots_are = given.slots_are; firsts_are = given.firsts_are }
 
-pub found_still : {done later : HallCall → Type 0} {unit : ℕ} {g : Geometry} {start len : ℕ} {first : List VtocSlot} {found : ReadSlots} → AreFound done unit g start len first found → StaysDone done later → AreFound later unit g start len first found
-found_still {unit = unit} {g = g} {start = start} {len = len} {found = found} are kept = record { slots = are.slots; given = tracks_still unit g start len are.slots found.firsts.items kept are.given; read = are.read; begins = are.begins }
+abbrev pub of_vtoc_still : {done later : HallCall → Type 0} (unit : ℕ) (g : Geometry) (at : Address) (vtoc : Run) (len : ℕ) (slots : List VtocSlot) (firsts : List ℕ) → StaysDone done later → AreOfVtoc done unit g at vtoc len slots firsts → AreOfVtoc later unit g at vtoc len slots firsts
+of_vtoc_still unit g at vtoc len slots firsts kept are = record { given = tracks_still unit g vtoc.start len slots firsts kept are.given; begun = given_still are.begun kept; extent = are.extent }
+
+-- and they are so at the address by another name
+abbrev pub at_label : {done : HallCall → Type 0} {unit : ℕ} (g : Geometry) {at there : Address} (vtoc : Run) {len : ℕ} {slots : List VtocSlot} {firsts : List ℕ} → at ≡ there → AreOfVtoc done unit g at vtoc len slots firsts → AreOfVtoc done unit g there vtoc len slots firsts
+at_label {done = done} {unit = unit} g vtoc same are = record {
+  given = are.given;
+  begun = subst (λ (a : Address). IsExtentGiven done unit g a (Ok vtoc)) same are.begun;
+  extent = λ some. subst (λ (a : Address). vtoc_by g a (slice_get (are.given.found vtoc.start) 0) ≡ Ok vtoc) same (are.extent some);
+}
+
+pub found_still : {done later : HallCall → Type 0} {unit : ℕ} {g : Geometry} {at : Address} {vtoc : Run} {len : ℕ} {found : ReadSlots} {b : Buffer} → AreFound done unit g at vtoc len found b → StaysDone done later → AreFound later unit g at vtoc len found b
+found_still {unit = unit} {g = g} {at = at} {vtoc = vtoc} {len = len} {found = found} are kept = record { slots = are.slots; of_vtoc = of_vtoc_still unit g at vtoc len are.slots found.firsts.items kept are.of_vtoc; read = are.read; last = are.last; held = are.held }
 
 pub index_still : {done later : HallCall → Type 0} {size : ℕ} {v : Vol} → IsIndexGiven done size v → StaysDone done later → IsIndexGiven later size v
 index_still {v = v} is kept = record {
@@ -44,13 +56,13 @@ index_still {v = v} is kept = record {
   labelled = given_still is.labelled kept;
   serial = is.serial;
   slots = is.slots;
-  extent = is.extent;
-  given = tracks_still v.unit v.geometry v.vtoc.start v.vtoc.len is.slots v.firsts.items kept is.given;
+  of_vtoc = of_vtoc_still v.unit v.geometry (address_at 11 is.label) v.vtoc v.vtoc.len is.slots v.firsts.items kept is.of_vtoc;
   dscbs = is.dscbs;
   lawful = is.lawful;
   apart = is.apart;
   last = is.last;
   buffer = given_still is.buffer kept;
+  held = is.held;
 }
 
 -- the bytes of a track's slots, by those of its records
@@ -65,47 +77,35 @@ label_by unit g records x (Some content) (Gives bytes size gave read) is says = 
 pub label_given : {done : HallCall → Type 0} (unit : ℕ) (g : Geometry) (records : List Record) → HasGiven done unit g 0 (λ bytes. records_by g (Some 3) 0 bytes ≡ Some records) → (x : Label) → IsLabel (label_in records) x → (content : List ℕ) × IsLabelGiven done unit g content × Says x content
 label_given unit g records given x says = label_by unit g records x (label_in records) given refl says
 
--- no track was read yet
-pub found_none : (done : HallCall → Type 0) (unit : ℕ) (g : Geometry) (start : ℕ) (found : ReadSlots) → found.slots.items ≡ [] → found.firsts.items ≡ [] → AreFound done unit g start 0 [] found
-found_none done unit g start found no_slots no_firsts = record { slots = []; given = given_none done unit g start [] found.firsts.items refl no_firsts; read = subst (λ (l : List ReadSlot). AreRead l []) (sym no_slots) tt; begins = ([], refl) }
-
 -- one more track
 pub found_more :
-    (done : HallCall → Type 0) (unit : ℕ) (g : Geometry) (start len track : ℕ) (first : List VtocSlot) (records : List Record) (old new : ReadSlots)
-    → track ≡ start + len
-    → AreFound done unit g start len first old
-    → HasGiven done unit g track (λ bytes. records_by g None track bytes ≡ Some records)
+    (done : HallCall → Type 0) (unit : ℕ) (g : Geometry) (at : Address) (vtoc : Run) (len track : ℕ) (old new : ReadSlots) (b b' : Buffer)
+    → 1 ≤ len
+    → track ≡ vtoc.start + len
+    → AreFound done unit g at vtoc len old b
+    → HasGiven done unit g track (λ bytes. records_by g None track bytes ≡ Some b'.records)
     → new.firsts.items ≡ old.firsts.items ++ length old.slots.items ∷ []
-    → Adds g track records old.slots.items new.slots.items
-    → AreFound done unit g start (suc len) first new
-found_more done unit g start len track first records old new at are given firsts adds =
-    let here : AreSlotsGiven done unit g (start + len) adds.bytes = subst (λ (t : ℕ). AreSlotsGiven done unit g t adds.bytes) at (slots_given unit g track records adds.bytes given adds.are_slots) in
-    let more : addressed_from g track 1 adds.bytes ≡ addressed_from g (start + len) 1 adds.bytes = ap (λ (t : ℕ). addressed_from g t 1 adds.bytes) at in
+    → Adds g track b'.records old.slots.items new.slots.items
+    → b'.track ≡ track
+    → AreFound done unit g at vtoc (suc len) new b'
+found_more done unit g at vtoc len track old new b b' some next are given firsts adds there =
+    let here : AreSlotsGiven done unit g (vtoc.start + len) adds.bytes = subst (λ (t : ℕ). AreSlotsGiven done unit g t adds.bytes) next (slots_given unit g track b'.records adds.bytes given adds.are_slots) in
+    let same : addressed_from g track 1 adds.bytes ≡ addressed_from g (vtoc.start + len) 1 adds.bytes = ap (λ (t : ℕ). addressed_from g t 1 adds.bytes) next in
     let numbers : new.firsts.items ≡ old.firsts.items ++ length are.slots ∷ [] = firsts ∙ ap (λ (n : ℕ). old.firsts.items ++ n ∷ []) (AreRead-length old.slots.items are.slots are.read) in
+    let more = given_more done unit g vtoc.start len are.slots old.firsts.items new.firsts.items adds.bytes are.of_vtoc.given here numbers in
     record {
-      slots = are.slots ++ addressed_from g (start + len) 1 adds.bytes;
-      given = subst (AreGiven done unit g start (suc len) (are.slots ++ addressed_from g (start + len) 1 adds.bytes)) (sym numbers) (given_more done unit g start len are.slots old.firsts.items adds.bytes are.given here);
+      slots = are.slots ++ addressed_from g (vtoc.start + len) 1 adds.bytes;
+      of_vtoc = record {
+        given = more.0;
+        begun = are.of_vtoc.begun;
+        extent = λ one. ap (λ (l : List (List ℕ)). vtoc_by g at (slice_get l 0)) (more.2 vtoc.start (omega (arith, some))) ∙ are.of_vtoc.extent some;
+      };
       read =
-          subst (λ (l : List ReadSlot). AreRead l (are.slots ++ addressed_from g (start + len) 1 adds.bytes)) (sym adds.added)
-          (AreRead-append old.slots.items adds.slots are.slots (addressed_from g (start + len) 1 adds.bytes) are.read (subst (λ (l : List VtocSlot). AreRead adds.slots l) more adds.read));
-      begins = (are.begins.0 ++ addressed_from g (start + len) 1 adds.bytes, ap (λ (l : List VtocSlot). l ++ addressed_from g (start + len) 1 adds.bytes) are.begins.1 ∙ append_assoc first are.begins.0 (addressed_from g (start + len) 1 adds.bytes));
+          subst (λ (l : List ReadSlot). AreRead l (are.slots ++ addressed_from g (vtoc.start + len) 1 adds.bytes)) (sym adds.added)
+          (AreRead-append old.slots.items adds.slots are.slots (addressed_from g (vtoc.start + len) 1 adds.bytes) are.read (subst (λ (l : List VtocSlot). AreRead adds.slots l) same adds.read));
+      last = omega (arith, there, next);
+      held = adds.are_slots ∙ ap Some (sym more.1 ∙ ap more.0.found (sym (there ∙ next)));
     }
-
--- of the first track: its slots are those that all begin with, and the extent goes by the first of them
-
-pub first_found :
-    (done : HallCall → Type 0) (unit : ℕ) (g : Geometry) (start : ℕ) (records : List Record) (old new : ReadSlots)
-    → old.slots.items ≡ []
-    → old.firsts.items ≡ []
-    → HasGiven done unit g start (λ bytes. records_by g None start bytes ≡ Some records)
-    → new.firsts.items ≡ old.firsts.items ++ length old.slots.items ∷ []
-    → (adds : Adds g start records old.slots.items new.slots.items)
-    → AreFound done unit g start 1 (addressed_from g start 1 adds.bytes) new
-unfolding found_more found_none
-first_found done unit g start records old new no_slots no_firsts given firsts adds =
-    let zero_more : start ≡ start + 0 = omega arith in
-    let all = found_more done unit g start 0 start [] records old new zero_more (found_none done unit g start old no_slots no_firsts) given firsts adds in
-    record { slots = all.slots; given = all.given; read = all.read; begins = ([], ap (λ (t : ℕ). addressed_from g t 1 adds.bytes) (sym zero_more) ∙ sym (append-nil (addressed_from g start 1 adds.bytes))) }
 
 one_slot : (b c : Bool) (x : List ℕ) (xs found : List (List ℕ)) → cond (b && c) (Some (x ∷ xs)) None ≡ Some found → cond b (Some x) None ≡ slice_get found 0
 one_slot true true x xs found is = let same : x ∷ xs ≡ found = cc in ap (λ (l : List (List ℕ)). slice_get l 0) same
@@ -116,20 +116,31 @@ first_is : (records : List Record) (found : List (List ℕ)) → slots_in record
 first_is [] found is = let same : [] ≡ found = cc in ap (λ (l : List (List ℕ)). slice_get l 0) same
 first_is (x ∷ xs) found is = one_slot (is_slot x) (list_all is_slot xs) (slot_bytes x) (map slot_bytes xs) found is
 
-addressed_first : (g : Geometry) (track : ℕ) (found : List (List ℕ)) → first_bytes (addressed_from g track 1 found) ≡ slice_get found 0
-addressed_first g track [] = refl
-addressed_first g track (bytes ∷ found) = refl
-
-pub extent_first : (g : Geometry) (at : Address) (track : ℕ) (records : List Record) (found : List (List ℕ)) (vtoc : Run) → slots_in records ≡ Some found → vtoc_by g at (first_slot (take 1 records)) ≡ Ok vtoc → vtoc_by g at (first_bytes (addressed_from g track 1 found)) ≡ Ok vtoc
-extent_first g at track records found vtoc are is = ap (vtoc_by g at) (addressed_first g track found ∙ sym (first_is records found are)) ∙ is
-
--- slots that begin with some begin with the first of these, where there is one
-begins_first : (first more : List VtocSlot) (g : Geometry) (at : Address) (vtoc : Run) → vtoc_by g at (first_bytes first) ≡ Ok vtoc → first_bytes (first ++ more) ≡ first_bytes first
-begins_first [] more g at vtoc is = let wrong = is in absurd (cc wrong)
-begins_first (s ∷ first) more g at vtoc is = refl
-
-pub extent_all : (g : Geometry) (at : Address) (vtoc : Run) (first slots more : List VtocSlot) → slots ≡ first ++ more → vtoc_by g at (first_bytes first) ≡ Ok vtoc → vtoc_by g at (first_bytes slots) ≡ Ok vtoc
-extent_all g at vtoc first slots more same is = ap (λ (l : List VtocSlot). vtoc_by g at (first_bytes l)) same ∙ ap (vtoc_by g at) (begins_first first more g at vtoc is) ∙ is
+-- the first track of a VTOC: the extent goes by the first of its slots
+pub first_found :
+    (done : HallCall → Type 0) (unit : ℕ) (g : Geometry) (at : Address) (vtoc : Run) (old new : ReadSlots) (b : Buffer)
+    → old.slots.items ≡ []
+    → old.firsts.items ≡ []
+    → IsExtentGiven done unit g at (Ok vtoc)
+    → HasGiven done unit g vtoc.start (λ bytes. records_by g None vtoc.start bytes ≡ Some b.records)
+    → new.firsts.items ≡ old.firsts.items ++ length old.slots.items ∷ []
+    → Adds g vtoc.start b.records old.slots.items new.slots.items
+    → b.track ≡ vtoc.start
+    → vtoc_by g at (first_slot (take 1 b.records)) ≡ Ok vtoc
+    → AreFound done unit g at vtoc 1 new b
+first_found done unit g at vtoc old new b no_slots no_firsts begun given firsts adds there is =
+    let one = given_one done unit g vtoc.start adds.bytes (slots_given unit g vtoc.start b.records adds.bytes given adds.are_slots) in
+    record {
+      slots = addressed_from g vtoc.start 1 adds.bytes;
+      of_vtoc = record {
+        given = record { found = one.found; read = one.read; slots_are = one.slots_are; firsts_are = firsts ∙ ap₂ (λ (l : List ℕ) (m : List ReadSlot). l ++ length m ∷ []) no_firsts no_slots };
+        begun = begun;
+        extent = λ some. ap (vtoc_by g at) (sym (first_is b.records adds.bytes adds.are_slots)) ∙ is;
+      };
+      read = subst (λ (l : List ReadSlot). AreRead l (addressed_from g vtoc.start 1 adds.bytes)) (sym (adds.added ∙ ap (λ (l : List ReadSlot). l ++ adds.slots) no_slots)) adds.read;
+      last = omega (arith, there);
+      held = adds.are_slots;
+    }
 
 -- ---- why a pack is refused
 
@@ -157,18 +168,22 @@ pub other_label : {done : HallCall → Type 0} {unit : ℕ} (g : Geometry) (reco
 other_label g records (Gives bytes size gave is) none = Gives bytes size gave (ap (option_and_then label_in) is ∙ none)
 
 -- a track of a VTOC, the k-th, that lacks slots
-pub track_lacks : (done : HallCall → Type 0) (unit : ℕ) (g : Geometry) (vtoc : Run) (k track : ℕ) (e : MountErr) (slots : List VtocSlot) (firsts : List ℕ) → k < vtoc.len → track ≡ vtoc.start + k → AreGiven done unit g vtoc.start k slots firsts → AreSlotsLacking done unit g track → e ≡ VtocTrack track → IsTrackReason done unit g vtoc e
-track_lacks done unit g vtoc k track e slots firsts low at given lacks is =
-    TrackLacks k low slots firsts given (subst (λ (t : ℕ). AreSlotsLacking done unit g t) at lacks) (is ∙ ap VtocTrack at)
+pub track_lacks : (done : HallCall → Type 0) (unit : ℕ) (g : Geometry) (at : Address) (vtoc : Run) (k track : ℕ) (e : MountErr) (slots : List VtocSlot) (firsts : List ℕ) → k < vtoc.len → track ≡ vtoc.start + k → AreOfVtoc done unit g at vtoc k slots firsts → AreSlotsLacking done unit g track → e ≡ VtocTrack track → IsTrackReason done unit g at vtoc e
+track_lacks done unit g at vtoc k track e slots firsts low there given lacks is =
+    TrackLacks k low slots firsts given (subst (λ (t : ℕ). AreSlotsLacking done unit g t) there lacks) (is ∙ ap VtocTrack there)
 
 -- the first track of a VTOC lacks slots
-pub first_lacks : (done : HallCall → Type 0) (unit : ℕ) (g : Geometry) (vtoc : Run) (e : MountErr) → 1 ≤ vtoc.len → AreSlotsLacking done unit g vtoc.start → e ≡ VtocTrack vtoc.start → IsTrackReason done unit g vtoc e
-first_lacks done unit g vtoc e some lacks is = track_lacks done unit g vtoc 0 vtoc.start e [] [] (omega (arith, some)) (omega arith) (given_none done unit g vtoc.start [] [] refl refl) lacks is
+pub first_lacks : (done : HallCall → Type 0) (unit : ℕ) (g : Geometry) (at : Address) (vtoc : Run) (e : MountErr) → 1 ≤ vtoc.len → IsExtentGiven done unit g at (Ok vtoc) → AreSlotsLacking done unit g vtoc.start → e ≡ VtocTrack vtoc.start → IsTrackReason done unit g at vtoc e
+first_lacks done unit g at vtoc e some begun lacks is = track_lacks done unit g at vtoc 0 vtoc.start e [] [] (omega (arith, some)) (omega arith) (of_vtoc_none done unit g at vtoc begun) lacks is
+
+-- a track that lacks slots is one of a VTOC whose extent was given
+pub begun_by_reason : {done : HallCall → Type 0} {unit : ℕ} {g : Geometry} {at : Address} {vtoc : Run} {e : MountErr} → IsTrackReason done unit g at vtoc e → IsExtentGiven done unit g at (Ok vtoc)
+begun_by_reason (TrackLacks k low slots firsts are lacks is) = are.begun
 
 pub vtoc_still : {done later : HallCall → Type 0} {unit : ℕ} {g : Geometry} {at : Address} {e : MountErr} → IsVtocReason done unit g at e → StaysDone done later → IsVtocReason later unit g at e
 vtoc_still (BadExtent extent) kept = BadExtent (given_still extent kept)
-vtoc_still {unit = unit} {g = g} (NoSlots vtoc extent (TrackLacks k low slots firsts given lacks is)) kept = NoSlots vtoc (given_still extent kept) (TrackLacks k low slots firsts (tracks_still unit g vtoc.start k slots firsts kept given) (given_still lacks kept) is)
-vtoc_still {unit = unit} {g = g} (BadSlot vtoc slots firsts extent given is) kept = BadSlot vtoc slots firsts extent (tracks_still unit g vtoc.start vtoc.len slots firsts kept given) is
+vtoc_still {unit = unit} {g = g} {at = at} (NoSlots vtoc (TrackLacks k low slots firsts given lacks is)) kept = NoSlots vtoc (TrackLacks k low slots firsts (of_vtoc_still unit g at vtoc k slots firsts kept given) (given_still lacks kept) is)
+vtoc_still {unit = unit} {g = g} {at = at} (BadSlot vtoc slots firsts given is) kept = BadSlot vtoc slots firsts (of_vtoc_still unit g at vtoc vtoc.len slots firsts kept given) is
 
 pub reason_still : {done later : HallCall → Type 0} {unit size : ℕ} {e : MountErr} → IsReasonGiven done unit size e → StaysDone done later → IsReasonGiven later unit size e
 reason_still (Cut is) kept = Cut is
@@ -177,31 +192,35 @@ reason_still (BadHeader (NoGeometry bytes long gave why none is)) kept = BadHead
 reason_still (Unlabelled g header lacks is) kept = Unlabelled g (header_still header kept) (given_still lacks kept) is
 reason_still (Outside g header label given out is) kept = Outside g (header_still header kept) label (given_still given kept) out is
 reason_still (OnLabel g header label given there is) kept = OnLabel g (header_still header kept) label (given_still given kept) there is
-reason_still (NoVtoc g header label given inside why) kept = NoVtoc g (header_still header kept) label (given_still given kept) inside (vtoc_still why kept)
+reason_still (NoVtoc g header label given inside behind why) kept = NoVtoc g (header_still header kept) label (given_still given kept) inside behind (vtoc_still why kept)
 
 -- ---- which reads mount a pack
 
-pub next_still : {done later : HallCall → Type 0} {unit : ℕ} {g : Geometry} {vtoc : Run} {call : HallCall} → IsNextRead done unit g vtoc call → StaysDone done later → IsNextRead later unit g vtoc call
-next_still {unit = unit} {g = g} {vtoc = vtoc} (OfNext k low slots firsts given is) kept = OfNext k low slots firsts (tracks_still unit g vtoc.start k slots firsts kept given) is
+pub next_still : {done later : HallCall → Type 0} {unit : ℕ} {g : Geometry} {at : Address} {vtoc : Run} {call : HallCall} → IsNextRead done unit g at vtoc call → StaysDone done later → IsNextRead later unit g at vtoc call
+next_still {unit = unit} {g = g} {at = at} {vtoc = vtoc} (OfNext k low slots firsts given is) kept = OfNext k low slots firsts (of_vtoc_still unit g at vtoc k slots firsts kept given) is
+
+-- a track that is read behind the first is one of a VTOC whose extent was given
+pub begun_by_next : {done : HallCall → Type 0} {unit : ℕ} {g : Geometry} {at : Address} {vtoc : Run} {call : HallCall} → IsNextRead done unit g at vtoc call → IsExtentGiven done unit g at (Ok vtoc)
+begun_by_next (OfNext k low slots firsts are is) = are.begun
 
 -- one more track of the VTOC is read, behind those whose slots were given
 pub next_more :
-    {done later : HallCall → Type 0} (unit : ℕ) (g g' : Geometry) (vtoc : Run) (k track : ℕ) (slots : List VtocSlot) (firsts : List ℕ) {h0 h h' : HallCall → ℕ}
-    → MakesOnly (IsNextRead done unit g vtoc) h0 h
+    {done later : HallCall → Type 0} (unit : ℕ) (g g' : Geometry) (at : Address) (vtoc : Run) (k track : ℕ) (slots : List VtocSlot) (firsts : List ℕ) {h0 h h' : HallCall → ℕ}
+    → MakesOnly (IsNextRead done unit g at vtoc) h0 h
     → MakesOnly (λ call. call ≡ track_read unit g' track) h h'
     → StaysDone done later
     → g' ≡ g
     → track ≡ vtoc.start + k
     → k < vtoc.len
-    → AreGiven done unit g vtoc.start k slots firsts
-    → MakesOnly (IsNextRead later unit g vtoc) h0 h'
-next_more unit g g' vtoc k track slots firsts before read kept same at low given =
+    → AreOfVtoc done unit g at vtoc k slots firsts
+    → MakesOnly (IsNextRead later unit g at vtoc) h0 h'
+next_more unit g g' at vtoc k track slots firsts before read kept same there low given =
     makes_then before read (λ call is. next_still is kept)
-    (λ call is. OfNext k low slots firsts (tracks_still unit g vtoc.start k slots firsts kept given) (is ∙ ap (λ (x : Geometry). track_read unit x track) same ∙ ap (track_read unit g) at))
+    (λ call is. OfNext k low slots firsts (of_vtoc_still unit g at vtoc k slots firsts kept given) (is ∙ ap (λ (x : Geometry). track_read unit x track) same ∙ ap (track_read unit g) there))
 
 pub vtoc_read_still : {done later : HallCall → Type 0} {unit : ℕ} {g : Geometry} {at : Address} {call : HallCall} → IsVtocRead done unit g at call → StaysDone done later → IsVtocRead later unit g at call
 vtoc_read_still (OfFirst is) kept = OfFirst is
-vtoc_read_still (OfOther vtoc extent next) kept = OfOther vtoc (given_still extent kept) (next_still next kept)
+vtoc_read_still (OfOther vtoc next) kept = OfOther vtoc (next_still next kept)
 
 pub mount_read_still : {done later : HallCall → Type 0} {unit size : ℕ} {call : HallCall} → IsMountRead done unit size call → StaysDone done later → IsMountRead later unit size call
 mount_read_still (OfHeader long is) kept = OfHeader long is

@@ -38,5 +38,9 @@ pub mod MountCases
 pub mod PutCases
 pub mod MadeCases
 pub mod GivenCases
+mod FoundCases
+mod PlaceCases
+mod KeptCases
 mod ReasonCases
+mod LabelTrackCases
 mod RuleCases

@@ -38,20 +38,28 @@ number k call = get_or (numbers_in call) k 9
 track_is_read_whole : track_read 0 one_cylinder 2 ≡ Reading 0 8704 4096
 track_is_read_whole = refl
 
--- The VTOC's tracks are the second and the third: none before them is read, nor one behind.
+-- The VTOC's tracks are the second and the third, of the first unit: none before them is read, nor one behind, nor one of another unit, nor a part of one; and none where there are none.
 tracks_of_the_vtoc_are_read :
-    IsTrackRead 0 one_cylinder 1 3 (Reading 0 8704 4096)
+    IsTrackRead 0 one_cylinder 1 3 (Reading 0 4608 4096)
+    × IsTrackRead 0 one_cylinder 1 3 (Reading 0 8704 4096)
     × (¬ IsTrackRead 0 one_cylinder 1 3 (Reading 0 512 4096))
     × (¬ IsTrackRead 0 one_cylinder 1 3 (Reading 0 12800 4096))
+    × (¬ IsTrackRead 0 one_cylinder 1 3 (Reading 1 8704 4096))
+    × (¬ IsTrackRead 0 one_cylinder 1 3 (Reading 0 8704 512))
+    × (¬ IsTrackRead 0 one_cylinder 1 1 (Reading 0 4608 4096))
 unfolding numbers_in number
 tracks_of_the_vtoc_are_read = (
+  (1, omega arith, omega arith, refl),
   (2, omega arith, omega arith, refl),
   λ is. let at : 512 ≡ 512 + is.0 * 4096 = ap (number 2) is.3 in omega (arith, is.1, at),
   λ is. let at : 12800 ≡ 512 + is.0 * 4096 = ap (number 2) is.3 in omega (arith, is.2, at),
+  λ is. let unit : 1 ≡ 0 = ap (number 1) is.3 in omega (arith, unit),
+  λ is. let len : 512 ≡ 4096 = ap (number 3) is.3 in omega (arith, len),
+  λ is. omega (arith, is.1, is.2),
 )
 
 -- a buffer with two sets on the third track, the second of this name
-pub buffer_with : List ℕ → Buffer
+unfoldable pub buffer_with : List ℕ → Buffer
 buffer_with name = record {
   geometry = one_cylinder;
   unit = 0;
@@ -67,17 +75,17 @@ unfoldable pub nothing : HallCall → Type 0
 nothing call = ⊥
 
 -- the third track of the small pack was read, or as many zeros were given for it
-pub gave_track : HallCall → Type 0
+unfoldable pub gave_track : HallCall → Type 0
 gave_track call = call ≡ Giving 3 0 8704 (track_bytes image one_cylinder 2)
 
-pub gave_zeros : HallCall → Type 0
+unfoldable pub gave_zeros : HallCall → Type 0
 gave_zeros call = call ≡ Giving 3 0 8704 (replicate 4096 0)
 
-third_track_is_read : records_by one_cylinder (Some 2) 2 (track_bytes image one_cylinder 2) ≡ Some (buffer_with a).records
+pub third_track_is_read : records_by one_cylinder (Some 2) 2 (track_bytes image one_cylinder 2) ≡ Some (buffer_with a).records
 unfolding buffer_with track_bytes records_of is_front records_to_end records_up_to
 third_track_is_read = refl
 
-zeros_are_no_track : records_by one_cylinder (Some 2) 2 (replicate 4096 0) ≡ None
+pub zeros_are_no_track : records_by one_cylinder (Some 2) 2 (replicate 4096 0) ≡ None
 unfolding records_of is_front
 zeros_are_no_track = refl
 
@@ -108,10 +116,10 @@ bytes_in (Giving before unit at bytes) = bytes
 bytes_in call = []
 
 -- how often each call was made: never; the read of the third track once; or that, and each note once
-pub uncalled : HallCall → ℕ
+unfoldable pub uncalled : HallCall → ℕ
 uncalled call = 0
 
-pub read_once : HallCall → ℕ
+unfoldable pub read_once : HallCall → ℕ
 read_once (Reading unit at len) = cond (eqb unit 0 && (eqb at 8704 && eqb len 4096)) 1 0
 read_once call = 0
 
@@ -125,7 +133,7 @@ each_read_once (Reading unit at len) = 1
 each_read_once call = 0
 
 -- nothing is counted then but that read
-only_the_read : MakesOnly (λ call. call ≡ track_read 0 one_cylinder 2) uncalled read_once
+pub only_the_read : MakesOnly (λ call. call ≡ track_read 0 one_cylinder 2) uncalled read_once
 unfolding uncalled read_once
 only_the_read (Reading unit at len) other = counted _ (λ is. other (is_read is))
   where

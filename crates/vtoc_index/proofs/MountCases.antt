@@ -38,7 +38,7 @@ use Rattle.vtoc_index.proofs.KeptLemmas.{kept_of, mounted_of}
 use Rattle.vtoc_index.proofs.SmallPack.{Holds, a, are_dscbs, b, c, data_set, extent, f1, f4, f5, first_track, format_4, format_5, four_slots, header_is_read, holds, image, index, label_is_read, one_cylinder, pack01, pack_of, second_track, set_bytes, slot_on, slots_are_counted, slots_are_read, two_tracks, vtoc_is_found, with_sets}
 
 -- No track and no slot of the image breaks a rule.
-no_track_breaks_a_rule : track_faults image one_cylinder two_tracks ≡ []
+pub no_track_breaks_a_rule : track_faults image one_cylinder two_tracks ≡ []
 unfolding track_faults track_fault slots_on records_on track_bytes records_of is_front records_to_end
 no_track_breaks_a_rule = refl
 
@@ -76,7 +76,7 @@ unfolding volume_of geometry_of geometry_on vtoc_of vtoc_at label_of label_in re
 image_stands_for_its_volume = refl
 
 -- The serial is that in the label.
-serial_is_read : serial_on image one_cylinder ≡ Some pack01
+pub serial_is_read : serial_on image one_cylinder ≡ Some pack01
 serial_is_read = ap (option_map (λ (label : List ℕ). slice_range label 4 10)) label_is_read
 
 -- The extent is that in the first slot of the track to which the label leads. The first slot of the next track is a data set, and track 0 has none.
@@ -102,11 +102,11 @@ unfolding firsts_of slots_of_vtoc slots_at slots_on records_on track_bytes recor
 first_slots_are_numbered = (refl, refl, refl, refl)
 
 -- the records on a track of the VTOC
-abbrev records : List Record
+abbrev pub records : List Record
 records = slot_record second_track (data_set b) ∷ slot_record second_track (data_set a) ∷ []
 
 -- a buffer with these records of the second track
-abbrev holding : List Record → Buffer
+abbrev pub holding : List Record → Buffer
 holding records = record { geometry = one_cylinder; unit = 0; track = 2; records = records }
 
 module _ (any : Vol) where
@@ -355,7 +355,7 @@ unfolding slots_on records_on track_bytes records_of is_front records_to_end
 reads_by_extents = (refl, refl, refl)
 
 -- An image whose VTOC has a second track of zeros: what can be read of it is held, but that track breaks a rule.
-abbrev second_is_broken : List ℕ
+abbrev pub second_is_broken : List ℕ
 second_is_broken =
     header_bytes one_cylinder
     ++ new_track 0 0 (label_records pack01 first_track) 4096
@@ -366,7 +366,7 @@ reads_of_a_second_track_of_zeros : reads_to_mount second_is_broken ≡ 4
 unfolding reads_to_mount geometry_of geometry_on vtoc_of vtoc_at label_of label_in slots_on records_on track_bytes records_of is_front records_to_end records_up_to
 reads_of_a_second_track_of_zeros = refl
 
-broken_slots_are_read : slots_of_vtoc second_is_broken one_cylinder two_tracks ≡ slot_on 1 1 format_4 ∷ slot_on 1 2 format_5 ∷ []
+pub broken_slots_are_read : slots_of_vtoc second_is_broken one_cylinder two_tracks ≡ slot_on 1 1 format_4 ∷ slot_on 1 2 format_5 ∷ []
 unfolding slots_of_vtoc slots_at slots_on records_on track_bytes records_of is_front records_to_end
 broken_slots_are_read = refl
 
@@ -400,6 +400,10 @@ index_is_that_of_the_image_and_no_more any = record {
 
 two_sets_of_one_name_are_not_mounted : (v : Vol) → ¬ IsMounted (with_sets (data_set a ∷ data_set a ∷ [])) v
 two_sets_of_one_name_are_not_mounted v = not_mounted (with_sets (data_set a ∷ data_set a ∷ [])) (DuplicateName 3 2) two_sets_have_one_name v
+
+-- a unit with another size, and that of the pack
+abbrev two_units : List Attached
+two_units = record { name = []; size = 512 } ∷ record { name = []; size = 41472 } ∷ []
 
 -- Given one part, an index is the image's, and without it it isn't: its geometry, where it has a cylinder more; its serial, where the last byte is another; and the numbers of first slots, where they are counted anew on each track.
 module _ (any : Vol) where
@@ -447,6 +451,22 @@ module _ (any : Vol) where
       buffer = (refl, refl);
     },
     λ is. omega (arith, is.inside),
+  )
+
+  -- The unit is that of the index: here the second of two, of which the first has another size.
+  unit_is_that_of_the_index : IsOfUnit two_units (record (index any) { unit = 1; buf = record (index any).buf { unit = 1 } }) × (¬ IsOfUnit two_units (index any))
+  unit_is_that_of_the_index = (
+    record {
+      attached = omega arith;
+      whole = record { cylinders = omega arith; most = omega arith; track_size = refl; whole = refl };
+      inside = omega arith;
+      tracks = refl;
+      few = omega arith;
+      most = omega arith;
+      firsts = (refl, (2, omega arith, (refl, (2, omega arith, refl))));
+      buffer = (refl, refl);
+    },
+    λ is. omega (arith, is.whole.whole),
   )
 
 -- the numbers of the first slots of so many tracks that have 255 each, from this number on

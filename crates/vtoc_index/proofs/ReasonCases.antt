@@ -1,7 +1,6 @@
 -- Why a pack is refused, each reason and no other, and each part of what its index is, by what reads gave. Each comment names what a near reading would let through.
 use Rattle.std.proofs.Common.{◌≡◌, ◌⊎◌, ◌+◌, ◌*◌, ◌≤◌, ◌<◌, ⊎_elim, inl, inr, ℕ, zero, suc, true, false, List, [], ◌∷◌, ◌++◌, get_or, length, map, replicate, take, Some, None, refl, sym, ap, ap₂, subst, ◌∙◌, arith}
-use Rattle.std.specs.Prelude.{Option, Ok, Err, option_and_then, slice_get}
-use Rattle.std.specs.List.{flat_map, range_with_len}
+use Rattle.std.specs.Prelude.{Ok, Err, option_and_then, slice_get}
 use Rattle.ckd_image.specs.declared.header.Geometry.{Geometry}
 use Rattle.ckd_image.specs.declared.header.ImageErr.TheVariants.{BadLength, BadMagic}
 use Rattle.ckd_image.specs.Header.{geometry_of, geometry_on}
@@ -10,8 +9,7 @@ use Rattle.ckd_image.specs.Track.{Record}
 use Rattle.ckd_image.specs.Writing.{new_track}
 use Rattle.dscb_codec.specs.declared.Dscb.{Dscb}
 use Rattle.dscb_codec.specs.declared.Dscb.TheVariants as formats
-use Rattle.dscb_codec.specs.Layout.{f4_fields}
-use Rattle.hall_core.specs.Made.{HallCall, Giving, Reading}
+use Rattle.hall_core.specs.Made.{HallCall, StaysDone, Giving, Reading}
 use Rattle.pack_spec.specs.declared.MountErr.{MountErr}
 use Rattle.pack_spec.specs.declared.MountErr.TheVariants as mount
 use Rattle.pack_spec.specs.declared.MountErr.TheVariants.{VtocTrack}
@@ -25,13 +23,14 @@ use Rattle.pack_spec.specs.Written.{label_bytes, label_records, slot_record}
 use Rattle.track_records.specs.Calls.{Gives, HasGiven, records_by, track_read}
 use Rattle.vol_model.specs.declared.contents.Run.{Run}
 use Rattle.vtoc_index.specs.Contents.{AreDscbs}
-use Rattle.vtoc_index.specs.Given.{AreGiven, AreSlotsGiven, BadExtent, BadHeader, BadSlot, Cut, GivesHeader, IsExtentGiven, IsHeaderGiven, IsIndexGiven, IsLabelGiven, IsLabelLacking, IsMountRead, IsNextRead, IsReasonGiven, IsTrackReason, IsVtocRead, IsVtocReason, NoGeometry, NoSlots, NoVtoc, OfFirst, OfHeader, OfLabel, OfNext, OfOther, OfVtoc, OnLabel, Outside, TooShort, TrackLacks, Unlabelled, first_bytes}
+use Rattle.vtoc_index.specs.Given.{AreGiven, AreOfVtoc, AreSlotsGiven, BadExtent, BadHeader, BadSlot, Cut, GivesHeader, IsExtentGiven, IsHeaderGiven, IsIndexGiven, IsLabelGiven, IsLabelLacking, IsMountRead, IsNextRead, IsReasonGiven, IsTrackReason, IsVtocRead, IsVtocReason, NoGeometry, NoSlots, NoVtoc, OfFirst, OfHeader, OfLabel, OfNext, OfOther, OfVtoc, OnLabel, Outside, TooShort, TrackLacks, Unlabelled}
 use Rattle.vtoc_index.specs.declared.vol.Vol.{Vol}
-use Rattle.vtoc_index.proofs.ExtentLaw.{begins}
-use Rattle.vtoc_index.proofs.TracksGiven.{given_one}
+use Rattle.vtoc_index.proofs.TracksGiven.{of_vtoc_none, of_vtoc_one}
+use Rattle.vtoc_index.proofs.GivenLemmas.{begun_by_next, begun_by_reason}
+use Rattle.vtoc_index.proofs.PutCalls.{given_still}
 use Rattle.vtoc_index.proofs.MountCases.{no_slot_breaks_a_rule}
-use Rattle.vtoc_index.proofs.SmallPack.{a, all_stand, are_dscbs, b, c, data_set, extent, f1, f4, f5, first_track, format_4, format_5, four_slots, header_is_read, image, index, one_cylinder, pack01, second_track, set_bytes, slot_on, two_tracks}
-use Rattle.vtoc_index.proofs.GivenCases.{at_in, both_sets, bytes_in, four_are_given, gave_all, gave_own, label_is_there, number, own, own_label_is_there, own_track, some_same}
+use Rattle.vtoc_index.proofs.SmallPack.{a, are_dscbs, b, c, data_set, extent, f1, f4, f5, first_track, format_4, format_5, four_slots, header_is_read, image, index, one_cylinder, pack01, second_track, set_bytes, slot_on, two_tracks}
+use Rattle.vtoc_index.proofs.GivenCases.{at_in, both_sets, bytes_in, four_are_given, gave_all, label_is_there, number, own, some_same}
 
 -- ---- why a pack is refused, each reason and no other
 
@@ -106,39 +105,12 @@ module _ (first second : List ℕ) where
       let wrong : true ≡ false = leads (λ (x : Geometry) (at : Address). is_inside x at ≡ false) g label header given out in absurd (cc wrong)
   by_vtoc e (OnLabel g header label given there is) =
       let wrong : 1 ≡ 0 = leads (λ (x : Geometry) (at : Address). track_of_address x at ≡ 0) g label header given there in absurd (omega (arith, wrong))
-  by_vtoc e (NoVtoc g header label given inside why) =
+  by_vtoc e (NoVtoc g header label given inside behind why) =
       inr (leads (λ (x : Geometry) (at : Address). IsVtocReason gave 0 x at e) g label header given why)
 
   -- where a track has these slots, no others are given of it
   slots_of : (track : ℕ) (found : List (List ℕ)) → option_and_then slots_in (records_by one_cylinder None track (pack first second track)) ≡ Some found → {other : List (List ℕ)} → AreSlotsGiven gave 0 one_cylinder track other → other ≡ found
   slots_of track found is {other} given = let same : Some other ≡ Some found = sym (track_of track given) ∙ is in cc
-
-  -- and where slots give an extent, those of the first track are the first of them
-  first_by_slots :
-      (vtoc : Run) (slots : List VtocSlot) (firsts : List ℕ) → vtoc_by one_cylinder first_track (first_bytes slots) ≡ Ok vtoc → AreGiven gave 0 one_cylinder vtoc.start vtoc.len slots firsts
-      → (found : List (List ℕ)) × AreSlotsGiven gave 0 one_cylinder 1 found × ((more : List VtocSlot) × (slots ≡ addressed_from one_cylinder 1 1 found ++ more))
-  first_by_slots vtoc slots firsts extent given = by_run vtoc.start vtoc.len (begins_there (first_bytes slots) extent) slots firsts extent given
-    where
-      begins_there : (o : Option (List ℕ)) → vtoc_by one_cylinder first_track o ≡ Ok vtoc → vtoc.start ≡ 1
-      begins_there None is = cc
-      begins_there (Some slot) is = begins one_cylinder first_track vtoc slot is
-
-      by_run : (start len : ℕ) → start ≡ 1 → (slots : List VtocSlot) (firsts : List ℕ) → vtoc_by one_cylinder first_track (first_bytes slots) ≡ Ok vtoc → AreGiven gave 0 one_cylinder start len slots firsts
-          → (found : List (List ℕ)) × AreSlotsGiven gave 0 one_cylinder 1 found × ((more : List VtocSlot) × (slots ≡ addressed_from one_cylinder 1 1 found ++ more))
-      by_run start zero one slots firsts extent given = let wrong : Err (VtocTrack 1) ≡ Ok vtoc = sym (ap (λ (l : List VtocSlot). vtoc_by one_cylinder first_track (first_bytes l)) given.slots_are) ∙ extent in absurd (cc wrong)
-      by_run start (suc len) one slots firsts extent given =
-          let here = subst (λ (s : ℕ). AreGiven gave 0 one_cylinder s (suc len) slots firsts) one given in
-          (here.found 1, here.read 1 (omega arith) (omega arith), (flat_map (λ track. addressed_from one_cylinder track 1 (here.found track)) (range_with_len 2 len), here.slots_are))
-
-  extent_by_slots :
-      (slot : List ℕ) (found : List (List ℕ)) → option_and_then slots_in (records_by one_cylinder None 1 first) ≡ Some (slot ∷ found) → (vtoc : Run) (slots : List VtocSlot) (firsts : List ℕ) → vtoc_by one_cylinder first_track (first_bytes slots) ≡ Ok vtoc
-      → AreGiven gave 0 one_cylinder vtoc.start vtoc.len slots firsts
-      → vtoc_by one_cylinder first_track (Some slot) ≡ Ok vtoc
-  unfolding pack
-  extent_by_slots slot found is vtoc slots firsts extent given =
-      let there = first_by_slots vtoc slots firsts extent given in
-      let same : there.0 ≡ slot ∷ found = slots_of 1 (slot ∷ found) is there.1 in
-      sym (ap (λ (l : List VtocSlot). vtoc_by one_cylinder first_track (first_bytes l)) there.2.1 ∙ ap (λ (x : List (List ℕ)). vtoc_by one_cylinder first_track (first_bytes (addressed_from one_cylinder 1 1 x ++ there.2.0))) same) ∙ extent
 
 -- what is read of tracks with the slots of the image, with a second slot that is none, and with others
 first_is_good : (option_and_then slots_in (records_by one_cylinder None 1 (on_first (format_4 ∷ format_5 ∷ []))) ≡ Some (format_4 ∷ format_5 ∷ [])) × (vtoc_by one_cylinder first_track (option_and_then first_slot (records_by one_cylinder (Some 1) 1 (on_first (format_4 ∷ format_5 ∷ [])))) ≡ Ok two_tracks)
@@ -189,7 +161,7 @@ good_second = on_second (data_set b ∷ data_set a ∷ [])
 -- a reason of the VTOC is one of the pack
 is_reason : (first second : List ℕ) (e : MountErr) → IsVtocReason (gave_pack first second) 0 one_cylinder first_track e → IsReasonGiven (gave_pack first second) 0 41472 e
 unfolding gave_pack pack track_bytes
-is_reason first second e why = NoVtoc one_cylinder (GivesHeader (take 512 image) refl (inl refl) header_is_read) (label_bytes pack01 first_track) (Gives (track_bytes image one_cylinder 0) refl (inr (0, omega arith, refl)) label_is_there) refl why
+is_reason first second e why = NoVtoc one_cylinder (GivesHeader (take 512 image) refl (inl refl) header_is_read) (label_bytes pack01 first_track) (Gives (track_bytes image one_cylinder 0) refl (inr (0, omega arith, refl)) label_is_there) refl (omega arith) why
 
 -- a track of it gave its bytes
 given_of : (first second : List ℕ) (track : ℕ) {holds : List ℕ → Type 0} → track < 4 → length (pack first second track) ≡ 4096 → holds (pack first second track) → HasGiven (gave_pack first second) 0 one_cylinder track holds
@@ -212,6 +184,11 @@ found_on found zero = []
 found_on found (suc zero) = format_4 ∷ format_5 ∷ []
 found_on found (suc (suc track)) = found
 
+-- the first gives the extent of both
+run_is : (second : List ℕ) (vtoc : Run) → IsExtentGiven (gave_pack good_first second) 0 one_cylinder first_track (Ok vtoc) → vtoc ≡ two_tracks
+unfolding pack
+run_is second vtoc begun = let same : Ok vtoc ≡ Ok two_tracks = sym (track_of good_first second 1 begun) ∙ first_is_good.1 in cc
+
 -- they are given, and no others
 module _ (second : List ℕ) (found : List (List ℕ)) (size : length second ≡ 4096) (are : option_and_then slots_in (records_by one_cylinder None 2 second) ≡ Some found) where
   two_given : AreGiven (gave_pack good_first second) 0 one_cylinder 1 2 (slots_with found) (0 ∷ 2 ∷ [])
@@ -224,13 +201,17 @@ module _ (second : List ℕ) (found : List (List ℕ)) (size : length second ≡
       read (suc (suc zero)) low high = given_of good_first second 2 (omega arith) size are
       read (suc (suc (suc track))) low high = absurd (omega (arith, high))
 
+  two_of_vtoc : AreOfVtoc (gave_pack good_first second) 0 one_cylinder first_track two_tracks 2 (slots_with found) (0 ∷ 2 ∷ [])
+  unfolding pack found_on two_given
+  two_of_vtoc = record { given = two_given; begun = given_of good_first second 1 (omega arith) refl first_is_good.1; extent = λ some. refl }
+
   no_others_given : (slots : List VtocSlot) (firsts : List ℕ) → AreGiven (gave_pack good_first second) 0 one_cylinder 1 2 slots firsts → slots ≡ slots_with found
   unfolding pack
   no_others_given slots firsts given =
       given.slots_are
       ∙ ap₂ (λ (x y : List (List ℕ)). addressed_from one_cylinder 1 1 x ++ (addressed_from one_cylinder 2 1 y ++ [])) (slots_of good_first second 1 _ first_is_good.0 (given.read 1 (omega arith) (omega arith))) (slots_of good_first second 2 _ are (given.read 2 (omega arith) (omega arith)))
 
-  no_track_lacks : (e : MountErr) → ¬ IsTrackReason (gave_pack good_first second) 0 one_cylinder two_tracks e
+  no_track_lacks : (e : MountErr) → ¬ IsTrackReason (gave_pack good_first second) 0 one_cylinder first_track two_tracks e
   unfolding pack
   no_track_lacks e (TrackLacks zero low slots firsts given lacks is) = let wrong : None ≡ Some (format_4 ∷ format_5 ∷ []) = sym (track_of good_first second 1 lacks) ∙ first_is_good.0 in cc
   no_track_lacks e (TrackLacks (suc zero) low slots firsts given lacks is) = let wrong : None ≡ Some found = sym (track_of good_first second 2 lacks) ∙ are in cc
@@ -239,14 +220,9 @@ module _ (second : List ℕ) (found : List (List ℕ)) (size : length second ≡
   by_fault : (e : MountErr) → IsVtocReason (gave_pack good_first second) 0 one_cylinder first_track e → slice_get (slots_faults one_cylinder (slots_with found)) 0 ≡ Some e
   unfolding pack
   by_fault e (BadExtent extent) = let wrong : Err e ≡ Ok two_tracks = sym (track_of good_first second 1 extent) ∙ first_is_good.1 in absurd (cc wrong)
-  by_fault e (NoSlots vtoc extent why) =
-      let same : Ok vtoc ≡ Ok two_tracks = sym (track_of good_first second 1 extent) ∙ first_is_good.1 in
-      let run : vtoc ≡ two_tracks = cc in
-      absurd (no_track_lacks e (subst (λ (x : Run). IsTrackReason (gave_pack good_first second) 0 one_cylinder x e) run why))
-  by_fault e (BadSlot vtoc slots firsts extent given fault) =
-      let same : Ok two_tracks ≡ Ok vtoc = extent_by_slots good_first second format_4 (format_5 ∷ []) first_is_good.0 vtoc slots firsts extent given in
-      let run : vtoc ≡ two_tracks = cc in
-      let these = no_others_given slots firsts (subst (λ (x : Run). AreGiven (gave_pack good_first second) 0 one_cylinder x.start x.len slots firsts) run given) in
+  by_fault e (NoSlots vtoc why) = absurd (no_track_lacks e (subst (λ (x : Run). IsTrackReason (gave_pack good_first second) 0 one_cylinder first_track x e) (run_is second vtoc (begun_by_reason why)) why))
+  by_fault e (BadSlot vtoc slots firsts are fault) =
+      let these = no_others_given slots firsts (subst (λ (x : Run). AreGiven (gave_pack good_first second) 0 one_cylinder x.start x.len slots firsts) (run_is second vtoc are.begun) are.given) in
       sym (ap (λ (l : List VtocSlot). slice_get (slots_faults one_cylinder l) 0) these) ∙ fault
 
 -- The pack of the image is refused for none, though zeros were given for the track behind its VTOC.
@@ -260,35 +236,32 @@ good_pack_has_no_reason e given = ⊎_elim (λ cut. cut) (λ vtoc. absurd (none 
 short_track_is_the_reason : IsTheReason (gave_pack short_first (replicate 4096 0)) (VtocTrack 1) × (¬ IsMountRead (gave_pack short_first (replicate 4096 0)) 0 41472 (Reading 0 8704 4096))
 unfolding pack number
 short_track_is_the_reason = (
-  the_reason short_first (replicate 4096 0) (VtocTrack 1) (NoSlots two_tracks (given_of short_first (replicate 4096 0) 1 (omega arith) refl first_is_short.1) (TrackLacks 0 (omega arith) [] [] none_before (given_of short_first (replicate 4096 0) 1 (omega arith) refl first_is_short.0) refl)) only,
+  the_reason short_first (replicate 4096 0) (VtocTrack 1) (NoSlots two_tracks (TrackLacks 0 (omega arith) [] [] (of_vtoc_none (gave_pack short_first (replicate 4096 0)) 0 one_cylinder first_track two_tracks (given_of short_first (replicate 4096 0) 1 (omega arith) refl first_is_short.1)) (given_of short_first (replicate 4096 0) 1 (omega arith) refl first_is_short.0) refl)) only,
   not_read,
 )
   where
-    none_before : AreGiven (gave_pack short_first (replicate 4096 0)) 0 one_cylinder 1 0 [] []
-    none_before = record { found = λ track. []; read = λ track low high. absurd (omega (arith, low, high)); slots_are = refl; firsts_are = refl }
-
     no_slots : {found : List (List ℕ)} → ¬ AreSlotsGiven (gave_pack short_first (replicate 4096 0)) 0 one_cylinder 1 found
     no_slots {found} given = let wrong : None ≡ Some found = sym first_is_short.0 ∙ track_of short_first (replicate 4096 0) 1 given in cc
 
     extent_is : (vtoc : Run) → IsExtentGiven (gave_pack short_first (replicate 4096 0)) 0 one_cylinder first_track (Ok vtoc) → vtoc ≡ two_tracks
     extent_is vtoc extent = let same : Ok vtoc ≡ Ok two_tracks = sym (track_of short_first (replicate 4096 0) 1 extent) ∙ first_is_short.1 in cc
 
-    of_tracks : (e : MountErr) → IsTrackReason (gave_pack short_first (replicate 4096 0)) 0 one_cylinder two_tracks e → e ≡ VtocTrack 1
+    of_tracks : (e : MountErr) → IsTrackReason (gave_pack short_first (replicate 4096 0)) 0 one_cylinder first_track two_tracks e → e ≡ VtocTrack 1
     of_tracks e (TrackLacks zero low slots firsts given lacks is) = is
-    of_tracks e (TrackLacks (suc k) low slots firsts given lacks is) = absurd (no_slots (given.read 1 (omega arith) (omega arith)))
+    of_tracks e (TrackLacks (suc k) low slots firsts are lacks is) = absurd (no_slots (are.given.read 1 (omega arith) (omega arith)))
 
     only : (e : MountErr) → IsVtocReason (gave_pack short_first (replicate 4096 0)) 0 one_cylinder first_track e → e ≡ VtocTrack 1
     only e (BadExtent extent) = let wrong : Err e ≡ Ok two_tracks = sym (track_of short_first (replicate 4096 0) 1 extent) ∙ first_is_short.1 in absurd (cc wrong)
-    only e (NoSlots vtoc extent why) = of_tracks e (subst (λ (x : Run). IsTrackReason (gave_pack short_first (replicate 4096 0)) 0 one_cylinder x e) (extent_is vtoc extent) why)
-    only e (BadSlot vtoc slots firsts extent given fault) = absurd (no_slots (first_by_slots short_first (replicate 4096 0) vtoc slots firsts extent given).1)
+    only e (NoSlots vtoc why) = of_tracks e (subst (λ (x : Run). IsTrackReason (gave_pack short_first (replicate 4096 0)) 0 one_cylinder first_track x e) (extent_is vtoc (begun_by_reason why)) why)
+    only e (BadSlot vtoc slots firsts are fault) = absurd (no_slots ((subst (λ (x : Run). AreGiven (gave_pack short_first (replicate 4096 0)) 0 one_cylinder x.start x.len slots firsts) (extent_is vtoc are.begun) are.given).read 1 (omega arith) (omega arith)))
 
-    of_next : ¬ IsNextRead (gave_pack short_first (replicate 4096 0)) 0 one_cylinder two_tracks (Reading 0 8704 4096)
+    of_next : ¬ IsNextRead (gave_pack short_first (replicate 4096 0)) 0 one_cylinder first_track two_tracks (Reading 0 8704 4096)
     of_next (OfNext zero low slots firsts before is) = let wrong : 8704 ≡ 4608 = ap (number 1) is in omega (arith, wrong)
-    of_next (OfNext (suc k) low slots firsts before is) = no_slots (before.read 1 (omega arith) (omega arith))
+    of_next (OfNext (suc k) low slots firsts before is) = no_slots (before.given.read 1 (omega arith) (omega arith))
 
     of_vtoc : ¬ IsVtocRead (gave_pack short_first (replicate 4096 0)) 0 one_cylinder first_track (Reading 0 8704 4096)
     of_vtoc (OfFirst is) = let wrong : 8704 ≡ 4608 = ap (number 1) is in omega (arith, wrong)
-    of_vtoc (OfOther vtoc extent next) = of_next (subst (λ (x : Run). IsNextRead (gave_pack short_first (replicate 4096 0)) 0 one_cylinder x (Reading 0 8704 4096)) (extent_is vtoc extent) next)
+    of_vtoc (OfOther vtoc next) = of_next (subst (λ (x : Run). IsNextRead (gave_pack short_first (replicate 4096 0)) 0 one_cylinder first_track x (Reading 0 8704 4096)) (extent_is vtoc (begun_by_next next)) next)
 
     not_read : ¬ IsMountRead (gave_pack short_first (replicate 4096 0)) 0 41472 (Reading 0 8704 4096)
     not_read (OfHeader long is) = let wrong : 8704 ≡ 0 = ap (number 1) is in omega (arith, wrong)
@@ -298,12 +271,12 @@ short_track_is_the_reason = (
 -- A second track of zeros is the reason, and neither the first, nor the one behind the VTOC.
 second_track_is_the_reason : IsTheReason (gave_pack good_first (replicate 4096 0)) (VtocTrack 2)
 unfolding pack
-second_track_is_the_reason = the_reason good_first (replicate 4096 0) (VtocTrack 2) (NoSlots two_tracks (given_of good_first (replicate 4096 0) 1 (omega arith) refl first_is_good.1) (TrackLacks 1 (omega arith) (addressed_from one_cylinder 1 1 (format_4 ∷ format_5 ∷ [])) (0 ∷ []) before (given_of good_first (replicate 4096 0) 2 (omega arith) refl zeros_are_no_slots) refl)) only
+second_track_is_the_reason = the_reason good_first (replicate 4096 0) (VtocTrack 2) (NoSlots two_tracks (TrackLacks 1 (omega arith) (addressed_from one_cylinder 1 1 (format_4 ∷ format_5 ∷ [])) (0 ∷ []) before (given_of good_first (replicate 4096 0) 2 (omega arith) refl zeros_are_no_slots) refl)) only
   where
-    before : AreGiven (gave_pack good_first (replicate 4096 0)) 0 one_cylinder 1 1 (addressed_from one_cylinder 1 1 (format_4 ∷ format_5 ∷ [])) (0 ∷ [])
-    before = given_one (gave_pack good_first (replicate 4096 0)) 0 one_cylinder 1 (format_4 ∷ format_5 ∷ []) (given_of good_first (replicate 4096 0) 1 (omega arith) refl first_is_good.0)
+    before : AreOfVtoc (gave_pack good_first (replicate 4096 0)) 0 one_cylinder first_track two_tracks 1 (addressed_from one_cylinder 1 1 (format_4 ∷ format_5 ∷ [])) (0 ∷ [])
+    before = of_vtoc_one (gave_pack good_first (replicate 4096 0)) 0 one_cylinder first_track two_tracks (format_4 ∷ format_5 ∷ []) (given_of good_first (replicate 4096 0) 1 (omega arith) refl first_is_good.1) (given_of good_first (replicate 4096 0) 1 (omega arith) refl first_is_good.0) refl
 
-    of_tracks : (e : MountErr) → IsTrackReason (gave_pack good_first (replicate 4096 0)) 0 one_cylinder two_tracks e → e ≡ VtocTrack 2
+    of_tracks : (e : MountErr) → IsTrackReason (gave_pack good_first (replicate 4096 0)) 0 one_cylinder first_track two_tracks e → e ≡ VtocTrack 2
     of_tracks e (TrackLacks zero low slots firsts given lacks is) = let wrong : None ≡ Some (format_4 ∷ format_5 ∷ []) = sym (track_of good_first (replicate 4096 0) 1 lacks) ∙ first_is_good.0 in absurd (cc wrong)
     of_tracks e (TrackLacks (suc zero) low slots firsts given lacks is) = is
     of_tracks e (TrackLacks (suc (suc k)) low slots firsts given lacks is) = absurd (omega (arith, low))
@@ -313,28 +286,45 @@ second_track_is_the_reason = the_reason good_first (replicate 4096 0) (VtocTrack
 
     only : (e : MountErr) → IsVtocReason (gave_pack good_first (replicate 4096 0)) 0 one_cylinder first_track e → e ≡ VtocTrack 2
     only e (BadExtent extent) = let wrong : Err e ≡ Ok two_tracks = sym (track_of good_first (replicate 4096 0) 1 extent) ∙ first_is_good.1 in absurd (cc wrong)
-    only e (NoSlots vtoc extent why) =
-        let same : Ok vtoc ≡ Ok two_tracks = sym (track_of good_first (replicate 4096 0) 1 extent) ∙ first_is_good.1 in
-        let run : vtoc ≡ two_tracks = cc in
-        of_tracks e (subst (λ (x : Run). IsTrackReason (gave_pack good_first (replicate 4096 0)) 0 one_cylinder x e) run why)
-    only e (BadSlot vtoc slots firsts extent given fault) =
-        let same : Ok two_tracks ≡ Ok vtoc = extent_by_slots good_first (replicate 4096 0) format_4 (format_5 ∷ []) first_is_good.0 vtoc slots firsts extent given in
-        let run : vtoc ≡ two_tracks = cc in
-        absurd (no_slots ((subst (λ (x : Run). AreGiven (gave_pack good_first (replicate 4096 0)) 0 one_cylinder x.start x.len slots firsts) run given).read 2 (omega arith) (omega arith)))
+    only e (NoSlots vtoc why) = of_tracks e (subst (λ (x : Run). IsTrackReason (gave_pack good_first (replicate 4096 0)) 0 one_cylinder first_track x e) (run_is (replicate 4096 0) vtoc (begun_by_reason why)) why)
+    only e (BadSlot vtoc slots firsts are fault) =
+        absurd (no_slots ((subst (λ (x : Run). AreGiven (gave_pack good_first (replicate 4096 0)) 0 one_cylinder x.start x.len slots firsts) (run_is (replicate 4096 0) vtoc are.begun) are.given).read 2 (omega arith) (omega arith)))
 
 -- A first slot that gives no extent is the reason, though a second one would.
 extent_is_the_reason : IsTheReason (gave_pack bad_first good_second) mount.BadVtoc
 unfolding pack
 extent_is_the_reason = the_reason bad_first good_second mount.BadVtoc (BadExtent (given_of bad_first good_second 1 (omega arith) refl first_has_no_extent.1)) only
   where
+    no_extent : (vtoc : Run) → ¬ IsExtentGiven (gave_pack bad_first good_second) 0 one_cylinder first_track (Ok vtoc)
+    no_extent vtoc extent = let wrong : Ok vtoc ≡ Err mount.BadVtoc = sym (track_of bad_first good_second 1 extent) ∙ first_has_no_extent.1 in cc
+
     only : (e : MountErr) → IsVtocReason (gave_pack bad_first good_second) 0 one_cylinder first_track e → e ≡ mount.BadVtoc
     only e (BadExtent extent) = let same : Err e ≡ Err mount.BadVtoc = sym (track_of bad_first good_second 1 extent) ∙ first_has_no_extent.1 in cc
-    only e (NoSlots vtoc extent why) = let wrong : Ok vtoc ≡ Err mount.BadVtoc = sym (track_of bad_first good_second 1 extent) ∙ first_has_no_extent.1 in absurd (cc wrong)
-    only e (BadSlot vtoc slots firsts extent given fault) = let wrong : Err mount.BadVtoc ≡ Ok vtoc = extent_by_slots bad_first good_second format_5 (format_4 ∷ []) first_has_no_extent.0 vtoc slots firsts extent given in absurd (cc wrong)
+    only e (NoSlots vtoc why) = absurd (no_extent vtoc (begun_by_reason why))
+    only e (BadSlot vtoc slots firsts are fault) = absurd (no_extent vtoc are.begun)
+
+-- what is read of a first track without a slot
+first_is_empty : (option_and_then slots_in (records_by one_cylinder None 1 (on_first [])) ≡ Some []) × (vtoc_by one_cylinder first_track (option_and_then first_slot (records_by one_cylinder (Some 1) 1 (on_first []))) ≡ Err (VtocTrack 1))
+unfolding records_of is_front records_to_end records_up_to
+first_is_empty = (refl, refl)
+
+-- A first track without a slot is the reason, by its number, whatever stands on the track behind it: neither a bad extent is, nor a slot there that breaks a rule.
+empty_track_is_the_reason : (second : List ℕ) → IsTheReason (gave_pack (on_first []) second) (VtocTrack 1)
+unfolding pack
+empty_track_is_the_reason second = the_reason (on_first []) second (VtocTrack 1) (BadExtent (given_of (on_first []) second 1 (omega arith) refl first_is_empty.1)) only
+  where
+    no_extent : (vtoc : Run) → ¬ IsExtentGiven (gave_pack (on_first []) second) 0 one_cylinder first_track (Ok vtoc)
+    no_extent vtoc extent = let wrong : Ok vtoc ≡ Err (VtocTrack 1) = sym (track_of (on_first []) second 1 extent) ∙ first_is_empty.1 in cc
+
+    only : (e : MountErr) → IsVtocReason (gave_pack (on_first []) second) 0 one_cylinder first_track e → e ≡ VtocTrack 1
+    only e (BadExtent extent) = let same : Err e ≡ Err (VtocTrack 1) = sym (track_of (on_first []) second 1 extent) ∙ first_is_empty.1 in cc
+    only e (NoSlots vtoc why) = absurd (no_extent vtoc (begun_by_reason why))
+    only e (BadSlot vtoc slots firsts are fault) = absurd (no_extent vtoc are.begun)
 
 -- Of two rules that the slots break the first is the reason, and the second is none.
 first_fault_is_the_reason : IsTheReason (gave_pack good_first (on_second two_faults)) (mount.BadExtent 3)
-first_fault_is_the_reason = the_reason good_first (on_second two_faults) (mount.BadExtent 3) (BadSlot two_tracks (slots_with two_faults) (0 ∷ 2 ∷ []) refl (two_given (on_second two_faults) two_faults refl second_has_faults) (ap (λ (l : List MountErr). slice_get l 0) faults_are_two)) only
+unfolding pack
+first_fault_is_the_reason = the_reason good_first (on_second two_faults) (mount.BadExtent 3) (BadSlot two_tracks (slots_with two_faults) (0 ∷ 2 ∷ []) (two_of_vtoc (on_second two_faults) two_faults refl second_has_faults) (ap (λ (l : List MountErr). slice_get l 0) faults_are_two)) only
   where
     only : (e : MountErr) → IsVtocReason (gave_pack good_first (on_second two_faults)) 0 one_cylinder first_track e → e ≡ mount.BadExtent 3
     only e why = let same : Some (mount.BadExtent 3) ≡ Some e = sym (ap (λ (l : List MountErr). slice_get l 0) faults_are_two) ∙ by_fault (on_second two_faults) two_faults refl second_has_faults e why in cc
@@ -413,7 +403,7 @@ header_is_the_reason = (
     none_given (Unlabelled g header lacks is) = unseen header
     none_given (Outside g header label given out is) = unseen header
     none_given (OnLabel g header label given there is) = unseen header
-    none_given (NoVtoc g header label given inside why) = unseen header
+    none_given (NoVtoc g header label given inside behind why) = unseen header
 
     refused : geometry_of (take 512 image) 41473 ≡ Err (BadLength 41473)
     refused = refl
@@ -430,7 +420,7 @@ header_is_the_reason = (
     other_not (Unlabelled g header lacks is) = no_geometry header
     other_not (Outside g header label given out is) = no_geometry header
     other_not (OnLabel g header label given there is) = no_geometry header
-    other_not (NoVtoc g header label given inside why) = no_geometry header
+    other_not (NoVtoc g header label given inside behind why) = no_geometry header
 
 -- ---- each part of what the index is by reads
 
@@ -465,6 +455,56 @@ twins_break_a_rule = refl
 abbrev letter_of : ℕ → List VtocSlot → ℕ
 letter_of k slots = get_or (get_or (map (λ (s : VtocSlot). s.bytes) slots) k []) 0 0
 
+-- a second track that begins as a VTOC of two tracks does
+abbrev late_second : List ℕ
+late_second = on_second (format_4 ∷ format_5 ∷ [])
+
+late_is_read : (option_and_then slots_in (records_by one_cylinder None 2 late_second) ≡ Some (format_4 ∷ format_5 ∷ [])) × (records_by one_cylinder None 2 late_second ≡ Some (map (slot_record second_track) (format_4 ∷ format_5 ∷ [])))
+unfolding records_of is_front records_to_end
+late_is_read = (refl, refl)
+
+late_breaks_no_rule : slots_faults one_cylinder (addressed_from one_cylinder 2 1 (format_4 ∷ format_5 ∷ []) ++ []) ≡ []
+unfolding slots_faults front_faults dscb_faults dscb_fault extents_fault has_types has_extents has_chain counted_extents first_extents format_3_of further_extents name_faults name_fault
+late_breaks_no_rule = refl
+
+-- the first track was read twice: it gave no slot, and those of a VTOC of two tracks
+gave_late : HallCall → Type 0
+gave_late call = gave_pack (on_first []) late_second call ⊎ (call ≡ Giving 5 0 4608 good_first)
+
+late_on : ℕ → List (List ℕ)
+late_on zero = []
+late_on (suc zero) = []
+late_on (suc (suc track)) = format_4 ∷ format_5 ∷ []
+
+late_still : StaysDone (gave_pack (on_first []) late_second) gave_late
+unfolding gave_late
+late_still call was = inl was
+
+late_is_given : AreGiven gave_late 0 one_cylinder 1 2 (addressed_from one_cylinder 2 1 (format_4 ∷ format_5 ∷ []) ++ []) (0 ∷ 0 ∷ [])
+unfolding pack late_on
+late_is_given = record { found = late_on; read = read; slots_are = refl; firsts_are = refl }
+  where
+    read : (track : ℕ) → 1 ≤ track → track < 1 + 2 → AreSlotsGiven gave_late 0 one_cylinder track (late_on track)
+    read zero low high = absurd (omega (arith, low))
+    read (suc zero) low high = given_still (given_of (on_first []) late_second 1 (omega arith) refl first_is_empty.0) late_still
+    read (suc (suc zero)) low high = given_still (given_of (on_first []) late_second 2 (omega arith) refl late_is_read.0) late_still
+    read (suc (suc (suc track))) low high = absurd (omega (arith, high))
+
+-- the second track was read twice, and gave another set at its end
+abbrev other_records : List Record
+other_records = map (slot_record second_track) (data_set b ∷ data_set c ∷ [])
+
+gave_other : HallCall → Type 0
+gave_other call = gave_pack good_first good_second call ⊎ (call ≡ Giving 6 0 8704 (on_second (data_set b ∷ data_set c ∷ [])))
+
+other_still : StaysDone (gave_pack good_first good_second) gave_other
+unfolding gave_other
+other_still call was = inl was
+
+others_are_read : records_by one_cylinder None 2 (on_second (data_set b ∷ data_set c ∷ [])) ≡ Some other_records
+unfolding records_of is_front records_to_end
+others_are_read = refl
+
 module _ (any : Vol) where
   -- the index with these in its last two slots, and with this track in its buffer
   abbrev with_two : Dscb → Dscb → ℕ → List Record → Vol
@@ -477,7 +517,7 @@ module _ (any : Vol) where
   slots_break_no_rule :
       (slots_faults one_cylinder (slots_with twins) ≡ [] → IsIndexGiven (gave_pack good_first (on_second twins)) 41472 (with_two (formats.F1 (f1 a)) (formats.F1 (f1 a)) 2 twin_records))
       × (¬ IsIndexGiven (gave_pack good_first (on_second twins)) 41472 (with_two (formats.F1 (f1 a)) (formats.F1 (f1 a)) 2 twin_records))
-  unfolding gave_pack pack track_bytes
+  unfolding gave_pack pack track_bytes two_of_vtoc two_given found_on
   slots_break_no_rule = (
     λ lawful. record {
       header = GivesHeader (take 512 image) refl (inl refl) header_is_read;
@@ -485,16 +525,16 @@ module _ (any : Vol) where
       labelled = given_of good_first (on_second twins) 0 (omega arith) refl label_is_there;
       serial = refl;
       slots = slots_with twins;
-      extent = refl;
-      given = two_given (on_second twins) twins refl twins_are_read;
+      of_vtoc = two_of_vtoc (on_second twins) twins refl twins_are_read;
       dscbs = (are_dscbs.0, (are_dscbs.1.0, (are_dscbs.1.1.1.0, (are_dscbs.1.1.1.0, tt))));
       lawful = lawful;
       apart = omega arith;
       last = refl;
       buffer = given_of good_first (on_second twins) 2 (omega arith) refl twins_are_whole;
+      held = refl;
     },
     λ is.
-        let these = no_others_given (on_second twins) twins refl twins_are_read is.slots _ is.given in
+        let these = no_others_given (on_second twins) twins refl twins_are_read is.slots _ is.of_vtoc.given in
         let wrong : mount.DuplicateName 3 2 ∷ [] ≡ [] = sym (ap (slots_faults one_cylinder) these ∙ twins_break_a_rule) ∙ is.lawful in
         cc,
   )
@@ -502,7 +542,7 @@ module _ (any : Vol) where
   buffer_has_the_last_track :
       (1 + 1 ≡ 1 + 2 → IsIndexGiven (gave_pack good_first good_second) 41472 (with_two (formats.F1 (f1 b)) (formats.F1 (f1 a)) 1 (map (slot_record first_track) (format_4 ∷ format_5 ∷ []))))
       × (¬ IsIndexGiven (gave_pack good_first good_second) 41472 (with_two (formats.F1 (f1 b)) (formats.F1 (f1 a)) 1 (map (slot_record first_track) (format_4 ∷ format_5 ∷ []))))
-  unfolding gave_pack pack track_bytes
+  unfolding gave_pack pack track_bytes two_of_vtoc two_given found_on
   buffer_has_the_last_track = (
     λ last. record {
       header = GivesHeader (take 512 image) refl (inl refl) header_is_read;
@@ -510,13 +550,13 @@ module _ (any : Vol) where
       labelled = given_of good_first good_second 0 (omega arith) refl label_is_there;
       serial = refl;
       slots = four_slots;
-      extent = refl;
-      given = two_given good_second (data_set b ∷ data_set a ∷ []) refl second_is_good;
+      of_vtoc = two_of_vtoc good_second (data_set b ∷ data_set a ∷ []) refl second_is_good;
       dscbs = are_dscbs;
       lawful = no_slot_breaks_a_rule;
       apart = omega arith;
       last = last;
       buffer = given_of good_first good_second 1 (omega arith) refl good_is_whole.0;
+      held = refl;
     },
     λ is. omega (arith, is.last),
   )
@@ -533,7 +573,7 @@ module _ (any : Vol) where
   all_tracks_are_read :
       (vtoc_by one_cylinder first_track (Some format_4) ≡ Ok (record { start = 1; len = 1 }) → IsIndexGiven (gave_pack good_first good_second) 41472 first_track_alone)
       × (¬ IsIndexGiven (gave_pack good_first good_second) 41472 first_track_alone)
-  unfolding gave_pack pack track_bytes
+  unfolding gave_pack pack track_bytes of_vtoc_one
   all_tracks_are_read = (
     λ extent. record {
       header = GivesHeader (take 512 image) refl (inl refl) header_is_read;
@@ -541,27 +581,104 @@ module _ (any : Vol) where
       labelled = given_of good_first good_second 0 (omega arith) refl label_is_there;
       serial = refl;
       slots = addressed_from one_cylinder 1 1 (format_4 ∷ format_5 ∷ []) ++ [];
-      extent = extent;
-      given = first_given;
+      of_vtoc = of_vtoc_one (gave_pack good_first good_second) 0 one_cylinder first_track (record { start = 1; len = 1 }) (format_4 ∷ format_5 ∷ []) (given_of good_first good_second 1 (omega arith) refl (first_is_good.1 ∙ extent)) (given_of good_first good_second 1 (omega arith) refl first_is_good.0) extent;
       dscbs = (are_dscbs.0, (are_dscbs.1.0, tt));
       lawful = first_alone_breaks_no_rule;
       apart = omega arith;
       last = refl;
       buffer = given_of good_first good_second 1 (omega arith) refl good_is_whole.0;
+      held = refl;
     },
     wrong_extent,
   )
     where
-      first_given : AreGiven (gave_pack good_first good_second) 0 one_cylinder 1 1 (addressed_from one_cylinder 1 1 (format_4 ∷ format_5 ∷ []) ++ []) (0 ∷ [])
-      first_given = given_one (gave_pack good_first good_second) 0 one_cylinder 1 (format_4 ∷ format_5 ∷ []) (given_of good_first good_second 1 (omega arith) refl first_is_good.0)
-
       wrong_extent : ¬ IsIndexGiven (gave_pack good_first good_second) 41472 first_track_alone
       wrong_extent is =
           let label : is.label ≡ label_bytes pack01 first_track = label_is good_first good_second is.label is.labelled in
-          let extent : vtoc_by one_cylinder first_track (first_bytes is.slots) ≡ Ok (record { start = 1; len = 1 }) = subst (λ (l : List ℕ). vtoc_by one_cylinder (address_at 11 l) (first_bytes is.slots) ≡ Ok (record { start = 1; len = 1 })) label is.extent in
-          let found : Ok two_tracks ≡ Ok (record { start = 1; len = 1 }) = extent_by_slots good_first good_second format_4 (format_5 ∷ []) first_is_good.0 (record { start = 1; len = 1 }) is.slots (0 ∷ []) extent is.given in
-          let run : two_tracks ≡ record { start = 1; len = 1 } = cc in
+          let begun = subst (λ (l : List ℕ). IsExtentGiven (gave_pack good_first good_second) 0 one_cylinder (address_at 11 l) (Ok (record { start = 1; len = 1 }))) label is.of_vtoc.begun in
+          let run : two_tracks ≡ record { start = 1; len = 1 } = sym (run_is good_second (record { start = 1; len = 1 }) begun) in
           let wrong : 2 ≡ 1 = ap (λ (x : Run). x.len) run in
+          omega (arith, wrong)
+
+  -- the first slot, where that stands on the second track
+  abbrev late : Vol
+  late = record (index any) {
+    slots = record (index any).slots { len = 2; cap = 2; items = formats.F4 f4 ∷ formats.F5 f5 ∷ []; ok = (refl, omega arith); small = omega arith };
+    firsts = record (index any).firsts { len = 2; cap = 2; items = 0 ∷ 0 ∷ []; ok = (refl, omega arith); small = omega arith };
+    buf = record (index any).buf { records = map (slot_record second_track) (format_4 ∷ format_5 ∷ []) };
+  }
+
+  -- The first slot stands on the first track, as the slots of that are given, though another read of it gave a slot with the extent.
+  first_slot_is_on_the_first_track :
+      (vtoc_by one_cylinder first_track None ≡ Ok two_tracks → IsIndexGiven gave_late 41472 late)
+      × (¬ IsIndexGiven gave_late 41472 late)
+  unfolding gave_late gave_pack pack track_bytes late_is_given late_on
+  first_slot_is_on_the_first_track = (
+    λ extent. record {
+      header = GivesHeader (take 512 image) refl (inl (inl refl)) header_is_read;
+      label = label_bytes pack01 first_track;
+      labelled = given_still (given_of (on_first []) late_second 0 (omega arith) refl label_is_there) late_still;
+      serial = refl;
+      slots = addressed_from one_cylinder 2 1 (format_4 ∷ format_5 ∷ []) ++ [];
+      of_vtoc = record { given = late_is_given; begun = Gives good_first refl (inr refl) first_is_good.1; extent = λ some. extent };
+      dscbs = (are_dscbs.0, (are_dscbs.1.0, tt));
+      lawful = late_breaks_no_rule;
+      apart = omega arith;
+      last = refl;
+      buffer = given_still (given_of (on_first []) late_second 2 (omega arith) refl late_is_read.1) late_still;
+      held = refl;
+    },
+    wrong,
+  )
+    where
+      empty : (found : List (List ℕ)) → length (addressed_from one_cylinder 1 1 found ++ []) ≡ 0 → found ≡ []
+      empty [] none = refl
+      empty (slot ∷ found) none = absurd (cc none)
+
+      wrong : ¬ IsIndexGiven gave_late 41472 late
+      wrong is =
+          let none : 0 ≡ length (addressed_from one_cylinder 1 1 (is.of_vtoc.given.found 1) ++ []) = ap (λ (l : List ℕ). get_or l 1 9) is.of_vtoc.given.firsts_are in
+          let no_slot = empty (is.of_vtoc.given.found 1) (sym none) in
+          let extent : Err (VtocTrack (track_of_address one_cylinder (address_at 11 is.label))) ≡ Ok two_tracks = ap (λ (l : List (List ℕ)). vtoc_by one_cylinder (address_at 11 is.label) (slice_get l 0)) (sym no_slot) ∙ is.of_vtoc.extent (omega arith) in
+          cc
+
+  -- The buffer has the slots that are given of its track, though another read of that gave what it has.
+  buffer_has_the_slots_of_the_index :
+      (slots_in other_records ≡ Some (data_set b ∷ data_set a ∷ []) → IsIndexGiven gave_other 41472 (with_two (formats.F1 (f1 b)) (formats.F1 (f1 a)) 2 other_records))
+      × (¬ IsIndexGiven gave_other 41472 (with_two (formats.F1 (f1 b)) (formats.F1 (f1 a)) 2 other_records))
+  unfolding gave_other gave_pack pack track_bytes two_given found_on at_in
+  buffer_has_the_slots_of_the_index = (
+    λ held. record {
+      header = GivesHeader (take 512 image) refl (inl (inl refl)) header_is_read;
+      label = label_bytes pack01 first_track;
+      labelled = given_still (given_of good_first good_second 0 (omega arith) refl label_is_there) other_still;
+      serial = refl;
+      slots = four_slots;
+      of_vtoc = record {
+        given = record { found = found_on (data_set b ∷ data_set a ∷ []); read = λ track low high. given_still ((two_given good_second (data_set b ∷ data_set a ∷ []) refl second_is_good).read track low high) other_still; slots_are = refl; firsts_are = refl };
+        begun = given_still (given_of good_first good_second 1 (omega arith) refl first_is_good.1) other_still;
+        extent = λ some. refl;
+      };
+      dscbs = are_dscbs;
+      lawful = no_slot_breaks_a_rule;
+      apart = omega arith;
+      last = refl;
+      buffer = Gives (on_second (data_set b ∷ data_set c ∷ [])) refl (inr refl) others_are_read;
+      held = held;
+    },
+    wrong,
+  )
+    where
+      first_alone : {holds : List ℕ → Type 0} → HasGiven gave_other 0 one_cylinder 1 holds → HasGiven (gave_pack good_first good_second) 0 one_cylinder 1 holds
+      first_alone (Gives bytes size gave is) = ⊎_elim (λ was. Gives bytes size was is) (λ other. let wrong : 4608 ≡ 8704 = ap at_in other in absurd (omega (arith, wrong))) gave
+
+      wrong : ¬ IsIndexGiven gave_other 41472 (with_two (formats.F1 (f1 b)) (formats.F1 (f1 a)) 2 other_records)
+      wrong is =
+          let first : is.of_vtoc.given.found 1 ≡ format_4 ∷ format_5 ∷ [] = slots_of good_first good_second 1 _ first_is_good.0 (first_alone (is.of_vtoc.given.read 1 (omega arith) (omega arith))) in
+          let second : data_set b ∷ data_set c ∷ [] ≡ is.of_vtoc.given.found 2 = some_same is.held in
+          let these = is.of_vtoc.given.slots_are ∙ ap₂ (λ (x y : List (List ℕ)). addressed_from one_cylinder 1 1 x ++ (addressed_from one_cylinder 2 1 y ++ [])) first (sym second) in
+          let stand = subst (AreDscbs (formats.F4 f4 ∷ formats.F5 f5 ∷ formats.F1 (f1 b) ∷ formats.F1 (f1 a) ∷ [])) these is.dscbs in
+          let wrong : 0xC3 ≡ 0xC1 = ap (λ (l : List ℕ). get_or l 0 0) stand.1.1.1.0.0 in
           omega (arith, wrong)
 
   -- The slots are those that reads gave, and the geometry is by the size of the pack: another DSCB is held, or a byte stands behind the last track.
@@ -571,7 +688,7 @@ module _ (any : Vol) where
   unfolding geometry_of geometry_on
   index_holds_what_is_given = (
     λ is.
-        let these = no_others_given good_second (data_set b ∷ data_set a ∷ []) refl second_is_good is.slots _ is.given in
+        let these = no_others_given good_second (data_set b ∷ data_set a ∷ []) refl second_is_good is.slots _ is.of_vtoc.given in
         let held : AreDscbs (formats.F4 f4 ∷ formats.F5 f5 ∷ formats.F1 (f1 b) ∷ formats.F1 (f1 c) ∷ []) four_slots = subst (AreDscbs (formats.F4 f4 ∷ formats.F5 f5 ∷ formats.F1 (f1 b) ∷ formats.F1 (f1 c) ∷ [])) these is.dscbs in
         let wrong : 0xC1 ≡ 0xC3 = ap (λ (l : List ℕ). get_or l 0 0) held.1.1.1.0.0 in
         omega (arith, wrong),
@@ -633,51 +750,3 @@ label_and_header_are_given = (
 
     longer_not : ¬ IsHeaderGiven (λ call. call ≡ Giving 7 0 0 (take 513 image)) 0 41472 one_cylinder
     longer_not (GivesHeader bytes long gave is) = let size : length bytes ≡ 513 = ap (λ (call : HallCall). length (bytes_in call)) gave in omega (arith, size, long)
-
--- the label's track as one whose label leads to it, and as one with the slots of a VTOC of that track alone
-abbrev alone_4 : List ℕ
-alone_4 = replicate 44 4 ++ (0xF4 ∷ replicate 60 0) ++ extent 0 0 ++ replicate 25 0
-
-own_alone : List ℕ
-own_alone = new_track 0 0 (map (slot_record own) (alone_4 ∷ format_5 ∷ [])) 4096
-
-gave_alone : HallCall → Type 0
-gave_alone call = gave_own call ⊎ (call ≡ Giving 2 0 512 own_alone)
-
-alone_is_read : (option_and_then slots_in (records_by one_cylinder None 0 own_alone) ≡ Some (alone_4 ∷ format_5 ∷ [])) × (records_by one_cylinder None 0 own_alone ≡ Some (map (slot_record own) (alone_4 ∷ format_5 ∷ [])))
-unfolding own_alone records_of is_front records_to_end
-alone_is_read = (refl, refl)
-
-alone_breaks_no_rule : slots_faults one_cylinder (addressed_from one_cylinder 0 1 (alone_4 ∷ format_5 ∷ [])) ≡ []
-unfolding slots_faults front_faults dscb_faults dscb_fault extents_fault has_types has_extents has_chain counted_extents first_extents format_3_of further_extents name_faults name_fault
-alone_breaks_no_rule = refl
-
--- Given that it stands behind the label's track, a VTOC on that track is one that such reads give; and it isn't.
-module _ (any : Vol) where
-  abbrev on_label : Vol
-  on_label = record (index any) {
-    vtoc = record { start = 0; len = 1 };
-    slots = record (index any).slots { len = 2; cap = 2; items = formats.F4 (record f4 { vtoc = extent 0 0 }) ∷ formats.F5 f5 ∷ []; ok = (refl, omega arith); small = omega arith };
-    firsts = record (index any).firsts { len = 1; cap = 1; items = 0 ∷ []; ok = (refl, omega arith); small = omega arith };
-    buf = record (index any).buf { track = 0; records = map (slot_record own) (alone_4 ∷ format_5 ∷ []) };
-  }
-
-  vtoc_stands_behind_the_label : (1 ≤ 0 → IsIndexGiven gave_alone 41472 on_label) × (¬ IsIndexGiven gave_alone 41472 on_label)
-  unfolding gave_alone gave_own own_alone own_track
-  vtoc_stands_behind_the_label = (
-    λ apart. record {
-      header = GivesHeader (take 512 image) refl (inl (inl refl)) header_is_read;
-      label = label_bytes pack01 own;
-      labelled = Gives own_track refl (inl (inr refl)) own_label_is_there;
-      serial = refl;
-      slots = addressed_from one_cylinder 0 1 (alone_4 ∷ format_5 ∷ []);
-      extent = refl;
-      given = given_one gave_alone 0 one_cylinder 0 (alone_4 ∷ format_5 ∷ []) (Gives own_alone refl (inr refl) alone_is_read.0);
-      dscbs = (all_stand alone_4 (f4_fields (record f4 { vtoc = extent 0 0 })) refl, (are_dscbs.1.0, tt));
-      lawful = alone_breaks_no_rule;
-      apart = apart;
-      last = refl;
-      buffer = Gives own_alone refl (inr refl) alone_is_read.1;
-    },
-    λ is. omega (arith, is.apart),
-  )

@@ -1,15 +1,18 @@
 -- So many tracks from one on, none and one more, by what a read of each gave.
 use Rattle.std.proofs.Common.{◌≡◌, ◌∙◌, ◌+◌, ◌<◌, ◌≤◌, ℕ, zero, suc, ⊎_elim, cond, List, [], ◌∷◌, ◌++◌, length, map, refl, sym, ap, ap₂, subst, append-nil, arith}
-use Rattle.std.specs.Prelude.{nat_le}
+use Rattle.std.specs.Prelude.{Ok, nat_le, slice_get}
 use Rattle.std.specs.List.{flat_map, range_with_len}
 use Rattle.std.proofs.lemmas.Bool.{cases_lt, cond-true, cond-false, le-leb, lt-leb}
 use Rattle.std.proofs.lemmas.Grind.{flat_map-append}
 use Rattle.std.proofs.lemmas.List.FromFn.{map-range_with_len_more}
 use Rattle.ckd_image.specs.declared.header.Geometry.{Geometry}
 use Rattle.hall_core.specs.Made.{HallCall}
+use Rattle.pack_spec.specs.declared.address.Address.{Address}
 use Rattle.pack_spec.specs.declared.addressed.VtocSlot.{VtocSlot}
 use Rattle.pack_spec.specs.Slots.{addressed_from}
-use Rattle.vtoc_index.specs.Given.{AreGiven, AreSlotsGiven, slots_by}
+use Rattle.pack_spec.specs.Vtoc.{vtoc_by}
+use Rattle.vol_model.specs.declared.contents.Run.{Run}
+use Rattle.vtoc_index.specs.Given.{AreGiven, AreOfVtoc, AreSlotsGiven, IsExtentGiven, slots_by}
 
 -- ---- numbers from one on
 
@@ -86,22 +89,27 @@ as_before at bytes found track low = cond-false (nat_le at track) bytes (found t
 new_there : (at : ℕ) (bytes : List (List ℕ)) (found : ℕ → List (List ℕ)) (track : ℕ) → at ≤ track → from_on at bytes found track ≡ bytes
 new_there at bytes found track high = cond-true (nat_le at track) bytes (found track) (le-leb at track high)
 
--- the slots of one more track stand behind those of the others, and its first has the number that is behind theirs
+-- the slots of one more track stand behind those of the others, which stay as they were, and its first has the number that is behind theirs
 pub given_more :
-    (done : HallCall → Type 0) (unit : ℕ) (g : Geometry) (start len : ℕ) (slots : List VtocSlot) (firsts : List ℕ) (bytes : List (List ℕ))
-    → AreGiven done unit g start len slots firsts
+    (done : HallCall → Type 0) (unit : ℕ) (g : Geometry) (start len : ℕ) (slots : List VtocSlot) (firsts numbers : List ℕ) (bytes : List (List ℕ)) (given : AreGiven done unit g start len slots firsts)
     → AreSlotsGiven done unit g (start + len) bytes
-    → AreGiven done unit g start (suc len) (slots ++ addressed_from g (start + len) 1 bytes) (firsts ++ length slots ∷ [])
-given_more done unit g start len slots firsts bytes given here = record {
-  found = found;
-  read = read;
-  slots_are =
-      ap₂ (λ (l m : List VtocSlot). l ++ m) before (ap (addressed_from g (start + len) 1) (sym (new_there (start + len) bytes given.found (start + len) (omega arith))))
-      ∙ sym (slots_more g found start len);
-  firsts_are =
-      ap₂ (λ (l : List ℕ) (n : ℕ). l ++ n ∷ []) (given.firsts_are ∙ firsts_same g given.found found start len alike) (ap length before)
-      ∙ sym (firsts_more g found start len);
-}
+    → numbers ≡ firsts ++ length slots ∷ []
+    → (more : AreGiven done unit g start (suc len) (slots ++ addressed_from g (start + len) 1 bytes) numbers) × (more.found (start + len) ≡ bytes) × ((track : ℕ) → track < start + len → more.found track ≡ given.found track)
+given_more done unit g start len slots firsts numbers bytes given here is = (
+  record {
+    found = found;
+    read = read;
+    slots_are =
+        ap₂ (λ (l m : List VtocSlot). l ++ m) before (ap (addressed_from g (start + len) 1) (sym (new_there (start + len) bytes given.found (start + len) (omega arith))))
+        ∙ sym (slots_more g found start len);
+    firsts_are =
+        is
+        ∙ ap₂ (λ (l : List ℕ) (n : ℕ). l ++ n ∷ []) (given.firsts_are ∙ firsts_same g given.found found start len alike) (ap length before)
+        ∙ sym (firsts_more g found start len);
+  },
+  new_there (start + len) bytes given.found (start + len) (omega arith),
+  as_before (start + len) bytes given.found,
+)
   where
     found : ℕ → List (List ℕ)
     found = from_on (start + len) bytes given.found
@@ -121,10 +129,22 @@ given_more done unit g start len slots firsts bytes given here = record {
         (cases_lt track (start + len))
 
 -- of one track there are its slots, and its first has the number 0
-pub given_one : (done : HallCall → Type 0) (unit : ℕ) (g : Geometry) (track : ℕ) (bytes : List (List ℕ)) → AreSlotsGiven done unit g track bytes → AreGiven done unit g track 1 (addressed_from g track 1 bytes) (0 ∷ [])
+abbrev pub given_one : (done : HallCall → Type 0) (unit : ℕ) (g : Geometry) (track : ℕ) (bytes : List (List ℕ)) → AreSlotsGiven done unit g track bytes → AreGiven done unit g track 1 (addressed_from g track 1 bytes) (0 ∷ [])
 given_one done unit g track bytes here = record {
   found = λ there. bytes;
   read = λ there low high. let same : track ≡ there = omega (arith, low, high) in subst (λ (t : ℕ). AreSlotsGiven done unit g t bytes) same here;
   slots_are = sym (append-nil (addressed_from g track 1 bytes));
   firsts_are = refl;
 }
+
+-- of a VTOC whose extent is given, no track or the first, where that begins with the slot by which it is found
+pub of_vtoc_none : (done : HallCall → Type 0) (unit : ℕ) (g : Geometry) (at : Address) (vtoc : Run) → IsExtentGiven done unit g at (Ok vtoc) → AreOfVtoc done unit g at vtoc 0 [] []
+of_vtoc_none done unit g at vtoc begun = record { given = given_none done unit g vtoc.start [] [] refl refl; begun = begun; extent = λ some. absurd (omega (arith, some)) }
+
+unfoldable pub of_vtoc_one :
+    (done : HallCall → Type 0) (unit : ℕ) (g : Geometry) (at : Address) (vtoc : Run) (bytes : List (List ℕ))
+    → IsExtentGiven done unit g at (Ok vtoc)
+    → AreSlotsGiven done unit g vtoc.start bytes
+    → vtoc_by g at (slice_get bytes 0) ≡ Ok vtoc
+    → AreOfVtoc done unit g at vtoc 1 (addressed_from g vtoc.start 1 bytes) (0 ∷ [])
+of_vtoc_one done unit g at vtoc bytes begun here is = record { given = given_one done unit g vtoc.start bytes here; begun = begun; extent = λ some. is }

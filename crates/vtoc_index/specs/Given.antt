@@ -1,7 +1,6 @@
 -- The index of a VTOC by what the reads of its pack gave, which is said over each hall, in this project's profile.
-use Rattle.std.specs.Prelude.{◌≡◌, ◌⊎◌, ℕ, ◌+◌, ◌≤◌, ◌<◌, false, true, List, [], ◌++◌, length, map, Option, Some, None, Result, Ok, Err, option_and_then, slice_get, slice_range}
+use Rattle.std.specs.Prelude.{◌≡◌, ◌⊎◌, ℕ, ◌+◌, ◌≤◌, ◌<◌, false, true, List, [], length, map, Some, None, Result, Ok, Err, option_and_then, slice_get, slice_range}
 use Rattle.std.specs.List.{flat_map, range_with_len}
-use Rattle.std.specs.Option.{option_map}
 use Rattle.ckd_image.specs.declared.header.Geometry.{Geometry}
 use Rattle.ckd_image.specs.declared.header.ImageErr.{ImageErr}
 use Rattle.ckd_image.specs.declared.header.ImageErr.TheVariants.{BadMagic}
@@ -45,35 +44,42 @@ pub record AreGiven (done : HallCall → Type 0) (unit : ℕ) (g : Geometry) (st
   pub slots_are : slots ≡ slots_by g found start len
   pub firsts_are : firsts ≡ map (λ tracks. length (slots_by g found start tracks)) (range_with_len 0 len)
 
--- the bytes of the first of these slots
-abbrev pub first_bytes : List VtocSlot → Option (List ℕ)
-first_bytes slots = option_map (λ (s : VtocSlot). s.bytes) (slice_get slots 0)
+-- the extent of a VTOC that begins at an address is found or refused so, by the first record that a read of the track there gave
+abbrev pub IsExtentGiven : (HallCall → Type 0) → ℕ → Geometry → Address → Result Run MountErr → Type 0
+IsExtentGiven done unit g at answer = HasGiven done unit g (track_of_address g at) (λ bytes. vtoc_by g at (option_and_then first_slot (records_by g (Some 1) (track_of_address g at) bytes)) ≡ answer)
 
--- So many tracks were read, of which the slots begin with these.
-pub record AreFound (done : HallCall → Type 0) (unit : ℕ) (g : Geometry) (start len : ℕ) (first : List VtocSlot) (found : ReadSlots) : Type 0 where
+-- So many tracks of the VTOC that begins at an address have these slots, as AreGiven says; and the VTOC has this extent, by the first record that a read of its first track gave, and by the first slot that is given of that track.
+pub record AreOfVtoc (done : HallCall → Type 0) (unit : ℕ) (g : Geometry) (at : Address) (vtoc : Run) (len : ℕ) (slots : List VtocSlot) (firsts : List ℕ) : Type 0 where
+  pub given : AreGiven done unit g vtoc.start len slots firsts
+  pub begun : IsExtentGiven done unit g at (Ok vtoc)
+  pub extent : 1 ≤ len → vtoc_by g at (slice_get (given.found vtoc.start) 0) ≡ Ok vtoc
+
+-- So many tracks of the VTOC were read, and the buffer has the last of them, with the slots that are given of it.
+pub record AreFound (done : HallCall → Type 0) (unit : ℕ) (g : Geometry) (at : Address) (vtoc : Run) (len : ℕ) (found : ReadSlots) (b : Buffer) : Type 0 where
   pub slots : List VtocSlot
-  pub given : AreGiven done unit g start len slots found.firsts.items
+  pub of_vtoc : AreOfVtoc done unit g at vtoc len slots found.firsts.items
   pub read : AreRead found.slots.items slots
-  pub begins : (more : List VtocSlot) × (slots ≡ first ++ more)
+  pub last : b.track + 1 ≡ vtoc.start + len
+  pub held : slots_in b.records ≡ Some (of_vtoc.given.found b.track)
 
 -- a read of the track in a buffer gave its records, to the end of the track
 abbrev pub IsBufferGiven : (HallCall → Type 0) → ℕ → Geometry → Buffer → Type 0
 IsBufferGiven done unit g b = HasGiven done unit g b.track (λ bytes. records_by g None b.track bytes ≡ Some b.records)
 
--- The index is that of the pack, of this size, as reads of its header, its label and each track of its VTOC gave them: its geometry, its serial, where its VTOC lies by the label and the first slot, behind the label's track, and its slots, which break no rule; and its buffer has the last track of the VTOC.
+-- The index is that of the pack, of this size, as reads of its header, its label and each track of its VTOC gave them: its geometry, its serial, where its VTOC lies by the label and the first slot, behind the label's track, and its slots, which break no rule; and its buffer has the last track of the VTOC, with the slots that are given of it.
 pub record IsIndexGiven (done : HallCall → Type 0) (size : ℕ) (v : Vol) : Type 0 where
   pub header : IsHeaderGiven done v.unit size v.geometry
   pub label : List ℕ
   pub labelled : IsLabelGiven done v.unit v.geometry label
   pub serial : v.serial.bytes ≡ slice_range label 4 10
   pub slots : List VtocSlot
-  pub extent : vtoc_by v.geometry (address_at 11 label) (first_bytes slots) ≡ Ok v.vtoc
-  pub given : AreGiven done v.unit v.geometry v.vtoc.start v.vtoc.len slots v.firsts.items
+  pub of_vtoc : AreOfVtoc done v.unit v.geometry (address_at 11 label) v.vtoc v.vtoc.len slots v.firsts.items
   pub dscbs : AreDscbs v.slots.items slots
   pub lawful : slots_faults v.geometry slots ≡ []
   pub apart : 1 ≤ v.vtoc.start
   pub last : v.buf.track + 1 ≡ v.vtoc.start + v.vtoc.len
   pub buffer : IsBufferGiven done v.unit v.geometry v.buf
+  pub held : slots_in v.buf.records ≡ Some (of_vtoc.given.found v.buf.track)
 
 -- a read of the label's track gave no label
 abbrev pub IsLabelLacking : (HallCall → Type 0) → ℕ → Geometry → Type 0
@@ -83,19 +89,15 @@ IsLabelLacking done unit g = HasGiven done unit g 0 (λ bytes. option_and_then l
 abbrev pub AreSlotsLacking : (HallCall → Type 0) → ℕ → Geometry → ℕ → Type 0
 AreSlotsLacking done unit g track = HasGiven done unit g track (λ bytes. option_and_then slots_in (records_by g None track bytes) ≡ None)
 
--- the extent of a VTOC that begins at an address is found or refused so, by the first record that a read of the track there gave
-abbrev pub IsExtentGiven : (HallCall → Type 0) → ℕ → Geometry → Address → Result Run MountErr → Type 0
-IsExtentGiven done unit g at answer = HasGiven done unit g (track_of_address g at) (λ bytes. vtoc_by g at (option_and_then first_slot (records_by g (Some 1) (track_of_address g at) bytes)) ≡ answer)
-
--- a track of a VTOC lacks slots, and those before it don't
-pub data IsTrackReason (done : HallCall → Type 0) (unit : ℕ) (g : Geometry) (vtoc : Run) (e : MountErr) : Type 0 where
-  TrackLacks : (k : ℕ) → k < vtoc.len → (slots : List VtocSlot) → (firsts : List ℕ) → AreGiven done unit g vtoc.start k slots firsts → AreSlotsLacking done unit g (vtoc.start + k) → e ≡ VtocTrack (vtoc.start + k) → IsTrackReason done unit g vtoc e
+-- a track of the VTOC that begins at an address and has this extent lacks slots, and those before it don't
+pub data IsTrackReason (done : HallCall → Type 0) (unit : ℕ) (g : Geometry) (at : Address) (vtoc : Run) (e : MountErr) : Type 0 where
+  TrackLacks : (k : ℕ) → k < vtoc.len → (slots : List VtocSlot) → (firsts : List ℕ) → AreOfVtoc done unit g at vtoc k slots firsts → AreSlotsLacking done unit g (vtoc.start + k) → e ≡ VtocTrack (vtoc.start + k) → IsTrackReason done unit g at vtoc e
 
 -- why the VTOC that begins at an address is refused, by what reads of its tracks gave: its extent is, or no slot is there by which it could be found; a track lacks slots; or a slot breaks a rule, the first that does
 pub data IsVtocReason (done : HallCall → Type 0) (unit : ℕ) (g : Geometry) (at : Address) (e : MountErr) : Type 0 where
   BadExtent : IsExtentGiven done unit g at (Err e) → IsVtocReason done unit g at e
-  NoSlots : (vtoc : Run) → IsExtentGiven done unit g at (Ok vtoc) → IsTrackReason done unit g vtoc e → IsVtocReason done unit g at e
-  BadSlot : (vtoc : Run) → (slots : List VtocSlot) → (firsts : List ℕ) → vtoc_by g at (first_bytes slots) ≡ Ok vtoc → AreGiven done unit g vtoc.start vtoc.len slots firsts → slice_get (slots_faults g slots) 0 ≡ Some e → IsVtocReason done unit g at e
+  NoSlots : (vtoc : Run) → IsTrackReason done unit g at vtoc e → IsVtocReason done unit g at e
+  BadSlot : (vtoc : Run) → (slots : List VtocSlot) → (firsts : List ℕ) → AreOfVtoc done unit g at vtoc vtoc.len slots firsts → slice_get (slots_faults g slots) 0 ≡ Some e → IsVtocReason done unit g at e
 
 -- why a header of a pack of this size is refused: it doesn't fit in, or a read of it gave bytes of no geometry
 pub data IsHeaderReason (done : HallCall → Type 0) (unit size : ℕ) (e : MountErr) : Type 0 where
@@ -109,16 +111,16 @@ pub data IsReasonGiven (done : HallCall → Type 0) (unit size : ℕ) (e : Mount
   Unlabelled : (g : Geometry) → IsHeaderGiven done unit size g → IsLabelLacking done unit g → e ≡ NoLabel → IsReasonGiven done unit size e
   Outside : (g : Geometry) → IsHeaderGiven done unit size g → (label : List ℕ) → IsLabelGiven done unit g label → is_inside g (address_at 11 label) ≡ false → e ≡ BadVtoc → IsReasonGiven done unit size e
   OnLabel : (g : Geometry) → IsHeaderGiven done unit size g → (label : List ℕ) → IsLabelGiven done unit g label → track_of_address g (address_at 11 label) ≡ 0 → e ≡ VtocTrack 0 → IsReasonGiven done unit size e
-  NoVtoc : (g : Geometry) → IsHeaderGiven done unit size g → (label : List ℕ) → IsLabelGiven done unit g label → is_inside g (address_at 11 label) ≡ true → IsVtocReason done unit g (address_at 11 label) e → IsReasonGiven done unit size e
+  NoVtoc : (g : Geometry) → IsHeaderGiven done unit size g → (label : List ℕ) → IsLabelGiven done unit g label → is_inside g (address_at 11 label) ≡ true → 1 ≤ track_of_address g (address_at 11 label) → IsVtocReason done unit g (address_at 11 label) e → IsReasonGiven done unit size e
 
--- a read of a track of a VTOC that has this extent, where reads gave the slots of those before it
-pub data IsNextRead (done : HallCall → Type 0) (unit : ℕ) (g : Geometry) (vtoc : Run) (call : HallCall) : Type 0 where
-  OfNext : (k : ℕ) → k < vtoc.len → (slots : List VtocSlot) → (firsts : List ℕ) → AreGiven done unit g vtoc.start k slots firsts → call ≡ track_read unit g (vtoc.start + k) → IsNextRead done unit g vtoc call
+-- a read of a track of the VTOC that begins at an address and has this extent, where reads gave the slots of those before it
+pub data IsNextRead (done : HallCall → Type 0) (unit : ℕ) (g : Geometry) (at : Address) (vtoc : Run) (call : HallCall) : Type 0 where
+  OfNext : (k : ℕ) → k < vtoc.len → (slots : List VtocSlot) → (firsts : List ℕ) → AreOfVtoc done unit g at vtoc k slots firsts → call ≡ track_read unit g (vtoc.start + k) → IsNextRead done unit g at vtoc call
 
 -- a read of a track of the VTOC that begins at an address: of the first, or of one in the extent that is found by that
 pub data IsVtocRead (done : HallCall → Type 0) (unit : ℕ) (g : Geometry) (at : Address) (call : HallCall) : Type 0 where
   OfFirst : call ≡ track_read unit g (track_of_address g at) → IsVtocRead done unit g at call
-  OfOther : (vtoc : Run) → IsExtentGiven done unit g at (Ok vtoc) → IsNextRead done unit g vtoc call → IsVtocRead done unit g at call
+  OfOther : (vtoc : Run) → IsNextRead done unit g at vtoc call → IsVtocRead done unit g at call
 
 -- A read that mounts a pack of this size, by what other reads of it gave: of the header, where one fits in; of the label's track; or of a track of the VTOC, where the label leads into the pack and behind its own track.
 pub data IsMountRead (done : HallCall → Type 0) (unit size : ℕ) (call : HallCall) : Type 0 where

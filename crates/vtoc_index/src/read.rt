@@ -1,5 +1,5 @@
 //! The index of a VTOC, read with one read a track.
-ghost use Rattle.std.specs.Prelude.{◌≡◌, ◌≢◌, ◌≤◌, ◌<◌, ◌+◌, ◌⊎◌, length, IsTrue, IfOk, IfErr, OnOk, IsErrOf, Some, None, Ok, Err, ◌-◌, ◌++◌, ℕ, List, [], take};
+ghost use Rattle.std.specs.Prelude.{◌≡◌, ◌≤◌, ◌<◌, ◌+◌, ◌⊎◌, length, IsTrue, IfOk, IfErr, OnOk, OnErr, IsErrOf, Some, None, Ok, Err, ◌-◌, ◌++◌, ℕ, List, [], take};
 ghost use Rattle.ckd_image.specs.Header.{HasGeometry};
 ghost use Rattle.hall_core.specs.Facts.{CallsAtMost, unit_of};
 ghost use Rattle.hall_core.specs.Files.{image_of};
@@ -9,11 +9,10 @@ ghost use Rattle.pack_spec.specs.Label.{is_inside, records_on, track_of_address}
 ghost use Rattle.pack_spec.specs.Views.{tracks_of};
 ghost use Rattle.pack_spec.specs.Volume.{volume_within};
 ghost use Rattle.pack_spec.specs.Vtoc.{first_slot, slots_on, vtoc_by};
-ghost use Rattle.pack_spec.specs.declared.addressed.VtocSlot.{VtocSlot};
 ghost use Rattle.track_records.specs.Calls.{HasGiven, HasTrack, records_by, track_read};
 ghost use Rattle.track_records.specs.Written.{StandsOn};
 ghost use Rattle.vtoc_index.specs.Calls.{IsTrackRead, MountCall, reads_to_mount, tracks_to_read, vtoc_reads};
-ghost use Rattle.vtoc_index.specs.Given.{AreFound, IsBufferGiven, IsIndexGiven, IsMountRead, IsNextRead, IsReasonGiven, IsVtocRead, IsTrackReason, IsVtocReason, first_bytes};
+ghost use Rattle.vtoc_index.specs.Given.{AreFound, IsBufferGiven, IsIndexGiven, IsMountRead, IsNextRead, IsReasonGiven, IsVtocRead, IsTrackReason, IsVtocReason};
 ghost use Rattle.vtoc_index.specs.Index.{IsMounted, IsOfUnit, IsReason};
 ghost use Rattle.vtoc_index.specs.declared.slots.ReadSlot.{ReadSlot};
 ghost use Rattle.vtoc_index.specs.Puts.{HoldsItsTrack};
@@ -124,7 +123,7 @@ fn read_slots<H: Hall>(
     ensures once { IfOk result (λ vtoc. CallsAtMost vtoc.len 0 0 0 (H.calls hall.old) (H.calls hall.new)) }
     ensures far { IsErrOf result MountErr.Memory → CallsAtMost (length found.new.firsts.items + 1) 0 0 0 (H.calls hall.old) (H.calls hall.new) }
     ensures kept { StaysDone (H.done hall.old) (H.done hall.new) }
-    ensures given { IfOk result (λ vtoc. (slots : List VtocSlot) × AreFound (H.done hall.new) unit geometry vtoc.start vtoc.len slots found.new × (vtoc_by geometry at (first_bytes slots) ≡ Ok vtoc)) }
+    ensures given { IfOk result (λ vtoc. AreFound (H.done hall.new) unit geometry at vtoc vtoc.len found.new buf.new) }
     ensures seen { OnOk result (IsBufferGiven (H.done hall.new) unit geometry buf.new) }
     ensures reason { IfErr result (λ e. (e ≡ MountErr.Device) ⊎ ((e ≡ MountErr.Memory) ⊎ IsVtocReason (H.done hall.new) unit geometry at e)) }
     ensures file { IsErrOf result MountErr.NoFile → ⊥ }
@@ -206,15 +205,15 @@ fn read_others<H: Hall>(
     ensures call { MountCall (H.facts hall.old) (H.facts hall.new) result }
     ensures calls { CallsAtMost (vtoc.len - 1) 0 0 0 (H.calls hall.old) (H.calls hall.new) }
     ensures tracks { MakesOnly (IsTrackRead unit geometry (vtoc.start + 1) (vtoc.start + vtoc.len)) (H.made hall.old) (H.made hall.new) }
-    ensures made { (first : List VtocSlot) → AreFound (H.done hall.old) unit geometry vtoc.start 1 first found.old → MakesOnly (IsNextRead (H.done hall.new) unit geometry vtoc) (H.made hall.old) (H.made hall.new) }
+    ensures made { (at : Address) → AreFound (H.done hall.old) unit geometry at vtoc 1 found.old buf.old → MakesOnly (IsNextRead (H.done hall.new) unit geometry at vtoc) (H.made hall.old) (H.made hall.new) }
     ensures each { MakesOnce (H.made hall.old) (H.made hall.new) }
     ensures reads { let image = image_of (H.meaning hall.old).state (H.facts hall.old) unit in IsTrue H.tells → AreTracksRead image geometry vtoc.start 1 found.old → CallsAtMost (tracks_to_read image geometry vtoc - 1) 0 0 0 (H.calls hall.old) (H.calls hall.new) }
     ensures far { CallsAtMost ((length found.new.firsts.items - length found.old.firsts.items) + 1) 0 0 0 (H.calls hall.old) (H.calls hall.new) }
     ensures stops { (t : ℕ) → IsErrOf result (MountErr.VtocTrack t) → CallsAtMost (t - vtoc.start) 0 0 0 (H.calls hall.old) (H.calls hall.new) }
     ensures kept { StaysDone (H.done hall.old) (H.done hall.new) }
-    ensures given { (first : List VtocSlot) → AreFound (H.done hall.old) unit geometry vtoc.start 1 first found.old → OnOk result (AreFound (H.done hall.new) unit geometry vtoc.start vtoc.len first found.new) }
+    ensures given { (at : Address) → AreFound (H.done hall.old) unit geometry at vtoc 1 found.old buf.old → OnOk result (AreFound (H.done hall.new) unit geometry at vtoc vtoc.len found.new buf.new) }
     ensures seen { IsBufferGiven (H.done hall.old) unit geometry buf.old → OnOk result (IsBufferGiven (H.done hall.new) unit geometry buf.new) }
-    ensures reason { (first : List VtocSlot) → AreFound (H.done hall.old) unit geometry vtoc.start 1 first found.old → IfErr result (λ e. (e ≡ MountErr.Device) ⊎ ((e ≡ MountErr.Memory) ⊎ IsTrackReason (H.done hall.new) unit geometry vtoc e)) }
+    ensures reason { (at : Address) → AreFound (H.done hall.old) unit geometry at vtoc 1 found.old buf.old → IfErr result (λ e. (e ≡ MountErr.Device) ⊎ ((e ≡ MountErr.Memory) ⊎ IsTrackReason (H.done hall.new) unit geometry at vtoc e)) }
     ensures file { IsErrOf result MountErr.NoFile → ⊥ }
 {
     for track in vtoc.start + 1..vtoc.start + vtoc.len {
@@ -235,6 +234,7 @@ fn read_track<H: Hall>(
     ensures count { IfOk result (λ n. length buf.new.records ≡ n) }
     ensures which { IfErr result (λ e. (e ≡ MountErr.Device) ⊎ (e ≡ MountErr.VtocTrack track)) }
     ensures buffer { buf.new ≡ record buf.old { unit = unit; track = track; records = buf.new.records } }
+    ensures none { OnErr result (buf.new.records ≡ []) }
     ensures read { IsTrue H.tells → OnOk result (records_on (image_of (H.meaning hall.old).state (H.facts hall.old) unit) buf.old.geometry None track ≡ Some buf.new.records) }
     ensures refused { IsTrue H.tells → IfErr result (λ e. (e ≡ MountErr.Device) ⊎ ((e ≡ MountErr.VtocTrack track) × (slots_on (image_of (H.meaning hall.old).state (H.facts hall.old) unit) buf.old.geometry track ≡ None))) }
     ensures told { IsTrue H.tells → Same (H.meaning hall.old) (H.meaning hall.new) }

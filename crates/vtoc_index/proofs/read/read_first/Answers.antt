@@ -66,8 +66,9 @@ returns-in_default-clause-reason g c =
     let done = g.H.Hall.done c.read_records_or_first.new.hall in
     let extent = c.in_ok-vtoc.ensures.extent in
     let start : c.track-track.result ≡ vtoc.start = c.track-track.ensures.exact ∙ sym extent.begins in
-    inr (NoSlots vtoc (extent_given c.args.unit c.args.buf.now.geometry c.args.geometry c.args.at c.track-track.result c.in-Ok.held _ _ c.requires.buffer c.track-track.ensures.exact (given_ever c.in-Ok.ensures.given) c.in_ok-vtoc.ensures.found)
-    (first_lacks done c.args.unit c.args.geometry vtoc (VtocTrack c.track-track.result) extent.some
+    inr (NoSlots vtoc
+    (first_lacks done c.args.unit c.args.geometry c.args.at vtoc (VtocTrack c.track-track.result) extent.some
+    (extent_given c.args.unit c.args.buf.now.geometry c.args.geometry c.args.at c.track-track.result c.in-Ok.held _ _ c.requires.buffer c.track-track.ensures.exact (given_ever c.in-Ok.ensures.given) c.in_ok-vtoc.ensures.found)
     (broken_held c.args.unit c.args.buf.now.geometry c.args.geometry c.track-track.result vtoc.start c.in-Ok.held _ c.requires.buffer start (not_held c.in-Ok.held c.in_default.not-Some) (given_ever c.in-Ok.ensures.given)) (ap VtocTrack start)))
 
 pub returns-clause-given : goal.returns-clause-given

@@ -28,11 +28,11 @@ loop-track-init g c =
     record {
       calls = (omega arith, omega arith, omega arith, omega arith, omega arith);
       tracks = makes_none _ _;
-      made = λ first are. makes_none _ _;
+      made = λ at are. makes_none _ _;
       each = once_none _;
       kept = λ call was. was;
       seen = λ given. given;
-      given = λ first are. subst (λ (n : ℕ). AreFound (g.H.Hall.done c.args.hall.now) c.args.unit c.args.geometry start n first c.args.found.now) one are;
+      given = λ at are. subst (λ (n : ℕ). AreFound (g.H.Hall.done c.args.hall.now) c.args.unit c.args.geometry at c.args.vtoc n c.args.found.now c.args.buf.now) one are;
       facts = stay_none _;
       told = λ told. same_none _ (g.met.H.Hall.counts_now c.args.hall.now);
       geometry = c.requires.buffer.0;
@@ -134,18 +134,18 @@ loop-track-preserved g c =
         omega (arith, l.invariant.calls.4, c.in_ok-count.ensures.calls.4),
       );
       tracks = track_more c.args.unit c.args.geometry l.buf.geometry (start + 1) l.track (start + (l.track - start)) (start + (l.track + 1 - start)) l.invariant.tracks c.in_ok-count.ensures.made l.invariant.geometry (omega (arith, l.auto.track)) (omega (arith, l.auto.track)) (omega (arith, next));
-      made = λ first are.
-          let given = l.invariant.given first are in
-          next_more c.args.unit c.args.geometry l.buf.geometry c.args.vtoc (l.track - start) l.track given.slots l.found.firsts.items (l.invariant.made first are) c.in_ok-count.ensures.made c.in_ok-count.ensures.kept l.invariant.geometry at (omega (arith, l.auto.track, c.loop-track-test.true)) given.given;
+      made = λ place are.
+          let given = l.invariant.given place are in
+          next_more c.args.unit c.args.geometry l.buf.geometry place c.args.vtoc (l.track - start) l.track given.slots l.found.firsts.items (l.invariant.made place are) c.in_ok-count.ensures.made c.in_ok-count.ensures.kept l.invariant.geometry at (omega (arith, l.auto.track, c.loop-track-test.true)) given.of_vtoc;
       each = track_once c.args.unit c.args.geometry l.buf.geometry (start + 1) (start + (l.track - start)) l.track l.invariant.each l.invariant.tracks c.in_ok-count.ensures.each c.in_ok-count.ensures.made l.invariant.geometry (omega (arith, l.auto.track)) (track_long c.requires.whole);
       kept = λ call was. c.in_ok-count.ensures.kept call (l.invariant.kept call was);
       seen = λ _. track_given None _ _ _ _ _ l.invariant.geometry (sym held.track_is) c.in_ok-count.ensures.given;
-      given = λ first are.
+      given = λ place are.
           let read = c.in_ok-count.ensures.given in
           let here = subst (λ (x : Geometry). HasGiven (g.H.Hall.done c.read_track.new.hall) c.args.unit x l.track (λ bytes. records_by x None l.track bytes ≡ Some c.read_track.new.buf.records)) l.invariant.geometry read in
           let more : suc (l.track - start) ≡ l.track + 1 - start = omega (arith, next) in
-          subst (λ (n : ℕ). AreFound (g.H.Hall.done c.read_track.new.hall) c.args.unit c.args.geometry start n first c.add.new.self) more
-          (found_more (g.H.Hall.done c.read_track.new.hall) c.args.unit c.args.geometry start (l.track - start) l.track first c.read_track.new.buf.records l.found c.add.new.self at (found_still (l.invariant.given first are) c.in_ok-count.ensures.kept) here c.in_ok-add.ensures.firsts c.in_ok-add.ensures.slots);
+          subst (λ (n : ℕ). AreFound (g.H.Hall.done c.read_track.new.hall) c.args.unit c.args.geometry place c.args.vtoc n c.add.new.self c.read_track.new.buf) more
+          (found_more (g.H.Hall.done c.read_track.new.hall) c.args.unit c.args.geometry place c.args.vtoc (l.track - start) l.track l.found c.add.new.self l.buf c.read_track.new.buf (omega (arith, l.auto.track)) at (found_still (l.invariant.given place are) c.in_ok-count.ensures.kept) here c.in_ok-add.ensures.firsts c.in_ok-add.ensures.slots held.track_is);
       facts = stay_more _ _ _ c.in_ok-count.count l.invariant.facts c.in_ok-count.ensures.call;
       told = λ told. same_then (l.invariant.told told) (c.in_ok-count.ensures.told told);
       geometry = geometry;
@@ -329,54 +329,54 @@ pub returns-clause-seen : goal.returns-clause-seen
 returns-clause-seen g c = c.loop-track.invariant.seen
 
 pub returns-clause-given : goal.returns-clause-given
-returns-clause-given g c first are =
+returns-clause-given g c at are =
     let l = c.loop-track in
     let all : l.track - c.args.vtoc.start ≡ c.args.vtoc.len = omega (arith, c.loop-track-test.false, l.auto.track, l.auto.track-end, c.requires.tracks.0) in
-    subst (λ (n : ℕ). AreFound (g.H.Hall.done l.hall) c.args.unit c.args.geometry c.args.vtoc.start n first l.found) all (l.invariant.given first are)
+    subst (λ (n : ℕ). AreFound (g.H.Hall.done l.hall) c.args.unit c.args.geometry at c.args.vtoc n l.found l.buf) all (l.invariant.given at are)
 
 -- why a track isn't added, by what its read gave
 pub returns-in_err-count-clause-reason : goal.returns-in_err-count-clause-reason
-returns-in_err-count-clause-reason g c first are =
+returns-in_err-count-clause-reason g c place are =
     let l = c.loop-track in
     let vtoc = c.args.vtoc in
     let done = g.H.Hall.done c.read_track.new.hall in
-    let before = found_still (l.invariant.given first are) c.in_err-count.ensures.kept in
+    let before = found_still (l.invariant.given place are) c.in_err-count.ensures.kept in
     let p = err_from_is_err_and c.from_residual.result c.from_residual.ensures.1 in
     let at : l.track ≡ vtoc.start + (l.track - vtoc.start) = omega (arith, l.auto.track) in
     let low : l.track - vtoc.start < vtoc.len = omega (arith, l.auto.track, c.loop-track-test.true) in
-    err_at (λ e. (e ≡ Device) ⊎ ((e ≡ Memory) ⊎ IsTrackReason done c.args.unit c.args.geometry vtoc e)) c.from_residual.result c.in_err-count.field-0.0 (p.1 ∙ ap Err p.2)
+    err_at (λ e. (e ≡ Device) ⊎ ((e ≡ Memory) ⊎ IsTrackReason done c.args.unit c.args.geometry place vtoc e)) c.from_residual.result c.in_err-count.field-0.0 (p.1 ∙ ap Err p.2)
     (⊎_elim (λ device. inl device)
-    (λ broken. inr (inr (track_lacks done c.args.unit c.args.geometry vtoc (l.track - vtoc.start) l.track c.in_err-count.field-0.0 before.slots l.found.firsts.items low at before.given (broken_lacks c.args.geometry l.track (track_given None None _ _ _ _ l.invariant.geometry refl broken.1)) broken.0)))
+    (λ broken. inr (inr (track_lacks done c.args.unit c.args.geometry place vtoc (l.track - vtoc.start) l.track c.in_err-count.field-0.0 before.slots l.found.firsts.items low at before.of_vtoc (broken_lacks c.args.geometry l.track (track_given None None _ _ _ _ l.invariant.geometry refl broken.1)) broken.0)))
     c.in_err-count.ensures.reason)
 
 pub returns-in_err-add-clause-reason : goal.returns-in_err-add-clause-reason
-returns-in_err-add-clause-reason g c first are =
+returns-in_err-add-clause-reason g c place are =
     let l = c.loop-track in
     let vtoc = c.args.vtoc in
     let done = g.H.Hall.done c.read_track.new.hall in
-    let before = found_still (l.invariant.given first are) c.in_ok-count.ensures.kept in
+    let before = found_still (l.invariant.given place are) c.in_ok-count.ensures.kept in
     let p = err_from_is_err_and c.from_residual-in_err-add.result c.from_residual-in_err-add.ensures.1 in
     let at : l.track ≡ vtoc.start + (l.track - vtoc.start) = omega (arith, l.auto.track) in
     let low : l.track - vtoc.start < vtoc.len = omega (arith, l.auto.track, c.loop-track-test.true) in
-    err_at (λ e. (e ≡ Device) ⊎ ((e ≡ Memory) ⊎ IsTrackReason done c.args.unit c.args.geometry vtoc e)) c.from_residual-in_err-add.result c.in_err-add.field-0.0 (p.1 ∙ ap Err p.2)
+    err_at (λ e. (e ≡ Device) ⊎ ((e ≡ Memory) ⊎ IsTrackReason done c.args.unit c.args.geometry place vtoc e)) c.from_residual-in_err-add.result c.in_err-add.field-0.0 (p.1 ∙ ap Err p.2)
     (⊎_elim (λ memory. inr (inl memory))
-    (λ other. inr (inr (track_lacks done c.args.unit c.args.geometry vtoc (l.track - vtoc.start) l.track c.in_err-add.field-0.0 before.slots l.found.firsts.items low at before.given (other_lacks c.args.geometry l.track c.read_track.new.buf.records (track_given None _ _ _ _ _ l.invariant.geometry refl c.in_ok-count.ensures.given) other.1) other.0)))
+    (λ other. inr (inr (track_lacks done c.args.unit c.args.geometry place vtoc (l.track - vtoc.start) l.track c.in_err-add.field-0.0 before.slots l.found.firsts.items low at before.of_vtoc (other_lacks c.args.geometry l.track c.read_track.new.buf.records (track_given None _ _ _ _ _ l.invariant.geometry refl c.in_ok-count.ensures.given) other.1) other.0)))
     c.in_err-add.ensures.refused)
 
 -- which reads are made, and none twice
 pub returns-in_err-count-clause-made : goal.returns-in_err-count-clause-made
-returns-in_err-count-clause-made g c first are =
+returns-in_err-count-clause-made g c place are =
     let l = c.loop-track in
     let start = c.args.vtoc.start in
-    let given = l.invariant.given first are in
-    next_more c.args.unit c.args.geometry l.buf.geometry c.args.vtoc (l.track - start) l.track given.slots l.found.firsts.items (l.invariant.made first are) c.in_err-count.ensures.made c.in_err-count.ensures.kept l.invariant.geometry (omega (arith, l.auto.track)) (omega (arith, l.auto.track, c.loop-track-test.true)) given.given
+    let given = l.invariant.given place are in
+    next_more c.args.unit c.args.geometry l.buf.geometry place c.args.vtoc (l.track - start) l.track given.slots l.found.firsts.items (l.invariant.made place are) c.in_err-count.ensures.made c.in_err-count.ensures.kept l.invariant.geometry (omega (arith, l.auto.track)) (omega (arith, l.auto.track, c.loop-track-test.true)) given.of_vtoc
 
 pub returns-in_err-add-clause-made : goal.returns-in_err-add-clause-made
-returns-in_err-add-clause-made g c first are =
+returns-in_err-add-clause-made g c place are =
     let l = c.loop-track in
     let start = c.args.vtoc.start in
-    let given = l.invariant.given first are in
-    next_more c.args.unit c.args.geometry l.buf.geometry c.args.vtoc (l.track - start) l.track given.slots l.found.firsts.items (l.invariant.made first are) c.in_ok-count.ensures.made c.in_ok-count.ensures.kept l.invariant.geometry (omega (arith, l.auto.track)) (omega (arith, l.auto.track, c.loop-track-test.true)) given.given
+    let given = l.invariant.given place are in
+    next_more c.args.unit c.args.geometry l.buf.geometry place c.args.vtoc (l.track - start) l.track given.slots l.found.firsts.items (l.invariant.made place are) c.in_ok-count.ensures.made c.in_ok-count.ensures.kept l.invariant.geometry (omega (arith, l.auto.track)) (omega (arith, l.auto.track, c.loop-track-test.true)) given.of_vtoc
 
 pub returns-in_err-count-clause-each : goal.returns-in_err-count-clause-each
 returns-in_err-count-clause-each g c =

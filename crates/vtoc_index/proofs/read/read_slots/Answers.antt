@@ -10,14 +10,12 @@ use Rattle.pack_spec.specs.declared.MountErr.TheVariants.{Device, Memory}
 use Rattle.vtoc_index.specs.Calls.{tracks_to_read, vtoc_reads}
 use Rattle.vtoc_index.specs.Reading.{AreTracksRead, IsExtent, vtoc_on}
 use Rattle.vtoc_index.proofs.CallsMade.{refuses_at, tracks_apart, track_long, track_reason, reads_then, reads_within}
-use Rattle.pack_spec.specs.Slots.{addressed_from}
-use Rattle.vtoc_index.proofs.GivenLemmas.{err_at, extent_first, first_found, first_lacks, other_lacks, track_given}
+use Rattle.vtoc_index.proofs.GivenLemmas.{err_at, first_found, first_lacks, other_lacks, track_given}
 use Rattle.pack_spec.specs.Vtoc.{first_slot, vtoc_by}
 use Rattle.track_records.specs.Calls.{HasGiven, records_by}
 use Rattle.vol_model.specs.declared.contents.Run.{Run}
 use Rattle.vtoc_index.specs.Given.{IsExtentGiven, IsVtocReason, NoSlots, OfFirst, OfOther}
 use Rattle.vtoc_index.proofs.FirstTrack.{extent_of_whole}
-use Rattle.vtoc_index.proofs.PutCalls.{given_still}
 use Rattle.vtoc_index.proofs.Images.{same_image}
 use Rattle.vtoc_index.proofs.ReadsMade.{first_is_read, first_reads, tracks_are_read}
 use Rattle.vtoc_index.proofs.Reasons.{refuses_same}
@@ -124,15 +122,15 @@ returns-clause-reads g c told =
     (c.in_ok-read_others.ensures.reads told (subst (λ (i : List ℕ). AreTracksRead i c.args.geometry vtoc.start 1 c.add.new.self) (sym same) first))))
 
 -- what the reads gave
+held_extent : (g : Over) (c : After-read_first g) (vtoc : Run) → IsExtent c.args.geometry c.args.at vtoc → HasGiven (g.H.Hall.done c.read_first.new.hall) c.args.unit c.args.geometry vtoc.start (λ bytes. records_by c.args.geometry None vtoc.start bytes ≡ Some c.read_first.new.buf.records) → vtoc_by c.args.geometry c.args.at (first_slot (take 1 c.read_first.new.buf.records)) ≡ Ok vtoc → IsExtentGiven (g.H.Hall.done c.read_first.new.hall) c.args.unit c.args.geometry c.args.at (Ok vtoc)
+held_extent g c vtoc extent given found = extent_of_whole c.args.unit c.args.geometry c.args.at vtoc.start c.read_first.new.buf.records (Ok vtoc) extent.begins given found
+
 pub returns-clause-given : goal.returns-clause-given
 returns-clause-given g c =
     let vtoc = c.in_ok-vtoc.vtoc in
-    let records = c.read_first.new.buf.records in
-    let adds = c.in_ok-add.ensures.slots in
-    let first = first_found (g.H.Hall.done c.read_first.new.hall) c.args.unit c.args.geometry vtoc.start records c.args.found.now c.add.new.self c.requires.empty.0 c.requires.empty.1 c.in_ok-vtoc.ensures.given c.in_ok-add.ensures.firsts adds in
-    let slots = addressed_from c.args.geometry vtoc.start 1 adds.bytes in
-    let all = c.in_ok-read_others.ensures.given slots first in
-    (slots, all, extent_first c.args.geometry c.args.at vtoc.start records adds.bytes vtoc adds.are_slots c.in_ok-vtoc.ensures.found)
+    let first = c.in_ok-vtoc.ensures in
+    let begun = held_extent g (goal.at.returns-clause-given g c).After-read_first vtoc first.numbers.0 first.given first.found in
+    c.in_ok-read_others.ensures.given c.args.at (first_found (g.H.Hall.done c.read_first.new.hall) c.args.unit c.args.geometry c.args.at vtoc c.args.found.now c.add.new.self c.read_first.new.buf c.requires.empty.0 c.requires.empty.1 begun first.given c.in_ok-add.ensures.firsts c.in_ok-add.ensures.slots first.buffer.1.1 first.found)
 
 pub returns-clause-seen : goal.returns-clause-seen
 returns-clause-seen g c =
@@ -146,9 +144,6 @@ returns-in_err-vtoc-clause-reason g c =
     err_at (λ e. (e ≡ Device) ⊎ ((e ≡ Memory) ⊎ IsVtocReason (g.H.Hall.done c.read_first.new.hall) c.args.unit c.args.geometry c.args.at e)) c.from_residual.result c.in_err-vtoc.field-0.0 (p.1 ∙ ap Err p.2)
     (⊎_elim (λ device. inl device) (λ why. inr (inr why)) c.in_err-vtoc.ensures.reason)
 
-held_extent : (g : Over) (c : After-read_first g) (vtoc : Run) → IsExtent c.args.geometry c.args.at vtoc → HasGiven (g.H.Hall.done c.read_first.new.hall) c.args.unit c.args.geometry vtoc.start (λ bytes. records_by c.args.geometry None vtoc.start bytes ≡ Some c.read_first.new.buf.records) → vtoc_by c.args.geometry c.args.at (first_slot (take 1 c.read_first.new.buf.records)) ≡ Ok vtoc → IsExtentGiven (g.H.Hall.done c.read_first.new.hall) c.args.unit c.args.geometry c.args.at (Ok vtoc)
-held_extent g c vtoc extent given found = extent_of_whole c.args.unit c.args.geometry c.args.at vtoc.start c.read_first.new.buf.records (Ok vtoc) extent.begins given found
-
 pub returns-in_err-add-clause-reason : goal.returns-in_err-add-clause-reason
 returns-in_err-add-clause-reason g c =
     let vtoc = c.in_ok-vtoc.vtoc in
@@ -157,32 +152,30 @@ returns-in_err-add-clause-reason g c =
     let p = err_from_is_err_and c.from_residual-in_err-add.result c.from_residual-in_err-add.ensures.1 in
     err_at (λ e. (e ≡ Device) ⊎ ((e ≡ Memory) ⊎ IsVtocReason done c.args.unit c.args.geometry c.args.at e)) c.from_residual-in_err-add.result c.in_err-add.field-0.0 (p.1 ∙ ap Err p.2)
     (⊎_elim (λ memory. inr (inl memory))
-    (λ other. inr (inr (NoSlots vtoc (held_extent g (goal.at.returns-in_err-add-clause-reason g c).After-read_first vtoc first.numbers.0 first.given first.found)
-    (first_lacks done c.args.unit c.args.geometry vtoc c.in_err-add.field-0.0 first.numbers.0.some (other_lacks c.args.geometry vtoc.start c.read_first.new.buf.records first.given other.1) other.0))))
+    (λ other. inr (inr (NoSlots vtoc
+    (first_lacks done c.args.unit c.args.geometry c.args.at vtoc c.in_err-add.field-0.0 first.numbers.0.some (held_extent g (goal.at.returns-in_err-add-clause-reason g c).After-read_first vtoc first.numbers.0 first.given first.found) (other_lacks c.args.geometry vtoc.start c.read_first.new.buf.records first.given other.1) other.0))))
     c.in_err-add.ensures.refused)
 
 pub returns-in_err-read_others-clause-reason : goal.returns-in_err-read_others-clause-reason
 returns-in_err-read_others-clause-reason g c =
     let vtoc = c.in_ok-vtoc.vtoc in
     let first = c.in_ok-vtoc.ensures in
-    let adds = c.in_ok-add.ensures.slots in
     let done = g.H.Hall.done c.read_others.new.hall in
-    let one = first_found (g.H.Hall.done c.read_first.new.hall) c.args.unit c.args.geometry vtoc.start c.read_first.new.buf.records c.args.found.now c.add.new.self c.requires.empty.0 c.requires.empty.1 first.given c.in_ok-add.ensures.firsts adds in
-    let extent = held_extent g (goal.at.returns-in_err-read_others-clause-reason g c).After-read_first vtoc first.numbers.0 first.given first.found in
+    let begun = held_extent g (goal.at.returns-in_err-read_others-clause-reason g c).After-read_first vtoc first.numbers.0 first.given first.found in
+    let one = first_found (g.H.Hall.done c.read_first.new.hall) c.args.unit c.args.geometry c.args.at vtoc c.args.found.now c.add.new.self c.read_first.new.buf c.requires.empty.0 c.requires.empty.1 begun first.given c.in_ok-add.ensures.firsts c.in_ok-add.ensures.slots first.buffer.1.1 first.found in
     let p = err_from_is_err_and c.from_residual-in_err-read_others.result c.from_residual-in_err-read_others.ensures.1 in
     err_at (λ e. (e ≡ Device) ⊎ ((e ≡ Memory) ⊎ IsVtocReason done c.args.unit c.args.geometry c.args.at e)) c.from_residual-in_err-read_others.result c.in_err-read_others.field-0.0 (p.1 ∙ ap Err p.2)
-    (⊎_elim (λ device. inl device) (⊎_elim (λ memory. inr (inl memory)) (λ lacks. inr (inr (NoSlots vtoc (given_still extent c.in_err-read_others.ensures.kept) lacks))))
-    (c.in_err-read_others.ensures.reason (addressed_from c.args.geometry vtoc.start 1 adds.bytes) one))
+    (⊎_elim (λ device. inl device) (⊎_elim (λ memory. inr (inl memory)) (λ lacks. inr (inr (NoSlots vtoc lacks))))
+    (c.in_err-read_others.ensures.reason c.args.at one))
 
 -- which reads are made, and none twice
 pub returns-in_err-read_others-clause-made : goal.returns-in_err-read_others-clause-made
 returns-in_err-read_others-clause-made g c =
     let vtoc = c.in_ok-vtoc.vtoc in
     let first = c.in_ok-vtoc.ensures in
-    let adds = c.in_ok-add.ensures.slots in
-    let one = first_found (g.H.Hall.done c.read_first.new.hall) c.args.unit c.args.geometry vtoc.start c.read_first.new.buf.records c.args.found.now c.add.new.self c.requires.empty.0 c.requires.empty.1 first.given c.in_ok-add.ensures.firsts adds in
-    let extent = held_extent g (goal.at.returns-in_err-read_others-clause-made g c).After-read_first vtoc first.numbers.0 first.given first.found in
-    makes_then first.made (c.in_err-read_others.ensures.made (addressed_from c.args.geometry vtoc.start 1 adds.bytes) one) (λ call is. OfFirst is) (λ call next. OfOther vtoc (given_still extent c.in_err-read_others.ensures.kept) next)
+    let begun = held_extent g (goal.at.returns-in_err-read_others-clause-made g c).After-read_first vtoc first.numbers.0 first.given first.found in
+    let one = first_found (g.H.Hall.done c.read_first.new.hall) c.args.unit c.args.geometry c.args.at vtoc c.args.found.now c.add.new.self c.read_first.new.buf c.requires.empty.0 c.requires.empty.1 begun first.given c.in_ok-add.ensures.firsts c.in_ok-add.ensures.slots first.buffer.1.1 first.found in
+    makes_then first.made (c.in_err-read_others.ensures.made c.args.at one) (λ call is. OfFirst is) (λ call next. OfOther vtoc next)
 
 pub returns-in_err-read_others-clause-each : goal.returns-in_err-read_others-clause-each
 returns-in_err-read_others-clause-each g c =
@@ -194,10 +187,9 @@ pub returns-clause-made : goal.returns-clause-made
 returns-clause-made g c =
     let vtoc = c.in_ok-vtoc.vtoc in
     let first = c.in_ok-vtoc.ensures in
-    let adds = c.in_ok-add.ensures.slots in
-    let one = first_found (g.H.Hall.done c.read_first.new.hall) c.args.unit c.args.geometry vtoc.start c.read_first.new.buf.records c.args.found.now c.add.new.self c.requires.empty.0 c.requires.empty.1 first.given c.in_ok-add.ensures.firsts adds in
-    let extent = held_extent g (goal.at.returns-clause-made g c).After-read_first vtoc first.numbers.0 first.given first.found in
-    makes_then first.made (c.in_ok-read_others.ensures.made (addressed_from c.args.geometry vtoc.start 1 adds.bytes) one) (λ call is. OfFirst is) (λ call next. OfOther vtoc (given_still extent c.in_ok-read_others.ensures.kept) next)
+    let begun = held_extent g (goal.at.returns-clause-made g c).After-read_first vtoc first.numbers.0 first.given first.found in
+    let one = first_found (g.H.Hall.done c.read_first.new.hall) c.args.unit c.args.geometry c.args.at vtoc c.args.found.now c.add.new.self c.read_first.new.buf c.requires.empty.0 c.requires.empty.1 begun first.given c.in_ok-add.ensures.firsts c.in_ok-add.ensures.slots first.buffer.1.1 first.found in
+    makes_then first.made (c.in_ok-read_others.ensures.made c.args.at one) (λ call is. OfFirst is) (λ call next. OfOther vtoc next)
 
 pub returns-clause-each : goal.returns-clause-each
 returns-clause-each g c =

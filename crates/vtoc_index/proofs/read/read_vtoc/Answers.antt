@@ -1,14 +1,13 @@
-use Rattle.std.proofs.Common.{◌≡◌, ⊎_elim, inl, inr, refl, sym, ap, subst, ◌∙◌, arith, ℕ, List, length}
-use Rattle.std.specs.Prelude.{Ok, Err}
+use Rattle.std.proofs.Common.{◌≡◌, ◌≤◌, ⊎_elim, inl, inr, refl, sym, ap, subst, ◌∙◌, arith, ℕ, List, length}
+use Rattle.std.specs.Prelude.{Err}
 use Rattle.ckd_image.specs.declared.header.Geometry.{Geometry}
 use Rattle.pack_spec.specs.declared.address.Address.{Address}
-use Rattle.pack_spec.specs.Vtoc.{vtoc_by}
-use Rattle.vtoc_index.specs.Given.{BadHeader, BadSlot, Cut, IsLabelGiven, IsLabelLacking, IsReasonGiven, IsVtocReason, NoVtoc, OnLabel, Outside, Unlabelled, first_bytes}
+use Rattle.vtoc_index.specs.Given.{BadHeader, BadSlot, Cut, IsLabelGiven, IsLabelLacking, IsReasonGiven, IsVtocReason, NoVtoc, OnLabel, Outside, Unlabelled}
 use Rattle.pack_spec.specs.Label.{is_inside, label_of, track_of_address}
 use Rattle.pack_spec.specs.declared.MountErr.TheVariants.{VtocTrack}
 use Rattle.vtoc_index.proofs.FirstSlots.{extent_on_label, label_is}
 use Rattle.vtoc_index.proofs.Reasons.{extent_refused, refuses}
-use Rattle.vtoc_index.proofs.GivenLemmas.{err_at, extent_all, header_still}
+use Rattle.vtoc_index.proofs.GivenLemmas.{at_label, err_at, header_still}
 use Rattle.vtoc_index.proofs.PutCalls.{given_still}
 use Rattle.std.proofs.lemmas.Result.{err_from_is_err_and}
 use Rattle.hall_core.specs.Facts.{unit_of}
@@ -204,22 +203,21 @@ returns-clause-given g c =
     let alike : c.in_ok-buf.buf.geometry ≡ geometry = ap (λ (b : Buffer). b.geometry) c.in_ok-buf.ensures in
     let label = c.in_ok-label.ensures.given in
     let found = c.in_ok-vtoc.ensures.given in
-    let slots = subst (λ (l : List ReadSlot). AreRead l found.1.slots) (sym c.deref.ensures.value) found.1.read in
-    let held = c.in_ok-slots.ensures.dscbs found.1.slots slots in
-    let extent = extent_all geometry c.in_ok-label.label.vtoc vtoc found.0 found.1.slots found.1.begins.0 found.1.begins.1 found.2 in
+    let slots = subst (λ (l : List ReadSlot). AreRead l found.slots) (sym c.deref.ensures.value) found.read in
+    let held = c.in_ok-slots.ensures.dscbs found.slots slots in
     record {
       header = header_still c.in_ok-geometry.ensures.given (λ call was. later call (c.in_ok-label.ensures.kept call was));
       label = label.0;
       labelled = given_still (subst (λ (x : Geometry). IsLabelGiven (g.H.Hall.done c.read_label.new.hall) c.args.unit x label.0) alike label.1) later;
       serial = label.2.serial;
-      slots = found.1.slots;
-      extent = subst (λ (at : Address). vtoc_by geometry at (first_bytes found.1.slots) ≡ Ok vtoc) label.2.vtoc extent;
-      given = found.1.given;
+      slots = found.slots;
+      of_vtoc = at_label geometry vtoc label.2.vtoc found.of_vtoc;
       dscbs = held.0;
       lawful = held.1;
       apart = omega (arith, c.in_ok-vtoc.ensures.numbers.0.begins, c.track.ensures.exact, c.if-track-eq-LABEL_TRACK.false);
       last = c.in_ok-vtoc.ensures.last;
       buffer = c.in_ok-vtoc.ensures.seen;
+      held = found.held;
     }
 
 -- why the pack is refused, by what the reads gave
@@ -264,6 +262,7 @@ returns-in_err-vtoc-clause-reason g c =
     (λ why. NoVtoc geometry (header_still c.in_ok-geometry.ensures.given (λ call was. later call (c.in_ok-label.ensures.kept call was))) label.0
     (given_still (subst (λ (x : Geometry). IsLabelGiven (g.H.Hall.done c.read_label.new.hall) c.args.unit x label.0) alike label.1) later)
     (ap (is_inside geometry) (sym label.2.vtoc) ∙ sym c.if-not-is_inside.ensures)
+    (subst (λ (at : Address). 1 ≤ track_of_address geometry at) label.2.vtoc (omega (arith, c.track.ensures.exact, c.if-track-eq-LABEL_TRACK.false)))
     (subst (λ (at : Address). IsVtocReason done c.args.unit geometry at c.in_err-vtoc.field-0.0) label.2.vtoc why)))
     c.in_err-vtoc.ensures.reason)
 
@@ -277,16 +276,16 @@ returns-in_err-slots-clause-reason g c =
     let label = c.in_ok-label.ensures.given in
     let later = c.in_ok-vtoc.ensures.kept in
     let found = c.in_ok-vtoc.ensures.given in
-    let slots = subst (λ (l : List ReadSlot). AreRead l found.1.slots) (sym c.deref.ensures.value) found.1.read in
-    let extent = extent_all geometry c.in_ok-label.label.vtoc vtoc found.0 found.1.slots found.1.begins.0 found.1.begins.1 found.2 in
+    let slots = subst (λ (l : List ReadSlot). AreRead l found.slots) (sym c.deref.ensures.value) found.read in
     let p = err_from_is_err_and c.from_residual-in_err-slots.result c.from_residual-in_err-slots.ensures.1 in
     err_at (IsReasonGiven done c.args.unit size) c.from_residual-in_err-slots.result c.in_err-slots.field-0.0 (p.1 ∙ ap Err p.2)
     (⊎_elim (λ memory. Cut (inr memory))
     (λ first. NoVtoc geometry (header_still c.in_ok-geometry.ensures.given (λ call was. later call (c.in_ok-label.ensures.kept call was))) label.0
     (given_still (subst (λ (x : Geometry). IsLabelGiven (g.H.Hall.done c.read_label.new.hall) c.args.unit x label.0) alike label.1) later)
     (ap (is_inside geometry) (sym label.2.vtoc) ∙ sym c.if-not-is_inside.ensures)
-    (BadSlot vtoc found.1.slots c.read_slots.new.found.firsts.items (subst (λ (at : Address). vtoc_by geometry at (first_bytes found.1.slots) ≡ Ok vtoc) label.2.vtoc extent) found.1.given first))
-    (c.in_err-slots.ensures.refused found.1.slots slots))
+    (subst (λ (at : Address). 1 ≤ track_of_address geometry at) label.2.vtoc (omega (arith, c.track.ensures.exact, c.if-track-eq-LABEL_TRACK.false)))
+    (BadSlot vtoc found.slots c.read_slots.new.found.firsts.items (at_label geometry vtoc label.2.vtoc found.of_vtoc) first))
+    (c.in_err-slots.ensures.refused found.slots slots))
 
 -- a VTOC that begins on the label's track
 pub returns-then-track-eq-LABEL_TRACK-clause-refused : goal.returns-then-track-eq-LABEL_TRACK-clause-refused
