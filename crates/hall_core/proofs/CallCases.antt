@@ -7,7 +7,7 @@ use Rattle.hall_core.specs.Cards.{GivesNext}
 use Rattle.hall_core.specs.Files.{File, patched, written, Attaches, IsPending, AfterWrite, AfterSync, AfterPrint, untold}
 use Rattle.hall_core.specs.History.{Write, wrote, synced, printed, passed, with_write, with_writes, meaning_after}
 use Rattle.hall_core.specs.HistoryLaws.{nothing_kept, since_now}
-use Rattle.hall_core.specs.Made.{DoneSince, HallCall, HasDone, Does, MakesOnce, MakesOnly, StaysDone, Attaching, Giving, Lacking, Noting, Printing, Reading, Syncing, Writing}
+use Rattle.hall_core.specs.Made.{DoneSince, HallCall, HasDone, Does, MakesOnce, MakesOnly, StaysDone, Attaching, Giving, Lacking, Noting, Printing, Reading, Syncing, Wanting, Writing}
 use Rattle.hall_core.specs.Moments.{Meaning}
 use Rattle.hall_core.proofs.CallLemmas.{same_passed, same_still, write_done, write_failed, write_lacking, sync_done, sync_failed, sync_lacking, print_done, print_failed, print_lacking}
 use Rattle.hall_core.proofs.StepLemmas.{write_leaves}
@@ -462,6 +462,7 @@ sync_alone_is_made (Printing bytes) other = omega arith
 sync_alone_is_made (Noting unit track) other = omega arith
 sync_alone_is_made (Giving before unit at bytes) other = omega arith
 sync_alone_is_made (Lacking name) other = omega arith
+sync_alone_is_made (Wanting name) other = omega arith
 
 other_call_is_made : ¬ MakesOnly (λ call. call ≡ Printing []) (λ call. 0) synced_once
 unfolding synced_once
@@ -490,6 +491,7 @@ sync_is_made_twice = (twice, λ call other. omega arith)
     twice (Noting unit track) other = omega arith
     twice (Giving before unit at bytes) other = omega arith
     twice (Lacking name) other = omega arith
+    twice (Wanting name) other = omega arith
 
 -- any read was made once; and the read of one byte at 0 twice, with none of others
 read_each : HallCall → ℕ
@@ -519,6 +521,7 @@ sync_is_made_once = (once, once_more, λ each. let wrong : 2 ≤ 1 = each Syncin
     once (Noting unit track) = omega arith
     once (Giving before unit at bytes) = omega arith
     once (Lacking name) = omega arith
+    once (Wanting name) = omega arith
 
     once_more : MakesOnce synced_once synced_twice
     once_more (Attaching name) = omega arith
@@ -529,6 +532,7 @@ sync_is_made_once = (once, once_more, λ each. let wrong : 2 ≤ 1 = each Syncin
     once_more (Noting unit track) = omega arith
     once_more (Giving before unit at bytes) = omega arith
     once_more (Lacking name) = omega arith
+    once_more (Wanting name) = omega arith
 
 -- None need be made, and a count may fall.
 none_is_made_once : MakesOnce synced_once synced_once × MakesOnce synced_twice (λ call. 0)
@@ -548,6 +552,7 @@ reads_are_made_once = (once, λ each. let wrong : 2 ≤ 1 = each (Reading 0 0 1)
     once (Noting unit track) = omega arith
     once (Giving before unit at bytes) = omega arith
     once (Lacking name) = omega arith
+    once (Wanting name) = omega arith
 
 -- a read, which gave one byte when three had been counted, and a write
 some_done : HallCall → Type 0
@@ -572,12 +577,14 @@ each_kind_is_done_since :
     × DoneSince 9 (λ call. Unit {0}) (Printing [])
     × DoneSince 9 (λ call. Unit {0}) (Noting 0 0)
     × DoneSince 9 (λ call. Unit {0}) (Lacking [])
+    × DoneSince 9 (λ call. Unit {0}) (Wanting [])
     × (¬ DoneSince 9 (λ call. Unit {0}) (Giving 3 0 0 []))
     × (¬ DoneSince 0 (λ call. ⊥) Syncing)
     × (¬ DoneSince 0 (λ call. ⊥) (Printing []))
     × (¬ DoneSince 0 (λ call. ⊥) (Lacking []))
+    × (¬ DoneSince 0 (λ call. ⊥) (Wanting []))
     × (¬ DoneSince 0 (λ call. ⊥) (Giving 3 0 0 []))
-each_kind_is_done_since = (tt, tt, tt, tt, tt, tt, λ late. let wrong = late.0 in omega (arith, wrong), λ none. none, λ none. none, λ none. none, λ none. none.1)
+each_kind_is_done_since = (tt, tt, tt, tt, tt, tt, tt, λ late. let wrong = late.0 in omega (arith, wrong), λ none. none, λ none. none, λ none. none, λ none. none, λ none. none.1)
 
 -- Of these calls one was done where just that is said to be; another one isn't it, nor is one of which nothing is said.
 one_is_done :

@@ -1,7 +1,7 @@
 -- Calls by what they are made with, one behind the other.
 use Rattle.std.proofs.Common.{ℕ, ◌+◌, ◌<◌, ⊎_elim, arith}
 use Rattle.std.proofs.lemmas.Bool.{cases_lt}
-use Rattle.hall_core.specs.Made.{Attaching, DoneSince, Giving, HallCall, HasDone, Does, Lacking, MakesOnce, MakesOnly, Noting, Printing, Reading, StaysDone, Syncing, Writing}
+use Rattle.hall_core.specs.Made.{Attaching, DoneSince, Giving, HallCall, HasDone, Does, Lacking, MakesOnce, MakesOnly, Noting, Printing, Reading, StaysDone, Syncing, Wanting, Writing}
 
 -- no call makes none but any
 pub makes_none : (these : HallCall → Type 0) (made : HallCall → ℕ) → MakesOnly these made made
@@ -50,6 +50,7 @@ since_done reads done (Printing bytes) was = was
 since_done reads done (Noting unit track) was = was
 since_done reads done (Giving before unit at bytes) was = was.1
 since_done reads done (Lacking name) was = was
+since_done reads done (Wanting name) was = was
 
 pub since_still : {done later : HallCall → Type 0} (reads : ℕ) → StaysDone done later → StaysDone (DoneSince reads done) (DoneSince reads later)
 since_still reads kept (Attaching name) was = kept (Attaching name) was
@@ -60,3 +61,4 @@ since_still reads kept (Printing bytes) was = kept (Printing bytes) was
 since_still reads kept (Noting unit track) was = kept (Noting unit track) was
 since_still reads kept (Giving before unit at bytes) was = (was.0, kept (Giving before unit at bytes) was.1)
 since_still reads kept (Lacking name) was = kept (Lacking name) was
+since_still reads kept (Wanting name) was = kept (Wanting name) was

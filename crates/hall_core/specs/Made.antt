@@ -1,7 +1,7 @@
 -- Calls of a hall with what they are made with, in this project's profile.
 use Rattle.std.specs.Prelude.{ℕ, ◌+◌, ◌≤◌, List}
 
--- a call, with its unit, the offset there and how many bytes are read, or which are written; the notes that a track differs; a read by how many were counted before it and by the bytes that it gave; and an attachment that found no such file
+-- a call, with its unit, the offset there and how many bytes are read, or which are written; the notes that a track differs; a read by how many were counted before it and by the bytes that it gave; and an attachment that found no such file, or for which memory ran out
 pub data HallCall : Type 0 where
   Attaching : (name : List ℕ) → HallCall
   Reading : (unit at len : ℕ) → HallCall
@@ -11,6 +11,7 @@ pub data HallCall : Type 0 where
   Noting : (unit track : ℕ) → HallCall
   Giving : (before unit at : ℕ) (bytes : List ℕ) → HallCall
   Lacking : (name : List ℕ) → HallCall
+  Wanting : (name : List ℕ) → HallCall
 
 -- no call was made but these
 abbrev pub MakesOnly : (HallCall → Type 0) → (HallCall → ℕ) → (HallCall → ℕ) → Type 0

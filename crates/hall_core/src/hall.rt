@@ -1,7 +1,7 @@
 //! The trait of the outside, which a device and a test fixture implement alike.
 ghost use Rattle.std.specs.Prelude.{◌≡◌, ◌+◌, ◌<◌, ◌≤◌, [], ◌∷◌, ℕ, List, Bool, length, IsTrue, IsFalse, OnOk, IfErr, IsErrOf, ◌-◌, ◌^◌, min};
 ghost use Rattle.hall_core.specs.Facts.{AttachesOnce, Calls, CallsAtMost, Facts, unit_of, IsAttached, DeviceCall, NotedCall, PrintCall, AttachCall, Rose};
-ghost use Rattle.hall_core.specs.Made.{HallCall, MakesOnce, MakesOnly, StaysDone, Attaching, Reading, Writing, Syncing, Printing, Noting, Giving, Lacking};
+ghost use Rattle.hall_core.specs.Made.{HallCall, MakesOnce, MakesOnly, StaysDone, Attaching, Reading, Writing, Syncing, Printing, Noting, Giving, Lacking, Wanting};
 ghost use Rattle.hall_core.specs.Moments.{Meaning, LeftNow, IsDurable, Same};
 ghost use Rattle.hall_core.specs.Files.{File, HasBytesAt, AreWhole, Attaches, AfterWrite, AfterSync, AfterPrint};
 
@@ -59,7 +59,8 @@ pub trait Hall {
     ghost behind_sync: { Self → Type 0 };
 
     /// What holds of a write or a print, with these arguments, that was done, of a read that gave these bytes, with how
-    /// many reads were counted before it, and of an attachment that found no such file; no call takes it back.
+    /// many reads were counted before it, and of an attachment that found no such file, or for which memory ran out; no
+    /// call takes it back.
     ghost done: { Self → HallCall → Type 0 };
 
     /// Attaches a file as the next unit, and gives the number of the unit.
@@ -75,6 +76,7 @@ pub trait Hall {
         ensures calls { AttachesOnce 0 0 0 0 (calls self.old) (calls self.new) }
         ensures made { MakesOnly (λ call. call ≡ Attaching name.now) (made self.old) (made self.new) }
         ensures lacks { IsErrOf result HallErr.Missing → done self.new (Lacking name.now) }
+        ensures wants { IsErrOf result HallErr.Memory → done self.new (Wanting name.now) }
         ensures each { MakesOnce (made self.old) (made self.new) }
         ensures kept { StaysDone (done self.old) (done self.new) };
 

@@ -130,13 +130,13 @@ changed shelf s v lawful done =
 -- ---- what ends a statement on a machine
 
 -- nothing is called behind an operation that failed, or in which memory ran out
-pub ends_before : (s : Rename) (comes : Result (Unit {0}) Refusal → Type 0) (few : Type 0) (done : HallCall → Type 0) (made : HallCall → ℕ) (e : Stop) (r : Result ℕ Stop) → r ≡ Err e → e ≢ Print → (e ≡ Memory → few) → EndsInLine s comes few done made made r
-ends_before s comes few done made Device r is other wanting = subst (EndsInLine s comes few done made made) (sym is) (makes_none (λ call. ⊥) made)
-ends_before s comes few done made Memory r is other wanting = subst (EndsInLine s comes few done made made) (sym is) (makes_none (λ call. ⊥) made, inr (wanting refl))
-ends_before s comes few done made Print r is other wanting = absurd (other refl)
+pub ends_before : (s : Rename) (comes : Result (Unit {0}) Refusal → Type 0) (ran_out : Type 0) (done : HallCall → Type 0) (made : HallCall → ℕ) (e : Stop) (r : Result ℕ Stop) → r ≡ Err e → e ≢ Print → (e ≡ Memory → ran_out) → EndsInLine s comes ran_out done made made r
+ends_before s comes ran_out done made Device r is other wanting = subst (EndsInLine s comes ran_out done made made) (sym is) (makes_none (λ call. ⊥) made)
+ends_before s comes ran_out done made Memory r is other wanting = subst (EndsInLine s comes ran_out done made made) (sym is) (makes_none (λ call. ⊥) made, inr (wanting refl))
+ends_before s comes ran_out done made Print r is other wanting = absurd (other refl)
 
 -- the line wasn't printed
-pub ends_unsaid : (s : Rename) (comes : Result (Unit {0}) Refusal → Type 0) (few : Type 0) (done : HallCall → Type 0) {old new : HallCall → ℕ} (outcome : Result (Unit {0}) Refusal) (e : Stop) (r : Result ℕ Stop) → r ≡ Err e → e ≢ Device → comes outcome → MakesOnly (λ call. call ≡ Printing (answer_line s outcome)) old new → (e ≡ Memory → MakesOnly (λ call. ⊥) old new) → EndsInLine s comes few done old new r
-ends_unsaid s comes few done outcome Device r is other came line none = absurd (other refl)
-ends_unsaid s comes few done {old} {new} outcome Memory r is other came line none = subst (EndsInLine s comes few done old new) (sym is) (none refl, inl (outcome, came))
-ends_unsaid s comes few done {old} {new} outcome Print r is other came line none = subst (EndsInLine s comes few done old new) (sym is) (outcome, came, line)
+pub ends_unsaid : (s : Rename) (comes : Result (Unit {0}) Refusal → Type 0) (ran_out : Type 0) (done : HallCall → Type 0) {old new : HallCall → ℕ} (outcome : Result (Unit {0}) Refusal) (e : Stop) (r : Result ℕ Stop) → r ≡ Err e → e ≢ Device → comes outcome → MakesOnly (λ call. call ≡ Printing (answer_line s outcome)) old new → (e ≡ Memory → MakesOnly (λ call. ⊥) old new) → EndsInLine s comes ran_out done old new r
+ends_unsaid s comes ran_out done outcome Device r is other came line none = absurd (other refl)
+ends_unsaid s comes ran_out done {old} {new} outcome Memory r is other came line none = subst (EndsInLine s comes ran_out done old new) (sym is) (none refl, inl (outcome, came))
+ends_unsaid s comes ran_out done {old} {new} outcome Print r is other came line none = subst (EndsInLine s comes ran_out done old new) (sym is) (outcome, came, line)

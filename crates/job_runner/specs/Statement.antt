@@ -31,17 +31,17 @@ abbrev pub code_for : Result (Unit {0}) Refusal → ℕ
 code_for (Ok done) = 0
 code_for (Err r) = 8
 
--- what was called behind the operation of a statement, by what may have come of that and by the answer: the print of the line, which was done where a condition code is given; or nothing, behind a fault of the device; and where memory ran out, behind what came of the operation, or in one that made few calls
+-- what was called behind the operation of a statement, by what may have come of that and by the answer: the print of the line, which was done where a condition code is given; or nothing, behind a fault of the device; and where memory ran out, behind what came of the operation, or in that
 abbrev pub EndsInLine : Rename → (Result (Unit {0}) Refusal → Type 0) → Type 0 → (HallCall → Type 0) → (HallCall → ℕ) → (HallCall → ℕ) → Result ℕ Stop → Type 0
-EndsInLine s comes few done old new (Ok code) =
+EndsInLine s comes ran_out done old new (Ok code) =
     (outcome : Result (Unit {0}) Refusal) × comes outcome × (code_for outcome ≡ code) × MakesOnly (λ call. call ≡ Printing (answer_line s outcome)) old new × done (Printing (answer_line s outcome))
-EndsInLine s comes few done old new (Err Print) = (outcome : Result (Unit {0}) Refusal) × comes outcome × MakesOnly (λ call. call ≡ Printing (answer_line s outcome)) old new
-EndsInLine s comes few done old new (Err Device) = MakesOnly (λ call. ⊥) old new
-EndsInLine s comes few done old new (Err Memory) = MakesOnly (λ call. ⊥) old new × (((outcome : Result (Unit {0}) Refusal) × comes outcome) ⊎ few)
+EndsInLine s comes ran_out done old new (Err Print) = (outcome : Result (Unit {0}) Refusal) × comes outcome × MakesOnly (λ call. call ≡ Printing (answer_line s outcome)) old new
+EndsInLine s comes ran_out done old new (Err Device) = MakesOnly (λ call. ⊥) old new
+EndsInLine s comes ran_out done old new (Err Memory) = MakesOnly (λ call. ⊥) old new × (((outcome : Result (Unit {0}) Refusal) × comes outcome) ⊎ ran_out)
 
--- What was called for a statement on a machine: its operation, by what it may make up to the machine behind it, and then what ends the statement, by what may have come of that; where memory ran out in it, one read at most was counted for it, and no other call; what was done at one of these machines is done still at the next.
-pub data RunsStatement {M : Type 0} (made : M → HallCall → ℕ) (done : M → HallCall → Type 0) (calls : M → Calls) (may : M → HallCall → Type 0) (comes : M → Result (Unit {0}) Refusal → Type 0) (s : Rename) (result : Result ℕ Stop) (old new : M) : Type 0 where
-  Ends : (behind : M) → MakesOnly (may behind) (made old) (made behind) → EndsInLine s (comes behind) (CallsAtMost 1 0 0 0 (calls old) (calls behind)) (done new) (made behind) (made new) result → StaysDone (done old) (done behind) → StaysDone (done behind) (done new) → RunsStatement made done calls may comes s result old new
+-- What was called for a statement on a machine: its operation, by what it may make up to the machine behind it, and then what ends the statement, by what may have come of that; where memory ran out in it, it may want that, and one read at most was counted for it, and no other call; what was done at one of these machines is done still at the next.
+pub data RunsStatement {M : Type 0} (made : M → HallCall → ℕ) (done : M → HallCall → Type 0) (calls : M → Calls) (may : M → HallCall → Type 0) (comes : M → Result (Unit {0}) Refusal → Type 0) (wants : Type 0) (s : Rename) (result : Result ℕ Stop) (old new : M) : Type 0 where
+  Ends : (behind : M) → MakesOnly (may behind) (made old) (made behind) → EndsInLine s (comes behind) (wants × CallsAtMost 1 0 0 0 (calls old) (calls behind)) (done new) (made behind) (made new) result → StaysDone (done old) (done behind) → StaysDone (done behind) (done new) → RunsStatement made done calls may comes wants s result old new
 
 -- a condition code: that of a statement that is done, or of one that is refused
 abbrev pub IsCode : ℕ → Type 0

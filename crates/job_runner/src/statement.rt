@@ -22,8 +22,9 @@ const FIRST_CARD: u32 = 1;
 /// An error comes where the machine has one, or where there is no memory for the line. The line is printed
 /// once the operation is done: so where the print failed, the operation is done, and nothing but the print came
 /// behind it; where the device failed, nothing is printed; and where memory ran out, the operation came to
-/// something, or one read at most was made for it, and where the shelf is as before, nothing was written nor
-/// synced. Where the statement is to be refused, nothing but the print is called, whatever comes of that.
+/// something, or it may want memory, and one read at most was made for it. Where memory ran out and the shelf is as
+/// before, nothing was written nor synced, and nothing was read if the operation wants no memory. Where the
+/// statement is to be refused, nothing but the print is called, whatever comes of that.
 pub fn run_rename<M: Machine>(
     alloc: Global,
     machine: &mut M,
@@ -41,7 +42,7 @@ pub fn run_rename<M: Machine>(
     ensures line { IsTrue M.tells → IsErrOf result Stop.Print → (before : M) × OnlyPrints (M.status machine.old) (M.status before) (M.meaning before) (M.meaning machine.new) (M.promise before) (M.promise machine.new) }
     ensures promise { IsTrue M.tells → Keeps (M.meaning machine.old).clock (item_of (M.meaning machine.old).state statement.now).operations (M.promise machine.old) (M.promise machine.new) }
     ensures calls { CallsAtMost 1 1 1 1 (M.calls machine.old) (M.calls machine.new) }
-    ensures made { RunsStatement M.made M.done M.calls (λ behind call. (v : ℕ) × (volume ≡ Some v) × M.may_make machine.old (operation_on statement.now v) behind call) (λ behind. ComesTo volume (λ v. M.has_done machine.old (operation_on statement.now v) behind × M.behind_done behind) (λ v r. M.refuses machine.old (operation_on statement.now v) r)) statement.now result machine.old machine.new }
+    ensures made { RunsStatement M.made M.done M.calls (λ behind call. (v : ℕ) × (volume ≡ Some v) × M.may_make machine.old (operation_on statement.now v) behind call) (λ behind. ComesTo volume (λ v. M.has_done machine.old (operation_on statement.now v) behind × M.behind_done behind) (λ v r. M.refuses machine.old (operation_on statement.now v) r)) ((v : ℕ) × (volume ≡ Some v) × M.wants machine.old (operation_on statement.now v)) statement.now result machine.old machine.new }
     ensures kept { StaysDone (M.done machine.old) (M.done machine.new) }
     ensures held { (v : ℕ) → volume ≡ Some v → M.holds machine.old (operation_on statement.now v) → CallsAtMost 0 1 1 1 (M.calls machine.old) (M.calls machine.new) }
     ensures refused { IfOk result (λ code. code ≡ 8 → CallsAtMost 0 0 0 1 (M.calls machine.old) (M.calls machine.new)) }
@@ -50,6 +51,7 @@ pub fn run_rename<M: Machine>(
     ensures unasked { volume ≡ None → AsksAtMost 0 1 (M.asked machine.old) (M.asked machine.new) }
     ensures unprinted { (IsErrOf result Stop.Device) ⊎ (IsErrOf result Stop.Memory) → CallsAtMost 1 1 1 0 (M.calls machine.old) (M.calls machine.new) }
     ensures unchanged { IsTrue M.tells → IsErrOf result Stop.Memory → (M.meaning machine.new).state ≡ (M.meaning machine.old).state → CallsAtMost 1 0 0 0 (M.calls machine.old) (M.calls machine.new) }
+    ensures unwanted { IsTrue M.tells → IsErrOf result Stop.Memory → (M.meaning machine.new).state ≡ (M.meaning machine.old).state → ((v : ℕ) → volume ≡ Some v → ¬ M.wants machine.old (operation_on statement.now v)) → CallsAtMost 0 0 0 0 (M.calls machine.old) (M.calls machine.new) }
     ensures call { RunCall (M.status machine.old) (M.status machine.new) result }
 {
     let outcome = rename(machine, volume, statement)?;
@@ -81,6 +83,7 @@ fn rename<M: Machine>(
     ensures idle { IsTrue M.tells → (item_on (M.meaning machine.old).state statement.now volume).operations ≡ [] → CallsAtMost 0 0 0 0 (M.calls machine.old) (M.calls machine.new) }
     ensures changed { IsTrue M.tells → IfOk result (λ outcome. OnOk outcome ((M.meaning machine.new).state ≢ (M.meaning machine.old).state)) }
     ensures memory { IsErrOf result Stop.Memory → CallsAtMost 1 0 0 0 (M.calls machine.old) (M.calls machine.new) }
+    ensures wanted { IsErrOf result Stop.Memory → (v : ℕ) × (volume ≡ Some v) × M.wants machine.old (operation_on statement.now v) }
     ensures once { AsksAtMost 1 0 (M.asked machine.old) (M.asked machine.new) }
     ensures unasked { volume ≡ None → AsksAtMost 0 0 (M.asked machine.old) (M.asked machine.new) }
     ensures print { IsErrOf result Stop.Print → ⊥ }

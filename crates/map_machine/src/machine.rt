@@ -111,6 +111,8 @@ impl Machine for MapMachine {
 
     ghost refuses = { λ machine op refusal. Unit {0} };
 
+    ghost wants = { λ machine op. Unit {0} };
+
     ghost asked = { λ machine. asked_nothing };
 
     ghost holds = { λ machine op. Unit {0} };

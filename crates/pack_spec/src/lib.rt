@@ -1,7 +1,7 @@
 //! What the image of a pack stands for: definitions, and a plain program that follows them.
 #![tactic(auto)]
 
-ghost use Rattle.std.specs.Prelude.{◌≡◌, ◌≢◌, [], Err, None, IfOk, IfErr, length, slice_range, take, unwrap_or};
+ghost use Rattle.std.specs.Prelude.{◌≡◌, ◌≢◌, [], Ok, Err, None, IfOk, IfErr, IsErrOf, length, slice_range, take, unwrap_or};
 ghost use Rattle.ckd_image.specs.Header.{HasGeometry, geometry_of};
 ghost use Rattle.pack_spec.specs.Label.{label_of};
 ghost use Rattle.pack_spec.specs.Vtoc.{vtoc_of};
@@ -124,14 +124,16 @@ impl From<AllocError> for MountErr {
 /// The volume that an image which lies in memory stands for, without the content of its data sets: the
 /// body of each is `Other`, and there is no catalog.
 ///
-/// The error is the first rule of mounting that the image breaks, or `Memory`. Label and DSCBs follow System
-/// Control Blocks, GC28-6628, the rules and their order this project's profile.
+/// The error is the first rule of mounting that the image breaks, or `Memory`, which doesn't come before the header
+/// is found to be good. Label and DSCBs follow System Control Blocks, GC28-6628, the rules and their order this
+/// project's profile.
 ///
 /// This is written for its plainness, and to compare faster readers with: it holds all records of a track
 /// and all slots of the VTOC in memory, and goes over all slots for each of them.
 #[tactic(auto, unfolding(crate::specs::Volume::volume_of))]
 pub fn volume(alloc: Global, image: &[u8]) -> Result<Volume, MountErr>
-    ensures { Answers (volume_of image.now) result }
+    ensures answer { Answers (volume_of image.now) result }
+    ensures memory { IsErrOf result MountErr.Memory → (geometry : Geometry) × (geometry_of (take 512 image.now) (length image.now) ≡ Ok geometry) }
 {
     match geometry_of(image) {
         Ok(geometry) => volume_on(alloc, image, geometry),

@@ -1,11 +1,11 @@
--- Runs that cases speak of: the calls of one, each behind the other, with what a read gave and what was lacking between them. A hall is one behind so many of them, which is a number.
+-- Runs that cases speak of: the calls of one, each behind the other, with what a read gave and what was lacking or wanting between them. A hall is one behind so many of them, which is a number.
 use Rattle.std.proofs.Common.{◌≡◌, ◌≤◌, ◌+◌, ⊎_elim, inl, inr, ℕ, zero, suc, Bool, true, false, List, [], ◌∷◌, drop, get_or, take, refl, sym, ap, ◌∙◌, arith}
 use Rattle.std.specs.Prelude.{◌⊎◌, ◌==◌, ◌&&◌, if◌then◌else◌}
 use Rattle.std.specs.Str.{bytes_eq}
 use Rattle.std.proofs.lemmas.Bool.{and_parts}
 use Rattle.std.proofs.lemmas.Slice.Eq.{bytes_eq-Decides}
 use Rattle.hall_core.specs.Facts.{Calls}
-use Rattle.hall_core.specs.Made.{HallCall, Attaching, Giving, Lacking, Noting, Printing, Reading, Syncing, Writing}
+use Rattle.hall_core.specs.Made.{HallCall, Attaching, Giving, Lacking, Noting, Printing, Reading, Syncing, Wanting, Writing}
 
 -- the kind of a call, and behind it its numbers and bytes
 abbrev pub numbers_in : HallCall → List ℕ
@@ -17,6 +17,7 @@ numbers_in (Printing bytes) = 4 ∷ bytes
 numbers_in (Noting unit track) = 5 ∷ unit ∷ track ∷ []
 numbers_in (Giving before unit at bytes) = 6 ∷ before ∷ unit ∷ at ∷ bytes
 numbers_in (Lacking name) = 7 ∷ name
+numbers_in (Wanting name) = 8 ∷ name
 
 -- one of these numbers, counted from 0
 abbrev pub number : ℕ → HallCall → ℕ
@@ -33,7 +34,8 @@ call_with numbers =
     else (if at 0 == 4 then Printing (drop 1 numbers)
     else (if at 0 == 5 then Noting (at 1) (at 2)
     else (if at 0 == 6 then Giving (at 1) (at 2) (at 3) (drop 4 numbers)
-    else Lacking (drop 1 numbers)))))))
+    else (if at 0 == 7 then Lacking (drop 1 numbers)
+    else Wanting (drop 1 numbers))))))))
 
 call_is : (call : HallCall) → call_with (numbers_in call) ≡ call
 unfolding call_with
@@ -45,11 +47,13 @@ call_is (Printing bytes) = refl
 call_is (Noting unit track) = refl
 call_is (Giving before unit at bytes) = refl
 call_is (Lacking name) = refl
+call_is (Wanting name) = refl
 
--- it is a call that is made: what a read gave is told beside the read, and what is lacking beside the attachment
+-- it is a call that is made: what a read gave is told beside the read, and what is lacking or wanting beside the attachment
 abbrev pub is_made : HallCall → Bool
 is_made (Giving before unit at bytes) = false
 is_made (Lacking name) = false
+is_made (Wanting name) = false
 is_made call = true
 
 -- one is the other, and is made
@@ -91,10 +95,14 @@ made_once call is = all_of (is_same call call) (and_both is ((bytes_eq-Decides (
     and_both : {a b : Bool} → a ≡ true → b ≡ true → (a && b) ≡ true
     and_both {a} {b} first second = ap (λ (x : Bool). x && b) first ∙ second
 
--- what is lacking makes none
+-- what is lacking or wanting makes none
 pub told_lacking : (name : List ℕ) (call : HallCall) → weight (Lacking name) call ≡ 0
 unfolding weight
 told_lacking name call = refl
+
+pub told_wanting : (name : List ℕ) (call : HallCall) → weight (Wanting name) call ≡ 0
+unfolding weight
+told_wanting name call = refl
 
 -- none of them is made again by those behind it
 abbrev pub AreApart : List HallCall → Type 0
@@ -165,6 +173,7 @@ none_printed (call ∷ run) none = first call (none_printed run (λ text. let al
     first (Noting unit track) others none = omega (arith, others)
     first (Giving before unit at bytes) others none = omega (arith, others)
     first (Lacking name) others none = omega (arith, others)
+    first (Wanting name) others none = omega (arith, others)
 
 -- what was done at a moment is one of all calls of the run
 pub done_ever : (run : List HallCall) (n : ℕ) (call : HallCall) → done run n call → IsIn run call

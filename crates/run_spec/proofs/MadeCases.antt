@@ -16,7 +16,7 @@ use Rattle.ebcdic_names.specs.CodePage.{ascii_of, code_page}
 use Rattle.ebcdic_names.specs.Names.{shown}
 use Rattle.ebcdic_names.specs.declared.names.Serial.{Serial}
 use Rattle.hall_core.specs.Facts.{Attached, unit_of}
-use Rattle.hall_core.specs.Made.{HallCall, HasDone, Does, Attaching, Giving, Lacking, Printing, Reading, Syncing, Writing}
+use Rattle.hall_core.specs.Made.{HallCall, HasDone, Does, Attaching, Giving, Lacking, Printing, Reading, Syncing, Wanting, Writing}
 use Rattle.pack_spec.specs.declared.MountErr.TheVariants as mount
 use Rattle.track_records.specs.Buffers.{Buffer}
 use Rattle.track_records.specs.Calls.{Gives}
@@ -175,19 +175,19 @@ file_is_missing = (Missing refl refl refl, unfound, another, there, unattached)
   where
     unfound : ¬ IsUnmounted (λ call. ⊥) file [] mount.NoFile
     unfound (Missing none lacks is) = lacks
-    unfound (Unattached none is) = ⊎_elim (λ no. cc no) (λ no. cc no) is
+    unfound (Unattached none is) = ⊎_elim (λ no. cc no) (λ no. cc no.0) is
     unfound (Unfit size one reason) = cc one
 
     another : ¬ IsUnmounted (λ call. call ≡ Lacking (codes "x.img")) file [] mount.NoFile
     another (Missing none lacks is) = let wrong : 119 ≡ 120 = ap (number 1) lacks in omega (arith, wrong)
-    another (Unattached none is) = ⊎_elim (λ no. cc no) (λ no. cc no) is
+    another (Unattached none is) = ⊎_elim (λ no. cc no) (λ no. cc no.0) is
     another (Unfit size one reason) = cc one
 
     header_not : {size : ℕ} {g : Geometry} → ¬ IsHeaderGiven (λ call. call ≡ Lacking file) 0 size g
     header_not (GivesHeader bytes long gave is) = cc gave
 
     no_reason : {size : ℕ} → ¬ IsReasonGiven (λ call. call ≡ Lacking file) 0 size mount.NoFile
-    no_reason (Cut is) = ⊎_elim (λ no. cc no) (λ no. cc no) is
+    no_reason (Cut is) = ⊎_elim (λ no. cc no) (λ no. cc no.0) is
     no_reason (BadHeader (TooShort short is)) = cc is
     no_reason (BadHeader (NoGeometry bytes long gave why none is)) = cc is
     no_reason (Unlabelled g header lacks is) = cc is
@@ -202,26 +202,47 @@ file_is_missing = (Missing refl refl refl, unfound, another, there, unattached)
 
     unattached : ¬ IsUnmounted (λ call. call ≡ Lacking file) file [] (mount.Image BadMagic)
     unattached (Missing none lacks is) = cc is
-    unattached (Unattached none is) = ⊎_elim (λ no. cc no) (λ no. cc no) is
+    unattached (Unattached none is) = ⊎_elim (λ no. cc no) (λ no. cc no.0) is
     unattached (Unfit size one reason) = cc one
 
--- The device may have failed where no read gave anything, or at the attachment, and memory have run out where no unit is attached. No label is said to be lacking where no read gave anything, nor is the header said to be cut short by another size than the file's; and the unit isn't one of another name, nor one of two.
+-- The device may have failed where no read gave anything, or at the attachment, and memory have run out where the file was to be attached: not where nothing or another file was, nor where that is lacking, nor behind an attachment where no header was read. No label is said to be lacking where no read gave anything, nor is the header said to be cut short by another size than the file's; and the unit isn't one of another name, nor one of two.
 mount_is_cut_off :
     IsUnmounted nothing file one_unit mount.Device
-    × IsUnmounted nothing file [] mount.Memory
+    × IsUnmounted (λ call. call ≡ Wanting file) file [] mount.Memory
     × IsUnmounted nothing file [] mount.Device
+    × (¬ IsUnmounted nothing file [] mount.Memory)
+    × (¬ IsUnmounted (λ call. call ≡ Wanting (codes "x.img")) file [] mount.Memory)
+    × (¬ IsUnmounted (λ call. call ≡ Lacking file) file [] mount.Memory)
+    × (¬ IsUnmounted nothing file one_unit mount.Memory)
     × (¬ IsUnmounted nothing file one_unit mount.NoLabel)
     × (¬ IsUnmounted nothing file one_unit (mount.Image BadMagic))
     × (¬ IsUnmounted nothing (codes "x.img") one_unit mount.Device)
     × (¬ IsUnmounted nothing file (record { name = codes "w.img"; size = 41472 } ∷ record { name = codes "x.img"; size = 41472 } ∷ []) mount.Device)
 unfolding nothing
-mount_is_cut_off = (Unfit 41472 refl (Cut (inl refl)), Unattached refl (inr refl), Unattached refl (inl refl), unread, long, other, two)
+mount_is_cut_off = (
+  Unfit 41472 refl (Cut (inl refl)),
+  Unattached refl (inr (refl, refl)),
+  Unattached refl (inl refl),
+  unwanted (λ call. ⊥) (λ no. no),
+  unwanted (λ call. call ≡ Wanting (codes "x.img")) (λ is. let wrong : 119 ≡ 120 = ap (number 1) is in omega (arith, wrong)),
+  unwanted (λ call. call ≡ Lacking file) (λ is. cc is),
+  no_header_read,
+  unread,
+  long,
+  other,
+  two,
+)
   where
+    unwanted : (known : HallCall → Type 0) → ¬ known (Wanting file) → ¬ IsUnmounted known file [] mount.Memory
+    unwanted known not (Missing none lacks is) = cc is
+    unwanted known not (Unattached none is) = ⊎_elim (λ device. cc device) (λ memory. not memory.1) is
+    unwanted known not (Unfit size one reason) = cc one
+
     header_not : {size : ℕ} {g : Geometry} → ¬ IsHeaderGiven (λ call. ⊥) 0 size g
     header_not (GivesHeader bytes long gave is) = gave
 
     no_reason : {size : ℕ} → ¬ IsReasonGiven (λ call. ⊥) 0 size mount.NoLabel
-    no_reason (Cut is) = ⊎_elim (λ no. cc no) (λ no. cc no) is
+    no_reason (Cut is) = ⊎_elim (λ no. cc no) (λ no. cc no.0) is
     no_reason (BadHeader (TooShort short is)) = cc is
     no_reason (BadHeader (NoGeometry bytes long gave why none is)) = gave
     no_reason (Unlabelled g header lacks is) = header_not header
@@ -248,13 +269,27 @@ mount_is_cut_off = (Unfit 41472 refl (Cut (inl refl)), Unattached refl (inr refl
     size_in (unit ∷ units) = unit.size
 
     no_header : {size : ℕ} → 41472 ≡ size → ¬ IsReasonGiven (λ call. ⊥) 0 size (mount.Image BadMagic)
-    no_header whole (Cut is) = ⊎_elim (λ no. cc no) (λ no. cc no) is
+    no_header whole (Cut is) = ⊎_elim (λ no. cc no) (λ no. cc no.0) is
     no_header whole (BadHeader (TooShort short is)) = omega (arith, whole, short)
     no_header whole (BadHeader (NoGeometry bytes far gave why none is)) = gave
     no_header whole (Unlabelled g header lacks is) = header_not header
     no_header whole (Outside g header label given out is) = header_not header
     no_header whole (OnLabel g header label given on is) = header_not header
     no_header whole (NoVtoc g header label given inside behind why) = header_not header
+
+    no_memory : {size : ℕ} → ¬ IsReasonGiven (λ call. ⊥) 0 size mount.Memory
+    no_memory (Cut is) = ⊎_elim (λ no. cc no) (λ memory. header_not memory.1.1) is
+    no_memory (BadHeader (TooShort short is)) = cc is
+    no_memory (BadHeader (NoGeometry bytes far gave why none is)) = gave
+    no_memory (Unlabelled g header lacks is) = header_not header
+    no_memory (Outside g header label given out is) = header_not header
+    no_memory (OnLabel g header label given on is) = header_not header
+    no_memory (NoVtoc g header label given inside behind why) = header_not header
+
+    no_header_read : ¬ IsUnmounted (λ call. ⊥) file one_unit mount.Memory
+    no_header_read (Missing none lacks is) = cc is
+    no_header_read (Unattached none is) = cc none
+    no_header_read (Unfit size one reason) = no_memory reason
 
     long : ¬ IsUnmounted (λ call. ⊥) file one_unit (mount.Image BadMagic)
     long (Missing none lacks is) = cc is

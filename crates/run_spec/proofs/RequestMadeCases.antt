@@ -8,7 +8,7 @@ use Rattle.ckd_image.specs.declared.header.ImageErr.TheVariants.{BadMagic}
 use Rattle.ckd_image.specs.Reading.{is_front, records_of, records_to_end, records_up_to}
 use Rattle.dscb_codec.specs.declared.Dscb.{Dscb}
 use Rattle.hall_core.specs.Facts.{Attached, Calls, CallsAtMost, unit_of}
-use Rattle.hall_core.specs.Made.{DoneSince, HallCall, HasDone, Does, MakesOnly, StaysDone, Attaching, Giving, Lacking, Printing, Reading, Syncing}
+use Rattle.hall_core.specs.Made.{DoneSince, HallCall, HasDone, Does, MakesOnly, StaysDone, Attaching, Giving, Lacking, Printing, Reading, Syncing, Wanting}
 use Rattle.pack_spec.specs.declared.MountErr.{MountErr}
 use Rattle.pack_spec.specs.declared.MountErr.TheVariants as mount
 use Rattle.pack_spec.specs.Label.{label_in, track_bytes}
@@ -19,14 +19,14 @@ use Rattle.vtoc_index.specs.Given.{AreOfVtoc, IsExtentGiven, IsHeaderGiven, IsIn
 use Rattle.vtoc_index.specs.Index.{IsOfUnit}
 use Rattle.vtoc_index.specs.declared.vol.Vol.{Vol}
 use Rattle.vtoc_index.proofs.GivenCases.{first_is_there, gave_all, gave_some, holding, index_is_given, label_is_there, zeros_are_no_label}
-use Rattle.vtoc_index.proofs.GivenLemmas.{index_still, reason_still}
+use Rattle.vtoc_index.proofs.GivenLemmas.{header_still, index_still, reason_still}
 use Rattle.vtoc_index.proofs.TracksGiven.{of_vtoc_one}
 use Rattle.vtoc_index.proofs.SmallPack.{first_track, format_4, format_5, header_is_read, image, one_cylinder, pack01, slot_on, two_tracks}
 use Rattle.run_spec.specs.Lines.{deck_line, unit_line, words_line}
-use Rattle.run_spec.specs.Made.{Answered, CallsOfStatement, Faulted, Formless, IsMountCall, IsNamesPrint, IsRefusalPrint, IsStatementCall, Mounts, OnPack, OnRequest, OnStatement, Operates, RanOut, Refuses, Stated, Unprinted, Unread}
+use Rattle.run_spec.specs.Made.{Answered, CallsOfStatement, Faulted, Formless, IsMountCall, IsNamesPrint, IsRefusalPrint, IsRefusalStatus, IsStatementCall, Mounts, OnPack, OnRequest, OnStatement, Operates, RanOut, Refuses, Stated, Unprinted, Unread}
 use Rattle.run_spec.specs.Mount.{IsUnmounted, Missing, Unattached, Unfit}
 use Rattle.run_spec.specs.Words.{Names, Request, Run}
-use Rattle.run_spec.proofs.CaseRuns.{AreApart, IsIn, calls, done, done_later, done_ever, made, made_once, none_printed, number, numbers_in, once, synced, told_lacking, unmade, weight}
+use Rattle.run_spec.proofs.CaseRuns.{AreApart, IsIn, calls, done, done_later, done_ever, made, made_once, none_printed, number, numbers_in, once, synced, told_lacking, told_wanting, unmade, weight}
 use Rattle.run_spec.proofs.MadeCases.{c_is_put, file, mounts_not, one_unit, short, statement}
 use Rattle.run_spec.proofs.StatementMadeCases.{at_most, ok_line, renaming, sync_is_made, write, written}
 use Rattle.run_spec.proofs.SaidCases.{Each, Lists, Why, cut_off_is_not_said, print_alone}
@@ -229,7 +229,7 @@ header_has_one {why} bytes is none = let wrong : ◌≡◌ {A = Result Geometry 
 
 -- no reason is there behind a good header alone, but that the mount was cut off
 unread_reason : (text : List ℕ) (e : MountErr) → IsReasonGiven (IsIn (unread text)) 0 41472 e → (e ≡ mount.Device) ⊎ (e ≡ mount.Memory)
-unread_reason text e (Cut is) = is
+unread_reason text e (Cut is) = ⊎_elim (λ device. inl device) (λ memory. inr memory.0) is
 unread_reason text e (BadHeader (TooShort short is)) = absurd (omega (arith, short))
 unread_reason text e (BadHeader (NoGeometry bytes long gave why none is)) = absurd (header_has_one bytes (given_unread text gave).1 none)
 unread_reason text e (Unlabelled g header (Gives bytes size gave lacks) is) = let at = (given_unread text gave).0 in absurd (omega (arith, at))
@@ -254,7 +254,7 @@ unlabelled_reason text e why = reason why
     unlabelled_so label header given = no_label (subst (λ (x : Geometry). IsLabelGiven (IsIn (unlabelled text)) 0 x label) (geometry header) given)
 
     reason : IsReasonGiven (IsIn (unlabelled text)) 0 41472 e → ((e ≡ mount.Device) ⊎ (e ≡ mount.Memory)) ⊎ (e ≡ mount.NoLabel)
-    reason (Cut is) = inl is
+    reason (Cut is) = inl (⊎_elim (λ device. inl device) (λ memory. inr memory.0) is)
     reason (BadHeader (TooShort short is)) = absurd (omega (arith, short))
     reason (BadHeader (NoGeometry bytes long gave why none is)) = absurd (header_has_one bytes (⊎_elim (λ first. first.1) (λ second. let wrong = second.0 in absurd (omega (arith, wrong))) (given_zeros text gave)) none)
     reason (Unlabelled g header lacks is) = inr is
@@ -282,7 +282,7 @@ refusal_has_its_reason text = (unfound_not, unread_not, λ other. unlabelled_not
   where
     unfound_why : (mid : ℕ) {why : MountErr} → IsUnmounted (done (unfound text) mid) file [] why → (why ≡ mount.Device) ⊎ (why ≡ mount.Memory)
     unfound_why mid (Missing none lacks is) = absurd (⊎_elim (λ no. cc no) (⊎_elim (λ no. cc no) (λ no. no)) (done_ever (unfound text) mid _ lacks))
-    unfound_why mid (Unattached none is) = is
+    unfound_why mid (Unattached none is) = ⊎_elim (λ device. inl device) (λ memory. inr memory.0) is
     unfound_why mid (Unfit size one reason) = absurd (cc one)
 
     unfound_not : ¬ Asked (unfound text) (Some (Names file)) (λ deck. ⊤) [] 21 0 2
@@ -334,6 +334,73 @@ nothing_is_synced_before text (Refuses mid each why unmounted said) =
     omega (arith, before, all, made_once Syncing refl)
 nothing_is_synced_before text (Mounts mid each vol of_unit given lists) = let no = lists.status_is in omega (arith, no)
 
+-- the file isn't attached for want of memory
+abbrev wanting : List HallCall
+wanting = Attaching file ∷ Wanting file ∷ []
+
+-- Memory may run out where the file is attached: not where nothing was called, nor where another file was to be attached; nor behind an attachment with no read of a header.
+names_are_not_given_up :
+    Asked wanting (Some (Names file)) (λ deck. ⊤) [] 25 0 2
+    × (¬ Asked [] (Some (Names file)) (λ deck. ⊤) [] 25 0 0)
+    × (¬ Asked (Attaching file ∷ Wanting (codes "x.img") ∷ []) (Some (Names file)) (λ deck. ⊤) [] 25 0 2)
+    × (¬ Asked (Attaching file ∷ []) (Some (Names file)) (λ deck. ⊤) one_unit 25 0 1)
+names_are_not_given_up = (Refuses 2 attached mount.Memory (Unattached refl (inr (refl, inr (inl refl)))) said, nothing_not, other_not, unread_not)
+  where
+    attached : Each wanting (IsMountCall file [] (done wanting 2)) 0 2
+    attached = record {
+      only = λ call other. let first = unmade (Attaching file) call (λ is. other (inl is)) in omega (arith, first, told_wanting file call);
+      once = λ call. let one = once (Attaching file ∷ []) (refl, tt) call in omega (arith, one, told_wanting file call);
+      kept = done_later wanting 0 2 (omega arith);
+    }
+
+    said : Why wanting mount.Memory 25 2 2
+    said = record {
+      print = record { only = λ call other. omega arith; once = λ call. omega arith; kept = λ call was. was };
+      said = λ is. absurd (omega (arith, is));
+      status_is = inr (λ is. cc is, inl refl);
+    }
+
+    unwanted : (run : List HallCall) → ¬ IsIn run (Lacking file) → ¬ IsIn run (Wanting file) → (mid : ℕ) {why : MountErr} → IsUnmounted (done run mid) file [] why → ¬ IsRefusalStatus why 25
+    unwanted run found none mid (Missing empty lacks is) status = found (done_ever run mid _ lacks)
+    unwanted run found none mid (Unattached empty (inl device)) status = ⊎_elim (λ is. omega (arith, is.1)) (λ other. other.0 device) status
+    unwanted run found none mid (Unattached empty (inr memory)) status = none (done_ever run mid _ memory.1)
+    unwanted run found none mid (Unfit size one reason) status = cc one
+
+    nothing_not : ¬ Asked [] (Some (Names file)) (λ deck. ⊤) [] 25 0 0
+    nothing_not (Refuses mid each why unmounted said) = unwanted [] (λ no. no) (λ no. no) mid unmounted said.status_is
+    nothing_not (Mounts mid each vol of_unit given lists) = let none = of_unit.attached in omega (arith, none)
+
+    other : List HallCall
+    other = Attaching file ∷ Wanting (codes "x.img") ∷ []
+
+    other_not : ¬ Asked other (Some (Names file)) (λ deck. ⊤) [] 25 0 2
+    other_not (Refuses mid each why unmounted said) =
+        unwanted other
+        (⊎_elim (λ no. cc no) (⊎_elim (λ no. cc no) (λ no. no)))
+        (⊎_elim (λ no. cc no) (⊎_elim (λ is. let wrong : 119 ≡ 120 = ap (number 1) is in omega (arith, wrong)) (λ no. no)))
+        mid unmounted said.status_is
+    other_not (Mounts mid each vol of_unit given lists) = let none = of_unit.attached in omega (arith, none)
+
+    none_given : {before unit at : ℕ} {bytes : List ℕ} → ¬ IsIn (Attaching file ∷ []) (Giving before unit at bytes)
+    none_given = ⊎_elim (λ no. cc no) (λ no. no)
+
+    no_header : {size unit : ℕ} {g : Geometry} → ¬ IsHeaderGiven (IsIn (Attaching file ∷ [])) unit size g
+    no_header (GivesHeader bytes long gave is) = none_given gave
+
+    unread : {why : MountErr} → IsReasonGiven (IsIn (Attaching file ∷ [])) 0 41472 why → ¬ IsRefusalStatus why 25
+    unread (Cut (inl device)) status = ⊎_elim (λ is. omega (arith, is.1)) (λ other. other.0 device) status
+    unread (Cut (inr memory)) status = no_header memory.1.1
+    unread (BadHeader (TooShort short is)) status = omega (arith, short)
+    unread (BadHeader (NoGeometry bytes long gave why none is)) status = none_given gave
+    unread (Unlabelled g header lacks is) status = no_header header
+    unread (Outside g header label given out is) status = no_header header
+    unread (OnLabel g header label given there is) status = no_header header
+    unread (NoVtoc g header label given inside behind why) status = no_header header
+
+    unread_not : ¬ Asked (Attaching file ∷ []) (Some (Names file)) (λ deck. ⊤) one_unit 25 0 1
+    unread_not (Refuses mid each why unmounted said) = unread (unmounted_by (Attaching file ∷ []) mid unmounted) said.status_is
+    unread_not (Mounts mid each vol of_unit given lists) = no_header (header_still given.header (done_ever (Attaching file ∷ []) mid))
+
 -- no call that mounts a pack is a print or a sync
 mount_prints_not : (units : List Attached) {done : HallCall → Type 0} (text : List ℕ) → ¬ IsMountCall file units done (Printing text)
 mount_prints_not units text = mounts_not units (Printing text) (λ no. cc no) (λ at len no. cc no)
@@ -374,7 +441,7 @@ nothing_goes_by_what_is_told_later text acts = (lacking_not, mounted_not, label_
 
     lacking_not : ¬ Pack (lacking_late text) [] 21 acts 0 3
     lacking_not (Refuses mid each why (Missing none lacks is) said) = lacks_not mid (each.only line (mount_prints_not [] text)) lacks
-    lacking_not (Refuses mid each why (Unattached none is) said) = cut_off_is_not_said why is said.status_is
+    lacking_not (Refuses mid each why (Unattached none is) said) = cut_off_is_not_said why (⊎_elim (λ device. inl device) (λ memory. inr memory.0) is) said.status_is
     lacking_not (Refuses mid each why (Unfit size one reason) said) = absurd (cc one)
     lacking_not (Mounts mid each vol of_unit given does) = let none = of_unit.attached in omega (arith, none)
 
@@ -610,7 +677,7 @@ no_code_without_a_statement (Stated s deck (Mounts mid each vol of_unit given ac
   where
     unanswered : ¬ OnStatement (made (mounting [])) (done (mounting [])) (synced (mounting [])) (calls (mounting [])) vol s 0 mid 9
     unanswered (Operates behind ops (Faulted none is)) = omega (arith, is)
-    unanswered (Operates behind ops (RanOut none is came_or_few)) = omega (arith, is)
+    unanswered (Operates behind ops (RanOut outcome came none is)) = omega (arith, is)
     unanswered (Operates behind ops (Unprinted outcome came only is)) = omega (arith, is)
     unanswered (Operates behind ops (Answered outcome came said only was sync is)) = unprinted said _ was
 

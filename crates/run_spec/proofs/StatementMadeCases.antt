@@ -105,16 +105,19 @@ module _ (any : Vol) where
   abbrev EndsUnheld : List HallCall → ℕ → ℕ → ℕ → Type 0
   EndsUnheld run status old behind = EndsStatement (made run) (done run) (synced run) (calls run) (index any) (statement pack01) status old behind behind
 
-  -- what ends the statement on a machine, between two moments of its calls, where it comes to OK alone; and all of it
+  -- what ends the statement on a machine, between two moments of its calls, where it comes to OK alone; and all of it, where this holds if its operation may want memory
   abbrev Line : (HallCall → Type 0) → ℕ → ℕ → Result ℕ Stop → Type 0
   Line done old new = EndsInLine (statement pack01) (λ outcome. outcome ≡ Ok tt) (CallsAtMost 1 0 0 0 (calls renaming 0) (calls renaming old)) done (made renaming old) (made renaming new)
 
   -- what ends it where memory ran out and it came to nothing, where this holds then
   abbrev Cut : Type 0 → Type 0
-  Cut few = EndsInLine (statement pack01) (λ outcome. ⊥) few nothing (made renaming 2) (made renaming 2) (Err Memory)
+  Cut ran_out = EndsInLine (statement pack01) (λ outcome. ⊥) ran_out nothing (made renaming 2) (made renaming 2) (Err Memory)
+
+  abbrev RunsWanting : Type 0 → List HallCall → Result ℕ Stop → ℕ → ℕ → Type 0
+  RunsWanting wants run = RunsStatement (made run) (done run) (calls run) (λ n. IsStatementCall (holding any) (statement pack01) (did run n)) (Came run (statement pack01)) wants (statement pack01)
 
   abbrev Runs : List HallCall → Result ℕ Stop → ℕ → ℕ → Type 0
-  Runs run = RunsStatement (made run) (done run) (calls run) (λ n. IsStatementCall (holding any) (statement pack01) (did run n)) (Came run (statement pack01)) (statement pack01)
+  Runs = RunsWanting ⊤
 
   -- a statement isn't done by a run without its write
   none_written : (run : List HallCall) (n : ℕ) → ((at : ℕ) (bytes : List ℕ) → ¬ IsIn run (Writing 0 at bytes)) → ¬ HasDone (IsOperationWrite (operation_on (statement pack01) 0) (holding any) (did run n)) (did run n)
@@ -162,13 +165,18 @@ module _ (any : Vol) where
   write_came_to_nothing (Ok x) came = cc came.1
   write_came_to_nothing (Err r) came = unrefused any (did renaming 1) r came.0
 
+  -- and so before any call
+  nothing_came : (outcome : Result (Unit {0}) Refusal) → ¬ Came renaming (statement pack01) 0 outcome
+  nothing_came (Ok x) came = came.1
+  nothing_came (Err r) came = unrefused any (did renaming 0) r came.0
+
   ok_printed : MakesOnly (λ call. call ≡ ok_line) (made renaming 2) (made renaming 3)
   ok_printed call other = let none = unmade ok_line call other in omega (arith, none)
 
   ok_made : Makes (made renaming) (done renaming) (synced renaming) (calls renaming) (λ call. call ≡ ok_line) 2 3
   ok_made = record { only = ok_printed; kept = done_later renaming 2 3 (omega arith) }
 
-  -- Behind the operation the line is printed, and a sync made behind that, with the code of what it came to; or with a fault of the device at the sync, or of the printer at the line; or nothing is called, where the device failed, or where memory ran out behind what it came to or before anything was written, and not behind a write that isn't synced.
+  -- Behind the operation the line is printed, and a sync made behind that, with the code of what it came to; or with a fault of the device at the sync, or of the printer at the line; or nothing is called, where the device failed, or where memory ran out behind what it came to: not before anything was written, nor behind a write that isn't synced, and behind nothing where it is refused.
   statement_is_ended :
       EndsSo renaming (statement pack01) 0 2 4
       × EndsSo refusing (statement []) 8 0 2
@@ -176,7 +184,8 @@ module _ (any : Vol) where
       × EndsSo renaming (statement pack01) 24 2 3
       × EndsSo renaming (statement pack01) 22 1 1
       × EndsSo renaming (statement pack01) 25 2 2
-      × EndsSo renaming (statement pack01) 25 0 0
+      × EndsSo refusing (statement []) 25 0 0
+      × (¬ EndsSo renaming (statement pack01) 25 0 0)
       × (¬ EndsSo renaming (statement pack01) 25 1 1)
   statement_is_ended = (
     Answered (Ok tt) ok_came 3 ok_made (inr (inr (inl refl))) last_sync (inl (refl, refl)),
@@ -185,24 +194,31 @@ module _ (any : Vol) where
     Answered (Ok tt) ok_came 3 ok_made (inr (inr (inl refl))) last_sync (inr refl),
     Unprinted (Ok tt) ok_came ok_made refl,
     Faulted (record { only = λ call other. omega arith; kept = λ call was. was }) refl,
-    RanOut (record { only = λ call other. omega arith; kept = λ call was. was }) refl (inl (Ok tt, ok_came)),
-    RanOut (record { only = λ call other. omega arith; kept = λ call was. was }) refl (inr (omega arith, omega arith, omega arith, omega arith, omega arith)),
+    RanOut (Ok tt) ok_came (record { only = λ call other. omega arith; kept = λ call was. was }) refl,
+    RanOut (Err NoVolume) refusal_came (record { only = λ call other. omega arith; kept = λ call was. was }) refl,
+    unwritten_not,
     unsynced_not,
   )
     where
       refusal_printed : (call : HallCall) → ¬ (call ≡ no_volume_line) → made refusing 1 call ≤ made refusing 0 call
       refusal_printed call other = let none = unmade no_volume_line call other in omega (arith, none)
 
+      unwritten_not : ¬ EndsSo renaming (statement pack01) 25 0 0
+      unwritten_not (Faulted none is) = omega (arith, is)
+      unwritten_not (RanOut outcome came none is) = nothing_came outcome came
+      unwritten_not (Unprinted outcome came only is) = omega (arith, is)
+      unwritten_not (Answered outcome came said only was sync is) = nothing_came outcome came
+
       unsynced_not : ¬ EndsSo renaming (statement pack01) 25 1 1
       unsynced_not (Faulted none is) = omega (arith, is)
-      unsynced_not (RanOut none is came_or_few) = ⊎_elim (λ came. write_came_to_nothing came.0 came.1) (λ few. let written = few.1 in omega (arith, written)) came_or_few
+      unsynced_not (RanOut outcome came none is) = write_came_to_nothing outcome came
       unsynced_not (Unprinted outcome came only is) = omega (arith, is)
       unsynced_not (Answered outcome came said only was sync is) = write_came_to_nothing outcome came
 
       last_sync : MakesEach (made renaming) (done renaming) (synced renaming) (calls renaming) (λ call. call ≡ Syncing) 3 4
       last_sync = record { only = λ call other. let none = unmade Syncing call other in omega (arith, none); once = λ call. let one = at_most Syncing call in omega (arith, one); kept = done_later renaming 3 4 (omega arith) }
 
-  -- With 25 no line was printed behind the operation and no sync made, and one that came to nothing made neither a sync nor a print.
+  -- With 25 no line was printed behind the operation and no sync made, and a sync or a line alone is none.
   memory_runs_out_before_the_line :
       (¬ EndsSo renaming (statement pack01) 25 2 3)
       × (¬ EndsSo (Syncing ∷ []) (statement pack01) 25 0 1)
@@ -216,13 +232,13 @@ module _ (any : Vol) where
 
       line_not : ¬ EndsSo renaming (statement pack01) 25 2 3
       line_not (Faulted none is) = omega (arith, is)
-      line_not (RanOut none is came_or_few) = let more : made renaming 3 ok_line ≤ made renaming 2 ok_line = none.only ok_line (λ no. no) in omega (arith, more, made_once ok_line refl)
+      line_not (RanOut outcome came none is) = let more : made renaming 3 ok_line ≤ made renaming 2 ok_line = none.only ok_line (λ no. no) in omega (arith, more, made_once ok_line refl)
       line_not (Unprinted outcome came only is) = omega (arith, is)
       line_not (Answered outcome came said only was sync is) = ⊎_elim (λ no. no_code outcome no.0) (λ no. omega (arith, no)) is
 
       sync_not : ¬ EndsSo (Syncing ∷ []) (statement pack01) 25 0 1
       sync_not (Faulted none is) = omega (arith, is)
-      sync_not (RanOut none is came_or_few) = let more : made (Syncing ∷ []) 1 Syncing ≤ made (Syncing ∷ []) 0 Syncing = none.only Syncing (λ no. no) in omega (arith, more, made_once Syncing refl)
+      sync_not (RanOut outcome came none is) = let more : made (Syncing ∷ []) 1 Syncing ≤ made (Syncing ∷ []) 0 Syncing = none.only Syncing (λ no. no) in omega (arith, more, made_once Syncing refl)
       sync_not (Unprinted outcome came only is) = omega (arith, is)
       sync_not (Answered outcome came said only was sync is) = ⊎_elim (λ no. no_code outcome no.0) (λ no. omega (arith, no)) is
 
@@ -232,7 +248,7 @@ module _ (any : Vol) where
 
       synced_not : ¬ EndsSo (Syncing ∷ []) (statement pack01) 25 1 1
       synced_not (Faulted none is) = omega (arith, is)
-      synced_not (RanOut none is came_or_few) = ⊎_elim (λ came. none_came came.0 came.1) (λ few. let syncs = few.2 in omega (arith, syncs)) came_or_few
+      synced_not (RanOut outcome came none is) = none_came outcome came
       synced_not (Unprinted outcome came only is) = omega (arith, is)
       synced_not (Answered outcome came said only was sync is) = none_came outcome came
 
@@ -242,14 +258,14 @@ module _ (any : Vol) where
 
       printed_not : ¬ EndsSo (ok_line ∷ []) (statement pack01) 25 1 1
       printed_not (Faulted none is) = omega (arith, is)
-      printed_not (RanOut none is came_or_few) = ⊎_elim (λ came. none_printed came.0 came.1) (λ few. let prints = few.3 in omega (arith, prints)) came_or_few
+      printed_not (RanOut outcome came none is) = none_printed outcome came
       printed_not (Unprinted outcome came only is) = omega (arith, is)
       printed_not (Answered outcome came said only was sync is) = none_printed outcome came
 
   -- Behind the line one sync alone is made.
   line_is_synced_once : ¬ EndsSo (no_volume_line ∷ Syncing ∷ Syncing ∷ []) (statement []) 8 0 3
   line_is_synced_once (Faulted none is) = omega (arith, is)
-  line_is_synced_once (RanOut none is came_or_few) = omega (arith, is)
+  line_is_synced_once (RanOut outcome came none is) = omega (arith, is)
   line_is_synced_once (Unprinted outcome came only is) = omega (arith, is)
   line_is_synced_once (Answered outcome came said only was sync is) =
       let twice : made (no_volume_line ∷ Syncing ∷ Syncing ∷ []) 3 Syncing ≤ made (no_volume_line ∷ Syncing ∷ Syncing ∷ []) said Syncing + 1 = sync.once Syncing in
@@ -276,7 +292,7 @@ module _ (any : Vol) where
   -- what was made behind the operation but prints and syncs was made by it
   made_by_it : (run : List HallCall) (behind n : ℕ) {old status : ℕ} {vol : Vol} {s : Rename} (call : HallCall) → ¬ (call ≡ Syncing) → ((outcome : Result (Unit {0}) Refusal) → ¬ (call ≡ Printing (answer_line s outcome))) → EndsStatement (made run) (done run) (synced run) (calls run) vol s status old behind n → made run n call ≤ made run behind call
   made_by_it run behind n call sync_not line_not (Faulted none is) = none.only call (λ no. no)
-  made_by_it run behind n call sync_not line_not (RanOut none is came_or_few) = none.only call (λ no. no)
+  made_by_it run behind n call sync_not line_not (RanOut outcome came none is) = none.only call (λ no. no)
   made_by_it run behind n call sync_not line_not (Unprinted outcome came only is) = only.only call (line_not outcome)
   made_by_it run behind n call sync_not line_not (Answered outcome came said only was sync is) =
       let later = sync.only call sync_not in
@@ -304,7 +320,7 @@ module _ (any : Vol) where
 
       untried : ¬ On unsynced (statement pack01) 24 0 2
       untried (Operates behind ops (Faulted none is)) = omega (arith, is)
-      untried (Operates behind ops (RanOut none is came_or_few)) = omega (arith, is)
+      untried (Operates behind ops (RanOut outcome came none is)) = omega (arith, is)
       untried (Operates behind ops (Unprinted outcome came only is)) = none_came behind outcome (ops.only ok_line (λ call. prints_not call.1.1)) came
       untried (Operates behind ops (Answered outcome came said only was sync is)) = none_came behind outcome (ops.only ok_line (λ call. prints_not call.1.1)) came
 
@@ -313,13 +329,13 @@ module _ (any : Vol) where
           let at_all : made unsynced 2 ok_line ≤ made unsynced behind ok_line = none.only ok_line (λ no. no) in
           let before : made unsynced behind ok_line ≤ 0 = ops.only ok_line (λ call. prints_not call.1.1) in
           omega (arith, at_all, before, made_once ok_line refl)
-      unfaulted (Operates behind ops (RanOut none is came_or_few)) = omega (arith, is)
+      unfaulted (Operates behind ops (RanOut outcome came none is)) = omega (arith, is)
       unfaulted (Operates behind ops (Unprinted outcome came only is)) = omega (arith, is)
       unfaulted (Operates behind ops (Answered outcome came said only was sync is)) = none_came behind outcome (ops.only ok_line (λ call. prints_not call.1.1)) came
 
       unsynced_not : ¬ On unsynced (statement pack01) 0 0 3
       unsynced_not (Operates behind ops (Faulted none is)) = omega (arith, is)
-      unsynced_not (Operates behind ops (RanOut none is came_or_few)) = omega (arith, is)
+      unsynced_not (Operates behind ops (RanOut outcome came none is)) = omega (arith, is)
       unsynced_not (Operates behind ops (Unprinted outcome came only is)) = omega (arith, is)
       unsynced_not (Operates behind ops (Answered (Err r) came said only was sync is)) = unrefused_there unsynced behind r came
       unsynced_not (Operates behind ops (Answered (Ok x) came said only was sync is)) = none_synced behind came.1 (ops.only ok_line (λ call. prints_not call.1.1))
@@ -330,7 +346,7 @@ module _ (any : Vol) where
 
       early_not : ¬ On early (statement pack01) 0 0 4
       early_not (Operates behind ops (Faulted none is)) = omega (arith, is)
-      early_not (Operates behind ops (RanOut none is came_or_few)) = omega (arith, is)
+      early_not (Operates behind ops (RanOut outcome came none is)) = omega (arith, is)
       early_not (Operates behind ops (Unprinted outcome came only is)) = omega (arith, is)
       early_not (Operates behind ops (Answered (Err r) came said only was sync is)) = unrefused_there early behind r came
       early_not (Operates behind ops (Answered (Ok x) came said only was sync is)) = none_early behind came.1 (ops.only ok_line (λ call. prints_not call.1.1))
@@ -351,45 +367,45 @@ module _ (any : Vol) where
 
       synced_before : ¬ On unwritten (statement pack01) 0 1 3
       synced_before (Operates behind ops (Faulted none is)) = omega (arith, is)
-      synced_before (Operates behind ops (RanOut none is came_or_few)) = omega (arith, is)
+      synced_before (Operates behind ops (RanOut outcome came none is)) = omega (arith, is)
       synced_before (Operates behind ops (Unprinted outcome came only is)) = omega (arith, is)
       synced_before (Operates behind ops (Answered outcome came said only was sync is)) = none_came behind outcome came
 
       untried : ¬ On unwritten (statement pack01) 24 1 2
       untried (Operates behind ops (Faulted none is)) = omega (arith, is)
-      untried (Operates behind ops (RanOut none is came_or_few)) = omega (arith, is)
+      untried (Operates behind ops (RanOut outcome came none is)) = omega (arith, is)
       untried (Operates behind ops (Unprinted outcome came only is)) = none_came behind outcome came
       untried (Operates behind ops (Answered outcome came said only was sync is)) = none_came behind outcome came
 
       unwritten_not : ¬ On unwritten (statement pack01) 0 0 3
       unwritten_not (Operates behind ops (Faulted none is)) = omega (arith, is)
-      unwritten_not (Operates behind ops (RanOut none is came_or_few)) = omega (arith, is)
+      unwritten_not (Operates behind ops (RanOut outcome came none is)) = omega (arith, is)
       unwritten_not (Operates behind ops (Unprinted outcome came only is)) = omega (arith, is)
       unwritten_not (Operates behind ops (Answered (Err r) came said only was sync is)) = unrefused_there unwritten behind r came
       unwritten_not (Operates behind ops (Answered (Ok x) came said only was sync is)) = none_written unwritten behind (λ at bytes. ⊎_elim (λ no. cc no) (⊎_elim (λ no. cc no) (⊎_elim (λ no. cc no) (λ no. no)))) came.0.1
 
       unprinted_not : ¬ On unprinted (statement pack01) 0 0 3
       unprinted_not (Operates behind ops (Faulted none is)) = omega (arith, is)
-      unprinted_not (Operates behind ops (RanOut none is came_or_few)) = omega (arith, is)
+      unprinted_not (Operates behind ops (RanOut outcome came none is)) = omega (arith, is)
       unprinted_not (Operates behind ops (Unprinted outcome came only is)) = omega (arith, is)
       unprinted_not (Operates behind ops (Answered outcome came said only was sync is)) = ⊎_elim (λ no. cc no) (⊎_elim (λ no. cc no) (⊎_elim (λ no. cc no) (λ no. no))) (done_ever unprinted said _ was)
 
       before_the_last : ¬ On renaming (statement pack01) 0 0 3
       before_the_last (Operates behind ops (Faulted none is)) = omega (arith, is)
-      before_the_last (Operates behind ops (RanOut none is came_or_few)) = omega (arith, is)
+      before_the_last (Operates behind ops (RanOut outcome came none is)) = omega (arith, is)
       before_the_last (Operates behind ops (Unprinted outcome came only is)) = omega (arith, is)
       before_the_last (Operates behind ops (Answered outcome came said only was sync is)) = ⊎_elim (λ no. let last = no.1 in cc last) (λ no. omega (arith, no)) is
 
       other_code : ¬ On renaming (statement pack01) 8 0 4
       other_code (Operates behind ops (Faulted none is)) = omega (arith, is)
-      other_code (Operates behind ops (RanOut none is came_or_few)) = omega (arith, is)
+      other_code (Operates behind ops (RanOut outcome came none is)) = omega (arith, is)
       other_code (Operates behind ops (Unprinted outcome came only is)) = omega (arith, is)
       other_code (Operates behind ops (Answered (Err r) came said only was sync is)) = unrefused_there renaming behind r came
       other_code (Operates behind ops (Answered (Ok x) came said only was sync is)) = ⊎_elim (λ no. omega (arith, no.0)) (λ no. omega (arith, no)) is
 
   -- On a pack of another serial nothing is synced where no line was printed, even where the device failed then.
   no_sync_stands_alone : ¬ On (Syncing ∷ []) (statement []) 22 0 1
-  no_sync_stands_alone (Operates behind ops (RanOut none is came_or_few)) = omega (arith, is)
+  no_sync_stands_alone (Operates behind ops (RanOut outcome came none is)) = omega (arith, is)
   no_sync_stands_alone (Operates behind ops (Faulted none is)) =
       let at_all : made (Syncing ∷ []) 1 Syncing ≤ made (Syncing ∷ []) behind Syncing = none.only Syncing (λ no. no) in
       let before : made (Syncing ∷ []) behind Syncing ≤ 0 = ops.only Syncing (λ call. another_serial any call.0) in
@@ -401,7 +417,7 @@ module _ (any : Vol) where
   -- No other text is printed behind the line.
   no_second_line_is_printed : (text : List ℕ) → ¬ (Printing text ≡ ok_line) → ¬ On (with_text text) (statement pack01) 0 0 5
   no_second_line_is_printed text other (Operates behind ops (Faulted none is)) = omega (arith, is)
-  no_second_line_is_printed text other (Operates behind ops (RanOut none is came_or_few)) = omega (arith, is)
+  no_second_line_is_printed text other (Operates behind ops (RanOut outcome came none is)) = omega (arith, is)
   no_second_line_is_printed text other (Operates behind ops (Unprinted outcome came only is)) = omega (arith, is)
   no_second_line_is_printed text other (Operates behind ops (Answered (Err r) came said only was sync is)) = unrefused_there (with_text text) behind r came
   no_second_line_is_printed text other (Operates behind ops (Answered (Ok x) came said only was sync is)) =
@@ -425,26 +441,22 @@ module _ (any : Vol) where
 
       synced_not : ¬ EndsSo renaming (statement pack01) 24 2 4
       synced_not (Faulted none is) = omega (arith, is)
-      synced_not (RanOut none is came_or_few) = omega (arith, is)
+      synced_not (RanOut outcome came none is) = omega (arith, is)
       synced_not (Unprinted outcome came only is) = let more : made renaming 4 Syncing ≤ made renaming 2 Syncing = only.only Syncing (λ no. cc no) in omega (arith, more, made_once Syncing refl)
       synced_not (Answered outcome came said only was sync is) = ⊎_elim (λ no. no_code outcome no.0) (λ no. omega (arith, no)) is
 
       text_not : ¬ EndsSo (with_text text) (statement pack01) 24 2 4
       text_not (Faulted none is) = omega (arith, is)
-      text_not (RanOut none is came_or_few) = omega (arith, is)
+      text_not (RanOut outcome came none is) = omega (arith, is)
       text_not (Unprinted (Err r) came only is) = unrefused_there (with_text text) 2 r came
       text_not (Unprinted (Ok x) came only is) = let more : made (with_text text) 4 (Printing text) ≤ made (with_text text) 2 (Printing text) = only.only (Printing text) other in omega (arith, more, made_once (Printing text) refl)
       text_not (Answered outcome came said only was sync is) = ⊎_elim (λ no. no_code outcome no.0) (λ no. omega (arith, no)) is
 
-      none_came : (outcome : Result (Unit {0}) Refusal) → ¬ Came renaming (statement pack01) 0 outcome
-      none_came (Ok x) came = came.1
-      none_came (Err r) came = unrefused_there renaming 0 r came
-
       nothing_not : ¬ EndsSo renaming (statement pack01) 24 0 0
       nothing_not (Faulted none is) = omega (arith, is)
-      nothing_not (RanOut none is came_or_few) = omega (arith, is)
-      nothing_not (Unprinted outcome came only is) = none_came outcome came
-      nothing_not (Answered outcome came said only was sync is) = none_came outcome came
+      nothing_not (RanOut outcome came none is) = omega (arith, is)
+      nothing_not (Unprinted outcome came only is) = nothing_came outcome came
+      nothing_not (Answered outcome came said only was sync is) = nothing_came outcome came
 
   -- For each index alone, where no read gave anything: C isn't written at the places of two slots, though each may be the right one by another index.
   one_index_is_used : (vol : Vol) → ¬ OnStatement (made two_writes) (done two_writes) (synced two_writes) (calls two_writes) vol (statement pack01) 22 0 2
@@ -479,7 +491,7 @@ module _ (any : Vol) where
     Operates 4 (record { only = operated; kept = done_later looked 0 4 (omega arith) }) ended,
     unread,
     unanswered,
-    RanOut (record { only = λ call other. omega arith; kept = λ call was. was }) refl (inl (Ok tt, came)),
+    RanOut (Ok tt) came (record { only = λ call other. omega arith; kept = λ call was. was }) refl,
     Unprinted (Ok tt) came printed refl,
   )
     where
@@ -554,27 +566,24 @@ module _ (any : Vol) where
 
       unanswered : ¬ OnUnheld looked 0 4 6
       unanswered (Operates behind ops (Faulted none is)) = omega (arith, is)
-      unanswered (Operates behind ops (RanOut none is came_or_few)) = omega (arith, is)
+      unanswered (Operates behind ops (RanOut outcome came none is)) = omega (arith, is)
       unanswered (Operates behind ops (Unprinted outcome came only is)) = omega (arith, is)
       unanswered (Operates behind ops (Answered (Ok x) came said only was sync is)) = none_seen behind came.0.1
       unanswered (Operates behind ops (Answered (Err r) came said only was sync is)) = none_refused (DoneSince 1 (done looked behind)) r came.0
 
-  -- With 25 one read may have been made for a statement that came to nothing, and not two.
-  memory_runs_out_behind_one_read : EndsUnheld looked 25 0 2 × (¬ EndsUnheld (look ∷ look ∷ []) 25 0 2)
-  memory_runs_out_behind_one_read = (RanOut (record { only = λ call other. omega arith; kept = λ call was. was }) refl (inr (omega arith, omega arith, omega arith, omega arith, omega arith)), two_not)
+  -- With 25 it came to something: a read of the slot's track alone isn't that, whatever it gave, nor one that failed; nor are two.
+  read_is_no_want_of_memory : (¬ EndsUnheld looked 25 0 2) × (¬ EndsUnheld (look ∷ []) 25 0 1) × (¬ EndsUnheld (look ∷ look ∷ []) 25 0 2)
+  read_is_no_want_of_memory = (ends_not looked 2 (λ is. cc is), ends_not (look ∷ []) 1 (λ is. cc is), ends_not (look ∷ look ∷ []) 2 (λ is. cc is))
     where
-      two : List HallCall
-      two = look ∷ look ∷ []
+      none_came : (run : List HallCall) (n : ℕ) → ¬ synced run n → (outcome : Result (Unit {0}) Refusal) → ¬ CameTo (made run) (done run) (synced run) (calls run) (index any) (statement pack01) 0 n outcome
+      none_came run n not (Ok x) came = not came.1
+      none_came run n not (Err r) came = ⊎_elim (λ other. other.0 refl) (λ reason. let none : ◌≡◌ {A = Option Refusal} None (Some r) = reason.1 in cc none) came.0
 
-      none_came : (outcome : Result (Unit {0}) Refusal) → ¬ CameTo (made two) (done two) (synced two) (calls two) (index any) (statement pack01) 0 2 outcome
-      none_came (Ok x) came = cc came.1
-      none_came (Err r) came = ⊎_elim (λ other. other.0 refl) (λ reason. let none : ◌≡◌ {A = Option Refusal} None (Some r) = reason.1 in cc none) came.0
-
-      two_not : ¬ EndsUnheld two 25 0 2
-      two_not (Faulted none is) = omega (arith, is)
-      two_not (RanOut none is came_or_few) = ⊎_elim (λ came. none_came came.0 came.1) (λ few. let reads = few.0 in omega (arith, reads)) came_or_few
-      two_not (Unprinted outcome came only is) = omega (arith, is)
-      two_not (Answered outcome came said only was sync is) = none_came outcome came
+      ends_not : (run : List HallCall) (n : ℕ) → ¬ synced run n → ¬ EndsUnheld run 25 0 n
+      ends_not run n not (Faulted none is) = omega (arith, is)
+      ends_not run n not (RanOut outcome came none is) = none_came run n not outcome came
+      ends_not run n not (Unprinted outcome came only is) = omega (arith, is)
+      ends_not run n not (Answered outcome came said only was sync is) = none_came run n not outcome came
 
   -- ---- on a machine
 
@@ -624,38 +633,55 @@ module _ (any : Vol) where
       more : ¬ (made (with_text text) 4 (Printing text) ≤ made (with_text text) 2 (Printing text))
       more is = omega (arith, is, made_once (Printing text) refl)
 
-  -- where memory ran out in an operation that may make any call and comes to nothing
-  abbrev CutOff : List HallCall → ℕ → Type 0
-  CutOff run n = RunsStatement (made run) (done run) (calls run) (λ k call. ⊤) (λ k outcome. ⊥) (statement pack01) (Err Memory) 0 n
+  -- where memory ran out in an operation that may make any call and comes to nothing, and wants memory where this holds
+  abbrev CutOffWanting : Type 0 → List HallCall → ℕ → Type 0
+  CutOffWanting wants run n = RunsStatement (made run) (done run) (calls run) (λ k call. ⊤) (λ k outcome. ⊥) wants (statement pack01) (Err Memory) 0 n
 
-  -- One read may have been made in it: not two, and no write, sync or print.
-  memory_runs_out_in_it : CutOff (look ∷ []) 1 × (¬ CutOff (look ∷ look ∷ []) 2) × (¬ CutOff (write ∷ []) 1) × (¬ CutOff (Syncing ∷ []) 1) × (¬ CutOff (ok_line ∷ []) 1)
+  abbrev CutOff : List HallCall → ℕ → Type 0
+  CutOff = CutOffWanting ⊤
+
+  -- One read may have been made in it: not two, and no write, sync or print. In one that wants no memory it doesn't run out, also where nothing was called.
+  memory_runs_out_in_it :
+      CutOff (look ∷ []) 1
+      × (¬ CutOff (look ∷ look ∷ []) 2)
+      × (¬ CutOff (write ∷ []) 1)
+      × (¬ CutOff (Syncing ∷ []) 1)
+      × (¬ CutOff (ok_line ∷ []) 1)
+      × CutOff [] 0
+      × (¬ CutOffWanting ⊥ [] 0)
+      × (¬ CutOffWanting ⊥ (look ∷ []) 1)
   memory_runs_out_in_it = (
-    Ends 1 (λ call other. absurd (other tt)) (λ call other. omega arith, inr (omega arith, omega arith, omega arith, omega arith, omega arith)) (done_later (look ∷ []) 0 1 (omega arith)) (λ call was. was),
+    Ends 1 (λ call other. absurd (other tt)) (λ call other. omega arith, inr (tt, (omega arith, omega arith, omega arith, omega arith, omega arith))) (done_later (look ∷ []) 0 1 (omega arith)) (λ call was. was),
     two_reads,
     a_write,
     a_sync,
     a_print,
+    Ends 0 (λ call other. omega arith) (λ call other. omega arith, inr (tt, (omega arith, omega arith, omega arith, omega arith, omega arith))) (λ call was. was) (λ call was. was),
+    unwanted [] 0,
+    unwanted (look ∷ []) 1,
   )
     where
+      unwanted : (run : List HallCall) (n : ℕ) → ¬ CutOffWanting ⊥ run n
+      unwanted run n (Ends behind ops none first last) = ⊎_elim (λ came. came.1) (λ ran_out. ran_out.0) none.1
+
       two_reads : ¬ CutOff (look ∷ look ∷ []) 2
       two_reads (Ends zero ops none first last) = let more : made (look ∷ look ∷ []) 2 look ≤ 0 = none.0 look (λ no. no) in omega (arith, more, made_once look refl)
       two_reads (Ends (suc zero) ops none first last) = let more : made (look ∷ look ∷ []) 2 look ≤ made (look ∷ look ∷ []) 1 look = none.0 look (λ no. no) in omega (arith, more, made_once look refl)
-      two_reads (Ends (suc (suc n)) ops none first last) = ⊎_elim (λ came. came.1) (λ few. let reads = few.0 in omega (arith, reads)) none.1
+      two_reads (Ends (suc (suc n)) ops none first last) = ⊎_elim (λ came. came.1) (λ ran_out. let reads = ran_out.1.0 in omega (arith, reads)) none.1
 
       a_write : ¬ CutOff (write ∷ []) 1
       a_write (Ends zero ops none first last) = let more : made (write ∷ []) 1 write ≤ 0 = none.0 write (λ no. no) in omega (arith, more, made_once write refl)
-      a_write (Ends (suc n) ops none first last) = ⊎_elim (λ came. came.1) (λ few. let writes = few.1 in omega (arith, writes)) none.1
+      a_write (Ends (suc n) ops none first last) = ⊎_elim (λ came. came.1) (λ ran_out. let writes = ran_out.1.1 in omega (arith, writes)) none.1
 
       a_sync : ¬ CutOff (Syncing ∷ []) 1
       a_sync (Ends zero ops none first last) = let more : made (Syncing ∷ []) 1 Syncing ≤ 0 = none.0 Syncing (λ no. no) in omega (arith, more, made_once Syncing refl)
-      a_sync (Ends (suc n) ops none first last) = ⊎_elim (λ came. came.1) (λ few. let syncs = few.2 in omega (arith, syncs)) none.1
+      a_sync (Ends (suc n) ops none first last) = ⊎_elim (λ came. came.1) (λ ran_out. let syncs = ran_out.1.2 in omega (arith, syncs)) none.1
 
       a_print : ¬ CutOff (ok_line ∷ []) 1
       a_print (Ends zero ops none first last) = let more : made (ok_line ∷ []) 1 ok_line ≤ 0 = none.0 ok_line (λ no. no) in omega (arith, more, made_once ok_line refl)
-      a_print (Ends (suc n) ops none first last) = ⊎_elim (λ came. came.1) (λ few. let prints = few.3 in omega (arith, prints)) none.1
+      a_print (Ends (suc n) ops none first last) = ⊎_elim (λ came. came.1) (λ ran_out. let prints = ran_out.1.3 in omega (arith, prints)) none.1
 
-  -- The statement runs on a machine by its operation and what ends it, or up to a fault of the device at that. Its code isn't given without the sync of the operation, nor where the line wasn't printed, nor that of another outcome; and neither a fault of the device is answered where the line was printed, nor want of memory. One of the printer is answered behind the operation, and not where that has no sync. What was done before the operation is done still behind it.
+  -- The statement runs on a machine by its operation and what ends it, or up to a fault of the device at that. Its code isn't given without the sync of the operation, nor where the line wasn't printed, nor that of another outcome; and neither a fault of the device is answered where the line was printed, nor want of memory; nor is that answered by an operation that wants none. One of the printer is answered behind the operation, and not where that has no sync. What was done before the operation is done still behind it.
   statement_runs :
       Runs renaming (Ok 0) 0 3
       × Runs renaming (Err Device) 0 1
@@ -666,6 +692,7 @@ module _ (any : Vol) where
       × (¬ Runs renaming (Err Memory) 0 3)
       × Runs renaming (Err Memory) 0 2
       × Runs renaming (Err Memory) 0 0
+      × (¬ RunsWanting ⊥ renaming (Err Memory) 0 0)
       × (¬ Runs renaming (Err Memory) 0 1)
       × Runs renaming (Err Print) 0 3
       × (¬ Runs unsynced (Err Print) 0 2)
@@ -679,16 +706,21 @@ module _ (any : Vol) where
     device,
     memory,
     Ends 2 operation_made (λ call other. omega arith, inl (Ok tt, ok_came)) (done_later renaming 0 2 (omega arith)) (λ call was. was),
-    Ends 0 (λ call other. omega arith) (λ call other. omega arith, inr (omega arith, omega arith, omega arith, omega arith, omega arith)) (λ call was. was) (λ call was. was),
+    Ends 0 (λ call other. omega arith) (λ call other. omega arith, inr (tt, (omega arith, omega arith, omega arith, omega arith, omega arith))) (λ call was. was) (λ call was. was),
+    unwanted,
     unsynced_memory,
     Ends 2 operation_made (Ok tt, ok_came, ok_printed) (done_later renaming 0 2 (omega arith)) (done_later renaming 2 3 (omega arith)),
     unsynced_print,
     forgotten,
   )
     where
+      unwanted : ¬ RunsWanting ⊥ renaming (Err Memory) 0 0
+      unwanted (Ends zero ops none first last) = ⊎_elim (λ came. nothing_came came.0 came.1) (λ ran_out. ran_out.0) none.1
+      unwanted (Ends (suc n) ops none first last) = last write (inl refl)
+
       unsynced_memory : ¬ Runs renaming (Err Memory) 0 1
       unsynced_memory (Ends zero ops none first last) = let more : made renaming 1 write ≤ made renaming 0 write = none.0 write (λ no. no) in omega (arith, more, made_once write refl)
-      unsynced_memory (Ends (suc zero) ops none first last) = ⊎_elim (λ came. write_came_to_nothing came.0 came.1) (λ few. let written = few.1 in omega (arith, written)) none.1
+      unsynced_memory (Ends (suc zero) ops none first last) = ⊎_elim (λ came. write_came_to_nothing came.0 came.1) (λ ran_out. let written = ran_out.1.1 in omega (arith, written)) none.1
       unsynced_memory (Ends (suc (suc n)) ops none first last) = ⊎_elim (λ no. cc no) (λ no. no) (last Syncing (inr (inl refl)))
 
       unsynced_came : (outcome : Result (Unit {0}) Refusal) (n : ℕ) → Came unsynced (statement pack01) n outcome → made unsynced n ok_line ≤ 0 → ⊥

@@ -94,10 +94,10 @@ module _ {T : Type 0} (made : T → HallCall → ℕ) (done : T → HallCall →
   abbrev pub CameTo : Vol → Rename → T → T → Result (Unit {0}) Refusal → Type 0
   CameTo vol s old behind outcome = IsOutcome vol s (Did old behind) outcome × OnOk outcome (synced behind)
 
-  -- What was called behind the operation of a statement on a pack: nothing, with the status of a fault of the device; nothing, with that of want of memory, where the operation came to something, or one read at most and no other call was counted for it; or the print of the line of what it came to, and where that was done, a sync. The status is the condition code where that was done too.
+  -- What was called behind the operation of a statement on a pack: nothing, with the status of a fault of the device; nothing, with that of want of memory, where the operation came to something, since it wants no memory itself; or the print of the line of what it came to, and where that was done, a sync. The status is the condition code where that was done too.
   pub data EndsStatement (vol : Vol) (s : Rename) (status : ℕ) (old behind new : T) : Type 0 where
     Faulted : Makes (λ call. ⊥) behind new → status ≡ 22 → EndsStatement vol s status old behind new
-    RanOut : Makes (λ call. ⊥) behind new → status ≡ 25 → ((outcome : Result (Unit {0}) Refusal) × CameTo vol s old behind outcome) ⊎ CallsAtMost 1 0 0 0 (calls old) (calls behind) → EndsStatement vol s status old behind new
+    RanOut : (outcome : Result (Unit {0}) Refusal) → CameTo vol s old behind outcome → Makes (λ call. ⊥) behind new → status ≡ 25 → EndsStatement vol s status old behind new
     Unprinted : (outcome : Result (Unit {0}) Refusal) → CameTo vol s old behind outcome → Makes (IsLinePrint s outcome) behind new → status ≡ 24 → EndsStatement vol s status old behind new
     Answered : (outcome : Result (Unit {0}) Refusal) → CameTo vol s old behind outcome → (said : T) → Makes (IsLinePrint s outcome) behind said → done said (Printing (answer_line s outcome)) → MakesEach (λ call. call ≡ Syncing) said new → ((status ≡ code_for outcome) × synced new) ⊎ (status ≡ 22) → EndsStatement vol s status old behind new
 

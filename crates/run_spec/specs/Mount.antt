@@ -3,7 +3,7 @@ use Rattle.std.specs.Prelude.{◌≡◌, ◌≢◌, ◌⊎◌, ℕ, ◌+◌, Lis
 use Rattle.dadsm_ops.specs.Naming.{IsToRename}
 use Rattle.hall_core.specs.Files.{File, file_of}
 use Rattle.hall_core.specs.Facts.{Attached}
-use Rattle.hall_core.specs.Made.{HallCall, Lacking}
+use Rattle.hall_core.specs.Made.{HallCall, Lacking, Wanting}
 use Rattle.pack_spec.specs.declared.MountErr.{MountErr}
 use Rattle.pack_spec.specs.declared.MountErr.TheVariants.{Memory, Device, NoFile}
 use Rattle.util_syntax.specs.declared.statement.Rename.{Rename}
@@ -31,8 +31,8 @@ pub record IsOnLastTrack (s : Rename) (v : Vol) : Type 0 where
 pub record RefusesFile (file : List ℕ) (files : List File) (e : MountErr) : Type 0 where
   pub why : e ≢ Memory → e ≢ Device → (task : Volume → Task) → task_on file task (file_of files file) ≡ Says 21 (unit_line file e)
 
--- why a file isn't mounted, which is among these units where it was attached: an attachment found that it is missing, or its size or reads of it as the first unit gave the reason, unless the device failed or memory ran out
+-- why a file isn't mounted, which is among these units where it was attached: an attachment found that it is missing, or its size or reads of it as the first unit gave the reason, unless the device failed or memory ran out, in an attachment or behind a good header
 pub data IsUnmounted (done : HallCall → Type 0) (file : List ℕ) (units : List Attached) (why : MountErr) : Type 0 where
   Missing : units ≡ [] → done (Lacking file) → why ≡ NoFile → IsUnmounted done file units why
-  Unattached : units ≡ [] → (why ≡ Device) ⊎ (why ≡ Memory) → IsUnmounted done file units why
+  Unattached : units ≡ [] → (why ≡ Device) ⊎ ((why ≡ Memory) × done (Wanting file)) → IsUnmounted done file units why
   Unfit : (size : ℕ) → units ≡ record { name = file; size = size } ∷ [] → IsReasonGiven done 0 size why → IsUnmounted done file units why

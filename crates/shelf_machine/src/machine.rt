@@ -142,6 +142,8 @@ impl<H: Hall> Machine for PackMachine<H> {
 
     ghost refuses = { λ m op refusal. refusal_by op (index_of m).slots.items ≡ Some refusal };
 
+    ghost wants = { λ m op. ⊥ };
+
     ghost asked = { λ m. asked_nothing };
 
     ghost holds = { λ m op. HoldsFor op (index_of m) };

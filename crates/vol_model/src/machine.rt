@@ -62,6 +62,9 @@ pub trait Machine {
     /// Whether an operation is refused for this reason, by what it holds.
     ghost refuses: { Self → requests.Op → refusals.Refusal → Type 0 };
 
+    /// Whether an operation may want memory, by what it holds.
+    ghost wants: { Self → requests.Op → Type 0 };
+
     /// Whether it holds all that an operation has to read, so that this makes no read of the hall.
     ghost holds: { Self → requests.Op → Type 0 };
 
@@ -75,11 +78,11 @@ pub trait Machine {
 
     /// Does an operation.
     ///
-    /// `Refused` carries the first reason, by the order of `Refusal`. A rename is judged by the names in the VTOC
-    /// alone, so no fault, nor want of memory, comes in place of its refusal. It makes at most one read, one write and
-    /// one sync of the hall below; no read where the machine holds what it has to read; none of them where it is refused;
-    /// and no write nor sync where memory is wanting; and none that isn't the operation's. Where it is done, no call comes
-    /// behind it. It counts as one operation.
+    /// `Refused` carries the first reason, by the order of `Refusal`, and `Memory` comes only where the operation may
+    /// want memory. A rename is judged by the names in the VTOC alone, so no fault, nor want of memory, comes in place of
+    /// its refusal. It makes at most one read, one write and one sync of the hall below; no read where the machine holds
+    /// what it has to read; none of them where it is refused; and no write nor sync where memory is wanting; and none that
+    /// isn't the operation's. Where it is done, no call comes behind it. It counts as one operation.
     fn apply(&mut self, op: &Op) -> Result<(), MachErr>
         requires sound { IsTrue (status self.old).is_sound }
         ensures shelf { IsTrue tells → Applies op.now (meaning self.old) (meaning self.new) result }
@@ -94,6 +97,7 @@ pub trait Machine {
         ensures reason { (r : Refusal) → IsErrOf result (MachErr.Refused r) → refuses self.old op.now r }
         ensures held { holds self.old op.now → CallsAtMost 0 1 1 0 (calls self.old) (calls self.new) }
         ensures memory { IsErrOf result MachErr.Memory → CallsAtMost 1 0 0 0 (calls self.old) (calls self.new) }
+        ensures wanted { IsErrOf result MachErr.Memory → wants self.old op.now }
         ensures refused { (r : Refusal) → IsErrOf result (MachErr.Refused r) → CallsAtMost 0 0 0 0 (calls self.old) (calls self.new) }
         ensures untouched { (r : Refusal) → IsErrOf result (MachErr.Refused r) → MakesOnly (λ call. ⊥) (made self.old) (made self.new) }
         ensures once { AsksAtMost 1 0 (asked self.old) (asked self.new) }

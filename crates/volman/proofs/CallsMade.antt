@@ -73,9 +73,13 @@ module _ {M T : Type 0} (hall : M → T) (made : T → HallCall → ℕ) (done :
   abbrev pub May : M → M → HallCall → Type 0
   May old behind call = (v : ℕ) × (volume ≡ Some v) × IsOperationCall (operation_on s v) vol (DidOn old behind) call
 
+  -- the operation wants no memory
+  abbrev pub Wants : Type 0
+  Wants = (v : ℕ) × (volume ≡ Some v) × ⊥
+
   -- the statement, with this answer
   abbrev pub Ran : Result ℕ Stop → M → M → Type 0
-  Ran result old ran = RunsStatement (λ m. made (hall m)) (λ m call. done (hall m) call) (λ m. calls (hall m)) (May old) (Comes old) s result old ran
+  Ran result old ran = RunsStatement (λ m. made (hall m)) (λ m call. done (hall m) call) (λ m. calls (hall m)) (May old) (Comes old) Wants s result old ran
 
   came_to : (old behind : M) (outcome : Result (Unit {0}) Refusal) → Comes old behind outcome → CameTo made done synced calls vol s (hall old) (hall behind) outcome
   came_to old behind (Ok x) comes = (outcome_of vol s volume (DidOn old behind) (Ok x) there found (comes.0, comes.1, comes.2.0), comes.2.1)
@@ -109,7 +113,7 @@ module _ {M T : Type 0} (hall : M → T) (made : T → HallCall → ℕ) (done :
     where
       ended : Ran (Err Memory) old ran → OnStatement made done synced calls vol s status (hall old) (hall ran)
       ended (Ends behind ops none first last) =
-          Operates (hall behind) (record { only = operated old behind ops; kept = first }) (RanOut (record { only = none.0; kept = last }) status_is (⊎_elim (λ came. inl (came.0, came_to old behind came.0 came.1)) (λ few. inr few) none.1))
+          Operates (hall behind) (record { only = operated old behind ops; kept = first }) (⊎_elim (λ came. RanOut came.0 (came_to old behind came.0 came.1) (record { only = none.0; kept = last }) status_is) (λ ran_out. absurd ran_out.0.2) none.1)
 
 -- a statement on a hall that is borrowed is one on the hall itself
 pub statement_as :
@@ -123,6 +127,6 @@ statement_as made done synced calls hall {vol} {s} {status} {old} {new} (Operate
 
     ends : (behind : _) → EndsStatement (λ h. made (hall h)) (λ h call. done (hall h) call) (λ h. synced (hall h)) (λ h. calls (hall h)) vol s status old behind new → EndsStatement made done synced calls vol s status (hall old) (hall behind) (hall new)
     ends behind (Faulted none is) = Faulted (passes none) is
-    ends behind (RanOut none is came_or_few) = RanOut (passes none) is came_or_few
+    ends behind (RanOut outcome came none is) = RanOut outcome came (passes none) is
     ends behind (Unprinted outcome came line is) = Unprinted outcome came (passes line) is
     ends behind (Answered outcome came said line printed sync is) = Answered outcome came (hall said) (passes line) printed (record { only = sync.only; once = sync.once; kept = sync.kept }) is

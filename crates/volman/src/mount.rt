@@ -1,11 +1,11 @@
 //! A file, attached and read as a pack.
 ghost use Rattle.std.specs.Prelude.{◌≡◌, ◌⊎◌, ◌≤◌, ◌+◌, [], IsTrue, IsErrOf, IfOk, IfErr};
 ghost use Rattle.hall_core.specs.Facts.{AttachesOnce, Rose, unit_of};
-ghost use Rattle.hall_core.specs.Made.{MakesOnce, MakesOnly, StaysDone};
+ghost use Rattle.hall_core.specs.Made.{MakesOnce, MakesOnly, StaysDone, Wanting};
 ghost use Rattle.hall_core.specs.Moments.{Same};
 ghost use Rattle.dadsm_ops.specs.Operations.{image_named};
 ghost use Rattle.vtoc_index.specs.Calls.{reads_to_mount};
-ghost use Rattle.vtoc_index.specs.Given.{IsIndexGiven};
+ghost use Rattle.vtoc_index.specs.Given.{IsIndexGiven, IsVtocFound};
 ghost use Rattle.vtoc_index.specs.Index.{IsOfUnit};
 ghost use Rattle.vtoc_index.specs.Puts.{HoldsItsTrack};
 ghost use Rattle.run_spec.specs.Made.{IsMountCall};
@@ -19,7 +19,8 @@ use vtoc_index::{MountErr, Vol, read_vtoc};
 /// Attaches a file, and reads the index of the pack in it.
 ///
 /// `NoFile` comes where the file is missing, `Device` where the device failed, and `Memory` where memory
-/// ran out; any other error is the first rule of mounting that the image breaks. Nothing but the time
+/// ran out: where the file was to be attached, or as `read_vtoc` says; any other error is the first rule of mounting
+/// that the image breaks. Nothing but the time
 /// changes, also behind an error, but that the file may be attached then. The index holds the last track of
 /// the VTOC, which was read last.
 #[tactic(auto, using(hall_core::proofs::MomentLemmas::same_then))]
@@ -30,6 +31,7 @@ pub fn mount<H: Hall>(alloc: Global, hall: &mut H, file: &str) -> Result<Vol, Mo
     ensures unit { IfOk result (λ vol. IsOfUnit (H.facts hall.new).units vol × ((unit_of (H.facts hall.new).units vol.unit).name ≡ file.now)) }
     ensures given { IfOk result (λ vol. IsIndexGiven (H.done hall.new) (unit_of (H.facts hall.new).units vol.unit).size vol) }
     ensures reason { IfErr result (IsUnmounted (H.done hall.new) file.now (H.facts hall.new).units) }
+    ensures memory { IsErrOf result MountErr.Memory → H.done hall.new (Wanting file.now) ⊎ (AttachesOnce 1 0 0 0 (H.calls hall.old) (H.calls hall.new) ⊎ IsVtocFound (H.done hall.new) 0 (unit_of (H.facts hall.new).units 0).size) }
     ensures last { IfOk result (λ vol. vol.buf.track + 1 ≡ vol.vtoc.start + vol.vtoc.len) }
     ensures held { IfOk result HoldsItsTrack }
     ensures told { IsTrue H.tells → Same (H.meaning hall.old) (H.meaning hall.new) }

@@ -29,8 +29,7 @@ use vtoc_index::Vol;
 ///
 /// No write is pending before. The sync comes behind the line, and is the last call where a condition code is given.
 /// Behind a fault the hall is one that a stop may leave; behind one of the printer the statement is done, and no write
-/// is pending; behind want of memory it is done and synced, or refused, or one read at most was made for it, and
-/// nothing was printed.
+/// is pending; behind want of memory it is done and synced, or refused, and nothing was printed.
 pub fn run_statement<H: Hall>(alloc: Global, statement: &Rename, vol: Vol, hall: H) -> (u8, H)
     requires unit { IsOfUnit (H.facts hall).units vol }
     requires mounted { IsTrue H.tells → IsMounted (image_of (H.meaning hall).state (H.facts hall) vol.unit) vol }
@@ -50,7 +49,7 @@ pub fn run_statement<H: Hall>(alloc: Global, statement: &Rename, vol: Vol, hall:
     ensures behind { IsCode result.0 → H.behind_sync result.1 }
     ensures unsaid { result.0 ≡ 24 → CallsAtMost 1 1 1 1 (H.calls hall) (H.calls result.1) }
     ensures unprinted { result.0 ≡ 25 → CallsAtMost 1 1 1 0 (H.calls hall) (H.calls result.1) }
-    ensures unchanged { IsTrue H.tells → result.0 ≡ 25 → (H.meaning result.1).state ≡ (H.meaning hall).state → CallsAtMost 1 0 0 0 (H.calls hall) (H.calls result.1) }
+    ensures unchanged { IsTrue H.tells → result.0 ≡ 25 → (H.meaning result.1).state ≡ (H.meaning hall).state → CallsAtMost 0 0 0 0 (H.calls hall) (H.calls result.1) }
     ensures reported { CountsReported result.0 (H.facts hall) (H.facts result.1) }
     ensures later { Later (H.facts hall) (H.facts result.1) }
     ensures units { (H.facts result.1).units ≡ (H.facts hall).units }

@@ -265,7 +265,7 @@ pack_has_no_label = (
     unseen (GivesHeader bytes long gave is) = gave
 
     unread : ¬ IsReasonGiven (λ call. ⊥) 0 41472 NoLabel
-    unread (Cut is) = ⊎_elim (λ device. cc device) (λ memory. cc memory) is
+    unread (Cut is) = ⊎_elim (λ device. cc device) (λ memory. cc memory.0) is
     unread (BadHeader (TooShort short is)) = omega (arith, short)
     unread (BadHeader (NoGeometry bytes long gave why none is)) = gave
     unread (Unlabelled g header lacks is) = unseen header
@@ -540,7 +540,7 @@ unfolding gave_with own_others records_of is_front records_up_to
 no_reason_on_its_track = (BadExtent (Gives own_others refl (inr refl) refl), no_reason)
   where
     no_reason : ¬ IsReasonGiven (gave_with own_others) 0 41472 BadVtoc
-    no_reason (Cut is) = ⊎_elim (λ device. cc device) (λ memory. cc memory) is
+    no_reason (Cut is) = ⊎_elim (λ device. cc device) (λ memory. cc memory.0) is
     no_reason (BadHeader (TooShort short is)) = omega (arith, short)
     no_reason (BadHeader (NoGeometry bytes long gave why none is)) = cc is
     no_reason (Unlabelled g header lacks is) = cc is
@@ -571,7 +571,7 @@ label_on_its_track = (
     no_vtoc (BadSlot vtoc slots firsts are fault) = label_alone 1 (omega arith) are.begun
 
     leads_on : ¬ IsReasonGiven gave_label 0 41472 (VtocTrack 0)
-    leads_on (Cut is) = ⊎_elim (λ device. cc device) (λ memory. cc memory) is
+    leads_on (Cut is) = ⊎_elim (λ device. cc device) (λ memory. cc memory.0) is
     leads_on (BadHeader (TooShort short is)) = omega (arith, short)
     leads_on (BadHeader (NoGeometry bytes long gave why none is)) = cc is
     leads_on (Unlabelled g header lacks is) = cc is

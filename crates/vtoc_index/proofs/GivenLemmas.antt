@@ -1,5 +1,5 @@
 -- Tracks that were read, by what the reads gave.
-use Rattle.std.proofs.Common.{◌≡◌, ◌∙◌, ◌+◌, ℕ, suc, Bool, true, false, cond, List, [], ◌∷◌, ◌++◌, length, map, take, Option, Some, None, refl, sym, ap, ap₂, subst, arith}
+use Rattle.std.proofs.Common.{inl, inr, ◌≡◌, ◌∙◌, ◌+◌, ℕ, suc, Bool, true, false, cond, List, [], ◌∷◌, ◌++◌, length, map, take, Option, Some, None, refl, sym, ap, ap₂, subst, arith}
 use Rattle.std.specs.Prelude.{◌<◌, ◌≤◌, Ok, Err, IfErr, Result, option_and_then, slice_get, ◌&&◌}
 use Rattle.std.specs.List.{list_all}
 use Rattle.ckd_image.specs.declared.header.Geometry.{Geometry}
@@ -186,7 +186,8 @@ vtoc_still {unit = unit} {g = g} {at = at} (NoSlots vtoc (TrackLacks k low slots
 vtoc_still {unit = unit} {g = g} {at = at} (BadSlot vtoc slots firsts given is) kept = BadSlot vtoc slots firsts (of_vtoc_still unit g at vtoc vtoc.len slots firsts kept given) is
 
 pub reason_still : {done later : HallCall → Type 0} {unit size : ℕ} {e : MountErr} → IsReasonGiven done unit size e → StaysDone done later → IsReasonGiven later unit size e
-reason_still (Cut is) kept = Cut is
+reason_still (Cut (inl device)) kept = Cut (inl device)
+reason_still (Cut (inr memory)) kept = Cut (inr (memory.0, (memory.1.0, header_still memory.1.1 kept)))
 reason_still (BadHeader (TooShort short is)) kept = BadHeader (TooShort short is)
 reason_still (BadHeader (NoGeometry bytes long gave why none is)) kept = BadHeader (NoGeometry bytes long (kept _ gave) why none is)
 reason_still (Unlabelled g header lacks is) kept = Unlabelled g (header_still header kept) (given_still lacks kept) is

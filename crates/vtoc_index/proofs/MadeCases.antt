@@ -7,7 +7,7 @@ use Rattle.ckd_image.specs.Reading.{is_front, records_of, records_to_end, record
 use Rattle.ckd_image.specs.Track.{Record}
 use Rattle.dscb_codec.specs.Layout.{IsDscb, f1_fields}
 use Rattle.hall_core.specs.Files.{patched}
-use Rattle.hall_core.specs.Made.{DoneSince, HallCall, MakesOnly, Attaching, Giving, Lacking, Noting, Printing, Reading, Syncing, Writing}
+use Rattle.hall_core.specs.Made.{DoneSince, HallCall, MakesOnly, Attaching, Giving, Lacking, Noting, Printing, Reading, Syncing, Wanting, Writing}
 use Rattle.pack_spec.specs.Label.{track_bytes}
 use Rattle.track_records.specs.Buffers.{Buffer}
 use Rattle.track_records.specs.Calls.{Gives, HasGiven, records_by, track_read}
@@ -30,6 +30,7 @@ numbers_in (Printing bytes) = 4 ∷ bytes
 numbers_in (Noting unit track) = 5 ∷ unit ∷ track ∷ []
 numbers_in (Giving before unit at bytes) = 6 ∷ before ∷ unit ∷ at ∷ bytes
 numbers_in (Lacking name) = 7 ∷ name
+numbers_in (Wanting name) = 8 ∷ name
 
 number : ℕ → HallCall → ℕ
 number k call = get_or (numbers_in call) k 9

@@ -23,7 +23,7 @@ use Rattle.pack_spec.specs.Written.{label_bytes, label_records, slot_record}
 use Rattle.track_records.specs.Calls.{Gives, HasGiven, records_by, track_read}
 use Rattle.vol_model.specs.declared.contents.Run.{Run}
 use Rattle.vtoc_index.specs.Contents.{AreDscbs}
-use Rattle.vtoc_index.specs.Given.{AreGiven, AreOfVtoc, AreSlotsGiven, BadExtent, BadHeader, BadSlot, Cut, GivesHeader, IsExtentGiven, IsHeaderGiven, IsIndexGiven, IsLabelGiven, IsLabelLacking, IsMountRead, IsNextRead, IsReasonGiven, IsTrackReason, IsVtocRead, IsVtocReason, NoGeometry, NoSlots, NoVtoc, OfFirst, OfHeader, OfLabel, OfNext, OfOther, OfVtoc, OnLabel, Outside, TooShort, TrackLacks, Unlabelled}
+use Rattle.vtoc_index.specs.Given.{AreGiven, AreOfVtoc, AreSlotsGiven, BadExtent, BadHeader, BadSlot, Cut, GivesHeader, IsExtentGiven, IsHeaderGiven, IsIndexGiven, IsLabelGiven, IsLabelLacking, IsMountRead, IsNextRead, IsReasonGiven, IsVtocFound, IsTrackReason, IsVtocRead, IsVtocReason, NoGeometry, NoSlots, NoVtoc, OfFirst, OfHeader, OfLabel, OfNext, OfOther, OfVtoc, OnLabel, Outside, TooShort, TrackLacks, Unlabelled}
 use Rattle.vtoc_index.specs.declared.vol.Vol.{Vol}
 use Rattle.vtoc_index.proofs.TracksGiven.{of_vtoc_none, of_vtoc_one}
 use Rattle.vtoc_index.proofs.GivenLemmas.{begun_by_next, begun_by_reason}
@@ -95,7 +95,7 @@ module _ (first second : List ℕ) where
   -- it is refused by its VTOC alone, unless the device failed or memory ran out
   by_vtoc : (e : MountErr) → IsReasonGiven gave 0 41472 e → IsCut e ⊎ IsVtocReason gave 0 one_cylinder first_track e
   unfolding pack
-  by_vtoc e (Cut is) = inl is
+  by_vtoc e (Cut is) = inl (⊎_elim (λ device. inl device) (λ memory. inr memory.0) is)
   by_vtoc e (BadHeader (TooShort short is)) = absurd (omega (arith, short))
   by_vtoc e (BadHeader (NoGeometry bytes long was why none is)) =
       let wrong : Err why ≡ Ok one_cylinder = sym none ∙ ap (λ (l : List ℕ). geometry_of l 41472) (header_of _ bytes was) ∙ header_is_read in absurd (cc wrong)
@@ -369,18 +369,42 @@ label_leads_outside = (
         let wrong : false ≡ true = subst (λ (l : List ℕ). is_inside one_cylinder (address_at 11 l) ≡ true) leads (subst (λ (x : Geometry). is_inside x (address_at 11 label) ≡ true) same inside) in
         cc
 
+-- The VTOC is found where the label and the first slot of its first track lead to it, whatever the second track has: not where that slot gives no extent.
+vtoc_is_found : (second : List ℕ) → IsVtocFound (gave_pack good_first second) 0 41472 × (¬ IsVtocFound (gave_pack bad_first second) 0 41472)
+unfolding gave_pack pack track_bytes
+vtoc_is_found second = (
+  record {
+    geometry = one_cylinder;
+    header = GivesHeader (take 512 image) refl (inl refl) header_is_read;
+    label = label_bytes pack01 first_track;
+    labelled = Gives (track_bytes image one_cylinder 0) refl (inr (0, omega arith, refl)) label_is_there;
+    vtoc = two_tracks;
+    begun = given_of good_first second 1 (omega arith) refl first_is_good.1;
+  },
+  no_extent,
+)
+  where
+    no_extent : ¬ IsVtocFound (gave_pack bad_first second) 0 41472
+    no_extent found =
+        let begun = leads bad_first second (λ (x : Geometry) (at : Address). IsExtentGiven (gave_pack bad_first second) 0 x at (Ok found.vtoc)) found.geometry found.label found.header found.labelled found.begun in
+        let wrong : Err mount.BadVtoc ≡ Ok found.vtoc = sym first_has_no_extent.1 ∙ track_of bad_first second 1 begun in
+        cc wrong
+
 -- the header alone was given, or its first 511 bytes
 gave_header : HallCall → Type 0
 gave_header call = call ≡ Giving 0 0 0 (take 512 image)
 
--- A pack that is too short for a header has no other reason, and one that is as long as a header has one only by its bytes; these are judged by the size of the pack. The device and memory are reasons always, and a header that fits in exactly is read.
+-- A pack that is too short for a header has no other reason, and one that is as long as a header has one only by its bytes; these are judged by the size of the pack. The device is a reason always, and want of memory behind a good header alone; and a header that fits in exactly is read.
 header_is_the_reason :
     IsReasonGiven (λ call. ⊥) 0 511 (mount.Image BadMagic)
     × (¬ IsReasonGiven (λ call. ⊥) 0 512 (mount.Image BadMagic))
     × IsReasonGiven gave_header 0 41473 (mount.Image (BadLength 41473))
     × (¬ IsReasonGiven gave_header 0 41473 (mount.Image BadMagic))
     × IsReasonGiven (λ call. ⊥) 0 41472 mount.Device
-    × IsReasonGiven (λ call. ⊥) 0 41472 mount.Memory
+    × IsReasonGiven gave_header 0 41473 mount.Device
+    × (¬ IsReasonGiven (λ call. ⊥) 0 41472 mount.Memory)
+    × (¬ IsReasonGiven gave_header 0 41473 mount.Memory)
+    × IsReasonGiven gave_header 0 41472 mount.Memory
     × IsMountRead (λ call. ⊥) 0 512 (Reading 0 0 512)
 unfolding gave_header bytes_in geometry_of geometry_on
 header_is_the_reason = (
@@ -389,7 +413,10 @@ header_is_the_reason = (
   BadHeader (NoGeometry (take 512 image) refl refl (BadLength 41473) refl refl),
   other_not,
   Cut (inl refl),
-  Cut (inr refl),
+  Cut (inl refl),
+  unseen_not,
+  no_geometry_not,
+  Cut (inr (refl, (one_cylinder, GivesHeader (take 512 image) refl refl header_is_read))),
   OfHeader (omega arith) refl,
 )
   where
@@ -397,7 +424,7 @@ header_is_the_reason = (
     unseen (GivesHeader bytes long gave is) = gave
 
     none_given : ¬ IsReasonGiven (λ call. ⊥) 0 512 (mount.Image BadMagic)
-    none_given (Cut is) = ⊎_elim (λ device. cc device) (λ memory. cc memory) is
+    none_given (Cut is) = ⊎_elim (λ device. cc device) (λ memory. cc memory.0) is
     none_given (BadHeader (TooShort short is)) = omega (arith, short)
     none_given (BadHeader (NoGeometry bytes long gave why none is)) = gave
     none_given (Unlabelled g header lacks is) = unseen header
@@ -411,8 +438,24 @@ header_is_the_reason = (
     no_geometry : {g : Geometry} → ¬ IsHeaderGiven gave_header 0 41473 g
     no_geometry {g} (GivesHeader bytes long gave is) = let wrong : Err (BadLength 41473) ≡ Ok g = sym refused ∙ ap (λ (l : List ℕ). geometry_of l 41473) (sym (ap bytes_in gave)) ∙ is in cc
 
+    -- memory is wanted behind a header that gives a geometry
+    behind_header : {done : HallCall → Type 0} {size : ℕ} → ((g : Geometry) → ¬ IsHeaderGiven done 0 size g) → 512 ≤ size → ¬ IsReasonGiven done 0 size mount.Memory
+    behind_header none whole (Cut is) = ⊎_elim (λ device. cc device) (λ memory. none memory.1.0 memory.1.1) is
+    behind_header none whole (BadHeader (TooShort short is)) = omega (arith, whole, short)
+    behind_header none whole (BadHeader (NoGeometry bytes long was why bad is)) = cc is
+    behind_header none whole (Unlabelled g header lacks is) = none g header
+    behind_header none whole (Outside g header label given out is) = none g header
+    behind_header none whole (OnLabel g header label given there is) = none g header
+    behind_header none whole (NoVtoc g header label given inside behind why) = none g header
+
+    unseen_not : ¬ IsReasonGiven (λ call. ⊥) 0 41472 mount.Memory
+    unseen_not = behind_header (λ g. unseen) (omega arith)
+
+    no_geometry_not : ¬ IsReasonGiven gave_header 0 41473 mount.Memory
+    no_geometry_not = behind_header (λ g. no_geometry) (omega arith)
+
     other_not : ¬ IsReasonGiven gave_header 0 41473 (mount.Image BadMagic)
-    other_not (Cut is) = ⊎_elim (λ device. cc device) (λ memory. cc memory) is
+    other_not (Cut is) = ⊎_elim (λ device. cc device) (λ memory. cc memory.0) is
     other_not (BadHeader (TooShort short is)) = omega (arith, short)
     other_not (BadHeader (NoGeometry bytes long gave why none is)) =
         let same : Err why ≡ Err (BadLength 41473) = sym none ∙ ap (λ (l : List ℕ). geometry_of l 41473) (ap bytes_in gave) ∙ refused in

@@ -104,9 +104,22 @@ pub data IsHeaderReason (done : HallCall → Type 0) (unit size : ℕ) (e : Moun
   TooShort : size < 512 → e ≡ Image BadMagic → IsHeaderReason done unit size e
   NoGeometry : {before : ℕ} (bytes : List ℕ) → length bytes ≡ 512 → done (Giving before unit 0 bytes) → (why : ImageErr) → geometry_of bytes size ≡ Err why → e ≡ Image why → IsHeaderReason done unit size e
 
--- Why a pack of this size is refused, by what reads of it gave: the first of these rules that is broken, unless the device failed or memory ran out.
+-- Reads of the header, of the label and of the first track of the VTOC of a pack of this size gave where its VTOC lies.
+pub record IsVtocFound (done : HallCall → Type 0) (unit size : ℕ) : Type 0 where
+  pub geometry : Geometry
+  pub header : IsHeaderGiven done unit size geometry
+  pub label : List ℕ
+  pub labelled : IsLabelGiven done unit geometry label
+  pub vtoc : Run
+  pub begun : IsExtentGiven done unit geometry (address_at 11 label) (Ok vtoc)
+
+-- a read of the header of a pack of this size gave one
+abbrev pub HasHeader : (HallCall → Type 0) → ℕ → ℕ → Type 0
+HasHeader done unit size = (g : Geometry) × IsHeaderGiven done unit size g
+
+-- Why a pack of this size is refused, by what reads of it gave: the first of these rules that is broken, unless the device failed, or memory ran out behind a good header.
 pub data IsReasonGiven (done : HallCall → Type 0) (unit size : ℕ) (e : MountErr) : Type 0 where
-  Cut : (e ≡ Device) ⊎ (e ≡ Memory) → IsReasonGiven done unit size e
+  Cut : (e ≡ Device) ⊎ ((e ≡ Memory) × HasHeader done unit size) → IsReasonGiven done unit size e
   BadHeader : IsHeaderReason done unit size e → IsReasonGiven done unit size e
   Unlabelled : (g : Geometry) → IsHeaderGiven done unit size g → IsLabelLacking done unit g → e ≡ NoLabel → IsReasonGiven done unit size e
   Outside : (g : Geometry) → IsHeaderGiven done unit size g → (label : List ℕ) → IsLabelGiven done unit g label → is_inside g (address_at 11 label) ≡ false → e ≡ BadVtoc → IsReasonGiven done unit size e

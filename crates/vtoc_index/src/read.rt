@@ -12,7 +12,7 @@ ghost use Rattle.pack_spec.specs.Vtoc.{first_slot, slots_on, vtoc_by};
 ghost use Rattle.track_records.specs.Calls.{HasGiven, HasTrack, records_by, track_read};
 ghost use Rattle.track_records.specs.Written.{StandsOn};
 ghost use Rattle.vtoc_index.specs.Calls.{IsTrackRead, MountCall, reads_to_mount, tracks_to_read, vtoc_reads};
-ghost use Rattle.vtoc_index.specs.Given.{AreFound, IsBufferGiven, IsIndexGiven, IsMountRead, IsNextRead, IsReasonGiven, IsVtocRead, IsTrackReason, IsVtocReason};
+ghost use Rattle.vtoc_index.specs.Given.{AreFound, IsBufferGiven, IsIndexGiven, IsMountRead, IsExtentGiven, IsNextRead, IsReasonGiven, IsVtocFound, IsVtocRead, IsTrackReason, IsVtocReason};
 ghost use Rattle.vtoc_index.specs.Index.{IsMounted, IsOfUnit, IsReason};
 ghost use Rattle.vtoc_index.specs.declared.slots.ReadSlot.{ReadSlot};
 ghost use Rattle.vtoc_index.specs.Puts.{HoldsItsTrack};
@@ -36,8 +36,8 @@ use vol_model::Run;
 /// It is answered where the pack mounts, else the first rule of mounting that is broken: by the header,
 /// the label, the extent of the VTOC, its tracks in order, the formats of slots 0 and 1, then each slot
 /// by itself, the lowest first, and then the names. `NoFile` never comes: a missing file is found where it is
-/// attached. `Memory` and `Device` say nothing of the pack, and `Device` comes only where the count of device
-/// faults rose.
+/// attached. `Memory` and `Device` say nothing of the pack. `Device` comes only where the count of device faults rose;
+/// and `Memory` behind a good header before anything else is read, or once the extent of the VTOC is found.
 ///
 /// On a pack that mounts, the header, the label's track and each track of the VTOC, which are counted
 /// from 0 over the volume, are read once, in this order; one that breaks a rule of header, label, extent or
@@ -65,6 +65,7 @@ pub fn read_vtoc<H: Hall>(alloc: Global, hall: &mut H, unit: u8) -> Result<Vol, 
     ensures once { IfOk result (λ vol. CallsAtMost (vol.vtoc.len + 2) 0 0 0 (H.calls hall.old) (H.calls hall.new)) }
     ensures given { IfOk result (IsIndexGiven (H.done hall.new) (unit_of (H.facts hall.old).units unit).size) }
     ensures reason { IfErr result (IsReasonGiven (H.done hall.new) unit (unit_of (H.facts hall.old).units unit).size) }
+    ensures memory { IsErrOf result MountErr.Memory → CallsAtMost 1 0 0 0 (H.calls hall.old) (H.calls hall.new) ⊎ IsVtocFound (H.done hall.new) unit (unit_of (H.facts hall.old).units unit).size }
     ensures file { IsErrOf result MountErr.NoFile → ⊥ }
 {
     let geometry = read_geometry(hall, unit)?;
@@ -126,6 +127,7 @@ fn read_slots<H: Hall>(
     ensures given { IfOk result (λ vtoc. AreFound (H.done hall.new) unit geometry at vtoc vtoc.len found.new buf.new) }
     ensures seen { OnOk result (IsBufferGiven (H.done hall.new) unit geometry buf.new) }
     ensures reason { IfErr result (λ e. (e ≡ MountErr.Device) ⊎ ((e ≡ MountErr.Memory) ⊎ IsVtocReason (H.done hall.new) unit geometry at e)) }
+    ensures memory { IsErrOf result MountErr.Memory → (vtoc : Run) × IsExtentGiven (H.done hall.new) unit geometry at (Ok vtoc) }
     ensures file { IsErrOf result MountErr.NoFile → ⊥ }
 {
     let (vtoc, count) = read_first(hall, unit, geometry, at, buf)?;

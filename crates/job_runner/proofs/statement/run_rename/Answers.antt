@@ -88,7 +88,7 @@ returns-clause-idle g c told none =
 pub returns-in_err-outcome-clause-made : goal.returns-in_err-outcome-clause-made
 returns-in_err-outcome-clause-made g c =
     let p = err_from_is_err_and c.from_residual.result c.from_residual.ensures.1 in
-    Ends c.rename.new.machine c.rename.ensures.made (ends_before c.args.statement.now _ _ (g.M.Machine.done c.rename.new.machine) _ c.in_err-outcome.field-0.0 c.from_residual.result (p.1 ∙ ap Err p.2) (λ is. c.in_err-outcome.ensures.print (ap Err is)) (λ is. c.in_err-outcome.ensures.memory (ap Err is))) c.rename.ensures.kept (λ call was. was)
+    Ends c.rename.new.machine c.rename.ensures.made (ends_before c.args.statement.now _ _ (g.M.Machine.done c.rename.new.machine) _ c.in_err-outcome.field-0.0 c.from_residual.result (p.1 ∙ ap Err p.2) (λ is. c.in_err-outcome.ensures.print (ap Err is)) (λ is. (c.in_err-outcome.ensures.wanted (ap Err is), c.in_err-outcome.ensures.memory (ap Err is)))) c.rename.ensures.kept (λ call was. was)
 
 pub returns-in_default-clause-made : goal.returns-in_default-clause-made
 returns-in_default-clause-made g c = Ends c.rename.new.machine c.rename.ensures.made (makes_none _ _, inl (c.in_ok-outcome.outcome, c.in_ok-outcome.ensures.comes)) c.rename.ensures.kept (λ call was. was)

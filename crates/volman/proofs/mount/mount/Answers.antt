@@ -1,9 +1,9 @@
-use Rattle.std.proofs.Common.{◌≡◌, ℕ, [], ◌∷◌, ◌++◌, length, inl, inr, sym, subst, ap, ◌∙◌, List}
+use Rattle.std.proofs.Common.{◌≡◌, ⊎_elim, arith, ℕ, [], ◌∷◌, ◌++◌, length, inl, inr, sym, subst, ap, ◌∙◌, List}
 use Rattle.std.proofs.lemmas.Result.{IfErr-weaker}
-use Rattle.hall_core.specs.Facts.{Attached, unit_of}
+use Rattle.hall_core.specs.Facts.{Attached, AttachesOnce, Calls, CallsAtMost, unit_of}
 use Rattle.hall_core.specs.Made.{MakesOnly}
 use Rattle.hall_core.proofs.MadeLemmas.{makes_then, once_then}
-use Rattle.vtoc_index.specs.Given.{IsMountRead, IsReasonGiven}
+use Rattle.vtoc_index.specs.Given.{IsMountRead, IsReasonGiven, IsVtocFound}
 use Rattle.run_spec.specs.Mount.{Unfit}
 use Rattle.volman.proofs.CallsMade.{attaches_apart}
 use Rattle.volman.proofs.mount.mount.Given.{Over}
@@ -39,6 +39,20 @@ returns-clause-reason g c =
     IfErr-weaker c.read_vtoc.result _ _
     (λ e why. Unfit added.0 units (subst (λ (n : ℕ). IsReasonGiven done 0 n e) size (subst (λ (n : ℕ). IsReasonGiven done n (unit_of attached n).size e) unit why)))
     c.read_vtoc.ensures.reason
+
+attached_then : (old mid new : Calls) → AttachesOnce 0 0 0 0 old mid → CallsAtMost 1 0 0 0 mid new → AttachesOnce 1 0 0 0 old new
+attached_then old mid new attached read = (omega (arith, attached.0, read.0), omega (arith, attached.1, read.1), omega (arith, attached.2, read.2), omega (arith, attached.3, read.3), omega (arith, attached.4, read.4))
+
+-- memory ran out where the VTOC was read
+pub returns-clause-memory : goal.returns-clause-memory
+returns-clause-memory g c wanted =
+    let done = g.H.Hall.done c.read_vtoc.new.hall in
+    let attached = (g.H.Hall.facts c.attach.new.self).units in
+    let unit = first_unit g (goal.at.returns-clause-memory g c).After-read_vtoc in
+    inr (⊎_elim
+    (λ few. inl (attached_then (g.H.Hall.calls c.args.hall.now) (g.H.Hall.calls c.attach.new.self) (g.H.Hall.calls c.read_vtoc.new.hall) c.attach.ensures.calls few))
+    (λ found. inr (subst (λ (us : List Attached). IsVtocFound done 0 (unit_of us 0).size) (sym c.read_vtoc.ensures.call.units) (subst (λ (n : ℕ). IsVtocFound done n (unit_of attached n).size) unit found)))
+    (c.read_vtoc.ensures.memory wanted))
 
 -- what was done before is done still
 pub returns-clause-kept : goal.returns-clause-kept

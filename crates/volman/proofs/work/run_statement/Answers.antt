@@ -144,8 +144,8 @@ returns-clause-unchanged g c told memory same =
           let closed : c.match-ran.hall ≡ (hall_of new) = w.hall-is ∙ c.close-hall.ensures in
           let files : (M (hall_of new)).state ≡ (M (hall_of machine)).state = ap (λ h. (M h).state) (sym closed) ∙ same ∙ ap (λ h. (M h).state) (sym c.open-machine.ensures.hall) in
           let shelf : shelf_named name' (M (hall_of new)).state ≡ shelf_named name (M (hall_of machine)).state = ap (λ n. shelf_named n (M (hall_of new)).state) named ∙ ap (shelf_named name) files in
-          let few : CallsAtMost 1 0 0 0 (calls (hall_of machine)) (calls (hall_of new)) = c.run_rename-ran.ensures.unchanged told failed shelf in
-          subst (λ h. CallsAtMost 1 0 0 0 (calls c.args.hall) (calls h)) (sym closed) (subst (λ h. CallsAtMost 1 0 0 0 (calls h) (calls (hall_of new))) c.open-machine.ensures.hall few)
+          let none : CallsAtMost 0 0 0 0 (calls (hall_of machine)) (calls (hall_of new)) = c.run_rename-ran.ensures.unwanted told failed shelf (λ v is wants. wants) in
+          subst (λ h. CallsAtMost 0 0 0 0 (calls c.args.hall) (calls h)) (sym closed) (subst (λ h. CallsAtMost 0 0 0 0 (calls h) (calls (hall_of new))) c.open-machine.ensures.hall none)
     ]
 
 pub returns-clause-held : goal.returns-clause-held

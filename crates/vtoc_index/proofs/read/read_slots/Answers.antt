@@ -17,6 +17,7 @@ use Rattle.vol_model.specs.declared.contents.Run.{Run}
 use Rattle.vtoc_index.specs.Given.{IsExtentGiven, IsVtocReason, NoSlots, OfFirst, OfOther}
 use Rattle.vtoc_index.proofs.FirstTrack.{extent_of_whole}
 use Rattle.vtoc_index.proofs.Images.{same_image}
+use Rattle.vtoc_index.proofs.PutCalls.{given_still}
 use Rattle.vtoc_index.proofs.ReadsMade.{first_is_read, first_reads, tracks_are_read}
 use Rattle.vtoc_index.proofs.Reasons.{refuses_same}
 use Rattle.vtoc_index.proofs.TracksRead.{first_refused, first_read, last_of, slots_are}
@@ -167,6 +168,19 @@ returns-in_err-read_others-clause-reason g c =
     err_at (λ e. (e ≡ Device) ⊎ ((e ≡ Memory) ⊎ IsVtocReason done c.args.unit c.args.geometry c.args.at e)) c.from_residual-in_err-read_others.result c.in_err-read_others.field-0.0 (p.1 ∙ ap Err p.2)
     (⊎_elim (λ device. inl device) (⊎_elim (λ memory. inr (inl memory)) (λ lacks. inr (inr (NoSlots vtoc lacks))))
     (c.in_err-read_others.ensures.reason c.args.at one))
+
+-- memory is wanted once the extent is given
+pub returns-in_err-add-clause-memory : goal.returns-in_err-add-clause-memory
+returns-in_err-add-clause-memory g c is =
+    let vtoc = c.in_ok-vtoc.vtoc in
+    let first = c.in_ok-vtoc.ensures in
+    (vtoc, held_extent g (goal.at.returns-in_err-add-clause-memory g c).After-read_first vtoc first.numbers.0 first.given first.found)
+
+pub returns-in_err-read_others-clause-memory : goal.returns-in_err-read_others-clause-memory
+returns-in_err-read_others-clause-memory g c is =
+    let vtoc = c.in_ok-vtoc.vtoc in
+    let first = c.in_ok-vtoc.ensures in
+    (vtoc, given_still (held_extent g (goal.at.returns-in_err-read_others-clause-memory g c).After-read_first vtoc first.numbers.0 first.given first.found) c.in_err-read_others.ensures.kept)
 
 -- which reads are made, and none twice
 pub returns-in_err-read_others-clause-made : goal.returns-in_err-read_others-clause-made

@@ -1,10 +1,11 @@
 use Rattle.std.proofs.Common.{◌≡◌, ◌≤◌, ⊎_elim, inl, inr, refl, sym, ap, subst, ◌∙◌, arith, ℕ, List, length}
-use Rattle.std.specs.Prelude.{Err}
+use Rattle.std.specs.Prelude.{Result, Err, Ok}
 use Rattle.ckd_image.specs.declared.header.Geometry.{Geometry}
 use Rattle.pack_spec.specs.declared.address.Address.{Address}
-use Rattle.vtoc_index.specs.Given.{BadHeader, BadSlot, Cut, IsLabelGiven, IsLabelLacking, IsReasonGiven, IsVtocReason, NoVtoc, OnLabel, Outside, Unlabelled}
+use Rattle.vtoc_index.specs.Given.{BadHeader, BadSlot, Cut, IsExtentGiven, IsLabelGiven, IsLabelLacking, IsReasonGiven, IsVtocReason, NoVtoc, OnLabel, Outside, Unlabelled}
 use Rattle.pack_spec.specs.Label.{is_inside, label_of, track_of_address}
-use Rattle.pack_spec.specs.declared.MountErr.TheVariants.{VtocTrack}
+use Rattle.pack_spec.specs.declared.MountErr.{MountErr}
+use Rattle.pack_spec.specs.declared.MountErr.TheVariants.{Device, Memory, NoLabel, VtocTrack}
 use Rattle.vtoc_index.proofs.FirstSlots.{extent_on_label, label_is}
 use Rattle.vtoc_index.proofs.Reasons.{extent_refused, refuses}
 use Rattle.vtoc_index.proofs.GivenLemmas.{at_label, err_at, header_still}
@@ -228,6 +229,12 @@ returns-in_err-geometry-clause-reason g c =
     err_at (IsReasonGiven (g.H.Hall.done c.read_geometry.new.hall) c.args.unit size) c.from_residual.result c.in_err-geometry.field-0.0 (p.1 ∙ ap Err p.2)
     (⊎_elim (λ device. Cut (inl device)) (λ why. BadHeader why) c.in_err-geometry.ensures.reason)
 
+pub returns-in_err-buf-clause-reason : goal.returns-in_err-buf-clause-reason
+returns-in_err-buf-clause-reason g c =
+    let size = (unit_of (g.H.Hall.facts c.args.hall.now).units c.args.unit).size in
+    let p = err_from_is_err_and c.from_residual-in_err-buf.result c.from_residual-in_err-buf.ensures.1 in
+    err_at (IsReasonGiven (g.H.Hall.done c.read_geometry.new.hall) c.args.unit size) c.from_residual-in_err-buf.result Memory (p.1 ∙ ap Err p.2) (Cut (inr (refl, (c.in_ok-geometry.geometry, c.in_ok-geometry.ensures.given))))
+
 pub returns-in_err-label-clause-reason : goal.returns-in_err-label-clause-reason
 returns-in_err-label-clause-reason g c =
     let size = (unit_of (g.H.Hall.facts c.args.hall.now).units c.args.unit).size in
@@ -258,7 +265,7 @@ returns-in_err-vtoc-clause-reason g c =
     let later = c.in_err-vtoc.ensures.kept in
     let p = err_from_is_err_and c.from_residual-in_err-vtoc.result c.from_residual-in_err-vtoc.ensures.1 in
     err_at (IsReasonGiven done c.args.unit size) c.from_residual-in_err-vtoc.result c.in_err-vtoc.field-0.0 (p.1 ∙ ap Err p.2)
-    (⊎_elim (λ device. Cut (inl device)) (⊎_elim (λ memory. Cut (inr memory))
+    (⊎_elim (λ device. Cut (inl device)) (⊎_elim (λ memory. Cut (inr (memory, (geometry, header_still c.in_ok-geometry.ensures.given (λ call was. later call (c.in_ok-label.ensures.kept call was))))))
     (λ why. NoVtoc geometry (header_still c.in_ok-geometry.ensures.given (λ call was. later call (c.in_ok-label.ensures.kept call was))) label.0
     (given_still (subst (λ (x : Geometry). IsLabelGiven (g.H.Hall.done c.read_label.new.hall) c.args.unit x label.0) alike label.1) later)
     (ap (is_inside geometry) (sym label.2.vtoc) ∙ sym c.if-not-is_inside.ensures)
@@ -279,13 +286,62 @@ returns-in_err-slots-clause-reason g c =
     let slots = subst (λ (l : List ReadSlot). AreRead l found.slots) (sym c.deref.ensures.value) found.read in
     let p = err_from_is_err_and c.from_residual-in_err-slots.result c.from_residual-in_err-slots.ensures.1 in
     err_at (IsReasonGiven done c.args.unit size) c.from_residual-in_err-slots.result c.in_err-slots.field-0.0 (p.1 ∙ ap Err p.2)
-    (⊎_elim (λ memory. Cut (inr memory))
+    (⊎_elim (λ memory. Cut (inr (memory, (geometry, header_still c.in_ok-geometry.ensures.given (λ call was. later call (c.in_ok-label.ensures.kept call was))))))
     (λ first. NoVtoc geometry (header_still c.in_ok-geometry.ensures.given (λ call was. later call (c.in_ok-label.ensures.kept call was))) label.0
     (given_still (subst (λ (x : Geometry). IsLabelGiven (g.H.Hall.done c.read_label.new.hall) c.args.unit x label.0) alike label.1) later)
     (ap (is_inside geometry) (sym label.2.vtoc) ∙ sym c.if-not-is_inside.ensures)
     (subst (λ (at : Address). 1 ≤ track_of_address geometry at) label.2.vtoc (omega (arith, c.track.ensures.exact, c.if-track-eq-LABEL_TRACK.false)))
     (BadSlot vtoc found.slots c.read_slots.new.found.firsts.items (at_label geometry vtoc label.2.vtoc found.of_vtoc) first))
     (c.in_err-slots.ensures.refused found.slots slots))
+
+wanted_in : {T : Type 0} (r : Result T MountErr) (e : MountErr) → r ≡ Err e → r ≡ Err Memory → e ≡ Memory
+wanted_in {T} r e is wanted = let same : ◌≡◌ {A = Result T MountErr} (Err e) (Err Memory) = sym is ∙ wanted in cc
+
+-- memory is wanted for the buffer, or once the VTOC is found
+pub returns-in_err-geometry-clause-memory : goal.returns-in_err-geometry-clause-memory
+returns-in_err-geometry-clause-memory g c is = inl c.in_err-geometry.ensures.calls
+
+pub returns-in_err-buf-clause-memory : goal.returns-in_err-buf-clause-memory
+returns-in_err-buf-clause-memory g c is = inl c.in_ok-geometry.ensures.calls
+
+pub returns-in_err-label-clause-memory : goal.returns-in_err-label-clause-memory
+returns-in_err-label-clause-memory g c is =
+    let p = err_from_is_err_and c.from_residual-in_err-label.result c.from_residual-in_err-label.ensures.1 in
+    let field = wanted_in c.from_residual-in_err-label.result c.in_err-label.field-0.0 (p.1 ∙ ap Err p.2) is in
+    absurd (⊎_elim (λ device. let no : Device ≡ Memory = sym device ∙ field in cc no) (λ none. let no : NoLabel ≡ Memory = sym none.0 ∙ field in cc no) c.in_err-label.ensures.reason)
+
+pub returns-in_err-vtoc-clause-memory : goal.returns-in_err-vtoc-clause-memory
+returns-in_err-vtoc-clause-memory g c is =
+    let geometry = c.in_ok-geometry.geometry in
+    let alike : c.in_ok-buf.buf.geometry ≡ geometry = ap (λ (b : Buffer). b.geometry) c.in_ok-buf.ensures in
+    let label = c.in_ok-label.ensures.given in
+    let later = c.in_err-vtoc.ensures.kept in
+    let p = err_from_is_err_and c.from_residual-in_err-vtoc.result c.from_residual-in_err-vtoc.ensures.1 in
+    let found = c.in_err-vtoc.ensures.memory (ap Err (wanted_in c.from_residual-in_err-vtoc.result c.in_err-vtoc.field-0.0 (p.1 ∙ ap Err p.2) is)) in
+    inr record {
+      geometry = geometry;
+      header = header_still c.in_ok-geometry.ensures.given (λ call was. later call (c.in_ok-label.ensures.kept call was));
+      label = label.0;
+      labelled = given_still (subst (λ (x : Geometry). IsLabelGiven (g.H.Hall.done c.read_label.new.hall) c.args.unit x label.0) alike label.1) later;
+      vtoc = found.0;
+      begun = subst (λ (at : Address). IsExtentGiven (g.H.Hall.done c.read_slots.new.hall) c.args.unit geometry at (Ok found.0)) label.2.vtoc found.1;
+    }
+
+pub returns-in_err-slots-clause-memory : goal.returns-in_err-slots-clause-memory
+returns-in_err-slots-clause-memory g c is =
+    let geometry = c.in_ok-geometry.geometry in
+    let vtoc = c.in_ok-vtoc.vtoc in
+    let alike : c.in_ok-buf.buf.geometry ≡ geometry = ap (λ (b : Buffer). b.geometry) c.in_ok-buf.ensures in
+    let label = c.in_ok-label.ensures.given in
+    let later = c.in_ok-vtoc.ensures.kept in
+    inr record {
+      geometry = geometry;
+      header = header_still c.in_ok-geometry.ensures.given (λ call was. later call (c.in_ok-label.ensures.kept call was));
+      label = label.0;
+      labelled = given_still (subst (λ (x : Geometry). IsLabelGiven (g.H.Hall.done c.read_label.new.hall) c.args.unit x label.0) alike label.1) later;
+      vtoc = vtoc;
+      begun = subst (λ (at : Address). IsExtentGiven (g.H.Hall.done c.read_slots.new.hall) c.args.unit geometry at (Ok vtoc)) label.2.vtoc c.in_ok-vtoc.ensures.given.of_vtoc.begun;
+    }
 
 -- a VTOC that begins on the label's track
 pub returns-then-track-eq-LABEL_TRACK-clause-refused : goal.returns-then-track-eq-LABEL_TRACK-clause-refused
