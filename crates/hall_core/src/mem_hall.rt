@@ -61,7 +61,7 @@ pub struct MemHall {
 }
 
 impl MemHall {
-    ghost use Rattle.std.specs.Prelude.{List, [], ◌∷◌, ◌++◌, take, Some, None, OnOk, OnErr, IfOk, MatchOption, IsTrue, ◌⊎◌, ◌↔◌, false, if◌then◌else◌};
+    ghost use Rattle.std.specs.Prelude.{List, [], ◌∷◌, ◌++◌, take, Some, None, OnOk, OnErr, IfOk, MatchOption, IsTrue, ◌⊎◌, ◌↔◌, false, if◌then◌else◌, IsOk};
     ghost use Rattle.hall_core.specs.Facts.{unit_of};
     ghost use Rattle.hall_core.specs.Files.{File, file_of, written};
     ghost use Rattle.hall_core.specs.Held.{shapes_of, IsFirst};
@@ -102,12 +102,13 @@ impl MemHall {
 
     /// Makes room for so many further calls and bytes, beside the room that is left.
     ///
-    /// An error comes where memory runs out, also where the room would be above 2^64 - 1. The room is
-    /// then as it was.
+    /// An error comes where memory runs out, also where the room would be above 2^64 - 1, and leaves the room as it was.
+    /// It doesn't come where there is room for a call, and none is to be made.
     pub fn room(&mut self, calls: u64, bytes: u64) -> Result<(), AllocError>
         ensures calls { OnOk result (calls_left self.new ≡ calls_left self.old + calls) }
         ensures bytes { OnOk result (bytes_left self.new ≡ bytes_left self.old + bytes) }
         ensures error { OnErr result (KeepsRoom self.old self.new) }
+        ensures none { 0 < calls_left self.old → calls ≡ 0 → bytes ≡ 0 → IsOk result }
         ensures rest { KeepsAllButRoom self.old self.new }
     {
         let all_calls = self.room_calls.checked_add(calls).ok_or(AllocError)?;

@@ -1,8 +1,9 @@
 //! What the image of a pack stands for: definitions, and a plain program that follows them.
 #![tactic(auto)]
 
-ghost use Rattle.std.specs.Prelude.{◌≡◌, ◌≢◌, [], Ok, Err, None, IfOk, IfErr, IsErrOf, length, slice_range, take, unwrap_or};
+ghost use Rattle.std.specs.Prelude.{◌≡◌, [], Ok, Err, None, IfOk, IfErr, IsErrOf, length, slice_range, take, unwrap_or};
 ghost use Rattle.ckd_image.specs.Header.{HasGeometry, geometry_of};
+ghost use Rattle.vol_model.specs.declared.contents.Run.{Run};
 ghost use Rattle.pack_spec.specs.Label.{label_of};
 ghost use Rattle.pack_spec.specs.Vtoc.{vtoc_of};
 ghost use Rattle.pack_spec.specs.Views.{Answers};
@@ -124,8 +125,8 @@ impl From<AllocError> for MountErr {
 /// The volume that an image which lies in memory stands for, without the content of its data sets: the
 /// body of each is `Other`, and there is no catalog.
 ///
-/// The error is the first rule of mounting that the image breaks, or `Memory`, which doesn't come before the header
-/// is found to be good. Label and DSCBs follow System Control Blocks, GC28-6628, the rules and their order this
+/// The error is the first rule of mounting that the image breaks, or `Memory`, which doesn't come before the VTOC
+/// is found. Label and DSCBs follow System Control Blocks, GC28-6628, the rules and their order this
 /// project's profile.
 ///
 /// This is written for its plainness, and to compare faster readers with: it holds all records of a track
@@ -133,7 +134,7 @@ impl From<AllocError> for MountErr {
 #[tactic(auto, unfolding(crate::specs::Volume::volume_of))]
 pub fn volume(alloc: Global, image: &[u8]) -> Result<Volume, MountErr>
     ensures answer { Answers (volume_of image.now) result }
-    ensures memory { IsErrOf result MountErr.Memory → (geometry : Geometry) × (geometry_of (take 512 image.now) (length image.now) ≡ Ok geometry) }
+    ensures memory { IsErrOf result MountErr.Memory → (geometry : Geometry) × (geometry_of (take 512 image.now) (length image.now) ≡ Ok geometry) × (vtoc : Run) × (vtoc_of image.now geometry ≡ Ok vtoc) }
 {
     match geometry_of(image) {
         Ok(geometry) => volume_on(alloc, image, geometry),
@@ -144,10 +145,11 @@ pub fn volume(alloc: Global, image: &[u8]) -> Result<Volume, MountErr>
 // The volume of an image with this geometry.
 fn volume_on(alloc: Global, image: &[u8], geometry: Geometry) -> Result<Volume, MountErr>
     requires { HasGeometry (length image.now) geometry }
-    ensures { Answers (volume_within image.now geometry (vtoc_of image.now geometry)) result }
+    ensures answer { Answers (volume_within image.now geometry (vtoc_of image.now geometry)) result }
+    ensures memory { IsErrOf result MountErr.Memory → (vtoc : Run) × (vtoc_of image.now geometry ≡ Ok vtoc) }
 {
-    let serial = serial(alloc, image, geometry)?;
-    let vtoc = vtoc(alloc, image, geometry)?;
+    let serial = serial(image, geometry)?;
+    let vtoc = vtoc(image, geometry)?;
     let slots = slots_of_vtoc(alloc, image, geometry, vtoc)?;
     if let Some(fault) = first_fault(alloc, geometry, &slots)? {
         return Err(fault);
@@ -165,15 +167,13 @@ fn volume_on(alloc: Global, image: &[u8], geometry: Geometry) -> Result<Volume, 
 
 // The serial in the volume label.
 #[tactic(auto, unfolding(crate::specs::Vtoc::vtoc_of, crate::specs::Vtoc::vtoc_at))]
-fn serial(alloc: Global, image: &[u8], geometry: Geometry) -> Result<Serial, MountErr>
+fn serial(image: &[u8], geometry: Geometry) -> Result<Serial, MountErr>
     requires { HasGeometry (length image.now) geometry }
     ensures serial { IfOk result (λ serial. serial.bytes ≡ slice_range (unwrap_or (label_of image.now geometry) []) 4 10) }
-    ensures refused { IfErr result (λ e. e ≢ MountErr.Memory → vtoc_of image.now geometry ≡ Err e) }
-    ensures unlabelled { IfErr result (λ e. e ≢ MountErr.Memory → label_of image.now geometry ≡ None) }
+    ensures refused { IfErr result (λ e. (e ≡ MountErr.NoLabel) × (vtoc_of image.now geometry ≡ Err e)) }
+    ensures unlabelled { IfErr result (λ _. label_of image.now geometry ≡ None) }
 {
-    let Some(label) = label(alloc, image, geometry)? else {
-        return Err(MountErr::NoLabel);
-    };
+    let label = label(image, geometry).ok_or(MountErr::NoLabel)?;
     let mut bytes = [0; 6];
     bytes.copy_from_slice(&label[SERIAL_AT..SERIAL_AT + 6]);
     Ok(Serial { bytes })

@@ -7,11 +7,11 @@ use itoa::Buffer;
 use std::alloc::AllocError;
 use vtoc_index::MountErr;
 
-/// Adds the reason: the word for its cause, as `BAD-CHAIN` for `BadChain`, and its numbers in decimal.
-///
-/// A header that is refused has its own reason.
+// Adds the reason: the word for its cause, as `BAD-CHAIN` for `BadChain`, and its numbers in decimal.
+//
+// A header that is refused has its own reason.
 #[tactic(auto, unfolding(crate::specs::Lines::reason_of))]
-pub fn push_reason(text: &mut Vec<u8>, why: MountErr) -> Result<(), AllocError>
+pub(crate) fn push_reason(text: &mut Vec<u8>, why: MountErr) -> Result<(), AllocError>
     ensures added { OnOk result (text.new.items ≡ text.old.items ++ reason_of why) }
     ensures kept { OnErr result ((count : ℕ) × (text.new.items ≡ text.old.items ++ take count (reason_of why))) }
 {

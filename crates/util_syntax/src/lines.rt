@@ -1,5 +1,5 @@
 //! The lines that answer statements, and names as lines show them.
-ghost use Rattle.std.specs.Prelude.{◌≡◌, ◌++◌, ℕ, is_ok, if◌then◌else◌, IfOk, OnOk, OnErr, take};
+ghost use Rattle.std.specs.Prelude.{◌≡◌, ◌≤◌, ◌+◌, ◌++◌, ℕ, length, vec_len, vec_capacity, is_ok, IsOk, if◌then◌else◌, IfOk, OnOk, OnErr, take};
 ghost use Rattle.ebcdic_names.specs.Names.{shown};
 ghost use Rattle.util_syntax.specs.Lines.{card_number, next_word, outcome_words, result_line};
 
@@ -40,10 +40,12 @@ pub fn result_line(
 
 /// Adds a name in ASCII as it is shown: each byte by the code page, but for the blanks, X'40', behind the name.
 ///
-/// A name of blanks alone adds nothing. The one error is want of memory, and on it nothing is added.
+/// A name of blanks alone adds nothing. The one error is want of memory, which doesn't come where there is room for the
+/// characters, and on it nothing is added.
 #[tactic(auto, unfolding(ebcdic_names::specs::Names::shown))]
 pub fn push_name_in_ascii(text: &mut Vec<u8>, name: &[u8]) -> Result<(), AllocError>
-    ensures { text.new.items ≡ (if is_ok result then text.old.items ++ shown name.now else text.old.items) }
+    ensures added { text.new.items ≡ (if is_ok result then text.old.items ++ shown name.now else text.old.items) }
+    ensures room { vec_len text.old + length (shown name.now) ≤ vec_capacity text.old → IsOk result }
 {
     let characters = without_blanks(name);
     text.reserve(characters.len())?;

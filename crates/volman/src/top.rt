@@ -119,7 +119,7 @@ pub fn volman<C: Cards, H: Hall>(
     // of at most 257 tracks; for a statement one read more, one write and two syncs; and one print. Nothing is written
     // nor synced where no statement is asked for, nor where one isn't begun; and nothing is written for a statement
     // that is refused. With a fault of the printer there is no sync behind the print, and where memory ran out no print,
-    // and no write without its sync, nor, over a hall that tells, any call for the statement unless a file is changed.
+    // and no write without its sync.
     ensures calls { AttachesOnce 260 1 2 1 (H.calls hall.old) (H.calls hall.new) }
     ensures made { OnRequest H.made H.done H.behind_sync H.calls (asked_in words) (λ deck. IsTrue C.tells → deck_of (C.left cards.old) ≡ deck) (H.facts hall.new).units result hall.old hall.new }
     ensures no_statement { ((file : List ℕ) → asked_in words ≢ Some (Run file)) → AttachesOnce 259 0 0 1 (H.calls hall.old) (H.calls hall.new) }
@@ -128,10 +128,11 @@ pub fn volman<C: Cards, H: Hall>(
     ensures unwritten { result ≡ 8 → AttachesOnce 259 0 1 1 (H.calls hall.old) (H.calls hall.new) }
     ensures unsaid { result ≡ 24 → AttachesOnce 260 1 1 1 (H.calls hall.old) (H.calls hall.new) }
     ensures unprinted { result ≡ 25 → AttachesOnce 260 1 1 0 (H.calls hall.old) (H.calls hall.new) }
-    ensures unchanged { IsTrue H.tells → result ≡ 25 → (H.meaning hall.new).state ≡ (H.meaning hall.old).state → AttachesOnce 259 0 0 0 (H.calls hall.old) (H.calls hall.new) }
 
     // Over a hall that tells, there are no more reads than the image in the file takes to be mounted or refused, and
-    // one more for a statement that isn't refused, but where its slot is on the last track of the VTOC.
+    // one more for a statement that isn't refused, but where its slot is on the last track of the VTOC. Where memory ran
+    // out and no file is changed, a statement took nothing besides: neither that read, nor a write, sync or print.
+    ensures unchanged { IsTrue H.tells → (file : List ℕ) → asked_in words ≡ Some (Run file) → result ≡ 25 → (H.meaning hall.new).state ≡ (H.meaning hall.old).state → AttachesOnce (reads_to_mount (image_named (H.meaning hall.old).state file)) 0 0 0 (H.calls hall.old) (H.calls hall.new) }
     ensures reads_names { IsTrue H.tells → (file : List ℕ) → asked_in words ≡ Some (Names file) → AttachesOnce (reads_to_mount (image_named (H.meaning hall.old).state file)) 0 0 1 (H.calls hall.old) (H.calls hall.new) }
     ensures reads_refused { IsTrue H.tells → (file : List ℕ) → asked_in words ≡ Some (Run file) → result ≡ 8 → AttachesOnce (reads_to_mount (image_named (H.meaning hall.old).state file)) 0 1 1 (H.calls hall.old) (H.calls hall.new) }
     ensures reads_run { IsTrue H.tells → (file : List ℕ) → asked_in words ≡ Some (Run file) → AttachesOnce (reads_to_mount (image_named (H.meaning hall.old).state file) + 1) 1 2 1 (H.calls hall.old) (H.calls hall.new) }
@@ -222,7 +223,7 @@ fn run<H: Hall>(alloc: Global, hall: &mut H, file: &str, statement: &Rename) -> 
     ensures behind { IsCode result → H.behind_sync hall.new }
     ensures unsaid { result ≡ 24 → AttachesOnce 260 1 1 1 (H.calls hall.old) (H.calls hall.new) }
     ensures unprinted { result ≡ 25 → AttachesOnce 260 1 1 0 (H.calls hall.old) (H.calls hall.new) }
-    ensures unchanged { IsTrue H.tells → result ≡ 25 → (H.meaning hall.new).state ≡ (H.meaning hall.old).state → AttachesOnce 259 0 0 0 (H.calls hall.old) (H.calls hall.new) }
+    ensures unchanged { IsTrue H.tells → result ≡ 25 → (H.meaning hall.new).state ≡ (H.meaning hall.old).state → AttachesOnce (reads_to_mount (image_named (H.meaning hall.old).state file.now)) 0 0 0 (H.calls hall.old) (H.calls hall.new) }
     ensures reads_refused { IsTrue H.tells → result ≡ 8 → AttachesOnce (reads_to_mount (image_named (H.meaning hall.old).state file.now)) 0 1 1 (H.calls hall.old) (H.calls hall.new) }
     ensures reads { IsTrue H.tells → AttachesOnce (reads_to_mount (image_named (H.meaning hall.old).state file.now) + 1) 1 2 1 (H.calls hall.old) (H.calls hall.new) }
     ensures unmounted { IsTrue H.tells → (why : MountErr) → volume_of (image_named (H.meaning hall.old).state file.now) ≡ Err why → AttachesOnce (reads_to_mount (image_named (H.meaning hall.old).state file.now)) 0 0 1 (H.calls hall.old) (H.calls hall.new) }

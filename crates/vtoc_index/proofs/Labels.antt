@@ -1,5 +1,5 @@
 -- The label among the records that a buffer holds.
-use Rattle.std.proofs.Common.{◌≡◌, ℕ, Bool, true, false, cond, List, [], ◌∷◌, length, Option, Some, None, refl, ap, ◌∙◌, arith}
+use Rattle.std.proofs.Common.{◌≡◌, ◌≢◌, ℕ, Bool, true, false, cond, List, [], ◌∷◌, length, Option, Some, None, refl, ap, ◌∙◌, arith}
 use Rattle.std.specs.Prelude.{unwrap_or}
 use Rattle.std.specs.Option.{option_map}
 use Rattle.ckd_image.specs.Track.{Record}
@@ -23,6 +23,15 @@ label_in-three (x ∷ []) e = absurd (omega arith)
 label_in-three (x ∷ y ∷ []) e = absurd (omega arith)
 label_in-three (x ∷ y ∷ z ∷ []) e = refl
 label_in-three (x ∷ y ∷ z ∷ w ∷ ws) e = absurd (omega arith)
+
+-- fewer or more have none
+pub label_in-other : (xs : List Record) → length xs ≢ 3 → label_in xs ≡ None
+unfolding label_in
+label_in-other [] n = refl
+label_in-other (x ∷ []) n = refl
+label_in-other (x ∷ y ∷ []) n = refl
+label_in-other (x ∷ y ∷ z ∷ []) n = absurd (n refl)
+label_in-other (x ∷ y ∷ z ∷ w ∷ ws) n = refl
 
 chosen : {A : Type 0} (b c : Bool) (u v : A) → b ≡ c → cond b u v ≡ cond c u v
 chosen b c u v is = ap (λ x. cond x u v) is

@@ -13,10 +13,10 @@ returns-clause-bytes c =
     let second = record_on 0 0 ipl2 (replicate 144 0) in
     let label = record_on 0 0 vol1 (label_bytes c.args.serial.now.bytes c.args.vtoc) in
     let records = label_records c.args.serial.now.bytes c.args.vtoc in
-    let front : c.push_front.new.bytes.items ≡ front_bytes 0 0 = c.in_ok-push_front.ensures ∙ ap (λ bs. bs ++ front_bytes 0 0) c.new-track.ensures.items in
-    let pushed : c.push_record.new.bytes.items ≡ front_bytes 0 0 ++ record_bytes 1 first = c.in_ok-push_record.ensures ∙ ap (λ bs. bs ++ record_bytes 1 first) front in
+    let front : c.push_front.new.bytes.items ≡ front_bytes 0 0 = c.in_ok-push_front.ensures.added ∙ ap (λ bs. bs ++ front_bytes 0 0) c.new-track.ensures.items in
+    let pushed : c.push_record.new.bytes.items ≡ front_bytes 0 0 ++ record_bytes 1 first = c.in_ok-push_record.ensures.added ∙ ap (λ bs. bs ++ record_bytes 1 first) front in
     let last : c.push_record-3.new.bytes.items ≡ c.push_record-2.new.bytes.items ++ record_bytes 3 label =
-    c.in_ok-push_record-3.ensures ∙ ap (λ bs. c.push_record-2.new.bytes.items ++ record_bytes 3 (record_on 0 0 vol1 bs)) c.label_data-label.ensures in
+    c.in_ok-push_record-3.ensures.added ∙ ap (λ bs. c.push_record-2.new.bytes.items ++ record_bytes 3 (record_on 0 0 vol1 bs)) c.label_data-label.ensures in
     let bytes : c.push_record-3.new.bytes.items ≡ front_bytes 0 0 ++ records_bytes 1 records =
-    three_written (front_bytes 0 0) c.push_record.new.bytes.items c.push_record-2.new.bytes.items c.push_record-3.new.bytes.items first second label pushed c.in_ok-push_record-2.ensures last in
-    finished (record { cylinder = 0; head = 0 }) (records_bytes 1 records) c.push_record-3.new.bytes.items c.push_end.new.bytes.items (vec_len c.push_record-3.new.bytes) c.args.size bytes (omega arith) c.in_ok-push_end.ensures
+    three_written (front_bytes 0 0) c.push_record.new.bytes.items c.push_record-2.new.bytes.items c.push_record-3.new.bytes.items first second label pushed c.in_ok-push_record-2.ensures.added last in
+    finished (record { cylinder = 0; head = 0 }) (records_bytes 1 records) c.push_record-3.new.bytes.items c.push_end.new.bytes.items (vec_len c.push_record-3.new.bytes) c.args.size bytes (omega arith) c.in_ok-push_end.ensures.added

@@ -1,6 +1,5 @@
 use Rattle.std.proofs.Common.{◌≡◌, length, sym, ◌∙◌}
-use Rattle.pack_spec.proofs.Labels.{label_in-other}
-use Rattle.vtoc_index.proofs.Labels.{label_found, label_not}
+use Rattle.vtoc_index.proofs.Labels.{label_found, label_in-other, label_not}
 use Rattle.vtoc_index.proofs.label.label_data_held.Goals as goal
 
 pub returns-then-len-from-clause-exact : goal.returns-then-len-from-clause-exact
