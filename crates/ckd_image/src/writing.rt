@@ -10,10 +10,11 @@ use std::alloc::AllocError;
 /// Adds the home address and R0 of a track, which stand before R1.
 ///
 /// The byte before the track's CC and HH is 0, R0 names the track too, and its eight bytes of data are 0. On an
-/// error, which doesn't come where there is room for the 21 bytes, nothing is added.
+/// error, which doesn't come where there is room for the 21 bytes, nothing is added. The capacity never shrinks.
 pub fn push_front(bytes: &mut Vec<u8>, cylinder: u16, head: u16) -> Result<(), AllocError>
     ensures added { bytes.new.items ≡ (if is_ok result then bytes.old.items ++ front_bytes cylinder head else bytes.old.items) }
     ensures room { vec_len bytes.old + 21 ≤ vec_capacity bytes.old → IsOk result }
+    ensures capacity { vec_capacity bytes.old ≤ vec_capacity bytes.new }
 {
     let [cc_high, cc_low] = cylinder.to_be_bytes();
     let [hh_high, hh_low] = head.to_be_bytes();
@@ -26,7 +27,7 @@ pub fn push_front(bytes: &mut Vec<u8>, cylinder: u16, head: u16) -> Result<(), A
 /// Adds the record R = `number` of a track: its count, which names the track, its key and its data.
 ///
 /// The key has at most 255 bytes, and the data 65,535. On an error, which doesn't come where there is room for the
-/// record, nothing is added.
+/// record, nothing is added. The capacity never shrinks.
 pub fn push_record(
     bytes: &mut Vec<u8>,
     cylinder: u16,
@@ -38,6 +39,7 @@ pub fn push_record(
     requires data_fits { length parts.data.now < 65536 }
     ensures added { bytes.new.items ≡ (if is_ok result then bytes.old.items ++ record_bytes number (record_on cylinder head parts.entry.key.now parts.entry.data.now) else bytes.old.items) }
     ensures room { vec_len bytes.old + (8 + length parts.entry.key.now + length parts.entry.data.now) ≤ vec_capacity bytes.old → IsOk result }
+    ensures capacity { vec_capacity bytes.old ≤ vec_capacity bytes.new }
 {
     let [cc_high, cc_low] = cylinder.to_be_bytes();
     let [hh_high, hh_low] = head.to_be_bytes();
@@ -56,10 +58,11 @@ pub fn push_record(
 
 /// Adds the end marker of a track, and zeros behind it until there are `end` bytes; none where there are as many.
 ///
-/// On an error, which doesn't come where there is room for all of them, nothing is added.
+/// On an error, which doesn't come where there is room for all of them, nothing is added. The capacity never shrinks.
 pub fn push_end(bytes: &mut Vec<u8>, end: usize) -> Result<(), AllocError>
     ensures added { bytes.new.items ≡ (if is_ok result then bytes.old.items ++ (end_marker ++ replicate (end - (vec_len bytes.old + 8)) 0) else bytes.old.items) }
     ensures room { vec_len bytes.old + (8 + (end - (vec_len bytes.old + 8))) ≤ vec_capacity bytes.old → IsOk result }
+    ensures capacity { vec_capacity bytes.old ≤ vec_capacity bytes.new }
 {
     let rest = end.saturating_sub(bytes.len() + END_MARKER.len());
     bytes.reserve(END_MARKER.len() + rest)?;

@@ -1,5 +1,5 @@
 //! Another name for a data set.
-ghost use Rattle.std.specs.Prelude.{◌≡◌, ◌⊎◌, ◌≤◌, ℕ, List, length, IsTrue, IfOk, IfErr, IsErrOf, OnOk, OnErr, Some, None, Ok, Err};
+ghost use Rattle.std.specs.Prelude.{◌≡◌, ◌⊎◌, ◌≤◌, ℕ, List, length, vec_capacity, IsTrue, IfOk, IfErr, IsErrOf, OnOk, OnErr, Some, None, Ok, Err};
 ghost use Rattle.hall_core.specs.Facts.{CallsAtMost, unit_of};
 ghost use Rattle.hall_core.specs.Files.{image_of};
 ghost use Rattle.hall_core.specs.Made.{DoneSince, HasDone, MakesOnly, StaysDone};
@@ -39,6 +39,7 @@ pub fn rename<H: Hall>(hall: &mut H, vol: &mut Vol, old: &Dsn, new: &Dsn) -> Res
     ensures written { IsTrue H.tells → WritesName (unit_of (H.facts hall.old).units vol.old.unit).name vol.old old.now.bytes new.now.bytes (H.meaning hall.old) (H.meaning hall.new) result }
     ensures unit { IsOfUnit (H.facts hall.new).units vol.new }
     ensures index { vol.new ≡ record vol.old { slots = vol.new.slots; buf = vol.new.buf } }
+    ensures room { vec_capacity vol.new.slots ≡ vec_capacity vol.old.slots }
     ensures entry { OnOk result (RenamesEntry old.now.bytes new.now.bytes vol.old.slots.items vol.new.slots.items) }
     ensures held { OnOk result (HoldsRenamed old.now.bytes new.now.bytes vol.old vol.new) }
     ensures slots { let did = DoneSince (H.calls hall.old).reads (H.done hall.new) in (vol.new.slots.items ≡ vol.old.slots.items) ⊎ (RenamesEntry old.now.bytes new.now.bytes vol.old.slots.items vol.new.slots.items × HasDone (WritesSlotNamed old.now.bytes new.now.bytes vol.old did) did) }

@@ -1,5 +1,5 @@
 //! One slot of a VTOC, written and made durable.
-ghost use Rattle.std.specs.Prelude.{◌≡◌, ◌⊎◌, ◌<◌, ◌≤◌, ◌+◌, length, slice_set, IsTrue, OnOk, OnErr};
+ghost use Rattle.std.specs.Prelude.{◌≡◌, ◌⊎◌, ◌<◌, ◌≤◌, ◌+◌, length, slice_set, vec_capacity, IsTrue, OnOk, OnErr};
 ghost use Rattle.hall_core.specs.Facts.{CallsAtMost, DeviceCall, unit_of};
 ghost use Rattle.hall_core.specs.Files.{AfterSync, image_of};
 ghost use Rattle.hall_core.specs.Made.{DoneSince, HasDone, MakesOnly, StaysDone, Syncing};
@@ -31,6 +31,7 @@ pub(crate) fn put_through<H: Hall>(
     ensures slots { let did = DoneSince (H.calls hall.old).reads (H.done hall.new) in (vol.new.slots.items ≡ vol.old.slots.items) ⊎ ((vol.new.slots.items ≡ slice_set vol.old.slots.items slot dscb.now) × HasDone (IsSlotWrite vol.old slot dscb.now did) did) }
     ensures ahead { IsTrue H.tells → OnErr result (IsBeforeOr vol.old (image_of (H.meaning hall.new).state (H.facts hall.new) vol.old.unit) vol.new) }
     ensures others { vol.new ≡ record vol.old { slots = vol.new.slots; buf = vol.new.buf } }
+    ensures room { vec_capacity vol.new.slots ≡ vec_capacity vol.old.slots }
     ensures unit { IsOfUnit (H.facts hall.new).units vol.new }
     ensures track { vol.new.buf.track ≡ vol.old.vtoc.start + track_index vol.old.firsts.items slot }
     ensures slot { OnOk result (HoldsDscb (slots_in_front vol.old.firsts.items slot) dscb.now vol.new.buf.records) }

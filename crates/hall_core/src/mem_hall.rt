@@ -103,14 +103,17 @@ impl MemHall {
     /// Makes room for so many further calls and bytes, beside the room that is left.
     ///
     /// An error comes where memory runs out, also where the room would be above 2^64 - 1, and leaves the room as it was.
-    /// It doesn't come where there is room for a call, and none is to be made.
+    /// It doesn't come where no room is to be made.
     pub fn room(&mut self, calls: u64, bytes: u64) -> Result<(), AllocError>
         ensures calls { OnOk result (calls_left self.new ≡ calls_left self.old + calls) }
         ensures bytes { OnOk result (bytes_left self.new ≡ bytes_left self.old + bytes) }
         ensures error { OnErr result (KeepsRoom self.old self.new) }
-        ensures none { 0 < calls_left self.old → calls ≡ 0 → bytes ≡ 0 → IsOk result }
+        ensures none { calls ≡ 0 → bytes ≡ 0 → IsOk result }
         ensures rest { KeepsAllButRoom self.old self.new }
     {
+        if calls == 0 && bytes == 0 {
+            return Ok(());
+        }
         let all_calls = self.room_calls.checked_add(calls).ok_or(AllocError)?;
         let all_bytes = self.room_bytes.checked_add(bytes).ok_or(AllocError)?;
         self.units.reserve(all_calls as usize)?;

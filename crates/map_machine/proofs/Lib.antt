@@ -2,3 +2,4 @@ mod OrderLemmas
 mod PastCases
 mod PastLemmas
 mod RenameLemmas
+mod RoomCases

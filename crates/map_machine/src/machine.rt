@@ -12,7 +12,8 @@ use vol_model::{MachErr, Machine, Op, Shelf};
 /// A machine over a shelf in memory.
 ///
 /// It promises nothing besides what every machine does. It knows what it held between its calls and nothing else, so a
-/// stop in a print leaves all of the bytes or none, where another machine may leave a part of them.
+/// stop in a print leaves all of the bytes or none, where another machine may leave a part of them. It wants memory
+/// only where there is no room for what a call adds, and gives no room back.
 #[derive(Debug, Drop)]
 pub struct MapMachine {
     alloc: Global,
@@ -26,7 +27,7 @@ impl MapMachine {
     ghost use Rattle.std.specs.Prelude.{[], ◌+◌, true, IsErrOf, OnOk, OnErr};
     ghost use Rattle.vol_model.specs.Calls.{Applies};
     ghost use Rattle.vol_model.specs.declared.requests.Op.TheVariants.{Rename};
-    ghost use Rattle.map_machine.specs.Held.{meaning_of, status_of};
+    ghost use Rattle.map_machine.specs.Held.{IsFull, KeepsRoom, meaning_of, status_of};
 
     /// A machine that holds this lawful shelf and printed nothing; it is sound, and no fault is counted.
     pub fn new(alloc: Global, shelf: Shelf) -> MapMachine
@@ -62,6 +63,9 @@ impl MapMachine {
     fn rename(&mut self, v: u8, old: &Dsn, new: &Dsn) -> Result<(), MachErr>
         ensures told { Applies (Rename v old.now new.now) (meaning_of self.old) (meaning_of self.new) result }
         ensures time { (OnOk result ((meaning_of self.new).clock ≡ (meaning_of self.old).clock + 1)) × (OnErr result ((meaning_of self.new).clock ≡ (meaning_of self.old).clock)) }
+        ensures wanted { IsErrOf result MachErr.Memory → IsFull self.old }
+        ensures full { OnErr result (IsFull self.new → IsFull self.old) }
+        ensures capacity { KeepsRoom self.old self.new }
         ensures device { IsErrOf result MachErr.Device → ⊥ }
         ensures print { IsErrOf result MachErr.Print → ⊥ }
     {
@@ -82,11 +86,11 @@ impl MapMachine {
 }
 
 impl Machine for MapMachine {
-    ghost use Rattle.std.specs.Prelude.{◌+◌, true, IfErr, IsErrOf, OnErr, OnOk, refl};
+    ghost use Rattle.std.specs.Prelude.{◌+◌, true, length, IfErr, IsErrOf, IsOk, OnErr, OnOk, refl};
     ghost use Rattle.hall_core.specs.Facts.{CallsAtMost, uncounted};
     ghost use Rattle.hall_core.specs.Moments.{Elapses};
     ghost use Rattle.vol_model.specs.Calls.{Applies, MachineCall, Prints, asked_nothing};
-    ghost use Rattle.map_machine.specs.Held.{meaning_of, status_of};
+    ghost use Rattle.map_machine.specs.Held.{HasRoom, IsFull, KeepsRoom, meaning_of, status_of};
     ghost use Rattle.map_machine.specs.Laws.{counts_now as now_counted, only_now as none_since};
 
     ghost tells = { true };
@@ -111,7 +115,7 @@ impl Machine for MapMachine {
 
     ghost refuses = { λ machine op refusal. Unit {0} };
 
-    ghost wants = { λ machine op. Unit {0} };
+    ghost wants = { λ machine op. IsFull machine };
 
     ghost asked = { λ machine. asked_nothing };
 
@@ -136,6 +140,9 @@ impl Machine for MapMachine {
     fn apply(&mut self, op: &Op) -> Result<(), MachErr>
         ensures shelf { Applies op.now (meaning_of self.old) (meaning_of self.new) result }
         ensures time { (OnOk result ((meaning_of self.new).clock ≡ (meaning_of self.old).clock + 1)) × (OnErr result ((meaning_of self.new).clock ≡ (meaning_of self.old).clock)) }
+        ensures wanted { IsErrOf result MachErr.Memory → IsFull self.old }
+        ensures full { OnErr result (IsFull self.new → IsFull self.old) }
+        ensures capacity { KeepsRoom self.old self.new }
         ensures device { IsErrOf result MachErr.Device → ⊥ }
         ensures print { IsErrOf result MachErr.Print → ⊥ }
     {
@@ -149,6 +156,9 @@ impl Machine for MapMachine {
         ensures whole { OnOk result (Elapses (meaning_of self.old) (meaning_of self.new) (λ shelf text. (shelf ≡ (meaning_of self.old).state) × (text ≡ (meaning_of self.new).printed))) }
         ensures time { (OnOk result ((meaning_of self.new).clock ≡ (meaning_of self.old).clock + 1)) × (OnErr result ((meaning_of self.new).clock ≡ (meaning_of self.old).clock)) }
         ensures memory { IfErr result (λ e. e ≡ MachErr.Memory) }
+        ensures room { HasRoom (length bytes.now) self.old → IsOk result }
+        ensures full { OnErr result (IsFull self.new → IsFull self.old) }
+        ensures capacity { KeepsRoom self.old self.new }
     {
         if self.log.reserve(1).is_err() {
             return Err(MachErr::Memory);

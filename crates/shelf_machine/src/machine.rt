@@ -1,5 +1,5 @@
 //! The machine over the image of one pack.
-ghost use Rattle.std.specs.Prelude.{◌≡◌, ◌≢◌, ◌⊎◌, [], ◌∷◌, true, IsTrue, IfErr, IfSome, IsErrOf, OnErr, OnOk, Some, None, refl};
+ghost use Rattle.std.specs.Prelude.{◌≡◌, ◌≢◌, ◌⊎◌, [], ◌∷◌, true, vec_capacity, IsTrue, IfErr, IfSome, IsErrOf, OnErr, OnOk, Some, None, refl};
 ghost use Rattle.dadsm_ops.specs.Through.{IsBeforeOr};
 ghost use Rattle.hall_core.specs.Facts.{CallsAtMost, unit_of};
 ghost use Rattle.hall_core.specs.Files.{image_of};
@@ -7,7 +7,7 @@ ghost use Rattle.hall_core.specs.Made.{DoneSince, HallCall, HasDone, MakesOnly, 
 ghost use Rattle.hall_core.specs.Moments.{IsDurable};
 ghost use Rattle.hall_core.specs.Steps.{seen};
 ghost use Rattle.hall_core.proofs.MomentLemmas.{durable_seen, counts_now_seen, only_now_seen};
-ghost use Rattle.vol_model.specs.Calls.{Applies, IsIdle, Keeps, MachineCall, Prints, asked_nothing};
+ghost use Rattle.vol_model.specs.Calls.{Applies, ChangesNothing, IsIdle, Keeps, MachineCall, Prints, asked_nothing};
 ghost use Rattle.vol_model.specs.Shelf.{number_of, step};
 ghost use Rattle.vtoc_index.specs.Index.{IsMounted, IsOfUnit};
 ghost use Rattle.vtoc_index.specs.Kept.{IsKept};
@@ -97,6 +97,8 @@ impl<H: Hall> PackMachine<H> {
         ensures untouched { (r : Refusal) → IsErrOf result (MachErr.Refused r) → MakesOnly (λ call. ⊥) (H.made (hall_of self.old)) (H.made (hall_of self.new)) }
         ensures memory { IsErrOf result MachErr.Memory → ⊥ }
         ensures index { KeepsIndex (Op.Rename v old.now new.now) (index_of self.old) (index_of self.new) result }
+        ensures same { ChangesNothing result → index_of self.new ≡ index_of self.old }
+        ensures room { vec_capacity (index_of self.new).slots ≡ vec_capacity (index_of self.old).slots }
         ensures buffer { ((r : Refusal) → ¬ IsErrOf result (MachErr.Refused r)) → HoldsBehind (Op.Rename v old.now new.now) (index_of self.old) (DoneSince (H.calls (hall_of self.old)).reads (H.done (hall_of self.new))) (H.made (hall_of self.old)) (H.made (hall_of self.new)) (index_of self.new).buf }
         ensures again { OperationCalls (Op.Rename v old.now new.now) (index_of self.old) (index_of self.new) (H.calls (hall_of self.old)) (H.calls (hall_of self.new)) result }
         ensures ahead { IsTrue H.tells → OnErr result (IsBeforeOr (index_of self.old) (image_of (H.meaning (hall_of self.new)).state (H.facts (hall_of self.new)) (index_of self.old).unit) (index_of self.new)) }
@@ -182,6 +184,8 @@ impl<H: Hall> Machine for PackMachine<H> {
         ensures untouched { (r : Refusal) → IsErrOf result (MachErr.Refused r) → MakesOnly (λ call. ⊥) (H.made (hall_of self.old)) (H.made (hall_of self.new)) }
         ensures memory { IsErrOf result MachErr.Memory → ⊥ }
         ensures index { KeepsIndex op.now (index_of self.old) (index_of self.new) result }
+        ensures same { ChangesNothing result → index_of self.new ≡ index_of self.old }
+        ensures room { vec_capacity (index_of self.new).slots ≡ vec_capacity (index_of self.old).slots }
         ensures buffer { ((r : Refusal) → ¬ IsErrOf result (MachErr.Refused r)) → HoldsBehind op.now (index_of self.old) (DoneSince (H.calls (hall_of self.old)).reads (H.done (hall_of self.new))) (H.made (hall_of self.old)) (H.made (hall_of self.new)) (index_of self.new).buf }
         ensures again { OperationCalls op.now (index_of self.old) (index_of self.new) (H.calls (hall_of self.old)) (H.calls (hall_of self.new)) result }
         ensures ahead { IsTrue H.tells → OnErr result (IsBeforeOr (index_of self.old) (image_of (H.meaning (hall_of self.new)).state (H.facts (hall_of self.new)) (index_of self.old).unit) (index_of self.new)) }

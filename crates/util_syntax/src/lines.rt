@@ -41,11 +41,12 @@ pub fn result_line(
 /// Adds a name in ASCII as it is shown: each byte by the code page, but for the blanks, X'40', behind the name.
 ///
 /// A name of blanks alone adds nothing. The one error is want of memory, which doesn't come where there is room for the
-/// characters, and on it nothing is added.
+/// characters, and on it nothing is added. The capacity never shrinks.
 #[tactic(auto, unfolding(ebcdic_names::specs::Names::shown))]
 pub fn push_name_in_ascii(text: &mut Vec<u8>, name: &[u8]) -> Result<(), AllocError>
     ensures added { text.new.items ≡ (if is_ok result then text.old.items ++ shown name.now else text.old.items) }
     ensures room { vec_len text.old + length (shown name.now) ≤ vec_capacity text.old → IsOk result }
+    ensures capacity { vec_capacity text.old ≤ vec_capacity text.new }
 {
     let characters = without_blanks(name);
     text.reserve(characters.len())?;

@@ -2,6 +2,7 @@
 use Rattle.std.proofs.Common.{◌≡◌, ◌≢◌, ◌⊎◌, ◌-◌, ◌<◌, ◌≤◌, ◌^◌, ℕ, Bool, true, false, List, [], ◌∷◌, ◌++◌, Result, Ok, Err, refl, sym, ap, ◌∙◌, inl, inr, ⊎_elim, get_or, arith, lit≤}
 use Rattle.ebcdic_names.specs.declared.names.Dsn.{Dsn}
 use Rattle.hall_core.specs.Files.{File}
+use Rattle.hall_core.specs.Made.{Noting, Printing, Reading, Syncing, Writing}
 use Rattle.hall_core.specs.Moments.{Meaning}
 use Rattle.vol_model.specs.declared.answers.MachErr.{MachErr}
 use Rattle.vol_model.specs.declared.answers.MachErr.TheVariants.{Refused, Memory, Device, Print}
@@ -12,7 +13,7 @@ use Rattle.vol_model.specs.declared.refusals.Refusal.{Refusal}
 use Rattle.vol_model.specs.declared.requests.Op.{Op}
 use Rattle.vol_model.specs.declared.requests.Op.TheVariants.{Rename}
 use Rattle.vol_model.specs.Shelf.{step}
-use Rattle.vol_model.specs.Calls.{Asked, AsksAtMost, asked_nothing, Status, sound_after, MachineCall, Answers, IsIdle, IsJudgedInMemory, Applies, Prints, Keeps}
+use Rattle.vol_model.specs.Calls.{Asked, AsksAtMost, asked_nothing, Status, sound_after, MachineCall, Answers, ChangesNothing, IsIdle, IsJudgedInMemory, IsRead, Applies, Prints, Keeps, StaysSaid}
 use Rattle.vol_model.specs.Events.{Do, Say, StopsIn, behind}
 use Rattle.vol_model.specs.Runs.{Runs, RunCall, sound_behind}
 
@@ -57,6 +58,29 @@ faults_are_not_sound = (refl, refl)
 -- neither a refusal nor want of memory does
 others_are_sound : (r : Refusal) → (sound_after done ≡ true) × ((sound_after (fails (Refused r)) ≡ true) × (sound_after (fails Memory) ≡ true))
 others_are_sound r = (refl, (refl, refl))
+
+-- behind a fault anything may have changed, and behind an operation that is done
+answers_that_change : (¬ ChangesNothing done) × ((¬ ChangesNothing (fails Device)) × (¬ ChangesNothing (fails Print)))
+answers_that_change = (λ is. is, (λ is. is, λ is. is))
+
+-- behind want of memory nothing has, as behind a refusal
+answers_that_change_nothing : (r : Refusal) → ChangesNothing (fails (Refused r)) × ChangesNothing (fails Memory)
+answers_that_change_nothing r = (tt, tt)
+
+-- what is said of operations may come, but not go
+more_is_said : StaysSaid (λ op. ⊥) (λ op. Unit {0})
+more_is_said op said = absurd said
+
+less_is_said : (v : ℕ) (old new : Dsn) → ¬ StaysSaid (λ op. Unit {0}) (λ op. ⊥)
+less_is_said v old new stays = stays (Rename v old new) tt
+
+-- and it is said of the same operation
+another_is_said : (old new : Dsn) → ¬ StaysSaid (λ op. op ≡ Rename 0 old new) (λ op. op ≡ Rename 1 old new)
+another_is_said old new stays = let same = stays (Rename 0 old new) refl in absurd (cc)
+
+-- of the calls of a hall a read alone is one
+reads : IsRead (Reading 0 0 8) × ((¬ IsRead (Writing 0 0 [])) × ((¬ IsRead Syncing) × ((¬ IsRead (Printing [])) × (¬ IsRead (Noting 0 0)))))
+reads = (tt, (λ is. is, (λ is. is, (λ is. is, λ is. is))))
 
 run_faults_are_not_sound : (sound_behind (ends stop.Device) ≡ false) × (sound_behind (ends stop.Print) ≡ false)
 run_faults_are_not_sound = (refl, refl)

@@ -2,6 +2,7 @@
 use Rattle.std.specs.Prelude.{◌≡◌, ◌⊎◌, ℕ, ◌+◌, ◌≤◌, Bool, true, false, List, ◌++◌, Result, Ok, Err, OnOk, IsErrOf, IsTrue}
 use Rattle.hall_core.specs.Facts.{Rose}
 use Rattle.hall_core.specs.Files.{File, IsPrefixOf}
+use Rattle.hall_core.specs.Made.{HallCall, Reading}
 use Rattle.hall_core.specs.Moments.{Meaning, Elapses, Same}
 use Rattle.vol_model.specs.declared.answers.MachErr.{MachErr}
 use Rattle.vol_model.specs.declared.answers.MachErr.TheVariants.{Refused, Memory, Device, Print}
@@ -63,6 +64,21 @@ Answers (Err Print) stepped old new = ⊥
 -- nothing is to be done, or nothing was: the step is refused, or memory ran out
 abbrev pub IsIdle : {T : Type 0} → Result Shelf Refusal → Result T MachErr → Type 0
 IsIdle stepped result = ((r : Refusal) × (stepped ≡ Err r)) ⊎ IsErrOf result Memory
+
+-- behind such an answer all but the time is as before: a refusal, or want of memory
+abbrev pub ChangesNothing : {T : Type 0} → Result T MachErr → Type 0
+ChangesNothing (Err (Refused r)) = Unit {0}
+ChangesNothing (Err Memory) = Unit {0}
+ChangesNothing _ = ⊥
+
+-- what was said of operations is said still
+abbrev pub StaysSaid : (Op → Type 0) → (Op → Type 0) → Type 0
+StaysSaid old new = (op : Op) → old op → new op
+
+-- a read of the hall below
+abbrev pub IsRead : HallCall → Type 0
+IsRead (Reading unit at len) = Unit {0}
+IsRead _ = ⊥
 
 -- whether what an operation is refused for stands in the VTOC, which a machine holds in memory: so no fault comes while it is looked for
 abbrev pub IsJudgedInMemory : Op → Type 0

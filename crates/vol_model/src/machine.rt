@@ -8,7 +8,7 @@ ghost use Rattle.hall_core.specs.Moments.{Meaning, LeftNow, IsDurable};
 ghost use Rattle.vol_model.specs.declared.contents.Shelf.{Shelf};
 ghost use Rattle.vol_model.specs.declared.refusals.Refusal as refusals;
 ghost use Rattle.vol_model.specs.declared.requests.Op as requests;
-ghost use Rattle.vol_model.specs.Calls.{Asked, AsksAtMost, Status, MachineCall, Applies, IsIdle, Prints, Keeps};
+ghost use Rattle.vol_model.specs.Calls.{Asked, AsksAtMost, Status, MachineCall, Applies, ChangesNothing, IsIdle, IsRead, Prints, Keeps, StaysSaid};
 ghost use Rattle.vol_model.specs.Shelf.{IsLawful, step};
 
 use crate::answers::MachErr;
@@ -18,8 +18,9 @@ use crate::requests::Op;
 /// A shelf of volumes, and a place to print on.
 ///
 /// An operation is done as a whole or not at all, whatever stops it, and once it is answered no stop undoes it. A
-/// refusal, or want of memory, leaves all but the time as it was. After a fault of a device or of the printer the
-/// machine isn't sound any more, and takes no further call but `is_sound`.
+/// refusal, or want of memory, leaves all but the time as it was, and a print what the machine holds for operations.
+/// After a fault of a device or of the printer the machine isn't sound any more, and takes no further call but
+/// `is_sound`.
 ///
 /// Clauses on the shelf hold where `tells` is true, and those on what a print adds where `tells_prints` is too. What
 /// `status` tells is always known. Two laws, `counts_now` and `only_now`, ask for no `tells`: a machine that tells
@@ -82,7 +83,7 @@ pub trait Machine {
     /// want memory. A rename is judged by the names in the VTOC alone, so no fault, nor want of memory, comes in place of
     /// its refusal. It makes at most one read, one write and one sync of the hall below; no read where the machine holds
     /// what it has to read; none of them where it is refused; and no write nor sync where memory is wanting; and none that
-    /// isn't the operation's. Where it is done, no call comes behind it. It counts as one operation.
+    /// isn't the operation's. Where it is done, no call comes behind it. It counts as one operation at most.
     fn apply(&mut self, op: &Op) -> Result<(), MachErr>
         requires sound { IsTrue (status self.old).is_sound }
         ensures shelf { IsTrue tells → Applies op.now (meaning self.old) (meaning self.new) result }
@@ -99,14 +100,18 @@ pub trait Machine {
         ensures memory { IsErrOf result MachErr.Memory → CallsAtMost 1 0 0 0 (calls self.old) (calls self.new) }
         ensures wanted { IsErrOf result MachErr.Memory → wants self.old op.now }
         ensures refused { (r : Refusal) → IsErrOf result (MachErr.Refused r) → CallsAtMost 0 0 0 0 (calls self.old) (calls self.new) }
+        ensures unwritten { IsErrOf result MachErr.Memory → MakesOnly IsRead (made self.old) (made self.new) }
         ensures untouched { (r : Refusal) → IsErrOf result (MachErr.Refused r) → MakesOnly (λ call. ⊥) (made self.old) (made self.new) }
+        ensures holding { ChangesNothing result → StaysSaid (holds self.old) (holds self.new) }
+        ensures refusing { ChangesNothing result → (r : Refusal) → StaysSaid (λ other. refuses self.new other r) (λ other. refuses self.old other r) }
+        ensures wanting { ChangesNothing result → StaysSaid (wants self.new) (wants self.old) }
         ensures once { AsksAtMost 1 0 (asked self.old) (asked self.new) }
         ensures print { IsErrOf result MachErr.Print → ⊥ };
 
     /// Prints the bytes.
     ///
     /// It isn't refused, and no device fails in it. After `Print` a prefix of the bytes is printed. It makes at most
-    /// one print of the hall below, and none where memory is wanting. It counts as one print.
+    /// one print of the hall below, and none where memory is wanting. It counts as one print at most.
     fn print(&mut self, bytes: &[u8]) -> Result<(), MachErr>
         requires sound { IsTrue (status self.old).is_sound }
         ensures shelf { IsTrue tells → Prints tells_prints bytes.now (meaning self.old) (meaning self.new) result }
@@ -118,6 +123,9 @@ pub trait Machine {
         ensures done { OnOk result (done self.new (Printing bytes.now)) }
         ensures memory { IsErrOf result MachErr.Memory → CallsAtMost 0 0 0 0 (calls self.old) (calls self.new) }
         ensures unmade { IsErrOf result MachErr.Memory → MakesOnly (λ call. ⊥) (made self.old) (made self.new) }
+        ensures holding { StaysSaid (holds self.old) (holds self.new) }
+        ensures refusing { (r : Refusal) → StaysSaid (λ op. refuses self.new op r) (λ op. refuses self.old op r) }
+        ensures wanting { ChangesNothing result → StaysSaid (wants self.new) (wants self.old) }
         ensures once { AsksAtMost 0 1 (asked self.old) (asked self.new) }
         ensures device { IsErrOf result MachErr.Device → ⊥ }
         ensures refused { (r : Refusal) → IsErrOf result (MachErr.Refused r) → ⊥ };

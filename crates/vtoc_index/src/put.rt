@@ -1,5 +1,5 @@
 //! One slot of a VTOC, written over.
-ghost use Rattle.std.specs.Prelude.{◌≡◌, ◌⊎◌, ◌<◌, ◌≤◌, ◌+◌, ◌-◌, [], length, filter, nat_le, slice_index, IsOk, IsTrue, OnOk, OnErr};
+ghost use Rattle.std.specs.Prelude.{◌≡◌, ◌⊎◌, ◌<◌, ◌≤◌, ◌+◌, ◌-◌, [], length, vec_capacity, filter, nat_le, slice_index, IsOk, IsTrue, OnOk, OnErr};
 ghost use Rattle.hall_core.specs.Facts.{CallsAtMost, DeviceCall, unit_of};
 ghost use Rattle.hall_core.specs.Files.{image_of};
 ghost use Rattle.hall_core.specs.Made.{DoneSince, HasDone, MakesOnly, Noting, StaysDone};
@@ -31,7 +31,7 @@ struct Place {
 /// track can't be read, or no slot is found there any more, with nothing written; or where the write fails,
 /// which is pending then or was not begun. Then the index keeps the old DSCB. Its buffer has the new one where
 /// the write failed; else it has nothing of the track, or the track as it was seen. It may be the index of no
-/// image any more, so no slot can be put by it.
+/// image any more, so no slot can be put by it. It takes no memory.
 ///
 /// The bytes follow System Control Blocks, GC28-6628; that one write holds them is this project's profile.
 pub fn put_slot<H: Hall>(hall: &mut H, vol: &mut Vol, slot: u32, dscb: &Dscb) -> Result<(), Device>
@@ -40,6 +40,7 @@ pub fn put_slot<H: Hall>(hall: &mut H, vol: &mut Vol, slot: u32, dscb: &Dscb) ->
     requires index { IsTrue H.tells → IsIndexOf (image_of (H.meaning hall.old).state (H.facts hall.old) vol.old.unit) vol.old }
     ensures told { IsTrue H.tells → AfterPut (unit_of (H.facts hall.old).units vol.old.unit).name vol.old slot dscb.now vol.new (image_of (H.meaning hall.old).state (H.facts hall.old) vol.old.unit) (image_of (H.meaning hall.new).state (H.facts hall.new) vol.old.unit) (H.meaning hall.old) (H.meaning hall.new) result }
     ensures index { IsWith slot dscb.now vol.old vol.new result }
+    ensures room { vec_capacity vol.new.slots ≡ vec_capacity vol.old.slots }
     ensures held { vol.new.buf.track ≡ vol.old.vtoc.start + track_index vol.old.firsts.items slot }
     ensures unit { IsOfUnit (H.facts hall.new).units vol.new }
     ensures call { DeviceCall (H.facts hall.old) (H.facts hall.new) result }

@@ -6,4 +6,5 @@ abbrev pub invariant-loop-byte : goal.invariant-loop-byte
 invariant-loop-byte l = record {
   added : l.text.items ≡ l.initial.text.items ++ map ascii_of (take l.byte-index l.characters);
   room : vec_len l.text + (length l.characters - l.byte-index) ≤ vec_capacity l.text;
+  capacity : vec_capacity l.initial.text ≤ vec_capacity l.text;
 }
