@@ -113,7 +113,7 @@ impl<'a, R: Files<File = File> + Print> FileHall<'a, R> {
     ghost use Rattle.std.specs.List.{All};
     ghost use Rattle.hall_files.specs.FileHall.{facts_of, files_of, notes_of, units_in};
 
-    /// A hall with no unit. It takes no memory yet.
+    /// A hall with no unit.
     pub fn new(alloc: Global, rt: &'a R) -> FileHall<'a, R>
         ensures { facts_of result ≡ record { units = []; references = []; dev_faults = 0; print_faults = 0 } }
     {
