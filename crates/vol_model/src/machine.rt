@@ -18,9 +18,9 @@ use crate::requests::Op;
 /// A shelf of volumes, and a place to print on.
 ///
 /// An operation is done as a whole or not at all, whatever stops it, and once it is answered no stop undoes it. A
-/// refusal, or want of memory, leaves all but the time as it was, and a print what the machine holds for operations.
-/// After a fault of a device or of the printer the machine isn't sound any more, and takes no further call but
-/// `is_sound`.
+/// refusal, or want of memory, changes nothing but the time; behind these and a print it holds for operations what it
+/// held, and refuses by no new reason. After a fault of a device or of the printer the machine isn't sound any more,
+/// and takes no further call but `is_sound`.
 ///
 /// Clauses on the shelf hold where `tells` is true, and those on what a print adds where `tells_prints` is too. What
 /// `status` tells is always known. Two laws, `counts_now` and `only_now`, ask for no `tells`: a machine that tells
