@@ -28,7 +28,7 @@ use vtoc_index::{Vol, find};
 ///
 /// It is refused, in this order, where the volume has no set of the old name (`NoSet`), where it has one
 /// of the new name (`SetExists`), and where either name is SYSCTLG (`WrongKind`); then nothing is called,
-/// and the index is as before. It takes no memory, so `Memory` never comes. `Device` comes only where
+/// and the index is as before. The room of its slots stays, and `Memory` never comes. `Device` comes only where
 /// the count of its faults rose. The index is that of the new image after `Ok`. After `Device` it has the slots
 /// as before, and may be that of no image; or it has the set under the new name, which was written then.
 pub fn rename<H: Hall>(hall: &mut H, vol: &mut Vol, old: &Dsn, new: &Dsn) -> Result<(), StoreErr>

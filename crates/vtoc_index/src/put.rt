@@ -31,7 +31,7 @@ struct Place {
 /// track can't be read, or no slot is found there any more, with nothing written; or where the write fails,
 /// which is pending then or was not begun. Then the index keeps the old DSCB. Its buffer has the new one where
 /// the write failed; else it has nothing of the track, or the track as it was seen. It may be the index of no
-/// image any more, so no slot can be put by it. It takes no memory.
+/// image any more, so no slot can be put by it. The room of the slots stays as it was.
 ///
 /// The bytes follow System Control Blocks, GC28-6628; that one write holds them is this project's profile.
 pub fn put_slot<H: Hall>(hall: &mut H, vol: &mut Vol, slot: u32, dscb: &Dscb) -> Result<(), Device>

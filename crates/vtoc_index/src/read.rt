@@ -42,7 +42,7 @@ use vol_model::Run;
 /// On a pack that mounts, the header, the label's track and each track of the VTOC, which are counted
 /// from 0 over the volume, are read once, in this order; one that breaks a rule of header, label, extent or
 /// tracks is read up to that, so that no track is read behind the first of the VTOC that breaks one. No call
-/// is made twice. All memory of the index is taken here.
+/// is made twice.
 ///
 /// Label and DSCBs follow System Control Blocks, GC28-6628; the rules and their order are this project's
 /// profile.
