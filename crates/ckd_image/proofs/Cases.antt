@@ -1,12 +1,10 @@
 -- Definitions computed at their edges, each where a reading that is nearly right gives another answer.
-use Rattle.std.specs.Prelude.{ℕ, ◌+◌, ◌≡◌, true, false, List, [], ◌∷◌, ◌++◌, Some, None, Ok, Err, replicate}
+use Rattle.std.specs.Prelude.{ℕ, ◌≡◌, true, false, List, [], ◌∷◌, ◌++◌, Some, None, replicate}
 use Rattle.std.proofs.Common.{refl, arith}
 use Rattle.ckd_image.specs.declared.device.DiskType.TheVariants.{D2311, D2314, D3330}
-use Rattle.ckd_image.specs.Device.{row_of}
-use Rattle.ckd_image.specs.Fit.{IsMost, fits}
+use Rattle.ckd_image.specs.Fit.{fits}
 use Rattle.ckd_image.specs.Header.{HasGeometry}
-use Rattle.ckd_image.specs.Walk.{IsReadingOf}
-use Rattle.ckd_image.specs.Track.{IsR0, IsRecord, Record, end_marker, home_address, record_bytes}
+use Rattle.ckd_image.specs.Track.{end_marker}
 use Rattle.ckd_image.specs.Reading.{is_front, records_of, records_to_end}
 use Rattle.ckd_image.specs.Break.{break_of, break_to_end, break_up_to, pattern_break}
 
@@ -79,64 +77,3 @@ broken_marker = (refl, refl)
 eight_bytes_behind : (break_of 2 3 (Some 1) (front ++ (r1 ++ replicate 8 0)) ≡ None) × (break_of 2 3 (Some 1) (front ++ (r1 ++ replicate 7 0)) ≡ Some 41)
 unfolding break_of break_up_to pattern_break
 eight_bytes_behind = (refl, refl)
-
--- as many DSCBs fit a track as are counted, and no more
-most_dscbs : IsMost D2311 44 96 16 × (¬ IsMost D2311 44 96 15) × (¬ IsMost D2311 44 96 17) × IsMost D2314 44 96 25 × IsMost D3330 44 96 39
-most_dscbs = ((refl, refl), λ most. let behind = most.1 in cc, λ most. let fit = most.0 in cc, (refl, refl), (refl, refl))
-
--- and as many blocks of a directory, of a key of eight bytes and 256 of data
-most_directory_blocks :
-    IsMost D2311 8 256 (row_of D2311).directory_blocks_per_track
-    × IsMost D2314 8 256 (row_of D2314).directory_blocks_per_track
-    × IsMost D3330 8 256 (row_of D3330).directory_blocks_per_track
-most_directory_blocks = ((refl, refl), (refl, refl), (refl, refl))
-
--- the largest R1 is one without a key that fits alone, and it with one byte more doesn't
-largest_alone :
-    (fits D2311 [] 0 (row_of D2311).largest_record ≡ true) × (fits D2311 [] 0 ((row_of D2311).largest_record + 1) ≡ false)
-    × (fits D2314 [] 0 (row_of D2314).largest_record ≡ true) × (fits D2314 [] 0 ((row_of D2314).largest_record + 1) ≡ false)
-    × (fits D3330 [] 0 (row_of D3330).largest_record ≡ true) × (fits D3330 [] 0 ((row_of D3330).largest_record + 1) ≡ false)
-largest_alone = (refl, refl, refl, refl, refl, refl)
-
--- a walk counts records, or names the break
-reading : (x : Record) → IsReadingOf None (Some (x ∷ [])) (Ok 1) × (¬ IsReadingOf None (Some []) (Ok 1)) × IsReadingOf (Some 3) None (Err 3) × (¬ IsReadingOf (Some 3) None (Err 4))
-reading x = ((refl, refl), λ is. let count = is.1 in cc, (refl, refl), λ is. let break = is.0 in cc)
-
--- no records are counted where there is a break, nor is there one where records are read
-break_and_records : (x : Record) → (¬ IsReadingOf (Some 3) (Some (x ∷ [])) (Ok 1)) × (¬ IsReadingOf (Some 3) (Some (x ∷ [])) (Err 3))
-break_and_records x = (λ is. let break = is.0 in cc, λ is. let records = is.1 in cc)
-
--- where nothing is read no records are counted, and where nothing breaks no byte is named, be it 0
-nothing_read : (¬ IsReadingOf None None (Ok 0)) × (¬ IsReadingOf None None (Err 0)) × IsReadingOf None (Some []) (Ok 0) × IsReadingOf (Some 0) None (Err 0)
-nothing_read = (λ is. let count = is.1 in cc, λ is. let break = is.0 in cc, (refl, refl), (refl, refl))
-
--- count, key and data of R1, and of a home address; R0 has no key and eight bytes
-written :
-    (record_bytes 1 (record { address = 0 ∷ 9 ∷ 0 ∷ 7 ∷ []; key = 75 ∷ 75 ∷ []; «data» = 68 ∷ 68 ∷ 68 ∷ [] }) ≡ r1)
-    × (home_address 0 2 3 ++ record_bytes 0 (record { address = 0 ∷ 2 ∷ 0 ∷ 3 ∷ []; key = []; «data» = replicate 8 0 }) ≡ front)
-written = (refl, refl)
-
--- KL of 255 fits its byte, and 256 doesn't; R0 is a record with no key and eight bytes, no fewer and no more
-records_stand :
-    IsRecord 1 (record { address = replicate 4 0; key = replicate 255 0; «data» = [] })
-    × (¬ IsRecord 1 (record { address = replicate 4 0; key = replicate 256 0; «data» = [] }))
-    × (¬ IsRecord 256 (record { address = replicate 4 0; key = []; «data» = [] }))
-    × (¬ IsRecord 1 (record { address = replicate 3 0; key = []; «data» = [] }))
-    × IsR0 (record { address = replicate 4 9; key = []; «data» = replicate 8 9 })
-    × (¬ IsR0 (record { address = replicate 4 0; key = []; «data» = replicate 7 0 }))
-    × (¬ IsR0 (record { address = replicate 4 0; key = []; «data» = replicate 9 0 }))
-    × (¬ IsR0 (record { address = replicate 4 0; key = 0 ∷ []; «data» = replicate 8 0 }))
-    × (¬ IsR0 (record { address = replicate 3 0; key = []; «data» = replicate 8 0 }))
-    × (¬ IsR0 (record { address = replicate 5 0; key = []; «data» = replicate 8 0 }))
-records_stand = (
-  record { number = omega arith; four = refl; key_fits = omega arith; data_fits = omega arith; count = λ same. cc },
-  λ is. omega (arith, is.key_fits),
-  λ is. omega (arith, is.number),
-  λ is. omega (arith, is.four),
-  record { stands = record { number = omega arith; four = refl; key_fits = omega arith; data_fits = omega arith; count = λ same. cc }; no_key = refl; eight = refl },
-  λ is. omega (arith, is.eight),
-  λ is. omega (arith, is.eight),
-  λ is. let none = is.no_key in cc,
-  λ is. omega (arith, is.stands.four),
-  λ is. omega (arith, is.stands.four),
-)

@@ -1,7 +1,4 @@
 mod Cases
-mod HeaderCases
-mod TrackCases
-mod WritingCases
 pub mod Counts
 pub mod Front
 pub mod Patterns
@@ -14,5 +11,4 @@ pub mod GrammarBreak
 pub mod GrammarBegin
 pub mod GrammarFirstBreak
 pub mod Written
-pub mod WrittenTracks
 pub mod GeometryLemmas

@@ -16,11 +16,11 @@ use Rattle.ckd_image.specs.Header.{HasGeometry, heads_field, track_size_field, s
 use Rattle.ckd_image.specs.declared.header.ImageErr.{ImageErr}
 use Rattle.ckd_image.proofs.GrammarFront.{if_false}
 
--- bytes put behind those that stand already, over equal ones
-pub put_behind : (x n k m : ℕ) (front ys : List ℕ) → length front ≡ n → put_mid n k (front ++ replicate m x) ys ≡ (front ++ ys) ++ replicate (m - k) x
-put_behind x n k m front ys e =
-    let behind : post_of n k (front ++ replicate m x) ≡ replicate (m - k) x = ap (drop k) (drop_at front (replicate m x) n e) ∙ drop-replicate k m x in
-    ap₂ (λ (xs zs : List ℕ). xs ++ (ys ++ zs)) (take_at front (replicate m x) n e) behind ∙ sym (append_assoc front ys (replicate (m - k) x))
+-- bytes put behind those that stand already, over zeros
+pub put_behind : (n k m : ℕ) (front ys : List ℕ) → length front ≡ n → put_mid n k (front ++ replicate m 0) ys ≡ (front ++ ys) ++ replicate (m - k) 0
+put_behind n k m front ys e =
+    let behind : post_of n k (front ++ replicate m 0) ≡ replicate (m - k) 0 = ap (drop k) (drop_at front (replicate m 0) n e) ∙ drop-replicate k m 0 in
+    ap₂ (λ (xs zs : List ℕ). xs ++ (ys ++ zs)) (take_at front (replicate m 0) n e) behind ∙ sym (append_assoc front ys (replicate (m - k) 0))
 
 -- the type byte of a device names it
 pub names_device : (d : DiskType) → device_of (row_of d).type_byte ≡ Some d
@@ -107,8 +107,8 @@ laid a b s t la lb ls =
     let three : length ((a ++ b) ++ s) ≡ 16 = length-append (a ++ b) s ∙ omega arith in
     let zeros = ap (λ (xs : List ℕ). a ++ xs) (drop-replicate 8 512 0) in
     ap (λ (xs : List ℕ). set (put_mid 12 4 (put_mid 8 4 xs b) s) 16 t) zeros
-    ∙ (ap (λ (xs : List ℕ). set (put_mid 12 4 xs s) 16 t) (put_behind 0 8 4 504 a b la)
-    ∙ (ap (λ (xs : List ℕ). set xs 16 t) (put_behind 0 12 4 500 (a ++ b) s two)
+    ∙ (ap (λ (xs : List ℕ). set (put_mid 12 4 xs s) 16 t) (put_behind 8 4 504 a b la)
+    ∙ (ap (λ (xs : List ℕ). set xs 16 t) (put_behind 12 4 500 (a ++ b) s two)
     ∙ (set_at ((a ++ b) ++ s) 0 (replicate 495 0) t 16 three
     ∙ (append_assoc (a ++ b) s _ ∙ append_assoc a b _))))
 

@@ -5,4 +5,3 @@ pub mod Track
 pub mod Reading
 pub mod Break
 pub mod Walk
-pub mod Writing

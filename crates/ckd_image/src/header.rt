@@ -50,7 +50,7 @@ pub struct Geometry {
 /// The first rule that the header or the length of an image breaks, in this order.
 #[derive(Clone, Copy, Debug, PartialEq, Eq)]
 pub enum ImageErr {
-    /// A compressed image, which isn't shorter than a header.
+    /// A compressed image.
     Compressed,
     /// Not an image of a disk pack in the CKD layout, or shorter than a header.
     BadMagic,
@@ -68,7 +68,7 @@ pub enum ImageErr {
     BadLength(u64),
 }
 
-/// Reads and makes the 512 bytes in front of an image.
+/// The header of an image, 512 bytes.
 pub struct Header;
 
 impl Header {

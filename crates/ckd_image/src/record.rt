@@ -16,12 +16,11 @@ pub struct RecordParts<'a> {
 /// The bytes of the count of a record, which stands before its key.
 pub const COUNT_LEN: usize = 8;
 
-// Where R, KL and DL stand in a count.
-pub(crate) const NUMBER_AT: usize = 4;
+const NUMBER_AT: usize = 4;
 
-pub(crate) const KEY_LENGTH_AT: usize = 5;
+const KEY_LENGTH_AT: usize = 5;
 
-pub(crate) const DATA_LENGTH_AT: usize = 6;
+const DATA_LENGTH_AT: usize = 6;
 
 /// The record R = `number` at the front of these bytes of a track, and the bytes behind it.
 ///

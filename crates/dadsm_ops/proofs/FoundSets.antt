@@ -14,9 +14,8 @@ use Rattle.dscb_codec.specs.declared.Dscb.TheVariants as formats
 use Rattle.dscb_codec.specs.declared.F1.{F1}
 use Rattle.dscb_codec.specs.Layout.{Field, IsDscb, f1_fields}
 use Rattle.dscb_codec.proofs.Tables.{same_from}
-use Rattle.vol_model.specs.declared.contents.Run.{Run}
 use Rattle.pack_spec.specs.declared.addressed.VtocSlot.{VtocSlot}
-use Rattle.pack_spec.specs.Vtoc.{is_slot, slot_bytes, slots_on}
+use Rattle.pack_spec.specs.Vtoc.{Run, is_slot, slot_bytes, slots_on}
 use Rattle.pack_spec.specs.Slots.{addressed_from, slots_at, slots_of_vtoc, tracks_in}
 use Rattle.vtoc_index.specs.Contents.{AreDscbs, is_set_named}
 use Rattle.vtoc_index.proofs.TrackPut.{slot_lengths, slot_records}

@@ -13,7 +13,7 @@ use Rattle.vol_model.specs.declared.contents.Volume.{Volume}
 use Rattle.vol_model.specs.declared.refusals.Refusal.{Refusal}
 use Rattle.vtoc_index.specs.Index.{IsMounted}
 use Rattle.vtoc_index.specs.declared.vol.Vol.{Vol}
-use Rattle.dadsm_ops.specs.Operations.{ChangesVtoc, StandsForEither, Operates, image_named}
+use Rattle.dadsm_ops.specs.Operations.{ChangesVtoc, IsBeforeOrAfter, Operates, image_named}
 
 -- the files as before
 unchanged : (name : List ℕ) (g : Geometry) (vtoc : Run) (before after : List File) → after ≡ before → ChangesVtoc name g vtoc before after
@@ -38,7 +38,7 @@ module _ (name : List ℕ) (operation : Volume → Result Volume Refusal) (v v' 
   module _ (files : List File) (leads : LeadsTo name (operation volume) v old.state files) where
     -- what a stop in it leaves
     stopped : {T E : Type 0} {result : Result T E} → StepTo (λ all. all) files old new result
-        → Elapses old new (λ left p. StandsForEither volume (operation volume) (image_named left name) × (ChangesVtoc name v'.geometry v'.vtoc old.state left × (p ≡ old.printed)))
+        → Elapses old new (λ left p. IsBeforeOrAfter volume (operation volume) (image_named left name) × (ChangesVtoc name v'.geometry v'.vtoc old.state left × (p ≡ old.printed)))
     stopped step = elapses_weaker step.moments (λ left p (which, printed). ⊎_elim
         (λ is. (inl (ap (λ (all : List File). volume_of (image_named all name)) is ∙ before), (unchanged name v'.geometry v'.vtoc old.state left is, printed)))
         (λ is. (

@@ -1,6 +1,6 @@
 -- An image in which one slot holds a data set's format 1 under another name: it stands for the renamed volume.
 use Rattle.std.proofs.Common.{◌≡◌, inl, ℕ, ◌<◌, Bool, true, false, List, [], ◌∷◌, ◌++◌, map, length, get_or, Option, Some, None, refl, sym, ap, ◌∙◌, arith}
-use Rattle.std.specs.Prelude.{◌||◌, is_some, position, slice_get, slice_range, slice_set, unwrap_or, not, Result, Ok, if◌then◌else◌}
+use Rattle.std.specs.Prelude.{◌||◌, is_some, position, slice_get, slice_range, slice_set, unwrap_or, not, Result, Ok, Err, if◌then◌else◌}
 use Rattle.std.specs.List.{list_any}
 use Rattle.std.specs.Vec.{with_items}
 use Rattle.std.proofs.lemmas.List.{length-set, with_items_is}
@@ -25,7 +25,7 @@ use Rattle.vol_model.specs.declared.refusals.Refusal.TheVariants.{NoSet, SetExis
 use Rattle.vol_model.specs.Shelf.{has_set, is_catalog, rename_on, rename_refusal, renamed, unless_refused}
 use Rattle.vtoc_index.specs.declared.vol.Vol.{Vol}
 use Rattle.vtoc_index.specs.Contents.{with_bytes}
-use Rattle.vtoc_index.specs.Index.{IsIndexOf, IsMounted, IsPut}
+use Rattle.vtoc_index.specs.Index.{IsIndexOf, IsMounted, IsPut, run_of}
 use Rattle.vtoc_index.specs.Puts.{IsHeld, IsReplaced}
 use Rattle.vtoc_index.proofs.ExtentLaw.{KeepsExtent, mounted_put}
 use Rattle.vtoc_index.proofs.FaultWalks.{no_slot}
@@ -40,11 +40,11 @@ use Rattle.dadsm_ops.proofs.RenamedSlots.{faults_alike, named_behind, named_once
 
 -- the slots of the VTOC of an image, by an index
 abbrev pub slots_on_image : List ℕ → Vol → List VtocSlot
-slots_on_image image v = slots_of_vtoc image v.geometry v.vtoc
+slots_on_image image v = slots_of_vtoc image v.geometry (run_of v.vtoc)
 
 -- the volume of an image, by an index
 abbrev pub volume_on_image : List ℕ → Vol → Volume
-volume_on_image image v = volume_with v.geometry (unwrap_or (label_of image v.geometry) []) v.vtoc (slots_on_image image v)
+volume_on_image image v = volume_with v.geometry (unwrap_or (label_of image v.geometry) []) (run_of v.vtoc) (slots_on_image image v)
 
 -- A data set of the old name stands in a slot, and none of the new name anywhere; neither name is the catalog's.
 pub record CanRename (image : List ℕ) (v : Vol) (old new : Dsn) (slot : ℕ) (f : F1) : Type 0 where
@@ -104,7 +104,7 @@ is_named_anew image v old new slot f bytes can size dscb =
       low = at.0;
       there = here;
       named = at.1;
-      written = bytes_renamed f new.bytes s.bytes bytes (slot_wide image v.geometry v.vtoc slot s here) size (dscb_at v.slots.items slots slot (formats.F1 f) s can.mounted.index.slots can.set here) dscb;
+      written = bytes_renamed f new.bytes s.bytes bytes (slot_wide image v.geometry (run_of v.vtoc) slot s here) size (dscb_at v.slots.items slots slot (formats.F1 f) s can.mounted.index.slots can.set here) dscb;
     }
 
 -- What the bytes that are put make of the slots.
@@ -158,7 +158,7 @@ volume_is : (image : List ℕ) (v : Vol) (volume : Volume) → IsMounted image v
 volume_is image v volume mounted stands = let same : Ok volume ≡ Ok (volume_on_image image v) = sym stands ∙ mounted.volume in cc
 
 -- by the answers to the three tests
-unfoldable pub outcome : Bool → Bool → Bool → Volume → Result Volume Refusal
+outcome : Bool → Bool → Bool → Volume → Result Volume Refusal
 outcome has_old has_new is_kept after = unless_refused (if not has_old then Some NoSet else (if has_new then Some SetExists else (if is_kept then Some WrongKind else None))) after
 
 renamed_by : (image : List ℕ) (v : Vol) (old new : Dsn) (volume : Volume) → volume ≡ volume_on_image image v
@@ -167,7 +167,7 @@ unfolding rename_on rename_refusal outcome
 renamed_by image v old new volume is =
     let g : Geometry = v.geometry in
     let label : List ℕ = unwrap_or (label_of image g) [] in
-    let has : (name : List ℕ) → has_set volume name ≡ is_some (position (is_named name) (slots_on_image image v)) = λ name. ap (λ (x : Volume). has_set x name) is ∙ has_set_found g label v.vtoc (slots_on_image image v) name in
+    let has : (name : List ℕ) → has_set volume name ≡ is_some (position (is_named name) (slots_on_image image v)) = λ name. ap (λ (x : Volume). has_set x name) is ∙ has_set_found g label (run_of v.vtoc) (slots_on_image image v) name in
     let kept : Bool = is_catalog old.bytes || is_catalog new.bytes in
     let after : Volume = renamed volume old.bytes new in
     ap (λ (b : Bool). outcome b (has_set volume new.bytes) kept after) (has old.bytes)
@@ -183,9 +183,9 @@ rename_stands image put v old new slot f bytes volume can stands size dscb is =
     let read = rename_put image put v (index_then v slot d) old new slot f bytes can size dscb is (is_replaced v slot d) (inl refl) in
     let before : volume ≡ volume_on_image image v = volume_is image v volume can.mounted stands in
     let after : volume_on_image put v ≡ renamed volume old.bytes new =
-    ap (λ (o : Option (List ℕ)). volume_with g (unwrap_or o []) v.vtoc (slots_on_image put v)) is.label
-    ∙ ap (volume_with g (unwrap_or (label_of image g) []) v.vtoc) (is.slots ∙ of.slots)
-    ∙ volume_renamed g (unwrap_or (label_of image g) []) v.vtoc (slots_on_image image v) old.bytes new can.long of.apart
+    ap (λ (o : Option (List ℕ)). volume_with g (unwrap_or o []) (run_of v.vtoc) (slots_on_image put v)) is.label
+    ∙ ap (volume_with g (unwrap_or (label_of image g) []) (run_of v.vtoc)) (is.slots ∙ of.slots)
+    ∙ volume_renamed g (unwrap_or (label_of image g) []) (run_of v.vtoc) (slots_on_image image v) old.bytes new can.long of.apart
     ∙ ap (λ (x : Volume). renamed x old.bytes new) (sym before) in
     record {
       after = renamed volume old.bytes new;
@@ -197,7 +197,27 @@ rename_stands image put v old new slot f bytes volume can stands size dscb is =
       changes = differs_in_vtoc image put v slot bytes can.mounted.index of.low is;
     }
 
--- what a rename gives, by the slots of an image that is mounted
-pub renamed_on_image : (image : List ℕ) (v : Vol) (old new : Dsn) (volume : Volume) → IsMounted image v → volume_of image ≡ Ok volume
-    → rename_on old new volume ≡ outcome (is_some (position (is_named old.bytes) (slots_on_image image v))) (is_some (position (is_named new.bytes) (slots_on_image image v))) (is_catalog old.bytes || is_catalog new.bytes) (renamed volume old.bytes new)
-renamed_on_image image v old new volume mounted stands = renamed_by image v old new volume (volume_is image v volume mounted stands)
+module _ (image : List ℕ) (v : Vol) (old new : Dsn) (volume : Volume) (mounted : IsMounted image v) (stands : volume_of image ≡ Ok volume) where
+  -- there is no data set of the old name
+  pub rename_no_set : position (is_named old.bytes) (slots_on_image image v) ≡ None → rename_on old new volume ≡ Err NoSet
+  unfolding outcome
+  rename_no_set none =
+      renamed_by image v old new volume (volume_is image v volume mounted stands)
+      ∙ ap (λ (o : Option ℕ). outcome (is_some o) (is_some (position (is_named new.bytes) (slots_on_image image v))) (is_catalog old.bytes || is_catalog new.bytes) (renamed volume old.bytes new)) none
+
+  -- there is one of the new name
+  pub rename_set_exists : (slot other : ℕ) → position (is_named old.bytes) (slots_on_image image v) ≡ Some slot → position (is_named new.bytes) (slots_on_image image v) ≡ Some other → rename_on old new volume ≡ Err SetExists
+  unfolding outcome
+  rename_set_exists slot other found exists =
+      renamed_by image v old new volume (volume_is image v volume mounted stands)
+      ∙ ap (λ (o : Option ℕ). outcome (is_some o) (is_some (position (is_named new.bytes) (slots_on_image image v))) (is_catalog old.bytes || is_catalog new.bytes) (renamed volume old.bytes new)) found
+      ∙ ap (λ (o : Option ℕ). outcome true (is_some o) (is_catalog old.bytes || is_catalog new.bytes) (renamed volume old.bytes new)) exists
+
+  -- a name is the catalog's
+  pub rename_wrong_kind : (slot : ℕ) → position (is_named old.bytes) (slots_on_image image v) ≡ Some slot → position (is_named new.bytes) (slots_on_image image v) ≡ None → (is_catalog old.bytes || is_catalog new.bytes) ≡ true → rename_on old new volume ≡ Err WrongKind
+  unfolding outcome
+  rename_wrong_kind slot found absent catalog =
+      renamed_by image v old new volume (volume_is image v volume mounted stands)
+      ∙ ap (λ (o : Option ℕ). outcome (is_some o) (is_some (position (is_named new.bytes) (slots_on_image image v))) (is_catalog old.bytes || is_catalog new.bytes) (renamed volume old.bytes new)) found
+      ∙ ap (λ (o : Option ℕ). outcome true (is_some o) (is_catalog old.bytes || is_catalog new.bytes) (renamed volume old.bytes new)) absent
+      ∙ ap (λ (b : Bool). outcome true false b (renamed volume old.bytes new)) catalog

@@ -12,8 +12,8 @@ use Rattle.pack_spec.specs.declared.addressed.VtocSlot.{VtocSlot}
 use Rattle.pack_spec.specs.Faults.{is_named}
 use Rattle.pack_spec.specs.Formats.{is_data_set}
 use Rattle.pack_spec.specs.Slots.{counted_extents}
+use Rattle.pack_spec.specs.Vtoc.{Run}
 use Rattle.pack_spec.specs.Volume.{attr_of, data_set_of, data_sets_in, run_of_extent, secondary_of, volume_with}
-use Rattle.vol_model.specs.declared.contents.Run.{Run}
 use Rattle.vol_model.specs.declared.contents.Body.TheVariants.{Other}
 use Rattle.vol_model.specs.declared.contents.DataSet.{DataSet}
 use Rattle.vol_model.specs.Order.{in_order}
@@ -129,7 +129,7 @@ volume_renamed g label vtoc slots old new long absent =
     λ i. record {
       serial = record { bytes = slice_range label 4 10 };
       geometry = g;
-      vtoc = vtoc;
+      vtoc = record { start = vtoc.start; len = vtoc.len };
       slots = many i;
       sets = sets i;
       catalog = None;

@@ -1,32 +1,24 @@
 -- A set under its new name, put and made durable: what the operation on the volume is then.
-use Rattle.std.proofs.Common.{◌≡◌, ◌⊎◌, ⊎_elim, inl, inr, ℕ, List, length, Some, refl, sym, ap, subst, ◌∙◌, get_or, ◌+◌, arith}
-use Rattle.std.specs.Prelude.{◌<◌, Result, Ok, Err, OnErr, position, slice_get, slice_set}
-use Rattle.std.proofs.lemmas.List.{get_or-set_same, length-set}
-use Rattle.std.proofs.lemmas.Option.{get_or_from_slice_get, slice_get-get_or}
+use Rattle.std.proofs.Common.{◌≡◌, ℕ, List, length, Some, refl, sym, ap, subst, ◌∙◌, get_or}
+use Rattle.std.specs.Prelude.{Result, Ok, Err, slice_get, slice_set}
+use Rattle.std.proofs.lemmas.Option.{get_or_from_slice_get}
 use Rattle.dscb_codec.specs.declared.Dscb.{Dscb}
 use Rattle.dscb_codec.specs.declared.Dscb.TheVariants as formats
 use Rattle.dscb_codec.specs.declared.F1.{F1}
 use Rattle.dscb_codec.specs.Layout.{IsDscb}
 use Rattle.ebcdic_names.specs.declared.names.Dsn.{Dsn}
-use Rattle.hall_core.specs.Facts.{Calls, CallsAtMost}
 use Rattle.hall_core.specs.Files.{File}
-use Rattle.hall_core.specs.Made.{HallCall, HasDone, StaysDone, Syncing}
 use Rattle.hall_core.specs.Moments.{Meaning}
-use Rattle.hall_core.proofs.MadeLemmas.{done_as, done_still}
 use Rattle.hall_core.proofs.StepLemmas.{done_step, failed_step}
 use Rattle.pack_spec.specs.Volume.{volume_of}
-use Rattle.track_records.specs.Buffers.{Buffer}
-use Rattle.track_records.specs.Updates.{HasLengths}
 use Rattle.vol_model.specs.Shelf.{rename_on}
 use Rattle.vol_model.specs.declared.answers.StoreErr.TheVariants.{Device}
 use Rattle.vol_model.specs.declared.contents.Volume.{Volume}
-use Rattle.vtoc_index.specs.Contents.{is_set_named}
-use Rattle.vtoc_index.specs.Index.{IsMounted, IsPut, slots_in_front, track_index}
-use Rattle.vtoc_index.specs.Puts.{HoldsDscb, HoldsPut, HoldsSlot, IsPutCall, IsReadUpTo, IsReplaced, IsSlotWrite}
+use Rattle.vtoc_index.specs.Index.{IsMounted, IsPut}
+use Rattle.vtoc_index.specs.Puts.{IsReplaced}
 use Rattle.vtoc_index.specs.declared.vol.Vol.{Vol}
 use Rattle.vtoc_index.proofs.NameLemmas.{named_alike}
-use Rattle.vtoc_index.proofs.PutCalls.{call_still, write_still}
-use Rattle.dadsm_ops.specs.Naming.{HaveName, HoldsNamed, HoldsRenamed, IsRenameCall, IsToRename, PutsName, RenameCalls, RenamesEntry, WritesSlotNamed, under_name}
+use Rattle.dadsm_ops.specs.Naming.{HaveName, IsToRename, PutsName, RenamesEntry, under_name}
 use Rattle.dadsm_ops.specs.Operations.{Operates, image_named}
 use Rattle.dadsm_ops.specs.Through.{HaveSlot, PutsThrough}
 use Rattle.dadsm_ops.proofs.FoundSets.{FoundSet, set_found}
@@ -37,93 +29,17 @@ use Rattle.dadsm_ops.proofs.RenamedImages.{CanRename, is_named_anew, rename_put,
 named_dscb : (name : List ℕ) (items : List Dscb) (slot : ℕ) (x d : Dscb) (f : F1) → slice_get items slot ≡ Some (formats.F1 f) → x ≡ get_or items slot x → d ≡ under_name name x → d ≡ formats.F1 (record f { name = name })
 named_dscb name items slot x d f set read is = is ∙ ap (under_name name) (read ∙ get_or_from_slice_get items slot (formats.F1 f) x set)
 
--- the slot of a set holds the DSCB that is read there
-held_there : (name : List ℕ) (items : List Dscb) (slot : ℕ) (x : Dscb) → position (is_set_named name) items ≡ Some slot → x ≡ get_or items slot x → slice_get items slot ≡ Some x
-held_there name items slot x found read =
-    let set = set_found name items slot found in
-    set.set ∙ ap Some (sym (read ∙ get_or_from_slice_get items slot (formats.F1 set.f) x set.set))
-
 -- the slots of an index in which the DSCB of the old name is under the new one
 pub renames_entry : (old new : List ℕ) (items items' : List Dscb) (slot : ℕ) (x d : Dscb) → IsToRename items old new slot → x ≡ get_or items slot x → d ≡ under_name new x → items' ≡ slice_set items slot d → RenamesEntry old new items items'
 renames_entry old new items items' slot x d found read is put =
+    let set = set_found old items slot found.found in
     record {
       slot = slot;
       found = found;
       dscb = x;
-      held = held_there old items slot x found.found read;
+      held = set.set ∙ ap Some (sym (read ∙ get_or_from_slice_get items slot (formats.F1 set.f) x set.set));
       slots = put ∙ ap (slice_set items slot) is;
     }
-
--- the buffer holds the DSCB that the slot has then
-pub holds_renamed : (old new : List ℕ) (v v' : Vol) (slot : ℕ) (d : Dscb) → IsToRename v.slots.items old new slot → v'.slots.items ≡ slice_set v.slots.items slot d → v'.buf.track ≡ v.vtoc.start + track_index v.firsts.items slot → HoldsDscb (slots_in_front v.firsts.items slot) d v'.buf.records → HoldsRenamed old new v v'
-holds_renamed old new v v' slot d found put track held =
-    let items = v.slots.items in
-    let low = (set_found old items slot found.found).low in
-    record {
-      slot = slot;
-      found = found;
-      dscb = d;
-      named =
-          ap (λ (l : List Dscb). slice_get l slot) put
-          ∙ slice_get-get_or (slice_set items slot d) slot d (omega (arith, low, length-set items slot d))
-          ∙ ap Some (get_or-set_same items slot d d low);
-      track = track;
-      held = held;
-    }
-
--- the write of the slot of the old name is that of the rename
-pub named_write : (old new : List ℕ) (v : Vol) (done : HallCall → Type 0) (slot : ℕ) (x d : Dscb) → IsToRename v.slots.items old new slot → x ≡ get_or v.slots.items slot x → d ≡ under_name new x → (call : HallCall) → IsSlotWrite v slot d done call → WritesSlotNamed old new v done call
-named_write old new v done slot x d found read named call writes =
-    record { slot = slot; found = found; dscb = x; held = held_there old v.slots.items slot x found.found read; writes = subst (λ (y : Dscb). IsSlotWrite v slot y done call) named writes }
-
--- and a call that is made for it is one of the rename
-pub named_call : (old new : List ℕ) (v : Vol) (done : HallCall → Type 0) (slot : ℕ) (x d : Dscb) → IsToRename v.slots.items old new slot → x ≡ get_or v.slots.items slot x → d ≡ under_name new x → (call : HallCall) → IsPutCall v slot d done call ⊎ ((call ≡ Syncing) × HasDone (IsSlotWrite v slot d done) done) → IsRenameCall old new v done call
-named_call old new v done slot x d found read named call =
-    ⊎_elim
-    (λ puts. inl (record { slot = slot; found = found; dscb = x; held = held_there old v.slots.items slot x found.found read; puts = subst (λ (y : Dscb). IsPutCall v slot y done call) named puts }))
-    (λ synced. inr (synced.0, done_as synced.1 (named_write old new v done slot x d found read named)))
-
--- and the buffer behind the put is that behind the rename
-pub named_holds : (old new : List ℕ) (v : Vol) (done : HallCall → Type 0) (made made' : HallCall → ℕ) (buf : Buffer) (slot : ℕ) (x d : Dscb) → IsToRename v.slots.items old new slot → x ≡ get_or v.slots.items slot x → d ≡ under_name new x → HoldsPut v slot d done made made' buf → HoldsNamed old new v done made made' buf
-named_holds old new v done made made' buf slot x d found read named holds =
-    record { slot = slot; found = found; dscb = x; held = held_there old v.slots.items slot x found.found read; holds = subst (λ (y : Dscb). HoldsPut v slot y done made made' buf) named holds }
-
--- they are so still, where nothing is taken back of what was done
-pub named_write_still : {old new : List ℕ} {v : Vol} {done later : HallCall → Type 0} → HasDone (WritesSlotNamed old new v done) done → StaysDone done later → HasDone (WritesSlotNamed old new v later) later
-named_write_still wrote kept =
-    done_still (done_as wrote (λ call is. record { slot = is.slot; found = is.found; dscb = is.dscb; held = is.held; writes = write_still is.writes kept })) kept
-
-pub named_call_still : {old new : List ℕ} {v : Vol} {done later : HallCall → Type 0} (call : HallCall) → StaysDone done later → IsRenameCall old new v done call → IsRenameCall old new v later call
-named_call_still call kept =
-    ⊎_elim
-    (λ puts. inl (record { slot = puts.slot; found = puts.found; dscb = puts.dscb; held = puts.held; puts = call_still call kept puts.puts }))
-    (λ synced. inr (synced.0, named_write_still synced.1 kept))
-
--- the calls of a rename, by those of the put: the slot of the old name is the one that is put
-pub rename_calls :
-    {T E : Type 0} (result : Result T E) (old new : List ℕ) (v v' : Vol) (slot : ℕ) (calls calls' : Calls)
-    → IsToRename v.slots.items old new slot
-    → (HoldsSlot v slot → CallsAtMost 0 1 1 0 calls calls')
-    → (¬ HoldsSlot v slot → IsReadUpTo (slots_in_front v.firsts.items slot + 1) v'.buf.records)
-    → (calls.syncs < calls'.syncs → RenamesEntry old new v.slots.items v'.slots.items × HoldsRenamed old new v v')
-    → OnErr result (¬ HasLengths v'.buf.records (slots_in_front v.firsts.items slot) 44 96 → CallsAtMost 1 0 0 0 calls calls')
-    → RenameCalls old new v v' calls calls' result
-rename_calls result old new v v' slot calls calls' found again few synced unwritten = record {
-  again = λ s is. subst (λ (n : ℕ). HoldsSlot v n → CallsAtMost 0 1 1 0 calls calls') (same s is) again;
-  few = λ s is. subst (λ (n : ℕ). ¬ HoldsSlot v n → IsReadUpTo (slots_in_front v.firsts.items n + 1) v'.buf.records) (same s is) few;
-  synced = synced;
-  unwritten = on_slots result unwritten;
-}
-  where
-    same : (s : ℕ) → IsToRename v.slots.items old new s → slot ≡ s
-    same s is = let both : Some slot ≡ Some s = sym found.found ∙ is.found in cc
-
-    Unwritten : ℕ → Type 0
-    Unwritten n = ¬ HasLengths v'.buf.records (slots_in_front v.firsts.items n) 44 96 → CallsAtMost 1 0 0 0 calls calls'
-
-    on_slots : {T E : Type 0} (r : Result T E) → OnErr r (Unwritten slot) → OnErr r ((s : ℕ) → IsToRename v.slots.items old new s → Unwritten s)
-    on_slots (Ok x) none = tt
-    on_slots (Err e) none = λ s is. subst Unwritten (same s is) none
 
 module _ (name : List ℕ) (v v' : Vol) (old new : Dsn) (slot : ℕ) (x d : Dscb) (m n : Meaning (List File))
     (mounted : IsMounted (image_named m.state name) v) (found : IsToRename v.slots.items old.bytes new.bytes slot) (long : length new.bytes ≡ 44)

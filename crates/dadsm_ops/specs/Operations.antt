@@ -22,7 +22,7 @@ image_named files name = unwrap_or (file_of files name) []
 abbrev pub IsIn : Run → ℕ → Type 0
 IsIn run track = (run.start ≤ track) × (track < run.start + run.len)
 
--- Two images differ in the tracks of the VTOC alone: length, header and all other tracks are the same, counted on to the end of the image.
+-- Two images differ in the tracks of the VTOC alone. Length, header and tracks are all of an image that holds its cylinders whole; in another the bytes behind its last track aren't judged.
 pub record DiffersInVtoc (g : Geometry) (vtoc : Run) (before after : List ℕ) : Type 0 where
   pub size : length after ≡ length before
   pub header : take 512 after ≡ take 512 before
@@ -34,8 +34,8 @@ pub record ChangesVtoc (name : List ℕ) (g : Geometry) (vtoc : Run) (before aft
   pub image : DiffersInVtoc g vtoc (image_named before name) (image_named after name)
 
 -- the image stands for the volume before an operation, or for the one after it
-abbrev pub StandsForEither : Volume → Result Volume Refusal → List ℕ → Type 0
-StandsForEither volume stepped image = (volume_of image ≡ Ok volume) ⊎ ((after : Volume) × (stepped ≡ Ok after) × (volume_of image ≡ Ok after))
+abbrev pub IsBeforeOrAfter : Volume → Result Volume Refusal → List ℕ → Type 0
+IsBeforeOrAfter volume stepped image = (volume_of image ≡ Ok volume) ⊎ ((after : Volume) × (stepped ≡ Ok after) × (volume_of image ≡ Ok after))
 
 -- Where an operation is done, the image stands durably for the volume after it, and the index is the image's.
 pub record IsDone (name : List ℕ) (stepped : Result Volume Refusal) (v : Vol) (before : List File) (new : Meaning (List File)) : Type 0 where
@@ -60,7 +60,7 @@ pub record Operates {T : Type 0} (name : List ℕ) (operation : Volume → Resul
   pub answer : StoreAnswers name (operation volume) v old.state new result
   pub idle : (r : Refusal) → operation volume ≡ Err r → Same old new
   pub printed : new.printed ≡ old.printed
-  pub moments : Elapses old new (λ files p. StandsForEither volume (operation volume) (image_named files name) × (ChangesVtoc name v.geometry v.vtoc old.state files × (p ≡ old.printed)))
+  pub moments : Elapses old new (λ files p. IsBeforeOrAfter volume (operation volume) (image_named files name) × (ChangesVtoc name v.geometry v.vtoc old.state files × (p ≡ old.printed)))
   pub memory : IsErrOf result Memory → Same old new
 
 -- calls of a device by an operation, which answers a fault of it as one

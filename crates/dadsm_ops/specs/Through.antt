@@ -1,5 +1,5 @@
 -- What one slot of a VTOC leaves that is written and made durable, in this project's profile.
-use Rattle.std.specs.Prelude.{◌≡◌, ◌≢◌, ◌⊎◌, ℕ, List, length, Result, OnOk}
+use Rattle.std.specs.Prelude.{◌≡◌, ◌≢◌, ℕ, List, length, Result, OnOk}
 use Rattle.dscb_codec.specs.declared.Dscb.{Dscb}
 use Rattle.dscb_codec.specs.Layout.{IsDscb}
 use Rattle.hall_core.specs.Files.{File, file_of, written}
@@ -14,10 +14,6 @@ pub record HaveSlot (name : List ℕ) (v : Vol) (slot : ℕ) (bytes : List ℕ) 
   pub files : after ≡ written before name (place_of_slot v slot) bytes
   pub others : (other : List ℕ) → other ≢ name → file_of after other ≡ file_of before other
   pub image : IsPut v slot bytes (image_named before name) (image_named after name)
-
--- the slots of an index are those from before, or it is the index of the image
-abbrev pub IsBeforeOr : Vol → List ℕ → Vol → Type 0
-IsBeforeOr before image after = (after.slots.items ≡ before.slots.items) ⊎ IsIndexOf image after
 
 -- A DSCB is put into a slot and made durable: a stop leaves the files as before, or with that slot. Where it is done, they are so durably, and the index is the image's.
 pub record PutsThrough {T E : Type 0} (name : List ℕ) (v : Vol) (slot : ℕ) (d : Dscb) (v' : Vol) (old new : Meaning (List File)) (result : Result T E) : Type 0 where

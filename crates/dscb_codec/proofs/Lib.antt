@@ -1,5 +1,4 @@
 mod Cases
-mod TableCases
 pub mod Fields
 pub mod Once
 pub mod Parts

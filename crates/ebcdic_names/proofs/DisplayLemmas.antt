@@ -1,8 +1,8 @@
 -- The characters of a name, printed one by one.
-use Rattle.std.proofs.Common.{◌≡◌, ℕ, ◌+◌, ◌<◌, ◌≤◌, List, [], ◌++◌, length, get_or, map, take, sym, ap, ◌∙◌}
+use Rattle.std.proofs.Common.{◌≡◌, ℕ, ◌+◌, ◌<◌, ◌≤◌, List, ◌++◌, length, get_or, map, take, sym, ap, ◌∙◌}
 use Rattle.std.specs.Prelude.{encode_utf8}
 use Rattle.std.proofs.lemmas.Str.{encode_ascii}
-use Rattle.std.proofs.lemmas.List.{length-map, take_all}
+use Rattle.std.proofs.lemmas.List.{take_all}
 use Rattle.std.proofs.lemmas.List.{map_more}
 use Rattle.ebcdic_names.specs.CodePage.{ascii_of}
 use Rattle.ebcdic_names.specs.Names.{shown, without_blanks}
@@ -18,8 +18,3 @@ one_shown xs i x within is =
 pub all_shown : (bs xs : List ℕ) (i : ℕ) → xs ≡ without_blanks bs → length xs ≤ i → map ascii_of (take i xs) ≡ shown bs
 unfolding shown
 all_shown bs xs i is whole = ap (λ (l : List ℕ). map ascii_of l) (take_all i xs whole ∙ is)
-
--- where nothing is shown, no byte is left
-pub nothing_shown : (bs xs : List ℕ) → xs ≡ without_blanks bs → shown bs ≡ [] → length xs ≡ 0
-unfolding shown
-nothing_shown bs xs is none = ap length is ∙ sym (length-map (without_blanks bs) ascii_of) ∙ ap length none

@@ -1,4 +1,3 @@
-mod Cases
 pub mod BlankLemmas
 pub mod CodeLemmas
 pub mod DisplayLemmas

@@ -1,7 +1,7 @@
-//! Data set names, names of one level and volume serials.
+// Data set names, names of one level and volume serials.
 
-ghost use Rattle.std.specs.Prelude.{◌≡◌, ◌≢◌, ◌≤◌, ◌==◌, ◌-◌, ◌++◌, ◌∷◌, [], ℕ, List, chars, length, replicate, reverse, slice_get, take_while, IsOk, Some};
-ghost use Rattle.std.specs.Fmt.{DisplaysOnOk, WritesStyledOnOk};
+ghost use Rattle.std.specs.Prelude.{◌≡◌, ◌≢◌, ◌≤◌, ◌==◌, ◌-◌, ◌++◌, ◌∷◌, [], ℕ, List, chars, length, replicate, reverse, slice_get, take_while, Some};
+ghost use Rattle.std.specs.Fmt.{DisplaysOnOk};
 ghost use Rattle.ebcdic_names.specs.Names.{begins_level, byte_of, char_faults, continues_level, dsn_of, ends_level, is_digit, level_allows, level_fault, name8_of, name_fault, padded, serial_allows, serial_fault, serial_faults, serial_of, shown, without_blanks};
 
 use crate::{to_ascii, to_ebcdic};
@@ -249,7 +249,6 @@ fn begins_level(c: char) -> bool
     'A' <= c && c <= 'Z' || c == '@' || c == '#' || c == '$'
 }
 
-// A decimal digit.
 fn is_digit(c: char) -> bool
     ensures { result ≡ is_digit c }
 {
@@ -283,13 +282,7 @@ fn byte_of(c: char) -> u8
 impl fmt::Display for Dsn {
     ghost output = { λ name. Some (shown name.bytes) };
 
-    ghost styled_output = { λ name _. Some (shown name.bytes) };
-
-    fn fmt<W: fmt::Write>(&self, f: &mut fmt::Formatter<W>) -> fmt::Result
-        ensures writes { DisplaysOnOk W.write_str_gives f.old result (Some (shown self.now.bytes)) f.new }
-        ensures styled { WritesStyledOnOk W.write_str_gives f.old result (shown self.now.bytes) f.new }
-        ensures blank { shown self.now.bytes ≡ [] → IsOk result }
-    {
+    fn fmt<W: fmt::Write>(&self, f: &mut fmt::Formatter<W>) -> fmt::Result {
         write_characters(&self.bytes, f)
     }
 }
@@ -297,13 +290,7 @@ impl fmt::Display for Dsn {
 impl fmt::Display for Name8 {
     ghost output = { λ name. Some (shown name.bytes) };
 
-    ghost styled_output = { λ name _. Some (shown name.bytes) };
-
-    fn fmt<W: fmt::Write>(&self, f: &mut fmt::Formatter<W>) -> fmt::Result
-        ensures writes { DisplaysOnOk W.write_str_gives f.old result (Some (shown self.now.bytes)) f.new }
-        ensures styled { WritesStyledOnOk W.write_str_gives f.old result (shown self.now.bytes) f.new }
-        ensures blank { shown self.now.bytes ≡ [] → IsOk result }
-    {
+    fn fmt<W: fmt::Write>(&self, f: &mut fmt::Formatter<W>) -> fmt::Result {
         write_characters(&self.bytes, f)
     }
 }
@@ -311,23 +298,14 @@ impl fmt::Display for Name8 {
 impl fmt::Display for Serial {
     ghost output = { λ serial. Some (shown serial.bytes) };
 
-    ghost styled_output = { λ serial _. Some (shown serial.bytes) };
-
-    fn fmt<W: fmt::Write>(&self, f: &mut fmt::Formatter<W>) -> fmt::Result
-        ensures writes { DisplaysOnOk W.write_str_gives f.old result (Some (shown self.now.bytes)) f.new }
-        ensures styled { WritesStyledOnOk W.write_str_gives f.old result (shown self.now.bytes) f.new }
-        ensures blank { shown self.now.bytes ≡ [] → IsOk result }
-    {
+    fn fmt<W: fmt::Write>(&self, f: &mut fmt::Formatter<W>) -> fmt::Result {
         write_characters(&self.bytes, f)
     }
 }
 
-// Writes the characters of a name without the blanks behind them, whatever width or other options the
-// formatter has. Where there are none, that can't fail.
+// Writes the characters of a name without the blanks behind them.
 fn write_characters<W: fmt::Write>(bytes: &[u8], f: &mut fmt::Formatter<W>) -> fmt::Result
-    ensures writes { DisplaysOnOk W.write_str_gives f.old result (Some (shown bytes.now)) f.new }
-    ensures styled { WritesStyledOnOk W.write_str_gives f.old result (shown bytes.now) f.new }
-    ensures blank { shown bytes.now ≡ [] → IsOk result }
+    ensures { DisplaysOnOk W.write_str_gives f.old result (Some (shown bytes.now)) f.new }
 {
     for e in without_blanks(bytes) {
         f.write_char(char::from(to_ascii(*e)))?;

@@ -1,4 +1,3 @@
-//! Names and serials that are read or refused, and the code page byte for byte.
 use super::{Dsn, Name8, NameErr, Serial, to_ascii, to_ebcdic, without_blanks};
 use std::test::Fail;
 

@@ -3,9 +3,9 @@ use Rattle.std.specs.Prelude.{◌≡◌, ℕ, ◌+◌, ◌-◌, ◌^◌, ◌≤�
 use Rattle.hall_core.specs.declared.hall.HallErr.{HallErr}
 use Rattle.hall_core.specs.declared.hall.HallErr.TheVariants.{Failed, Memory}
 
--- a count rose by one, or stands at its type's end
+-- a count grew, or stands at its type's end
 abbrev pub Rose : ℕ → ℕ → Type 0
-Rose before now = now ≡ min (before + 1) (2 ^ 64 - 1)
+Rose before now = min (before + 1) (2 ^ 64 - 1) ≤ now
 
 -- an attached file: its name, and its size in bytes
 pub record Attached : Type 0 where
@@ -18,35 +18,6 @@ pub record Facts : Type 0 where
   pub references : List ℕ
   pub dev_faults : ℕ
   pub print_faults : ℕ
-
--- how many reads, writes, syncs, prints and attachments were made
-pub record Calls : Type 0 where
-  pub reads : ℕ
-  pub writes : ℕ
-  pub syncs : ℕ
-  pub prints : ℕ
-  pub attachments : ℕ
-
--- the calls of a hall that counts none
-abbrev pub uncounted : Calls
-uncounted = record { reads = 0; writes = 0; syncs = 0; prints = 0; attachments = 0 }
-
--- at most so many more reads, writes, syncs, prints and attachments were made
-abbrev pub MadeAtMost : ℕ → ℕ → ℕ → ℕ → ℕ → Calls → Calls → Type 0
-MadeAtMost reads writes syncs prints attachments old new =
-    (new.reads ≤ old.reads + reads)
-    × (new.writes ≤ old.writes + writes)
-    × (new.syncs ≤ old.syncs + syncs)
-    × (new.prints ≤ old.prints + prints)
-    × (new.attachments ≤ old.attachments + attachments)
-
--- at most so many more reads, writes, syncs and prints, and no attachment
-abbrev pub CallsAtMost : ℕ → ℕ → ℕ → ℕ → Calls → Calls → Type 0
-CallsAtMost reads writes syncs prints old new = MadeAtMost reads writes syncs prints 0 old new
-
--- at most so many more reads, writes, syncs and prints, and one attachment
-abbrev pub AttachesOnce : ℕ → ℕ → ℕ → ℕ → Calls → Calls → Type 0
-AttachesOnce reads writes syncs prints old new = MadeAtMost reads writes syncs prints 1 old new
 
 -- the attached file of a unit
 abbrev pub unit_of : List Attached → ℕ → Attached

@@ -62,8 +62,12 @@ pub nothing_kept : (flags : List Bool) → kept flags [] ≡ []
 nothing_kept [] = refl
 nothing_kept (flag ∷ flags) = refl
 
+abbrev pub one_if : Bool → Write → List Write
+one_if true w = w ∷ []
+one_if false w = []
+
 -- one write more may be left out or kept
-pub kept_with : (b : Bool) (flags : List Bool) (ws : List Write) (w : Write) → (more : List Bool) × (kept more (ws ++ w ∷ []) ≡ kept flags ws ++ kept (b ∷ []) (w ∷ []))
+pub kept_with : (b : Bool) (flags : List Bool) (ws : List Write) (w : Write) → (more : List Bool) × (kept more (ws ++ w ∷ []) ≡ kept flags ws ++ one_if b w)
 kept_with true flags [] w = (true ∷ [], sym (ap (λ (l : List Write). l ++ w ∷ []) (nothing_kept flags)))
 kept_with false flags [] w = (false ∷ [], sym (ap (λ (l : List Write). l ++ []) (nothing_kept flags)))
 kept_with b [] (v ∷ ws) w = let r = kept_with b [] ws w in (false ∷ r.0, r.1)
@@ -84,7 +88,7 @@ state_written d name at bytes false (flags, is) =
 pub state_after : (d : Disk) (e : Event) → MayLeave d d.files → MayLeave (after d e) (after d e).files
 state_after d (wrote w) left = state_written d w.name w.at w.bytes w.is_done left
 state_after d synced left = ([], refl)
-state_after d (printed bytes) left = left
+state_after d (printed bytes is_cut) left = left
 state_after d passed left = left
 
 pub state_left : (d : Disk) (es : List Event) → MayLeave d d.files → MayLeave (after_all d es) (after_all d es).files

@@ -13,7 +13,7 @@ use Rattle.hall_core.specs.declared.mem_hall.step.Step.{Step}
 use Rattle.hall_core.specs.declared.mem_hall.step.Step.TheVariants as steps
 use Rattle.hall_core.specs.declared.mem_hall.step.Step.TheVariants.{Sync, Print, Pass}
 use Rattle.hall_core.specs.Held.{files_of, attached_as, shapes_of, units_at, IsFirst, AreFirst}
-use Rattle.hall_core.specs.HistoryLaws.{nothing_kept, state_left_now, now_since, since_now}
+use Rattle.hall_core.specs.HistoryLaws.{state_left_now, now_since, since_now}
 use Rattle.hall_core.specs.Memory.{first_files, events_of, meaning_of, facts_of}
 use Rattle.hall_core.specs.declared.mem_hall.MemHall.{MemHall}
 
@@ -38,7 +38,7 @@ file_at_first [] place d first = absurd (omega (arith, first.inside))
 file_at_first (f ∷ files) zero d first = rw (same_name f.name) refl
 file_at_first (f ∷ files) (suc place) d first = rw (other_name f.name _ (first.before 0 (omega arith))) (file_at_first files place d (tail_first f files place first))
 
--- a file at a place, as a unit
+-- the size of a file at a place
 pub shape_at : (files : List File) (place : ℕ) (d : File) → place < length files → unit_of (shapes_of files) place ≡ attached_as (get_or files place d)
 shape_at files place d low = get_or-map attached_as files place d _ low
 
@@ -73,20 +73,29 @@ only_now hall j p left = since_now (first_files hall) (events_of hall) j p left
 pub whole_units : (hall : MemHall) → AreWhole (meaning_of hall).state (facts_of hall).units
 whole_units hall = subst (λ (l : List File). AreWhole l (facts_of hall).units) (sym hall.replay.present) (whole_at (files_of hall.files.items) hall.units.items hall.replay.firsts)
 
--- a disk that holds its files durably, and of which no write is pending, is so behind steps that write nothing
-nothing_written : (units : List Attached) (pool text : List ℕ) (steps : List Step) (d : Disk) → ((k : ℕ) → k < length steps → units_needed (get_or steps k Pass) ≤ 0) → (d.pending ≡ []) × (d.stable ≡ d.files)
-    → let behind = after_all d (events_at units pool text steps) in (behind.pending ≡ []) × (behind.stable ≡ behind.files)
-nothing_written units pool text [] d none durable = durable
-nothing_written units pool text (steps.Write unit at start len is_done ∷ steps) d none durable = absurd (let low = none 0 (omega arith) in omega (arith, low))
-nothing_written units pool text (Sync ∷ steps) d none durable = nothing_written units pool text steps _ (λ k low. none (suc k) (omega (arith, low))) (refl, refl)
-nothing_written units pool text (Print start len ∷ steps) d none durable = nothing_written units pool text steps _ (λ k low. none (suc k) (omega (arith, low))) durable
-nothing_written units pool text (Pass ∷ steps) d none durable = nothing_written units pool text steps d (λ k low. none (suc k) (omega (arith, low))) durable
+-- a disk that holds its files durably, of which no write is pending
+record IsSettled (d : Disk) : Type 0 where
+  none : d.pending ≡ []
+  same : d.stable ≡ d.files
+
+-- steps that write nothing leave it so
+settled_after : (units : List Attached) (pool text : List ℕ) (steps : List Step) (d : Disk) → ((k : ℕ) → k < length steps → units_needed (get_or steps k Pass) ≤ 0) → IsSettled d → IsSettled (after_all d (events_at units pool text steps))
+settled_after units pool text [] d none settled = settled
+settled_after units pool text (steps.Write unit at start len is_done ∷ steps) d none settled = absurd (let low = none 0 (omega arith) in omega (arith, low))
+settled_after units pool text (Sync ∷ steps) d none settled = settled_after units pool text steps _ (λ k low. none (suc k) (omega (arith, low))) (record { none = refl; same = refl })
+settled_after units pool text (Print start len is_cut ∷ steps) d none settled = settled_after units pool text steps _ (λ k low. none (suc k) (omega (arith, low))) (record { none = settled.none; same = settled.same })
+settled_after units pool text (Pass ∷ steps) d none settled = settled_after units pool text steps d (λ k low. none (suc k) (omega (arith, low))) settled
+
+-- of no writes none is kept
+none_kept : (flags : List Bool) → kept flags [] ≡ []
+none_kept [] = refl
+none_kept (flag ∷ flags) = refl
 
 -- without a unit no write is pending
 pub none_pending : (hall : MemHall) → (facts_of hall).units ≡ [] → IsDurable (meaning_of hall)
 none_pending hall none j left =
     let units = (facts_of hall).units in
     let each : (k : ℕ) → k < length hall.steps.items → units_needed (get_or hall.steps.items k Pass) ≤ 0 = λ k low. omega (arith, (hall.replay.within k low).unit, ap length none) in
-    let durable = nothing_written units hall.written.items hall.printed.items hall.steps.items (new_disk (first_files hall)) each (refl, refl) in
+    let settled = settled_after units hall.written.items hall.printed.items hall.steps.items (new_disk (first_files hall)) each (record { none = refl; same = refl }) in
     let d : Disk = after_all (new_disk (first_files hall)) (events_of hall) in
-    left.1 ∙ ap (λ (ws : List Write). with_writes d.stable (kept left.0 ws)) durable.0 ∙ ap (with_writes d.stable) (nothing_kept left.0) ∙ durable.1
+    left.1 ∙ ap (λ (ws : List Write). with_writes d.stable (kept left.0 ws)) settled.none ∙ ap (with_writes d.stable) (none_kept left.0) ∙ settled.same

@@ -6,7 +6,6 @@ pub mod Held
 pub mod History
 pub mod HistoryLaws
 pub mod Laws
-pub mod Made
 pub mod Memory
 pub mod MemoryCards
 pub mod Moments

@@ -1,5 +1,5 @@
 -- What a hall in memory shows of itself.
-use Rattle.std.specs.Prelude.{◌≡◌, ◌↔◌, ◌⊎◌, ℕ, ◌+◌, ◌<◌, ◌≤◌, List, [], ◌∷◌, ◌++◌, length, take, Contains, Result, IsErrOf}
+use Rattle.std.specs.Prelude.{◌≡◌, ◌↔◌, ◌⊎◌, ℕ, ◌+◌, ◌-◌, ◌^◌, ◌<◌, ◌≤◌, min, List, [], ◌∷◌, ◌++◌, length, take, Contains, Result, IsErrOf}
 use Rattle.hall_core.specs.Facts.{Facts}
 use Rattle.hall_core.specs.Files.{File}
 use Rattle.hall_core.specs.Moments.{Meaning}
@@ -9,7 +9,6 @@ use Rattle.hall_core.specs.Replay.{events_at}
 use Rattle.hall_core.specs.declared.hall.HallErr.{HallErr}
 use Rattle.hall_core.specs.declared.hall.HallErr.TheVariants.{Failed, Memory}
 use Rattle.hall_core.specs.declared.mem_hall.step.Call.{Call}
-use Rattle.hall_core.specs.declared.mem_hall.step.Call.TheVariants.{Sync}
 use Rattle.hall_core.specs.declared.mem_hall.MemHall.{MemHall}
 
 -- the files that it was given
@@ -35,10 +34,6 @@ disk_at hall moment = after_all (new_disk (first_files hall)) (take moment (even
 -- the record of its calls
 abbrev pub calls_of : MemHall → List Call
 calls_of hall = hall.calls.items
-
--- the last call on its record is a sync
-abbrev pub EndsInSync : MemHall → Type 0
-EndsInSync hall = (before : List Call) × (calls_of hall ≡ before ++ Sync ∷ [])
 
 -- at which numbers its calls fail
 abbrev pub failing_calls : MemHall → List ℕ
@@ -104,3 +99,8 @@ pub record IsExactCall {T : Type 0} (used : ℕ) (call : Call) (event : Event) (
   pub lacking : LacksRoom old used → KeepsRoom old new × KeepsRecord old new
   pub room : HasRoom old used → Records used call event old new
   pub setup : KeepsSetup old new
+
+-- a count grows by one where the call failed, unless it stands at its type's end, and stays where it didn't
+pub record CountsFailure {T : Type 0} (before now : ℕ) (result : Result T HallErr) : Type 0 where
+  pub failed : IsErrOf result Failed → now ≡ min (before + 1) (2 ^ 64 - 1)
+  pub others : ¬ IsErrOf result Failed → now ≡ before

@@ -15,7 +15,7 @@ part bytes start len = take len (drop start bytes)
 abbrev pub event_of : List Attached → List ℕ → List ℕ → Step → Event
 event_of units pool text (Write unit at start len is_done) = wrote (record { name = (unit_of units unit).name; at = at; bytes = part pool start len; is_done = is_done })
 event_of units pool text Sync = synced
-event_of units pool text (Print start len) = printed (part text start len)
+event_of units pool text (Print start len is_cut) = printed (part text start len) is_cut
 event_of units pool text Pass = passed
 
 -- the events of these steps
@@ -44,7 +44,7 @@ pool_needed _ = 0
 
 -- how many bytes must have been printed for a step
 abbrev pub text_needed : Step → ℕ
-text_needed (Print start len) = start + len
+text_needed (Print start len is_cut) = start + len
 text_needed _ = 0
 
 -- a step speaks of a unit that there is, of bytes in it, and of bytes that were written or printed
@@ -85,21 +85,21 @@ abbrev pub writes_at : List Attached → List ℕ → List Step → List Writing
 writes_at units pool [] = []
 writes_at units pool (Write unit at start len is_done ∷ steps) = record { name = (unit_of units unit).name; at = at; bytes = part pool start len; is_done = is_done } ∷ writes_at units pool steps
 writes_at units pool (Sync ∷ steps) = writes_at units pool steps
-writes_at units pool (Print start len ∷ steps) = writes_at units pool steps
+writes_at units pool (Print start len is_cut ∷ steps) = writes_at units pool steps
 writes_at units pool (Pass ∷ steps) = writes_at units pool steps
 
 -- a step is a write
 abbrev pub is_write : Step → Bool
 is_write (Write unit at start len is_done) = true
 is_write Sync = false
-is_write (Print start len) = false
+is_write (Print start len is_cut) = false
 is_write Pass = false
 
 -- a step is a write that was done
 abbrev pub is_done_write : Step → Bool
 is_done_write (Write unit at start len is_done) = is_done
 is_done_write Sync = false
-is_done_write (Print start len) = false
+is_done_write (Print start len is_cut) = false
 is_done_write Pass = false
 
 -- the writes that were done
@@ -112,7 +112,7 @@ abbrev pub prints_at : List ℕ → List Step → List ℕ
 prints_at text [] = []
 prints_at text (Write unit at start len is_done ∷ steps) = prints_at text steps
 prints_at text (Sync ∷ steps) = prints_at text steps
-prints_at text (Print start len ∷ steps) = part text start len ++ prints_at text steps
+prints_at text (Print start len is_cut ∷ steps) = part text start len ++ prints_at text steps
 prints_at text (Pass ∷ steps) = prints_at text steps
 
 -- the disk that held these files, after these steps
@@ -123,7 +123,7 @@ disk_after first units pool text steps = after_all (new_disk first) (events_at u
 abbrev pub pending_place : Step → ℕ → ℕ → ℕ
 pending_place Sync i from = i + 1
 pending_place (Write unit at start len is_done) i from = from
-pending_place (Print start len) i from = from
+pending_place (Print start len is_cut) i from = from
 pending_place Pass i from = from
 
 -- of these steps the pending writes are those from the n-th step on; the done ones before it are durable

@@ -40,11 +40,11 @@ pub record Exit {X Y T E : Type 0} (f : X → Y) (P : Y → List ℕ → Type 0)
   pub done : OnOk result (Stage f P old new y text)
   pub moments : Elapses old new (λ x p. P (f x) p)
 
--- Calls of a device and of a printer: both counts stand still where they are done, just one rose where they failed, and the rest stays.
+-- Calls of a device and of a printer: both counts stand still where they are done, one rose where they failed, and the rest stays.
 pub record OutsideCalls {T E : Type 0} (old new : Facts) (result : Result T E) : Type 0 where
   pub units : new.units ≡ old.units
   pub references : new.references ≡ old.references
   pub devices : old.dev_faults ≤ new.dev_faults
   pub prints : old.print_faults ≤ new.print_faults
   pub done : OnOk result ((new.dev_faults ≡ old.dev_faults) × (new.print_faults ≡ old.print_faults))
-  pub failed : OnErr result ((Rose old.dev_faults new.dev_faults × (new.print_faults ≡ old.print_faults)) ⊎ ((new.dev_faults ≡ old.dev_faults) × Rose old.print_faults new.print_faults))
+  pub failed : OnErr result (Rose old.dev_faults new.dev_faults ⊎ Rose old.print_faults new.print_faults)

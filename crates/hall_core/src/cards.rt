@@ -1,5 +1,5 @@
 //! The trait of a source of cards, which standard input and a test fixture implement alike.
-ghost use Rattle.std.specs.Prelude.{◌≡◌, ◌≤◌, ◌<◌, ◌+◌, ℕ, List, Bool, length, IsTrue, IfOk, OnOk, OnErr};
+ghost use Rattle.std.specs.Prelude.{◌≡◌, ◌≤◌, ◌<◌, ℕ, List, Bool, length, IsTrue, IfOk, OnOk, OnErr};
 ghost use Rattle.hall_core.specs.Facts.{Rose};
 ghost use Rattle.hall_core.specs.Cards.{GivesNext};
 
@@ -21,17 +21,6 @@ pub trait Cards {
     /// Its count of faults.
     ghost faults: { Self → ℕ };
 
-    /// How many reads were made, if it counts them: by one that number rises by one at most.
-    ghost reads: { Self → ℕ };
-
-    /// How many reads gave no byte, if it counts them: by one that number rises by one at most, and by one that gives
-    /// bytes it doesn't rise.
-    ghost empty_reads: { Self → ℕ };
-
-    /// How many reads filled the buffer, if it counts them: by one that number rises by one at most, and by one that
-    /// gives fewer bytes than fit it doesn't rise.
-    ghost full_reads: { Self → ℕ };
-
     /// Puts the next bytes to the front of the buffer and gives their number, which is 0 exactly at
     /// the end. It may be less than what fits, also before the end.
     ///
@@ -42,11 +31,6 @@ pub trait Cards {
         requires { 0 < length buf.old }
         ensures within { IfOk result (λ n. n ≤ length buf.old) }
         ensures told { IsTrue tells → GivesNext (left self.old) (left self.new) buf.new result }
-        ensures once { reads self.new ≤ reads self.old + 1 }
-        ensures empty { empty_reads self.new ≤ empty_reads self.old + 1 }
-        ensures given { IfOk result (λ n. 0 < n → empty_reads self.new ≤ empty_reads self.old) }
-        ensures full { full_reads self.new ≤ full_reads self.old + 1 }
-        ensures part { IfOk result (λ n. n < length buf.old → full_reads self.new ≤ full_reads self.old) }
         ensures later { faults self.old ≤ faults self.new }
         ensures done { OnOk result (faults self.new ≡ faults self.old) }
         ensures failed { OnErr result (Rose (faults self.old) (faults self.new)) };

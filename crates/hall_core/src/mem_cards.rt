@@ -6,8 +6,7 @@ use crate::cards::{Cards, ReadFault};
 /// A source of cards in memory, which tells what is still to come and fails where it is told to.
 ///
 /// A call that is to fail answers `ReadFault` and raises the count of faults; any other gives as many
-/// bytes as there are, at most as many as the buffer has. Of the buffer, what isn't given stays as it was.
-/// None takes memory.
+/// bytes as there are, at most as many as the buffer has. None takes memory.
 #[derive(Debug, Drop)]
 pub struct MemCards {
     bytes: Vec<u8>,
@@ -51,29 +50,16 @@ impl Cards for MemCards {
 
     ghost faults = { λ cards. faults_counted cards };
 
-    ghost reads = { λ cards. number_of_reads cards };
-
-    ghost empty_reads = { λ _. 0 };
-
-    ghost full_reads = { λ _. 0 };
-
     fn read(&mut self, buf: &mut [u8]) -> Result<usize, ReadFault>
         requires { 0 < length buf.old }
         ensures within { IfOk result (λ n. n ≤ length buf.old) }
         ensures told { GivesNext (bytes_left self.old) (bytes_left self.new) buf.new result }
-        ensures once { number_of_reads self.new ≤ number_of_reads self.old + 1 }
-        ensures empty { 0 ≤ 0 + 1 }
-        ensures given { IfOk result (λ n. 0 < n → 0 ≤ 0) }
-        ensures full { 0 ≤ 0 + 1 }
-        ensures part { IfOk result (λ n. n < length buf.old → 0 ≤ 0) }
         ensures later { faults_counted self.old ≤ faults_counted self.new }
         ensures done { OnOk result (faults_counted self.new ≡ faults_counted self.old) }
         ensures failed { OnErr result (Rose (faults_counted self.old) (faults_counted self.new)) }
         ensures which { IsErr result ↔ Contains (failing_reads self.old) (number_of_reads self.old) }
         ensures most { IfOk result (λ n. n ≡ min (length buf.old) (length (bytes_left self.old))) }
         ensures next { IsNextRead self.old self.new result }
-        ensures kept { OnErr result (buf.new ≡ buf.old) }
-        ensures behind { IfOk result (λ n. drop n buf.new ≡ drop n buf.old) }
     {
         let fails = self.fails.contains(&self.next_call);
         self.next_call = self.next_call.saturating_add(1);
@@ -92,27 +78,26 @@ impl Cards for MemCards {
 #[cfg(test)]
 mod tests {
     use super::*;
-    use std::process::Abort;
     use std::test::Fail;
-
-    // What reads of three bytes answer, and the buffer behind each, where those numbered 1 and 4 fail.
-    const READS: &[(Result<usize, ReadFault>, &[u8; 3])] = &[
-        (Ok(3), b"HEL"),
-        (Err(ReadFault), b"HEL"),
-        (Ok(2), b"LOL"),
-        (Ok(0), b"LOL"),
-        (Err(ReadFault), b"LOL"),
-        (Ok(0), b"LOL"),
-    ];
 
     #[test]
     fn gives_the_next_bytes_and_fails_in_turn(rt: HostRuntime) -> Result<(), Fail> {
         let alloc = rt.alloc();
         let mut cards = MemCards::new(b"HELLO".to_vec(alloc)?, [1, 4].to_vec(alloc)?);
         let mut buf = *b"...";
-        for (call, (answer, bytes)) in READS.iter().enumerate() {
-            assert_eq!(rt; cards.read(&mut buf), *answer, "call {call}");
-            assert_eq!(rt; &buf, *bytes, "call {call}");
+        for (call, (answer, bytes)) in [
+            (Ok(3), b"HEL"),
+            (Err(ReadFault), b"HEL"),
+            (Ok(2), b"LOL"),
+            (Ok(0), b"LOL"),
+            (Err(ReadFault), b"LOL"),
+            (Ok(0), b"LOL"),
+        ]
+        .into_iter()
+        .enumerate()
+        {
+            assert_eq!(rt; cards.read(&mut buf), answer, "call {call}");
+            assert_eq!(rt; buf.as_slice(), bytes.as_slice(), "call {call}");
         }
         assert_eq!(rt; cards.faults, 2);
         Ok(())

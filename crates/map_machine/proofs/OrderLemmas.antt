@@ -1,18 +1,14 @@
 -- Data sets ascend where each name stands before the next.
 use Rattle.std.proofs.Common.{◌≡◌, ◌+◌, ◌<◌, ℕ, zero, suc, Bool, true, false, List, [], ◌∷◌, length, get_or, refl, sym, subst, ap, ◌∙◌, arith}
 use Rattle.std.proofs.lemmas.Cmp.{nat_list_cmp_total}
-use Rattle.std.specs.Cmp.Lexicographic.{lists_agrees, slice_cmp, slice_partial_cmp}
+use Rattle.std.specs.Cmp.Lexicographic.{slice_cmp}
 use Rattle.std.specs.List.{AllByRecursion, IsAllAdjacentAnswer}
-use Rattle.std.specs.Ordering.{is_lt, is_some_and, nat_cmp}
-use Rattle.std.specs.Prelude.{IsTrue, Some}
+use Rattle.std.specs.Ordering.{is_lt, nat_cmp}
+use Rattle.std.specs.Prelude.{IsTrue}
 use Rattle.std.specs.declared.cmp.Ordering.{Ordering}
 use Rattle.std.specs.declared.cmp.Ordering.TheVariants.{Less, Equal, Greater}
 use Rattle.vol_model.specs.declared.contents.DataSet.{DataSet}
 use Rattle.vol_model.specs.Order.{IsAscending, is_before}
-
--- a comparison of names that may have no answer has the one of their bytes
-pub names_less : (a b : List ℕ) → is_some_and is_lt (slice_partial_cmp (λ x y. Some (nat_cmp x y)) a b) ≡ is_lt (slice_cmp nat_cmp a b)
-names_less a b = ap (is_some_and is_lt) (lists_agrees {R = nat_cmp} (λ x y. refl) a b)
 
 it_is_less : (o : Ordering) → is_lt o ≡ true → o ≡ Less
 it_is_less Less e = refl

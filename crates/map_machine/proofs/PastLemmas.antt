@@ -70,17 +70,10 @@ rename_applies log log' now after v old new lawful done noted =
     let back : before (Renamed v old new) later ≡ now = ap (λ r. record { shelf = behind after r; text = now.text }) (undone now.shelf after v old new lawful done) in
     record {
       answer = done;
-      refused = λ known r refused. let never = sym done ∙ refused in absurd (cc never);
       idle = ⊎_elim (λ refused. let never = sym done ∙ refused.1 in absurd (cc never)) (λ short. cc);
       printed = refl;
       moments = subst (λ l. Elapses (meaning_after log now) (meaning_after l later) P) (sym noted) (elapses-more log (Renamed v old new) now later back P (inr done, refl));
     }
-
--- a print is undone by the number of bytes before it
-print_undone : (now : Moment) (bytes text : List ℕ) (n : ℕ) → text ≡ now.text ++ bytes → n ≡ length now.text → before (Printed n) (record { shelf = now.shelf; text = text }) ≡ now
-print_undone now bytes text n is size =
-    let cut : take n text ≡ now.text = ap (λ l. take n l) is ∙ ap (λ k. take k (now.text ++ bytes)) size ∙ take-append_seam now.text bytes in
-    ap (λ p. record { shelf = now.shelf; text = p }) cut
 
 -- a print that is done, and is on the record
 pub print_prints : (log log' : List Done) (now : Moment) (bytes text : List ℕ) (n : ℕ) → text ≡ now.text ++ bytes → n ≡ length now.text → log' ≡ log ++ Printed n ∷ []
@@ -89,20 +82,12 @@ print_prints log log' now bytes text n is size noted =
     let later : Moment = record { shelf = now.shelf; text = text } in
     let P : Shelf → List ℕ → Type 0 = λ shelf p. (shelf ≡ now.shelf) × ((q : List ℕ) × IsPrefixOf q bytes × (IsTrue true → p ≡ now.text ++ q)) in
     let whole : IsPrefixOf bytes bytes = ([], append-nil bytes) in
-    let back : before (Printed n) later ≡ now = print_undone now bytes text n is size in
+    let cut : take n text ≡ now.text = ap (λ l. take n l) is ∙ ap (λ k. take k (now.text ++ bytes)) size ∙ take-append_seam now.text bytes in
+    let back : before (Printed n) later ≡ now = ap (λ p. record { shelf = now.shelf; text = p }) cut in
     record {
       shelf = refl;
       done = λ told. is;
       memory = λ e. cc;
-      prefix = (bytes, whole, λ told. is);
+      failed = (bytes, whole, λ told. is);
       moments = subst (λ l. Elapses (meaning_after log now) (meaning_after l later) P) (sym noted) (elapses-more log (Printed n) now later back P (refl, (bytes, whole, λ told. is)));
     }
-
--- and a stop in it leaves all of the bytes, or none
-pub print_is_whole : (log log' : List Done) (now : Moment) (bytes text : List ℕ) (n : ℕ) → text ≡ now.text ++ bytes → n ≡ length now.text → log' ≡ log ++ Printed n ∷ []
-    → Elapses (meaning_after log now) (meaning_after log' (record { shelf = now.shelf; text = text })) (λ shelf p. (shelf ≡ now.shelf) × (p ≡ text))
-print_is_whole log log' now bytes text n is size noted =
-    let later : Moment = record { shelf = now.shelf; text = text } in
-    let P : Shelf → List ℕ → Type 0 = λ shelf p. (shelf ≡ now.shelf) × (p ≡ text) in
-    let back : before (Printed n) later ≡ now = print_undone now bytes text n is size in
-    subst (λ l. Elapses (meaning_after log now) (meaning_after l later) P) (sym noted) (elapses-more log (Printed n) now later back P (refl, refl))

@@ -44,7 +44,6 @@ fn are_ascending(sets: &[DataSet]) -> bool
 }
 
 // Whether the name of one data set stands before that of another.
-#[tactic(auto, using(crate::proofs::OrderLemmas::names_less))]
 fn stands_before(a: &DataSet, b: &DataSet) -> bool
     ensures { result ≡ is_before a.now b.now }
 {

@@ -12,8 +12,7 @@ use vol_model::{MachErr, Machine, Op, Shelf};
 /// A machine over a shelf in memory.
 ///
 /// It promises nothing besides what every machine does. It knows what it held between its calls and nothing else, so a
-/// stop in a print leaves all of the bytes or none, where another machine may leave a part of them. It wants memory
-/// only where there is no room for what a call adds, and gives no room back.
+/// stop in a print leaves all of the bytes or none, where another machine may leave a part of them.
 #[derive(Debug, Drop)]
 pub struct MapMachine {
     alloc: Global,
@@ -24,10 +23,10 @@ pub struct MapMachine {
 }
 
 impl MapMachine {
-    ghost use Rattle.std.specs.Prelude.{[], ◌+◌, true, IsErrOf, OnOk, OnErr};
+    ghost use Rattle.std.specs.Prelude.{[], true, IsErrOf};
     ghost use Rattle.vol_model.specs.Calls.{Applies};
     ghost use Rattle.vol_model.specs.declared.requests.Op.TheVariants.{Rename};
-    ghost use Rattle.map_machine.specs.Held.{IsFull, KeepsRoom, meaning_of, status_of};
+    ghost use Rattle.map_machine.specs.Held.{meaning_of, status_of};
 
     /// A machine that holds this lawful shelf and printed nothing; it is sound, and no fault is counted.
     pub fn new(alloc: Global, shelf: Shelf) -> MapMachine
@@ -62,10 +61,6 @@ impl MapMachine {
     // Gives a data set another name, unless that is refused.
     fn rename(&mut self, v: u8, old: &Dsn, new: &Dsn) -> Result<(), MachErr>
         ensures told { Applies (Rename v old.now new.now) (meaning_of self.old) (meaning_of self.new) result }
-        ensures time { (OnOk result ((meaning_of self.new).clock ≡ (meaning_of self.old).clock + 1)) × (OnErr result ((meaning_of self.new).clock ≡ (meaning_of self.old).clock)) }
-        ensures wanted { IsErrOf result MachErr.Memory → IsFull self.old }
-        ensures full { OnErr result (IsFull self.new → IsFull self.old) }
-        ensures capacity { KeepsRoom self.old self.new }
         ensures device { IsErrOf result MachErr.Device → ⊥ }
         ensures print { IsErrOf result MachErr.Print → ⊥ }
     {
@@ -86,11 +81,9 @@ impl MapMachine {
 }
 
 impl Machine for MapMachine {
-    ghost use Rattle.std.specs.Prelude.{◌+◌, true, length, IfErr, IsErrOf, IsOk, OnErr, OnOk, refl};
-    ghost use Rattle.hall_core.specs.Facts.{CallsAtMost, uncounted};
-    ghost use Rattle.hall_core.specs.Moments.{Elapses};
-    ghost use Rattle.vol_model.specs.Calls.{Applies, MachineCall, Prints, asked_nothing};
-    ghost use Rattle.map_machine.specs.Held.{HasRoom, IsFull, KeepsRoom, meaning_of, status_of};
+    ghost use Rattle.std.specs.Prelude.{true, IfErr, IsErrOf, refl};
+    ghost use Rattle.vol_model.specs.Calls.{Applies, MachineCall, Prints};
+    ghost use Rattle.map_machine.specs.Held.{meaning_of, status_of};
     ghost use Rattle.map_machine.specs.Laws.{counts_now as now_counted, only_now as none_since};
 
     ghost tells = { true };
@@ -101,27 +94,9 @@ impl Machine for MapMachine {
 
     ghost status = { λ machine. status_of machine };
 
-    ghost calls = { λ machine. uncounted };
+    ghost promise = { λ machine t files. Unit {0} };
 
-    ghost made = { λ machine call. 0 };
-
-    ghost may_make = { λ first op machine call. ⊥ };
-
-    ghost done = { λ machine call. Unit {0} };
-
-    ghost has_done = { λ first op machine. Unit {0} };
-
-    ghost behind_done = { λ machine. Unit {0} };
-
-    ghost refuses = { λ machine op refusal. Unit {0} };
-
-    ghost wants = { λ machine op. IsFull machine };
-
-    ghost asked = { λ machine. asked_nothing };
-
-    ghost holds = { λ machine op. Unit {0} };
-
-    ghost promise = { λ machine ops t files. Unit {0} };
+    ghost stays = { λ machine t files. Unit {0} };
 
     ghost lawful = { λ machine told sound. machine.lawful };
 
@@ -139,10 +114,6 @@ impl Machine for MapMachine {
 
     fn apply(&mut self, op: &Op) -> Result<(), MachErr>
         ensures shelf { Applies op.now (meaning_of self.old) (meaning_of self.new) result }
-        ensures time { (OnOk result ((meaning_of self.new).clock ≡ (meaning_of self.old).clock + 1)) × (OnErr result ((meaning_of self.new).clock ≡ (meaning_of self.old).clock)) }
-        ensures wanted { IsErrOf result MachErr.Memory → IsFull self.old }
-        ensures full { OnErr result (IsFull self.new → IsFull self.old) }
-        ensures capacity { KeepsRoom self.old self.new }
         ensures device { IsErrOf result MachErr.Device → ⊥ }
         ensures print { IsErrOf result MachErr.Print → ⊥ }
     {
@@ -153,12 +124,7 @@ impl Machine for MapMachine {
 
     fn print(&mut self, bytes: &[u8]) -> Result<(), MachErr>
         ensures shelf { Prints true bytes.now (meaning_of self.old) (meaning_of self.new) result }
-        ensures whole { OnOk result (Elapses (meaning_of self.old) (meaning_of self.new) (λ shelf text. (shelf ≡ (meaning_of self.old).state) × (text ≡ (meaning_of self.new).printed))) }
-        ensures time { (OnOk result ((meaning_of self.new).clock ≡ (meaning_of self.old).clock + 1)) × (OnErr result ((meaning_of self.new).clock ≡ (meaning_of self.old).clock)) }
         ensures memory { IfErr result (λ e. e ≡ MachErr.Memory) }
-        ensures room { HasRoom (length bytes.now) self.old → IsOk result }
-        ensures full { OnErr result (IsFull self.new → IsFull self.old) }
-        ensures capacity { KeepsRoom self.old self.new }
     {
         if self.log.reserve(1).is_err() {
             return Err(MachErr::Memory);

@@ -5,14 +5,13 @@ use super::*;
 use ckd_image::{DiskType, Geometry};
 use ebcdic_names::{Dsn, Serial};
 use std::alloc::Global;
-use std::process::Abort;
 use std::test::Fail;
 use vol_model::{
     Attr, Body, DataSet, DataSets, MachErr, Machine, Op, Refusal, Run, Runs, Shelf, Volume, Volumes,
 };
 
 // What a volume is made with.
-#[derive(Clone, Copy, Debug)]
+#[derive(Clone, Copy)]
 struct Plan {
     device: DiskType,
     cylinders: u16,
@@ -88,7 +87,7 @@ fn volume(alloc: Global, plan: &Plan, names: &[(&str, u16)]) -> Result<Volume, F
     })
 }
 
-// A shelf of two volumes, one of them with a set named SYSCTLG.
+// A shelf of a volume with a catalog and one without.
 fn shelf(alloc: Global) -> Result<Shelf, Fail> {
     let mut volumes = Volumes::new(alloc);
     volumes.push(volume(
@@ -130,15 +129,12 @@ fn has_sets(shelf: &Shelf, v: usize, wanted: &[(&str, u16)]) -> Result<bool, Fai
     Ok(sets.len() == wanted.len())
 }
 
-// The old name, the new one, and the data sets of the first volume behind the rename.
-type Renaming = (&'static str, &'static str, &'static [(&'static str, u16)]);
-
-// Renames, one after another: a set goes to the front, to a place between two others, and to the end.
-const RENAMES: &[Renaming] = &[
+// Renames, and the data sets behind each: a set goes to the front, to a place between two others, and to the end.
+const RENAMES: [(&str, &str, [(&str, u16); 5]); 5] = [
     (
         "A.ONE",
         "K.ONE",
-        &[
+        [
             ("#PAY", 10),
             ("B.TWO", 30),
             ("C.THREE", 40),
@@ -149,7 +145,7 @@ const RENAMES: &[Renaming] = &[
     (
         "C.THREE",
         "$C",
-        &[
+        [
             ("$C", 40),
             ("#PAY", 10),
             ("B.TWO", 30),
@@ -160,7 +156,7 @@ const RENAMES: &[Renaming] = &[
     (
         "K.ONE",
         "B.TW1",
-        &[
+        [
             ("$C", 40),
             ("#PAY", 10),
             ("B.TWO", 30),
@@ -171,7 +167,7 @@ const RENAMES: &[Renaming] = &[
     (
         "#PAY",
         "SYSCTLG1",
-        &[
+        [
             ("$C", 40),
             ("B.TWO", 30),
             ("B.TW1", 20),
@@ -182,7 +178,7 @@ const RENAMES: &[Renaming] = &[
     (
         "$C",
         "A.ONE",
-        &[
+        [
             ("A.ONE", 40),
             ("B.TWO", 30),
             ("B.TW1", 20),
@@ -192,40 +188,25 @@ const RENAMES: &[Renaming] = &[
     ),
 ];
 
-// A machine with the shelf of two volumes.
-fn machine(rt: &impl Abort, alloc: Global) -> Result<MapMachine, Fail> {
-    let first = shelf(alloc)?;
-    assert!(rt; is_lawful(&first));
-    Ok(MapMachine::new(alloc, first))
-}
-
-// Renames on the first volume, which then has these data sets; the second is as it was.
-fn assert_renamed(
-    rt: &impl Abort,
-    machine: &mut MapMachine,
-    old: &str,
-    new: &str,
-    sets: &[(&str, u16)],
-) -> Result<(), Fail> {
-    machine.apply(&rename(0, old, new)?)?;
-    assert!(rt; has_sets(machine.shelf(), 0, sets)?, "{old} as {new}");
-    let other = has_sets(machine.shelf(), 1, &[("A.ONE", 60)])?;
-    assert!(rt; other, "{old} as {new}");
-    Ok(())
-}
-
 #[test]
 fn a_renamed_set_stands_in_the_order_of_the_names(rt: HostRuntime) -> Result<(), Fail> {
-    let mut machine = machine(&rt, rt.alloc())?;
+    let first = shelf(rt.alloc())?;
+    assert!(rt; is_lawful(&first));
+    let mut machine = MapMachine::new(rt.alloc(), first);
     for (old, new, sets) in RENAMES {
-        assert_renamed(&rt, &mut machine, old, new, sets)?;
+        machine.apply(&rename(0, old, new)?)?;
+        assert!(rt; has_sets(machine.shelf(), 0, &sets)?, "{old} as {new}");
+        let other = has_sets(machine.shelf(), 1, &[("A.ONE", 60)])?;
+        assert!(rt; other, "{old} as {new}");
     }
     Ok(())
 }
 
 #[test]
 fn a_rename_on_the_second_volume_leaves_the_first(rt: HostRuntime) -> Result<(), Fail> {
-    let mut machine = machine(&rt, rt.alloc())?;
+    let first = shelf(rt.alloc())?;
+    assert!(rt; is_lawful(&first));
+    let mut machine = MapMachine::new(rt.alloc(), first);
     machine.apply(&rename(1, "A.ONE", "D.ONE")?)?;
     assert!(rt; has_sets(machine.shelf(), 1, &[("D.ONE", 60)])?);
     let before = shelf(rt.alloc())?;
@@ -246,44 +227,31 @@ fn a_shelf_without_volumes_has_none_to_rename_on(rt: HostRuntime) -> Result<(), 
     Ok(())
 }
 
-// The volume's number, the old name, the new one, and why the rename is refused.
-const REFUSED: &[(u8, &str, &str, Refusal)] = &[
-    (2, "NO.SET", "SYSCTLG", Refusal::NoVolume),
-    (255, "A.ONE", "D.NEW", Refusal::NoVolume),
-    (0, "NO.SET", "SYSCTLG", Refusal::NoSet),
-    (1, "SYSCTLG", "A.ONE", Refusal::NoSet),
-    (1, "B.TWO", "D.NEW", Refusal::NoSet),
-    (0, "SYSCTLG", "A.ONE", Refusal::SetExists),
-    (0, "A.ONE", "SYSCTLG", Refusal::SetExists),
-    (0, "A.ONE", "A.ONE", Refusal::SetExists),
-    (0, "A.ONE", "B.TWO", Refusal::SetExists),
-    (0, "SYSCTLG", "D.NEW", Refusal::WrongKind),
-    (1, "A.ONE", "SYSCTLG", Refusal::WrongKind),
-];
-
-// A rename is refused for this reason, and the shelf is as it was made.
-fn assert_refused(
-    rt: &impl Abort,
-    alloc: Global,
-    machine: &mut MapMachine,
-    op: &Op,
-    reason: Refusal,
-) -> Result<(), Fail> {
-    let answer = machine.apply(op);
-    assert_eq!(rt; answer, Err(MachErr::Refused(reason)), "{op:?}");
-    assert_eq!(rt; *machine.shelf(), shelf(alloc)?, "{op:?}");
-    Ok(())
-}
-
 #[test]
 fn a_rename_is_refused_for_the_first_reason_and_changes_nothing(
     rt: HostRuntime,
 ) -> Result<(), Fail> {
-    let mut machine = machine(&rt, rt.alloc())?;
+    let first = shelf(rt.alloc())?;
+    assert!(rt; is_lawful(&first));
+    let mut machine = MapMachine::new(rt.alloc(), first);
     machine.print(b"BEFORE\n")?;
-    for (v, old, new, reason) in REFUSED {
-        let op = rename(*v, old, new)?;
-        assert_refused(&rt, rt.alloc(), &mut machine, &op, *reason)?;
+    let refused = [
+        (2, "NO.SET", "SYSCTLG", Refusal::NoVolume),
+        (255, "A.ONE", "D.NEW", Refusal::NoVolume),
+        (0, "NO.SET", "SYSCTLG", Refusal::NoSet),
+        (1, "SYSCTLG", "A.ONE", Refusal::NoSet),
+        (1, "B.TWO", "D.NEW", Refusal::NoSet),
+        (0, "SYSCTLG", "A.ONE", Refusal::SetExists),
+        (0, "A.ONE", "SYSCTLG", Refusal::SetExists),
+        (0, "A.ONE", "A.ONE", Refusal::SetExists),
+        (0, "A.ONE", "B.TWO", Refusal::SetExists),
+        (0, "SYSCTLG", "D.NEW", Refusal::WrongKind),
+        (1, "A.ONE", "SYSCTLG", Refusal::WrongKind),
+    ];
+    for (v, old, new, reason) in refused {
+        let answer = machine.apply(&rename(v, old, new)?);
+        assert_eq!(rt; answer, Err(MachErr::Refused(reason)), "{v} {old} {new}");
+        assert_eq!(rt; *machine.shelf(), shelf(rt.alloc())?, "{v} {old} {new}");
     }
     assert_eq!(rt; machine.printed(), b"BEFORE\n".as_slice());
     Ok(())
@@ -299,7 +267,9 @@ fn apply_and_print<M: Machine>(machine: &mut M, op: &Op, line: &[u8]) -> Result<
 
 #[test]
 fn what_is_printed_stands_behind_what_was(rt: HostRuntime) -> Result<(), Fail> {
-    let mut machine = machine(&rt, rt.alloc())?;
+    let first = shelf(rt.alloc())?;
+    assert!(rt; is_lawful(&first));
+    let mut machine = MapMachine::new(rt.alloc(), first);
     assert_eq!(rt; machine.printed(), b"".as_slice());
     assert!(rt; machine.is_sound());
     machine.print(b"")?;
@@ -321,7 +291,7 @@ fn planned(alloc: Global, plan: &Plan, names: [&str; 2]) -> Result<Shelf, Fail> 
 }
 
 // Plans of a volume, and whether that is lawful: the bounds of the 2311, then tracks and cylinders of other devices.
-const PLANS: &[(Plan, bool)] = &[
+const PLANS: [(Plan, bool); 17] = [
     (PLAN, true),
     (
         Plan {
@@ -457,51 +427,26 @@ const PLANS: &[(Plan, bool)] = &[
     ),
 ];
 
-// Names of two data sets, in their order on the volume, and whether that is lawful.
-const NAMES: &[([&str; 2], bool)] = &[(["A", "B"], true), (["B", "A"], false), (["A", "A"], false)];
-
-// A volume of this plan and these names is lawful, or isn't.
-fn assert_lawful(
-    rt: &impl Abort,
-    alloc: Global,
-    plan: &Plan,
-    names: [&str; 2],
-    wanted: bool,
-) -> Result<(), Fail> {
-    let shelf = planned(alloc, plan, names)?;
-    assert_eq!(rt; is_lawful(&shelf), wanted, "{names:?} on {plan:?}");
-    Ok(())
-}
-
 #[test]
 fn a_shelf_is_lawful_to_its_bounds(rt: HostRuntime) -> Result<(), Fail> {
-    for (plan, wanted) in PLANS {
-        assert_lawful(&rt, rt.alloc(), plan, ["A", "B"], *wanted)?;
+    for (number, (plan, wanted)) in PLANS.iter().enumerate() {
+        let shelf = planned(rt.alloc(), plan, ["A", "B"])?;
+        assert_eq!(rt; is_lawful(&shelf), *wanted, "at plan {number}");
     }
-    for (names, wanted) in NAMES {
-        assert_lawful(&rt, rt.alloc(), &PLAN, *names, *wanted)?;
+    for (names, wanted) in [(["A", "B"], true), (["B", "A"], false), (["A", "A"], false)] {
+        assert_eq!(rt; is_lawful(&planned(rt.alloc(), &PLAN, names)?), wanted);
     }
-    Ok(())
-}
-
-// A shelf of so many volumes is lawful, or isn't.
-fn assert_lawful_number(
-    rt: &impl Abort,
-    alloc: Global,
-    number: u32,
-    wanted: bool,
-) -> Result<(), Fail> {
-    let mut volumes = Volumes::new(alloc);
-    for _ in 0..number {
-        volumes.push(volume(alloc, &PLAN, &[])?)?;
-    }
-    assert_eq!(rt; is_lawful(&Shelf { volumes }), wanted, "with {number}");
     Ok(())
 }
 
 #[test]
 fn a_shelf_has_at_most_256_volumes(rt: HostRuntime) -> Result<(), Fail> {
-    assert_lawful_number(&rt, rt.alloc(), 0, true)?;
-    assert_lawful_number(&rt, rt.alloc(), 256, true)?;
-    assert_lawful_number(&rt, rt.alloc(), 257, false)
+    for (number, wanted) in [(0, true), (256, true), (257, false)] {
+        let mut volumes = Volumes::new(rt.alloc());
+        for _ in 0..number {
+            volumes.push(volume(rt.alloc(), &PLAN, &[])?)?;
+        }
+        assert_eq!(rt; is_lawful(&Shelf { volumes }), wanted, "with {number}");
+    }
+    Ok(())
 }

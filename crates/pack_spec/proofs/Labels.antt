@@ -1,12 +1,10 @@
--- The label that the first three records of its track are, or aren't.
-use Rattle.std.proofs.Common.{◌≡◌, ℕ, Bool, true, false, cond, List, [], ◌∷◌, Option, Some, None, Bor, refl, ap, ap₂, sym, ◌∙◌}
-use Rattle.std.specs.Prelude.{option_and_then}
-use Rattle.std.specs.Option.{option_copied, option_map}
+-- The label among records that the program holds.
+use Rattle.std.proofs.Common.{◌≡◌, ◌≢◌, ℕ, Bool, true, false, cond, List, [], ◌∷◌, length, map, get_or, Option, Some, None, Bor, refl, sym, ap, ◌∙◌, arith}
+use Rattle.std.specs.Option.{option_copied}
 use Rattle.std.specs.Bool.{then_some}
-use Rattle.ckd_image.specs.declared.header.Geometry.{Geometry}
-use Rattle.ckd_image.specs.Reading.{records_up_to}
-use Rattle.ckd_image.specs.Track.{Record}
-use Rattle.pack_spec.specs.Label.{are_label, label_in, label_of, records_on}
+use Rattle.pack_spec.specs.declared.track.Record as held
+use Rattle.pack_spec.specs.Label.{label_in, are_label}
+use Rattle.pack_spec.specs.Views.{record_of}
 
 -- what a reference points to, where there is one
 copied-then_some : (b : Bool) (x : Bor (List ℕ)) → option_copied (then_some b x) ≡ then_some b x.now
@@ -17,14 +15,25 @@ cond-then_some : (b : Bool) (x : List ℕ) → cond b (Some x) None ≡ then_som
 cond-then_some true x = refl
 cond-then_some false x = refl
 
--- three records stand one behind the other, with room behind them
-label_of-three : (image : List ℕ) (g : Geometry) (front first second third : List ℕ) (r1 r2 r3 : Record) → records_on image g (Some 3) 0 ≡ records_up_to 3 1 front → records_up_to 3 1 front ≡ option_map (λ xs. r1 ∷ xs) (records_up_to 2 2 first) → records_up_to 2 2 first ≡ option_map (λ xs. r2 ∷ xs) (records_up_to 1 3 second) → records_up_to 1 3 second ≡ option_map (λ xs. r3 ∷ xs) (records_up_to 0 4 third) → records_up_to 0 4 third ≡ Some [] → label_of image g ≡ then_some (are_label r1 r2 r3) r3.data
-unfolding label_of label_in
-label_of-three image g front first second third r1 r2 r3 is one two three room =
-    ap (option_and_then label_in) (is ∙ one ∙ ap (option_map (λ xs. r1 ∷ xs)) (two ∙ ap (option_map (λ xs. r2 ∷ xs)) (three ∙ ap (option_map (λ xs. r3 ∷ xs)) room)))
-    ∙ cond-then_some (are_label r1 r2 r3) r3.data
+-- three records are the label's, or not
+label_in-three : (xs : List held.Record) (d : held.Record) → length xs ≡ 3 → label_in (map record_of xs) ≡ then_some (are_label (record_of (get_or xs 0 d)) (record_of (get_or xs 1 d)) (record_of (get_or xs 2 d))) (get_or xs 2 d).data.now
+unfolding label_in
+label_in-three [] d e = absurd (omega arith)
+label_in-three (x ∷ []) d e = absurd (omega arith)
+label_in-three (x ∷ y ∷ []) d e = absurd (omega arith)
+label_in-three (x ∷ y ∷ z ∷ []) d e = cond-then_some _ _
+label_in-three (x ∷ y ∷ z ∷ w ∷ ws) d e = absurd (omega arith)
 
 -- the same of the test's result
-pub label-read : (image : List ℕ) (g : Geometry) (front first second third : List ℕ) (r1 r2 r3 : Record) (b : Bool) (x : Bor (List ℕ)) (result : Option (Bor (List ℕ))) → records_on image g (Some 3) 0 ≡ records_up_to 3 1 front → records_up_to 3 1 front ≡ option_map (λ xs. r1 ∷ xs) (records_up_to 2 2 first) → records_up_to 2 2 first ≡ option_map (λ xs. r2 ∷ xs) (records_up_to 1 3 second) → records_up_to 1 3 second ≡ option_map (λ xs. r3 ∷ xs) (records_up_to 0 4 third) → records_up_to 0 4 third ≡ Some [] → b ≡ are_label r1 r2 r3 → x.now ≡ r3.data → result ≡ then_some b x → option_copied result ≡ label_of image g
-label-read image g front first second third r1 r2 r3 b x result is one two three room tested held found =
-    ap option_copied found ∙ copied-then_some b x ∙ ap₂ then_some tested held ∙ sym (label_of-three image g front first second third r1 r2 r3 is one two three room)
+pub label_in-read : (xs : List held.Record) (d : held.Record) (r : Option (Bor (List ℕ))) (b : Bool) (x : Bor (List ℕ)) → length xs ≡ 3 → r ≡ then_some b x → b ≡ are_label (record_of (get_or xs 0 d)) (record_of (get_or xs 1 d)) (record_of (get_or xs 2 d)) → x.now ≡ (get_or xs 2 d).data.now → option_copied r ≡ label_in (map record_of xs)
+label_in-read xs d r b x three is tested found =
+    ap option_copied is ∙ copied-then_some b x ∙ ap (then_some b) found ∙ ap (λ t. then_some t (get_or xs 2 d).data.now) tested ∙ sym (label_in-three xs d three)
+
+-- fewer or more have none
+pub label_in-other : (xs : List held.Record) → length xs ≢ 3 → label_in (map record_of xs) ≡ None
+unfolding label_in
+label_in-other [] n = refl
+label_in-other (x ∷ []) n = refl
+label_in-other (x ∷ y ∷ []) n = refl
+label_in-other (x ∷ y ∷ z ∷ []) n = absurd (n refl)
+label_in-other (x ∷ y ∷ z ∷ w ∷ ws) n = refl

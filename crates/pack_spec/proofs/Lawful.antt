@@ -14,24 +14,22 @@ use Rattle.ckd_image.specs.declared.header.ImageErr.{ImageErr}
 use Rattle.ckd_image.specs.Header.{HasGeometry, geometry_of}
 use Rattle.ckd_image.proofs.GeometryLemmas.{has_geometry}
 use Rattle.dscb_codec.specs.Layout.{format_byte, refusal_of}
-use Rattle.vol_model.specs.declared.contents.Run.{Run}
 use Rattle.vol_model.specs.declared.contents.Volume.{Volume}
 use Rattle.vol_model.specs.Order.{IsAscending, in_order}
 use Rattle.vol_model.specs.Shelf.{IsLawful, IsLawfulSet, IsLawfulVolume, IsOnPack}
 use Rattle.vol_model.proofs.InOrder.{in_order-permutation}
 use Rattle.vol_model.proofs.Steps.{in_order-ascending, same_names}
-use Rattle.pack_spec.specs.declared.address.Address.{Address}
 use Rattle.pack_spec.specs.declared.MountErr.{MountErr}
 use Rattle.pack_spec.specs.declared.MountErr.TheVariants.{BadVtoc}
 use Rattle.pack_spec.specs.declared.addressed.VtocSlot.{VtocSlot}
-use Rattle.pack_spec.specs.Label.{address_at, heads_of, is_inside, label_of, track_of_address}
-use Rattle.pack_spec.specs.Vtoc.{is_vtoc_extent, slots_on, vtoc_at, vtoc_by, vtoc_of}
+use Rattle.pack_spec.specs.Label.{Address, address_at, heads_of, is_inside, label_of, track_of_address}
+use Rattle.pack_spec.specs.Vtoc.{Run, is_vtoc_extent, slots_on, vtoc_at, vtoc_by, vtoc_of}
 use Rattle.pack_spec.specs.Formats.{is_data_set, slot_fault}
 use Rattle.pack_spec.specs.Slots.{addressed_from, counted_extents, extent_count, has_chain, has_extents, has_types, is_extent, lower_of, slots_at, slots_of_vtoc, tracks_in, upper_of}
 use Rattle.pack_spec.specs.Faults.{dscb_fault, dscb_faults, extents_fault, front_faults, name_faults, slots_faults, track_faults, vtoc_fault}
 use Rattle.pack_spec.specs.Volume.{attr_of, data_set_of, data_sets_in, run_of_extent, secondary_of, unless, volume_of, volume_on, volume_with, volume_within}
 use Rattle.pack_spec.proofs.DataSets.{behind_first, fault_or-none, first_is_format_4, middle_holds, sets_among-all, two_formats}
-use Rattle.pack_spec.proofs.SlotCounts.{length-slots_on}
+use Rattle.pack_spec.proofs.Extents.{length-slots_on}
 use Rattle.pack_spec.proofs.FirstFaults.{cons_option-none, first_append-both}
 use Rattle.pack_spec.proofs.Quantities.{AreBytes, HasShortQuantity, short_on_image}
 use Rattle.pack_spec.proofs.SetNames.{all_sets, names_apart}

@@ -1,11 +1,8 @@
-mod Cases
-mod FaultCases
-mod SlotCases
-mod WrittenCases
 pub mod Bounds
 pub mod Walks
 pub mod Labels
 pub mod SlotParts
+pub mod Extents
 pub mod FirstFaults
 pub mod TrackSlots
 pub mod DataSets
@@ -13,5 +10,3 @@ pub mod Volumes
 mod SetNames
 pub mod Quantities
 pub mod Lawful
-pub mod WrittenTracks
-pub mod SlotCounts

@@ -11,14 +11,13 @@ use Rattle.std.proofs.lemmas.Option.{cond_some, option_and_then_some}
 use Rattle.ckd_image.specs.declared.header.Geometry.{Geometry}
 use Rattle.ckd_image.specs.Track.{Record}
 use Rattle.ckd_image.specs.Reading.{records_to_end, records_of, is_at_end, is_front, is_record_at, front_record, key_length, record_length}
-use Rattle.vol_model.specs.declared.contents.Run.{Run}
 use Rattle.pack_spec.specs.declared.addressed.VtocSlot.{VtocSlot}
 use Rattle.pack_spec.specs.Formats.{is_data_set}
 use Rattle.pack_spec.specs.Label.{heads_of, track_bytes, records_on}
-use Rattle.pack_spec.specs.Vtoc.{is_slot, slot_bytes, slots_in, slots_on}
+use Rattle.pack_spec.specs.Vtoc.{Run, is_slot, slot_bytes, slots_in, slots_on}
 use Rattle.pack_spec.specs.Slots.{addressed_from, slots_at, slots_of_vtoc, tracks_in}
 use Rattle.pack_spec.specs.Volume.{secondary_of, space_flags}
-use Rattle.pack_spec.proofs.SlotCounts.{taken}
+use Rattle.pack_spec.proofs.Extents.{taken}
 use Rattle.pack_spec.proofs.SetNames.{each_weaker}
 
 -- a data set's secondary quantity has three bytes

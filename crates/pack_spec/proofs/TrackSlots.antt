@@ -3,10 +3,9 @@ use Rattle.std.proofs.Common.{◌≡◌, ◌+◌, ◌-◌, ◌*◌, ◌<◌, ◌
 use Rattle.std.proofs.lemmas.List.{append-nil}
 use Rattle.std.specs.List.{cons_option, filter_map, flat_map, range_with_len, slice_get}
 use Rattle.ckd_image.specs.declared.header.Geometry.{Geometry}
-use Rattle.vol_model.specs.declared.contents.Run.{Run}
 use Rattle.pack_spec.specs.declared.MountErr.TheVariants.{VtocTrack}
 use Rattle.pack_spec.specs.declared.addressed.VtocSlot.{VtocSlot}
-use Rattle.pack_spec.specs.Vtoc.{slots_on}
+use Rattle.pack_spec.specs.Vtoc.{Run, slots_on}
 use Rattle.pack_spec.specs.Slots.{addressed_from, record_address, slots_at, slots_of_vtoc}
 use Rattle.pack_spec.specs.Faults.{track_fault, track_faults}
 

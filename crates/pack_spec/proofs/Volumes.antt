@@ -3,13 +3,13 @@ use Rattle.std.proofs.Common.{◌≡◌, ◌≢◌, ℕ, List, [], ◌++◌, len
 use Rattle.std.specs.List.{slice_get, slice_range}
 use Rattle.ckd_image.specs.declared.header.Geometry.{Geometry}
 use Rattle.ebcdic_names.specs.declared.names.Serial.{Serial}
-use Rattle.vol_model.specs.declared.contents.Run.{Run}
 use Rattle.vol_model.specs.declared.contents.DataSet.{DataSet}
 use Rattle.vol_model.specs.declared.contents.Volume.{Volume}
 use Rattle.pack_spec.specs.declared.MountErr.{MountErr}
 use Rattle.pack_spec.specs.declared.MountErr.TheVariants.{Memory}
 use Rattle.pack_spec.specs.declared.addressed.VtocSlot.{VtocSlot}
 use Rattle.pack_spec.specs.Label.{label_of}
+use Rattle.pack_spec.specs.Vtoc.{Run}
 use Rattle.pack_spec.specs.Slots.{slots_of_vtoc}
 use Rattle.pack_spec.specs.Faults.{slots_faults, track_faults, vtoc_fault}
 use Rattle.pack_spec.specs.Volume.{data_sets_in, unless, volume_with, volume_within}
@@ -47,7 +47,7 @@ within-slot image g vtoc v slots e is unbroken same fault =
     within-fault image g vtoc v e is (vtoc_fault-slots image g v slots (Some e) unbroken same fault)
 
 -- nothing is refused
-pub within-volume : (image : List ℕ) (g : Geometry) (vtoc : Result Run MountErr) (v : Run) (slots : List VtocSlot) (serial : Serial) (count : ℕ) (sets : List DataSet) → vtoc ≡ Ok v → track_faults image g v ≡ [] → slots ≡ slots_of_vtoc image g v → None ≡ slice_get (slots_faults g slots) 0 → serial.bytes ≡ slice_range (unwrap_or (label_of image g) []) 4 10 → count ≡ length slots → sets ≡ in_order (data_sets_in g slots) → volume_within image g vtoc ≡ Ok (record { serial = serial; geometry = g; vtoc = v; slots = count; sets = sets; catalog = None })
+pub within-volume : (image : List ℕ) (g : Geometry) (vtoc : Result Run MountErr) (v : Run) (slots : List VtocSlot) (serial : Serial) (count : ℕ) (sets : List DataSet) → vtoc ≡ Ok v → track_faults image g v ≡ [] → slots ≡ slots_of_vtoc image g v → None ≡ slice_get (slots_faults g slots) 0 → serial.bytes ≡ slice_range (unwrap_or (label_of image g) []) 4 10 → count ≡ length slots → sets ≡ in_order (data_sets_in g slots) → volume_within image g vtoc ≡ Ok (record { serial = serial; geometry = g; vtoc = record { start = v.start; len = v.len }; slots = count; sets = sets; catalog = None })
 unfolding volume_with
 within-volume image g vtoc v slots serial count sets is unbroken same fault named counted held =
     ap (volume_within image g) is
@@ -56,6 +56,6 @@ within-volume image g vtoc v slots serial count sets is unbroken same fault name
     ∙ rw (named, counted, held) refl
 
 -- an error that is handed on
-pub answers_err : (meant : Result Volume MountErr) (result : Result Volume MountErr) (given e : MountErr) → result ≡ Err given → given ≡ e → (e ≢ Memory → meant ≡ Err e) → Answers meant result
+pub answers_err : (meant : Result Volume MountErr) (result : Result Volume MountErr) (given e : MountErr) → result ≡ Err given → given ≡ e → (e ≢ Memory → meant ≡ Err e) → Answers (λ v. v) meant result
 answers_err meant result given e is same why =
-    subst (λ (r : Result Volume MountErr). Answers meant r) (sym (is ∙ ap Err same)) why
+    subst (λ (r : Result Volume MountErr). Answers (λ v. v) meant r) (sym (is ∙ ap Err same)) why

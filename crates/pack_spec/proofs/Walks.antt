@@ -1,12 +1,10 @@
 -- A walk over the records of a track, a record at a time.
-use Rattle.std.proofs.Common.{◌≡◌, ◌+◌, ◌-◌, ◌<◌, ℕ, zero, suc, Bool, true, false, List, [], ◌∷◌, ◌++◌, drop, Option, Some, None, IfSome, IfNone, Bor, refl, sym, ap, ◌∙◌, append_assoc, arith}
-use Rattle.std.proofs.lemmas.Bool.{cond-true, cond-false}
+use Rattle.std.proofs.Common.{◌≡◌, ◌+◌, ◌-◌, ◌<◌, ◌≤◌, ℕ, zero, suc, Bool, true, false, List, [], ◌∷◌, ◌++◌, length, drop, Option, Some, None, refl, sym, ap, ◌∙◌, append_assoc, arith}
+use Rattle.std.proofs.lemmas.Bool.{cond-true, cond-false, le-leb, lt-leb}
 use Rattle.std.specs.Option.{option_map}
 use Rattle.std.specs.Bool.{then_some}
 use Rattle.ckd_image.specs.Track.{Record}
 use Rattle.ckd_image.specs.Reading.{is_at_end, record_length, is_record_at, front_record, records_to_end, records_up_to}
-use Rattle.pack_spec.specs.declared.track.Record as held
-use Rattle.pack_spec.specs.Views.{record_of}
 
 -- these, and those that follow
 abbrev pub then : {A : Type 0} → List A → Option (List A) → Option (List A)
@@ -96,13 +94,13 @@ unfolding records_up_to
 up_to-broken zero r bytes h e b = absurd (omega arith)
 up_to-broken (suc left) r bytes h e b = cond-false _ _ _ e ∙ cond-false _ _ _ b
 
--- up to a record: no marker stands here, and what reads the record here gave none
-pub up_to-no_record : (found : Option (held.Record × Bor (List ℕ))) (r : ℕ) (bytes : List ℕ) → is_at_end bytes ≡ false → IfNone found (is_record_at r bytes ≡ false) → IfNone found ((left : ℕ) → records_up_to (suc left) r bytes ≡ None)
-up_to-no_record None r bytes e broken = λ left. up_to-broken (suc left) r bytes (omega arith) e broken
-up_to-no_record (Some x) r bytes e broken = broken
+-- up to a record: all were passed, and there is room behind them or not
+pub up_to-room : (left r : ℕ) (bytes : List ℕ) → left ≡ 0 → 8 ≤ length bytes → records_up_to left r bytes ≡ Some []
+unfolding records_up_to
+up_to-room zero r bytes z h = cond-true _ _ _ (le-leb 8 (length bytes) h)
+up_to-room (suc left) r bytes z h = absurd (omega arith)
 
--- up to a record: the same, and it gave this one
-pub up_to-next : (found : Option (held.Record × Bor (List ℕ))) (r : ℕ) (bytes : List ℕ) → is_at_end bytes ≡ false → IfSome found (λ _. is_record_at r bytes ≡ true) → IfSome found (λ f. record_of f.0 ≡ front_record bytes) → IfSome found (λ f. f.1.now ≡ drop (record_length bytes) bytes) → IfSome found (λ f. (left : ℕ) → records_up_to (suc left) r bytes ≡ option_map (λ xs. record_of f.0 ∷ xs) (records_up_to left (suc r) f.1.now))
-up_to-next None r bytes e stands is rest = stands
-up_to-next (Some f) r bytes e stands is rest = λ left.
-    up_to-record left r bytes f.1.now e stands rest ∙ ap (λ x. option_map (λ xs. x ∷ xs) (records_up_to left (suc r) f.1.now)) (sym is)
+pub up_to-no_room : (left r : ℕ) (bytes : List ℕ) → left ≡ 0 → length bytes < 8 → records_up_to left r bytes ≡ None
+unfolding records_up_to
+up_to-no_room zero r bytes z h = cond-false _ _ _ (lt-leb 8 (length bytes) h)
+up_to-no_room (suc left) r bytes z h = absurd (omega arith)

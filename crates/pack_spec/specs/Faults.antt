@@ -5,11 +5,10 @@ use Rattle.std.specs.Option.{option_map, option_map_or}
 use Rattle.std.specs.Str.{bytes_eq}
 use Rattle.ckd_image.specs.declared.header.Geometry.{Geometry}
 use Rattle.dscb_codec.specs.Layout.{format_byte, is_zeros, refusal_of}
-use Rattle.vol_model.specs.declared.contents.Run.{Run}
 use Rattle.pack_spec.specs.declared.MountErr.{MountErr}
 use Rattle.pack_spec.specs.declared.MountErr.TheVariants.{VtocTrack, NoFormat4, NoFormat5, UnsupportedExtent, BadExtent, BadChain, DuplicateName}
 use Rattle.pack_spec.specs.declared.addressed.VtocSlot.{VtocSlot}
-use Rattle.pack_spec.specs.Vtoc.{slots_on}
+use Rattle.pack_spec.specs.Vtoc.{Run, slots_on}
 use Rattle.pack_spec.specs.Formats.{fault_or, is_data_set, slot_fault}
 use Rattle.pack_spec.specs.Slots.{slots_of_vtoc, tracks_in, has_types, has_extents, has_chain}
 

@@ -6,7 +6,6 @@ use Rattle.ckd_image.specs.declared.header.Geometry.{Geometry}
 use Rattle.ckd_image.specs.Device.{row_of}
 use Rattle.ckd_image.specs.Track.{Record}
 use Rattle.ckd_image.specs.Reading.{records_of}
-use Rattle.pack_spec.specs.declared.address.Address.{Address}
 
 -- the tracks of a cylinder
 abbrev pub heads_of : Geometry → ℕ
@@ -19,6 +18,11 @@ track_bytes image g track = take g.track_size (drop (512 + track * g.track_size)
 -- the records behind R0 of a track, to its end marker or up to a record; nothing where it breaks the grammar
 unfoldable pub records_on : List ℕ → Geometry → Option ℕ → ℕ → Option (List Record)
 records_on image g upto track = records_of (track / heads_of g) (track % heads_of g) upto (track_bytes image g track)
+
+-- a cylinder and a head
+pub record Address : Type 0 where
+  pub cylinder : ℕ
+  pub head : ℕ
 
 -- CCHH at an offset
 abbrev pub address_at : ℕ → List ℕ → Address

@@ -5,4 +5,8 @@ pub mod Slots
 pub mod Faults
 pub mod Volume
 pub mod Views
-pub mod Written
+pub use Rattle.ckd_image.specs.Header
+pub use Rattle.ckd_image.specs.Device
+pub use Rattle.ckd_image.specs.Track
+pub use Rattle.ckd_image.specs.Reading
+pub use Rattle.dscb_codec.specs.Layout

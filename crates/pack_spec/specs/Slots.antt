@@ -6,11 +6,9 @@ use Rattle.std.specs.Str.{bytes_eq}
 use Rattle.std.specs.Int.{w16, to_be_bytes}
 use Rattle.ckd_image.specs.declared.header.Geometry.{Geometry}
 use Rattle.dscb_codec.specs.Layout.{format_byte}
-use Rattle.vol_model.specs.declared.contents.Run.{Run}
-use Rattle.pack_spec.specs.declared.address.Address.{Address}
 use Rattle.pack_spec.specs.declared.addressed.VtocSlot.{VtocSlot}
-use Rattle.pack_spec.specs.Label.{address_at, heads_of, is_inside, track_of_address}
-use Rattle.pack_spec.specs.Vtoc.{slots_on}
+use Rattle.pack_spec.specs.Label.{Address, address_at, heads_of, is_inside, track_of_address}
+use Rattle.pack_spec.specs.Vtoc.{Run, slots_on}
 use Rattle.pack_spec.specs.Formats.{is_data_set}
 
 -- the tracks of a run

@@ -4,17 +4,17 @@ use Rattle.std.specs.Int.{w16, w32, from_be_bytes}
 use Rattle.ckd_image.specs.declared.header.Geometry.{Geometry}
 use Rattle.ckd_image.specs.declared.header.ImageErr.{ImageErr}
 use Rattle.ckd_image.specs.Header.{geometry_of}
-use Rattle.vol_model.specs.declared.contents.Run.{Run}
 use Rattle.vol_model.specs.declared.contents.Attr.{Attr}
 use Rattle.vol_model.specs.declared.contents.Body.TheVariants.{Other}
 use Rattle.vol_model.specs.declared.contents.DataSet.{DataSet}
 use Rattle.vol_model.specs.declared.contents.Volume.{Volume}
+use Rattle.vol_model.specs.declared.contents.Run as tracks
 use Rattle.vol_model.specs.Order.{in_order}
 use Rattle.pack_spec.specs.declared.MountErr.{MountErr}
 use Rattle.pack_spec.specs.declared.MountErr.TheVariants.{Image}
 use Rattle.pack_spec.specs.declared.addressed.VtocSlot.{VtocSlot}
 use Rattle.pack_spec.specs.Label.{label_of, track_of_address}
-use Rattle.pack_spec.specs.Vtoc.{vtoc_of}
+use Rattle.pack_spec.specs.Vtoc.{Run, vtoc_of}
 use Rattle.pack_spec.specs.Formats.{is_data_set}
 use Rattle.pack_spec.specs.Slots.{counted_extents, lower_of, upper_of, slots_of_vtoc}
 use Rattle.pack_spec.specs.Faults.{vtoc_fault}
@@ -53,7 +53,7 @@ attr_of set = record {
 }
 
 -- the tracks of an extent
-abbrev pub run_of_extent : Geometry → List ℕ → Run
+abbrev pub run_of_extent : Geometry → List ℕ → tracks.Run
 run_of_extent g extent = record {
   start = track_of_address g (lower_of extent);
   len = track_of_address g (upper_of extent) - track_of_address g (lower_of extent) + 1;
@@ -77,7 +77,7 @@ unfoldable pub volume_with : Geometry → List ℕ → Run → List VtocSlot →
 volume_with g label vtoc slots = record {
   serial = record { bytes = slice_range label 4 10 };
   geometry = g;
-  vtoc = vtoc;
+  vtoc = record { start = vtoc.start; len = vtoc.len };
   slots = length slots;
   sets = in_order (data_sets_in g slots);
   catalog = None;

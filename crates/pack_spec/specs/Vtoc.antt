@@ -3,11 +3,14 @@ use Rattle.std.specs.Prelude.{ℕ, ◌+◌, ◌-◌, ◌==◌, ◌&&◌, nat_lt,
 use Rattle.std.specs.List.{list_all}
 use Rattle.ckd_image.specs.declared.header.Geometry.{Geometry}
 use Rattle.ckd_image.specs.Track.{Record}
-use Rattle.vol_model.specs.declared.contents.Run.{Run}
-use Rattle.pack_spec.specs.declared.address.Address.{Address}
 use Rattle.pack_spec.specs.declared.MountErr.{MountErr}
 use Rattle.pack_spec.specs.declared.MountErr.TheVariants.{NoLabel, BadVtoc, VtocTrack}
-use Rattle.pack_spec.specs.Label.{address_at, is_inside, track_of_address, records_on, label_of}
+use Rattle.pack_spec.specs.Label.{Address, address_at, is_inside, track_of_address, records_on, label_of}
+
+-- tracks in a row: the first, and how many
+pub record Run : Type 0 where
+  pub start : ℕ
+  pub len : ℕ
 
 -- a slot is a record with a key of 44 bytes and 96 bytes of data
 abbrev pub is_slot : Record → Bool
@@ -17,7 +20,7 @@ is_slot x = (length x.key == 44) && (length x.data == 96)
 abbrev pub slot_bytes : Record → List ℕ
 slot_bytes x = x.key ++ x.data
 
--- the bytes of the first slot of a track, where R1 alone was read and is one
+-- the bytes of the first slot of a track
 abbrev pub first_slot : List Record → Option (List ℕ)
 first_slot (x ∷ []) = if is_slot x then Some (slot_bytes x) else None
 first_slot _ = None
@@ -51,7 +54,7 @@ vtoc_at image g (Some label) =
 unfoldable pub vtoc_of : List ℕ → Geometry → Result Run MountErr
 vtoc_of image g = vtoc_at image g (label_of image g)
 
--- the slots that these records are; nothing where one is none
+-- the slots that are these records
 abbrev pub slots_in : List Record → Option (List (List ℕ))
 slots_in records = if list_all is_slot records then Some (map slot_bytes records) else None
 

@@ -3,7 +3,7 @@ ghost use Rattle.std.specs.Prelude.{◌≡◌, ℕ, ◌≤◌, ◌<◌, ◌+◌,
 ghost use Rattle.std.specs.Int.{w16, from_be_bytes};
 ghost use Rattle.ckd_image.specs.Header.{HasGeometry};
 ghost use Rattle.pack_spec.specs.Label.{address_at, is_inside, track_of_address};
-ghost use Rattle.pack_spec.specs.Views.{tracks_of};
+ghost use Rattle.pack_spec.specs.Views.{address_of, tracks_of};
 
 use ckd_image::Geometry;
 
@@ -17,11 +17,10 @@ pub struct Address {
 }
 
 impl Address {
-    /// The address that stands whole, in four bytes, at an offset of some bytes: CC and then HH, two bytes each, the high
-    /// one first.
+    /// The address that stands at an offset of some bytes: CC and then HH, two bytes each, the high one first.
     pub fn read(bytes: &[u8], at: usize) -> Address
         requires { at + 4 ≤ length bytes.now }
-        ensures { result ≡ address_at at bytes.now }
+        ensures { address_of result ≡ address_at at bytes.now }
     {
         Address {
             cylinder: halfword_at(bytes, at),
@@ -31,18 +30,16 @@ impl Address {
 
     /// Whether the image has the track.
     pub fn is_inside(self, geometry: Geometry) -> bool
-        ensures { result ≡ is_inside geometry self }
+        ensures { result ≡ is_inside geometry (address_of self) }
     {
         self.cylinder < geometry.cylinders && self.head < geometry.device.heads()
     }
 
-    /// The number of the track, counted from 0 over the volume.
-    ///
-    /// The track is one of the image, and the geometry one that an image has, as `Header::read` of `ckd_image` gives it.
+    /// The number of the track, which is one of the image, counted from 0 over the volume.
     pub fn track(self, geometry: Geometry) -> u16
         requires whole { (len : ℕ) × HasGeometry len geometry }
-        requires inside { IsTrue (is_inside geometry self) }
-        ensures exact { result ≡ track_of_address geometry self }
+        requires inside { IsTrue (is_inside geometry (address_of self)) }
+        ensures exact { result ≡ track_of_address geometry (address_of self) }
         ensures bound { result < tracks_of geometry }
     {
         self.cylinder * geometry.device.heads() + self.head

@@ -1,9 +1,9 @@
 //! The slots of a VTOC with the addresses of their records.
-ghost use Rattle.std.specs.Prelude.{◌≡◌, ◌≢◌, ◌≤◌, ◌+◌, ◌*◌, ◌++◌, ℕ, [], length, vec_len, Some, IfOk, IfErr, OnOk, OnErr, take, slice_get};
+ghost use Rattle.std.specs.Prelude.{◌≡◌, ◌≢◌, ◌≤◌, ◌+◌, ◌*◌, ◌++◌, [], length, vec_len, Some, IfOk, IfErr, OnOk, slice_get};
 ghost use Rattle.ckd_image.specs.Header.{HasGeometry};
 ghost use Rattle.pack_spec.specs.Slots.{addressed_from, record_address, slots_of_vtoc};
 ghost use Rattle.pack_spec.specs.Faults.{track_faults};
-ghost use Rattle.pack_spec.specs.Views.{tracks_of};
+ghost use Rattle.pack_spec.specs.Views.{run_of, tracks_of};
 
 use crate::MountErr;
 use crate::layout::Slot;
@@ -30,9 +30,9 @@ pub(crate) fn slots_of_vtoc(
 ) -> Result<Vec<VtocSlot>, MountErr>
     requires whole { HasGeometry (length image.now) geometry }
     requires inside { vtoc.start + vtoc.len ≤ tracks_of geometry }
-    ensures slots { IfOk result (λ v. v.items ≡ slots_of_vtoc image.now geometry vtoc) }
-    ensures unbroken { IfOk result (λ _. track_faults image.now geometry vtoc ≡ []) }
-    ensures broken { IfErr result (λ e. e ≢ MountErr.Memory → slice_get (track_faults image.now geometry vtoc) 0 ≡ Some e) }
+    ensures slots { IfOk result (λ v. v.items ≡ slots_of_vtoc image.now geometry (run_of vtoc)) }
+    ensures unbroken { IfOk result (λ _. track_faults image.now geometry (run_of vtoc) ≡ []) }
+    ensures broken { IfErr result (λ e. e ≢ MountErr.Memory → slice_get (track_faults image.now geometry (run_of vtoc)) 0 ≡ Some e) }
     ensures few { IfOk result (λ v. vec_len v ≤ vtoc.len * 255) }
 {
     let mut slots = Vec::new(alloc);
@@ -53,8 +53,7 @@ fn push_addressed(
     found: &[Slot],
 ) -> Result<(), AllocError>
     requires { length found.now ≤ 255 }
-    ensures added { OnOk result (slots.new.items ≡ slots.old.items ++ addressed_from geometry track 1 found.now) }
-    ensures kept { OnErr result ((count : ℕ) × (slots.new.items ≡ slots.old.items ++ addressed_from geometry track 1 (take count found.now))) }
+    ensures { OnOk result (slots.new.items ≡ slots.old.items ++ addressed_from geometry track 1 found.now) }
 {
     for (index, bytes) in found.iter().enumerate() {
         slots.push(VtocSlot {

@@ -1,7 +1,5 @@
-//! Where labels, slots and extents have what both readers of packs take from their bytes, and the bytes that they are
-//! known by, from System Control Blocks, GC28-6628.
-
-pub use dscb_codec::{FORMAT_1, FORMAT_3, FORMAT_4, FORMAT_5, FORMAT_AT};
+//! Where labels, slots and extents have what is read of them, and the bytes that they are known by, from
+//! System Control Blocks, GC28-6628.
 
 /// The key of R1 on the label's track, IPL1 in EBCDIC.
 pub const IPL1: &[u8] = &[0xC9, 0xD7, 0xD3, 0xF1];
@@ -41,6 +39,21 @@ pub const SLOT_LEN: usize = KEY_LEN + DATA_LEN;
 
 /// The key and the data of a slot.
 pub type Slot = [u8; SLOT_LEN];
+
+/// Where a slot has its format byte.
+pub const FORMAT_AT: usize = 44;
+
+/// That of a data set.
+pub const FORMAT_1: u8 = 0xF1;
+
+/// That of further extents of one.
+pub const FORMAT_3: u8 = 0xF3;
+
+/// That of the VTOC.
+pub const FORMAT_4: u8 = 0xF4;
+
+/// That of free space.
+pub const FORMAT_5: u8 = 0xF5;
 
 /// An extent as a DSCB has it: type, sequence, and the addresses CCHH of its first track and its last.
 pub type Extent = [u8; 10];

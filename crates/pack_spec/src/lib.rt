@@ -1,9 +1,8 @@
 //! What the image of a pack stands for: definitions, and a plain program that follows them.
 #![tactic(auto)]
 
-ghost use Rattle.std.specs.Prelude.{◌≡◌, [], Ok, Err, None, IfOk, IfErr, IsErrOf, length, slice_range, take, unwrap_or};
+ghost use Rattle.std.specs.Prelude.{◌≡◌, ◌≢◌, [], Err, IfOk, IfErr, length, slice_range, take, unwrap_or};
 ghost use Rattle.ckd_image.specs.Header.{HasGeometry, geometry_of};
-ghost use Rattle.vol_model.specs.declared.contents.Run.{Run};
 ghost use Rattle.pack_spec.specs.Label.{label_of};
 ghost use Rattle.pack_spec.specs.Vtoc.{vtoc_of};
 ghost use Rattle.pack_spec.specs.Views.{Answers};
@@ -21,7 +20,6 @@ mod sets;
 mod slots;
 mod track;
 mod vtoc;
-mod written;
 
 use crate::addressed::slots_of_vtoc;
 use crate::label::label;
@@ -33,11 +31,9 @@ pub use address::Address;
 pub use addressed::{VtocSlot, record_address};
 use ckd_image::{Geometry, Header, ImageErr};
 use ebcdic_names::Serial;
-pub use set_extents::{are_extents, have_counted_types, have_field_types};
 use std::alloc::{AllocError, Global};
 use vol_model::{DataSets, Volume};
 pub use vtoc::vtoc_extent;
-pub use written::{label_data, label_track, slots_track};
 
 /// Why a pack isn't mounted: the first rule that it breaks, in this order, or what kept it from being read.
 ///
@@ -125,16 +121,14 @@ impl From<AllocError> for MountErr {
 /// The volume that an image which lies in memory stands for, without the content of its data sets: the
 /// body of each is `Other`, and there is no catalog.
 ///
-/// The error is the first rule of mounting that the image breaks, or `Memory`, which doesn't come before the VTOC
-/// is found. Label and DSCBs follow System Control Blocks, GC28-6628, the rules and their order this
-/// project's profile.
+/// The error is the first rule of mounting that the image breaks, or `Memory`. Label and DSCBs follow System
+/// Control Blocks, GC28-6628, the rules and their order this project's profile.
 ///
 /// This is written for its plainness, and to compare faster readers with: it holds all records of a track
 /// and all slots of the VTOC in memory, and goes over all slots for each of them.
 #[tactic(auto, unfolding(crate::specs::Volume::volume_of))]
 pub fn volume(alloc: Global, image: &[u8]) -> Result<Volume, MountErr>
-    ensures answer { Answers (volume_of image.now) result }
-    ensures memory { IsErrOf result MountErr.Memory → (geometry : Geometry) × (geometry_of (take 512 image.now) (length image.now) ≡ Ok geometry) × (vtoc : Run) × (vtoc_of image.now geometry ≡ Ok vtoc) }
+    ensures { Answers (λ volume. volume) (volume_of image.now) result }
 {
     match geometry_of(image) {
         Ok(geometry) => volume_on(alloc, image, geometry),
@@ -145,11 +139,10 @@ pub fn volume(alloc: Global, image: &[u8]) -> Result<Volume, MountErr>
 // The volume of an image with this geometry.
 fn volume_on(alloc: Global, image: &[u8], geometry: Geometry) -> Result<Volume, MountErr>
     requires { HasGeometry (length image.now) geometry }
-    ensures answer { Answers (volume_within image.now geometry (vtoc_of image.now geometry)) result }
-    ensures memory { IsErrOf result MountErr.Memory → (vtoc : Run) × (vtoc_of image.now geometry ≡ Ok vtoc) }
+    ensures { Answers (λ volume. volume) (volume_within image.now geometry (vtoc_of image.now geometry)) result }
 {
-    let serial = serial(image, geometry)?;
-    let vtoc = vtoc(image, geometry)?;
+    let serial = serial(alloc, image, geometry)?;
+    let vtoc = vtoc(alloc, image, geometry)?;
     let slots = slots_of_vtoc(alloc, image, geometry, vtoc)?;
     if let Some(fault) = first_fault(alloc, geometry, &slots)? {
         return Err(fault);
@@ -167,13 +160,14 @@ fn volume_on(alloc: Global, image: &[u8], geometry: Geometry) -> Result<Volume, 
 
 // The serial in the volume label.
 #[tactic(auto, unfolding(crate::specs::Vtoc::vtoc_of, crate::specs::Vtoc::vtoc_at))]
-fn serial(image: &[u8], geometry: Geometry) -> Result<Serial, MountErr>
+fn serial(alloc: Global, image: &[u8], geometry: Geometry) -> Result<Serial, MountErr>
     requires { HasGeometry (length image.now) geometry }
     ensures serial { IfOk result (λ serial. serial.bytes ≡ slice_range (unwrap_or (label_of image.now geometry) []) 4 10) }
-    ensures refused { IfErr result (λ e. (e ≡ MountErr.NoLabel) × (vtoc_of image.now geometry ≡ Err e)) }
-    ensures unlabelled { IfErr result (λ _. label_of image.now geometry ≡ None) }
+    ensures refused { IfErr result (λ e. e ≢ MountErr.Memory → vtoc_of image.now geometry ≡ Err e) }
 {
-    let label = label(image, geometry).ok_or(MountErr::NoLabel)?;
+    let Some(label) = label(alloc, image, geometry)? else {
+        return Err(MountErr::NoLabel);
+    };
     let mut bytes = [0; 6];
     bytes.copy_from_slice(&label[SERIAL_AT..SERIAL_AT + 6]);
     Ok(Serial { bytes })

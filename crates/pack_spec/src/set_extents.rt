@@ -53,18 +53,18 @@ pub(crate) fn counted_extents(
 pub(crate) fn has_types(set: &Slot, counted: &[Extent]) -> bool
     ensures { result ≡ (list_all is_field_type (first_extents set.now) && list_all is_counted_type counted.now) }
 {
-    have_field_types(&first_extents(set)) && have_counted_types(counted)
+    are_fields(&first_extents(set)) && are_counted(counted)
 }
 
-/// Whether each of these fields of a DSCB has an extent whose type is read, X'01' or X'81', or none, X'00'.
-pub fn have_field_types(extents: &[Extent]) -> bool
+// Whether each of these fields has an extent whose type is read, or none.
+fn are_fields(extents: &[Extent]) -> bool
     ensures { result ≡ list_all is_field_type extents.now }
 {
     extents.iter().all(is_field_type)
 }
 
-/// Whether each of these extents has a type that is read, X'01' or X'81'.
-pub fn have_counted_types(extents: &[Extent]) -> bool
+// Whether each of these extents has a type that is read.
+fn are_counted(extents: &[Extent]) -> bool
     ensures { result ≡ list_all is_counted_type extents.now }
 {
     extents.iter().all(is_counted_type)
@@ -78,11 +78,8 @@ pub(crate) fn has_extents(geometry: Geometry, set: &Slot, counted: &[Extent]) ->
     set[COUNT_AT] <= MOST_EXTENTS && are_extents(geometry, counted)
 }
 
-/// Whether each of these extents is a run of tracks of the image: its first track and its last are tracks of it, in this
-/// order or the same.
-///
-/// Their types aren't judged. The geometry is one that an image has, as `Header::read` of `ckd_image` gives it.
-pub fn are_extents(geometry: Geometry, extents: &[Extent]) -> bool
+// Whether each of these is a run of tracks of the image.
+fn are_extents(geometry: Geometry, extents: &[Extent]) -> bool
     requires { (len : ℕ) × HasGeometry len geometry }
     ensures { result ≡ list_all (is_extent geometry) extents.now }
 {

@@ -22,7 +22,7 @@ pub(crate) fn slots_on(
     requires inside { track < tracks_of geometry }
     ensures { IfOk result (λ found. option_map (λ v. v.items) found ≡ slots_on image.now geometry track) }
 {
-    match records_on(alloc, image, geometry, track)? {
+    match records_on(alloc, image, geometry, None, track)? {
         Some(records) => slots_in(alloc, &records),
         None => Ok(None),
     }

@@ -19,33 +19,6 @@ fn a_file_without_a_whole_header_is_no_image(rt: HostRuntime) {
     assert_eq!(rt; volume(rt.alloc(), b"").err(), Some(expected));
 }
 
-#[test]
-fn the_label_stands_behind_the_initial_program(rt: HostRuntime) -> Result<(), Fail> {
-    let serial = Serial {
-        bytes: *b"\xC1\xC2\xC3\xF1\xF2\xF3",
-    };
-    let vtoc = Address {
-        cylinder: 0x0102,
-        head: 0x0304,
-    };
-    let track = label_track(rt.alloc(), &serial, vtoc, 512)?;
-    assert_eq!(rt; track.len(), 512);
-    // The counts and keys of the three records, the front of the label's data, and the end marker.
-    for (at, bytes) in [
-        (21, b"\0\0\0\0\x01\x04\0\x18\xC9\xD7\xD3\xF1\0".as_slice()),
-        (57, b"\0\0\0\0\x02\x04\0\x90\xC9\xD7\xD3\xF2\0"),
-        (
-            213,
-            b"\0\0\0\0\x03\x04\0\x50\xE5\xD6\xD3\xF1\xE5\xD6\xD3\xF1",
-        ),
-        (229, b"\xC1\xC2\xC3\xF1\xF2\xF3\0\x01\x02\x03\x04\x01\x40"),
-        (304, b"\x40\xFF\xFF\xFF\xFF\xFF\xFF\xFF\xFF\0"),
-    ] {
-        assert_eq!(rt; track.get(at..at + bytes.len()), Some(bytes), "{at}");
-    }
-    Ok(())
-}
-
 // The extents of a data set.
 fn extents_of(set: Option<&DataSet>) -> &[Run] {
     match set {

@@ -1,10 +1,9 @@
 //! The records of a track.
-ghost use Rattle.std.specs.Prelude.{◌≡◌, ◌≤◌, ◌<◌, ◌+◌, ℕ, [], ◌∷◌, length, slice_range, map, drop, true, false, Option, Some, None, IsTrue, IfOk, IfNone, IfSome, if◌then◌else◌};
-ghost use Rattle.std.proofs.Common.{suc};
+ghost use Rattle.std.specs.Prelude.{◌≡◌, ◌≤◌, ◌<◌, ◌+◌, length, slice_range, map, drop, true, false, IsTrue, IfOk, IfNone, IfSome};
 ghost use Rattle.std.specs.Option.{option_map};
 ghost use Rattle.std.specs.Str.{bytes_eq};
 ghost use Rattle.ckd_image.specs.Header.{HasGeometry};
-ghost use Rattle.ckd_image.specs.Reading.{is_at_end, is_front, is_record_at, front_record, record_length, records_behind, records_to_end, records_up_to};
+ghost use Rattle.ckd_image.specs.Reading.{is_at_end, is_front, is_record_at, front_record, record_length, records_to_end, records_up_to};
 ghost use Rattle.pack_spec.specs.Label.{track_bytes, records_on};
 ghost use Rattle.pack_spec.specs.Views.{record_of, tracks_of};
 
@@ -31,37 +30,30 @@ pub(crate) struct Record<'a> {
     pub data: &'a [u8],
 }
 
-// The records behind R0 of a track, to its end marker; nothing where it breaks the grammar.
+// The records behind R0 of a track, to its end marker or up to R = `upto`; nothing where it breaks
+// the grammar.
+#[tactic(auto, unfolding(crate::specs::Label::records_on, ckd_image::specs::Reading::records_of))]
 pub(crate) fn records_on<'a>(
     alloc: Global,
     image: &'a [u8],
     geometry: Geometry,
+    upto: Option<u8>,
     track: u16,
 ) -> Result<Option<Vec<Record<'a>>>, AllocError>
     requires whole { HasGeometry (length image.now) geometry }
     requires inside { track < tracks_of geometry }
-    ensures { IfOk result (λ found. option_map (λ v. map record_of v.items) found ≡ records_on image.now geometry None track) }
-{
-    match behind_front(image, geometry, track) {
-        Some(behind) => records_to_end(alloc, behind),
-        None => Ok(None),
-    }
-}
-
-// What stands on a track behind its home address and R0; nothing where these aren't its own.
-#[tactic(auto, unfolding(crate::specs::Label::records_on, ckd_image::specs::Reading::records_of))]
-pub(crate) fn behind_front(image: &[u8], geometry: Geometry, track: u16) -> Option<&[u8]>
-    requires whole { HasGeometry (length image.now) geometry }
-    requires inside { track < tracks_of geometry }
-    ensures none { IfNone result ((upto : Option ℕ) → records_on image.now geometry upto track ≡ None) }
-    ensures behind { IfSome result (λ behind. (upto : Option ℕ) → records_on image.now geometry upto track ≡ records_behind upto behind.now) }
+    ensures { IfOk result (λ found. option_map (λ v. map record_of v.items) found ≡ records_on image.now geometry upto track) }
 {
     let heads = geometry.device.heads();
     let bytes = track_bytes(image, geometry, track);
     if !is_front(bytes, track / heads, track % heads) {
-        return None;
+        return Ok(None);
     }
-    Some(&bytes[FRONT_LEN..])
+    let behind = &bytes[FRONT_LEN..];
+    match upto {
+        None => records_to_end(alloc, behind),
+        Some(last) => records_up_to(alloc, last, behind),
+    }
 }
 
 // The bytes of a track, counted from 0 over the volume.
@@ -116,24 +108,27 @@ fn records_to_end(alloc: Global, bytes: &[u8]) -> Result<Option<Vec<Record<'_>>>
     Ok(is_at_end(rest).then_some(records))
 }
 
-// The record R = `number`, with which a reading of a track's first records goes on, and the bytes behind it; nothing
-// where that breaks, by an end marker or for want of such a record.
-pub(crate) fn next_record(bytes: &[u8], number: u8) -> Option<(Record<'_>, &[u8])>
-    ensures none { IfNone result ((left : ℕ) → records_up_to (suc left) number bytes.now ≡ None) }
-    ensures next { IfSome result (λ found. (left : ℕ) → records_up_to (suc left) number bytes.now ≡ option_map (λ xs. record_of found.0 ∷ xs) (records_up_to left (suc number) found.1.now)) }
+// The records from R1 on up to R = `last`, with room for an end marker behind them.
+fn records_up_to(
+    alloc: Global,
+    last: u8,
+    bytes: &[u8],
+) -> Result<Option<Vec<Record<'_>>>, AllocError>
+    ensures { IfOk result (λ found. option_map (λ v. map record_of v.items) found ≡ records_up_to last 1 bytes.now) }
 {
-    if is_at_end(bytes) {
-        return None;
+    let mut records = Vec::new(alloc);
+    let mut rest = bytes;
+    for passed in 0..last {
+        if is_at_end(rest) {
+            return Ok(None);
+        }
+        let Some((record, behind)) = front_record(rest, passed + 1) else {
+            return Ok(None);
+        };
+        records.push(record)?;
+        rest = behind;
     }
-    front_record(bytes, number)
-}
-
-// Whether there is room for an end marker, as there has to be behind the last record that is read.
-#[tactic(auto, unfolding(ckd_image::specs::Reading::records_up_to))]
-pub(crate) fn has_room_for_end(bytes: &[u8]) -> bool
-    ensures { (number : ℕ) → records_up_to 0 number bytes.now ≡ (if result then Some [] else None) }
-{
-    bytes.len() >= END_MARKER.len()
+    Ok((rest.len() >= END_MARKER.len()).then_some(records))
 }
 
 // The record R = `number` at the front, and the bytes behind it; nothing where it doesn't stand there

@@ -1,20 +1,15 @@
 -- The tracks of an image, as they are read and written.
-use Rattle.std.proofs.Common.{Bool, true, false, ◌∷◌, ◌<◌, refl, ◌≡◌, ◌+◌, ◌*◌, ◌/◌, ◌%◌, ℕ, List, [], length, take, drop, Option, Some, None, sym, ap, subst, ◌∙◌}
+use Rattle.std.proofs.Common.{Bool, true, false, ◌∷◌, ◌<◌, refl, ◌≡◌, ◌+◌, ◌*◌, ◌/◌, ◌%◌, ℕ, List, [], length, take, drop, Option, Some, sym, ap, ◌∙◌}
 use Rattle.std.specs.Option.{option_map}
 use Rattle.std.specs.Str.{bytes_eq}
 use Rattle.std.proofs.lemmas.Bool.{cond-true, cond-false}
 use Rattle.hall_core.specs.Facts.{Facts, Attached, unit_of}
-use Rattle.std.specs.Prelude.{unwrap_or}
+use Rattle.std.specs.Prelude.{unwrap_or, Result, Ok, Err, IfOk}
 use Rattle.ckd_image.specs.Reading.{records_of}
-use Rattle.ckd_image.specs.Track.{BreaksAt}
 use Rattle.ckd_image.specs.declared.header.Geometry.{Geometry}
 use Rattle.hall_core.specs.Files.{File, file_of, image_of, patched, written, AreWhole, HasBytesAt}
-use Rattle.hall_core.specs.Made.{HallCall, Giving}
 use Rattle.pack_spec.specs.Label.{heads_of, records_on, track_bytes}
 use Rattle.track_records.specs.Buffers.{records_at}
-use Rattle.track_records.specs.Calls.{HasGiven, Gives, records_by}
-use Rattle.track_records.specs.Reads.{IsBroken, IsGivenBroken}
-use Rattle.track_records.specs.declared.error.TrackErr.TheVariants.{BadCount}
 
 -- the bytes that were read where a track stands are the track's
 pub track_read : (files : List File) (name : List ℕ) (g : Geometry) (track at : ℕ) (bytes : List ℕ) → HasBytesAt files name at bytes → length bytes ≡ g.track_size → at ≡ 512 + track * g.track_size → bytes ≡ track_bytes (unwrap_or (file_of files name) []) g track
@@ -22,39 +17,14 @@ unfolding track_bytes
 track_read files name g track at bytes has size place =
     has.2 ∙ ap (λ (n : ℕ). take n (drop at has.0)) size ∙ ap (λ (n : ℕ). take g.track_size (drop n has.0)) place ∙ ap (λ o. take g.track_size (drop (512 + track * g.track_size) (unwrap_or o []))) (sym has.1)
 
--- what is said of the bytes that were read holds of the track
-pub track_is : (P : ℕ → ℕ → List ℕ → Type 0) (image bytes : List ℕ) (g far : Geometry) (c h track : ℕ) → g ≡ far → c ≡ track / heads_of g → h ≡ track % heads_of g → bytes ≡ track_bytes image g track → P c h bytes → P (track / heads_of far) (track % heads_of far) (track_bytes image far track)
-track_is P image bytes g far c h track geometry cylinder head same said =
-    subst (λ (y : Geometry). P (track / heads_of y) (track % heads_of y) (track_bytes image y track)) geometry (subst (λ (n : ℕ). P n (track % heads_of g) (track_bytes image g track)) cylinder (subst (λ (n : ℕ). P c n (track_bytes image g track)) head (subst (λ (b : List ℕ). P c h b) same said)))
-
 -- the records that stand in a track's bytes are those on the image
-pub records_read : (image bytes held places : List ℕ) (g far : Geometry) (c h track : ℕ) (u : Option ℕ) → g ≡ far → c ≡ track / heads_of g → h ≡ track % heads_of g → bytes ≡ held → held ≡ track_bytes image g track
-    → records_of c h u bytes ≡ Some (records_at bytes places) → records_on image far u track ≡ Some (records_at held places)
+pub records_read : {T E : Type 0} (image bytes held places : List ℕ) (g far : Geometry) (c h track : ℕ) (u : Option ℕ) (result : Result T E) → g ≡ far → c ≡ track / heads_of g → h ≡ track % heads_of g → bytes ≡ held → held ≡ track_bytes image g track
+    → IfOk result (λ _. records_of c h u bytes ≡ Some (records_at bytes places)) → IfOk result (λ _. records_on image far u track ≡ Some (records_at held places))
 unfolding records_on
-records_read image bytes held places g far c h track u geometry cylinder head same is found =
-    track_is (λ (n m : ℕ) (b : List ℕ). records_of n m u b ≡ Some (records_at bytes places)) image bytes g far c h track geometry cylinder head (same ∙ is) found ∙ ap (λ (b : List ℕ). Some (records_at b places)) same
-
--- where a track's bytes break the grammar, so does the track
-pub broken_read : (image bytes held : List ℕ) (g far : Geometry) (c h track : ℕ) (u : Option ℕ) (at : ℕ) → g ≡ far → c ≡ track / heads_of g → h ≡ track % heads_of g → bytes ≡ held → held ≡ track_bytes image g track → records_of c h u bytes ≡ None → BreaksAt c h u bytes at → IsBroken image far u track (BadCount at)
-unfolding records_on
-broken_read image bytes held g far c h track u at geometry cylinder head same is none breaks =
-    (track_is (λ (n m : ℕ) (b : List ℕ). records_of n m u b ≡ None) image bytes g far c h track geometry cylinder head (same ∙ is) none, track_is (λ (n m : ℕ) (b : List ℕ). BreaksAt n m u b at) image bytes g far c h track geometry cylinder head (same ∙ is) breaks)
-
--- and so of the bytes that a read gave
-pub given_is : {before : ℕ} (P : ℕ → ℕ → List ℕ → Type 0) (done : HallCall → Type 0) (unit : ℕ) (bytes held : List ℕ) (g far : Geometry) (c h track : ℕ) → g ≡ far → c ≡ track / heads_of g → h ≡ track % heads_of g → bytes ≡ held → length held ≡ g.track_size → done (Giving before unit (512 + track * g.track_size) held) → P c h bytes → HasGiven done unit far track (λ given. P (track / heads_of far) (track % heads_of far) given)
-given_is P done unit bytes held g far c h track geometry cylinder head same size gave said =
-    subst (λ (y : Geometry). HasGiven done unit y track (λ given. P (track / heads_of y) (track % heads_of y) given)) geometry
-    (Gives held size gave (subst (λ (n : ℕ). P n (track % heads_of g) held) cylinder (subst (λ (n : ℕ). P c n held) head (subst (λ (b : List ℕ). P c h b) same said))))
-
-pub records_given : {before : ℕ} (done : HallCall → Type 0) (unit : ℕ) (bytes held places : List ℕ) (g far : Geometry) (c h track : ℕ) (u : Option ℕ) → g ≡ far → c ≡ track / heads_of g → h ≡ track % heads_of g → bytes ≡ held → length held ≡ g.track_size → done (Giving before unit (512 + track * g.track_size) held)
-    → records_of c h u bytes ≡ Some (records_at bytes places) → HasGiven done unit far track (λ given. records_by far u track given ≡ Some (records_at held places))
-records_given done unit bytes held places g far c h track u geometry cylinder head same size gave found =
-    given_is (λ (n m : ℕ) (b : List ℕ). records_of n m u b ≡ Some (records_at held places)) done unit bytes held g far c h track geometry cylinder head same size gave (found ∙ ap (λ (b : List ℕ). Some (records_at b places)) same)
-
-pub broken_given : {before : ℕ} (done : HallCall → Type 0) (unit : ℕ) (bytes held : List ℕ) (g far : Geometry) (c h track : ℕ) (u : Option ℕ) (at : ℕ) → g ≡ far → c ≡ track / heads_of g → h ≡ track % heads_of g → bytes ≡ held → length held ≡ g.track_size → done (Giving before unit (512 + track * g.track_size) held)
-    → records_of c h u bytes ≡ None → BreaksAt c h u bytes at → IsGivenBroken done unit far u track (BadCount at)
-broken_given done unit bytes held g far c h track u at geometry cylinder head same size gave none breaks =
-    given_is (λ (n m : ℕ) (b : List ℕ). (records_of n m u b ≡ None) × BreaksAt n m u b at) done unit bytes held g far c h track geometry cylinder head same size gave (none, breaks)
+records_read image bytes held places g far c h track u (Err e) geometry cylinder head same is found = tt
+records_read image bytes held places g far c h track u (Ok x) geometry cylinder head same is found =
+    ap (λ (y : Geometry). records_of (track / heads_of y) (track % heads_of y) u (track_bytes image y track)) (sym geometry) ∙ sym (ap (λ (n : ℕ). records_of n h u bytes) cylinder ∙ ap (λ (n : ℕ). records_of (track / heads_of g) n u bytes) head ∙ ap (λ (b : List ℕ). records_of (track / heads_of g) (track % heads_of g) u b) (same ∙ is))
+    ∙ found ∙ ap (λ (b : List ℕ). Some (records_at b places)) same
 
 -- the file that bytes were written over
 file_written : (files : List File) (name : List ℕ) (at : ℕ) (bytes image : List ℕ) → file_of files name ≡ Some image → file_of (written files name at bytes) name ≡ Some (patched image at bytes)

@@ -1,15 +1,18 @@
 -- A write to a track, as a write to the image.
 use Rattle.std.proofs.Common.{true, false, ◌≡◌, ◌≤◌, ◌+◌, ◌*◌, ℕ, List, inl, inr, ⊎_elim, subst, arith}
 use Rattle.std.proofs.Math.Nat.{mul-le-mul_left}
-use Rattle.std.specs.Prelude.{Result, Ok, Err, IsErr}
+use Rattle.std.specs.Prelude.{Result, Ok, Err, IsErr, OnErr}
 use Rattle.std.proofs.lemmas.Result.{IfOk-from_err}
 use Rattle.ckd_image.specs.declared.header.Geometry.{Geometry}
 use Rattle.ckd_image.specs.Device.{row_of}
 use Rattle.hall_core.specs.Facts.{Attached, unit_of}
 use Rattle.hall_core.specs.Files.{File, AfterWrite}
 use Rattle.hall_core.specs.Moments.{Meaning}
-use Rattle.hall_core.proofs.Outcomes.{on_err}
 use Rattle.track_records.specs.Calls.{HasTrack}
+
+on_err : {T E : Type 0} (answer : Result T E) (P : Type 0) → P → OnErr answer P
+on_err (Ok x) P here = tt
+on_err (Err e) P here = here
 
 -- a write that failed has failed, whatever its error is called
 pub write_failed : {T E T' E' : Type 0} {name : List ℕ} {at : ℕ} {bytes : List ℕ} {old new : Meaning (List File)} {e : E} (answer : Result T' E') → IsErr answer → AfterWrite {T = T} {E = E} name at bytes old new (Err e) → AfterWrite name at bytes old new answer

@@ -1,22 +1,20 @@
 //! A buffer for the records of one track, and what reads and writes them.
-ghost use Rattle.std.specs.Prelude.{◌≡◌, ◌⊎◌, ◌≤◌, ◌+◌, ◌*◌, ◌/◌, ◌%◌, ◌-◌, ◌++◌, [], length, true, Some, IsTrue, IfOk, IfErr, IfSome, OnOk, OnErr, slice_get};
+ghost use Rattle.std.specs.Prelude.{◌≡◌, ◌≤◌, ◌+◌, ◌-◌, ◌++◌, [], length, Some, IsTrue, IfOk, IfErr, OnOk, OnErr, slice_get};
 ghost use Rattle.std.specs.Option.{option_map};
-ghost use Rattle.ckd_image.specs.Reading.{front_record, is_record_at};
-ghost use Rattle.hall_core.specs.Facts.{CallsAtMost, DeviceCall, unit_of};
+ghost use Rattle.hall_core.specs.Facts.{DeviceCall, unit_of};
 ghost use Rattle.hall_core.specs.Files.{AfterWrite, image_of, patched};
-ghost use Rattle.hall_core.specs.Made.{DoneSince, Giving, MakesOnce, MakesOnly, StaysDone, Writing};
 ghost use Rattle.hall_core.specs.Moments.{Same};
-ghost use Rattle.pack_spec.specs.Label.{heads_of, records_on, track_bytes};
+ghost use Rattle.pack_spec.specs.Label.{records_on, track_bytes};
 ghost use Rattle.track_records.specs.Buffers.{IsContentOf, IsPartOf};
-ghost use Rattle.track_records.specs.Calls.{HasGiven, HasTrack, TrackCall, records_by, track_read};
-ghost use Rattle.track_records.specs.Reads.{AreAllOrFirst, IsBroken, IsGivenBroken, LacksFirst};
+ghost use Rattle.track_records.specs.Calls.{HasTrack, TrackCall};
+ghost use Rattle.track_records.specs.Reads.{IsBroken};
 ghost use Rattle.track_records.specs.Updates.{HasLengths, offset_of, with_parts};
 ghost use Rattle.track_records.specs.Written.{place_of, IsUpdated, StandsOn};
 
 use crate::error::TrackErr;
-use crate::places::{put_places, put_places_or_first};
-use ckd_image::{BadCount, COUNT_LEN, Geometry, HEADER_LEN, RecordParts, record_at};
-use hall_core::{Device, Hall};
+use crate::places::put_places;
+use ckd_image::{COUNT_LEN, Geometry, HEADER_LEN, RecordParts, record_at};
+use hall_core::{Device, Hall, HallErr};
 use std::alloc::{AllocError, Global};
 use std::marker::Model;
 
@@ -95,15 +93,6 @@ impl TrackBuf {
         self.parts(r).data
     }
 
-    // Holds no record any more, and is of this track of a unit.
-    fn begin(&mut self, unit: u8, track: u16)
-        ensures { self.new ≡ record self.old { unit = unit; track = track; records = [] } }
-    {
-        self.unit = unit;
-        self.track = track;
-        self.places.clear();
-    }
-
     // Puts this key and these data in the place of those of Rr, which have the same lengths, and gives
     // the offset of the key from the track's home address.
     fn put(&mut self, r: u8, key: &[u8], payload: &[u8]) -> usize
@@ -124,7 +113,8 @@ impl TrackBuf {
         requires last { r ≤ length self.now.records }
         ensures { IsContentOf (slice_get self.now.records (r - 1)) result.now }
     {
-        let bytes = self.bytes_from(r);
+        let at = self.places[usize::from(r) - 1];
+        let bytes = &self.bytes[at..];
         let (parts, _rest) = record_at(bytes, r).unwrap();
         &bytes[COUNT_LEN..COUNT_LEN + parts.key.len() + parts.data.len()]
     }
@@ -135,19 +125,9 @@ impl TrackBuf {
         requires last { r ≤ length self.now.records }
         ensures { IsPartOf (slice_get self.now.records (r - 1)) result.key.now result.data.now }
     {
-        let (parts, _rest) = record_at(self.bytes_from(r), r).unwrap();
-        parts
-    }
-
-    // The bytes of the track from the count of Rr on.
-    fn bytes_from(&self, r: u8) -> &[u8]
-        requires first { 1 ≤ r }
-        requires last { r ≤ length self.now.records }
-        ensures stands { is_record_at r result.now ≡ true }
-        ensures record { slice_get self.now.records (r - 1) ≡ Some (front_record result.now) }
-    {
         let at = self.places[usize::from(r) - 1];
-        &self.bytes[at..]
+        let (parts, _rest) = record_at(&self.bytes[at..], r).unwrap();
+        parts
     }
 }
 
@@ -157,10 +137,9 @@ impl TrackBuf {
 /// The track is counted from 0 over the unit. It is read in one read, and follows the grammar of
 /// `track_of` in `ckd_image`, that of a Hercules image.
 ///
-/// `BadCount` names the byte at which the track breaks that grammar, before R = `upto` and eight bytes
-/// behind it are there, or before the end marker; so it does where the record that is asked for isn't there.
-/// `Device` comes only where the read failed and the count of device faults rose. After an error the buffer
-/// holds no record.
+/// `BadCount` names the byte at which the track breaks that grammar, before R = `upto` is whole or
+/// before the end marker; so it does where the record that is asked for isn't there. `Device` comes only
+/// where the read failed and the count of device faults rose. After an error the buffer holds no record.
 pub fn read_records<H: Hall>(
     hall: &mut H,
     unit: u8,
@@ -170,73 +149,28 @@ pub fn read_records<H: Hall>(
 ) -> Result<u8, TrackErr>
     requires { HasTrack (H.facts hall.old).units unit buf.old.geometry track }
     ensures count { IfOk result (λ n. length buf.new.records ≡ n) }
-    ensures upto { IfOk result (λ n. IfSome upto (λ r. n ≡ r)) }
     ensures buffer { buf.new ≡ record buf.old { unit = unit; track = track; records = buf.new.records } }
     ensures none { OnErr result (buf.new.records ≡ []) }
     ensures read { IsTrue H.tells → IfOk result (λ _. records_on (image_of (H.meaning hall.old).state (H.facts hall.old) unit) buf.old.geometry upto track ≡ Some buf.new.records) }
     ensures broken { IsTrue H.tells → IfErr result (λ e. IsBroken (image_of (H.meaning hall.old).state (H.facts hall.old) unit) buf.old.geometry upto track e) }
     ensures told { IsTrue H.tells → Same (H.meaning hall.old) (H.meaning hall.new) }
     ensures call { TrackCall (H.facts hall.old) (H.facts hall.new) result }
-    ensures calls { CallsAtMost 1 0 0 0 (H.calls hall.old) (H.calls hall.new) }
-    ensures made { MakesOnly (λ call. call ≡ track_read unit buf.old.geometry track) (H.made hall.old) (H.made hall.new) }
-    ensures each { MakesOnce (H.made hall.old) (H.made hall.new) }
-    ensures kept { StaysDone (H.done hall.old) (H.done hall.new) }
-    ensures given { IfOk result (λ _. HasGiven (DoneSince (H.calls hall.old).reads (H.done hall.new)) unit buf.old.geometry track (λ bytes. records_by buf.old.geometry upto track bytes ≡ Some buf.new.records)) }
-    ensures broke { IfErr result (IsGivenBroken (DoneSince (H.calls hall.old).reads (H.done hall.new)) unit buf.old.geometry upto track) }
 {
-    buf.begin(unit, track);
+    buf.unit = unit;
+    buf.track = track;
+    buf.places.clear();
     let geometry = buf.geometry;
-    fill(hall, unit, geometry, track, &mut buf.bytes)?;
+    let Ok(()) = fill(hall, unit, geometry, track, &mut buf.bytes) else {
+        return Err(TrackErr::Device);
+    };
     let heads = u16::from(geometry.device.heads());
-    match put_places(
+    put_places(
         &buf.bytes,
         track / heads,
         track % heads,
         upto,
         &mut buf.places,
-    ) {
-        Ok(count) => Ok(count),
-        Err(BadCount { at }) => Err(TrackErr::BadCount { at }),
-    }
-}
-
-/// Reads the records behind R0 of a track into the buffer up to the end marker, or where the track breaks the
-/// grammar (`track_of` of `ckd_image`) behind its first record, that record alone. Gives their number, or `None` where
-/// it is the first alone.
-///
-/// The track is counted from 0 over the unit, and read in one read, as `read_records` does.
-///
-/// `BadCount` names the byte at which the track breaks the grammar before R1 and eight bytes behind it are
-/// there. `Device` comes only where the read failed and the count of device faults rose. After an error the
-/// buffer holds no record.
-pub fn read_records_or_first<H: Hall>(
-    hall: &mut H,
-    unit: u8,
-    track: u16,
-    buf: &mut TrackBuf,
-) -> Result<Option<u8>, TrackErr>
-    requires { HasTrack (H.facts hall.old).units unit buf.old.geometry track }
-    ensures buffer { buf.new ≡ record buf.old { unit = unit; track = track; records = buf.new.records } }
-    ensures none { OnErr result (buf.new.records ≡ []) }
-    ensures read { IsTrue H.tells → IfOk result (λ count. AreAllOrFirst (track / heads_of buf.old.geometry) (track % heads_of buf.old.geometry) count buf.new.records (track_bytes (image_of (H.meaning hall.old).state (H.facts hall.old) unit) buf.old.geometry track)) }
-    ensures broken { IsTrue H.tells → IfErr result (λ e. LacksFirst buf.old.geometry track e (track_bytes (image_of (H.meaning hall.old).state (H.facts hall.old) unit) buf.old.geometry track)) }
-    ensures told { IsTrue H.tells → Same (H.meaning hall.old) (H.meaning hall.new) }
-    ensures call { TrackCall (H.facts hall.old) (H.facts hall.new) result }
-    ensures calls { CallsAtMost 1 0 0 0 (H.calls hall.old) (H.calls hall.new) }
-    ensures made { MakesOnly (λ call. call ≡ track_read unit buf.old.geometry track) (H.made hall.old) (H.made hall.new) }
-    ensures each { MakesOnce (H.made hall.old) (H.made hall.new) }
-    ensures kept { StaysDone (H.done hall.old) (H.done hall.new) }
-    ensures given { IfOk result (λ count. HasGiven (DoneSince (H.calls hall.old).reads (H.done hall.new)) unit buf.old.geometry track (AreAllOrFirst (track / heads_of buf.old.geometry) (track % heads_of buf.old.geometry) count buf.new.records)) }
-    ensures broke { IfErr result (λ e. (e ≡ TrackErr.Device) ⊎ HasGiven (DoneSince (H.calls hall.old).reads (H.done hall.new)) unit buf.old.geometry track (LacksFirst buf.old.geometry track e)) }
-{
-    buf.begin(unit, track);
-    let geometry = buf.geometry;
-    fill(hall, unit, geometry, track, &mut buf.bytes)?;
-    let heads = u16::from(geometry.device.heads());
-    match put_places_or_first(&buf.bytes, track / heads, track % heads, &mut buf.places) {
-        Ok(count) => Ok(count),
-        Err(fault) => Err(TrackErr::BadCount { at: fault.at }),
-    }
+    )
 }
 
 // Fills a vector of a track's length with the bytes of a track; one read.
@@ -246,25 +180,16 @@ fn fill<H: Hall>(
     geometry: Geometry,
     track: u16,
     bytes: &mut Vec<u8>,
-) -> Result<(), TrackErr>
+) -> Result<(), HallErr>
     requires track { HasTrack (H.facts hall.old).units unit geometry track }
     requires room { length bytes.old.items ≡ geometry.track_size }
     ensures size { length bytes.new.items ≡ geometry.track_size }
     ensures read { IsTrue H.tells → OnOk result (bytes.new.items ≡ track_bytes (image_of (H.meaning hall.old).state (H.facts hall.old) unit) geometry track) }
     ensures told { IsTrue H.tells → Same (H.meaning hall.old) (H.meaning hall.new) }
-    ensures error { IfErr result (λ e. e ≡ TrackErr.Device) }
-    ensures call { TrackCall (H.facts hall.old) (H.facts hall.new) result }
-    ensures calls { CallsAtMost 1 0 0 0 (H.calls hall.old) (H.calls hall.new) }
-    ensures made { MakesOnly (λ call. call ≡ track_read unit geometry track) (H.made hall.old) (H.made hall.new) }
-    ensures each { MakesOnce (H.made hall.old) (H.made hall.new) }
-    ensures kept { StaysDone (H.done hall.old) (H.done hall.new) }
-    ensures done { OnOk result (H.done hall.new (Giving (H.calls hall.old).reads unit (512 + track * geometry.track_size) bytes.new.items)) }
+    ensures call { DeviceCall (H.facts hall.old) (H.facts hall.new) result }
 {
     let at = HEADER_LEN as u64 + u64::from(track) * u64::from(geometry.track_size);
-    let Ok(()) = hall.read(unit, at, bytes) else {
-        return Err(TrackErr::Device);
-    };
-    Ok(())
+    hall.read(unit, at, bytes)
 }
 
 /// Writes this key and these data over those of Rr, which have the same lengths, in one write.
@@ -286,12 +211,6 @@ pub fn update<H: Hall>(
     ensures record { let image = image_of (H.meaning hall.old).state (H.facts hall.old) buf.old.unit in IsTrue H.tells → OnOk result (StandsOn image buf.old → IsUpdated buf.old (r - 1) key.now payload.now image (image_of (H.meaning hall.new).state (H.facts hall.new) buf.old.unit) × StandsOn (image_of (H.meaning hall.new).state (H.facts hall.new) buf.old.unit) buf.new) }
     ensures buffer { buf.new ≡ record buf.old { records = with_parts (r - 1) key.now payload.now buf.old.records } }
     ensures call { DeviceCall (H.facts hall.old) (H.facts hall.new) result }
-    ensures calls { CallsAtMost 0 1 0 0 (H.calls hall.old) (H.calls hall.new) }
-    ensures inside { place_of buf.old (r - 1) + length (key.now ++ payload.now) ≤ 512 + (buf.old.track + 1) * buf.old.geometry.track_size }
-    ensures made { MakesOnly (λ call. call ≡ Writing buf.old.unit (place_of buf.old (r - 1)) (key.now ++ payload.now)) (H.made hall.old) (H.made hall.new) }
-    ensures each { MakesOnce (H.made hall.old) (H.made hall.new) }
-    ensures kept { StaysDone (H.done hall.old) (H.done hall.new) }
-    ensures done { OnOk result (H.done hall.new (Writing buf.old.unit (place_of buf.old (r - 1)) (key.now ++ payload.now))) }
 {
     let place = buf.put(r, key, payload);
     let at = HEADER_LEN as u64

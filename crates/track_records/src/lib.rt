@@ -5,7 +5,7 @@ mod buffer;
 mod error;
 mod places;
 
-pub use buffer::{TrackBuf, read_records, read_records_or_first, update};
+pub use buffer::{TrackBuf, read_records, update};
 pub use error::TrackErr;
 
 #[cfg(test)]

@@ -1,14 +1,11 @@
 //! Where the records of a track stand.
-ghost use Rattle.std.specs.Prelude.{◌≡◌, ◌≤◌, ◌+◌, [], length, IsTrue, vec_capacity, Some, None, IfOk, IfErr, IfSome, OnErr};
+ghost use Rattle.std.specs.Prelude.{◌≡◌, ◌≤◌, ◌+◌, [], length, IsTrue, vec_capacity, Some, IfOk, IfErr, OnErr};
 ghost use Rattle.ckd_image.specs.Reading.{records_of};
-ghost use Rattle.ckd_image.specs.Track.{BreaksAt};
 ghost use Rattle.track_records.specs.Buffers.{are_places, places_from, records_at};
-ghost use Rattle.track_records.specs.Reads.{AreAllOrFirst, BreaksFirst};
+ghost use Rattle.track_records.specs.Reads.{IsBrokenTrack};
 
+use crate::error::TrackErr;
 use ckd_image::{BadCount, FRONT_LEN, record_at, track_of};
-
-// R of the first record behind R0.
-const FIRST_RECORD: u8 = 1;
 
 // Puts the offsets of the records behind R0 of a track, up to the record R = `upto` or to the end
 // marker, into an empty vector that has room for them, and gives their number; puts none where the
@@ -19,45 +16,24 @@ pub(crate) fn put_places(
     head: u16,
     upto: Option<u8>,
     places: &mut Vec<usize>,
-) -> Result<u8, BadCount>
+) -> Result<u8, TrackErr>
     requires empty { places.old.items ≡ [] }
     requires room { 255 ≤ vec_capacity places.old }
     ensures count { IfOk result (λ n. length places.new.items ≡ n) }
-    ensures upto { IfOk result (λ n. IfSome upto (λ r. n ≡ r)) }
     ensures records { IfOk result (λ _. records_of cylinder head upto bytes.now ≡ Some (records_at bytes.now places.new.items)) }
     ensures are { IsTrue (are_places 1 21 bytes.now places.new.items) }
-    ensures broken { OnErr result (records_of cylinder head upto bytes.now ≡ None) }
-    ensures breaks { IfErr result (λ e. BreaksAt cylinder head upto bytes.now e.at) }
+    ensures broken { IfErr result (λ e. IsBrokenTrack cylinder head upto bytes.now e) }
     ensures none { OnErr result (places.new.items ≡ []) }
+    ensures error { IfErr result (λ e. e ≡ TrackErr.Device → ⊥) }
     ensures room { 255 ≤ vec_capacity places.new }
 {
-    let count = track_of(bytes, cylinder, head, upto)?;
-    walk(bytes, count, places);
-    Ok(count)
-}
-
-// Puts the offsets of the records behind R0 of a track up to the end marker, or where the track breaks
-// the grammar, that of R1 alone, into an empty vector that has room for them. Gives their number, or
-// nothing where the track breaks the grammar.
-pub(crate) fn put_places_or_first(
-    bytes: &[u8],
-    cylinder: u16,
-    head: u16,
-    places: &mut Vec<usize>,
-) -> Result<Option<u8>, BadCount>
-    requires empty { places.old.items ≡ [] }
-    requires room { 255 ≤ vec_capacity places.old }
-    ensures records { IfOk result (λ count. AreAllOrFirst cylinder head count (records_at bytes.now places.new.items) bytes.now) }
-    ensures are { IsTrue (are_places 1 21 bytes.now places.new.items) }
-    ensures broken { IfErr result (λ e. BreaksFirst cylinder head e.at bytes.now) }
-    ensures none { OnErr result (places.new.items ≡ []) }
-    ensures room { 255 ≤ vec_capacity places.new }
-{
-    if let Ok(count) = put_places(bytes, cylinder, head, None, places) {
-        return Ok(Some(count));
+    match track_of(bytes, cylinder, head, upto) {
+        Ok(count) => {
+            walk(bytes, count, places);
+            Ok(count)
+        }
+        Err(BadCount { at }) => Err(TrackErr::BadCount { at }),
     }
-    put_places(bytes, cylinder, head, Some(FIRST_RECORD), places)?;
-    Ok(None)
 }
 
 // Puts the offsets of so many records, from R1 on, into an empty vector that has room for them.

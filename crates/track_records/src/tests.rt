@@ -6,7 +6,7 @@ ghost use Rattle.track_records.specs.Calls.{HasTrack};
 mod odd;
 
 use super::*;
-use ckd_image::{DiskType, Geometry, Header, push_end, push_front};
+use ckd_image::{DiskType, Geometry, Header};
 use hall_core::{Call, Device, Hall, MemHall};
 use odd::Odd;
 use std::alloc::{AllocError, Global};
@@ -30,8 +30,7 @@ struct Pack {
 }
 
 // One cylinder of a 2311. Behind the full track stand one with another head, one with another cylinder,
-// one on which R1 ends a byte behind the track, one with R1 and then record 9, and one on which six X'FF' that
-// are no end marker stand in the place of R1.
+// and one on which R1 ends a byte behind the track.
 const SMALL: Pack = Pack {
     geometry: Geometry {
         device: DiskType::D2311,
@@ -47,12 +46,6 @@ const SMALL: Pack = Pack {
         ((0, 4), (0, 5), b""),
         ((0, 5), (1, 5), b""),
         ((0, 6), (0, 6), b"\0\0\0\x06\x01\0\x0F\xE4"),
-        (
-            (0, 7),
-            (0, 7),
-            b"\0\0\0\x07\x01\x02\0\x03ABabc\0\0\0\x07\x09\0\0\0",
-        ),
-        ((0, 8), (0, 8), b"\xFF\xFF\xFF\xFF\xFF\xFF\0\0"),
     ],
 };
 
@@ -72,11 +65,6 @@ const LARGE: Pack = Pack {
         ((1, 6), (1, 7), b""),
         ((1, 7), (0, 7), b""),
         ((1, 8), (1, 8), b"\0\x01\0\x08\x01\0\x1D\xE4"),
-        (
-            (1, 9),
-            (1, 9),
-            b"\0\x01\0\x09\x01\x02\0\x03ABabc\0\x01\0\x09\x09\0\0\0",
-        ),
     ],
 };
 
@@ -118,6 +106,13 @@ const CHANGES: [Change; 3] = [
     ),
 ];
 
+// The home address and R0 of a track.
+fn push_front(image: &mut Vec<u8>, cylinder: u8, head: u8) -> Result<(), AllocError> {
+    image.extend_from_slice(&[0, 0, cylinder, 0, head])?;
+    image.extend_from_slice(&[0, cylinder, 0, head, 0, 0, 0, 8])?;
+    image.extend_from_slice(&[0; 8])
+}
+
 // What the pack has on a track, where the full one has these records.
 fn row_of<'a>(pack: &Pack, cylinder: u8, head: u8, records: &'a [u8]) -> (u8, u8, &'a [u8]) {
     for (at, home, bytes) in pack.rows {
@@ -138,9 +133,10 @@ fn image(alloc: Global, pack: &Pack, records: &[u8]) -> Result<Vec<u8>, AllocErr
         for head in 0..pack.heads {
             let end = image.len() + pack.geometry.track_size as usize;
             let (c, h, bytes) = row_of(pack, cylinder, head, records);
-            push_front(&mut image, c.into(), h.into())?;
+            push_front(&mut image, c, h)?;
             image.extend_from_slice(bytes)?;
-            push_end(&mut image, end)?;
+            image.extend_from_slice(&[0xFF; 8])?;
+            image.resize(end, 0)?;
         }
     }
     Ok(image)
@@ -275,45 +271,6 @@ fn tracks_are_read_once_and_as_far_as_asked(rt: HostRuntime) -> Result<(), Fail>
             "case {i}"
         );
         expect_records(&rt, &buf, want.unwrap_or(0));
-    }
-    Ok(())
-}
-
-// A track and where it stands in the image, and the call that fails; what is answered, and how many
-// records the buffer holds then.
-type OrFirst = (Pack, u16, u64, u64, Result<Option<u8>, TrackErr>, u8);
-
-// Tracks that are good, one of them without records; one of each pack that breaks behind R1; those that
-// break before R1 is whole; and a read that fails.
-const OR_FIRST: [OrFirst; 9] = [
-    (SMALL, 3, 12800, 9, Ok(Some(3)), 3),
-    (SMALL, 9, 37376, 9, Ok(Some(0)), 0),
-    (LARGE, 25, 192512, 9, Ok(Some(3)), 3),
-    (SMALL, 7, 29184, 9, Ok(None), 1),
-    (LARGE, 29, 223232, 9, Ok(None), 1),
-    (SMALL, 6, 25088, 9, Err(TrackErr::BadCount { at: 4096 }), 0),
-    (SMALL, 8, 33280, 9, Err(TrackErr::BadCount { at: 25 }), 0),
-    (LARGE, 26, 200192, 9, Err(TrackErr::BadCount { at: 4 }), 0),
-    (SMALL, 7, 29184, 1, Err(TrackErr::Device), 0),
-];
-
-#[test]
-fn broken_track_is_read_once_for_its_first_record(rt: HostRuntime) -> Result<(), Fail> {
-    for (i, (pack, track, at, fails, want, held)) in OR_FIRST.into_iter().enumerate() {
-        let mut hall = hall_that_fails(rt.alloc(), &pack, &[fails])?;
-        let Some((unit, mut buf)) = open(rt.alloc(), &mut hall, &pack, track) else {
-            assert!(rt; false, "case {i}: the pack is attached");
-            return Ok(());
-        };
-        let read = read_records_or_first(&mut hall, unit, track, &mut buf);
-        assert_eq!(rt; read, want, "case {i}");
-        assert_eq!(rt; buf.track(), track, "case {i}");
-        assert_eq!(rt;
-            hall.calls(),
-            [Call::Attach, Call::Read { unit: 0, at }].as_slice(),
-            "case {i}"
-        );
-        expect_records(&rt, &buf, held);
     }
     Ok(())
 }

@@ -1,19 +1,15 @@
 -- The definitions of `specs/`, at the edges where a near-miss reading would differ.
-use Rattle.std.proofs.Common.{◌≡◌, ℕ, true, false, List, [], ◌∷◌, ◌++◌, Option, codes, get_or, length, replicate, Some, None, refl, sym, ap, ◌∙◌, arith, lit≤}
+use Rattle.std.proofs.Common.{◌≡◌, ℕ, true, false, List, [], ◌∷◌, ◌++◌, codes, replicate, Some, None, refl}
 use Rattle.std.specs.Prelude.{Ok, Err}
 use Rattle.std.specs.Fmt.{digits}
-use Rattle.std.specs.Option.{option_map_or}
 use Rattle.ebcdic_names.specs.CodePage.{ascii_of, code_page}
 use Rattle.ebcdic_names.specs.Names.{byte_of, char_faults, shown}
 use Rattle.ebcdic_names.specs.declared.names.Dsn.{Dsn}
 use Rattle.ebcdic_names.specs.declared.names.Serial.{Serial}
-use Rattle.ckd_image.specs.declared.device.DiskType.TheVariants.{D2311, D2314, D3330}
-use Rattle.util_syntax.specs.declared.statement.Rename.{Rename}
 use Rattle.vol_model.specs.Words.{refusal_words}
 use Rattle.vol_model.specs.declared.refusals.Refusal.TheVariants.{NoSet, SetExists, VtocFull}
-use Rattle.util_syntax.proofs.Grammar.{rename_at}
 use Rattle.util_syntax.specs.Lines.{card_number, next_word, outcome_words, result_line}
-use Rattle.util_syntax.specs.Statement.{IsRename, behind, is_device_word, name_behind, operands_of, rename_if, rename_of, rename_of_operands, serial_of_parts, text_of, volume_parts, volume_serial}
+use Rattle.util_syntax.specs.Statement.{behind, is_device_word, name_behind, operands_of, rename_if, rename_of, rename_of_operands, serial_of_parts, text_of, volume_parts, volume_serial}
 
 -- the names J and K, and the serial 1
 j : Dsn
@@ -67,7 +63,7 @@ operands_are_three : (rename_of_operands (codes " RENAME DSNAME=J" ∷ codes "VO
 unfolding j k one byte_of char_faults code_page
 operands_are_three = (refl, refl, refl, refl)
 
--- a card of one statement and so many blanks, 37 columns before them
+-- a card of one statement and so many blanks, 41 columns before them
 card : ℕ → List ℕ
 card blanks = codes " RENAME DSNAME=J,VOL=2311=1,NEWNAME=K" ++ replicate blanks 32
 
@@ -75,150 +71,6 @@ card blanks = codes " RENAME DSNAME=J,VOL=2311=1,NEWNAME=K" ++ replicate blanks 
 column_80_is_the_last : (rename_of (card 43) ≡ Some (record { old = j; serial = one; new = k })) × (rename_of (card 44) ≡ None)
 unfolding rename_of card j k one byte_of char_faults code_page
 column_80_is_the_last = (refl, refl)
-
--- A card spells a statement with its blanks up to column 80, and no longer card does.
-abbrev spelt : Rename
-spelt = record { old = record { bytes = 0xD1 ∷ replicate 43 0x40 }; serial = record { bytes = 0xF1 ∷ replicate 5 0x40 }; new = record { bytes = 0xD2 ∷ replicate 43 0x40 } }
-
-card_spells_a_statement : IsRename (codes " RENAME DSNAME=J,VOL=2314=1,NEWNAME=K" ++ replicate 43 32) spelt
-unfolding byte_of char_faults code_page
-card_spells_a_statement = record {
-  old = codes "J";
-  device = D2314;
-  serial = codes "1";
-  new = codes "K";
-  blanks = 43;
-  spelling = refl;
-  old_reads = refl;
-  serial_reads = refl;
-  new_reads = refl;
-  fits = lit≤ tt;
-}
-
-longer_card_spells_none : ¬ IsRename (codes " RENAME DSNAME=J,VOL=2314=1,NEWNAME=K" ++ replicate 44 32) spelt
-longer_card_spells_none is = let fits = is.fits in absurd (omega (arith, fits))
-
--- Its device is any of the three, and it may have no blanks behind it.
-card_names_any_device : IsRename (codes " RENAME DSNAME=J,VOL=2311=1,NEWNAME=K") spelt × IsRename (codes " RENAME DSNAME=J,VOL=3330=1,NEWNAME=K") spelt
-unfolding byte_of char_faults code_page
-card_names_any_device = (
-  record { old = codes "J"; device = D2311; serial = codes "1"; new = codes "K"; blanks = 0; spelling = refl; old_reads = refl; serial_reads = refl; new_reads = refl; fits = lit≤ tt },
-  record { old = codes "J"; device = D3330; serial = codes "1"; new = codes "K"; blanks = 0; spelling = refl; old_reads = refl; serial_reads = refl; new_reads = refl; fits = lit≤ tt },
-)
-
--- A card spells no statement where none is read from it.
-abbrev SpellsNone : List ℕ → Type 0
-SpellsNone card = (statement : Rename) → ¬ IsRename card statement
-
-none_is_spelt : (card : List ℕ) → rename_of card ≡ None → SpellsNone card
-none_is_spelt card none statement is = let wrong : None ≡ Some statement = sym none ∙ rename_at card statement is in absurd (cc)
-
--- The operation stands behind one blank, and its operands behind one.
-one_blank_before_each_part :
-    SpellsNone (codes "RENAME DSNAME=J,VOL=2314=1,NEWNAME=K")
-    × SpellsNone (codes "  RENAME DSNAME=J,VOL=2314=1,NEWNAME=K")
-    × SpellsNone (codes " RENAME  DSNAME=J,VOL=2314=1,NEWNAME=K")
-    × SpellsNone (codes " RENAMEDSNAME=J,VOL=2314=1,NEWNAME=K")
-    × SpellsNone (codes "X RENAME DSNAME=J,VOL=2314=1,NEWNAME=K")
-unfolding rename_of byte_of char_faults code_page
-one_blank_before_each_part = (none_is_spelt _ refl, none_is_spelt _ refl, none_is_spelt _ refl, none_is_spelt _ refl, none_is_spelt _ refl)
-
--- It is this operation, in capitals.
-no_other_operation_is_spelt : SpellsNone (codes " SCRATCH DSNAME=J,VOL=2314=1,NEWNAME=K") × SpellsNone (codes " rename DSNAME=J,VOL=2314=1,NEWNAME=K")
-unfolding rename_of byte_of char_faults code_page
-no_other_operation_is_spelt = (none_is_spelt _ refl, none_is_spelt _ refl)
-
--- One comma parts its operands, without blanks.
-one_comma_between_operands :
-    SpellsNone (codes " RENAME DSNAME=JVOL=2314=1,NEWNAME=K")
-    × SpellsNone (codes " RENAME DSNAME=J,VOL=2314=1NEWNAME=K")
-    × SpellsNone (codes " RENAME DSNAME=J VOL=2314=1 NEWNAME=K")
-    × SpellsNone (codes " RENAME DSNAME=J, VOL=2314=1,NEWNAME=K")
-    × SpellsNone (codes " RENAME DSNAME=J,VOL=2314=1 ,NEWNAME=K")
-    × SpellsNone (codes " RENAME DSNAME=J,,VOL=2314=1,NEWNAME=K")
-    × SpellsNone (codes " RENAME DSNAME=J,VOL=2314=1,NEWNAME=K,")
-unfolding rename_of byte_of char_faults code_page
-one_comma_between_operands = (none_is_spelt _ refl, none_is_spelt _ refl, none_is_spelt _ refl, none_is_spelt _ refl, none_is_spelt _ refl, none_is_spelt _ refl, none_is_spelt _ refl)
-
--- The operands stand in one order, each of them once and with its whole keyword.
-operands_stand_in_one_order :
-    SpellsNone (codes " RENAME DSNAME=J,NEWNAME=K,VOL=2314=1")
-    × SpellsNone (codes " RENAME NEWNAME=K,VOL=2314=1,DSNAME=J")
-    × SpellsNone (codes " RENAME VOL=2314=1,DSNAME=J,NEWNAME=K")
-    × SpellsNone (codes " RENAME DSNAME=J,NEWNAME=K")
-    × SpellsNone (codes " RENAME DSNAME=J,VOL=2314=1")
-    × SpellsNone (codes " RENAME DSNAME=J,VOL=2314=1,NEWNAME=K,NEWNAME=K")
-    × SpellsNone (codes " RENAME DSN=J,VOL=2314=1,NEWNAME=K")
-unfolding rename_of byte_of char_faults code_page
-operands_stand_in_one_order = (none_is_spelt _ refl, none_is_spelt _ refl, none_is_spelt _ refl, none_is_spelt _ refl, none_is_spelt _ refl, none_is_spelt _ refl, none_is_spelt _ refl)
-
--- A volume is named by one of three devices and a serial behind it.
-volume_is_named_by_device_and_serial :
-    SpellsNone (codes " RENAME DSNAME=J,VOL=2305=1,NEWNAME=K")
-    × SpellsNone (codes " RENAME DSNAME=J,VOL=1=2314,NEWNAME=K")
-    × SpellsNone (codes " RENAME DSNAME=J,VOL=1,NEWNAME=K")
-    × SpellsNone (codes " RENAME DSNAME=J,VOL=23141,NEWNAME=K")
-    × SpellsNone (codes " RENAME DSNAME=J,VOL=(2314,1),NEWNAME=K")
-unfolding rename_of byte_of char_faults code_page
-volume_is_named_by_device_and_serial = (none_is_spelt _ refl, none_is_spelt _ refl, none_is_spelt _ refl, none_is_spelt _ refl, none_is_spelt _ refl)
-
--- Behind it stand blanks alone, also from column 72 on: no remark, no tab, and neither a mark that goes on nor a number.
-blanks_alone_stand_behind :
-    SpellsNone (codes " RENAME DSNAME=J,VOL=2314=1,NEWNAME=K  X")
-    × SpellsNone (codes " RENAME DSNAME=J,VOL=2314=1,NEWNAME=K" ++ 9 ∷ [])
-    × SpellsNone (codes " RENAME DSNAME=J,VOL=2314=1,NEWNAME=K" ++ 0 ∷ [])
-    × SpellsNone (codes " RENAME DSNAME=J,VOL=2314=1,NEWNAME=K" ++ replicate 34 32 ++ codes "X")
-    × SpellsNone (codes " RENAME DSNAME=J,VOL=2314=1,NEWNAME=K" ++ replicate 35 32 ++ codes "00000010")
-unfolding rename_of byte_of char_faults code_page
-blanks_alone_stand_behind = (none_is_spelt _ refl, none_is_spelt _ refl, none_is_spelt _ refl, none_is_spelt _ refl, none_is_spelt _ refl)
-
--- Each name is one, and not empty.
-names_are_names :
-    SpellsNone (codes " RENAME DSNAME=1J,VOL=2314=1,NEWNAME=K")
-    × SpellsNone (codes " RENAME DSNAME=,VOL=2314=1,NEWNAME=K")
-    × SpellsNone (codes " RENAME DSNAME=J,VOL=2314=1234567,NEWNAME=K")
-    × SpellsNone (codes " RENAME DSNAME=J,VOL=2314=,NEWNAME=K")
-    × SpellsNone (codes " RENAME DSNAME=J,VOL=2314=1,NEWNAME=K.")
-    × SpellsNone (codes " RENAME DSNAME=J,VOL=2314=1,NEWNAME=")
-unfolding rename_of byte_of char_faults code_page
-names_are_names = (none_is_spelt _ refl, none_is_spelt _ refl, none_is_spelt _ refl, none_is_spelt _ refl, none_is_spelt _ refl, none_is_spelt _ refl)
-
--- A card spells one statement.
-one_is_spelt : (statement : Rename) → IsRename (codes " RENAME DSNAME=J,VOL=2314=1,NEWNAME=K") statement → spelt ≡ statement
-unfolding rename_of byte_of char_faults code_page
-one_is_spelt statement is = let same : Some spelt ≡ Some statement = rename_at (codes " RENAME DSNAME=J,VOL=2314=1,NEWNAME=K") statement is in cc
-
--- Either name of it is another, alone, or isn't filled up to 44 bytes with blanks.
-other_old_name_is_not_spelt :
-    (¬ IsRename (codes " RENAME DSNAME=J,VOL=2314=1,NEWNAME=K") (record spelt { old = spelt.new }))
-    × (¬ IsRename (codes " RENAME DSNAME=J,VOL=2314=1,NEWNAME=K") (record spelt { old = record { bytes = 0xD1 ∷ replicate 43 0 } }))
-other_old_name_is_not_spelt = (
-  λ is. let wrong : 0xD1 ≡ 0xD2 = ap (λ (s : Rename). get_or s.old.bytes 0 0) (one_is_spelt (record spelt { old = spelt.new }) is) in omega (arith, wrong),
-  λ is. let wrong : 0x40 ≡ 0 = ap (λ (s : Rename). get_or s.old.bytes 1 9) (one_is_spelt (record spelt { old = record { bytes = 0xD1 ∷ replicate 43 0 } }) is) in omega (arith, wrong),
-)
-
-other_new_name_is_not_spelt :
-    (¬ IsRename (codes " RENAME DSNAME=J,VOL=2314=1,NEWNAME=K") (record spelt { new = spelt.old }))
-    × (¬ IsRename (codes " RENAME DSNAME=J,VOL=2314=1,NEWNAME=K") (record spelt { new = record { bytes = 0xD2 ∷ [] } }))
-other_new_name_is_not_spelt = (
-  λ is. let wrong : 0xD2 ≡ 0xD1 = ap (λ (s : Rename). get_or s.new.bytes 0 0) (one_is_spelt (record spelt { new = spelt.old }) is) in omega (arith, wrong),
-  λ is. let wrong : 44 ≡ 1 = ap (λ (s : Rename). length s.new.bytes) (one_is_spelt (record spelt { new = record { bytes = 0xD2 ∷ [] } }) is) in omega (arith, wrong),
-)
-
--- The old name is the first, and the serial the card's.
-exchanged_names_are_not_spelt : ¬ IsRename (codes " RENAME DSNAME=J,VOL=2314=1,NEWNAME=K") (record spelt { old = spelt.new; new = spelt.old })
-unfolding rename_of byte_of char_faults code_page
-exchanged_names_are_not_spelt is =
-    let same : Some spelt ≡ Some (record spelt { old = spelt.new; new = spelt.old }) = rename_at (codes " RENAME DSNAME=J,VOL=2314=1,NEWNAME=K") (record spelt { old = spelt.new; new = spelt.old }) is in
-    let first : 0xD1 ≡ 0xD2 = ap (λ (o : Option Rename). option_map_or (λ (s : Rename). get_or s.old.bytes 0 0) o 0) same in
-    absurd (omega (arith, first))
-
-other_serial_is_not_spelt : ¬ IsRename (codes " RENAME DSNAME=J,VOL=2314=1,NEWNAME=K") (record spelt { serial = record { bytes = 0xF2 ∷ replicate 5 0x40 } })
-unfolding rename_of byte_of char_faults code_page
-other_serial_is_not_spelt is =
-    let same : Some spelt ≡ Some (record spelt { serial = record { bytes = 0xF2 ∷ replicate 5 0x40 } }) = rename_at (codes " RENAME DSNAME=J,VOL=2314=1,NEWNAME=K") (record spelt { serial = record { bytes = 0xF2 ∷ replicate 5 0x40 } }) is in
-    let first : 0xF1 ≡ 0xF2 = ap (λ (o : Option Rename). option_map_or (λ (s : Rename). get_or s.serial.bytes 0 0) o 0) same in
-    absurd (omega (arith, first))
 
 -- A card's number has five digits, and more where it needs them.
 number_of_a_card_has_five_digits : (card_number 0 ≡ codes "00000") × (card_number 12 ≡ codes "00012") × (card_number 99999 ≡ codes "99999") × (card_number 100000 ≡ codes "100000")

@@ -1,5 +1,5 @@
-//! The lines that answer statements, and names as lines show them.
-ghost use Rattle.std.specs.Prelude.{◌≡◌, ◌≤◌, ◌+◌, ◌++◌, ℕ, length, vec_len, vec_capacity, is_ok, IsOk, if◌then◌else◌, IfOk, OnOk, OnErr, take};
+//! The lines that answer statements.
+ghost use Rattle.std.specs.Prelude.{◌≡◌, ◌++◌, IfOk, OnOk};
 ghost use Rattle.ebcdic_names.specs.Names.{shown};
 ghost use Rattle.util_syntax.specs.Lines.{card_number, next_word, outcome_words, result_line};
 
@@ -31,36 +31,16 @@ pub fn result_line(
     let mut line = Vec::new(alloc);
     push_card(&mut line, card)?;
     push_word(&mut line, operation.as_bytes())?;
-    line.push(b' ')?;
-    push_name_in_ascii(&mut line, &object.bytes)?;
+    push_name(&mut line, &object.bytes)?;
     push_word(&mut line, outcome_words(outcome).as_bytes())?;
     line.push(b'\n')?;
     Ok(line)
 }
 
-/// Adds a name in ASCII as it is shown: each byte by the code page, but for the blanks, X'40', behind the name.
-///
-/// A name of blanks alone adds nothing. The one error is want of memory, which doesn't come where there is room for the
-/// characters, and on it nothing is added. The capacity never shrinks.
-#[tactic(auto, unfolding(ebcdic_names::specs::Names::shown))]
-pub fn push_name_in_ascii(text: &mut Vec<u8>, name: &[u8]) -> Result<(), AllocError>
-    ensures added { text.new.items ≡ (if is_ok result then text.old.items ++ shown name.now else text.old.items) }
-    ensures room { vec_len text.old + length (shown name.now) ≤ vec_capacity text.old → IsOk result }
-    ensures capacity { vec_capacity text.old ≤ vec_capacity text.new }
-{
-    let characters = without_blanks(name);
-    text.reserve(characters.len())?;
-    for byte in characters {
-        text.push(to_ascii(*byte)).unwrap();
-    }
-    Ok(())
-}
-
 // Adds a card's number.
 #[tactic(auto, unfolding(crate::specs::Lines::card_number))]
 fn push_card(line: &mut Vec<u8>, card: u32) -> Result<(), AllocError>
-    ensures added { OnOk result (line.new.items ≡ line.old.items ++ card_number card) }
-    ensures kept { OnErr result ((count : ℕ) × (line.new.items ≡ line.old.items ++ take count (card_number card))) }
+    ensures { OnOk result (line.new.items ≡ line.old.items ++ card_number card) }
 {
     let mut buffer = Buffer::new();
     let digits = buffer.format(card);
@@ -70,11 +50,22 @@ fn push_card(line: &mut Vec<u8>, card: u32) -> Result<(), AllocError>
 
 // Adds a word behind a blank.
 fn push_word(line: &mut Vec<u8>, word: &[u8]) -> Result<(), AllocError>
-    ensures added { OnOk result (line.new.items ≡ line.old.items ++ next_word word.now) }
-    ensures kept { OnErr result ((count : ℕ) × (line.new.items ≡ line.old.items ++ take count (next_word word.now))) }
+    ensures { OnOk result (line.new.items ≡ line.old.items ++ next_word word.now) }
 {
     line.push(b' ')?;
     line.extend_from_slice(word)
+}
+
+// Adds a name in ASCII behind a blank.
+#[tactic(auto, unfolding(ebcdic_names::specs::Names::shown))]
+fn push_name(line: &mut Vec<u8>, name: &[u8]) -> Result<(), AllocError>
+    ensures { OnOk result (line.new.items ≡ line.old.items ++ next_word (shown name.now)) }
+{
+    line.push(b' ')?;
+    for byte in without_blanks(name) {
+        line.push(to_ascii(*byte))?;
+    }
+    Ok(())
 }
 
 // What became of a statement, in words.

@@ -1,5 +1,5 @@
 //! Cards and lines as they stand in a deck and a listing.
-use super::{Rename, push_name_in_ascii, rename_of, result_line};
+use super::{Rename, rename_of, result_line};
 use ebcdic_names::{Dsn, Serial};
 use std::test::Fail;
 use vol_model::Refusal;
@@ -227,24 +227,6 @@ fn lines_that_answer_statements(rt: HostRuntime) -> Result<(), Fail> {
         let object = Dsn::read(name).ok().ok_or("a data set name")?;
         let text = result_line(alloc, card, operation, &object, outcome)?;
         assert_eq!(rt; text.as_slice(), line.as_bytes());
-    }
-    Ok(())
-}
-
-// The bytes of names, and how they are shown behind a dash.
-const SHOWN: [(&[u8], &str); 4] = [
-    (&[0xC1, 0x4B, 0xF1], "-A.1"),
-    (&[0x40, 0xC1, 0x40, 0xC2, 0x40, 0x40], "- A B"),
-    (&[0x40, 0x40], "-"),
-    (&[0xC1, 0x00, 0x40], "-A."),
-];
-
-#[test]
-fn names_are_shown_behind_what_stands(rt: HostRuntime) -> Result<(), Fail> {
-    for (name, shown) in SHOWN {
-        let mut text = Vec::from_slice(rt.alloc(), b"-")?;
-        push_name_in_ascii(&mut text, name)?;
-        assert_eq!(rt; text.as_slice(), shown.as_bytes());
     }
     Ok(())
 }

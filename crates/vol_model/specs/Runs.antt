@@ -1,10 +1,11 @@
 -- What a run of events on any machine leaves, in this project's profile.
-use Rattle.std.specs.Prelude.{◌≡◌, ℕ, Bool, true, false, List, ◌++◌, Result, Err, OnOk, IsErrOf, IsTrue}
+use Rattle.std.specs.Prelude.{◌≡◌, ℕ, ◌≤◌, Bool, true, false, List, ◌++◌, Result, Err, OnOk, IsErrOf, IsTrue}
+use Rattle.hall_core.specs.Facts.{Rose}
 use Rattle.hall_core.specs.Moments.{Meaning, Elapses}
 use Rattle.vol_model.specs.declared.answers.Stop.{Stop}
 use Rattle.vol_model.specs.declared.answers.Stop.TheVariants.{Device, Print}
 use Rattle.vol_model.specs.declared.contents.Shelf.{Shelf}
-use Rattle.vol_model.specs.Calls.{ReportsFaults, Status}
+use Rattle.vol_model.specs.Calls.{Status}
 use Rattle.vol_model.specs.Events.{Event, StopsIn, listing, shelf_behind}
 
 -- The events of a run, all of them done unless an error ended it, and what a stop in it leaves: the shelf and the text of one in these events. Of printed bytes it is said where the machine tells them.
@@ -19,6 +20,13 @@ sound_behind (Err Device) = false
 sound_behind (Err Print) = false
 sound_behind _ = true
 
--- a run on a machine reports the fault that ended it
-abbrev pub RunCall : {T : Type 0} → Status → Status → Result T Stop → Type 0
-RunCall old new result = ReportsFaults (sound_behind result) (IsErrOf result Device) (IsErrOf result Print) old new
+-- A run on a machine: its base stays; it is sound then but after a fault; each count rose where its fault ended the run, and else stands still.
+pub record RunCall {T : Type 0} (old new : Status) (result : Result T Stop) : Type 0 where
+  pub base : new.base ≡ old.base
+  pub sound : new.is_sound ≡ sound_behind result
+  pub devices : old.dev_faults ≤ new.dev_faults
+  pub prints : old.print_faults ≤ new.print_faults
+  pub device : IsErrOf result Device → Rose old.dev_faults new.dev_faults
+  pub print : IsErrOf result Print → Rose old.print_faults new.print_faults
+  pub no_device : ¬ IsErrOf result Device → new.dev_faults ≡ old.dev_faults
+  pub no_print : ¬ IsErrOf result Print → new.print_faults ≡ old.print_faults

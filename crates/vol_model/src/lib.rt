@@ -2,8 +2,7 @@
 //! which operations on it are asked for and answered.
 //!
 //! Some types stand here for calls to come, and nothing uses them yet: `ReadErr`, `CheckErr`, `WorkErr`, `BadTtr`, `Mode`,
-//! `Kind`, `VolumeInfo`, `SetInfo`, `SpaceUnit` and `Request`. Of `Refusal` only the four that a rename can meet come so
-//! far, of `Body` only `Other`, and no `CatBody`.
+//! `Kind`, `VolumeInfo`, `SetInfo`, `SpaceUnit` and `Request`.
 #![tactic(auto)]
 
 mod answers;

@@ -1,4 +1,9 @@
 mod Listings
+mod Machines
+mod Units
 mod Tasks
 mod Works
-mod CallsMade
+mod WordLemmas
+mod DeckLemmas
+mod Answering
+mod Cases

@@ -20,9 +20,9 @@ use Rattle.vol_model.proofs.InOrder.{in_order-named}
 use Rattle.vol_model.specs.declared.contents.DataSet.{DataSet}
 use Rattle.vtoc_index.specs.declared.vol.Vol.{Vol}
 use Rattle.vtoc_index.specs.Contents.{AreDscbs}
-use Rattle.vtoc_index.specs.Index.{IsMounted}
+use Rattle.vtoc_index.specs.Index.{IsMounted, run_of}
 use Rattle.vtoc_index.proofs.SetFields.{format_byte-is, name-is}
-use Rattle.run_spec.specs.Names.{IsListing, names_in, names_of, set_name}
+use Rattle.volman.specs.Names.{IsListing, names_in, names_of, set_name}
 
 -- the name in a slot, if it is a data set's
 name_at : (d : Dscb) (bytes : List ℕ) → IsDscb d bytes → cond (is_data_set bytes) (Some (take 44 bytes)) None ≡ set_name d
@@ -57,7 +57,7 @@ pub listed_right : (image : List ℕ) (v : Vol) (volume : Volume) (listed : List
 unfolding volume_with data_sets_in
 listed_right image v volume listed mounted stands lists =
     let g = v.geometry in
-    let slots = slots_of_vtoc image g v.vtoc in
+    let slots = slots_of_vtoc image g (run_of v.vtoc) in
     let given : names_of (data_sets_in g slots) ≡ names_in v.slots.items = named g slots slots v.slots.items mounted.index.slots in
     let same : listed ≡ names_of (in_order (data_sets_in g slots)) = in_order-named (data_sets_in g slots) listed lists.sorted (subst (λ (l : List (List ℕ)). IsStableBy (λ x y. is_lt (slice_cmp nat_cmp x y)) l listed) (sym given) lists.same) in
     same ∙ ap names_of (meant (sym mounted.volume ∙ stands))

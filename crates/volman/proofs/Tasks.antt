@@ -4,8 +4,8 @@ use Rattle.std.specs.Prelude.{◌⊎◌, Result}
 use Rattle.std.proofs.lemmas.List.{append-nil, append_cancel_left}
 use Rattle.hall_core.specs.Files.{AfterPrint, File, IsPrefixOf}
 use Rattle.hall_core.specs.Moments.{IsDurable, Meaning, Same}
-use Rattle.run_spec.specs.Run.{AddsPrefix, Does, IsFinal, KeepsFiles, LeavesFiles, PrintsText}
-use Rattle.run_spec.specs.Task.{Says}
+use Rattle.volman.specs.Run.{AddsPrefix, Does, IsFinal, KeepsFiles, LeavesFiles, PrintsText}
+use Rattle.volman.specs.Task.{Says}
 
 -- a text between one and the same with more behind it
 between : (old p new q text : List ℕ) → IsPrefixOf old p → IsPrefixOf p new → new ≡ old ++ q → IsPrefixOf q text → AddsPrefix text old p
@@ -71,21 +71,19 @@ fault_ends : (result : ℕ) → result ≡ 24 → IsFinal result → ⊥
 fault_ends result is final = ⊎_elim (λ (low : result ≤ 21). omega (arith, is, low)) (λ (deck : result ≡ 26). omega (arith, is, deck)) final
 
 -- a text is printed after calls that change nothing
-pub text_said : {text : List ℕ} {old mid new : Meaning (List File)} (code result : ℕ) → code ≢ 25 → code ≢ 22 → Same old mid → PrintsText text mid new result → (result ≡ code) ⊎ (result ≡ 24) → Does (Says code text) old new result
-text_said {text} {old} {mid} {new} code result ample sound same prints which = record {
+pub text_said : {text : List ℕ} {old mid new : Meaning (List File)} (code result : ℕ) → code ≢ 25 → Same old mid → PrintsText text mid new result → (result ≡ code) ⊎ (result ≡ 24) → Does (Says code text) old new result
+text_said {text} {old} {mid} {new} code result ample same prints which = record {
   ends = λ final. ⊎_elim
       (λ (is : result ≡ code). (is, prints.done (λ (failed : result ≡ 24). fault_ends result failed final) ∙ ap (λ (l : List ℕ). l ++ text) same.printed))
       (λ (failed : result ≡ 24). absurd (fault_ends result failed final))
       which;
-  unprinted = λ _. kept_then same prints.files;
-  fault = λ (device : result ≡ 22). ⊎_elim (λ (is : result ≡ code). absurd (sound (sym is ∙ device))) (λ (failed : result ≡ 24). absurd (omega (arith, failed, device))) which;
   silent = λ (short : result ≡ 25). ⊎_elim (λ (is : result ≡ code). absurd (ample (sym is ∙ short))) (λ (failed : result ≡ 24). absurd (omega (arith, failed, short))) which;
   stops = kept_then same prints.files;
 }
 
 -- nothing was said
 pub nothing_said : (text : List ℕ) {old new : Meaning (List File)} (code result : ℕ) → Same old new → ¬ IsFinal result → Does (Says code text) old new result
-nothing_said text code result same other = record { ends = λ final. absurd (other final); unprinted = λ _. files_kept text same; fault = λ device. same.printed; silent = λ short. same.printed; stops = files_kept text same }
+nothing_said text code result same other = record { ends = λ final. absurd (other final); silent = λ short. same.printed; stops = files_kept text same }
 
 -- the files stay through calls that change nothing and others that keep them
 pub files_then : {old mid : Meaning (List File)} (new : Meaning (List File)) → Same old mid → LeavesFiles mid new → LeavesFiles old new

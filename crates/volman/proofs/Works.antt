@@ -1,12 +1,10 @@
 -- Items on the shelf of one pack, from the machine's words to those of the files.
 use Rattle.std.proofs.Common.{◌≡◌, ◌≢◌, ⊎_elim, inl, inr, ℕ, ◌<◌, ◌≤◌, ◌++◌, Bool, List, [], ◌∷◌, length, refl, sym, ◌∙◌, ap, subst, arith, length-append}
-use Rattle.std.specs.Prelude.{◌⊎◌, IsErrOf, IsTrue, Option, Some, None, Result, Ok, Err, codes, map, take, unwrap_or}
+use Rattle.std.specs.Prelude.{◌⊎◌, IsTrue, Option, Some, None, Result, Ok, Err, codes, map, take, unwrap_or}
 use Rattle.std.specs.List.{AllByRecursion}
 use Rattle.std.proofs.lemmas.List.{append-nil, length-set}
 use Rattle.ckd_image.specs.declared.header.Geometry.{Geometry}
-use Rattle.dadsm_ops.specs.Operations.{image_named}
-use Rattle.dadsm_ops.proofs.RenameChains.{none_renamed}
-use Rattle.hall_core.specs.Facts.{Facts, Rose}
+use Rattle.dadsm_ops.specs.Operations.{ChangesVtoc, image_named}
 use Rattle.hall_core.specs.Files.{File, file_of}
 use Rattle.hall_core.specs.Moments.{IsDurable, Meaning, Same}
 use Rattle.hall_core.specs.Steps.{seen}
@@ -29,19 +27,18 @@ use Rattle.vol_model.specs.declared.refusals.Refusal.TheVariants.{NoVolume}
 use Rattle.vol_model.specs.declared.requests.Op.{Op}
 use Rattle.vol_model.specs.declared.requests.Op.TheVariants as operations
 use Rattle.vol_model.proofs.Steps.{renames_of}
-use Rattle.vol_model.proofs.Stops.{HasNoEmptyLine, no_empty_line_in_items, stop_is_between, stop_before_first_event}
+use Rattle.vol_model.proofs.Stops.{HaveLines, have_items, stands, stops_start}
 use Rattle.vtoc_index.specs.declared.vol.Vol.{Vol}
 use Rattle.vtoc_index.specs.Index.{IsMounted}
-use Rattle.shelf_machine.specs.Machine.{ChangesNames, ChangesOnlyNames, shelf_in, shelf_named, shelf_with}
-use Rattle.run_spec.specs.Made.{IsCutOff}
-use Rattle.run_spec.specs.Run.{AttachesAtMost, Does, Headline, HasWorked, HasWorkedUnprinted, IsCalmSince, IsFinal, Later, OnFile, StandsFor, StopStands, Synced, WorksOn}
-use Rattle.job_runner.specs.Statement.{answer_line, item_by, item_of, item_on, operation_on}
-use Rattle.run_spec.specs.Deck.{deck_of}
-use Rattle.run_spec.specs.Lines.{deck_line, unit_line, words_line}
-use Rattle.run_spec.specs.Mount.{IsPackIn, RefusesFile}
-use Rattle.run_spec.specs.Task.{Says, Task, Works, names_task, statement_task, task_for, task_of, task_on}
-use Rattle.run_spec.specs.Words.{Names, Request, Run as Running}
-use Rattle.shelf_machine.proofs.Machines.{same_plan}
+use Rattle.volman.specs.Machine.{ChangesOnlyVtoc, LeavesJust, shelf_in, shelf_named, shelf_with}
+use Rattle.volman.specs.Run.{Does, Headline, HasWorked, IsCalmSince, IsFinal, StandsFor, StopStands, Synced, WorksOn}
+use Rattle.volman.specs.Statement.{answer_line, item_by, item_of, item_on, operation_on}
+use Rattle.volman.specs.Deck.{deck_of}
+use Rattle.volman.specs.Lines.{deck_line, unit_line, words_line}
+use Rattle.volman.specs.Mount.{IsPackIn, RefusesFile}
+use Rattle.volman.specs.Task.{Says, Task, Works, names_task, statement_task, task_for, task_of, task_on}
+use Rattle.volman.specs.Words.{Names, Request, Run as Running}
+use Rattle.volman.proofs.Machines.{same_plan}
 use Rattle.volman.proofs.Tasks.{durable_left, kept_then, nothing_said}
 
 -- ---- one volume
@@ -76,41 +73,20 @@ single item = append-nil (events_in item)
 single_code : (item : Item) → code_of (item ∷ []) ≡ item.code
 single_code item = omega arith
 
--- the operations among its events are its own
-no_more : (lines : List (List ℕ)) → operations_of (map Say lines) ≡ []
-no_more [] = refl
-no_more (line ∷ lines) = no_more lines
-
-operations_in : (item : Item) → operations_of (events_in item) ≡ item.operations
-operations_in item = by_list item.operations
+-- where its events have no operation, it has none
+none_in : (item : Item) → operations_of (events_in item) ≡ [] → item.operations ≡ []
+none_in item none = by_list item.operations none
   where
-    by_list : (ops : List Op) → operations_of (map Do ops ++ map Say item.lines) ≡ ops
-    by_list [] = no_more item.lines
-    by_list (op ∷ ops) = ap (λ (rest : List Op). op ∷ rest) (by_list ops)
-
--- ---- statuses
-
--- the outcome of items is a status with which the program ends, and no fault
-pub not_final : (status fault : ℕ) → status ≡ fault → 21 < fault → fault < 26 → ¬ IsFinal status
-not_final status fault is low high final = ⊎_elim (λ (few : status ≤ 21). omega (arith, is, low, few)) (λ (deck : status ≡ 26). omega (arith, is, high, deck)) final
-
--- a status with which nothing need have been done: a fault, but not that of the printer
-abbrev pub IsCut : ℕ → Type 0
-IsCut status = (¬ IsFinal status) × (status ≢ 24)
-
-pub cut_by : (status fault : ℕ) → status ≡ fault → 21 < fault → fault < 26 → fault ≢ 24 → IsCut status
-cut_by status fault is low high other = (not_final status fault is low high, λ printer. other (sym is ∙ printer))
+    by_list : (ops : List Op) → operations_of (map Do ops ++ map Say item.lines) ≡ [] → ops ≡ []
+    by_list [] is = refl
+    by_list (op ∷ ops) is = absurd (cc is)
 
 -- ---- files that are as before
 
-unchanged : (name : List ℕ) (g : Geometry) (vtoc : Run) (ops : List Op) (before after : List File) → after ≡ before → ChangesNames name g vtoc ops before after
-unchanged name g vtoc ops before after same =
-    let none : ChangesNames name g vtoc ops before before = record {
-      tracks = record { others = λ other apart. refl; image = record { size = refl; header = refl; tracks = λ track outside. refl } };
-      renames = none_renamed name ops before;
-    }
-    in
-    subst (λ (files : List File). ChangesNames name g vtoc ops before files) (sym same) none
+unchanged : (name : List ℕ) (g : Geometry) (vtoc : Run) (before after : List File) → after ≡ before → ChangesVtoc name g vtoc before after
+unchanged name g vtoc before after same =
+    let none : ChangesVtoc name g vtoc before before = record { others = λ other apart. refl; image = record { size = refl; header = refl; tracks = λ track outside. refl } } in
+    subst (λ (files : List File). ChangesVtoc name g vtoc before files) (sym same) none
 
 -- since now a stop left what is there
 pub calm_now : (m : Meaning (List File)) → OnlyNow m → IsDurable m → IsCalmSince m m.clock
@@ -124,24 +100,23 @@ calm_then t same early calm durable files printed left =
     ((same.time.since t files printed early).0 left)
 
 -- a stop before anything was done
-stopped_before : (file : List ℕ) (volume : Volume) (items : List Item) (old : Meaning (List File)) (files : List File) (printed : List ℕ) → volume_of (image_named old.state file) ≡ Ok volume → HasNoEmptyLine (events_of items)
+stopped_before : (file : List ℕ) (volume : Volume) (items : List Item) (old : Meaning (List File)) (files : List File) (printed : List ℕ) → volume_of (image_named old.state file) ≡ Ok volume → HaveLines (events_of items)
     → files ≡ old.state → printed ≡ old.printed → StopStands file volume items old files printed
 stopped_before file volume items old files printed stands_at have same text = record {
   shelf = shelf_with volume;
   stands = (volume, ap (λ (all : List File). volume_of (image_named all file)) same ∙ stands_at, refl);
   front = [];
   text = text ∙ sym (append-nil old.printed);
-  place = stop_is_between (shelf_with volume) (events_of items) (shelf_with volume) [] have (stop_before_first_event (shelf_with volume) (events_of items));
-  changes = unchanged file volume.geometry volume.vtoc (operations_of (events_of items)) old.state files same;
+  place = stands (shelf_with volume) (events_of items) (shelf_with volume) [] have (stops_start (shelf_with volume) (events_of items));
+  changes = unchanged file volume.geometry volume.vtoc old.state files same;
+  idle = λ none. same;
 }
 
 -- items of which none was begun
-pub nothing_worked : (file : List ℕ) (volume : Volume) (items : List Item) {old new : Meaning (List File)} (status : ℕ) → volume_of (image_named old.state file) ≡ Ok volume → HasNoEmptyLine (events_of items) → IsDurable old → OnlyNow old → Same old new → IsCut status
+pub nothing_worked : (file : List ℕ) (volume : Volume) (items : List Item) {old new : Meaning (List File)} (status : ℕ) → volume_of (image_named old.state file) ≡ Ok volume → HaveLines (events_of items) → IsDurable old → OnlyNow old → Same old new → ¬ IsFinal status
     → Does (Works file volume items) old new status
 nothing_worked file volume items {old} status stands_at have durable only same other = record {
-  ends = λ final. absurd (other.0 final);
-  unprinted = λ printer. absurd (other.1 printer);
-  fault = λ device. inl same.printed;
+  ends = λ final. absurd (other final);
   silent = λ short. same.printed;
   stops = record {
     later = same.time.later;
@@ -161,17 +136,8 @@ worked_then file volume items {old} {mid} {new} status durable only same silent 
         printed = done.printed ∙ ap (λ (l : List ℕ). l ++ listing (events_of items)) same.printed;
         shelf = done.shelf;
         durable = done.durable;
-        changes = subst (λ (all : List File). ChangesNames file volume.geometry volume.vtoc (operations_of (events_of items)) all new.state) same.state done.changes;
+        changes = subst (λ (all : List File). ChangesVtoc file volume.geometry volume.vtoc all new.state) same.state done.changes;
       };
-  unprinted = λ printer.
-      let done = works.unprinted printer in
-      record {
-        printed = (done.printed.0, done.printed.1, done.printed.2 ∙ ap (λ (l : List ℕ). l ++ done.printed.0) same.printed);
-        shelf = done.shelf;
-        durable = done.durable;
-        changes = subst (λ (all : List File). ChangesNames file volume.geometry volume.vtoc (operations_of (events_of items)) all new.state) same.state done.changes;
-      };
-  fault = λ device. ⊎_elim (λ none. inl (none ∙ same.printed)) (λ all. inr (all ∙ ap (λ (l : List ℕ). l ++ listing (events_of items)) same.printed)) (works.fault device);
   silent = λ short. silent short ∙ same.printed;
   stops = record {
     later = omega (arith, same.time.later, works.later);
@@ -183,45 +149,42 @@ worked_then file volume items {old} {mid} {new} status durable only same silent 
           front = stop.front;
           text = stop.text ∙ ap (λ (l : List ℕ). l ++ stop.front) same.printed;
           place = stop.place;
-          changes = subst (λ (all : List File). ChangesNames file volume.geometry volume.vtoc (operations_of (events_of items)) all files) same.state stop.changes;
+          changes = subst (λ (all : List File). ChangesVtoc file volume.geometry volume.vtoc all files) same.state stop.changes;
+          idle = λ none. stop.idle none ∙ same.state;
         };
   };
 }
-
--- where nothing but prints came since no write was pending, none is pending
-pub durable_behind : {name name' : List ℕ} {g g' : Geometry} {vtoc vtoc' : Run} {m : Meaning (List File)} (m' : Meaning (List File)) → OnlyNow m → IsDurable m → CountsNow m' → m'.left m'.state → m.clock ≤ m'.clock → Keeps m.clock [] (ChangesOnlyNames name g vtoc m) (ChangesOnlyNames name' g' vtoc' m')
-    → IsDurable m'
-durable_behind {name} {g = g} {vtoc = vtoc} {m = m} m' only durable counts left later keeps files pending = as_then files pending ∙ sym (as_then m'.state left)
-  where
-    as_then : (all : List File) → m'.left all → all ≡ m.state
-    as_then all may = (keeps [] m.clock m.state (omega arith) (λ j p was. unchanged name g vtoc [] m.state j (calm_now m only durable j p was).0) all m'.printed (counts m.clock all later may)).renames
 
 -- ---- the machine
 
 module _ (name name' : List ℕ) (m m' : Meaning (List File)) (v v' : Vol) (volume : Volume) (item : Item)
     (mounted : IsMounted (image_named m.state name) v) (stands_at : volume_of (image_named m.state name) ≡ Ok volume)
     (same_name : name' ≡ name) (same_geometry : v'.geometry ≡ v.geometry) (same_vtoc : v'.vtoc ≡ v.vtoc)
-    (have : HasNoEmptyLine (events_of (item ∷ [])))
-    (promise : Keeps m.clock item.operations (ChangesOnlyNames name v.geometry v.vtoc m) (ChangesOnlyNames name' v'.geometry v'.vtoc m')) where
+    (have : HaveLines (events_of (item ∷ [])))
+    (promise : Keeps m.clock (ChangesOnlyVtoc name v.geometry v.vtoc m) (ChangesOnlyVtoc name' v'.geometry v'.vtoc m'))
+    (stays : item.operations ≡ [] → Keeps m.clock (LeavesJust m) (LeavesJust m')) where
   here : shelf_named name m.state ≡ shelf_with volume
   here = ap shelf_in stands_at
 
-  -- names of data sets alone were changed, by the operations
-  changed : (t : ℕ) → t ≤ m.clock → IsCalmSince m t → (files : List File) (printed : List ℕ) → m'.left_since t files printed → ChangesNames name volume.geometry volume.vtoc (operations_of (events_of (item ∷ []))) m.state files
+  -- the VTOC alone was changed
+  changed : (t : ℕ) → t ≤ m.clock → IsCalmSince m t → (files : List File) (printed : List ℕ) → m'.left_since t files printed → ChangesVtoc name volume.geometry volume.vtoc m.state files
   changed t early calm files printed left =
       let plan = same_plan (image_named m.state name) v volume mounted stands_at in
-      let made = promise [] t m.state early (λ j p was. unchanged name v.geometry v.vtoc [] m.state j (calm j p was).0) files printed left in
-      let ops = ap operations_of (single item) ∙ operations_in item in
-      subst (λ (all : List Op). ChangesNames name volume.geometry volume.vtoc all m.state files) (sym ops)
-      (subst (λ (n : List ℕ). ChangesNames n volume.geometry volume.vtoc item.operations m.state files) same_name
-      (subst (λ (g : Geometry). ChangesNames name' g volume.vtoc item.operations m.state files) (same_geometry ∙ plan.0)
-      (subst (λ (run : Run). ChangesNames name' v'.geometry run item.operations m.state files) (same_vtoc ∙ plan.1) made)))
+      let made = promise t m.state early (λ j p was. unchanged name v.geometry v.vtoc m.state j (calm j p was).0) files printed left in
+      subst (λ (n : List ℕ). ChangesVtoc n volume.geometry volume.vtoc m.state files) same_name
+      (subst (λ (g : Geometry). ChangesVtoc name' g volume.vtoc m.state files) (same_geometry ∙ plan.0)
+      (subst (λ (run : Run). ChangesVtoc name' v'.geometry run m.state files) (same_vtoc ∙ plan.1) made))
+
+  -- nothing was, where there is no operation
+  untouched : (t : ℕ) → t ≤ m.clock → IsCalmSince m t → (files : List File) (printed : List ℕ) → m'.left_since t files printed → operations_of (events_of (item ∷ [])) ≡ [] → files ≡ m.state
+  untouched t early calm files printed left none =
+      stays (none_in item (ap operations_of (sym (single item)) ∙ none)) t m.state early (λ j p was. (calm j p was).0) files printed left
 
   -- where a stop stands, by the machine's shelf
   stopped : (t : ℕ) → t ≤ m.clock → IsCalmSince m t → (files : List File) (printed q : List ℕ) → m'.left_since t files printed → printed ≡ m.printed ++ q → StopsIn (shelf_with volume) (events_of (item ∷ [])) (shelf_named name files) q
       → StopStands name volume (item ∷ []) m files printed
   stopped t early calm files printed q left text stop =
-      let place = stop_is_between (shelf_with volume) (events_of (item ∷ [])) (shelf_named name files) q have stop in
+      let place = stands (shelf_with volume) (events_of (item ∷ [])) (shelf_named name files) q have stop in
       let one = ap (λ (s : Shelf). length s.volumes) place.state ∙ volumes_stay (take place.count (operations_of (events_of (item ∷ [])))) (shelf_with volume) in
       record {
         shelf = shelf_named name files;
@@ -230,6 +193,7 @@ module _ (name name' : List ℕ) (m m' : Meaning (List File)) (v v' : Vol) (volu
         text = text;
         place = place;
         changes = changed t early calm files printed left;
+        idle = untouched t early calm files printed left;
       }
 
   -- a stop since a moment
@@ -242,39 +206,27 @@ module _ (name name' : List ℕ) (m m' : Meaning (List File)) (v v' : Vol) (volu
       let was = calm before.0 printed before.1 in
       let as_then : shelf_named name files ≡ shelf_with volume = sym seen_as ∙ sym before.2 ∙ ap (shelf_named name) was.0 ∙ here in
       stopped t early calm files printed [] left (was.1 ∙ sym (append-nil m.printed))
-      (subst (λ (s : Shelf). StopsIn (shelf_with volume) (events_of (item ∷ [])) s []) (sym as_then) (stop_before_first_event (shelf_with volume) (events_of (item ∷ [])))))
+      (subst (λ (s : Shelf). StopsIn (shelf_with volume) (events_of (item ∷ [])) s []) (sym as_then) (stops_start (shelf_with volume) (events_of (item ∷ [])))))
       (λ stop. stopped t early calm files printed stop.0 left (stop.1 told)
       (subst (λ (es : List Event). StopsIn (shelf_with volume) es (shelf_named name files) stop.0) (sym (single item))
       (subst (λ (s : Shelf). StopsIn s (events_in item) (shelf_named name files) stop.0) here
       (subst (λ (s : Shelf). StopsIn (shelf_named name m.state) (events_in item) s stop.0) seen_as stop.2))))
       (runs.moments.moments t (shelf_named name' files) printed early (files, left, refl))
 
-  -- the shelf when all was done
-  shelf_all : shelf_named name' m'.state ≡ shelf_behind (shelf_named name m.state) (events_in item) → StandsFor name m'.state (shelf_behind (shelf_with volume) (events_of (item ∷ [])))
-  shelf_all is =
-      let seen_as : shelf_named name' m'.state ≡ shelf_named name m'.state = ap (λ (n : List ℕ). shelf_named n m'.state) same_name in
-      let after : shelf_named name m'.state ≡ shelf_behind (shelf_with volume) (events_of (item ∷ [])) =
-      sym seen_as ∙ is ∙ ap (λ (s : Shelf). shelf_behind s (events_in item)) here ∙ ap (λ (es : List Event). shelf_behind (shelf_with volume) es) (sym (single item)) in
-      stands_for name m'.state _ (volumes_stay (operations_of (events_of (item ∷ []))) (shelf_with volume)) after
-
   -- all was done
   pub has_worked : {T E : Type 0} {tells : Bool} {x : T} (code : ℕ) → IsTrue tells → OnlyNow m → CountsNow m' → m'.left m'.state → IsDurable m → IsDurable m' → m.clock ≤ m'.clock → code ≡ item.code
       → Runs {E = E} tells (events_in item) (seen (shelf_named name) m) (seen (shelf_named name') m') (Ok x) → HasWorked name volume (item ∷ []) m m' code
-  has_worked code told only counts left durable durable' later is runs = record {
-    code = is ∙ sym (single_code item);
-    printed = runs.printed told ∙ ap (λ (es : List Event). m.printed ++ listing es) (sym (single item));
-    shelf = shelf_all runs.shelf;
-    durable = durable';
-    changes = changed m.clock (omega arith) (calm_now m only durable) m'.state m'.printed (counts m.clock m'.state later left);
-  }
-
-  -- all was done but the print
-  pub has_worked_unprinted : {T E : Type 0} {tells : Bool} {result : Result T E} → IsTrue tells → OnlyNow m → CountsNow m' → m'.left m'.state → IsDurable m → IsDurable m' → shelf_named name' m'.state ≡ shelf_behind (shelf_named name m.state) (events_in item)
-      → Runs tells (events_in item) (seen (shelf_named name) m) (seen (shelf_named name') m') result → HasWorkedUnprinted name volume (item ∷ []) m m'
-  has_worked_unprinted told only counts left durable durable' shelf runs =
-      let now = counts m.clock m'.state runs.moments.later left in
-      let stop = stops_worked told runs m.clock (omega arith) (calm_now m only durable) m'.state m'.printed now in
-      record { printed = (stop.front, stop.place.prefix, stop.text); shelf = shelf_all shelf; durable = durable'; changes = stop.changes }
+  has_worked code told only counts left durable durable' later is runs =
+      let seen_as : shelf_named name' m'.state ≡ shelf_named name m'.state = ap (λ (n : List ℕ). shelf_named n m'.state) same_name in
+      let after : shelf_named name m'.state ≡ shelf_behind (shelf_with volume) (events_of (item ∷ [])) =
+      sym seen_as ∙ runs.shelf ∙ ap (λ (s : Shelf). shelf_behind s (events_in item)) here ∙ ap (λ (es : List Event). shelf_behind (shelf_with volume) es) (sym (single item)) in
+      record {
+        code = is ∙ sym (single_code item);
+        printed = runs.printed told ∙ ap (λ (es : List Event). m.printed ++ listing es) (sym (single item));
+        shelf = stands_for name m'.state _ (volumes_stay (operations_of (events_of (item ∷ []))) (shelf_with volume)) after;
+        durable = durable';
+        changes = changed m.clock (omega arith) (calm_now m only durable) m'.state m'.printed (counts m.clock m'.state later left);
+      }
 
 -- a sync at the end
 pub stops_synced : {name : List ℕ} {volume : Volume} {items : List Item} {m m' m'' : Meaning (List File)} {status : ℕ} → CountsNow m' → m.clock ≤ m'.clock → Synced m' m'' status
@@ -291,27 +243,18 @@ worked_synced {name} {volume} {items} {m} synced ends done = record {
   printed = synced.printed ∙ done.printed;
   shelf = subst (λ (all : List File). StandsFor name all (shelf_behind (shelf_with volume) (events_of items))) (sym synced.state) done.shelf;
   durable = synced.durable ends;
-  changes = subst (λ (all : List File). ChangesNames name volume.geometry volume.vtoc (operations_of (events_of items)) m.state all) (sym synced.state) done.changes;
+  changes = subst (λ (all : List File). ChangesVtoc name volume.geometry volume.vtoc m.state all) (sym synced.state) done.changes;
 }
+
+-- the outcome of items is a status with which the program ends, and no fault
+pub not_final : (status fault : ℕ) → status ≡ fault → 21 < fault → fault < 26 → ¬ IsFinal status
+not_final status fault is low high final = ⊎_elim (λ (few : status ≤ 21). omega (arith, is, low, few)) (λ (deck : status ≡ 26). omega (arith, is, high, deck)) final
 
 -- a run of an item that a fault ended
-pub works_failed : {name : List ℕ} {volume : Volume} {items : List Item} {m m' : Meaning (List File)} (status : ℕ) → IsCut status → (status ≡ 22 → m'.printed ≡ m.printed) → m.clock ≤ m'.clock
+pub works_failed : {name : List ℕ} {volume : Volume} {items : List Item} {m m' : Meaning (List File)} (status fault : ℕ) → status ≡ fault → 21 < fault → fault < 26 → m.clock ≤ m'.clock
     → ((t : ℕ) → t ≤ m.clock → IsCalmSince m t → (files : List File) (printed : List ℕ) → m'.left_since t files printed → StopStands name volume items m files printed) → WorksOn name volume items m m' status
-works_failed status other quiet later stops = record {
-  ends = λ final. absurd (other.0 final);
-  unprinted = λ printer. absurd (other.1 printer);
-  fault = λ device. inl (quiet device);
-  later = later;
-  stops = stops;
-}
-
--- one whose line couldn't be printed
-pub works_unprinted : {name : List ℕ} {volume : Volume} {items : List Item} {m m' : Meaning (List File)} (status : ℕ) → status ≡ 24 → m.clock ≤ m'.clock → HasWorkedUnprinted name volume items m m'
-    → ((t : ℕ) → t ≤ m.clock → IsCalmSince m t → (files : List File) (printed : List ℕ) → m'.left_since t files printed → StopStands name volume items m files printed) → WorksOn name volume items m m' status
-works_unprinted status is later done stops = record {
-  ends = λ final. absurd (not_final status 24 is (omega arith) (omega arith) final);
-  unprinted = λ _. done;
-  fault = λ (device : status ≡ 22). absurd (omega (arith, is, device));
+works_failed status fault is low high later stops = record {
+  ends = λ final. absurd (not_final status fault is low high final);
   later = later;
   stops = stops;
 }
@@ -323,8 +266,6 @@ works_finished {name} {volume} {items} {m} {m'} {m''} status code which small co
   ends = λ final. ⊎_elim
       (λ (is : status ≡ code). subst (λ (n : ℕ). HasWorked name volume items m m'' n) (sym is) (worked_synced synced (λ (failed : status ≡ 22). omega (arith, is, failed, small)) done))
       (λ (failed : status ≡ 22). absurd (not_final status 22 failed (omega arith) (omega arith) final)) which;
-  unprinted = λ (printer : status ≡ 24). ⊎_elim (λ (is : status ≡ code). absurd (omega (arith, is, printer, small))) (λ (failed : status ≡ 22). absurd (omega (arith, failed, printer))) which;
-  fault = λ device. inr (synced.printed ∙ done.printed);
   later = omega (arith, later, synced.moments.later);
   stops = stops_synced counts later synced stops;
 }
@@ -345,46 +286,46 @@ lines_on : (shelf : Shelf) (s : Rename) (v : Option ℕ) → AllByRecursion (λ 
 lines_on shelf s None = (answer_long s (Err NoVolume), tt)
 lines_on shelf s (Some v) = lines_by s (operation_on s v) (step shelf (operation_on s v))
 
-pub have_line : (shelf : Shelf) (s : Rename) → HasNoEmptyLine (events_of (item_of shelf s ∷ []))
+pub have_line : (shelf : Shelf) (s : Rename) → HaveLines (events_of (item_of shelf s ∷ []))
 unfolding item_of
-have_line shelf s = no_empty_line_in_items (item_of shelf s ∷ []) (lines_on shelf s (number_of shelf s.serial.bytes), tt)
+have_line shelf s = have_items (item_of shelf s ∷ []) (lines_on shelf s (number_of shelf s.serial.bytes), tt)
 
 -- ---- tasks on a file
 
 -- the task on a file, by the volume in it
-by_file : (file : List ℕ) (task : Volume → Task) (found : Option (List ℕ)) {old new : Meaning (List File)} (status : ℕ) → Same old new → IsCut status
+by_file : (file : List ℕ) (task : Volume → Task) (found : Option (List ℕ)) {old new : Meaning (List File)} (status : ℕ) → Same old new → ¬ IsFinal status
     → ((image : List ℕ) (volume : Volume) → found ≡ Some image → volume_of image ≡ Ok volume → Does (task volume) old new status) → Does (task_on file task found) old new status
-by_file file task None status same other does = nothing_said _ 21 status same other.0
+by_file file task None status same other does = nothing_said _ 21 status same other
 by_file file task (Some image) {old} {new} status same other does = by_volume (volume_of image) refl
   where
     by_volume : (r : Result Volume MountErr) → volume_of image ≡ r → Does (task_for file task r) old new status
     by_volume (Ok volume) is = does image volume refl is
-    by_volume (Err e) is = nothing_said _ 21 status same other.0
+    by_volume (Err e) is = nothing_said _ 21 status same other
 
 -- no names were printed
-pub nothing_named : (file : List ℕ) {old new : Meaning (List File)} (status : ℕ) → Same old new → IsCut status → Does (task_on file names_task (file_of old.state file)) old new status
-nothing_named file {old} status same other = by_file file names_task (file_of old.state file) status same other (λ image volume there is. nothing_said _ 0 status same other.0)
+pub nothing_named : (file : List ℕ) {old new : Meaning (List File)} (status : ℕ) → Same old new → ¬ IsFinal status → Does (task_on file names_task (file_of old.state file)) old new status
+nothing_named file {old} status same other = by_file file names_task (file_of old.state file) status same other (λ image volume there is. nothing_said _ 0 status same other)
 
--- behind a condition code, where the file is refused, and where the printer failed, no write is pending
-pub stated_durable : (file : List ℕ) (s : Rename) (found : Option (List ℕ)) {old new : Meaning (List File)} (status : ℕ) → IsDurable old → Does (task_on file (statement_task file s) found) old new status → IsFinal status ⊎ (status ≡ 24) → IsDurable new
-stated_durable file s None {old} {new} status durable does which = durable_left old new (does.stops.files, does.stops.left) durable
-stated_durable file s (Some image) {old} {new} status durable does which = by_volume (volume_of image) does
+-- behind a condition code, or where the file is refused, no write is pending
+pub stated_durable : (file : List ℕ) (s : Rename) (found : Option (List ℕ)) {old new : Meaning (List File)} (status : ℕ) → IsDurable old → Does (task_on file (statement_task file s) found) old new status → IsFinal status → IsDurable new
+stated_durable file s None {old} {new} status durable does final = durable_left old new (does.stops.files, does.stops.left) durable
+stated_durable file s (Some image) {old} {new} status durable does final = by_volume (volume_of image) does
   where
     by_volume : (r : Result Volume MountErr) → Does (task_for file (statement_task file s) r) old new status → IsDurable new
-    by_volume (Ok volume) done = ⊎_elim (λ final. (done.ends final).durable) (λ printer. (done.unprinted printer).durable) which
+    by_volume (Ok volume) done = (done.ends final).durable
     by_volume (Err e) done = durable_left old new (done.stops.files, done.stops.left) durable
 
 -- no statement was begun
-pub nothing_stated : (file : List ℕ) (s : Rename) {old new : Meaning (List File)} (status : ℕ) → IsDurable old → OnlyNow old → Same old new → IsCut status → Does (task_on file (statement_task file s) (file_of old.state file)) old new status
+pub nothing_stated : (file : List ℕ) (s : Rename) {old new : Meaning (List File)} (status : ℕ) → IsDurable old → OnlyNow old → Same old new → ¬ IsFinal status → Does (task_on file (statement_task file s) (file_of old.state file)) old new status
 nothing_stated file s {old} status durable only same other = by_file file (statement_task file s) (file_of old.state file) status same other (λ image volume there is.
     nothing_worked file volume (item_of (shelf_with volume) s ∷ []) status (ap (λ (o : Option (List ℕ)). volume_of (unwrap_or o [])) there ∙ is) (have_line (shelf_with volume) s) durable only same other)
 
 -- nothing was done of whatever is to be done
-pub nothing_done : (request : Option Request) (deck : Option Rename) {old new : Meaning (List File)} (status : ℕ) → IsDurable old → OnlyNow old → Same old new → IsCut status → Does (task_of request deck old.state) old new status
+pub nothing_done : (request : Option Request) (deck : Option Rename) {old new : Meaning (List File)} (status : ℕ) → IsDurable old → OnlyNow old → Same old new → ¬ IsFinal status → Does (task_of request deck old.state) old new status
 unfolding task_of
-nothing_done None deck status durable only same other = nothing_said _ 20 status same other.0
+nothing_done None deck status durable only same other = nothing_said _ 20 status same other
 nothing_done (Some (Names file)) deck status durable only same other = nothing_named file status same other
-nothing_done (Some (Running file)) None status durable only same other = nothing_said _ 26 status same other.0
+nothing_done (Some (Running file)) None status durable only same other = nothing_said _ 26 status same other
 nothing_done (Some (Running file)) (Some s) status durable only same other = nothing_stated file s status durable only same other
 
 -- the task on the pack in a file
@@ -416,7 +357,7 @@ pub answered_form : {old new : Meaning (List File)} (request : Option Request) (
 unfolding task_of
 answered_form {old} {new} request file tells input status is given does = record { deck = None; given = λ told. sym (given told); does = subst (λ (r : Option Request). Does (task_of r None old.state) old new status) (sym is) does }
 
-pub answered_nothing : {old new : Meaning (List File)} (request : Option Request) (tells : Bool) (input : List ℕ) (status : ℕ) → IsDurable old → OnlyNow old → Same old new → IsCut status → Headline request tells input old new status
+pub answered_nothing : {old new : Meaning (List File)} (request : Option Request) (tells : Bool) (input : List ℕ) (status : ℕ) → IsDurable old → OnlyNow old → Same old new → ¬ IsFinal status → Headline request tells input old new status
 answered_nothing request tells input status durable only same other = record { deck = deck_of input; given = λ _. refl; does = nothing_done request (deck_of input) status durable only same other }
 
 -- ---- a file that is refused
@@ -443,8 +384,6 @@ silent_or_not (mount.DuplicateName slot other) = inr (λ is. cc, λ is. cc)
 said_then : {code : ℕ} {text : List ℕ} {old mid new : Meaning (List File)} {status : ℕ} → Same old mid → Does (Says code text) mid new status → Does (Says code text) old new status
 said_then {code} {text} {old} {mid} {new} same does = record {
   ends = λ final. let end = does.ends final in (end.0, end.1 ∙ ap (λ (l : List ℕ). l ++ text) same.printed);
-  unprinted = λ _. kept_then same does.stops;
-  fault = λ device. does.fault device ∙ same.printed;
   silent = λ short. does.silent short ∙ same.printed;
   stops = kept_then same does.stops;
 }
@@ -452,43 +391,11 @@ said_then {code} {text} {old} {mid} {new} same does = record {
 -- whatever was to be done on a file that is refused
 pub refused_file : (file : List ℕ) (task : Volume → Task) {old mid new : Meaning (List File)} (why : MountErr) (status : ℕ) → RefusesFile file old.state why → Same old mid
     → (why ≢ mount.Memory → why ≢ mount.Device → Does (Says 21 (unit_line file why)) mid new status) → ((why ≡ mount.Memory) ⊎ (why ≡ mount.Device) → Same mid new) → (why ≡ mount.Device → status ≡ 22) → (why ≡ mount.Memory → status ≡ 25)
-    → (Same old new → IsCut status → Does (task_on file task (file_of old.state file)) old new status) → Does (task_on file task (file_of old.state file)) old new status
+    → (Same old new → ¬ IsFinal status → Does (task_on file task (file_of old.state file)) old new status) → Does (task_on file task (file_of old.state file)) old new status
 refused_file file task {old} {mid} {new} why status refused same does silent device memory nothing =
     ⊎_elim
     (λ quiet.
-    let other : IsCut status = ⊎_elim (λ is. cut_by status 25 (memory is) (omega arith) (omega arith) (λ no. omega (arith, no))) (λ is. cut_by status 22 (device is) (omega arith) (omega arith) (λ no. omega (arith, no))) quiet in
+    let other : ¬ IsFinal status = ⊎_elim (λ is. not_final status 25 (memory is) (omega arith) (omega arith)) (λ is. not_final status 22 (device is) (omega arith) (omega arith)) quiet in
     nothing (same_then same (silent quiet)) other)
     (λ loud. subst (λ (t : Task). Does t old new status) (sym (refused.why loud.0 loud.1 task)) (said_then same (does loud.0 loud.1)))
     (silent_or_not why)
-
-same_error : {T E : Type 0} {x y : E} → ◌≡◌ {A = Result T E} (Err x) (Err y) → x ≡ y
-same_error is = cc
-
--- a file that is refused leaves the counts of faults as its status says
-pub refused_on_file :
-    (file : List ℕ) (why : MountErr) (status : ℕ) (old mid new : Facts)
-    → AttachesAtMost file old mid
-    → mid.references ≡ old.references
-    → mid.print_faults ≡ old.print_faults
-    → old.dev_faults ≤ mid.dev_faults
-    → (IsErrOf {T = Vol} (Err why) mount.Device → Rose old.dev_faults mid.dev_faults)
-    → (¬ IsErrOf {T = Vol} (Err why) mount.Device → mid.dev_faults ≡ old.dev_faults)
-    → (status ≡ 21) ⊎ IsCutOff status
-    → (status ≡ 22 → why ≡ mount.Device)
-    → (why ≡ mount.Device → status ≡ 22)
-    → (status ≡ 24 → Rose mid.print_faults new.print_faults)
-    → (status ≢ 24 → new.print_faults ≡ mid.print_faults)
-    → Later mid new
-    → new.dev_faults ≡ mid.dev_faults
-    → new.references ≡ mid.references
-    → new.units ≡ mid.units
-    → OnFile file old new status
-refused_on_file file why status old mid new units references prints later device others which cause is_device print still ends devices same stays = record {
-  which = inr which;
-  device = λ is. subst (Rose old.dev_faults) (sym devices) (device (ap Err (cause is)));
-  print = λ is. subst (λ (n : ℕ). Rose n new.print_faults) prints (print is);
-  reported = record { devices = λ no. devices ∙ others (λ is. no (is_device (same_error is))); prints = λ no. still no ∙ prints };
-  later = record { devices = omega (arith, later, ends.devices); prints = omega (arith, prints, ends.prints) };
-  references = same ∙ references;
-  units = ⊎_elim (λ none. inl (stays ∙ none)) (λ one. inr (one.0, stays ∙ one.1)) units;
-}

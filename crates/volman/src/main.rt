@@ -2,49 +2,50 @@
 //! `volman run --date yyddd FILE` does a RENAME statement on it.
 #![tactic(auto)]
 
-ghost use Rattle.std.specs.Prelude.{◌≡◌, ◌≢◌, [], IfOk, IfErr, IsOkAnd, IsErr};
-ghost use Rattle.std.specs.Vec.Iter.{into_iter_items};
-ghost use Rattle.std.specs.IoError.{error_kind};
-ghost use Rattle.std.specs.Process.{exit_status};
-ghost use Rattle.run_spec.specs.Run.{IsStatus};
-
+mod deck;
+mod file_hall;
+mod machine;
 mod mount;
+mod names;
+mod reason;
+mod statement;
+mod status;
+mod std_cards;
+mod text;
 mod top;
+mod words;
 mod work;
 
-use hall_files::{FileHall, StdCards};
-use std::alloc::{AllocError, Global};
-use std::env::{self, Args};
+use file_hall::FileHall;
+use status::Status;
+use std::alloc::AllocError;
+use std::env;
 use std::fs::{File, Files};
-use std::io::{self, ErrorKind, Input, Print};
+use std::io::{ErrorKind, Input, Print};
 use std::process::ExitCode;
 use std::rt::Env;
+use std_cards::StdCards;
 
 fn main(rt: HostRuntime) -> ExitCode {
-    run(&rt)
+    ExitCode::from(run(&rt))
 }
 
 // Runs the program over the command line, the standard input, the files of the system and the
 // standard output.
-fn run<R: Files<File = File> + Input + Print + Env + AllocGlobal>(rt: &R) -> ExitCode
-    ensures { IsStatus (exit_status result) }
-{
-    let words = words_in(rt.alloc(), env::args(rt));
+fn run<R: Files<File = File> + Input + Print + Env + AllocGlobal>(rt: &R) -> u8 {
     let mut cards = StdCards::new(rt.reader());
     let mut hall = FileHall::new(rt.alloc(), rt);
-    ExitCode::from(top::volman(rt.alloc(), words, &mut cards, &mut hall))
+    match command_line(rt) {
+        Ok(words) => top::volman(rt.alloc(), &words, &mut cards, &mut hall),
+        Err(AllocError) => Status::Memory.code(),
+    }
 }
 
-// The words that the system gave, or no words where it says that one isn't text. Any other error is
-// want of memory.
-fn words_in(alloc: Global, given: io::Result<Args>) -> Result<Vec<String>, AllocError>
-    ensures given { IfOk given (λ args. IfOk result (λ words. words.items ≡ into_iter_items args)) }
-    ensures no_text { IfErr given (λ e. error_kind e ≡ ErrorKind.InvalidData → IsOkAnd result (λ words. words.items ≡ [])) }
-    ensures memory { IfErr given (λ e. error_kind e ≢ ErrorKind.InvalidData → IsErr result) }
-{
-    match given {
-        Ok(args) => args.collect(alloc),
-        Err(error) if error.kind() == ErrorKind::InvalidData => Ok(Vec::new(alloc)),
+// The words of the command line, the program's name first, or no words where one isn't text.
+fn command_line<R: Env + AllocGlobal>(rt: &R) -> Result<Vec<String>, AllocError> {
+    match env::args(rt) {
+        Ok(words) => words.collect(rt.alloc()),
+        Err(error) if error.kind() == ErrorKind::InvalidData => Ok(Vec::new(rt.alloc())),
         Err(_) => Err(AllocError),
     }
 }

@@ -3,21 +3,16 @@ ghost use Rattle.std.specs.Prelude.{◌≡◌, IfOk, []};
 ghost use Rattle.hall_core.specs.Memory.{facts_of};
 
 mod broken;
-mod cut;
-mod edge;
-mod fickle;
+mod image;
 mod machines;
 mod packs;
-mod program;
 mod run;
 mod scarce;
 mod stops;
-mod system;
 mod words_and_decks;
 mod work_pack;
 
 use crate::top::volman;
-use cut::Cut;
 use hall_core::{Call, Hall, MemCards, MemHall};
 use packs::{A_B, AB, Slot, pack};
 use scarce::Scarce;
@@ -91,7 +86,7 @@ fn status<H: Hall>(alloc: Global, words: &[&str], hall: &mut H) -> Result<u8, Al
     let mut fails = Vec::new(alloc);
     fails.push(0)?;
     let mut cards = MemCards::new(Vec::new(alloc), fails);
-    Ok(volman(alloc, Ok(owned), &mut cards, hall))
+    Ok(volman(alloc, &owned, &mut cards, hall))
 }
 
 // The words, the call that is to fail, whether memory runs out, and the status.
@@ -123,7 +118,7 @@ fn assert_reached(rt: &impl Abort, alloc: Global, image: &[u8], case: Case) -> R
 }
 
 #[test]
-fn each_status_of_names_is_reached(rt: HostRuntime) -> Result<(), Fail> {
+fn each_status_is_reached(rt: HostRuntime) -> Result<(), Fail> {
     let image = pack(rt.alloc(), TWO_SETS)?;
     for case in CASES {
         assert_reached(&rt, rt.alloc(), &image, *case)?;
@@ -145,64 +140,35 @@ fn assert_listed(
     Ok(())
 }
 
-// Names that begin alike, one of them without a blank.
-const FRONTS: &[&[Slot]] = &[&[
-    Slot::F5,
-    Slot::F1(AB),
-    Slot::F1(&[0xC1; 44]),
-    Slot::F1(&[0xC1]),
-    Slot::F1(A_B),
-]];
-
-// Bytes that stand for no character, a blank within a name, and a name of blanks.
-const OTHER_BYTES: &[&[Slot]] = &[&[
-    Slot::F5,
-    Slot::F1(&[0xC1, 0xFF]),
-    Slot::F1(&[0xC1, 0x40, 0xC2]),
-    Slot::F1(&[0xC1, 0x00, 0xC2]),
-    Slot::F1(&[]),
-]];
-
-// Slots, and what is printed of them.
-const LISTINGS: &[(&[&[Slot]], &[u8])] = &[
-    (TWO_SETS, TWO_SETS_LISTING),
-    (&[&[Slot::F5, Slot::F0]], b""),
-    (
-        FRONTS,
-        b"A\nA.B\nAAAAAAAAAAAAAAAAAAAAAAAAAAAAAAAAAAAAAAAAAAAA\nAB\n",
-    ),
-    (OTHER_BYTES, b"\nA.B\nA B\nA.\n"),
-];
-
 #[test]
 fn sets_are_printed_in_the_order_of_their_ebcdic_bytes(rt: HostRuntime) -> Result<(), Fail> {
-    for (vtoc, listing) in LISTINGS {
+    let no_sets: &[&[Slot]] = &[&[Slot::F5, Slot::F0]];
+    // Names that begin alike, one of them without a blank.
+    let fronts: &[&[Slot]] = &[&[
+        Slot::F5,
+        Slot::F1(AB),
+        Slot::F1(&[0xC1; 44]),
+        Slot::F1(&[0xC1]),
+        Slot::F1(A_B),
+    ]];
+    // Bytes that stand for no character, a blank within a name, and a name of blanks.
+    let others: &[&[Slot]] = &[&[
+        Slot::F5,
+        Slot::F1(&[0xC1, 0xFF]),
+        Slot::F1(&[0xC1, 0x40, 0xC2]),
+        Slot::F1(&[0xC1, 0x00, 0xC2]),
+        Slot::F1(&[]),
+    ]];
+    for (vtoc, listing) in [
+        (TWO_SETS, TWO_SETS_LISTING),
+        (no_sets, b"".as_slice()),
+        (
+            fronts,
+            b"A\nA.B\nAAAAAAAAAAAAAAAAAAAAAAAAAAAAAAAAAAAAAAAAAAAA\nAB\n".as_slice(),
+        ),
+        (others, b"\nA.B\nA B\nA.\n".as_slice()),
+    ] {
         assert_listed(&rt, rt.alloc(), vtoc, listing)?;
-    }
-    Ok(())
-}
-
-// The listing is cut behind so many bytes, and the image stays.
-fn assert_cut(rt: &impl Abort, alloc: Global, image: &[u8], front: usize) -> Result<(), Fail> {
-    let mut cut = Cut {
-        hall: hall_with(alloc, image, AMPLE)?,
-        front,
-        faults: 0,
-    };
-    assert_eq!(rt; status(alloc, NAMES, &mut cut)?, 24, "{front}");
-    assert_eq!(rt; cut.faults, 1, "{front}");
-    let printed = TWO_SETS_LISTING.get(..front).unwrap_or_default();
-    assert_eq!(rt; cut.hall.printed(), printed);
-    assert_eq!(rt; cut.hall.image("w.img"), Some(image), "{front}");
-    Ok(())
-}
-
-// None of it is printed, a part, or all.
-#[test]
-fn a_listing_that_is_cut_is_a_print_fault(rt: HostRuntime) -> Result<(), Fail> {
-    let image = pack(rt.alloc(), TWO_SETS)?;
-    for front in 0..TWO_SETS_LISTING.len().saturating_add(1) {
-        assert_cut(&rt, rt.alloc(), &image, front)?;
     }
     Ok(())
 }
@@ -221,20 +187,19 @@ pub(crate) fn assert_words_refused(
     Ok(())
 }
 
-const OTHER_WORDS: &[&[&str]] = &[
-    &[],
-    &["volman"],
-    &["volman", "names"],
-    &["volman", "names", ""],
-    &["volman", "names", "-x"],
-    &["volman", "names", "w.img", "w.img"],
-    &["volman", "list", "w.img"],
-    &["volman", "NAMES", "w.img"],
-];
-
 #[test]
 fn other_words_are_refused(rt: HostRuntime) -> Result<(), Fail> {
-    for words in OTHER_WORDS {
+    let cases: [&[&str]; 8] = [
+        &[],
+        &["volman"],
+        &["volman", "names"],
+        &["volman", "names", ""],
+        &["volman", "names", "-x"],
+        &["volman", "names", "w.img", "w.img"],
+        &["volman", "list", "w.img"],
+        &["volman", "NAMES", "w.img"],
+    ];
+    for words in cases {
         assert_words_refused(&rt, rt.alloc(), words, b"")?;
     }
     Ok(())
@@ -330,27 +295,25 @@ fn assert_room(rt: &impl Abort, alloc: Global, image: &[u8], case: Room) -> Resu
 }
 
 // Each call takes room for one, and of bytes those of the name w.img or x.img, and of the text.
-const ROOMS: &[Room] = &[
-    (NAMES, 0, 32, 22, b""),
-    (NAMES, 4, 32, 22, b""),
-    (NAMES, 5, 32, 24, b""),
-    (NAMES, 6, 4, 22, b""),
-    (NAMES, 6, 5, 24, b""),
-    (NAMES, 6, 31, 24, b""),
-    (NAMES, 6, 32, 0, TWO_SETS_LISTING),
-    (MISSING, 1, 31, 24, b""),
-    (MISSING, 2, 30, 24, b""),
-    (MISSING, 2, 31, 21, NO_FILE),
-    (OTHER, 0, 13, 24, b""),
-    (OTHER, 1, 12, 24, b""),
-    (OTHER, 1, 13, 20, b"VOLMAN WORDS\n"),
-];
-
 #[test]
 fn too_little_room_is_a_fault(rt: HostRuntime) -> Result<(), Fail> {
     let image = pack(rt.alloc(), TWO_SETS)?;
-    for case in ROOMS {
-        assert_room(&rt, rt.alloc(), &image, *case)?;
+    for case in [
+        (NAMES, 0, 32, 22, b"".as_slice()),
+        (NAMES, 4, 32, 22, b"".as_slice()),
+        (NAMES, 5, 32, 24, b"".as_slice()),
+        (NAMES, 6, 4, 22, b"".as_slice()),
+        (NAMES, 6, 5, 24, b"".as_slice()),
+        (NAMES, 6, 31, 24, b"".as_slice()),
+        (NAMES, 6, 32, 0, TWO_SETS_LISTING),
+        (MISSING, 1, 31, 24, b"".as_slice()),
+        (MISSING, 2, 30, 24, b"".as_slice()),
+        (MISSING, 2, 31, 21, NO_FILE),
+        (OTHER, 0, 13, 24, b"".as_slice()),
+        (OTHER, 1, 12, 24, b"".as_slice()),
+        (OTHER, 1, 13, 20, b"VOLMAN WORDS\n".as_slice()),
+    ] {
+        assert_room(&rt, rt.alloc(), &image, case)?;
     }
     Ok(())
 }

@@ -1,12 +1,16 @@
 -- Writes behind reads, and writes that were not begun.
 use Rattle.std.proofs.Common.{◌≡◌, ◌⊎◌, inl, inr, ⊎_elim, ◌<◌, ◌≤◌, ℕ, List, [], sym, ◌∙◌, ap, subst, arith}
-use Rattle.std.specs.Prelude.{Result, Ok, Err, IsErr, OnErr, OnOk, unwrap_or}
+use Rattle.std.specs.Prelude.{Result, Ok, Err, IsErr, OnErr, OnOk}
 use Rattle.std.proofs.lemmas.Result.{IfOk-from_err}
 use Rattle.hall_core.specs.Facts.{Facts, Attached, unit_of}
 use Rattle.hall_core.specs.Files.{File, AfterWrite, IsPending, file_of, image_of, written}
 use Rattle.hall_core.specs.Moments.{Meaning, ElapsesExactly, LeftNow, LeavesSame, Same}
 use Rattle.hall_core.proofs.MomentLemmas.{CountsNow, left_back}
-use Rattle.hall_core.proofs.Outcomes.{on_err}
+use Rattle.std.specs.Prelude.{unwrap_or}
+
+on_err : {T E : Type 0} (answer : Result T E) (P : Type 0) → P → OnErr answer P
+on_err (Ok x) P here = tt
+on_err (Err e) P here = here
 
 left_on : {X : Type 0} {old new : Meaning X} → Same old new → (x : X) (p : List ℕ) → LeftNow old x p → LeftNow new x p
 left_on same x p left = ((same.left x).1 left.0, left.1 ∙ sym same.printed)

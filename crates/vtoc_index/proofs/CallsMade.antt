@@ -1,37 +1,30 @@
 -- What calls of a hall leave, one after another.
-use Rattle.std.proofs.Common.{◌≡◌, ◌≢◌, ◌⊎◌, ⊎_elim, ℕ, ◌+◌, ◌*◌, ◌<◌, ◌≤◌, ◌&&◌, true, false, leb-true, List, [], ◌++◌, length, append-nil, append_assoc, None, Some, refl, sym, ap, subst, ◌∙◌, arith, ◌-◌}
-use Rattle.std.proofs.Math.Nat.{le_of_mul-le-mul_right}
+use Rattle.std.proofs.Common.{◌≡◌, ◌≢◌, ◌⊎◌, ⊎_elim, ℕ, ◌<◌, List, length, None, Some, refl, sym, ap, subst, ◌∙◌, arith}
 use Rattle.std.specs.Prelude.{Result, Ok, Err, IfErr, IfOk, IsErrOf, IsTrue, Bool, Option, option_and_then}
 use Rattle.ckd_image.specs.declared.header.Geometry.{Geometry}
-use Rattle.ckd_image.specs.declared.device.DiskType.{DiskType}
-use Rattle.ckd_image.specs.Device.{row_of}
-use Rattle.ckd_image.specs.Header.{HasGeometry, is_track_size}
-use Rattle.vol_model.specs.declared.contents.Run.{Run}
+use Rattle.ckd_image.specs.Header.{HasGeometry}
 use Rattle.ckd_image.specs.Track.{Record}
-use Rattle.hall_core.specs.Facts.{Attached, Calls, CallsAtMost, Facts, Rose, unit_of}
+use Rattle.hall_core.specs.Facts.{Attached, Facts, Rose, unit_of}
 use Rattle.hall_core.specs.Files.{File}
-use Rattle.hall_core.specs.Made.{HallCall, MakesOnce, MakesOnly, Reading, StaysDone}
 use Rattle.hall_core.specs.Moments.{Meaning, Same}
-use Rattle.hall_core.proofs.MadeLemmas.{makes_then, once_then}
-use Rattle.pack_spec.specs.declared.address.Address.{Address}
 use Rattle.pack_spec.specs.Label.{label_in, label_of, records_on}
 use Rattle.pack_spec.specs.Views.{tracks_of}
 use Rattle.track_records.specs.Buffers.{Buffer}
-use Rattle.track_records.specs.Calls.{HasTrack, track_read}
+use Rattle.track_records.specs.Calls.{HasTrack}
 use Rattle.track_records.specs.Reads.{IsBroken}
 use Rattle.track_records.specs.Written.{StandsOn}
-use Rattle.vtoc_index.specs.Given.{AreFound, IsBufferGiven, IsNextRead}
 use Rattle.track_records.specs.declared.error.TrackErr.{TrackErr}
 use Rattle.track_records.specs.declared.error.TrackErr.TheVariants as track_errors
 use Rattle.pack_spec.specs.declared.MountErr.{MountErr}
 use Rattle.pack_spec.specs.declared.MountErr.TheVariants.{Memory, Device, VtocTrack}
-use Rattle.vtoc_index.specs.Calls.{IsTrackRead, MountCall}
+use Rattle.vtoc_index.specs.Calls.{MountCall}
 use Rattle.vtoc_index.specs.Index.{IsReason}
-use Rattle.vtoc_index.specs.Reading.{AreNumbered, AreTracksRead, LastTrackHas, Refuses}
+use Rattle.vtoc_index.specs.Reading.{AreNumbered, AreTracksRead, Refuses}
 use Rattle.vtoc_index.specs.declared.tracks.ReadSlots.{ReadSlots}
 
 -- a track that is reported broken has no records
 pub broken_none : (image : List ℕ) (g : Geometry) (upto : Option ℕ) (track : ℕ) (e : TrackErr) (at : ℕ) → e ≡ track_errors.BadCount at → IsBroken image g upto track e → records_on image g upto track ≡ None
+unfolding records_on
 broken_none image g upto track (track_errors.BadCount at') at is broken = broken.0
 broken_none image g upto track track_errors.Device at is broken = cc
 
@@ -138,98 +131,12 @@ buffer_read old new unit track records is = record { geometry = ap (λ (b : Buff
 pub stands_whole : (image : List ℕ) (b : Buffer) (g : Geometry) (track : ℕ) → b.geometry ≡ g → b.track ≡ track → records_on image g None track ≡ Some b.records → StandsOn image b
 stands_whole image b g track same at is = (None, ap (λ (x : Geometry). records_on image x None b.track) same ∙ ap (λ (t : ℕ). records_on image g None t) at ∙ is)
 
--- reads behind reads
-pub reads_then : (some more : ℕ) (old mid new : Calls) → CallsAtMost some 0 0 0 old mid → CallsAtMost more 0 0 0 mid new → CallsAtMost (some + more) 0 0 0 old new
-reads_then some more old mid new first second = (omega (arith, first.0, second.0), omega (arith, first.1, second.1), omega (arith, first.2, second.2), omega (arith, first.3, second.3), omega (arith, first.4, second.4))
-
--- fewer reads than are allowed
-pub reads_within : (reads most : ℕ) (old new : Calls) → reads ≤ most → CallsAtMost reads 0 0 0 old new → CallsAtMost most 0 0 0 old new
-reads_within reads most old new few calls = (omega (arith, few, calls.0), calls.1, calls.2, calls.3, calls.4)
-
--- a list begins with another
-abbrev pub BeginsWith : {A : Type 0} → List A → List A → Type 0
-BeginsWith {A} old new = (more : List A) × (new ≡ old ++ more)
-
-pub begins_same : {A : Type 0} (old : List A) → BeginsWith old old
-begins_same old = ([], sym (append-nil old))
-
-pub begins_further : {A : Type 0} (old mid new more : List A) → BeginsWith old mid → new ≡ mid ++ more → BeginsWith old new
-begins_further old mid new more begins is = (begins.0 ++ more, is ∙ ap (λ l. l ++ more) begins.1 ∙ append_assoc old begins.0 more)
-
--- the tracks that were read, with one more
-pub track_more :
-    (unit : ℕ) (g g' : Geometry) (from track to to' : ℕ) {h0 h h' : HallCall → ℕ}
-    → MakesOnly (IsTrackRead unit g from to) h0 h
-    → MakesOnly (λ call. call ≡ track_read unit g' track) h h'
-    → g' ≡ g
-    → from ≤ track
-    → track < to'
-    → to ≤ to'
-    → MakesOnly (IsTrackRead unit g from to') h0 h'
-track_more unit g g' from track to to' before read same low high further =
-    makes_then before read (λ call is. (is.0, is.1, omega (arith, is.2, further), is.3)) (λ call is. (track, low, high, is ∙ ap (λ (x : Geometry). track_read unit x track) same))
-
--- ---- no call is made twice
-
-some_bytes : (d : DiskType) (size : ℕ) → is_track_size d size ≡ true → 1 ≤ size
-some_bytes d size is = let least : (row_of d).largest_record + 37 ≤ size = leb-true ((row_of d).largest_record + 37) size (both_of _ _ (both_of _ _ is).0).1 in omega (arith, least)
-  where
-    both_of : (b c : Bool) → (b && c) ≡ true → (b ≡ true) × (c ≡ true)
-    both_of true c is = (refl, is)
-    both_of false c is = cc
-
--- a track has bytes
-pub track_long : {len : ℕ} {g : Geometry} → HasGeometry len g → 1 ≤ g.track_size
-track_long {g = g} whole = some_bytes g.device g.track_size whole.track_size
-
--- the number at which a call reads
-read_at : HallCall → ℕ
-read_at (Reading unit at len) = at
-read_at call = 0
-
--- reads of two tracks are two reads, and neither is that of the header
-pub header_apart : (unit unit' : ℕ) (g : Geometry) (track : ℕ) (call : HallCall) → call ≡ Reading unit 0 512 → call ≡ track_read unit' g track → ⊥
-unfolding read_at
-header_apart unit unit' g track call header read = let at : 0 ≡ 512 + track * g.track_size = ap read_at (sym header ∙ read) in omega (arith, at)
-
-pub tracks_apart : (unit : ℕ) (g : Geometry) (track other : ℕ) (call : HallCall) → 1 ≤ g.track_size → track < other → call ≡ track_read unit g track → call ≡ track_read unit g other → ⊥
-unfolding read_at
-tracks_apart unit g track other call long low one two =
-    let at : 512 + track * g.track_size ≡ 512 + other * g.track_size = ap read_at (sym one ∙ two) in
-    let high : other ≤ track = le_of_mul-le-mul_right {m = other} {n = track} {k = g.track_size} (omega (arith, at)) (omega (arith, long)) in
-    omega (arith, low, high)
-
--- one more track, behind others
-pub track_once :
-    (unit : ℕ) (g g' : Geometry) (from to track : ℕ) {h0 h h' : HallCall → ℕ}
-    → MakesOnce h0 h
-    → MakesOnly (IsTrackRead unit g from to) h0 h
-    → MakesOnce h h'
-    → MakesOnly (λ call. call ≡ track_read unit g' track) h h'
-    → g' ≡ g
-    → to ≤ track
-    → 1 ≤ g.track_size
-    → MakesOnce h0 h'
-track_once unit g g' from to track before tracks once read same high long =
-    once_then before tracks once read (λ call was is. tracks_apart unit g was.0 track call long (omega (arith, was.2, high)) was.3 (is ∙ ap (λ (x : Geometry). track_read unit x track) same))
-
 -- what a loop over tracks keeps
-pub record KeepsReading (tells : Bool) (c0 c : Calls) (h0 h : HallCall → ℕ) (d0 d : HallCall → Type 0) (f0 f : Facts) (m0 m : Meaning (List File)) (image : List ℕ) (g : Geometry) (unit : ℕ) (vtoc : Run) (len : ℕ) (b0 b : Buffer) (r0 r : ReadSlots) : Type 0 where
-  pub calls : CallsAtMost (len - 1) 0 0 0 c0 c
-  pub tracks : MakesOnly (IsTrackRead unit g (vtoc.start + 1) (vtoc.start + len)) h0 h
-  pub made : (at : Address) → AreFound d0 unit g at vtoc 1 r0 b0 → MakesOnly (IsNextRead d unit g at vtoc) h0 h
-  pub each : MakesOnce h0 h
-  pub kept : StaysDone d0 d
-  pub given : (at : Address) → AreFound d0 unit g at vtoc 1 r0 b0 → AreFound d unit g at vtoc len r b
-  pub seen : IsBufferGiven d0 unit g b0 → IsBufferGiven d unit g b
+pub record KeepsReading (tells : Bool) (f0 f : Facts) (m0 m : Meaning (List File)) (image : List ℕ) (g : Geometry) (unit start len : ℕ) (b0 b : Buffer) (r0 r : ReadSlots) : Type 0 where
   pub facts : FactsStay f0 f
   pub told : IsTrue tells → Same m0 m
   pub geometry : b.geometry ≡ g
   pub unit_is : b.unit ≡ unit
   pub numbers : AreNumbered len r
-  pub slots : BeginsWith r0.slots.items r.slots.items
-  pub firsts : BeginsWith r0.firsts.items r.firsts.items
-  pub last : b0.track ≡ vtoc.start → b.track + 1 ≡ vtoc.start + len
-  pub held : LastTrackHas (length b0.records) r0 → LastTrackHas (length b.records) r
-  pub read : IsTrue tells → AreTracksRead image g vtoc.start 1 r0 → AreTracksRead image g vtoc.start len r
+  pub read : IsTrue tells → AreTracksRead image g start 1 r0 → AreTracksRead image g start len r
   pub stands : IsTrue tells → StandsOn image b0 → StandsOn image b

@@ -12,13 +12,11 @@ use Rattle.dscb_codec.specs.declared.Dscb.{Dscb}
 use Rattle.dscb_codec.specs.declared.Dscb.TheVariants as formats
 use Rattle.dscb_codec.specs.declared.F4.{F4}
 use Rattle.dscb_codec.specs.Layout.{IsDscb}
-use Rattle.vol_model.specs.declared.contents.Run.{Run}
-use Rattle.pack_spec.specs.declared.address.Address.{Address}
 use Rattle.pack_spec.specs.declared.MountErr.{MountErr}
 use Rattle.pack_spec.specs.declared.MountErr.TheVariants.{BadVtoc}
 use Rattle.pack_spec.specs.declared.addressed.VtocSlot.{VtocSlot}
-use Rattle.pack_spec.specs.Label.{address_at, heads_of, is_inside, label_of, records_on, track_bytes, track_of_address}
-use Rattle.pack_spec.specs.Vtoc.{first_slot, is_slot, is_vtoc_extent, slot_bytes, vtoc_at, vtoc_by, vtoc_of}
+use Rattle.pack_spec.specs.Label.{Address, address_at, heads_of, is_inside, label_of, records_on, track_bytes, track_of_address}
+use Rattle.pack_spec.specs.Vtoc.{Run, first_slot, is_slot, is_vtoc_extent, slot_bytes, vtoc_at, vtoc_by, vtoc_of}
 use Rattle.pack_spec.specs.Slots.{addressed_from, record_address, slots_at, slots_of_vtoc}
 use Rattle.pack_spec.specs.Faults.{slots_faults, track_faults, vtoc_fault}
 use Rattle.pack_spec.specs.Volume.{unless, volume_of, volume_on, volume_with, volume_within}
@@ -28,7 +26,7 @@ use Rattle.track_records.proofs.PatchLemmas.{range_alike}
 use Rattle.track_records.proofs.StandLemmas.{stand}
 use Rattle.vtoc_index.specs.declared.vol.Vol.{Vol}
 use Rattle.vtoc_index.specs.Contents.{AreDscbs, with_bytes}
-use Rattle.vtoc_index.specs.Index.{IsIndexOf, IsMounted, IsPut, slots_before, track_index}
+use Rattle.vtoc_index.specs.Index.{IsIndexOf, IsMounted, IsPut, run_of, slots_before, track_index}
 use Rattle.vtoc_index.specs.Puts.{IsHeld, IsReplaced}
 use Rattle.vtoc_index.proofs.PutLaw.{Found, buffer_of, front_of, index_put, same_records, slot_found, slot_written, some_label, track_of}
 use Rattle.vtoc_index.proofs.TrackPut.{slots_at-some, slots_by}
@@ -66,8 +64,7 @@ record ExtentRead (image : List ℕ) (g : Geometry) (vtoc : Run) (label : List �
   slot : is_slot first ≡ true
   extent : vtoc_by g (place_in label) (Some (slot_bytes first)) ≡ Ok vtoc
 
--- an extent begins at the address that it is found by
-pub begins : (g : Geometry) (at : Address) (vtoc : Run) (slot : List ℕ) → vtoc_by g at (Some slot) ≡ Ok vtoc → vtoc.start ≡ track_of_address g at
+begins : (g : Geometry) (at : Address) (vtoc : Run) (slot : List ℕ) → vtoc_by g at (Some slot) ≡ Ok vtoc → vtoc.start ≡ track_of_address g at
 begins g at vtoc slot is = by_test (is_vtoc_extent g at slot) is
   where
     by_test : (b : Bool) → cond b (Ok (record { start = track_of_address g at; len = track_of_address g (address_at 111 slot) - track_of_address g at + 1 })) (Err BadVtoc) ≡ Ok vtoc → vtoc.start ≡ track_of_address g at
@@ -121,8 +118,8 @@ same_first : (r : ℕ) (bytes : List ℕ) (x y : Record) (xs ys : List Record) �
 same_first r bytes x y xs ys one other = one.1.0 ∙ sym other.1.0
 
 -- where the first slot of a VTOC is put, its old bytes are those by which the extent was read
-first_bytes : (image : List ℕ) (v : Vol) (slot : ℕ) (label : List ℕ) (f : Found image v slot) (e : ExtentRead image v.geometry v.vtoc label) → track_of v slot ≡ track_of_address v.geometry (place_in label)
-    → (s : VtocSlot) × ((slice_get (slots_of_vtoc image v.geometry v.vtoc) 0 ≡ Some s) × (s.bytes ≡ slot_bytes e.first))
+first_bytes : (image : List ℕ) (v : Vol) (slot : ℕ) (label : List ℕ) (f : Found image v slot) (e : ExtentRead image v.geometry (run_of v.vtoc) label) → track_of v slot ≡ track_of_address v.geometry (place_in label)
+    → (s : VtocSlot) × ((slice_get (slots_of_vtoc image v.geometry (run_of v.vtoc)) 0 ≡ Some s) × (s.bytes ≡ slot_bytes e.first))
 unfolding records_on
 first_bytes image v slot label f e here = by_records f.records f.read f.are f.there
   where
@@ -135,7 +132,7 @@ first_bytes image v slot label f e here = by_records f.records f.read f.are f.th
     start : v.vtoc.start ≡ t
     start = e.start ∙ sym here
 
-    by_records : (records : List Record) → records_on image g None t ≡ Some records → list_all is_slot records ≡ true → front_of v slot < length records → (s : VtocSlot) × ((slice_get (slots_of_vtoc image g v.vtoc) 0 ≡ Some s) × (s.bytes ≡ slot_bytes e.first))
+    by_records : (records : List Record) → records_on image g None t ≡ Some records → list_all is_slot records ≡ true → front_of v slot < length records → (s : VtocSlot) × ((slice_get (slots_of_vtoc image g (run_of v.vtoc)) 0 ≡ Some s) × (s.bytes ≡ slot_bytes e.first))
     by_records [] read are low = absurd (omega (arith, low))
     by_records (y ∷ ys) read are low =
         let s : VtocSlot = record { address = record_address g t 1; bytes = slot_bytes y } in
@@ -145,21 +142,21 @@ first_bytes image v slot label f e here = by_records f.records f.read f.are f.th
         let other = stand (t / heads_of g) (t % heads_of g) (Some 1) (track_bytes image g t) (e.first ∷ []) read_there in (
           s,
           (
-            first_slot_of image g v.vtoc s _ (omega (arith, f.stands.inside)) (ap (slots_at image g) start ∙ slots),
+            first_slot_of image g (run_of v.vtoc) s _ (omega (arith, f.stands.inside)) (ap (slots_at image g) start ∙ slots),
             ap slot_bytes (same_first 1 (drop 21 (track_bytes image g t)) y e.first ys [] one.records_stand other.records_stand),
           ),
         )
 
 -- The extent of the VTOC stays, unless slot 0 gets another.
-pub extent_put : (image put : List ℕ) (v : Vol) (slot : ℕ) (bytes : List ℕ) → IsIndexOf image v → slot < length v.slots.items → length bytes ≡ 140 → IsPut v slot bytes image put → vtoc_of image v.geometry ≡ Ok v.vtoc
-    → KeepsExtent slot bytes (slots_of_vtoc image v.geometry v.vtoc) → vtoc_of put v.geometry ≡ Ok v.vtoc
+pub extent_put : (image put : List ℕ) (v : Vol) (slot : ℕ) (bytes : List ℕ) → IsIndexOf image v → slot < length v.slots.items → length bytes ≡ 140 → IsPut v slot bytes image put → vtoc_of image v.geometry ≡ Ok (run_of v.vtoc)
+    → KeepsExtent slot bytes (slots_of_vtoc image v.geometry (run_of v.vtoc)) → vtoc_of put v.geometry ≡ Ok (run_of v.vtoc)
 extent_put image put v slot bytes index low size is extent keeps = ⊎_elim same_track other_track (same_or_apart (track_of v slot) (track_of_address g at))
   where
     g : Geometry
     g = v.geometry
 
     vtoc : Run
-    vtoc = v.vtoc
+    vtoc = run_of v.vtoc
 
     label : (label : List ℕ) × (label_of image g ≡ Some label)
     label = some_label (label_of image g) v.serial.bytes index.serial
@@ -225,18 +222,18 @@ volume_is image g vtoc header extent tracks slots =
 
 -- An image that stands for a volume still stands for one, where the slots that it then has break no rule; and this is its index.
 pub mounted_put : (image put : List ℕ) (v v' : Vol) (slot : ℕ) (d : Dscb) (bytes : List ℕ) → IsMounted image v → slot < length v.slots.items → length bytes ≡ 140 → IsPut v slot bytes image put → IsDscb d bytes → IsReplaced slot d v v' → IsHeld put v'.buf
-    → KeepsExtent slot bytes (slots_of_vtoc image v.geometry v.vtoc) → slots_faults v.geometry (with_bytes slot bytes (slots_of_vtoc image v.geometry v.vtoc)) ≡ [] → IsMounted put v'
+    → KeepsExtent slot bytes (slots_of_vtoc image v.geometry (run_of v.vtoc)) → slots_faults v.geometry (with_bytes slot bytes (slots_of_vtoc image v.geometry (run_of v.vtoc))) ≡ [] → IsMounted put v'
 mounted_put image put v v' slot d bytes mounted low size is dscb replaced held keeps lawful =
     let g : Geometry = v.geometry in
     let w : Vol = record v { slots = v'.slots; buf = v'.buf } in
     let index : IsIndexOf put w = subst (IsIndexOf put) replaced.others (index_put image put v v' slot d bytes mounted.index is dscb replaced held) in
     let extent = extent_put image put v slot bytes mounted.index low size is mounted.vtoc keeps in
-    let good : slots_faults g (slots_of_vtoc put g v.vtoc) ≡ [] = ap (slots_faults g) is.slots ∙ lawful in
+    let good : slots_faults g (slots_of_vtoc put g (run_of v.vtoc)) ≡ [] = ap (slots_faults g) is.slots ∙ lawful in
     let read : IsMounted put w = record {
       index = index;
       vtoc = extent;
       lawful = good;
-      volume = volume_is put g v.vtoc index.header extent is.tracks good;
+      volume = volume_is put g (run_of v.vtoc) index.header extent is.tracks good;
     } in
     subst (IsMounted put) (sym replaced.others) read
 

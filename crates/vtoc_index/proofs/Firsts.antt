@@ -1,9 +1,9 @@
 -- Which track of a VTOC holds a slot.
-use Rattle.std.proofs.Common.{◌≡◌, ◌<◌, ◌≤◌, ◌+◌, ◌-◌, ℕ, zero, suc, Bool, List, [], ◌∷◌, length, get_or, refl, ◌∙◌, ap, subst, ⊎_elim, arith}
+use Rattle.std.proofs.Common.{◌≡◌, ◌<◌, ◌≤◌, ◌+◌, ℕ, zero, suc, Bool, List, [], ◌∷◌, length, get_or, refl, ◌∙◌, ap, ⊎_elim, arith}
 use Rattle.std.specs.Prelude.{nat_le, map, filter}
 use Rattle.std.specs.List.{range_with_len}
 use Rattle.std.proofs.lemmas.Bool.{cases_lt, cond-true, cond-false, le-leb, lt-leb}
-use Rattle.vtoc_index.specs.Index.{AreFirsts, slots_in_front, track_index}
+use Rattle.vtoc_index.specs.Index.{AreFirsts, track_index}
 
 -- a first slot that doesn't stand behind another
 abbrev pub passes : ℕ → ℕ → Bool
@@ -53,16 +53,6 @@ located number (first ∷ firsts) end slot are from below =
 
 pub index_is : (firsts : List ℕ) (slot : ℕ) (l : Located firsts slot) → track_index firsts slot ≡ l.index
 index_is firsts slot l = omega (arith, l.passed)
-
--- before a slot of the last track fewer slots stand on it than it has
-pub before_last : (firsts : List ℕ) (end count slot : ℕ) → AreFirsts 0 firsts end → end ≡ get_or firsts (length firsts - 1) 0 + count → slot < end → track_index firsts slot + 1 ≡ length firsts → slots_in_front firsts slot < count
-before_last firsts end count slot are many below last =
-    let l = located 0 firsts end slot are (omega arith) below in
-    let at : track_index firsts slot ≡ length firsts - 1 = omega (arith, last) in
-    let here : l.index ≡ length firsts - 1 = omega (arith, l.passed, last) in
-    let low : get_or firsts (length firsts - 1) 0 ≤ slot = subst (λ (i : ℕ). get_or firsts i 0 ≤ slot) here l.low in
-    let front : slots_in_front firsts slot ≡ slot - get_or firsts (length firsts - 1) 0 = ap (λ (i : ℕ). slot - get_or firsts i 0) at in
-    omega (arith, front, low, many, below)
 
 -- The same, where the first slots are counted: so many stand before each track.
 pub record Counted (count : ℕ → ℕ) (a n slot : ℕ) : Type 0 where

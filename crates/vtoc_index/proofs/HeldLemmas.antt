@@ -1,24 +1,25 @@
 -- A buffer that holds a slot of its track.
-use Rattle.std.proofs.Common.{◌+◌, ◌≡◌, ◌⊎◌, inl, inr, ⊎_elim, ◌<◌, ◌≤◌, ◌-◌, ◌/◌, ◌%◌, ℕ, zero, suc, Bool, true, false, cond, IsTrue, List, [], ◌∷◌, length, take, drop, Option, Some, None, refl, sym, subst, ◌∙◌, ap, arith}
+use Rattle.std.proofs.Common.{◌≡◌, ◌⊎◌, inl, inr, ⊎_elim, ◌<◌, ◌≤◌, ◌-◌, ◌/◌, ◌%◌, ℕ, zero, suc, Bool, true, false, cond, IsTrue, List, [], ◌∷◌, length, take, drop, Option, Some, None, refl, sym, ◌∙◌, ap, arith}
 use Rattle.std.specs.Prelude.{nat_le, ◌&&◌, ◌==◌, slice_get, slice_index, Err}
 use Rattle.std.specs.Option.{option_map}
 use Rattle.std.specs.Bool.{IsFalse}
 use Rattle.std.proofs.lemmas.Bool.{and_parts, leb-true, le-leb}
-use Rattle.std.proofs.lemmas.List.{length-drop, length-map, length-take}
+use Rattle.std.proofs.lemmas.List.{length-map, length-take}
 use Rattle.std.proofs.lemmas.Slice.Eq.{bytes_eq-Decides}
 use Rattle.ckd_image.specs.declared.header.Geometry.{Geometry}
 use Rattle.ckd_image.specs.Track.{Record, end_marker}
 use Rattle.ckd_image.specs.Reading.{records_of, records_behind, records_up_to, records_to_end, is_front, is_at_end, is_record_at, front_record, record_length}
-use Rattle.dscb_codec.specs.declared.Dscb.{Dscb}
 use Rattle.hall_core.specs.Facts.{Facts, Rose, DeviceCall, NotedCall}
 use Rattle.pack_spec.specs.Label.{heads_of, records_on, track_bytes}
 use Rattle.pack_spec.specs.Vtoc.{slot_bytes}
 use Rattle.track_records.specs.Buffers.{Buffer}
-use Rattle.track_records.specs.Updates.{HasLengths, length_of, offset_of, with_parts}
+use Rattle.track_records.specs.Reads.{IsBroken}
+use Rattle.track_records.specs.declared.error.TrackErr.TheVariants.{BadCount}
+use Rattle.track_records.specs.Updates.{HasLengths}
 use Rattle.track_records.specs.Written.{StandsOn}
 use Rattle.track_records.proofs.StandLemmas.{stand}
 use Rattle.track_records.proofs.UpdateLemmas.{has_lengths}
-use Rattle.vtoc_index.specs.Puts.{HasSlot, HoldsDscb}
+use Rattle.vtoc_index.specs.Puts.{HasSlot}
 use Rattle.vtoc_index.proofs.TrackPut.{slot_records, slot_there, same_lengths}
 
 -- a record whose key and data were measured
@@ -134,64 +135,21 @@ held_slot image b r has stands first low =
     same_lengths 1 (r - 1) 44 96 (drop 21 bytes) b.records of.records one.records_stand other.records_stand (omega (arith, first, low)) (slot_there (r - 1) of.records of.are there)
 
 -- a hall that tells nothing counts what differs as a fault of the device
-pub noted : {T E : Type 0} {tells : Bool} {old mid new : Facts} {e : E} → mid.units ≡ old.units → mid.references ≡ old.references → mid.print_faults ≡ old.print_faults → mid.dev_faults ≡ old.dev_faults → NotedCall mid new → (IsFalse tells → Rose mid.dev_faults new.dev_faults) → (IsTrue tells → ⊥) → DeviceCall {T = T} {E = E} old new (Err e)
-noted {tells = tells} {old = old} {mid = mid} {new = new} units references prints still call rose never = record {
+pub noted : {T E : Type 0} {tells : Bool} {old mid new : Facts} {e : E} → mid.units ≡ old.units → mid.references ≡ old.references → mid.print_faults ≡ old.print_faults → old.dev_faults ≤ mid.dev_faults → NotedCall mid new → (IsFalse tells → Rose mid.dev_faults new.dev_faults) → (IsTrue tells → ⊥) → DeviceCall {T = T} {E = E} old new (Err e)
+noted {tells = tells} {old = old} {mid = mid} {new = new} units references prints later call rose never = record {
   units = call.units ∙ units;
   references = call.references ∙ references;
   prints = call.prints ∙ prints;
-  later = omega (arith, still, call.later);
+  later = omega (arith, later, call.later);
   done = tt;
-  failed = omega (arith, still, risen tells rose never);
+  failed = omega (arith, later, risen tells rose never);
 }
   where
     risen : (b : Bool) → (IsFalse b → Rose mid.dev_faults new.dev_faults) → (IsTrue b → ⊥) → Rose mid.dev_faults new.dev_faults
     risen true up none = absurd (none refl)
     risen false up none = up refl
 
--- a record with other parts of its lengths has these lengths
-lengths_held : (k : ℕ) (key content : List ℕ) (xs : List Record) → HasLengths xs k 44 96 → 44 ≡ length key → 96 ≡ length content → HasLengths (with_parts k key content xs) k 44 96
-lengths_held k key content [] has long wide = absurd has
-lengths_held zero key content (x ∷ xs) has long wide = (long, wide)
-lengths_held (suc k) key content (x ∷ xs) has long wide = lengths_held k key content xs has long wide
-
--- and they are as many as before
-pub count_kept : (k : ℕ) (key content : List ℕ) (xs : List Record) → length (with_parts k key content xs) ≡ length xs
-count_kept k key content [] = refl
-count_kept zero key content (x ∷ xs) = refl
-count_kept (suc k) key content (x ∷ xs) = ap suc (count_kept k key content xs)
-
--- and where it stands
-pub offset_kept : (k : ℕ) (key content : List ℕ) (xs : List Record) → offset_of (with_parts k key content xs) k ≡ offset_of xs k
-offset_kept k key content [] = refl
-offset_kept zero key content (x ∷ xs) = refl
-offset_kept (suc k) key content (x ∷ xs) = ap (λ (n : ℕ). length_of x + n) (offset_kept k key content xs)
-
--- the key and the data that a record got
-pub key_put : (k : ℕ) (key content : List ℕ) (before : List Record) → HasLengths before k 44 96 → option_map (λ (x : Record). x.key) (slice_get (with_parts k key content before) k) ≡ Some key
-key_put k key content [] has = absurd has
-key_put zero key content (x ∷ xs) has = refl
-key_put (suc k) key content (x ∷ xs) has = key_put k key content xs has
-
-pub data_put : (k : ℕ) (key content : List ℕ) (before : List Record) → HasLengths before k 44 96 → option_map (λ (x : Record). x.data) (slice_get (with_parts k key content before) k) ≡ Some content
-data_put k key content [] has = absurd has
-data_put zero key content (x ∷ xs) has = refl
-data_put (suc k) key content (x ∷ xs) has = data_put k key content xs has
-
--- a record that got a DSCB has its bytes
-pub key_held : (k : ℕ) (d : Dscb) (records : List Record) (held : HoldsDscb k d records) → option_map (λ (x : Record). x.key) (slice_get records k) ≡ Some (take 44 held.bytes)
-key_held k d records held = ap (λ (l : List Record). option_map (λ (x : Record). x.key) (slice_get l k)) held.put ∙ key_put k (take 44 held.bytes) (drop 44 held.bytes) held.before held.lengths
-
-pub data_held : (k : ℕ) (d : Dscb) (records : List Record) (held : HoldsDscb k d records) → option_map (λ (x : Record). x.data) (slice_get records k) ≡ Some (drop 44 held.bytes)
-data_held k d records held = ap (λ (l : List Record). option_map (λ (x : Record). x.data) (slice_get l k)) held.put ∙ data_put k (take 44 held.bytes) (drop 44 held.bytes) held.before held.lengths
-
-pub still_slot : (old new : List Record) (n k : ℕ) (key content : List ℕ) → n ≡ k → HasLengths old n 44 96 → 44 ≡ length key → 96 ≡ length content → new ≡ with_parts n key content old → HasLengths new k 44 96
-still_slot old new n k key content at has long wide is =
-    subst (λ (l : List Record). HasLengths l k 44 96) (sym is) (subst (λ (m : ℕ). HasLengths (with_parts n key content old) m 44 96) at (lengths_held n key content old has long wide))
-
--- a record that got a DSCB has the lengths of a slot
-pub dscb_lengths : (k : ℕ) (d : Dscb) (records : List Record) → HoldsDscb k d records → HasLengths records k 44 96
-dscb_lengths k d records held =
-    still_slot held.before records k k (take 44 held.bytes) (drop 44 held.bytes) refl held.lengths
-    (omega (arith, held.size, length-take 44 held.bytes))
-    (omega (arith, held.size, length-drop 44 held.bytes))
-    held.put
+-- a track that breaks the grammar is read by no records
+pub broken_none : (image : List ℕ) (g : Geometry) (upto : Option ℕ) (track at : ℕ) → IsBroken image g upto track (BadCount at) → records_on image g upto track ≡ None
+unfolding records_on
+broken_none image g upto track at broken = broken.0

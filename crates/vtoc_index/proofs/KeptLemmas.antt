@@ -9,7 +9,7 @@ use Rattle.pack_spec.specs.Label.{heads_of, records_on, track_bytes}
 use Rattle.track_records.specs.Buffers.{Buffer}
 use Rattle.track_records.specs.Written.{StandsOn}
 use Rattle.vtoc_index.specs.declared.vol.Vol.{Vol}
-use Rattle.vtoc_index.specs.Index.{IsMounted}
+use Rattle.vtoc_index.specs.Index.{IsMounted, run_of}
 use Rattle.vtoc_index.specs.Kept.{IsKept}
 use Rattle.vtoc_index.proofs.ExtentLaw.{volume_is}
 use Rattle.vtoc_index.proofs.HeldLemmas.{front_taken, room, way}
@@ -111,5 +111,5 @@ mounted_of image v kept = record {
   };
   vtoc = kept.vtoc;
   lawful = kept.lawful;
-  volume = volume_is image v.geometry v.vtoc kept.header kept.vtoc kept.tracks kept.lawful;
+  volume = volume_is image v.geometry (run_of v.vtoc) kept.header kept.vtoc kept.tracks kept.lawful;
 }

@@ -24,15 +24,6 @@ label_in-three (x ∷ y ∷ []) e = absurd (omega arith)
 label_in-three (x ∷ y ∷ z ∷ []) e = refl
 label_in-three (x ∷ y ∷ z ∷ w ∷ ws) e = absurd (omega arith)
 
--- fewer or more have none
-pub label_in-other : (xs : List Record) → length xs ≢ 3 → label_in xs ≡ None
-unfolding label_in
-label_in-other [] n = refl
-label_in-other (x ∷ []) n = refl
-label_in-other (x ∷ y ∷ []) n = refl
-label_in-other (x ∷ y ∷ z ∷ []) n = absurd (n refl)
-label_in-other (x ∷ y ∷ z ∷ w ∷ ws) n = refl
-
 chosen : {A : Type 0} (b c : Bool) (u v : A) → b ≡ c → cond b u v ≡ cond c u v
 chosen b c u v is = ap (λ x. cond x u v) is
 
@@ -41,3 +32,12 @@ label_found xs content three are is = label_in-three xs three ∙ chosen _ true 
 
 pub label_not : (xs : List Record) → length xs ≡ 3 → are_label (record_number xs 0) (record_number xs 1) (record_number xs 2) ≡ false → label_in xs ≡ None
 label_not xs three are = label_in-three xs three ∙ chosen _ false _ _ are
+
+-- fewer or more have none
+pub label_in-other : (xs : List Record) → length xs ≢ 3 → label_in xs ≡ None
+unfolding label_in
+label_in-other [] n = refl
+label_in-other (x ∷ []) n = refl
+label_in-other (x ∷ y ∷ []) n = refl
+label_in-other (x ∷ y ∷ z ∷ []) n = absurd (n refl)
+label_in-other (x ∷ y ∷ z ∷ w ∷ ws) n = refl

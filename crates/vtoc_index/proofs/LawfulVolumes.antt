@@ -16,7 +16,7 @@ use Rattle.pack_spec.proofs.Lawful.{lawful_with}
 use Rattle.pack_spec.proofs.Quantities.{HasShortQuantity, short_in_word}
 use Rattle.vtoc_index.specs.declared.vol.Vol.{Vol}
 use Rattle.vtoc_index.specs.Contents.{AreDscbs}
-use Rattle.vtoc_index.specs.Index.{IsMounted}
+use Rattle.vtoc_index.specs.Index.{IsMounted, run_of}
 use Rattle.vtoc_index.proofs.SetFields.{format_byte-is, format_of}
 
 -- a slot that holds another format is no data set
@@ -40,7 +40,7 @@ short_held (d ∷ ds) [] are = absurd are
 short_held (d ∷ ds) (s ∷ ss) are = (short_in d s.bytes are.0, short_held ds ss are.1)
 
 -- the volume of an image is lawful where its VTOC is held
-pub lawful_mounted : (image : List ℕ) (v : Vol) → IsMounted image v → IsLawfulVolume (volume_with v.geometry (unwrap_or (label_of image v.geometry) []) v.vtoc (slots_of_vtoc image v.geometry v.vtoc))
+pub lawful_mounted : (image : List ℕ) (v : Vol) → IsMounted image v → IsLawfulVolume (volume_with v.geometry (unwrap_or (label_of image v.geometry) []) (run_of v.vtoc) (slots_of_vtoc image v.geometry (run_of v.vtoc)))
 lawful_mounted image v is =
-    lawful_with (length image) image v.geometry (unwrap_or (label_of image v.geometry) []) v.vtoc (has_geometry (take 512 image) (length image) v.geometry is.index.header) is.vtoc is.lawful
-    (short_held v.slots.items (slots_of_vtoc image v.geometry v.vtoc) is.index.slots)
+    lawful_with (length image) image v.geometry (unwrap_or (label_of image v.geometry) []) (run_of v.vtoc) (has_geometry (take 512 image) (length image) v.geometry is.index.header) is.vtoc is.lawful
+    (short_held v.slots.items (slots_of_vtoc image v.geometry (run_of v.vtoc)) is.index.slots)

@@ -16,10 +16,9 @@ use Rattle.ckd_image.specs.Track.{Record}
 use Rattle.dscb_codec.specs.declared.Dscb.{Dscb}
 use Rattle.dscb_codec.specs.Layout.{IsDscb}
 use Rattle.hall_core.specs.Files.{patched}
-use Rattle.vol_model.specs.declared.contents.Run.{Run}
 use Rattle.pack_spec.specs.declared.addressed.VtocSlot.{VtocSlot}
 use Rattle.pack_spec.specs.Label.{are_label, heads_of, ipl1, ipl2, vol1, is_keyed, label_in, label_of, records_on, track_bytes}
-use Rattle.pack_spec.specs.Vtoc.{is_slot, slot_bytes, slots_on}
+use Rattle.pack_spec.specs.Vtoc.{Run, is_slot, slot_bytes, slots_on}
 use Rattle.pack_spec.specs.Slots.{slots_at, slots_of_vtoc}
 use Rattle.pack_spec.specs.Faults.{track_fault}
 use Rattle.pack_spec.specs.Views.{tracks_of}
@@ -30,7 +29,7 @@ use Rattle.track_records.proofs.StandLemmas.{stand}
 use Rattle.track_records.proofs.WrittenLemmas.{updated}
 use Rattle.vtoc_index.specs.declared.vol.Vol.{Vol}
 use Rattle.vtoc_index.specs.Contents.{AreDscbs, with_bytes}
-use Rattle.vtoc_index.specs.Index.{IsIndexOf, IsPut, place_of_slot, slots_in_front, track_index}
+use Rattle.vtoc_index.specs.Index.{IsIndexOf, IsPut, place_of_slot, run_of, slots_in_front, track_index}
 use Rattle.vtoc_index.specs.Puts.{HasSlot, IsHeld, IsReplaced}
 use Rattle.ckd_image.proofs.GeometryLemmas.{has_geometry}
 use Rattle.vtoc_index.proofs.HeldLemmas.{held_slot}
@@ -48,7 +47,7 @@ front_of v slot = slots_in_front v.firsts.items slot
 
 -- The record that a slot is: where it stands, and the records of its track.
 pub record Found (image : List ℕ) (v : Vol) (slot : ℕ) : Type 0 where
-  pub stands : Stands image v.geometry v.vtoc (track_index v.firsts.items slot) (front_of v slot) slot
+  pub stands : Stands image v.geometry (run_of v.vtoc) (track_index v.firsts.items slot) (front_of v slot) slot
   pub has : HasSlot image v.geometry (track_of v slot) (front_of v slot + 1)
   pub records : List Record
   pub read : records_on image v.geometry None (track_of v slot) ≡ Some records
@@ -58,7 +57,7 @@ pub record Found (image : List ℕ) (v : Vol) (slot : ℕ) : Type 0 where
 pub slot_found : (image : List ℕ) (v : Vol) (slot : ℕ) → IsIndexOf image v → slot < length v.slots.items → Found image v slot
 slot_found image v slot index low =
     let g : Geometry = v.geometry in
-    let vtoc : Run = v.vtoc in
+    let vtoc : Run = run_of v.vtoc in
     let stands = slot_stands image g vtoc v.firsts.items slot index.firsts (omega (arith, low, same_length v.slots.items (slots_of_vtoc image g vtoc) index.slots)) in
     let found = slots_found image g (track_of v slot) (front_of v slot) stands.there in
     let of = slot_records image g (track_of v slot) found.0 found.1.0 in
@@ -196,17 +195,16 @@ unfolding track_fault
 good_fault image g track found good = rw good refl
 
 -- the image whose record was written over has that slot, and is otherwise as before
-put_updated : (image put : List ℕ) (v : Vol) (slot : ℕ) (key content : List ℕ) (f : Found image v slot) → IsIndexOf image v → slot < length v.slots.items → length key ≡ 44 → length content ≡ 96 → put ≡ patched image (place_of_slot v slot) (key ++ content)
+put_updated : (image put : List ℕ) (v : Vol) (slot : ℕ) (key content : List ℕ) (f : Found image v slot) → IsIndexOf image v → length key ≡ 44 → length content ≡ 96 → put ≡ patched image (place_of_slot v slot) (key ++ content)
     → IsUpdated (buffer_of v slot f.records) (front_of v slot) key content image put → IsPut v slot (key ++ content) image put
-put_updated image put v slot key content f index low keys contents is u = record {
-  there = omega (arith, low, same_length v.slots.items (slots_of_vtoc image v.geometry v.vtoc) index.slots);
+put_updated image put v slot key content f index keys contents is u = record {
   written = is;
   size = u.size;
   header = u.header;
   label = same_label image put g (u.others 0 apart);
-  slots = vtoc_put image put g v.vtoc (key ++ content) (track_index v.firsts.items slot) (front_of v slot) slot f.stands wrote.slots (λ j other. same_slots image put g j (same_slots_on image put g j (u.others j other)));
-  tracks = same_faults image put g v.vtoc faults ∙ index.tracks;
-  firsts = same_firsts image put g v.vtoc counts;
+  slots = vtoc_put image put g (run_of v.vtoc) (key ++ content) (track_index v.firsts.items slot) (front_of v slot) slot f.stands wrote.slots (λ j other. same_slots image put g j (same_slots_on image put g j (u.others j other)));
+  tracks = same_faults image put g (run_of v.vtoc) faults ∙ index.tracks;
+  firsts = same_firsts image put g (run_of v.vtoc) counts;
   others = u.others;
 }
   where
@@ -248,7 +246,7 @@ slot_put image v slot bytes index low size =
     let contents : length content ≡ 96 = omega (arith, size, length-drop 44 bytes) in
     let joined : key ++ content ≡ bytes = take-append-drop 44 bytes in
     subst (λ (bs : List ℕ). IsPut v slot bs image (patched image (place_of_slot v slot) bs)) joined
-    (put_updated image (patched image (place_of_slot v slot) (key ++ content)) v slot key content f index low keys contents refl (slot_updated image v slot key content f index keys contents))
+    (put_updated image (patched image (place_of_slot v slot) (key ++ content)) v slot key content f index keys contents refl (slot_updated image v slot key content f index keys contents))
 
 -- The index of that image holds the slot's DSCB in its place.
 pub index_put : (image put : List ℕ) (v v' : Vol) (slot : ℕ) (d : Dscb) (bytes : List ℕ) → IsIndexOf image v → IsPut v slot bytes image put → IsDscb d bytes → IsReplaced slot d v v' → IsHeld put v'.buf → IsIndexOf put v'
@@ -261,7 +259,7 @@ index_put image put v v' slot d bytes index is dscb replaced held =
       tracks = is.tracks;
       slots =
           subst (λ (ss : List VtocSlot). AreDscbs v'.slots.items ss) (sym is.slots)
-          (subst (λ (ds : List Dscb). AreDscbs ds (with_bytes slot bytes (slots_of_vtoc image g v.vtoc))) (sym replaced.items) (dscbs_put slot d bytes v.slots.items (slots_of_vtoc image g v.vtoc) dscb index.slots));
+          (subst (λ (ds : List Dscb). AreDscbs ds (with_bytes slot bytes (slots_of_vtoc image g (run_of v.vtoc)))) (sym replaced.items) (dscbs_put slot d bytes v.slots.items (slots_of_vtoc image g (run_of v.vtoc)) dscb index.slots));
       firsts = index.firsts ∙ sym is.firsts;
       buffer = held;
     } in

@@ -112,10 +112,6 @@ so_far_all g track passed records old new high done = record {
   read = done.read;
 }
 
--- all of the records
-pub all_added : (g : Geometry) (track : ℕ) (records : List Record) (old new : List ReadSlot) → Adds g track records old new → (count : ℕ) × Adds g track (take count records) old new
-all_added g track records old new adds = (length records, subst (λ (l : List Record). Adds g track l old new) (sym (take_all (length records) records (omega arith))) adds)
-
 -- as many slots are added as there are records
 pub adds_few : (g : Geometry) (track count : ℕ) (records : List Record) (old new : List ReadSlot) → length records ≡ count → Adds g track records old new → length new ≡ length old + count
 adds_few g track count records old new many adds =

@@ -1,7 +1,6 @@
 -- The slots of the tracks of a VTOC, a track after another.
-use Rattle.std.proofs.Common.{◌≡◌, ℕ, zero, suc, ◌+◌, ◌-◌, ◌<◌, ◌≤◌, List, [], ◌∷◌, ◌++◌, length, Option, Some, None, refl, sym, ap, subst, ◌∙◌, arith, get_or, length-append}
+use Rattle.std.proofs.Common.{◌≡◌, ℕ, zero, suc, ◌+◌, ◌-◌, ◌<◌, ◌≤◌, List, [], ◌∷◌, ◌++◌, length, Option, Some, None, refl, sym, ap, subst, ◌∙◌, arith, length-append}
 use Rattle.std.specs.Prelude.{Ok, Err, option_and_then}
-use Rattle.std.proofs.Math.Seq.{get_or-append_seam}
 use Rattle.std.proofs.lemmas.List.{append-nil}
 use Rattle.std.proofs.lemmas.List.FromFn.{map-range_with_len_more}
 use Rattle.std.proofs.lemmas.List.Elements.{filter_map-append}
@@ -10,19 +9,18 @@ use Rattle.std.specs.List.{cons_option, filter_map, flat_map, range_with_len, sl
 use Rattle.ckd_image.specs.declared.header.Geometry.{Geometry}
 use Rattle.ckd_image.specs.Track.{Record}
 use Rattle.dscb_codec.specs.declared.Dscb.{Dscb}
-use Rattle.vol_model.specs.declared.contents.Run.{Run}
-use Rattle.pack_spec.specs.declared.address.Address.{Address}
 use Rattle.pack_spec.specs.declared.MountErr.TheVariants.{VtocTrack}
 use Rattle.pack_spec.specs.declared.addressed.VtocSlot.{VtocSlot}
-use Rattle.pack_spec.specs.Label.{records_on, track_of_address}
-use Rattle.pack_spec.specs.Vtoc.{slots_in, slots_on}
+use Rattle.pack_spec.specs.Label.{Address, records_on, track_of_address}
+use Rattle.pack_spec.specs.Vtoc.{Run, slots_in, slots_on}
 use Rattle.pack_spec.specs.Slots.{addressed_from, slots_at, slots_of_vtoc}
 use Rattle.pack_spec.specs.Faults.{track_fault, track_faults}
 use Rattle.pack_spec.specs.Volume.{volume_within}
 use Rattle.pack_spec.proofs.Volumes.{within-track}
 use Rattle.vtoc_index.specs.Contents.{AreDscbs, AreRead}
-use Rattle.vtoc_index.specs.Index.{AreFirsts, firsts_of, slots_before}
-use Rattle.vtoc_index.specs.Reading.{Adds, AreNumbered, AreTracksRead, IsExtent, LastTrackHas, vtoc_on}
+use Rattle.vol_model.specs.declared.contents.Run as tracks
+use Rattle.vtoc_index.specs.Index.{AreFirsts, firsts_of, run_of, slots_before}
+use Rattle.vtoc_index.specs.Reading.{Adds, AreNumbered, AreTracksRead, IsExtent, vtoc_on}
 use Rattle.vtoc_index.specs.declared.slots.ReadSlot.{ReadSlot}
 use Rattle.vtoc_index.specs.declared.tracks.ReadSlots.{ReadSlots}
 
@@ -142,14 +140,14 @@ track_refused image g start len all track at low good none =
     ∙ ap (λ o. slice_get (cons_option o (filter_map (track_fault image g) rest)) 0) (fault_is image g track none))
 
 -- the first track does
-pub first_refused : (image : List ℕ) (g : Geometry) (at : Address) (vtoc : Run) → vtoc_on image g at ≡ Ok vtoc → IsExtent g at vtoc → slots_on image g vtoc.start ≡ None → volume_within image g (vtoc_on image g at) ≡ Err (VtocTrack vtoc.start)
+pub first_refused : (image : List ℕ) (g : Geometry) (at : Address) (vtoc : tracks.Run) → vtoc_on image g at ≡ Ok (run_of vtoc) → IsExtent g at vtoc → slots_on image g vtoc.start ≡ None → volume_within image g (vtoc_on image g at) ≡ Err (VtocTrack vtoc.start)
 unfolding track_faults
 first_refused image g at vtoc is extent none =
     let begin : vtoc.start ≡ vtoc.start + 0 = omega arith in
     let low : 0 < vtoc.len = omega (arith, extent.some) in
     ap (volume_within image g) is ∙ track_refused image g vtoc.start 0 vtoc.len vtoc.start begin low refl none
 
-pub first_broken : (image : List ℕ) (g : Geometry) (at : Address) (vtoc : Run) (track : ℕ) → vtoc_on image g at ≡ Ok vtoc → IsExtent g at vtoc → track ≡ track_of_address g at → records_on image g None (track_of_address g at) ≡ None → volume_within image g (vtoc_on image g at) ≡ Err (VtocTrack track)
+pub first_broken : (image : List ℕ) (g : Geometry) (at : Address) (vtoc : tracks.Run) (track : ℕ) → vtoc_on image g at ≡ Ok (run_of vtoc) → IsExtent g at vtoc → track ≡ track_of_address g at → records_on image g None (track_of_address g at) ≡ None → volume_within image g (vtoc_on image g at) ≡ Err (VtocTrack track)
 first_broken image g at vtoc track is extent same none =
     first_refused image g at vtoc is extent (slots_none image g vtoc.start (ap (λ (t : ℕ). records_on image g None t) extent.begins ∙ none))
     ∙ ap (λ (t : ℕ). Err (VtocTrack t)) (extent.begins ∙ sym same)
@@ -179,12 +177,3 @@ numbered_more g track len more records old new before firsts few added adds = re
     subst (λ (l : List ReadSlot). AreRead l (before.read.0 ++ addressed_from g track 1 adds.bytes)) (sym adds.added) (AreRead-append old.slots.items adds.slots before.read.0 (addressed_from g track 1 adds.bytes) before.read.1 adds.read),
   );
 }
-
--- the track that was added is the last, and what was added stands on it
-pub last_of : (old new : ReadSlots) (count : ℕ) → new.firsts.items ≡ old.firsts.items ++ length old.slots.items ∷ [] → length new.slots.items ≡ length old.slots.items + count → LastTrackHas count new
-last_of old new count firsts many =
-    let front = old.firsts.items in
-    let first = length old.slots.items in
-    let at : length new.firsts.items - 1 ≡ length front = omega (arith, ap length firsts, length-append front (first ∷ [])) in
-    let number : get_or new.firsts.items (length new.firsts.items - 1) 0 ≡ first = ap (λ (i : ℕ). get_or new.firsts.items i 0) at ∙ ap (λ (l : List ℕ). get_or l (length front) 0) firsts ∙ get_or-append_seam front first [] 0 in
-    omega (arith, many, number)

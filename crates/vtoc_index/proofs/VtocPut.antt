@@ -8,9 +8,9 @@ use Rattle.std.proofs.lemmas.List.FromFn.{get_or-map-range_with_len}
 use Rattle.dscb_codec.specs.declared.Dscb.{Dscb}
 use Rattle.dscb_codec.specs.Layout.{IsDscb}
 use Rattle.ckd_image.specs.declared.header.Geometry.{Geometry}
-use Rattle.vol_model.specs.declared.contents.Run.{Run}
 use Rattle.pack_spec.specs.declared.MountErr.{MountErr}
 use Rattle.pack_spec.specs.declared.addressed.VtocSlot.{VtocSlot}
+use Rattle.pack_spec.specs.Vtoc.{Run}
 use Rattle.pack_spec.specs.Slots.{slots_at, slots_of_vtoc, tracks_in}
 use Rattle.pack_spec.specs.Faults.{track_fault, track_faults}
 use Rattle.vtoc_index.specs.Contents.{AreDscbs, with_bytes}

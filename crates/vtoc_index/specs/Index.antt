@@ -6,12 +6,12 @@ use Rattle.ckd_image.specs.declared.header.Geometry.{Geometry}
 use Rattle.ckd_image.specs.Header.{HasGeometry, geometry_of}
 use Rattle.hall_core.specs.Facts.{Attached, unit_of}
 use Rattle.hall_core.specs.Files.{patched}
-use Rattle.vol_model.specs.declared.contents.Run.{Run}
 use Rattle.pack_spec.specs.Label.{label_of, track_bytes}
-use Rattle.pack_spec.specs.Vtoc.{vtoc_of}
+use Rattle.pack_spec.specs.Vtoc.{Run, vtoc_of}
 use Rattle.pack_spec.specs.Slots.{slots_of_vtoc}
 use Rattle.pack_spec.specs.Faults.{track_faults, slots_faults}
 use Rattle.pack_spec.specs.Views.{tracks_of}
+pub use Rattle.pack_spec.specs.Views.{run_of}
 use Rattle.pack_spec.specs.Volume.{volume_of, volume_with}
 use Rattle.pack_spec.specs.declared.MountErr.{MountErr}
 use Rattle.pack_spec.specs.declared.MountErr.TheVariants.{Memory, Device}
@@ -51,17 +51,17 @@ pub record IsOfUnit (units : List Attached) (v : Vol) : Type 0 where
 pub record IsIndexOf (image : List ℕ) (v : Vol) : Type 0 where
   pub header : geometry_of (take 512 image) (length image) ≡ Ok v.geometry
   pub serial : serial_on image v.geometry ≡ Some v.serial.bytes
-  pub tracks : track_faults image v.geometry v.vtoc ≡ []
-  pub slots : AreDscbs v.slots.items (slots_of_vtoc image v.geometry v.vtoc)
-  pub firsts : v.firsts.items ≡ firsts_of image v.geometry v.vtoc
+  pub tracks : track_faults image v.geometry (run_of v.vtoc) ≡ []
+  pub slots : AreDscbs v.slots.items (slots_of_vtoc image v.geometry (run_of v.vtoc))
+  pub firsts : v.firsts.items ≡ firsts_of image v.geometry (run_of v.vtoc)
   pub buffer : (v.buf.records ≡ []) ⊎ StandsOn image v.buf
 
 -- The image stands for a volume, and this is the index of its VTOC.
 pub record IsMounted (image : List ℕ) (v : Vol) : Type 0 where
   pub index : IsIndexOf image v
-  pub vtoc : vtoc_of image v.geometry ≡ Ok v.vtoc
-  pub lawful : slots_faults v.geometry (slots_of_vtoc image v.geometry v.vtoc) ≡ []
-  pub volume : volume_of image ≡ Ok (volume_with v.geometry (unwrap_or (label_of image v.geometry) []) v.vtoc (slots_of_vtoc image v.geometry v.vtoc))
+  pub vtoc : vtoc_of image v.geometry ≡ Ok (run_of v.vtoc)
+  pub lawful : slots_faults v.geometry (slots_of_vtoc image v.geometry (run_of v.vtoc)) ≡ []
+  pub volume : volume_of image ≡ Ok (volume_with v.geometry (unwrap_or (label_of image v.geometry) []) (run_of v.vtoc) (slots_of_vtoc image v.geometry (run_of v.vtoc)))
 
 -- why there is no index: the first rule that the image breaks; want of memory and a fault of the device say nothing of it
 abbrev pub IsReason : List ℕ → MountErr → Type 0
@@ -84,12 +84,11 @@ place_of_slot v slot =
 
 -- One slot of the VTOC has these bytes, and nothing else on the image is changed.
 pub record IsPut (v : Vol) (slot : ℕ) (bytes image put : List ℕ) : Type 0 where
-  pub there : slot < length (slots_of_vtoc image v.geometry v.vtoc)
   pub written : put ≡ patched image (place_of_slot v slot) bytes
   pub size : length put ≡ length image
   pub header : take 512 put ≡ take 512 image
   pub label : label_of put v.geometry ≡ label_of image v.geometry
-  pub slots : slots_of_vtoc put v.geometry v.vtoc ≡ with_bytes slot bytes (slots_of_vtoc image v.geometry v.vtoc)
-  pub tracks : track_faults put v.geometry v.vtoc ≡ []
-  pub firsts : firsts_of put v.geometry v.vtoc ≡ firsts_of image v.geometry v.vtoc
+  pub slots : slots_of_vtoc put v.geometry (run_of v.vtoc) ≡ with_bytes slot bytes (slots_of_vtoc image v.geometry (run_of v.vtoc))
+  pub tracks : track_faults put v.geometry (run_of v.vtoc) ≡ []
+  pub firsts : firsts_of put v.geometry (run_of v.vtoc) ≡ firsts_of image v.geometry (run_of v.vtoc)
   pub others : (track : ℕ) → track ≢ v.vtoc.start + track_index v.firsts.items slot → track_bytes put v.geometry track ≡ track_bytes image v.geometry track

@@ -1,7 +1,6 @@
 pub mod Contents
 pub mod Rules
 pub mod Reading
-pub mod Given
 pub mod Index
 pub mod Puts
 pub mod Kept

@@ -1,17 +1,16 @@
 -- What the reading of a VTOC finds of it, a step at a time (System Control Blocks GC28-6628); what is promised of the whole stands in `Index`.
-use Rattle.std.specs.Prelude.{◌≡◌, ◌≢◌, ℕ, ◌+◌, ◌-◌, ◌*◌, ◌≤◌, List, [], ◌++◌, length, Option, Some, None, Result, Err, option_and_then, slice_get, slice_index_or, slice_range, unwrap_or, if◌then◌else◌}
+use Rattle.std.specs.Prelude.{◌≡◌, ◌≢◌, ℕ, ◌+◌, ◌*◌, ◌≤◌, List, [], ◌++◌, length, Option, Some, None, Result, Err, option_and_then, slice_get, slice_range, unwrap_or, if◌then◌else◌}
 use Rattle.ckd_image.specs.declared.header.Geometry.{Geometry}
 use Rattle.ckd_image.specs.Track.{Record}
-use Rattle.vol_model.specs.declared.contents.Run.{Run}
-use Rattle.pack_spec.specs.Label.{address_at, records_on, track_of_address}
-use Rattle.pack_spec.specs.Vtoc.{first_slot, is_slot, slot_bytes, slots_in, vtoc_by}
+use Rattle.pack_spec.specs.Label.{Address, address_at, records_on, track_of_address}
+use Rattle.pack_spec.specs.Vtoc.{Run, first_slot, is_slot, slot_bytes, slots_in, vtoc_by}
 use Rattle.pack_spec.specs.Slots.{addressed_from, slots_of_vtoc}
 use Rattle.pack_spec.specs.Faults.{track_faults}
-use Rattle.pack_spec.specs.Views.{tracks_of}
-use Rattle.pack_spec.specs.declared.address.Address.{Address}
+use Rattle.pack_spec.specs.Views.{address_of, tracks_of}
 use Rattle.pack_spec.specs.declared.MountErr.{MountErr}
 use Rattle.pack_spec.specs.declared.addressed.VtocSlot.{VtocSlot}
 use Rattle.pack_spec.specs.declared.MountErr.TheVariants.{Memory, Device}
+use Rattle.vol_model.specs.declared.contents.Run as tracks
 use Rattle.vtoc_index.specs.declared.label.Label.{Label}
 use Rattle.vtoc_index.specs.declared.slots.ReadSlot.{ReadSlot}
 use Rattle.vtoc_index.specs.declared.tracks.ReadSlots.{ReadSlots}
@@ -25,7 +24,7 @@ pub record Refuses {X : Type 0} (given : Result X MountErr) (e : MountErr) : Typ
 -- what a label says, whose data are these
 pub record Says (x : Label) (content : List ℕ) : Type 0 where
   pub serial : x.serial.bytes ≡ slice_range content 4 10
-  pub vtoc : x.vtoc ≡ address_at 11 content
+  pub vtoc : address_of x.vtoc ≡ address_at 11 content
 
 -- there is a label, and this is what it says
 abbrev pub IsLabel : Option (List ℕ) → Label → Type 0
@@ -45,7 +44,7 @@ unfoldable pub vtoc_on : List ℕ → Geometry → Address → Result Run MountE
 vtoc_on image g at = vtoc_by g at (option_and_then first_slot (records_on image g (Some 1) (track_of_address g at)))
 
 -- the extent has 1 to 257 tracks, begins at this address and lies in the image
-pub record IsExtent (g : Geometry) (at : Address) (vtoc : Run) : Type 0 where
+pub record IsExtent (g : Geometry) (at : Address) (vtoc : tracks.Run) : Type 0 where
   pub begins : vtoc.start ≡ track_of_address g at
   pub some : 1 ≤ vtoc.len
   pub few : vtoc.len ≤ 257
@@ -65,10 +64,6 @@ pub record AreNumbered (len : ℕ) (found : ReadSlots) : Type 0 where
   pub firsts : AreFirsts 0 found.firsts.items (length found.slots.items)
   pub few : length found.slots.items ≤ len * 255
   pub read : (given : List VtocSlot) × AreRead found.slots.items given
-
--- so many slots stand on the last track: those from its first on
-abbrev pub LastTrackHas : ℕ → ReadSlots → Type 0
-LastTrackHas count found = length found.slots.items ≡ slice_index_or found.firsts.items (length found.firsts.items - 1) 0 + count
 
 -- so many tracks from this one on: none breaks the rules, these are their slots, and these are numbered so
 pub record AreTracksRead (image : List ℕ) (g : Geometry) (start len : ℕ) (found : ReadSlots) : Type 0 where

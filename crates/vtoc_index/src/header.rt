@@ -1,13 +1,11 @@
 //! The header of a pack.
-ghost use Rattle.std.specs.Prelude.{◌≡◌, ◌⊎◌, ◌≤◌, ◌<◌, length, take, IsTrue, IfOk, IfErr, IsErrOf, Ok};
+ghost use Rattle.std.specs.Prelude.{◌≡◌, ◌<◌, length, take, IsTrue, IfOk, IfErr, IsErrOf, Ok};
 ghost use Rattle.ckd_image.specs.Header.{HasGeometry, geometry_of};
-ghost use Rattle.hall_core.specs.Facts.{CallsAtMost, unit_of};
+ghost use Rattle.hall_core.specs.Facts.{unit_of};
 ghost use Rattle.hall_core.specs.Files.{image_of};
-ghost use Rattle.hall_core.specs.Made.{MakesOnce, MakesOnly, Reading, StaysDone};
 ghost use Rattle.hall_core.specs.Moments.{Same};
 ghost use Rattle.pack_spec.specs.Volume.{volume_of};
 ghost use Rattle.vtoc_index.specs.Calls.{MountCall};
-ghost use Rattle.vtoc_index.specs.Given.{IsHeaderGiven, IsHeaderReason};
 ghost use Rattle.vtoc_index.specs.Reading.{Refuses};
 
 use ckd_image::{Geometry, HEADER_LEN, Header, ImageErr};
@@ -22,13 +20,6 @@ pub(crate) fn read_geometry<H: Hall>(hall: &mut H, unit: u8) -> Result<Geometry,
     ensures refused { IsTrue H.tells → IfErr result (Refuses (volume_of (image_of (H.meaning hall.old).state (H.facts hall.old) unit))) }
     ensures told { IsTrue H.tells → Same (H.meaning hall.old) (H.meaning hall.new) }
     ensures call { MountCall (H.facts hall.old) (H.facts hall.new) result }
-    ensures calls { CallsAtMost 1 0 0 0 (H.calls hall.old) (H.calls hall.new) }
-    ensures made { MakesOnly (λ call. (512 ≤ (unit_of (H.facts hall.old).units unit).size) × (call ≡ Reading unit 0 512)) (H.made hall.old) (H.made hall.new) }
-    ensures each { MakesOnce (H.made hall.old) (H.made hall.new) }
-    ensures kept { StaysDone (H.done hall.old) (H.done hall.new) }
-    ensures given { IfOk result (IsHeaderGiven (H.done hall.new) unit (unit_of (H.facts hall.old).units unit).size) }
-    ensures reason { IfErr result (λ e. (e ≡ MountErr.Device) ⊎ IsHeaderReason (H.done hall.new) unit (unit_of (H.facts hall.old).units unit).size e) }
-    ensures short { (unit_of (H.facts hall.old).units unit).size < 512 → CallsAtMost 0 0 0 0 (H.calls hall.old) (H.calls hall.new) }
     ensures file { IsErrOf result MountErr.NoFile → ⊥ }
 {
     let len = hall.size(unit);

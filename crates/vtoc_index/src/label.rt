@@ -1,18 +1,16 @@
 //! The volume label.
-ghost use Rattle.std.specs.Prelude.{◌≡◌, ◌⊎◌, ℕ, List, ◌<◌, ◌≤◌, ◌-◌, length, IsTrue, IfOk, OnOk, IfErr, IfSome, IsErrOf, slice_range, None};
+ghost use Rattle.std.specs.Prelude.{◌≡◌, ◌<◌, ◌≤◌, ◌-◌, length, IsTrue, IfOk, IfErr, IfSome, IsErrOf, slice_range, None};
 ghost use Rattle.std.specs.Option.{option_copied};
 ghost use Rattle.ckd_image.specs.Header.{HasGeometry};
-ghost use Rattle.hall_core.specs.Facts.{CallsAtMost, unit_of};
+ghost use Rattle.hall_core.specs.Facts.{unit_of};
 ghost use Rattle.hall_core.specs.Files.{image_of};
-ghost use Rattle.hall_core.specs.Made.{MakesOnce, MakesOnly, StaysDone};
 ghost use Rattle.hall_core.specs.Moments.{Same};
 ghost use Rattle.pack_spec.specs.Label.{address_at, are_label, is_keyed, label_in, label_of};
+ghost use Rattle.pack_spec.specs.Views.{address_of};
 ghost use Rattle.pack_spec.specs.Volume.{volume_within};
 ghost use Rattle.pack_spec.specs.Vtoc.{vtoc_of};
-ghost use Rattle.track_records.specs.Calls.{track_read};
 ghost use Rattle.vtoc_index.specs.Calls.{MountCall};
-ghost use Rattle.vtoc_index.specs.Given.{IsLabelGiven, IsLabelLacking};
-ghost use Rattle.vtoc_index.specs.Reading.{IsLabel, Refuses, Says, record_number};
+ghost use Rattle.vtoc_index.specs.Reading.{IsLabel, Refuses, record_number};
 
 use ebcdic_names::Serial;
 use hall_core::Hall;
@@ -23,7 +21,7 @@ use pack_spec::{Address, MountErr};
 use track_records::{TrackBuf, TrackErr, read_records};
 
 // The track of the label.
-pub(crate) const LABEL_TRACK: u16 = 0;
+const LABEL_TRACK: u16 = 0;
 
 // What the label says of the volume.
 #[derive(Clone, Copy)]
@@ -45,16 +43,8 @@ pub(crate) fn read_label<H: Hall>(
     ensures label { IsTrue H.tells → IfOk result (IsLabel (label_of (image_of (H.meaning hall.old).state (H.facts hall.old) unit) buf.old.geometry)) }
     ensures refused { let image = image_of (H.meaning hall.old).state (H.facts hall.old) unit in IsTrue H.tells → IfErr result (Refuses (volume_within image buf.old.geometry (vtoc_of image buf.old.geometry))) }
     ensures geometry { buf.new.geometry ≡ buf.old.geometry }
-    ensures three { OnOk result (length buf.new.records ≡ 3) }
-    ensures buffer { buf.new ≡ record buf.old { unit = unit; track = 0; records = buf.new.records } }
     ensures told { IsTrue H.tells → Same (H.meaning hall.old) (H.meaning hall.new) }
     ensures call { MountCall (H.facts hall.old) (H.facts hall.new) result }
-    ensures calls { CallsAtMost 1 0 0 0 (H.calls hall.old) (H.calls hall.new) }
-    ensures made { MakesOnly (λ call. call ≡ track_read unit buf.old.geometry 0) (H.made hall.old) (H.made hall.new) }
-    ensures each { MakesOnce (H.made hall.old) (H.made hall.new) }
-    ensures kept { StaysDone (H.done hall.old) (H.done hall.new) }
-    ensures given { IfOk result (λ label. (content : List ℕ) × IsLabelGiven (H.done hall.new) unit buf.old.geometry content × Says label content) }
-    ensures reason { IfErr result (λ e. (e ≡ MountErr.Device) ⊎ ((e ≡ MountErr.NoLabel) × IsLabelLacking (H.done hall.new) unit buf.old.geometry)) }
     ensures file { IsErrOf result MountErr.NoFile → ⊥ }
 {
     match read_records(hall, unit, LABEL_TRACK, Some(LABEL_RECORD), buf) {
@@ -67,20 +57,18 @@ pub(crate) fn read_label<H: Hall>(
 // What the label says, where the buffer holds its track up to it.
 fn label_held(buf: &TrackBuf) -> Result<Label, MountErr>
     ensures label { IfOk result (IsLabel (label_in buf.now.records)) }
-    ensures three { OnOk result (length buf.now.records ≡ 3) }
     ensures refused { IfErr result (λ e. (e ≡ MountErr.NoLabel) × (label_in buf.now.records ≡ None)) }
 {
-    match label_data_held(buf) {
-        Some(label) => Ok(fields_of_label(label)),
+    match label_data(buf) {
+        Some(label) => Ok(label_of(label)),
         None => Err(MountErr::NoLabel),
     }
 }
 
 // The data of the label, where the buffer holds the first three records of a pack.
-fn label_data_held(buf: &TrackBuf) -> Option<&[u8]>
+fn label_data(buf: &TrackBuf) -> Option<&[u8]>
     ensures exact { option_copied result ≡ label_in buf.now.records }
     ensures len { IfSome result (λ label. length label.now ≡ 80) }
-    ensures three { IfSome result (λ _. length buf.now.records ≡ 3) }
 {
     if buf.len() != usize::from(LABEL_RECORD) {
         return None;
@@ -133,10 +121,10 @@ fn data_held(buf: &TrackBuf, r: u8) -> &[u8]
 }
 
 // What these data of a label say.
-fn fields_of_label(label: &[u8]) -> Label
+fn label_of(label: &[u8]) -> Label
     requires { length label.now ≡ 80 }
     ensures serial { result.serial.bytes ≡ slice_range label.now 4 10 }
-    ensures vtoc { result.vtoc ≡ address_at 11 label.now }
+    ensures vtoc { address_of result.vtoc ≡ address_at 11 label.now }
 {
     let mut bytes = [0; 6];
     bytes.copy_from_slice(&label[SERIAL_AT..SERIAL_AT + 6]);

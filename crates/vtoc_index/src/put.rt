@@ -1,14 +1,13 @@
 //! One slot of a VTOC, written over.
-ghost use Rattle.std.specs.Prelude.{◌≡◌, ◌⊎◌, ◌<◌, ◌≤◌, ◌+◌, ◌-◌, [], length, vec_capacity, filter, nat_le, slice_index, IsOk, IsTrue, OnOk, OnErr};
-ghost use Rattle.hall_core.specs.Facts.{CallsAtMost, DeviceCall, unit_of};
+ghost use Rattle.std.specs.Prelude.{◌≡◌, ◌⊎◌, ◌<◌, ◌≤◌, ◌+◌, ◌-◌, [], length, filter, nat_le, slice_index, IsOk, IsTrue, OnOk};
+ghost use Rattle.hall_core.specs.Facts.{DeviceCall, unit_of};
 ghost use Rattle.hall_core.specs.Files.{image_of};
-ghost use Rattle.hall_core.specs.Made.{DoneSince, HasDone, MakesOnly, Noting, StaysDone};
 ghost use Rattle.hall_core.specs.Moments.{Same};
-ghost use Rattle.track_records.specs.Calls.{HasTrack, track_read};
+ghost use Rattle.track_records.specs.Calls.{HasTrack};
 ghost use Rattle.track_records.specs.Updates.{HasLengths};
 ghost use Rattle.track_records.specs.Written.{StandsOn};
 ghost use Rattle.vtoc_index.specs.Index.{AreFirsts, IsIndexOf, IsOfUnit, slots_in_front, track_index};
-ghost use Rattle.vtoc_index.specs.Puts.{AfterPut, HasSlot, HoldsDscb, HoldsPut, HoldsRecord, HoldsSlot, IsHeld, IsPutCall, IsReadUpTo, IsSeen, IsSlotWrite, IsUnread, IsWith, LacksSlot};
+ghost use Rattle.vtoc_index.specs.Puts.{AfterPut, HasSlot, IsHeld, IsWith};
 
 use crate::vol::Vol;
 use dscb_codec::{Dscb, encode};
@@ -29,9 +28,8 @@ struct Place {
 ///
 /// The write is pending until a sync is done; a stop leaves it whole or absent. `Device` comes where the
 /// track can't be read, or no slot is found there any more, with nothing written; or where the write fails,
-/// which is pending then or was not begun. Then the index keeps the old DSCB. Its buffer has the new one where
-/// the write failed; else it has nothing of the track, or the track as it was seen. It may be the index of no
-/// image any more, so no slot can be put by it. The room of the slots stays as it was.
+/// which is pending then or was not begun. Then the index keeps the old DSCB, its buffer may have the new
+/// one, and it may be the index of no image any more, so no slot can be put by it.
 ///
 /// The bytes follow System Control Blocks, GC28-6628; that one write holds them is this project's profile.
 pub fn put_slot<H: Hall>(hall: &mut H, vol: &mut Vol, slot: u32, dscb: &Dscb) -> Result<(), Device>
@@ -40,19 +38,8 @@ pub fn put_slot<H: Hall>(hall: &mut H, vol: &mut Vol, slot: u32, dscb: &Dscb) ->
     requires index { IsTrue H.tells → IsIndexOf (image_of (H.meaning hall.old).state (H.facts hall.old) vol.old.unit) vol.old }
     ensures told { IsTrue H.tells → AfterPut (unit_of (H.facts hall.old).units vol.old.unit).name vol.old slot dscb.now vol.new (image_of (H.meaning hall.old).state (H.facts hall.old) vol.old.unit) (image_of (H.meaning hall.new).state (H.facts hall.new) vol.old.unit) (H.meaning hall.old) (H.meaning hall.new) result }
     ensures index { IsWith slot dscb.now vol.old vol.new result }
-    ensures room { vec_capacity vol.new.slots ≡ vec_capacity vol.old.slots }
-    ensures held { vol.new.buf.track ≡ vol.old.vtoc.start + track_index vol.old.firsts.items slot }
     ensures unit { IsOfUnit (H.facts hall.new).units vol.new }
     ensures call { DeviceCall (H.facts hall.old) (H.facts hall.new) result }
-    ensures slot { OnOk result (HoldsDscb (slots_in_front vol.old.firsts.items slot) dscb.now vol.new.buf.records) }
-    ensures calls { CallsAtMost 1 1 0 0 (H.calls hall.old) (H.calls hall.new) }
-    ensures made { MakesOnly (IsPutCall vol.old slot dscb.now (DoneSince (H.calls hall.old).reads (H.done hall.new))) (H.made hall.old) (H.made hall.new) }
-    ensures done { let did = DoneSince (H.calls hall.old).reads (H.done hall.new) in OnOk result (HasDone (IsSlotWrite vol.old slot dscb.now did) did) }
-    ensures kept { StaysDone (H.done hall.old) (H.done hall.new) }
-    ensures buffer { HoldsPut vol.old slot dscb.now (DoneSince (H.calls hall.old).reads (H.done hall.new)) (H.made hall.old) (H.made hall.new) vol.new.buf }
-    ensures unwritten { OnErr result (¬ HasLengths vol.new.buf.records (slots_in_front vol.old.firsts.items slot) 44 96 → CallsAtMost 1 0 0 0 (H.calls hall.old) (H.calls hall.new)) }
-    ensures again { HoldsSlot vol.old slot → CallsAtMost 0 1 0 0 (H.calls hall.old) (H.calls hall.new) }
-    ensures few { ¬ HoldsSlot vol.old slot → IsReadUpTo (slots_in_front vol.old.firsts.items slot + 1) vol.new.buf.records }
 {
     let place = place_of(vol, slot);
     let bytes = encode(dscb);
@@ -100,7 +87,7 @@ fn passed(firsts: &[u32], slot: u32) -> usize
     firsts.iter().filter(|first| **first <= slot).count()
 }
 
-// Makes the buffer hold a record of its unit that is a slot; reads the track where it doesn't hold the record.
+// Makes the buffer hold a record of its unit that is a slot; reads the track where it doesn't.
 fn hold<H: Hall>(hall: &mut H, unit: u8, place: Place, buf: &mut TrackBuf) -> Result<(), Device>
     requires unit { buf.old.unit ≡ unit }
     requires track { HasTrack (H.facts hall.old).units unit buf.old.geometry place.track }
@@ -108,20 +95,11 @@ fn hold<H: Hall>(hall: &mut H, unit: u8, place: Place, buf: &mut TrackBuf) -> Re
     requires there { IsTrue H.tells → HasSlot (image_of (H.meaning hall.old).state (H.facts hall.old) unit) buf.old.geometry place.track place.number }
     requires held { IsTrue H.tells → IsHeld (image_of (H.meaning hall.old).state (H.facts hall.old) unit) buf.old }
     ensures buffer { OnOk result (buf.new ≡ record buf.old { track = place.track; records = buf.new.records }) }
-    ensures stays { (buf.new.geometry ≡ buf.old.geometry) × (buf.new.unit ≡ buf.old.unit) }
-    ensures track { buf.new.track ≡ place.track }
+    ensures kept { (buf.new.geometry ≡ buf.old.geometry) × (buf.new.unit ≡ buf.old.unit) }
     ensures lengths { OnOk result (HasLengths buf.new.records (place.number - 1) 44 96) }
-    ensures failed { OnErr result (¬ HasLengths buf.new.records (place.number - 1) 44 96) }
-    ensures few { (buf.old.track ≡ place.track → place.number ≤ length buf.old.records → ⊥) → IsReadUpTo place.number buf.new.records }
-    ensures again { buf.old.track ≡ place.track → place.number ≤ length buf.old.records → (buf.new ≡ buf.old) × CallsAtMost 0 0 0 0 (H.calls hall.old) (H.calls hall.new) }
     ensures stands { IsTrue H.tells → OnOk result (StandsOn (image_of (H.meaning hall.new).state (H.facts hall.new) unit) buf.new) }
     ensures told { IsTrue H.tells → Same (H.meaning hall.old) (H.meaning hall.new) }
     ensures call { DeviceCall (H.facts hall.old) (H.facts hall.new) result }
-    ensures calls { CallsAtMost 1 0 0 0 (H.calls hall.old) (H.calls hall.new) }
-    ensures made { MakesOnly (λ call. ((call ≡ track_read unit buf.old.geometry place.track) × (¬ HoldsRecord buf.old place.track place.number)) ⊎ ((call ≡ Noting unit place.track) × LacksSlot buf.old place.track place.number (DoneSince (H.calls hall.old).reads (H.done hall.new)))) (H.made hall.old) (H.made hall.new) }
-    ensures kept { StaysDone (H.done hall.old) (H.done hall.new) }
-    ensures seen { OnOk result (IsSeen buf.old place.track place.number (DoneSince (H.calls hall.old).reads (H.done hall.new)) buf.new) }
-    ensures lost { let did = DoneSince (H.calls hall.old).reads (H.done hall.new) in OnErr result (((¬ HoldsRecord buf.old place.track place.number) × IsUnread buf.old place.track place.number did (H.made hall.old) (H.made hall.new) × (buf.new ≡ record buf.old { track = place.track; records = [] })) ⊎ IsSeen buf.old place.track place.number did buf.new) }
 {
     fetch(hall, unit, place, buf)?;
     if !holds_slot(buf, place.number) {
@@ -140,17 +118,10 @@ fn fetch<H: Hall>(hall: &mut H, unit: u8, place: Place, buf: &mut TrackBuf) -> R
     requires there { IsTrue H.tells → HasSlot (image_of (H.meaning hall.old).state (H.facts hall.old) unit) buf.old.geometry place.track place.number }
     requires held { IsTrue H.tells → IsHeld (image_of (H.meaning hall.old).state (H.facts hall.old) unit) buf.old }
     ensures buffer { buf.new ≡ record buf.old { track = place.track; records = buf.new.records } }
-    ensures few { (buf.old.track ≡ place.track → place.number ≤ length buf.old.records → ⊥) → OnOk result (length buf.new.records ≡ place.number) }
-    ensures none { OnErr result (buf.new.records ≡ []) }
-    ensures again { buf.old.track ≡ place.track → place.number ≤ length buf.old.records → IsOk result × ((buf.new ≡ buf.old) × CallsAtMost 0 0 0 0 (H.calls hall.old) (H.calls hall.new)) }
+    ensures again { buf.old.track ≡ place.track → place.number ≤ length buf.old.records → IsOk result × (buf.new ≡ buf.old) }
     ensures stands { IsTrue H.tells → OnOk result ((place.number ≤ length buf.new.records) × StandsOn (image_of (H.meaning hall.old).state (H.facts hall.old) unit) buf.new) }
     ensures told { IsTrue H.tells → Same (H.meaning hall.old) (H.meaning hall.new) }
     ensures call { DeviceCall (H.facts hall.old) (H.facts hall.new) result }
-    ensures calls { CallsAtMost 1 0 0 0 (H.calls hall.old) (H.calls hall.new) }
-    ensures made { MakesOnly (λ call. ((call ≡ track_read unit buf.old.geometry place.track) × (¬ HoldsRecord buf.old place.track place.number)) ⊎ ((call ≡ Noting unit place.track) × LacksSlot buf.old place.track place.number (DoneSince (H.calls hall.old).reads (H.done hall.new)))) (H.made hall.old) (H.made hall.new) }
-    ensures kept { StaysDone (H.done hall.old) (H.done hall.new) }
-    ensures seen { OnOk result (IsSeen buf.old place.track place.number (DoneSince (H.calls hall.old).reads (H.done hall.new)) buf.new) }
-    ensures unread { OnErr result (IsUnread buf.old place.track place.number (DoneSince (H.calls hall.old).reads (H.done hall.new)) (H.made hall.old) (H.made hall.new)) }
 {
     if buf.track() == place.track && usize::from(place.number) <= buf.len() {
         return Ok(());

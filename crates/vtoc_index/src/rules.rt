@@ -11,8 +11,8 @@ ghost use Rattle.vtoc_index.specs.Contents.{AreDscbs, AreRead, IsContent, IsRead
 ghost use Rattle.vtoc_index.specs.Rules.{dscb_in, is_f4, is_f5_or_f0};
 
 use crate::MountErr;
-use crate::equal_names::name_fault;
-use crate::set_extents::extents_fault;
+use crate::extents::extents_fault;
+use crate::names::name_fault;
 use crate::slots::ReadSlot;
 use ckd_image::Geometry;
 use dscb_codec::{Dscb, DscbErr};
@@ -21,8 +21,8 @@ use std::alloc::{AllocError, Global};
 
 /// The DSCBs in slots that break no rule.
 ///
-/// Otherwise it is want of memory, or the first rule that is broken: first come the formats of slots 0
-/// and 1, then the rules on single slots in the order of these, then the names.
+/// Otherwise it is the first rule that is broken: first come the formats of slots 0 and 1, then the
+/// rules on single slots in the order of these, then the names.
 pub(crate) fn dscbs_in(
     alloc: Global,
     geometry: Geometry,

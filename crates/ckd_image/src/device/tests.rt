@@ -1,24 +1,4 @@
-//! The table of devices.
 use super::DiskType;
-
-#[test]
-fn knows_devices(rt: HostRuntime) {
-    let cases = [
-        (0x11, Some(DiskType::D2311), 10, 203, 3625),
-        (0x14, Some(DiskType::D2314), 20, 203, 7294),
-        (0x30, Some(DiskType::D3330), 19, 411, 13030),
-        (0x50, None, 0, 0, 0),
-    ];
-    for (type_byte, want, heads, most_cylinders, largest_record) in cases {
-        let device = DiskType::from_type_byte(type_byte);
-        assert_eq!(rt; device, want, "type {type_byte}");
-        if let Some(device) = device {
-            assert_eq!(rt; device.heads(), heads);
-            assert_eq!(rt; device.most_cylinders(), most_cylinders);
-            assert_eq!(rt; device.largest_record(), largest_record);
-        }
-    }
-}
 
 #[test]
 fn knows_tracks(rt: HostRuntime) {

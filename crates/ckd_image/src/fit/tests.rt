@@ -1,4 +1,3 @@
-//! What records cost on each device, and which fit a track.
 use super::{fits, last_record_cost, record_cost};
 use crate::device::DiskType;
 

@@ -1,4 +1,3 @@
-//! Records found on a track, to its last byte.
 use super::{RecordParts, record_at};
 
 // R3 with a key of two bytes and data of three, and two bytes behind it.

@@ -1,4 +1,3 @@
-//! Tracks that follow the grammar, and the first byte that breaks it.
 ghost use Rattle.std.specs.Prelude.{◌<◌, ◌≤◌};
 
 use super::{BadCount, track_of};

@@ -41,70 +41,36 @@ const TWICE: &[u8; 6] = b"aXcYef";
 
 const FAILED: Result<(), HallErr> = Err(HallErr::Failed);
 
-// The call that fails; what is answered; and what a stop leaves at each moment from 2 on, without and
-// with the pending write.
+// What a stop leaves at moments from 2 on, without and with the pending write, where no call fails.
+const LEFT: [(&[u8; 6], &[u8; 6]); 6] = [
+    (BEFORE, BEFORE),
+    (BEFORE, ONCE),
+    (ONCE, ONCE),
+    (ONCE, TWICE),
+    (TWICE, TWICE),
+    (TWICE, TWICE),
+];
+
+// The call that fails; what is answered; how many of the moments above are as there; and what a stop
+// leaves behind these.
 type Case = (
     u64,
     Result<(), HallErr>,
+    usize,
     &'static [(&'static [u8; 6], &'static [u8; 6])],
 );
 
-const CASES: &[Case] = &[
-    (
-        9,
-        Ok(()),
-        &[
-            (BEFORE, BEFORE),
-            (BEFORE, ONCE),
-            (ONCE, ONCE),
-            (ONCE, TWICE),
-            (TWICE, TWICE),
-            (TWICE, TWICE),
-        ],
-    ),
-    (2, FAILED, &[(BEFORE, BEFORE), (BEFORE, ONCE)]),
-    (
-        3,
-        FAILED,
-        &[(BEFORE, BEFORE), (BEFORE, ONCE), (BEFORE, ONCE)],
-    ),
-    (
-        4,
-        FAILED,
-        &[
-            (BEFORE, BEFORE),
-            (BEFORE, ONCE),
-            (ONCE, ONCE),
-            (ONCE, TWICE),
-        ],
-    ),
-    (
-        5,
-        FAILED,
-        &[
-            (BEFORE, BEFORE),
-            (BEFORE, ONCE),
-            (ONCE, ONCE),
-            (ONCE, TWICE),
-            (ONCE, TWICE),
-        ],
-    ),
-    (
-        6,
-        FAILED,
-        &[
-            (BEFORE, BEFORE),
-            (BEFORE, ONCE),
-            (ONCE, ONCE),
-            (ONCE, TWICE),
-            (TWICE, TWICE),
-            (TWICE, TWICE),
-        ],
-    ),
+const CASES: [Case; 6] = [
+    (9, Ok(()), 6, &[]),
+    (2, FAILED, 2, &[]),
+    (3, FAILED, 2, &[(BEFORE, ONCE)]),
+    (4, FAILED, 4, &[]),
+    (5, FAILED, 4, &[(ONCE, TWICE)]),
+    (6, FAILED, 6, &[]),
 ];
 
-// A stop at this moment leaves this image and these lines.
-fn expect_stop(
+// Whether a stop at this moment leaves this image and these lines.
+fn stop_leaves(
     rt: &impl Abort,
     hall: &MemHall,
     (moment, keep): (u64, bool),
@@ -122,28 +88,21 @@ fn expect_stop(
     Ok(())
 }
 
-// The five calls answer what the case says, and stops leave what it says.
-fn expect_case(rt: &impl Abort, alloc: Global, case: &Case) -> Result<(), Fail> {
-    let (fails, answer, stops) = case;
-    let mut hall = hall_that_fails(alloc, &[*fails])?;
-    assert_eq!(rt; change(&mut hall), *answer, "call {fails} fails");
-    for (place, (without, with)) in stops.iter().enumerate() {
-        let moment = (place as u64).saturating_add(2);
-        let line = if moment == 7 && answer.is_ok() {
-            "LINE\n"
-        } else {
-            ""
-        };
-        expect_stop(rt, &hall, (moment, false), without, line)?;
-        expect_stop(rt, &hall, (moment, true), with, line)?;
-    }
-    Ok(())
-}
-
 #[test]
 fn stops_leave_the_writes_in_order(rt: HostRuntime) -> Result<(), Fail> {
-    for case in CASES {
-        expect_case(&rt, rt.alloc(), case)?;
+    for (fails, answer, same, behind) in CASES {
+        let mut hall = hall_that_fails(rt.alloc(), &[fails])?;
+        assert_eq!(rt; change(&mut hall), answer, "call {fails} fails");
+        let left = LEFT.iter().take(same).chain(behind);
+        for (moment, (without, with)) in (2..).zip(left) {
+            let line = if moment == 7 && answer.is_ok() {
+                "LINE\n"
+            } else {
+                ""
+            };
+            stop_leaves(&rt, &hall, (moment, false), without, line)?;
+            stop_leaves(&rt, &hall, (moment, true), with, line)?;
+        }
     }
     Ok(())
 }

@@ -5,9 +5,9 @@
 pub enum Call {
     /// A file was to be attached.
     Attach,
-    /// Bytes of a unit, whose number counts from 0, were to be read, from the offset `at` on, in bytes.
+    /// Bytes of a unit were to be read, from the offset `at` on, in bytes.
     Read { unit: u8, at: u64 },
-    /// Bytes were to be written over those of a unit, whose number counts from 0, from the offset `at` on, in bytes.
+    /// Bytes were to be written over those of a unit, from the offset `at` on, in bytes.
     Write { unit: u8, at: u64 },
     /// The writes were to be made durable.
     Sync,
@@ -15,7 +15,8 @@ pub enum Call {
     Print,
 }
 
-/// What a call did: a write, done or failed; a sync; a print; or nothing that stays.
+/// What a call did: a write, done or failed; a sync; a print, of which a stop leaves a prefix where it
+/// can be cut, and else all or nothing; or nothing that stays.
 ///
 /// The bytes are `len` of those written, or printed, from `start` on.
 #[derive(Clone, Copy, Debug)]
@@ -31,6 +32,7 @@ pub enum Step {
     Print {
         start: usize,
         len: usize,
+        is_cut: bool,
     },
     Pass,
 }

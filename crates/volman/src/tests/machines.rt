@@ -6,13 +6,13 @@ ghost use Rattle.vol_model.specs.Shelf.{number_of};
 use super::packs::Slot;
 use super::work_pack::{CATALOGED, CATALOGED_NAMES, PLAIN, PLAIN_NAMES, assert_names, work_pack};
 use super::{AMPLE, hall_with};
+use crate::machine::PackMachine;
 use crate::mount::mount;
+use crate::statement::run_rename;
 use ebcdic_names::Serial;
 use hall_core::{Hall, MemHall};
-use job_runner::run_rename;
 use map_machine::{MapMachine, is_lawful};
 use pack_spec::volume;
-use shelf_machine::PackMachine;
 use std::alloc::Global;
 use std::process::Abort;
 use std::test::Fail;
@@ -89,78 +89,78 @@ type Case = (
 const CASES: &[Case] = &[
     (
         PLAIN,
-        &[(" RENAME DSNAME=P.Q,VOL=2311=PACK01,NEWNAME=P.S", 0)],
-        "00001 RENAME P.Q OK\n",
-        "P.R\nP.S\nZ9\n",
+        &[(" RENAME DSNAME=A.B,VOL=2311=WORK01,NEWNAME=A.D", 0)],
+        "00001 RENAME A.B OK\n",
+        "A.C\nA.D\nZ9\n",
     ),
     // The new name again, the name that is left, the old name again, and a set on another track.
     (
         CATALOGED,
         &[
-            (" RENAME DSNAME=P.Q,VOL=2311=PACK01,NEWNAME=P.S", 0),
-            (" RENAME DSNAME=P.S,VOL=2311=PACK01,NEWNAME=Z", 0),
+            (" RENAME DSNAME=A.B,VOL=2311=WORK01,NEWNAME=A.D", 0),
+            (" RENAME DSNAME=A.D,VOL=2311=WORK01,NEWNAME=Z", 0),
         ],
-        "00001 RENAME P.Q OK\n00001 RENAME P.S OK\n",
-        "P.R\nSYSCTLG\nZ\nZ9\n",
+        "00001 RENAME A.B OK\n00001 RENAME A.D OK\n",
+        "A.C\nSYSCTLG\nZ\nZ9\n",
     ),
     (
         CATALOGED,
         &[
-            (" RENAME DSNAME=P.Q,VOL=2311=PACK01,NEWNAME=P.S", 0),
-            (" RENAME DSNAME=P.R,VOL=2311=PACK01,NEWNAME=P.Q", 0),
+            (" RENAME DSNAME=A.B,VOL=2311=WORK01,NEWNAME=A.D", 0),
+            (" RENAME DSNAME=A.C,VOL=2311=WORK01,NEWNAME=A.B", 0),
         ],
-        "00001 RENAME P.Q OK\n00001 RENAME P.R OK\n",
-        "P.Q\nP.S\nSYSCTLG\nZ9\n",
+        "00001 RENAME A.B OK\n00001 RENAME A.C OK\n",
+        "A.B\nA.D\nSYSCTLG\nZ9\n",
     ),
     (
         CATALOGED,
         &[
-            (" RENAME DSNAME=P.Q,VOL=2311=PACK01,NEWNAME=ZZ", 0),
-            (" RENAME DSNAME=ZZ,VOL=2311=PACK01,NEWNAME=P.Q", 0),
+            (" RENAME DSNAME=A.B,VOL=2311=WORK01,NEWNAME=ZZ", 0),
+            (" RENAME DSNAME=ZZ,VOL=2311=WORK01,NEWNAME=A.B", 0),
         ],
-        "00001 RENAME P.Q OK\n00001 RENAME ZZ OK\n",
+        "00001 RENAME A.B OK\n00001 RENAME ZZ OK\n",
         CATALOGED_NAMES,
     ),
     (
         PLAIN,
         &[
-            (" RENAME DSNAME=Z9,VOL=2311=PACK01,NEWNAME=P", 0),
-            (" RENAME DSNAME=P.Q,VOL=2311=PACK01,NEWNAME=Z9", 0),
+            (" RENAME DSNAME=Z9,VOL=2311=WORK01,NEWNAME=A", 0),
+            (" RENAME DSNAME=A.B,VOL=2311=WORK01,NEWNAME=Z9", 0),
         ],
-        "00001 RENAME Z9 OK\n00001 RENAME P.Q OK\n",
-        "P\nP.R\nZ9\n",
+        "00001 RENAME Z9 OK\n00001 RENAME A.B OK\n",
+        "A\nA.C\nZ9\n",
     ),
     // Each refusal.
     (
         PLAIN,
         &[
-            (" RENAME DSNAME=P.Q,VOL=2311=PACK02,NEWNAME=P.S", 8),
-            (" RENAME DSNAME=P.X,VOL=2311=PACK02,NEWNAME=P.R", 8),
+            (" RENAME DSNAME=A.B,VOL=2311=WORK02,NEWNAME=A.D", 8),
+            (" RENAME DSNAME=A.X,VOL=2311=WORK02,NEWNAME=A.C", 8),
         ],
-        "00001 RENAME P.Q NO-VOLUME\n00001 RENAME P.X NO-VOLUME\n",
+        "00001 RENAME A.B NO-VOLUME\n00001 RENAME A.X NO-VOLUME\n",
         PLAIN_NAMES,
     ),
     (
         PLAIN,
         &[
-            (" RENAME DSNAME=P.X,VOL=2311=PACK01,NEWNAME=P.S", 8),
-            (" RENAME DSNAME=SYSCTLG,VOL=2311=PACK01,NEWNAME=P.R", 8),
+            (" RENAME DSNAME=A.X,VOL=2311=WORK01,NEWNAME=A.D", 8),
+            (" RENAME DSNAME=SYSCTLG,VOL=2311=WORK01,NEWNAME=A.C", 8),
         ],
-        "00001 RENAME P.X NO-SET\n00001 RENAME SYSCTLG NO-SET\n",
+        "00001 RENAME A.X NO-SET\n00001 RENAME SYSCTLG NO-SET\n",
         PLAIN_NAMES,
     ),
     (
         CATALOGED,
         &[
-            (" RENAME DSNAME=P.Q,VOL=2311=PACK01,NEWNAME=P.R", 8),
-            (" RENAME DSNAME=P.Q,VOL=2311=PACK01,NEWNAME=SYSCTLG", 8),
+            (" RENAME DSNAME=A.B,VOL=2311=WORK01,NEWNAME=A.C", 8),
+            (" RENAME DSNAME=A.B,VOL=2311=WORK01,NEWNAME=SYSCTLG", 8),
         ],
-        "00001 RENAME P.Q SET-EXISTS\n00001 RENAME P.Q SET-EXISTS\n",
+        "00001 RENAME A.B SET-EXISTS\n00001 RENAME A.B SET-EXISTS\n",
         CATALOGED_NAMES,
     ),
     (
         CATALOGED,
-        &[(" RENAME DSNAME=SYSCTLG,VOL=2311=PACK01,NEWNAME=P.S", 8)],
+        &[(" RENAME DSNAME=SYSCTLG,VOL=2311=WORK01,NEWNAME=A.D", 8)],
         "00001 RENAME SYSCTLG WRONG-KIND\n",
         CATALOGED_NAMES,
     ),
@@ -168,13 +168,13 @@ const CASES: &[Case] = &[
     (
         PLAIN,
         &[
-            (" RENAME DSNAME=P.Q,VOL=2311=PACK01,NEWNAME=SYSCTLG", 8),
-            (" RENAME DSNAME=P.Q,VOL=2311=PACK01,NEWNAME=P.S", 0),
-            (" RENAME DSNAME=P.Q,VOL=2311=PACK01,NEWNAME=P.S", 8),
-            (" RENAME DSNAME=P.R,VOL=2311=PACK01,NEWNAME=P.S", 8),
+            (" RENAME DSNAME=A.B,VOL=2311=WORK01,NEWNAME=SYSCTLG", 8),
+            (" RENAME DSNAME=A.B,VOL=2311=WORK01,NEWNAME=A.D", 0),
+            (" RENAME DSNAME=A.B,VOL=2311=WORK01,NEWNAME=A.D", 8),
+            (" RENAME DSNAME=A.C,VOL=2311=WORK01,NEWNAME=A.D", 8),
         ],
-        "00001 RENAME P.Q WRONG-KIND\n00001 RENAME P.Q OK\n00001 RENAME P.Q NO-SET\n00001 RENAME P.R SET-EXISTS\n",
-        "P.R\nP.S\nZ9\n",
+        "00001 RENAME A.B WRONG-KIND\n00001 RENAME A.B OK\n00001 RENAME A.B NO-SET\n00001 RENAME A.C SET-EXISTS\n",
+        "A.C\nA.D\nZ9\n",
     ),
 ];
 

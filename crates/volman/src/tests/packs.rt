@@ -1,34 +1,13 @@
-//! Packs whose VTOC begins on cylinder 0, head 9, most of them of two cylinders of a 2311.
-ghost use Rattle.std.specs.Prelude.{◌≡◌, ◌≤◌};
-
-use ckd_image::{DiskType, Geometry, Header};
-use dscb_codec::{Dscb, F1, F3, F4, F5, encode};
-use ebcdic_names::Serial;
-use pack_spec::{Address, label_track, layout, record_address, slots_track};
+//! Packs of two cylinders of a 2311 whose VTOC begins on cylinder 0, head 9.
+use super::image::{Track, header};
 use std::alloc::{AllocError, Global};
 
-// A pack of a 2311 with so many cylinders.
-fn pack_of_2311(cylinders: u16) -> Geometry
-    ensures { result.track_size ≡ 4096 }
-{
-    Geometry {
-        device: DiskType::D2311,
-        cylinders,
-        track_size: 4096,
-    }
-}
+// The tracks of two cylinders, ten a cylinder, and the first of the VTOC.
+const TRACKS: u8 = 20;
 
-// The first track of the VTOC.
-const VTOC_BEGIN: u16 = 9;
+const HEADS: u8 = 10;
 
-// The most slots that are put on a track.
-const MOST_SLOTS: usize = 16;
-
-// An extent of track 8 alone.
-const EXTENT: layout::Extent = [1, 0, 0, 0, 0, 8, 0, 0, 0, 8];
-
-// A serial of blanks.
-const BLANKS: Serial = Serial { bytes: [0x40; 6] };
+const VTOC_BEGIN: u8 = 9;
 
 /// A slot behind slot 0 of a VTOC.
 #[derive(Clone, Copy)]
@@ -44,24 +23,31 @@ pub(crate) enum Slot {
 }
 
 impl Slot {
-    // Its DSCB.
-    fn dscb(self) -> Dscb {
+    // The key.
+    fn key(self) -> [u8; 44] {
         match self {
-            Slot::F0 => Dscb::F0,
-            Slot::F1(name) => Dscb::F1(F1 {
-                name: padded(name),
-                ..F1::default()
-            }),
-            Slot::F3 => Dscb::F3(F3 {
-                id: 0x0303_0303,
-                front: [EXTENT; 4],
-                back: [EXTENT; 9],
-                ..F3::default()
-            }),
-            Slot::F5 => Dscb::F5(F5 {
-                id: 0x0505_0505,
-                ..F5::default()
-            }),
+            Slot::F0 => [0; 44],
+            Slot::F1(name) => padded(name),
+            Slot::F3 => {
+                let mut key = [3; 44];
+                write_extents(&mut key[4..]);
+                key
+            }
+            Slot::F5 => [5; 44],
+        }
+    }
+
+    // The data.
+    fn content(self) -> [u8; 96] {
+        match self {
+            Slot::F0 => content(0),
+            Slot::F1(_) => content(0xF1),
+            Slot::F3 => {
+                let mut bytes = content(0xF3);
+                write_extents(&mut bytes[1..91]);
+                bytes
+            }
+            Slot::F5 => content(0xF5),
         }
     }
 }
@@ -75,84 +61,76 @@ pub(crate) fn padded(name: &[u8]) -> [u8; 44] {
     bytes
 }
 
-// Slot 0: the extent of the VTOC ends with the track of this address.
-fn vtoc_slot(last: Address) -> Dscb {
-    let [cc_high, cc_low] = last.cylinder.to_be_bytes();
-    let [hh_high, hh_low] = last.head.to_be_bytes();
-    Dscb::F4(F4 {
-        id: [4; 44],
-        vtoc: [1, 0, 0, 0, 0, 9, cc_high, cc_low, hh_high, hh_low],
-        ..F4::default()
-    })
+// Fills bytes with extents of track 8 alone.
+fn write_extents(bytes: &mut [u8]) {
+    for (to, from) in bytes
+        .iter_mut()
+        .zip([1, 0, 0, 0, 0, 8, 0, 0, 0, 8].iter().cycle())
+    {
+        *to = *from;
+    }
 }
 
-// The address of a track.
-fn address_of(geometry: &Geometry, track: u16) -> Address {
-    Address::read(&record_address(*geometry, track, 1), 0)
+// The 96 bytes of data of a slot of this format.
+fn content(format: u8) -> [u8; 96] {
+    let mut bytes = [0; 96];
+    bytes[0] = format;
+    bytes
 }
 
-// The slots on the track of this number.
-fn slots_of(
-    alloc: Global,
-    number: u16,
-    last: Address,
-    vtoc: &[&[Slot]],
-) -> Result<Vec<layout::Slot>, AllocError> {
-    let mut slots = Vec::new(alloc);
+// That of slot 0: the extent of the VTOC ends with this track.
+fn vtoc_content(last: u16) -> [u8; 96] {
+    let mut bytes = content(0xF4);
+    let (cylinder, head) = ((last / 10 % 256) as u8, (last % 10) as u8);
+    bytes[61..71].copy_from_slice(&[1, 0, 0, 0, 0, VTOC_BEGIN, 0, cylinder, 0, head]);
+    bytes
+}
+
+// The volume label, behind the records of the initial program.
+fn write_label(track: &mut Track) -> Result<(), AllocError> {
+    let mut label = [0x40; 80];
+    label[..4].copy_from_slice(&[0xE5, 0xD6, 0xD3, 0xF1]);
+    label[11..16].copy_from_slice(&[0, 0, 0, VTOC_BEGIN, 1]);
+    track.write(&[0xC9, 0xD7, 0xD3, 0xF1], &[0; 24])?;
+    track.write(&[0xC9, 0xD7, 0xD3, 0xF2], &[0; 144])?;
+    track.write(&[0xE5, 0xD6, 0xD3, 0xF1], &label)
+}
+
+// These slots.
+fn write_slots(track: &mut Track, slots: &[Slot]) -> Result<(), AllocError> {
+    for slot in slots {
+        track.write(&slot.key(), &slot.content())?;
+    }
+    Ok(())
+}
+
+// What stands on the track of this number.
+fn write_track(track: &mut Track, number: u8, vtoc: &[&[Slot]]) -> Result<(), AllocError> {
+    if number == 0 {
+        return write_label(track);
+    }
     let Some(index) = number.checked_sub(VTOC_BEGIN) else {
-        return Ok(slots);
+        return Ok(());
     };
     if index == 0 {
-        slots.push(encode(&vtoc_slot(last)))?;
+        let last = u16::from(VTOC_BEGIN) - 1 + (vtoc.len() % 12) as u16;
+        track.write(&[4; 44], &vtoc_content(last))?;
     }
-    for slot in vtoc.get(usize::from(index)).copied().unwrap_or_default() {
-        slots.push(encode(&slot.dscb()))?;
+    match vtoc.get(usize::from(index)) {
+        Some(slots) => write_slots(track, slots),
+        None => Ok(()),
     }
-    Ok(slots)
-}
-
-/// A pack of this geometry and serial, whose VTOC has so many tracks, with these slots behind slot 0 on the first
-/// of them.
-pub(crate) fn pack_on(
-    alloc: Global,
-    geometry: &Geometry,
-    serial: &Serial,
-    tracks: u16,
-    vtoc: &[&[Slot]],
-) -> Result<Vec<u8>, AllocError>
-    requires { 4096 ≤ geometry.now.track_size }
-{
-    let heads = geometry.device.heads();
-    let size = geometry.track_size as usize;
-    let first = address_of(geometry, VTOC_BEGIN);
-    let last = address_of(
-        geometry,
-        VTOC_BEGIN.saturating_add(tracks).saturating_sub(1),
-    );
-    let label = label_track(alloc, serial, first, size)?;
-    let mut image = Header::write(geometry).to_vec(alloc)?;
-    image.extend_from_slice(&label)?;
-    for number in 1..geometry.cylinders.saturating_mul(heads) {
-        let slots = slots_of(alloc, number, last, vtoc)?;
-        let slots = &slots[..slots.len().min(MOST_SLOTS)];
-        image.extend_from_slice(&slots_track(alloc, address_of(geometry, number), slots, size)?)?;
-    }
-    Ok(image)
 }
 
 /// A pack, 82,432 bytes, with these slots behind slot 0, on 1 to 11 tracks of the VTOC.
 pub(crate) fn pack(alloc: Global, vtoc: &[&[Slot]]) -> Result<Vec<u8>, AllocError> {
-    pack_named(alloc, &BLANKS, vtoc)
-}
-
-/// The same pack with this serial.
-pub(crate) fn pack_named(
-    alloc: Global,
-    serial: &Serial,
-    vtoc: &[&[Slot]],
-) -> Result<Vec<u8>, AllocError> {
-    let tracks = (vtoc.len() % 12) as u16;
-    pack_on(alloc, &pack_of_2311(2), serial, tracks, vtoc)
+    let mut image = header(alloc)?;
+    for number in 0..TRACKS {
+        let mut track = Track::new(alloc, number / HEADS, number % HEADS)?;
+        write_track(&mut track, number, vtoc)?;
+        track.end(&mut image)?;
+    }
+    Ok(image)
 }
 
 /// A1 in EBCDIC.
@@ -237,5 +215,19 @@ pub(crate) fn small_pack(alloc: Global, patches: &[Patch]) -> Result<Vec<u8>, Al
 
 /// A pack of 28 cylinders whose VTOC has so many tracks, at most 271, and slot 0 alone.
 pub(crate) fn long_vtoc(alloc: Global, tracks: u16) -> Result<Vec<u8>, AllocError> {
-    pack_on(alloc, &pack_of_2311(28), &BLANKS, tracks, &[])
+    let mut image = header(alloc)?;
+    let last = u16::from(VTOC_BEGIN) + tracks % 272;
+    let last = last.saturating_sub(1);
+    for number in 0..280u16 {
+        let (cylinder, head) = ((number / 10) as u8, (number % 10) as u8);
+        let mut track = Track::new(alloc, cylinder, head)?;
+        if number == 0 {
+            write_label(&mut track)?;
+        }
+        if number == u16::from(VTOC_BEGIN) {
+            track.write(&[4; 44], &vtoc_content(last))?;
+        }
+        track.end(&mut image)?;
+    }
+    Ok(image)
 }

@@ -1,21 +1,21 @@
 //! Runs of a deck, through the top call.
 use super::broken::headed;
-use super::packs::{Patch, Slot, long_vtoc, pack_on, padded, small_pack};
+use super::image::{Track, header};
+use super::packs::{A_B, Patch, Slot, long_vtoc, pack, padded, small_pack};
 use super::work_pack::{
-    CATALOGED, CATALOGED_NAMES, DeckRun, P_Q, PACK01, PLAIN, PLAIN_NAMES, REFUSED, RUN, RUNS,
-    assert_names, put, run, work_pack,
+    CATALOGED, CATALOGED_NAMES, DeckRun, PLAIN, PLAIN_NAMES, REFUSED, RUN, RUNS, assert_names, put,
+    run, work_pack,
 };
 use super::{AMPLE, assert_words_refused, hall_with};
-use ckd_image::{DiskType, Geometry};
 use hall_core::Call;
 use std::alloc::{AllocError, Global};
 use std::process::Abort;
 use std::test::Fail;
 
-// P.S and other new names in EBCDIC, the third of 37 characters.
-const P_S: &[u8] = &[0xD7, 0x4B, 0xE2];
+// A.D and other new names in EBCDIC, the third of 37 characters.
+const A_D: &[u8] = &[0xC1, 0x4B, 0xC4];
 
-const P9: &[u8] = &[0xD7, 0xF9];
+const A9: &[u8] = &[0xC1, 0xF9];
 
 const LONG: &[u8] = &[
     0xC1, 0xC2, 0xC3, 0xC4, 0xC5, 0xC6, 0xC7, 0xC8, 0x4B, 0xC1, 0xC2, 0xC3, 0xC4, 0xC5, 0xC6, 0xC7,
@@ -40,51 +40,51 @@ type Good = (
 const GOOD: &[Good] = &[
     (
         CATALOGED,
-        " RENAME DSNAME=P.Q,VOL=2311=PACK01,NEWNAME=P.S\n",
-        "00001 RENAME P.Q OK\n",
+        " RENAME DSNAME=A.B,VOL=2311=WORK01,NEWNAME=A.D\n",
+        "00001 RENAME A.B OK\n",
         37701,
-        P_S,
-        "P.R\nP.S\nSYSCTLG\nZ9\n",
+        A_D,
+        "A.C\nA.D\nSYSCTLG\nZ9\n",
     ),
     (
         CATALOGED,
-        " RENAME DSNAME=Z9,VOL=2314=PACK01,NEWNAME=P9\r\n",
+        " RENAME DSNAME=Z9,VOL=2314=WORK01,NEWNAME=A9\r\n",
         "00001 RENAME Z9 OK\n",
         41797,
-        P9,
-        "P.Q\nP.R\nP9\nSYSCTLG\n",
+        A9,
+        "A.B\nA.C\nA9\nSYSCTLG\n",
     ),
     (
         CATALOGED,
-        " RENAME DSNAME=P.R,VOL=3330=PACK01,NEWNAME=ABCDEFGH.ABCDEFGH.ABCDEFGH.ABCDEFGH.X",
-        "00001 RENAME P.R OK\n",
+        " RENAME DSNAME=A.C,VOL=3330=WORK01,NEWNAME=ABCDEFGH.ABCDEFGH.ABCDEFGH.ABCDEFGH.X",
+        "00001 RENAME A.C OK\n",
         37849,
         LONG,
-        "ABCDEFGH.ABCDEFGH.ABCDEFGH.ABCDEFGH.X\nP.Q\nSYSCTLG\nZ9\n",
+        "A.B\nABCDEFGH.ABCDEFGH.ABCDEFGH.ABCDEFGH.X\nSYSCTLG\nZ9\n",
     ),
     (
         PLAIN,
-        " RENAME DSNAME=P.R,VOL=2311=PACK01,NEWNAME=$#@-1     \n",
-        "00001 RENAME P.R OK\n",
+        " RENAME DSNAME=A.C,VOL=2311=WORK01,NEWNAME=$#@-1     \n",
+        "00001 RENAME A.C OK\n",
         37849,
         OTHERS,
-        "$#@-1\nP.Q\nZ9\n",
+        "$#@-1\nA.B\nZ9\n",
     ),
     (
         PLAIN,
-        " RENAME DSNAME=P.Q,VOL=2314=PACK01,NEWNAME=P.S\n",
-        "00001 RENAME P.Q OK\n",
+        " RENAME DSNAME=A.B,VOL=2314=WORK01,NEWNAME=A.D\n",
+        "00001 RENAME A.B OK\n",
         37701,
-        P_S,
-        "P.R\nP.S\nZ9\n",
+        A_D,
+        "A.C\nA.D\nZ9\n",
     ),
     (
         PLAIN,
-        " RENAME DSNAME=Z9,VOL=3330=PACK01,NEWNAME=P.S\n",
+        " RENAME DSNAME=Z9,VOL=3330=WORK01,NEWNAME=A.D\n",
         "00001 RENAME Z9 OK\n",
         41797,
-        P_S,
-        "P.Q\nP.R\nP.S\n",
+        A_D,
+        "A.B\nA.C\nA.D\n",
     ),
 ];
 
@@ -122,112 +122,112 @@ const REFUSALS: &[Refused] = &[
     (
         PLAIN,
         PLAIN_NAMES,
-        " RENAME DSNAME=P.Q,VOL=2314=PACK02,NEWNAME=P.S\n",
-        "00001 RENAME P.Q NO-VOLUME\n",
+        " RENAME DSNAME=A.B,VOL=2314=WORK02,NEWNAME=A.D\n",
+        "00001 RENAME A.B NO-VOLUME\n",
     ),
     (
         PLAIN,
         PLAIN_NAMES,
-        " RENAME DSNAME=P.Q,VOL=2314=PACK0,NEWNAME=P.S\n",
-        "00001 RENAME P.Q NO-VOLUME\n",
+        " RENAME DSNAME=A.B,VOL=2314=WORK0,NEWNAME=A.D\n",
+        "00001 RENAME A.B NO-VOLUME\n",
     ),
     (
         PLAIN,
         PLAIN_NAMES,
-        " RENAME DSNAME=P.X,VOL=2314=PACK01,NEWNAME=P.S\n",
-        "00001 RENAME P.X NO-SET\n",
+        " RENAME DSNAME=A.X,VOL=2314=WORK01,NEWNAME=A.D\n",
+        "00001 RENAME A.X NO-SET\n",
     ),
     (
         PLAIN,
         PLAIN_NAMES,
-        " RENAME DSNAME=P,VOL=2314=PACK01,NEWNAME=P.S\n",
-        "00001 RENAME P NO-SET\n",
+        " RENAME DSNAME=A,VOL=2314=WORK01,NEWNAME=A.D\n",
+        "00001 RENAME A NO-SET\n",
     ),
     (
         PLAIN,
         PLAIN_NAMES,
-        " RENAME DSNAME=P.Q,VOL=2314=PACK01,NEWNAME=P.R\n",
-        "00001 RENAME P.Q SET-EXISTS\n",
+        " RENAME DSNAME=A.B,VOL=2314=WORK01,NEWNAME=A.C\n",
+        "00001 RENAME A.B SET-EXISTS\n",
     ),
     (
         PLAIN,
         PLAIN_NAMES,
-        " RENAME DSNAME=P.Q,VOL=2314=PACK01,NEWNAME=P.Q\n",
-        "00001 RENAME P.Q SET-EXISTS\n",
+        " RENAME DSNAME=A.B,VOL=2314=WORK01,NEWNAME=A.B\n",
+        "00001 RENAME A.B SET-EXISTS\n",
     ),
     (
         CATALOGED,
         CATALOGED_NAMES,
-        " RENAME DSNAME=SYSCTLG,VOL=2314=PACK01,NEWNAME=P.S\n",
+        " RENAME DSNAME=SYSCTLG,VOL=2314=WORK01,NEWNAME=A.D\n",
         "00001 RENAME SYSCTLG WRONG-KIND\n",
     ),
     (
         PLAIN,
         PLAIN_NAMES,
-        " RENAME DSNAME=P.Q,VOL=2314=PACK01,NEWNAME=SYSCTLG\n",
-        "00001 RENAME P.Q WRONG-KIND\n",
+        " RENAME DSNAME=A.B,VOL=2314=WORK01,NEWNAME=SYSCTLG\n",
+        "00001 RENAME A.B WRONG-KIND\n",
     ),
     // No volume, and another reason.
     (
         PLAIN,
         PLAIN_NAMES,
-        " RENAME DSNAME=P.X,VOL=2314=PACK02,NEWNAME=P.S\n",
-        "00001 RENAME P.X NO-VOLUME\n",
+        " RENAME DSNAME=A.X,VOL=2314=WORK02,NEWNAME=A.D\n",
+        "00001 RENAME A.X NO-VOLUME\n",
     ),
     (
         PLAIN,
         PLAIN_NAMES,
-        " RENAME DSNAME=P.Q,VOL=2314=PACK02,NEWNAME=P.R\n",
-        "00001 RENAME P.Q NO-VOLUME\n",
+        " RENAME DSNAME=A.B,VOL=2314=WORK02,NEWNAME=A.C\n",
+        "00001 RENAME A.B NO-VOLUME\n",
     ),
     (
         CATALOGED,
         CATALOGED_NAMES,
-        " RENAME DSNAME=SYSCTLG,VOL=2314=PACK02,NEWNAME=P.S\n",
+        " RENAME DSNAME=SYSCTLG,VOL=2314=WORK02,NEWNAME=A.D\n",
         "00001 RENAME SYSCTLG NO-VOLUME\n",
     ),
     // No set, and another reason.
     (
         PLAIN,
         PLAIN_NAMES,
-        " RENAME DSNAME=P.X,VOL=2314=PACK01,NEWNAME=P.R\n",
-        "00001 RENAME P.X NO-SET\n",
+        " RENAME DSNAME=A.X,VOL=2314=WORK01,NEWNAME=A.C\n",
+        "00001 RENAME A.X NO-SET\n",
     ),
     (
         PLAIN,
         PLAIN_NAMES,
-        " RENAME DSNAME=P.X,VOL=2314=PACK01,NEWNAME=SYSCTLG\n",
-        "00001 RENAME P.X NO-SET\n",
+        " RENAME DSNAME=A.X,VOL=2314=WORK01,NEWNAME=SYSCTLG\n",
+        "00001 RENAME A.X NO-SET\n",
     ),
     (
         PLAIN,
         PLAIN_NAMES,
-        " RENAME DSNAME=SYSCTLG,VOL=2314=PACK01,NEWNAME=P.S\n",
+        " RENAME DSNAME=SYSCTLG,VOL=2314=WORK01,NEWNAME=A.D\n",
         "00001 RENAME SYSCTLG NO-SET\n",
     ),
     (
         PLAIN,
         PLAIN_NAMES,
-        " RENAME DSNAME=SYSCTLG,VOL=2314=PACK01,NEWNAME=SYSCTLG\n",
+        " RENAME DSNAME=SYSCTLG,VOL=2314=WORK01,NEWNAME=SYSCTLG\n",
         "00001 RENAME SYSCTLG NO-SET\n",
     ),
     // A set of the new name, and another reason.
     (
         CATALOGED,
         CATALOGED_NAMES,
-        " RENAME DSNAME=SYSCTLG,VOL=2314=PACK01,NEWNAME=P.R\n",
+        " RENAME DSNAME=SYSCTLG,VOL=2314=WORK01,NEWNAME=A.C\n",
         "00001 RENAME SYSCTLG SET-EXISTS\n",
     ),
     (
         CATALOGED,
         CATALOGED_NAMES,
-        " RENAME DSNAME=P.Q,VOL=2314=PACK01,NEWNAME=SYSCTLG\n",
-        "00001 RENAME P.Q SET-EXISTS\n",
+        " RENAME DSNAME=A.B,VOL=2314=WORK01,NEWNAME=SYSCTLG\n",
+        "00001 RENAME A.B SET-EXISTS\n",
     ),
     (
         CATALOGED,
         CATALOGED_NAMES,
-        " RENAME DSNAME=SYSCTLG,VOL=2314=PACK01,NEWNAME=SYSCTLG\n",
+        " RENAME DSNAME=SYSCTLG,VOL=2314=WORK01,NEWNAME=SYSCTLG\n",
         "00001 RENAME SYSCTLG SET-EXISTS\n",
     ),
 ];
@@ -280,37 +280,47 @@ fn a_rename_is_one_write_of_the_slot_and_a_sync_before_its_line(
     Ok(())
 }
 
-// The pack of a 2314 with one cylinder, twenty tracks of 7680 bytes.
-const LARGE: Geometry = Geometry {
-    device: DiskType::D2314,
-    cylinders: 1,
-    track_size: 7680,
-};
+// The pack of a 2314 with one cylinder, twenty tracks of 7680 bytes, and these slots on one track of the
+// VTOC. Its first ten tracks have the records of those of the pack of a 2311.
+fn pack_of_2314(alloc: Global, slots: &[Slot]) -> Result<Vec<u8>, AllocError> {
+    let small = work_pack(alloc, &[slots])?;
+    let mut image = header(alloc)?;
+    put(&mut image, 8, &[20, 0, 0, 0, 0, 0x1E, 0, 0, 0x14]);
+    for head in 0..20 {
+        let mut track = Vec::new(alloc);
+        if head < 10 {
+            let begin = 512 + 4096 * usize::from(head);
+            track.extend_from_slice(small.get(begin..begin + 4096).unwrap_or_default())?;
+        } else {
+            Track::new(alloc, 0, head)?.end(&mut track)?;
+        }
+        track.resize(7680, 0)?;
+        image.extend_from_slice(&track)?;
+    }
+    Ok(image)
+}
 
 // A run of this deck on the pack of a 2314.
 //
 // The VTOC is on track 9, which begins at 512 + 9 * 7680 = 69632; slot 2 is 325 bytes behind that.
 fn assert_renamed_on_2314(rt: &impl Abort, alloc: Global, deck: &str) -> Result<(), Fail> {
-    let slots: &[Slot] = &[Slot::F5, Slot::F1(P_Q), Slot::F0];
-    let mut image = pack_on(alloc, &LARGE, &PACK01, 1, &[slots])?;
+    let slots: &[Slot] = &[Slot::F5, Slot::F1(A_B), Slot::F0];
+    let mut image = pack_of_2314(alloc, slots)?;
     let mut hall = hall_with(alloc, &image, AMPLE)?;
     assert_eq!(rt; run(alloc, RUN, deck, &[], &mut hall)?, 0, "{deck}");
-    assert_eq!(rt; hall.printed(), b"00001 RENAME P.Q OK\n".as_slice());
-    put(&mut image, 69957, &padded(P_S));
+    assert_eq!(rt; hall.printed(), b"00001 RENAME A.B OK\n".as_slice());
+    put(&mut image, 69957, &padded(A_D));
     assert_eq!(rt; hall.image("w.img"), Some(image.as_slice()), "{deck}");
-    assert_names(rt, alloc, &image, "P.S\n")
+    assert_names(rt, alloc, &image, "A.D\n")
 }
-
-// The same statement with each device.
-const DECKS_BY_DEVICE: &[&str] = &[
-    " RENAME DSNAME=P.Q,VOL=2311=PACK01,NEWNAME=P.S\n",
-    " RENAME DSNAME=P.Q,VOL=2314=PACK01,NEWNAME=P.S\n",
-    " RENAME DSNAME=P.Q,VOL=3330=PACK01,NEWNAME=P.S\n",
-];
 
 #[test]
 fn another_device_than_that_of_the_pack_may_be_named(rt: HostRuntime) -> Result<(), Fail> {
-    for deck in DECKS_BY_DEVICE {
+    for deck in [
+        " RENAME DSNAME=A.B,VOL=2311=WORK01,NEWNAME=A.D\n",
+        " RENAME DSNAME=A.B,VOL=2314=WORK01,NEWNAME=A.D\n",
+        " RENAME DSNAME=A.B,VOL=3330=WORK01,NEWNAME=A.D\n",
+    ] {
         assert_renamed_on_2314(&rt, rt.alloc(), deck)?;
     }
     Ok(())
@@ -323,30 +333,30 @@ const DECKS: &[&str] = &[
     "\r\n",
     " \n",
     // No blank in front, two, another operation, small letters, and a card of a job.
-    "RENAME DSNAME=P.Q,VOL=2314=PACK01,NEWNAME=P.S\n",
-    "  RENAME DSNAME=P.Q,VOL=2314=PACK01,NEWNAME=P.S\n",
-    " SCRATCH DSNAME=P.Q,VOL=2314=PACK01\n",
-    " rename dsname=P.Q,vol=2314=PACK01,newname=P.S\n",
+    "RENAME DSNAME=A.B,VOL=2314=WORK01,NEWNAME=A.D\n",
+    "  RENAME DSNAME=A.B,VOL=2314=WORK01,NEWNAME=A.D\n",
+    " SCRATCH DSNAME=A.B,VOL=2314=WORK01\n",
+    " rename dsname=A.B,vol=2314=WORK01,newname=A.D\n",
     "//STEP EXEC PGM=IEHPROGM\n",
     // An operand too few, one too many, one twice, another order, and one that is empty.
-    " RENAME DSNAME=P.Q,VOL=2314=PACK01\n",
-    " RENAME DSNAME=P.Q,VOL=2314=PACK01,NEWNAME=P.S,MEMBER=A\n",
-    " RENAME DSNAME=P.Q,DSNAME=P.Q,NEWNAME=P.S\n",
-    " RENAME DSNAME=P.Q,NEWNAME=P.S,VOL=2314=PACK01\n",
-    " RENAME DSNAME=P.Q,VOL=2314=PACK01,NEWNAME=\n",
+    " RENAME DSNAME=A.B,VOL=2314=WORK01\n",
+    " RENAME DSNAME=A.B,VOL=2314=WORK01,NEWNAME=A.D,MEMBER=A\n",
+    " RENAME DSNAME=A.B,DSNAME=A.B,NEWNAME=A.D\n",
+    " RENAME DSNAME=A.B,NEWNAME=A.D,VOL=2314=WORK01\n",
+    " RENAME DSNAME=A.B,VOL=2314=WORK01,NEWNAME=\n",
     // A blank between operands.
-    " RENAME DSNAME=P.Q,VOL=2314=PACK01, NEWNAME=P.S\n",
+    " RENAME DSNAME=A.B,VOL=2314=WORK01, NEWNAME=A.D\n",
     // A device, serials and names that are none.
-    " RENAME DSNAME=P.Q,VOL=2305=PACK01,NEWNAME=P.S\n",
-    " RENAME DSNAME=P.Q,VOL=2314=,NEWNAME=P.S\n",
-    " RENAME DSNAME=P.Q,VOL=2314=PACK001,NEWNAME=P.S\n",
-    " RENAME DSNAME=P.Q,VOL=2314=PACK01,NEWNAME=9.S\n",
-    " RENAME DSNAME=ABCDEFGHI,VOL=2314=PACK01,NEWNAME=P.S\n",
-    " RENAME DSNAME=P.\u{C4},VOL=2314=PACK01,NEWNAME=P.S\n",
+    " RENAME DSNAME=A.B,VOL=2305=WORK01,NEWNAME=A.D\n",
+    " RENAME DSNAME=A.B,VOL=2314=,NEWNAME=A.D\n",
+    " RENAME DSNAME=A.B,VOL=2314=WORK001,NEWNAME=A.D\n",
+    " RENAME DSNAME=A.B,VOL=2314=WORK01,NEWNAME=9.D\n",
+    " RENAME DSNAME=ABCDEFGHI,VOL=2314=WORK01,NEWNAME=A.D\n",
+    " RENAME DSNAME=A.\u{C4},VOL=2314=WORK01,NEWNAME=A.D\n",
     // A column too many, another statement, and an empty line.
-    " RENAME DSNAME=P.R,VOL=3330=PACK01,NEWNAME=ABCDEFGH.ABCDEFGH.ABCDEFGH.ABCDEFGH.XY\n",
-    " RENAME DSNAME=P.Q,VOL=2314=PACK01,NEWNAME=P.S\n RENAME DSNAME=P.R,VOL=2314=PACK01,NEWNAME=P.T\n",
-    " RENAME DSNAME=P.Q,VOL=2314=PACK01,NEWNAME=P.S\n\n",
+    " RENAME DSNAME=A.C,VOL=3330=WORK01,NEWNAME=ABCDEFGH.ABCDEFGH.ABCDEFGH.ABCDEFGH.XY\n",
+    " RENAME DSNAME=A.B,VOL=2314=WORK01,NEWNAME=A.D\n RENAME DSNAME=A.C,VOL=2314=WORK01,NEWNAME=A.E\n",
+    " RENAME DSNAME=A.B,VOL=2314=WORK01,NEWNAME=A.D\n\n",
 ];
 
 // The deck is refused by one print, and no file is attached.
@@ -378,20 +388,18 @@ fn a_deck_that_is_refused_attaches_no_file(rt: HostRuntime) -> Result<(), Fail> 
     Ok(())
 }
 
-// Words that ask for no run.
-const OTHER_WORDS: &[&[&str]] = &[
-    &["volman", "run", "w.img"],
-    &["volman", "run", "--date", "74000", "w.img"],
-    &["volman", "run", "--date", "74367", "w.img"],
-    &["volman", "run", "--date", "74123", ""],
-    &["volman", "run", "--date", "74123", "w.img", "w.img"],
-];
-
 // The cards aren't read either: their first read would fail.
 #[test]
 fn words_that_are_refused_attach_no_file(rt: HostRuntime) -> Result<(), Fail> {
     let image = work_pack(rt.alloc(), PLAIN)?;
-    for words in OTHER_WORDS {
+    let cases: [&[&str]; 5] = [
+        &["volman", "run", "w.img"],
+        &["volman", "run", "--date", "74000", "w.img"],
+        &["volman", "run", "--date", "74367", "w.img"],
+        &["volman", "run", "--date", "74123", ""],
+        &["volman", "run", "--date", "74123", "w.img", "w.img"],
+    ];
+    for words in cases {
         assert_words_refused(&rt, rt.alloc(), words, &image)?;
     }
     Ok(())
@@ -408,7 +416,7 @@ fn assert_unit_refused(
     image: &[u8],
     line: &str,
 ) -> Result<(), Fail> {
-    let deck = " RENAME DSNAME=P.Q,VOL=2314=PACK01,NEWNAME=P.S\n";
+    let deck = " RENAME DSNAME=A.B,VOL=2314=WORK01,NEWNAME=A.D\n";
     let mut hall = hall_with(alloc, image, AMPLE)?;
     assert_eq!(rt; run(alloc, words, deck, &[], &mut hall)?, 21, "{line}");
     assert_eq!(rt; hall.printed(), line.as_bytes());

@@ -18,14 +18,6 @@ impl<H: Hall> Hall for Scarce<H> {
 
     ghost facts = { λ h. H.facts h.hall };
 
-    ghost calls = { λ h. H.calls h.hall };
-
-    ghost made = { λ h. H.made h.hall };
-
-    ghost behind_sync = { λ h. H.behind_sync h.hall };
-
-    ghost done = { λ _ _. Unit {0} };
-
     ghost leaves_state = { λ h. H.leaves_state h.hall };
 
     ghost counts_now = { λ h. H.counts_now h.hall };

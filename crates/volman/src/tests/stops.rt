@@ -1,5 +1,4 @@
 //! Runs that are stopped, and runs in which a call fails.
-use super::cut::Cut;
 use super::scarce::Scarce;
 use super::work_pack::{
     CATALOGED, CATALOGED_NAMES, DeckRun, RUN, RUNS, assert_names, run, work_pack,
@@ -27,9 +26,9 @@ fn assert_left(
     alloc: Global,
     left: &Left,
     names: &str,
-    printed: &[u8],
+    printed: &str,
 ) -> Result<(), Fail> {
-    assert_eq!(rt; left.printed.as_slice(), printed);
+    assert_eq!(rt; left.printed.as_slice(), printed.as_bytes());
     assert_eq!(rt; left.files.len(), 1);
     for (_name, image) in &left.files {
         assert_names(rt, alloc, image, names)?;
@@ -48,11 +47,11 @@ fn names_left(case: &DeckRun, call: usize, keep: &[bool]) -> &'static str {
 }
 
 // What is printed before a call of this number; the last call but one prints.
-fn printed_left(case: &DeckRun, call: usize) -> &'static [u8] {
+fn printed_left(case: &DeckRun, call: usize) -> &'static str {
     if call.saturating_add(2) <= case.calls.len() {
-        b""
+        ""
     } else {
-        case.line.as_bytes()
+        case.line
     }
 }
 
@@ -125,7 +124,8 @@ fn assert_failed(
     assert_eq!(rt; code, fault, "{failing}");
     let made = failing.saturating_add(1).min(case.calls.len());
     assert_eq!(rt; hall.calls(), &case.calls[..made], "{failing}");
-    assert_eq!(rt; hall.printed(), printed_left(case, failing), "{failing}");
+    let printed = printed_left(case, failing);
+    assert_eq!(rt; hall.printed(), printed.as_bytes(), "{failing}");
     assert_left_behind(rt, alloc, &hall, case, failing)
 }
 
@@ -136,38 +136,6 @@ fn a_call_that_fails_leaves_the_one_name_or_the_other(rt: HostRuntime) -> Result
         for (failing, call) in case.calls.iter().enumerate() {
             let fault = if *call == Call::Print { 24 } else { 22 };
             assert_failed(&rt, rt.alloc(), case, failing, fault)?;
-        }
-    }
-    Ok(())
-}
-
-// A run whose line is cut behind so many bytes. All but the sync behind the line was called for, and no write
-// is pending.
-fn assert_cut(rt: &impl Abort, alloc: Global, case: &DeckRun, front: usize) -> Result<(), Fail> {
-    let image = work_pack(alloc, CATALOGED)?;
-    let mut cut = Cut {
-        hall: hall_with(alloc, &image, AMPLE)?,
-        front,
-        faults: 0,
-    };
-    assert_eq!(rt; run(alloc, RUN, case.deck, &[], &mut cut)?, 24, "{front}");
-    assert_eq!(rt; cut.faults, 1, "{front}");
-    let made = case.calls.len().saturating_sub(1);
-    assert_eq!(rt; cut.hall.calls(), &case.calls[..made], "{front}");
-    let printed = case.line.as_bytes().get(..front).unwrap_or_default();
-    for keep in KEPT {
-        let left = cut.hall.left_at(u64::MAX, keep)?;
-        assert_left(rt, alloc, &left, case.names, printed)?;
-    }
-    Ok(())
-}
-
-// So what a line would report is done, though none of it is printed, a part, or all.
-#[test]
-fn a_line_that_is_cut_takes_nothing_back(rt: HostRuntime) -> Result<(), Fail> {
-    for case in RUNS {
-        for front in 0..case.line.len().saturating_add(1) {
-            assert_cut(&rt, rt.alloc(), case, front)?;
         }
     }
     Ok(())

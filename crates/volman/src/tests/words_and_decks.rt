@@ -1,9 +1,10 @@
 //! What words ask for, and what is read of a deck.
 ghost use Rattle.std.specs.Prelude.{[], false};
 
+use crate::deck::{DeckErr, read_deck};
+use crate::words::{Action, action_of};
 use ebcdic_names::{Dsn, Serial};
 use hall_core::{Cards, MemCards, ReadFault};
-use run_spec::{Action, DeckErr, action_of, read_deck};
 use std::alloc::{AllocError, Global};
 use std::process::Abort;
 use std::test::Fail;
@@ -96,18 +97,18 @@ fn words_ask_for_names_or_a_run_or_are_refused(rt: HostRuntime) -> Result<(), Fa
 }
 
 // A card of 46 columns.
-const CARD: &str = " RENAME DSNAME=P.Q,VOL=2314=PACK01,NEWNAME=P.R";
+const CARD: &str = " RENAME DSNAME=A.B,VOL=2314=WORK01,NEWNAME=A.C";
 
 // A card of 80 columns.
 const WHOLE: &str =
-    " RENAME DSNAME=ABCDEFGH.ABCDEFGH.AB,VOL=2314=PACK01,NEWNAME=ABCDEFGH.ABCDEFGH.AC";
+    " RENAME DSNAME=ABCDEFGH.ABCDEFGH.AB,VOL=2314=WORK01,NEWNAME=ABCDEFGH.ABCDEFGH.AC";
 
 // A card of 81 columns.
 const LONG: &str =
-    " RENAME DSNAME=ABCDEFGH.ABCDEFGH.AB,VOL=2314=PACK01,NEWNAME=ABCDEFGH.ABCDEFGH.ACD";
+    " RENAME DSNAME=ABCDEFGH.ABCDEFGH.AB,VOL=2314=WORK01,NEWNAME=ABCDEFGH.ABCDEFGH.ACD";
 
 // The names of the first two cards.
-const NAMES: (&str, &str) = ("P.Q", "P.R");
+const NAMES: (&str, &str) = ("A.B", "A.C");
 
 const WHOLE_NAMES: (&str, &str) = ("ABCDEFGH.ABCDEFGH.AB", "ABCDEFGH.ABCDEFGH.AC");
 
@@ -145,7 +146,7 @@ const DECKS: &[Deck] = &[
     ("", "\r\n", None, 0),
     (
         "\n",
-        " RENAME DSNAME=P.Q,VOL=2314=PACK01,NEWNAME=P.R\n",
+        " RENAME DSNAME=A.B,VOL=2314=WORK01,NEWNAME=A.C\n",
         None,
         0,
     ),
@@ -155,7 +156,7 @@ const DECKS: &[Deck] = &[
 fn statement(names: (&str, &str)) -> Option<Rename> {
     Some(Rename {
         old: Dsn::read(names.0).ok()?,
-        serial: Serial::read("PACK01").ok()?,
+        serial: Serial::read("WORK01").ok()?,
         new: Dsn::read(names.1).ok()?,
     })
 }
@@ -181,12 +182,6 @@ impl<C: Cards> Cards for Single<C> {
     ghost left = { λ _. [] };
 
     ghost faults = { λ single. C.faults single.cards };
-
-    ghost reads = { λ single. C.reads single.cards };
-
-    ghost empty_reads = { λ single. C.empty_reads single.cards };
-
-    ghost full_reads = { λ _. 0 };
 
     fn read(&mut self, buf: &mut [u8]) -> Result<usize, ReadFault> {
         self.cards.read(&mut buf[..1])

@@ -1,10 +1,9 @@
-//! The pack of serial PACK01, what runs on it, and what it then holds.
+//! The pack WORK01, what runs on it, and what it then holds.
 ghost use Rattle.std.specs.Prelude.{◌≡◌, []};
 
-use super::packs::{Slot, Z9, pack_named};
+use super::packs::{A_B, Slot, Z9, pack};
 use super::{AMPLE, NAMES, hall_with, status};
 use crate::top::volman;
-use ebcdic_names::Serial;
 use hall_core::{Call, Hall, MemCards};
 use std::alloc::{AllocError, Global};
 use std::process::Abort;
@@ -13,41 +12,41 @@ use std::test::Fail;
 /// The words that ask for a run on the file that the hall holds.
 pub(crate) const RUN: &[&str] = &["volman", "run", "--date", "74123", "w.img"];
 
-/// P.Q in EBCDIC.
-pub(crate) const P_Q: &[u8] = &[0xD7, 0x4B, 0xD8];
-
-/// P.R.
-pub(crate) const P_R: &[u8] = &[0xD7, 0x4B, 0xD9];
+/// A.C in EBCDIC.
+pub(crate) const A_C: &[u8] = &[0xC1, 0x4B, 0xC3];
 
 /// SYSCTLG.
 pub(crate) const SYSCTLG: &[u8] = &[0xE2, 0xE8, 0xE2, 0xC3, 0xE3, 0xD3, 0xC7];
 
 /// The slots 1 to 3 on the first track of the VTOC and 4 to 6 on the second, with a catalog.
 pub(crate) const CATALOGED: &[&[Slot]] = &[
-    &[Slot::F5, Slot::F1(P_Q), Slot::F1(P_R)],
+    &[Slot::F5, Slot::F1(A_B), Slot::F1(A_C)],
     &[Slot::F0, Slot::F1(SYSCTLG), Slot::F1(Z9)],
 ];
 
 /// The names that are listed.
-pub(crate) const CATALOGED_NAMES: &str = "P.Q\nP.R\nSYSCTLG\nZ9\n";
+pub(crate) const CATALOGED_NAMES: &str = "A.B\nA.C\nSYSCTLG\nZ9\n";
 
 /// The same slots without a catalog.
 pub(crate) const PLAIN: &[&[Slot]] = &[
-    &[Slot::F5, Slot::F1(P_Q), Slot::F1(P_R)],
+    &[Slot::F5, Slot::F1(A_B), Slot::F1(A_C)],
     &[Slot::F0, Slot::F0, Slot::F1(Z9)],
 ];
 
 /// The names that are listed.
-pub(crate) const PLAIN_NAMES: &str = "P.Q\nP.R\nZ9\n";
+pub(crate) const PLAIN_NAMES: &str = "A.B\nA.C\nZ9\n";
 
-/// PACK01.
-pub(crate) const PACK01: Serial = Serial {
-    bytes: [0xD7, 0xC1, 0xC3, 0xD2, 0xF0, 0xF1],
-};
+// WORK01, and where a serial stands in an image: track 0 begins at byte 512, its third record at 725, and
+// in that, behind a count of 8 bytes, a key of 4 and the text VOL1, the serial.
+const SERIAL: [u8; 6] = [0xE6, 0xD6, 0xD9, 0xD2, 0xF0, 0xF1];
+
+const SERIAL_AT: usize = 725 + 8 + 4 + 4;
 
 /// The pack with these slots behind slot 0.
 pub(crate) fn work_pack(alloc: Global, vtoc: &[&[Slot]]) -> Result<Vec<u8>, AllocError> {
-    pack_named(alloc, &PACK01, vtoc)
+    let mut image = pack(alloc, vtoc)?;
+    put(&mut image, SERIAL_AT, &SERIAL);
+    Ok(image)
 }
 
 /// Puts bytes over those of an image, from this offset on.
@@ -72,7 +71,7 @@ pub(crate) fn run<H: Hall>(
         owned.push(String::from_str(alloc, word)?)?;
     }
     let mut cards = MemCards::new(deck.as_bytes().to_vec(alloc)?, fails.to_vec(alloc)?);
-    Ok(volman(alloc, Ok(owned), &mut cards, hall))
+    Ok(volman(alloc, &owned, &mut cards, hall))
 }
 
 /// The image mounts, and these names are listed.
@@ -113,7 +112,7 @@ pub(crate) struct DeckRun {
 /// 41472 + 29 + 2 * 148 = 41797. The second track is the last that is read when the pack is mounted.
 pub(crate) const RUNS: &[DeckRun] = &[
     DeckRun {
-        deck: " RENAME DSNAME=P.Q,VOL=2311=PACK01,NEWNAME=P.S\n",
+        deck: " RENAME DSNAME=A.B,VOL=2311=WORK01,NEWNAME=A.D\n",
         calls: &[
             Call::Attach,
             Call::Read { unit: 0, at: 0 },
@@ -128,11 +127,11 @@ pub(crate) const RUNS: &[DeckRun] = &[
         ],
         write: 6,
         code: 0,
-        line: "00001 RENAME P.Q OK\n",
-        names: "P.R\nP.S\nSYSCTLG\nZ9\n",
+        line: "00001 RENAME A.B OK\n",
+        names: "A.C\nA.D\nSYSCTLG\nZ9\n",
     },
     DeckRun {
-        deck: " RENAME DSNAME=Z9,VOL=2311=PACK01,NEWNAME=Z.Z9\n",
+        deck: " RENAME DSNAME=Z9,VOL=2311=WORK01,NEWNAME=Z.Z9\n",
         calls: &[
             Call::Attach,
             Call::Read { unit: 0, at: 0 },
@@ -147,14 +146,14 @@ pub(crate) const RUNS: &[DeckRun] = &[
         write: 5,
         code: 0,
         line: "00001 RENAME Z9 OK\n",
-        names: "P.Q\nP.R\nSYSCTLG\nZ.Z9\n",
+        names: "A.B\nA.C\nSYSCTLG\nZ.Z9\n",
     },
     DeckRun {
-        deck: " RENAME DSNAME=P.Q,VOL=2311=PACK01,NEWNAME=P.R\n",
+        deck: " RENAME DSNAME=A.B,VOL=2311=WORK01,NEWNAME=A.C\n",
         calls: REFUSED,
         write: 7,
         code: 8,
-        line: "00001 RENAME P.Q SET-EXISTS\n",
+        line: "00001 RENAME A.B SET-EXISTS\n",
         names: CATALOGED_NAMES,
     },
 ];

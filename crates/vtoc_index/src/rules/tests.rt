@@ -39,10 +39,29 @@ fn set(letter: u8, extents: u8, runs: [[u8; 10]; 3], leads_to: u8) -> Content {
     name[0] = letter;
     Ok(Dscb::F1(F1 {
         name,
+        serial: [0xC1; 6],
+        volseq: 1,
+        created: [0; 3],
+        expires: [0; 3],
         extents,
+        dir_used: 0,
+        res61: [0],
+        system: [0; 13],
+        res75: [0; 7],
+        dsorg: 0x4000,
+        recfm: 0x80,
+        optcd: 0,
+        blksize: 80,
+        lrecl: 80,
+        keylen: 0,
+        rkp: 0,
+        indicators: 0,
+        scalo: 0,
+        lstar: [0; 3],
+        balance: 0,
+        res103: [0; 2],
         runs,
         pointer: address_of(leads_to),
-        ..F1::default()
     }))
 }
 
@@ -61,21 +80,45 @@ fn further(last: [u8; 10]) -> Content {
     let mut back = [GOOD; 9];
     back[8] = last;
     Ok(Dscb::F3(F3 {
+        id: 0x0303_0303,
         front: [GOOD; 4],
         back,
-        ..F3::default()
+        pointer: [0; 5],
     }))
 }
 
 fn vtoc() -> Content {
     Ok(Dscb::F4(F4 {
+        id: [4; 44],
+        highest: [0; 5],
+        free: 0,
+        next_alt: 0,
+        alternates: 0,
+        indicators: 0,
+        extents: 1,
+        res60: [0; 2],
+        size: 0,
+        capacity: 3625,
+        i: 0,
+        l: 0,
+        k: 0,
+        flag: 0,
+        tolerance: 512,
+        dscbs: 16,
+        dirs: 10,
+        res76: [0; 29],
         vtoc: GOOD,
-        ..F4::default()
+        res115: [0; 25],
     }))
 }
 
 fn space() -> Content {
-    Ok(Dscb::F5(F5::default()))
+    Ok(Dscb::F5(F5 {
+        id: 0x0505_0505,
+        front: [[0; 5]; 8],
+        back: [[0; 5]; 18],
+        pointer: [0; 5],
+    }))
 }
 
 const FREE: Content = Ok(Dscb::F0);

@@ -2,7 +2,6 @@ use Rattle.std.proofs.Common.{◌≡◌, ◌+◌, ◌*◌, ◌-◌, ◌<◌, ◌
 use Rattle.std.specs.Prelude.{slice_get}
 use Rattle.hall_core.specs.Facts.{unit_of}
 use Rattle.hall_core.specs.Files.{image_of}
-use Rattle.hall_core.specs.Made.{HallCall, MakesOnly, Writing}
 use Rattle.track_records.specs.Buffers.{Buffer, IsContentOf}
 use Rattle.track_records.specs.Written.{place_of, StandsOn}
 use Rattle.track_records.proofs.UpdateLemmas.{lengths_there, content_written, length-with_parts}
@@ -64,25 +63,3 @@ returns-clause-record g c told stands =
     let new = image_of (g.H.Hall.meaning c.write.new.self).state (g.H.Hall.facts c.write.new.self) b.unit in
     let is = unit_updated _ _ (g.H.Hall.facts c.args.hall.now) (g.H.Hall.facts c.write.new.self) c.args.buf.now (c.args.r - 1) c.args.key.now c.args.payload.now (g.met.H.Hall.whole c.args.hall.now told) c.requires.track c.requires.there c.in_ok-write.ensures.call.units write.done stands in
     (is, subst (StandsOn new) (sym w.put-place.ensures.buffer) (stands_written b (c.args.r - 1) c.args.key.now c.args.payload.now _ new is stands))
-
-call_is : (g : Over) (c : After-content g) → Writing c.buf.inside.unit (512 + c.from.result * c.from-2.result + c.put-place.result) c.content.result.now ≡ Writing c.args.buf.now.unit (place_of c.args.buf.now (c.args.r - 1)) (c.args.key.now ++ c.args.payload.now)
-call_is g c =
-    let at = 512 + c.from.result * c.from-2.result + c.put-place.result in
-    let unit = c.args.buf.now.unit in
-    let place = place_of c.args.buf.now (c.args.r - 1) in
-    ap (λ (u : ℕ). Writing u at c.content.result.now) (unit_is g c) ∙ ap (λ (n : ℕ). Writing unit n c.content.result.now) (place_is g c) ∙ ap (Writing unit place) (content_is g c)
-
-pub returns-in_err-write-clause-made : goal.returns-in_err-write-clause-made
-returns-in_err-write-clause-made g c =
-    let w = (goal.at.returns-in_err-write-clause-made g c).After-content in
-    subst (λ (made : HallCall). MakesOnly (λ call. call ≡ made) (g.H.Hall.made c.args.hall.now) (g.H.Hall.made c.write.new.self)) (call_is g w) c.in_err-write.ensures.made
-
-pub returns-clause-made : goal.returns-clause-made
-returns-clause-made g c =
-    let w = (goal.at.returns-clause-made g c).After-content in
-    subst (λ (made : HallCall). MakesOnly (λ call. call ≡ made) (g.H.Hall.made c.args.hall.now) (g.H.Hall.made c.write.new.self)) (call_is g w) c.in_ok-write.ensures.made
-
-pub returns-clause-done : goal.returns-clause-done
-returns-clause-done g c =
-    let w = (goal.at.returns-clause-done g c).After-content in
-    subst (g.H.Hall.done c.write.new.self) (call_is g w) c.in_ok-write.ensures.done

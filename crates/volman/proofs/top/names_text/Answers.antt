@@ -4,7 +4,7 @@ use Rattle.std.specs.Prelude.{IfOk, Result, Ok, Err}
 use Rattle.std.specs.Ordering.{nat_cmp}
 use Rattle.std.specs.Cmp.Lexicographic.{slice_cmp}
 use Rattle.std.specs.List.Sorted.{IsStable}
-use Rattle.run_spec.specs.Lines.{names_listing}
+use Rattle.volman.specs.Lines.{names_listing}
 use Rattle.volman.proofs.top.names_text.Goals as goal
 
 -- what holds of a value holds as it follows

@@ -1,13 +1,10 @@
-use Rattle.std.proofs.Common.{◌≡◌, ◌⊎◌, inr, refl, length, sym, ap, subst, ◌∙◌, arith}
+use Rattle.std.proofs.Common.{◌≡◌, length, sym, subst, ◌∙◌, arith}
 use Rattle.std.specs.Prelude.{IfOk, IfErr, Ok, take}
 use Rattle.ckd_image.specs.declared.header.ImageErr.TheVariants.{BadMagic}
 use Rattle.ckd_image.specs.Header.{geometry_of}
 use Rattle.hall_core.specs.Facts.{unit_of}
 use Rattle.hall_core.specs.Files.{image_of}
 use Rattle.pack_spec.specs.Volume.{volume_of}
-use Rattle.vtoc_index.specs.Given.{GivesHeader, IsHeaderGiven, IsHeaderReason, NoGeometry, TooShort}
-use Rattle.pack_spec.specs.declared.MountErr.{MountErr}
-use Rattle.pack_spec.specs.declared.MountErr.TheVariants.{Device}
 use Rattle.vtoc_index.specs.Reading.{Refuses}
 use Rattle.vtoc_index.proofs.Images.{image_length, short_refused, header_read}
 use Rattle.vtoc_index.proofs.Reasons.{refuses, volume_unread}
@@ -45,28 +42,4 @@ returns-clause-refused g c told =
     elim c.match-read-2.branch [
       | in-Ok-read w ↦ subst (λ r. IfErr r (Refuses (volume_of image))) (sym w.result-is) tt
       | in-Err w ↦ subst (λ r. IfErr r (Refuses (volume_of image))) (sym w.result-is) (refuses (volume_unread image w.in-Err.fault (header ∙ sym c.read-2.ensures.exact ∙ w.in-Err.is)))
-    ]
-
-pub returns-clause-given : goal.returns-clause-given
-returns-clause-given g c =
-    let size = (unit_of (g.H.Hall.facts c.args.hall.now).units c.args.unit).size in
-    let done = g.H.Hall.done c.read.new.self in
-    elim c.match-read-2.branch [
-      | in-Ok-read w ↦
-          subst (λ r. IfOk r (IsHeaderGiven done c.args.unit size)) (sym w.result-is)
-          (GivesHeader c.read.new.buf c.read.auto.buf c.in-Ok.ensures.done (ap (geometry_of c.read.new.buf) (sym c.size-len.ensures) ∙ sym c.read-2.ensures.exact ∙ w.in-Ok-read.is))
-      | in-Err w ↦ subst (λ r. IfOk r (IsHeaderGiven done c.args.unit size)) (sym w.result-is) tt
-    ]
-
-pub returns-then-len-clause-reason : goal.returns-then-len-clause-reason
-returns-then-len-clause-reason g c = inr (TooShort (omega (arith, c.size-len.ensures)) refl)
-
-pub returns-clause-reason : goal.returns-clause-reason
-returns-clause-reason g c =
-    let size = (unit_of (g.H.Hall.facts c.args.hall.now).units c.args.unit).size in
-    let done = g.H.Hall.done c.read.new.self in
-    let why : MountErr → Type 0 = λ e. (e ≡ Device) ⊎ IsHeaderReason done c.args.unit size e in
-    elim c.match-read-2.branch [
-      | in-Ok-read w ↦ subst (λ r. IfErr r why) (sym w.result-is) tt
-      | in-Err w ↦ subst (λ r. IfErr r why) (sym w.result-is) (inr (NoGeometry c.read.new.buf c.read.auto.buf c.in-Ok.ensures.done w.in-Err.fault (ap (geometry_of c.read.new.buf) (sym c.size-len.ensures) ∙ sym c.read-2.ensures.exact ∙ w.in-Err.is) refl))
     ]

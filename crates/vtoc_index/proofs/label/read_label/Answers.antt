@@ -1,13 +1,11 @@
-use Rattle.std.proofs.Common.{inr, refl, subst, sym, ◌∙◌, List, ℕ, Option}
+use Rattle.std.proofs.Common.{subst, sym, ◌∙◌, List, ℕ, Option}
 use Rattle.std.specs.Prelude.{IfOk, Some}
 use Rattle.hall_core.specs.Files.{image_of}
 use Rattle.pack_spec.specs.declared.MountErr.TheVariants.{NoLabel}
 use Rattle.pack_spec.specs.Vtoc.{vtoc_of}
 use Rattle.pack_spec.specs.Volume.{volume_within}
 use Rattle.vtoc_index.specs.Reading.{IsLabel}
-use Rattle.vtoc_index.proofs.CallsMade.{broken_none, if_err, if_ok, label_broken, label_read}
-use Rattle.vtoc_index.proofs.GivenLemmas.{broken_label, label_given, other_label}
-use Rattle.vtoc_index.proofs.PutCalls.{broken_given, given_ever}
+use Rattle.vtoc_index.proofs.CallsMade.{broken_none, if_err, label_broken, label_read}
 use Rattle.vtoc_index.proofs.Reasons.{refuses, refuses_error, unlabelled}
 use Rattle.vtoc_index.proofs.label.read_label.Goals as goal
 
@@ -28,16 +26,3 @@ returns-in-Err-BadCount-clause-refused g c told =
     let image = image_of (g.H.Hall.meaning c.args.hall.now).state (g.H.Hall.facts c.args.hall.now) c.args.unit in
     let geometry = c.args.buf.now.geometry in
     refuses (unlabelled image geometry (label_broken image geometry (broken_none image geometry (Some 3) 0 _ c.in-Err-BadCount.field-0-0 c.in-Err-BadCount.field-0-is (c.in-Err-BadCount.ensures.broken told))))
-
-pub returns-in-Ok-clause-given : goal.returns-in-Ok-clause-given
-returns-in-Ok-clause-given g c =
-    if_ok c.label_held.result (label_given c.args.unit c.args.buf.now.geometry c.read_records.new.buf.records (given_ever c.in-Ok.ensures.given)) c.label_held.ensures.label
-
-pub returns-in-Ok-clause-reason : goal.returns-in-Ok-clause-reason
-returns-in-Ok-clause-reason g c =
-    if_err c.label_held.result (λ e none. inr (none.0, other_label c.args.buf.now.geometry c.read_records.new.buf.records (given_ever c.in-Ok.ensures.given) none.1)) c.label_held.ensures.refused
-
-pub returns-in-Err-BadCount-clause-reason : goal.returns-in-Err-BadCount-clause-reason
-returns-in-Err-BadCount-clause-reason g c =
-    let geometry = c.args.buf.now.geometry in
-    inr (refl, broken_label geometry (given_ever (broken_given _ c.args.unit geometry (Some 3) 0 _ c.in-Err-BadCount.field-0-0 c.in-Err-BadCount.field-0-is c.in-Err-BadCount.ensures.broke)))

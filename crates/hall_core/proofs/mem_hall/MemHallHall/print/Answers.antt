@@ -1,4 +1,4 @@
-use Rattle.std.proofs.Common.{[], ◌∷◌, ◌++◌, Ok, Err, ◌≡◌}
+use Rattle.std.proofs.Common.{[], ◌∷◌, ◌++◌, Ok, Err, ◌≡◌, true}
 use Rattle.hall_core.specs.declared.hall.HallErr.{HallErr}
 use Rattle.hall_core.specs.Files.{AfterPrint}
 use Rattle.hall_core.specs.History.{printed, passed}
@@ -24,5 +24,5 @@ returns-then-next_fails-clause-nothing c =
 pub returns-clause-told : goal.returns-clause-told
 returns-clause-told c =
     let old = c.args.self.now in
-    moved (λ m. AfterPrint {T = Unit {0}} {E = HallErr} c.args.bytes.now (meaning_of old) m (Ok tt)) (first_files old) (first_files c.record_print.new.self) (events_of old ++ printed c.args.bytes.now ∷ []) (events_of c.record_print.new.self)
+    moved (λ m. AfterPrint {T = Unit {0}} {E = HallErr} c.args.bytes.now (meaning_of old) m (Ok tt)) (first_files old) (first_files c.record_print.new.self) (events_of old ++ printed c.args.bytes.now true ∷ []) (events_of c.record_print.new.self)
     c.record_print.ensures.setup.first c.record_print.ensures.noted.events (print_done (first_files old) (events_of old) c.args.bytes.now)

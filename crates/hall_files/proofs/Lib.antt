@@ -1,2 +1,0 @@
-mod Units
-mod HallCases

@@ -1,2 +1,0 @@
-pub mod FileHall
-pub mod StdCards

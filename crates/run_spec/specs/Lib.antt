@@ -1,9 +1,0 @@
-pub mod Words
-pub mod Action
-pub mod Deck
-pub mod Lines
-pub mod Names
-pub mod Task
-pub mod Mount
-pub mod Run
-pub mod Made

@@ -1,3 +1,0 @@
-pub mod Machines
-mod BaseCases
-mod IndexCases

@@ -1,0 +1,10 @@
+use Rattle.std.proofs.Common.{[], List, ap}
+use Rattle.hall_core.specs.Facts.{Attached, Facts}
+use Rattle.volman.proofs.Units.{units_of-set}
+use Rattle.volman.proofs.file_hall.FileHall.set_written.Goals as goal
+
+pub returns-clause-facts : goal.returns-clause-facts
+returns-clause-facts g c =
+    let was = c.args.self.now in
+    let facts : List Attached → Facts = λ units. record { units = units; references = []; dev_faults = was.dev_faults; print_faults = was.print_faults } in
+    ap facts (units_of-set was.units.items c.args.unit c.index_mut.result.now c.args.is_written c.index_mut.ensures.value)

@@ -1,0 +1,11 @@
+pub mod Words
+pub mod Action
+pub mod Deck
+pub mod FileHall
+pub mod Lines
+pub mod Machine
+pub mod Names
+pub mod Statement
+pub mod Task
+pub mod Mount
+pub mod Run
