@@ -9,7 +9,7 @@ use Rattle.ckd_image.specs.declared.header.ImageErr.{ImageErr}
 use Rattle.ckd_image.specs.declared.header.ImageErr.TheVariants.{Compressed, BadMagic, BadHeads, BadTrackSize, MultiFile, BadLength}
 use Rattle.ckd_image.specs.Device.{row_of, device_of}
 use Rattle.ckd_image.specs.Header.{HasGeometry, geometry_at, geometry_of, geometry_on, has_magic, heads_field, high_cylinder_field, is_length, is_track_size, sequence_field, track_size_field, type_field}
-use Rattle.ckd_image.proofs.Written.{some_heads}
+use Rattle.ckd_image.proofs.WrittenHeaders.{some_heads}
 
 -- a rule that isn't broken leaves what follows
 unbroken : (b : Bool) (e : ImageErr) (m : Result Geometry ImageErr) (g : Geometry) → cond b (Err e) m ≡ Ok g → (b ≡ false) × (m ≡ Ok g)

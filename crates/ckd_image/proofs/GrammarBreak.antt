@@ -1,4 +1,4 @@
--- The break that is found is the first byte that breaks the grammar.
+-- Where a marker, a record and a walk break, and that no bytes of a track go on from there.
 use Rattle.std.proofs.Common.{◌≡◌, ◌≢◌, ℕ, zero, suc, ◌+◌, ◌-◌, ◌<◌, ◌≤◌, max, true, false, ◌==◌, List, ◌++◌, length, take, drop, get_or, replicate, Some, None, option_map, if◌then◌else◌, ◌⊎◌, inl, inr, sym, ap, ap₂, ◌∙◌, arith, append_assoc, get_or-take, length-append, length-drop, length-take, length-take-le, take_at, drop_at, take-add, ext_get_or, eqb-true, leb-true, eq-eqb, ne_eqb}
 use Rattle.std.proofs.lemmas.List.{get_or_append_left, get_or-append_right, get_or-replicate, length-replicate, drop-append-le, drop-take}
 use Rattle.std.proofs.lemmas.List.Sums.{prefix_len-le-length, prefix_len_passes, prefix_len_stops}

@@ -10,5 +10,6 @@ pub mod Grammar
 pub mod GrammarBreak
 pub mod GrammarBegin
 pub mod GrammarFirstBreak
-pub mod Written
+pub mod WrittenHeaders
+pub mod WrittenTracks
 pub mod GeometryLemmas

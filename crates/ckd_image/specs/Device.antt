@@ -1,7 +1,7 @@
 -- The devices: numbers of their packs and tracks, as this project's profile has them.
 use Rattle.std.specs.Prelude.{ℕ, ◌==◌, List, Option, Some, None, codes, if◌then◌else◌}
 use Rattle.ckd_image.specs.declared.device.DiskType.{DiskType}
-use Rattle.ckd_image.specs.declared.device.DiskType.TheVariants.{D2311, D2314, D3330}
+use Rattle.ckd_image.specs.declared.device.DiskType.TheVariants.{D2311, D2314, D3330, D3350}
 
 -- a row of the table of devices
 pub record Device : Type 0 where
@@ -89,7 +89,28 @@ row_of D3330 = record {
   device_code = 0x30502009;
   device_word = codes "3330";
 }
+row_of D3350 = record {
+  type_byte = 0x50;
+  most_cylinders = 560;
+  heads = 30;
+  largest_record = 19069;
+  primary_cylinders = 555;
+  track_capacity = 19254;
+  overhead = 267;
+  last_overhead = 267;
+  key_overhead = 82;
+  tolerance = 512;
+  dscbs_per_track = 47;
+  directory_blocks_per_track = 36;
+  written_track_size = 19456;
+  device_code = 0x3050200B;
+  device_word = codes "3350";
+}
 
 -- the device that a type byte names
 abbrev pub device_of : ℕ → Option DiskType
-device_of b = if b == 0x11 then Some D2311 else (if b == 0x14 then Some D2314 else (if b == 0x30 then Some D3330 else None))
+device_of b =
+    if b == 0x11 then Some D2311
+    else (if b == 0x14 then Some D2314
+    else (if b == 0x30 then Some D3330
+    else (if b == 0x50 then Some D3350 else None)))

@@ -5,3 +5,4 @@ pub mod Track
 pub mod Reading
 pub mod Break
 pub mod Walk
+pub mod Writing

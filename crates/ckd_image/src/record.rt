@@ -16,11 +16,12 @@ pub struct RecordParts<'a> {
 /// The bytes of the count of a record, which stands before its key.
 pub const COUNT_LEN: usize = 8;
 
-const NUMBER_AT: usize = 4;
+// Where R, KL and DL stand in a count.
+pub(crate) const NUMBER_AT: usize = 4;
 
-const KEY_LENGTH_AT: usize = 5;
+pub(crate) const KEY_LENGTH_AT: usize = 5;
 
-const DATA_LENGTH_AT: usize = 6;
+pub(crate) const DATA_LENGTH_AT: usize = 6;
 
 /// The record R = `number` at the front of these bytes of a track, and the bytes behind it.
 ///
@@ -44,6 +45,3 @@ pub fn record_at(bytes: &[u8], number: u8) -> Option<(RecordParts<'_>, &[u8])>
     let data = &bytes[key_end..end];
     Some((RecordParts { key, data }, &bytes[end..]))
 }
-
-#[cfg(test)]
-mod tests;

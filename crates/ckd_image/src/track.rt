@@ -5,21 +5,14 @@ ghost use Rattle.ckd_image.specs.Reading.{records_of, is_at_end, record_length, 
 ghost use Rattle.ckd_image.specs.Break.{break_of, marker_length, front_pattern, pattern_break, record_break, break_behind, break_to_end, break_up_to};
 ghost use Rattle.ckd_image.specs.Walk.{IsReadingOf};
 
-use crate::record::COUNT_LEN;
+use crate::record::{COUNT_LEN, DATA_LENGTH_AT, KEY_LENGTH_AT, NUMBER_AT};
 use byteorder::{BigEndian, ByteOrder};
 
 /// The bytes of the home address and R0 of a track, which stand before R1.
 pub const FRONT_LEN: usize = 21;
 
-// Where R, KL and DL stand in a count.
-const R_AT: usize = 4;
-
-const KEY_LEN_AT: usize = 5;
-
-const DATA_LEN_AT: usize = 6;
-
 // What stands behind the last record.
-const END_MARKER: &[u8; 8] = &[0xFF; 8];
+pub(crate) const END_MARKER: &[u8; 8] = &[0xFF; 8];
 
 /// Where a track breaks the grammar: the offset of the first byte that no such track has there, or
 /// the number of bytes where they run out.
@@ -187,21 +180,21 @@ fn record_len(bytes: &[u8], r: u8, may_end: bool) -> Result<usize, usize>
     ensures bound { IfErr result (λ at. at ≤ 65798) }
 {
     let have = bytes.len();
-    if have <= R_AT {
+    if have <= NUMBER_AT {
         return Err(have);
     }
-    if bytes[R_AT] != r {
+    if bytes[NUMBER_AT] != r {
         return Err(if may_end {
-            R_AT.max(marker_len(bytes))
+            NUMBER_AT.max(marker_len(bytes))
         } else {
-            R_AT
+            NUMBER_AT
         });
     }
     if have < COUNT_LEN {
         return Err(have);
     }
-    let data_len = BigEndian::read_u16(&bytes[DATA_LEN_AT..COUNT_LEN]);
-    let len = COUNT_LEN + usize::from(bytes[KEY_LEN_AT]) + usize::from(data_len);
+    let data_len = BigEndian::read_u16(&bytes[DATA_LENGTH_AT..COUNT_LEN]);
+    let len = COUNT_LEN + usize::from(bytes[KEY_LENGTH_AT]) + usize::from(data_len);
     if have < len { Err(have) } else { Ok(len) }
 }
 
@@ -231,6 +224,3 @@ fn marker_len(bytes: &[u8]) -> usize
         .take_while(|byte| **byte == 0xFF)
         .count()
 }
-
-#[cfg(test)]
-mod tests;

@@ -1,4 +1,3 @@
-pub mod Cases
 pub mod ChangedLists
 pub mod FoundSets
 pub mod Operating

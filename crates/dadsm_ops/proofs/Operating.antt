@@ -2,10 +2,10 @@
 use Rattle.std.proofs.Common.{◌≡◌, ℕ, List, inl, inr, ⊎_elim, refl, sym, ap, subst, ◌∙◌}
 use Rattle.std.specs.Prelude.{Result, Ok, Err}
 use Rattle.ckd_image.specs.declared.header.Geometry.{Geometry}
-use Rattle.hall_core.specs.Files.{File}
-use Rattle.hall_core.specs.Moments.{Meaning, Elapses}
-use Rattle.hall_core.specs.Steps.{StepTo}
-use Rattle.hall_core.proofs.MomentLemmas.{elapses_weaker}
+use Rattle.stop_model.specs.Files.{File}
+use Rattle.stop_model.specs.Moments.{Meaning, Elapses}
+use Rattle.stop_model.specs.Steps.{StepTo}
+use Rattle.stop_model.proofs.MomentLemmas.{elapses_weaker}
 use Rattle.pack_spec.specs.Volume.{volume_of}
 use Rattle.vol_model.specs.declared.answers.StoreErr.TheVariants.{Device}
 use Rattle.vol_model.specs.declared.contents.Run.{Run}

@@ -1,16 +1,15 @@
 -- Why a set can't get another name, by the slots of the index.
-use Rattle.std.proofs.Common.{◌≡◌, ◌≢◌, ◌∙◌, ℕ, List, Bool, true, false, Option, Some, None, refl, sym}
+use Rattle.std.proofs.Common.{◌≡◌, ◌≢◌, ◌∙◌, ℕ, List, Bool, true, false, Option, Some, None, refl}
 use Rattle.std.specs.Prelude.{◌||◌, Ok, Err, is_some, position}
 use Rattle.ebcdic_names.specs.declared.names.Dsn.{Dsn}
-use Rattle.pack_spec.specs.Faults.{is_named}
 use Rattle.pack_spec.specs.Volume.{volume_of}
 use Rattle.vol_model.specs.Shelf.{is_catalog, rename_on}
 use Rattle.vol_model.specs.declared.contents.Volume.{Volume}
 use Rattle.vol_model.specs.declared.refusals.Refusal.TheVariants.{NoSet, SetExists, WrongKind}
-use Rattle.vtoc_index.specs.Contents.{is_set_named}
-use Rattle.vtoc_index.specs.Index.{IsMounted}
+use Rattle.vtoc_index.specs.Index.{IsMounted, first_named}
 use Rattle.vtoc_index.specs.declared.vol.Vol.{Vol}
-use Rattle.vtoc_index.proofs.NameLemmas.{named_alike}
+use Rattle.dadsm_ops.proofs.FoundSets.{named_alike}
+use Rattle.dadsm_ops.proofs.RenamedSlots.{has_named}
 use Rattle.dadsm_ops.proofs.RenamedImages.{rename_no_set, rename_set_exists, rename_wrong_kind, slots_on_image}
 
 -- what is there
@@ -39,28 +38,28 @@ second_of_two false b is = is
 
 module _ (image : List ℕ) (v : Vol) (old new : Dsn) (volume : Volume) (mounted : IsMounted image v) (stands : volume_of image ≡ Ok volume) where
   -- a name in the index is one on the image
-  alike : (name : List ℕ) → position (is_named name) (slots_on_image image v) ≡ position (is_set_named name) v.slots.items
-  alike name = sym (named_alike name v.slots.items (slots_on_image image v) mounted.index.slots)
+  alike : (name : List ℕ) → position (has_named name) (slots_on_image image v) ≡ first_named name v.slots.items
+  alike name = named_alike name v.slots.items (slots_on_image image v) mounted.index.slots
 
   -- no set has the old name
-  pub refused_no_set : position (is_set_named old.bytes) v.slots.items ≡ None → rename_on old new volume ≡ Err NoSet
+  pub refused_no_set : first_named old.bytes v.slots.items ≡ None → rename_on old new volume ≡ Err NoSet
   refused_no_set none = rename_no_set image v old new volume mounted stands (alike old.bytes ∙ none)
 
   -- one has the new name
-  pub refused_set_exists : position (is_set_named old.bytes) v.slots.items ≢ None → is_some (position (is_set_named new.bytes) v.slots.items) ≡ true → rename_on old new volume ≡ Err SetExists
+  pub refused_set_exists : first_named old.bytes v.slots.items ≢ None → is_some (first_named new.bytes v.slots.items) ≡ true → rename_on old new volume ≡ Err SetExists
   refused_set_exists found exists =
-      let slot = held (position (is_set_named old.bytes) v.slots.items) found in
-      let taken = there (position (is_set_named new.bytes) v.slots.items) exists in
+      let slot = held (first_named old.bytes v.slots.items) found in
+      let taken = there (first_named new.bytes v.slots.items) exists in
       rename_set_exists image v old new volume mounted stands slot.0 taken.0 (alike old.bytes ∙ slot.1) (alike new.bytes ∙ taken.1)
 
   -- a name is the catalog's: either, the old one, or the new one
-  catalog_named : position (is_set_named old.bytes) v.slots.items ≢ None → is_some (position (is_set_named new.bytes) v.slots.items) ≡ false → (is_catalog old.bytes || is_catalog new.bytes) ≡ true → rename_on old new volume ≡ Err WrongKind
+  catalog_named : first_named old.bytes v.slots.items ≢ None → is_some (first_named new.bytes v.slots.items) ≡ false → (is_catalog old.bytes || is_catalog new.bytes) ≡ true → rename_on old new volume ≡ Err WrongKind
   catalog_named found absent catalog =
-      let slot = held (position (is_set_named old.bytes) v.slots.items) found in
-      rename_wrong_kind image v old new volume mounted stands slot.0 (alike old.bytes ∙ slot.1) (alike new.bytes ∙ gone (position (is_set_named new.bytes) v.slots.items) absent) catalog
+      let slot = held (first_named old.bytes v.slots.items) found in
+      rename_wrong_kind image v old new volume mounted stands slot.0 (alike old.bytes ∙ slot.1) (alike new.bytes ∙ gone (first_named new.bytes v.slots.items) absent) catalog
 
-  pub refused_old_catalog : position (is_set_named old.bytes) v.slots.items ≢ None → is_some (position (is_set_named new.bytes) v.slots.items) ≡ false → is_catalog old.bytes ≡ true → rename_on old new volume ≡ Err WrongKind
+  pub refused_old_catalog : first_named old.bytes v.slots.items ≢ None → is_some (first_named new.bytes v.slots.items) ≡ false → is_catalog old.bytes ≡ true → rename_on old new volume ≡ Err WrongKind
   refused_old_catalog found absent is = catalog_named found absent (first_of_two (is_catalog old.bytes) (is_catalog new.bytes) is)
 
-  pub refused_new_catalog : position (is_set_named old.bytes) v.slots.items ≢ None → is_some (position (is_set_named new.bytes) v.slots.items) ≡ false → is_catalog new.bytes ≡ true → rename_on old new volume ≡ Err WrongKind
+  pub refused_new_catalog : first_named old.bytes v.slots.items ≢ None → is_some (first_named new.bytes v.slots.items) ≡ false → is_catalog new.bytes ≡ true → rename_on old new volume ≡ Err WrongKind
   refused_new_catalog found absent is = catalog_named found absent (second_of_two (is_catalog old.bytes) (is_catalog new.bytes) is)

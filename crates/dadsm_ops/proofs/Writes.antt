@@ -5,14 +5,15 @@ use Rattle.std.specs.Str.{bytes_eq}
 use Rattle.std.proofs.lemmas.Slice.Eq.{bytes_eq-Decides}
 use Rattle.std.proofs.lemmas.Result.{IfOk-from_err, on_ok_weaker}
 use Rattle.dscb_codec.specs.declared.Dscb.{Dscb}
-use Rattle.hall_core.specs.Facts.{Attached, unit_of}
-use Rattle.hall_core.specs.Files.{File, AreWhole, AfterSync, file_of, patched, written}
-use Rattle.hall_core.specs.Laws.{other_name}
-use Rattle.hall_core.specs.Moments.{Meaning, IsDurable}
-use Rattle.hall_core.proofs.StepLemmas.{failed_write, write_then_sync}
 use Rattle.vtoc_index.specs.Index.{IsIndexOf, IsPut, place_of_slot}
 use Rattle.vtoc_index.specs.Puts.{AfterPut}
 use Rattle.vtoc_index.specs.declared.vol.Vol.{Vol}
+use Rattle.hall_core.specs.Facts.{Attached, unit_of}
+use Rattle.stop_model.specs.Files.{File, AfterSync, file_of, patched, written}
+use Rattle.hall_core.specs.Images.{AreWhole}
+use Rattle.hall_core.specs.Laws.{other_name}
+use Rattle.stop_model.specs.Moments.{Meaning, IsDurable}
+use Rattle.stop_model.proofs.StepLemmas.{failed_write, write_then_sync}
 use Rattle.dadsm_ops.specs.Operations.{image_named}
 use Rattle.dadsm_ops.specs.Through.{HaveSlot, PutsThrough}
 
@@ -54,12 +55,14 @@ module _ (units : List Attached) (unit : ℕ) (v v' : Vol) (slot : ℕ) (d : Dsc
   name = (unit_of units unit).name
 
   -- the files with that slot
-  have_slot : (bytes : List ℕ) → IsPut v slot bytes (image_named old.state name) (patched (image_named old.state name) (place_of_slot v slot) bytes) → HaveSlot name v slot bytes old.state (written old.state name (place_of_slot v slot) bytes)
-  have_slot bytes is = record {
-    files = refl;
-    others = λ other apart. other_file old.state name other (place_of_slot v slot) bytes apart;
-    image = subst (λ (i : List ℕ). IsPut v slot bytes (image_named old.state name) i) (sym (image_written old.state units unit (place_of_slot v slot) bytes whole low)) is;
-  }
+  have_slot : (bytes : List ℕ) → IsPut v slot d (image_named old.state name) (patched (image_named old.state name) (place_of_slot v slot) bytes) → HaveSlot name v slot d bytes old.state (written old.state name (place_of_slot v slot) bytes)
+  have_slot bytes is =
+      let same = image_written old.state units unit (place_of_slot v slot) bytes whole low in
+      record {
+        others = λ other apart. other_file old.state name other (place_of_slot v slot) bytes apart;
+        written = same;
+        image = subst (λ (i : List ℕ). IsPut v slot d (image_named old.state name) i) (sym same) is;
+      }
 
   -- where the write fails
   pub put_fails : {T E A B : Type 0} {put : List ℕ} {new : Meaning (List File)} {result : Result T E} (answer : Result A B) → IsErr answer → AfterPut name v slot d v' (image_named old.state name) put old new result → PutsThrough name v slot d v' old new answer

@@ -5,6 +5,3 @@ mod naming;
 mod through;
 
 pub use naming::rename;
-
-#[cfg(test)]
-mod tests;

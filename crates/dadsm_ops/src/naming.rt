@@ -1,13 +1,13 @@
 //! Another name for a data set.
 ghost use Rattle.std.specs.Prelude.{◌≡◌, ◌≤◌, ℕ, List, length, IsTrue, IfOk, IfErr, IsErrOf, OnOk, Some, Ok, Err};
 ghost use Rattle.hall_core.specs.Facts.{unit_of};
-ghost use Rattle.hall_core.specs.Files.{image_of};
-ghost use Rattle.hall_core.specs.Moments.{IsDurable};
+ghost use Rattle.hall_core.specs.Images.{image_in};
+ghost use Rattle.stop_model.specs.Moments.{IsDurable};
 ghost use Rattle.pack_spec.specs.Volume.{volume_of};
 ghost use Rattle.vol_model.specs.Shelf.{rename_on};
 ghost use Rattle.vol_model.specs.declared.contents.Volume.{Volume};
 ghost use Rattle.vtoc_index.specs.Index.{IsMounted, IsOfUnit};
-ghost use Rattle.dadsm_ops.specs.Naming.{IsToRename, RenamesEntry, WritesName, refusal_answered, refusal_in, under_name};
+ghost use Rattle.dadsm_ops.specs.Naming.{IsToRename, under_name};
 ghost use Rattle.dadsm_ops.specs.Operations.{Operates, StoreCall};
 
 use crate::through::put_through;
@@ -31,15 +31,15 @@ use vtoc_index::{Vol, find};
 /// image after `Device`.
 pub fn rename<H: Hall>(hall: &mut H, vol: &mut Vol, old: &Dsn, new: &Dsn) -> Result<(), StoreErr>
     requires unit { IsOfUnit (H.facts hall.old).units vol.old }
-    requires mounted { IsTrue H.tells → IsMounted (image_of (H.meaning hall.old).state (H.facts hall.old) vol.old.unit) vol.old }
+    requires mounted { let image = image_in (H.meaning hall.old) (H.facts hall.old) vol.old.unit in
+        IsTrue H.tells → IsMounted image vol.old }
     requires durable { IsTrue H.tells → IsDurable (H.meaning hall.old) }
-    ensures told { IsTrue H.tells → Operates (unit_of (H.facts hall.old).units vol.old.unit).name (rename_on old.now new.now) vol.new (H.meaning hall.old) (H.meaning hall.new) result }
-    ensures written { IsTrue H.tells → WritesName (unit_of (H.facts hall.old).units vol.old.unit).name vol.old old.now.bytes new.now.bytes (H.meaning hall.old) (H.meaning hall.new) result }
+    ensures told { IsTrue H.tells → Operates (unit_of (H.facts hall.old).units vol.old.unit).name
+        (rename_on old.now new.now) vol.new (H.meaning hall.old) (H.meaning hall.new) result }
     ensures unit { IsOfUnit (H.facts hall.new).units vol.new }
     ensures index { vol.new ≡ record vol.old { slots = vol.new.slots; buf = vol.new.buf } }
-    ensures entry { OnOk result (RenamesEntry old.now.bytes new.now.bytes vol.old.slots.items vol.new.slots.items) }
-    ensures refused { (r : Refusal) → IsErrOf result (StoreErr.Refused r) → (hall.new ≡ hall.old) × (vol.new ≡ vol.old) }
-    ensures reason { refusal_answered result ≡ refusal_in vol.old.slots.items old.now.bytes new.now.bytes }
+    ensures refused { (r : Refusal) → IsErrOf result (StoreErr.Refused r)
+        → (hall.new ≡ hall.old) × (vol.new ≡ vol.old) }
     ensures memory { IsErrOf result StoreErr.Memory → ⊥ }
     ensures call { StoreCall (H.facts hall.old) (H.facts hall.new) result }
 {
@@ -56,8 +56,9 @@ pub fn rename<H: Hall>(hall: &mut H, vol: &mut Vol, old: &Dsn, new: &Dsn) -> Res
 fn slot_to_rename(vol: &Vol, old: &Dsn, new: &Dsn) -> Result<u32, Refusal>
     requires { length vol.now.slots.items ≤ 65535 }
     ensures found { IfOk result (IsToRename vol.now.slots.items old.now.bytes new.now.bytes) }
-    ensures reason { IfErr result (λ r. refusal_in vol.now.slots.items old.now.bytes new.now.bytes ≡ Some r) }
-    ensures refused { IfErr result (λ r. (image : List ℕ) (volume : Volume) → IsMounted image vol.now → volume_of image ≡ Ok volume → rename_on old.now new.now volume ≡ Err r) }
+    ensures refused { IfErr result (λ r. (image : List ℕ) (volume : Volume)
+        → IsMounted image vol.now → volume_of image ≡ Ok volume
+        → rename_on old.now new.now volume ≡ Err r) }
 {
     let Some(slot) = find(vol, old) else {
         return Err(Refusal::NoSet);
@@ -73,8 +74,7 @@ fn slot_to_rename(vol: &Vol, old: &Dsn, new: &Dsn) -> Result<u32, Refusal>
 
 // The DSCB, under this name where it is a format 1.
 fn under_name(dscb: &Dscb, name: &Dsn) -> Dscb
-    ensures exact { result ≡ under_name name.now.bytes dscb.now }
-    ensures long { length name.now.bytes ≡ 44 }
+    ensures { result ≡ under_name name.now.bytes dscb.now }
 {
     let name = name.bytes;
     match dscb {

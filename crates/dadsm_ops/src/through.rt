@@ -1,8 +1,9 @@
 //! One slot of a VTOC, written and made durable.
 ghost use Rattle.std.specs.Prelude.{◌≡◌, ◌<◌, length, IsTrue, OnOk};
 ghost use Rattle.hall_core.specs.Facts.{DeviceCall, unit_of};
-ghost use Rattle.hall_core.specs.Files.{AfterSync, image_of};
-ghost use Rattle.hall_core.specs.Moments.{IsDurable};
+ghost use Rattle.stop_model.specs.Files.{AfterSync};
+ghost use Rattle.hall_core.specs.Images.{image_in};
+ghost use Rattle.stop_model.specs.Moments.{IsDurable};
 ghost use Rattle.vtoc_index.specs.Index.{IsIndexOf, IsOfUnit};
 ghost use Rattle.vtoc_index.specs.Puts.{IsReplaced};
 ghost use Rattle.dadsm_ops.specs.Through.{PutsThrough};
@@ -21,9 +22,12 @@ pub(crate) fn put_through<H: Hall>(
 ) -> Result<(), Device>
     requires unit { IsOfUnit (H.facts hall.old).units vol.old }
     requires slot { slot < length vol.old.slots.items }
-    requires index { IsTrue H.tells → IsIndexOf (image_of (H.meaning hall.old).state (H.facts hall.old) vol.old.unit) vol.old }
+    requires index { let image = image_in (H.meaning hall.old) (H.facts hall.old) vol.old.unit in
+        IsTrue H.tells → IsIndexOf image vol.old }
     requires durable { IsTrue H.tells → IsDurable (H.meaning hall.old) }
-    ensures told { IsTrue H.tells → PutsThrough (unit_of (H.facts hall.old).units vol.old.unit).name vol.old slot dscb.now vol.new (H.meaning hall.old) (H.meaning hall.new) result }
+    ensures told { IsTrue H.tells → PutsThrough
+        (unit_of (H.facts hall.old).units vol.old.unit).name vol.old slot dscb.now vol.new
+        (H.meaning hall.old) (H.meaning hall.new) result }
     ensures index { OnOk result (IsReplaced slot dscb.now vol.old vol.new) }
     ensures others { vol.new ≡ record vol.old { slots = vol.new.slots; buf = vol.new.buf } }
     ensures unit { IsOfUnit (H.facts hall.new).units vol.new }

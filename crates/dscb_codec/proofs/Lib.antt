@@ -1,6 +1,5 @@
-mod Cases
 pub mod Fields
-pub mod Once
+pub mod Formats
 pub mod Parts
+pub mod Rows
 pub mod Tables
-pub mod Unique

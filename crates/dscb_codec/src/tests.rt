@@ -1,4 +1,4 @@
-//! A DSCB of each format as it stands on a pack, and the bytes that are refused.
+//! DSCBs of a data set and of a VTOC, as they stand on a pack.
 ghost use Rattle.std.specs.Prelude.{◌<◌};
 
 use super::*;
@@ -15,12 +15,6 @@ const FORMAT_1_TEXT: &str = "\
     C8000005 001203 0BB8 6768 \
     81000001000000040013 01010007000200070009 00000000000000000000 0000000105";
 
-const FORMAT_3_TEXT: &str = "\
-    03030303 01030013000000130009 01040014000000140009 01050015000000150009 01060016000000160009 \
-    F3 01070017000000170009 01080018000000180009 01090019000000190009 \
-    010A001A0000001A0009 010B001B0000001B0009 010C001C0000001C0009 \
-    010D001D0000001D0009 010E001E0000001E0009 010F001F0000001F0009 0000000206";
-
 const FORMAT_4_TEXT: &str = "\
     04040404040404040404040404040404040404040404 04040404040404040404040404040404040404040404 \
     F4 0000000112 0102 00C80000 0003 84 01 3C3D \
@@ -28,12 +22,6 @@ const FORMAT_4_TEXT: &str = "\
     4C4D4E4F505152535455565758595A5B5C5D5E5F606162636465666768 \
     01000000000100000009 \
     737475767778797A7B7C7D7E7F808182838485868788898A8B";
-
-const FORMAT_5_TEXT: &str = "\
-    05050505 000A000305 0000000000 0000000000 0000000000 0000000000 0000000000 0000000000 00320000FE \
-    F5 0064000002 0000000000 0000000000 0000000000 0000000000 0000000000 0000000000 \
-    0000000000 0000000000 0000000000 0000000000 0000000000 0000000000 0000000000 0000000000 \
-    0000000000 0000000000 07C6000100 0000000102";
 
 // The value of a hexadecimal digit.
 fn digit_of(digit: u8) -> u8
@@ -103,34 +91,6 @@ fn format_1_with_two_extents(rt: HostRuntime) {
 }
 
 #[test]
-fn format_3_with_thirteen_extents(rt: HostRuntime) {
-    let expected = F3 {
-        id: 0x0303_0303,
-        front: [
-            [1, 3, 0, 19, 0, 0, 0, 19, 0, 9],
-            [1, 4, 0, 20, 0, 0, 0, 20, 0, 9],
-            [1, 5, 0, 21, 0, 0, 0, 21, 0, 9],
-            [1, 6, 0, 22, 0, 0, 0, 22, 0, 9],
-        ],
-        back: [
-            [1, 7, 0, 23, 0, 0, 0, 23, 0, 9],
-            [1, 8, 0, 24, 0, 0, 0, 24, 0, 9],
-            [1, 9, 0, 25, 0, 0, 0, 25, 0, 9],
-            [1, 10, 0, 26, 0, 0, 0, 26, 0, 9],
-            [1, 11, 0, 27, 0, 0, 0, 27, 0, 9],
-            [1, 12, 0, 28, 0, 0, 0, 28, 0, 9],
-            [1, 13, 0, 29, 0, 0, 0, 29, 0, 9],
-            [1, 14, 0, 30, 0, 0, 0, 30, 0, 9],
-            [1, 15, 0, 31, 0, 0, 0, 31, 0, 9],
-        ],
-        pointer: [0, 0, 0, 2, 6],
-    };
-    let bytes = bytes_of(&rt, FORMAT_3_TEXT);
-    assert_eq!(rt; decode(&bytes), Ok(Dscb::F3(expected)));
-    assert_eq!(rt; encode(&Dscb::F3(expected)), bytes);
-}
-
-#[test]
 fn format_4_with_each_field(rt: HostRuntime) {
     let bytes = bytes_of(&rt, FORMAT_4_TEXT);
     let Ok(Dscb::F4(found)) = decode(&bytes) else {
@@ -156,66 +116,4 @@ fn format_4_with_each_field(rt: HostRuntime) {
     assert_eq!(rt; found.vtoc, [1, 0, 0, 0, 0, 1, 0, 0, 0, 9]);
     assert_eq!(rt; (found.res115[0], found.res115[24]), (115, 139));
     assert_eq!(rt; encode(&Dscb::F4(found)), bytes);
-}
-
-#[test]
-fn format_5_with_four_runs(rt: HostRuntime) {
-    let mut expected = F5 {
-        id: 0x0505_0505,
-        front: [[0; 5]; 8],
-        back: [[0; 5]; 18],
-        pointer: [0, 0, 0, 1, 2],
-    };
-    expected.front[0] = [0, 10, 0, 3, 5];
-    expected.front[7] = [0, 50, 0, 0, 254];
-    expected.back[0] = [0, 100, 0, 0, 2];
-    expected.back[17] = [0x07, 0xC6, 0, 1, 0];
-    let bytes = bytes_of(&rt, FORMAT_5_TEXT);
-    assert_eq!(rt; decode(&bytes), Ok(Dscb::F5(expected)));
-    assert_eq!(rt; encode(&Dscb::F5(expected)), bytes);
-}
-
-#[test]
-fn zeros_are_free_and_other_format_bytes_are_refused(rt: HostRuntime) {
-    assert_eq!(rt; decode(&[0; 140]), Ok(Dscb::F0));
-    assert_eq!(rt; encode(&Dscb::F0), [0; 140]);
-    for (format, refusal) in [
-        (0xF2, DscbErr::Unsupported(0xF2)),
-        (0xF6, DscbErr::Unsupported(0xF6)),
-        (0xF0, DscbErr::BadFormat(0xF0)),
-        (0xF7, DscbErr::BadFormat(0xF7)),
-        (0x01, DscbErr::BadFormat(0x01)),
-        // The low half of the byte is a format's.
-        (0x03, DscbErr::BadFormat(0x03)),
-        (0xC3, DscbErr::BadFormat(0xC3)),
-        (0x40, DscbErr::BadFormat(0x40)),
-    ] {
-        let mut bytes = [0; 140];
-        bytes[44] = format;
-        assert_eq!(rt; decode(&bytes), Err(refusal), "format byte {format}");
-    }
-    for at in [0, 43, 45, 139] {
-        let mut bytes = [0; 140];
-        bytes[at] = 1;
-        assert_eq!(rt; decode(&bytes), Err(DscbErr::BadFormat(0)), "byte {at}");
-    }
-}
-
-#[test]
-fn fields_are_not_judged(rt: HostRuntime) {
-    // Without the other bytes of the key, and with more extents than a data set has.
-    for format in [0xF1, 0xF3, 0xF4, 0xF5] {
-        let mut bytes = [0; 140];
-        bytes[44] = format;
-        let Ok(found) = decode(&bytes) else {
-            panic!(&rt; "format byte {format} is refused")
-        };
-        assert_eq!(rt; encode(&found), bytes, "format byte {format}");
-    }
-    let mut bytes = bytes_of(&rt, FORMAT_1_TEXT);
-    bytes[59] = 0xFF;
-    let Ok(Dscb::F1(found)) = decode(&bytes) else {
-        panic!(&rt; "255 extents are refused")
-    };
-    assert_eq!(rt; found.extents, 255);
 }

@@ -14,6 +14,7 @@ use Rattle.ebcdic_names.specs.declared.names.Serial.{Serial}
 abbrev pub begins_level : ℕ → Bool
 begins_level c = (nat_le 65 c && nat_le c 90) || ((c == 64) || ((c == 35) || (c == 36)))
 
+-- a decimal digit
 abbrev pub is_digit : ℕ → Bool
 is_digit c = nat_le 48 c && nat_le c 57
 

@@ -69,7 +69,7 @@ pub fn code_page_law()
 
 mod names;
 
-pub use names::{Dsn, Name8, NameErr, Serial, without_blanks};
+pub use names::{Dsn, Name8, NameErr, Serial, push_name_in_ascii, without_blanks};
 
 #[cfg(test)]
 mod tests;

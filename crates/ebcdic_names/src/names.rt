@@ -1,10 +1,11 @@
-// Data set names, names of one level and volume serials.
+//! Data set names, names of one level and volume serials.
 
-ghost use Rattle.std.specs.Prelude.{◌≡◌, ◌≢◌, ◌≤◌, ◌==◌, ◌-◌, ◌++◌, ◌∷◌, [], ℕ, List, chars, length, replicate, reverse, slice_get, take_while, Some};
+ghost use Rattle.std.specs.Prelude.{◌≡◌, ◌≢◌, ◌≤◌, ◌==◌, ◌-◌, ◌++◌, ◌∷◌, [], ℕ, List, chars, length, replicate, reverse, slice_get, take_while, OnOk, OnErr, Some};
 ghost use Rattle.std.specs.Fmt.{DisplaysOnOk};
 ghost use Rattle.ebcdic_names.specs.Names.{begins_level, byte_of, char_faults, continues_level, dsn_of, ends_level, is_digit, level_allows, level_fault, name8_of, name_fault, padded, serial_allows, serial_fault, serial_faults, serial_of, shown, without_blanks};
 
 use crate::{to_ascii, to_ebcdic};
+use std::alloc::AllocError;
 use std::fmt;
 
 // The EBCDIC blank.
@@ -249,6 +250,7 @@ fn begins_level(c: char) -> bool
     'A' <= c && c <= 'Z' || c == '@' || c == '#' || c == '$'
 }
 
+// Whether a character is a decimal digit.
 fn is_digit(c: char) -> bool
     ensures { result ≡ is_digit c }
 {
@@ -322,6 +324,22 @@ pub fn without_blanks(bytes: &[u8]) -> &[u8]
     ensures end { (front : List ℕ) → result.now ≢ front ++ 0x40 ∷ [] }
 {
     &bytes[..bytes.len() - trailing_blanks(bytes)]
+}
+
+/// Adds a name in ASCII as `Display` prints it: without the blanks, X'40', behind it.
+///
+/// A name of blanks alone adds nothing. The one error is want of memory, and on it nothing is added.
+#[tactic(auto, unfolding(crate::specs::Names::shown))]
+pub fn push_name_in_ascii(text: &mut Vec<u8>, name: &[u8]) -> Result<(), AllocError>
+    ensures added { OnOk result (text.new.items ≡ text.old.items ++ shown name.now) }
+    ensures kept { OnErr result (text.new.items ≡ text.old.items) }
+{
+    let characters = without_blanks(name);
+    text.reserve(characters.len())?;
+    for byte in characters {
+        text.push(to_ascii(*byte)).unwrap();
+    }
+    Ok(())
 }
 
 // The number of blanks that bytes end with.

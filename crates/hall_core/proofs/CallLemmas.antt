@@ -3,8 +3,8 @@ use Rattle.std.proofs.Common.{◌≡◌, ◌<◌, inl, inr, ⊎_elim, ℕ, List,
 use Rattle.std.specs.Prelude.{Ok, Err}
 use Rattle.std.proofs.lemmas.List.{append-nil, append_cancel_left}
 use Rattle.hall_core.specs.declared.hall.HallErr.{HallErr}
-use Rattle.hall_core.specs.Moments.{Meaning, LeftNow, LeavesSame, ElapsesExactly, Same}
-use Rattle.hall_core.specs.Files.{File, IsPrefixOf, IsPending, AfterWrite, AfterSync, AfterPrint}
+use Rattle.stop_model.specs.Moments.{Meaning, LeftNow, LeavesSame, ElapsesExactly, Same}
+use Rattle.stop_model.specs.Files.{File, IsPrefixOf, IsPending, AfterWrite, AfterSync, AfterPrint}
 use Rattle.hall_core.specs.HistoryLaws.{LeftIn, now_in, in_now, nothing_kept, state_left_now, now_since}
 use Rattle.hall_core.specs.History.{Write, Event, wrote, synced, printed, passed, Disk, new_disk, with_writes, after, after_all, MayLeave, meaning_after}
 use Rattle.hall_core.proofs.HistoryLemmas.{next_disk, elapses, left_more, left_out, left_in}
@@ -134,13 +134,13 @@ module _ (first : List File) (es : List Event) where
 
   -- a print that was done
   module _ (bytes : List ℕ) where
-    printed_disk : after_all (new_disk first) (es ++ printed bytes true ∷ []) ≡ after d (printed bytes true)
-    printed_disk = next_disk first es (printed bytes true)
+    printed_disk : after_all (new_disk first) (es ++ printed bytes ∷ []) ≡ after d (printed bytes)
+    printed_disk = next_disk first es (printed bytes)
 
     abbrev printed_m : Meaning (List File)
-    printed_m = meaning_after first (es ++ printed bytes true ∷ [])
+    printed_m = meaning_after first (es ++ printed bytes ∷ [])
 
-    printed_text : (after_all (new_disk first) (es ++ printed bytes true ∷ [])).text ≡ d.text ++ bytes
+    printed_text : (after_all (new_disk first) (es ++ printed bytes ∷ [])).text ≡ d.text ++ bytes
     printed_text = ap (λ (x : Disk). x.text) printed_disk
 
     abbrev IsBetween : List File → List ℕ → Type 0
@@ -161,8 +161,8 @@ module _ (first : List File) (es : List Event) where
       left = λ j. (subst (λ (x : Disk). MayLeave x j) printed_disk, subst (λ (x : Disk). MayLeave x j) (sym printed_disk));
       done = printed_text;
       prefix = (bytes, ([], append-nil bytes), printed_text);
-      ticks = longer (printed bytes true);
-      time = elapses first es (printed bytes true) IsBetween (λ j p during. inr (printing j p during))
+      ticks = longer (printed bytes);
+      time = elapses first es (printed bytes) IsBetween (λ j p during. inr (printing j p during))
           (λ j p left is. inr (printing j p (left, (bytes, ([], append-nil bytes), is))))
           (λ j p has. inl (print_back j p has));
     }

@@ -3,8 +3,8 @@ use Rattle.std.proofs.Common.{◌≡◌, ◌<◌, ◌⊎◌, inl, inr, ⊎_elim,
 use Rattle.std.specs.Prelude.{Some, slice_get}
 use Rattle.std.proofs.lemmas.List.{append-nil, take-append-le}
 use Rattle.std.proofs.lemmas.Bool.{cases_lt}
-use Rattle.hall_core.specs.Moments.{ElapsesExactly}
-use Rattle.hall_core.specs.Files.{File}
+use Rattle.stop_model.specs.Moments.{ElapsesExactly}
+use Rattle.stop_model.specs.Files.{File}
 use Rattle.hall_core.specs.HistoryLaws.{LeftIn, at_of, of_at, now_in, last_disk, now_since, since_now, with_writes_more, nothing_kept, kept_with}
 use Rattle.hall_core.specs.History.{Write, Event, wrote, Disk, new_disk, with_write, with_writes, after, after_all, kept, MayLeave, bytes_of_print, MayLeaveAt, MayLeaveSince, meaning_after}
 

@@ -6,7 +6,3 @@ mod HistoryLemmas
 mod RecordLemmas
 mod ReplayLemmas
 mod UnitLemmas
-pub mod EarlierLemmas
-pub mod MomentLemmas
-pub mod StageLemmas
-pub mod StepLemmas

@@ -5,7 +5,7 @@ use Rattle.std.proofs.lemmas.Bool.{cases_lt}
 use Rattle.hall_core.specs.declared.mem_hall.step.Step.{Step}
 use Rattle.hall_core.specs.declared.mem_hall.step.Step.TheVariants.{Write, Sync, Print, Pass}
 use Rattle.hall_core.specs.Facts.{Attached, unit_of}
-use Rattle.hall_core.specs.Files.{File, written}
+use Rattle.stop_model.specs.Files.{File, written}
 use Rattle.hall_core.specs.History.{Event, wrote, synced, printed, passed, Write as Writing, Disk, new_disk, after, after_all}
 use Rattle.std.specs.Prelude.{Option, Some, None, String, Vec, if◌then◌else◌}
 use Rattle.std.specs.Option.{ForNone}
@@ -36,7 +36,7 @@ event_grown units more pool pool' text text' (Write unit at start len is_done) w
     let event : List ℕ → List ℕ → Event = λ name bytes. wrote (record { name = name; at = at; bytes = bytes; is_done = is_done }) in
     ap (λ (u : Attached). event u.name (part (pool ++ pool') start len)) same_unit ∙ ap (λ (bytes : List ℕ). event (unit_of units unit).name bytes) same_part
 event_grown units more pool pool' text text' Sync within = refl
-event_grown units more pool pool' text text' (Print start len is_cut) within = ap (λ (bytes : List ℕ). printed bytes is_cut) (part_grown text text' start len within.from_text)
+event_grown units more pool pool' text text' (Print start len) within = ap printed (part_grown text text' start len within.from_text)
 event_grown units more pool pool' text text' Pass within = refl
 
 -- and so do the events of steps
@@ -59,7 +59,7 @@ within_grown units more pool pool' text text' (Write unit at start len is_done) 
       from_text = omega arith;
     }
 within_grown units more pool pool' text text' Sync up up' within = record { unit = omega arith; size = omega arith; from_pool = omega arith; from_text = omega arith }
-within_grown units more pool pool' text text' (Print start len is_cut) up up' within = record { unit = omega arith; size = omega arith; from_pool = omega arith; from_text = omega (arith, within.from_text) }
+within_grown units more pool pool' text text' (Print start len) up up' within = record { unit = omega arith; size = omega arith; from_pool = omega arith; from_text = omega (arith, within.from_text) }
 within_grown units more pool pool' text text' Pass up up' within = record { unit = omega arith; size = omega arith; from_pool = omega arith; from_text = omega arith }
 
 pub all_within_grown : (units more : List Attached) (pool pool' text text' : ℕ) (steps : List Step) → pool ≤ pool' → text ≤ text' → AreWithin units pool text steps → AreWithin (units ++ more) pool' text' steps
@@ -137,12 +137,12 @@ module _ (first files : List File) (places : List ℕ) (steps : List Step) (pool
       by_kind false = one_more files [] [] Pass passed refl refl (record { unit = omega arith; size = omega arith; from_pool = omega arith; from_text = omega arith }) (sym was.present) (append-nil text ∙ sym was.printed)
 
   -- a print
-  pub print_more : (bytes text' : List ℕ) (start : ℕ) (is_cut : Bool) (steps' : List Step) → start ≡ length text → text' ≡ text ++ bytes → steps' ≡ steps ++ Print start (length bytes) is_cut ∷ []
-      → IsMore first files files places steps steps' pool pool text text' (printed bytes is_cut)
-  print_more bytes text' start is_cut steps' starts text_is steps_are =
-      renamed files (steps ++ Print start (length bytes) is_cut ∷ []) steps' (pool ++ []) pool (text ++ bytes) text' _ steps_are (sym (append-nil pool)) text_is
-      (one_more files [] bytes (Print start (length bytes) is_cut) (printed bytes is_cut) refl
-      (ap (λ (l : List ℕ). printed l is_cut) (ap (λ (n : ℕ). part (text ++ bytes) n (length bytes)) starts ∙ part_added text bytes))
+  pub print_more : (bytes text' : List ℕ) (start : ℕ) (steps' : List Step) → start ≡ length text → text' ≡ text ++ bytes → steps' ≡ steps ++ Print start (length bytes) ∷ []
+      → IsMore first files files places steps steps' pool pool text text' (printed bytes)
+  print_more bytes text' start steps' starts text_is steps_are =
+      renamed files (steps ++ Print start (length bytes) ∷ []) steps' (pool ++ []) pool (text ++ bytes) text' _ steps_are (sym (append-nil pool)) text_is
+      (one_more files [] bytes (Print start (length bytes)) (printed bytes) refl
+      (ap printed (ap (λ (n : ℕ). part (text ++ bytes) n (length bytes)) starts ∙ part_added text bytes))
       (record { unit = omega arith; size = omega arith; from_pool = omega arith; from_text = omega (arith, starts, length-append text bytes) })
       (sym was.present) (ap (λ (l : List ℕ). l ++ bytes) (sym was.printed)))
 

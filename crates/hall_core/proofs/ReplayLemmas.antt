@@ -7,7 +7,7 @@ use Rattle.std.proofs.lemmas.Bool.{cases_lt}
 use Rattle.hall_core.specs.declared.mem_hall.step.Step.{Step}
 use Rattle.hall_core.specs.declared.mem_hall.step.Step.TheVariants.{Write, Sync, Print, Pass}
 use Rattle.hall_core.specs.Facts.{Attached, unit_of}
-use Rattle.hall_core.specs.Files.{File}
+use Rattle.stop_model.specs.Files.{File}
 use Rattle.hall_core.specs.History.{Write as Writing, Disk, new_disk, with_write, with_writes, after, after_all, kept}
 use Rattle.hall_core.specs.HistoryLaws.{nothing_kept}
 use Rattle.hall_core.specs.Replay.{part, event_of, events_at, AreWithin, IsWritable, AreWritable, ArePrinted, writes_at, done_of, prints_at, text_needed, is_write, is_done_write, pending_place, IsPendingFrom, disk_after}
@@ -24,7 +24,7 @@ pub writes_at-append : (units : List Attached) (pool : List ℕ) (xs ys : List S
 writes_at-append units pool [] ys = refl
 writes_at-append units pool (Write unit at start len is_done ∷ xs) ys = ap (λ (l : List Writing). record { name = (unit_of units unit).name; at = at; bytes = part pool start len; is_done = is_done } ∷ l) (writes_at-append units pool xs ys)
 writes_at-append units pool (Sync ∷ xs) ys = writes_at-append units pool xs ys
-writes_at-append units pool (Print start len is_cut ∷ xs) ys = writes_at-append units pool xs ys
+writes_at-append units pool (Print start len ∷ xs) ys = writes_at-append units pool xs ys
 writes_at-append units pool (Pass ∷ xs) ys = writes_at-append units pool xs ys
 
 pub done_of-append : (xs ys : List Writing) → done_of (xs ++ ys) ≡ done_of xs ++ done_of ys
@@ -39,7 +39,7 @@ pub prints_at-append : (text : List ℕ) (xs ys : List Step) → prints_at text 
 prints_at-append text [] ys = refl
 prints_at-append text (Write unit at start len is_done ∷ xs) ys = prints_at-append text xs ys
 prints_at-append text (Sync ∷ xs) ys = prints_at-append text xs ys
-prints_at-append text (Print start len is_cut ∷ xs) ys = ap (λ (l : List ℕ). part text start len ++ l) (prints_at-append text xs ys) ∙ sym (append_assoc (part text start len) (prints_at text xs) (prints_at text ys))
+prints_at-append text (Print start len ∷ xs) ys = ap (λ (l : List ℕ). part text start len ++ l) (prints_at-append text xs ys) ∙ sym (append_assoc (part text start len) (prints_at text xs) (prints_at text ys))
 prints_at-append text (Pass ∷ xs) ys = prints_at-append text xs ys
 
 -- what is done of one step
@@ -47,7 +47,7 @@ pub done_of_one : (units : List Attached) (pool : List ℕ) (s : Step) → (if i
 done_of_one units pool (Write unit at start len true) = refl
 done_of_one units pool (Write unit at start len false) = refl
 done_of_one units pool Sync = refl
-done_of_one units pool (Print start len is_cut) = refl
+done_of_one units pool (Print start len) = refl
 done_of_one units pool Pass = refl
 
 no_flags : (n : ℕ) (ws : List Writing) → kept (drop n []) ws ≡ []
@@ -72,7 +72,7 @@ kept_one units pool keep next Sync ws = nothing (get_or keep next false)
     nothing : (b : Bool) → kept (drop next keep) ws ≡ (if b then [] else []) ++ kept (drop next keep) ws
     nothing true = refl
     nothing false = refl
-kept_one units pool keep next (Print start len is_cut) ws = nothing (get_or keep next false)
+kept_one units pool keep next (Print start len) ws = nothing (get_or keep next false)
   where
     nothing : (b : Bool) → kept (drop next keep) ws ≡ (if b then [] else []) ++ kept (drop next keep) ws
     nothing true = refl
@@ -89,7 +89,7 @@ files_read d units pool text [] = refl
 files_read d units pool text (Write unit at start len true ∷ steps) = files_read (after d (event_of units pool text (Write unit at start len true))) units pool text steps
 files_read d units pool text (Write unit at start len false ∷ steps) = files_read (after d (event_of units pool text (Write unit at start len false))) units pool text steps
 files_read d units pool text (Sync ∷ steps) = files_read (after d (event_of units pool text Sync)) units pool text steps
-files_read d units pool text (Print start len is_cut ∷ steps) = files_read (after d (event_of units pool text (Print start len is_cut))) units pool text steps
+files_read d units pool text (Print start len ∷ steps) = files_read (after d (event_of units pool text (Print start len))) units pool text steps
 files_read d units pool text (Pass ∷ steps) = files_read (after d (event_of units pool text Pass)) units pool text steps
 
 -- the text, from what was printed
@@ -97,7 +97,7 @@ pub text_read : (d : Disk) (units : List Attached) (pool text : List ℕ) (steps
 text_read d units pool text [] = sym (append-nil d.text)
 text_read d units pool text (Write unit at start len is_done ∷ steps) = text_read (after d (event_of units pool text (Write unit at start len is_done))) units pool text steps
 text_read d units pool text (Sync ∷ steps) = text_read (after d (event_of units pool text Sync)) units pool text steps
-text_read d units pool text (Print start len is_cut ∷ steps) = text_read (after d (event_of units pool text (Print start len is_cut))) units pool text steps ∙ append_assoc d.text (part text start len) (prints_at text steps)
+text_read d units pool text (Print start len ∷ steps) = text_read (after d (event_of units pool text (Print start len))) units pool text steps ∙ append_assoc d.text (part text start len) (prints_at text steps)
 text_read d units pool text (Pass ∷ steps) = text_read (after d (event_of units pool text Pass)) units pool text steps
 
 disk_more : (first : List File) (units : List Attached) (pool text : List ℕ) (steps : List Step) (s : Step) → disk_after first units pool text (steps ++ s ∷ []) ≡ after (disk_after first units pool text steps) (event_of units pool text s)
@@ -144,7 +144,7 @@ module _ (steps : List Step) (from : ℕ) (was : IsPendingFrom steps from) where
   pub pending_more : (s : Step) → IsPendingFrom (steps ++ s ∷ []) (pending_place s (length steps) from)
   pending_more (Write unit at start len is_done) = stays _ (λ d units pool text. refl) (λ d units pool text. refl)
   pending_more Sync = past_sync
-  pending_more (Print start len is_cut) = stays _ (λ d units pool text. refl) (λ d units pool text. sym (append-nil d.pending))
+  pending_more (Print start len) = stays _ (λ d units pool text. refl) (λ d units pool text. sym (append-nil d.pending))
   pending_more Pass = stays _ (λ d units pool text. refl) (λ d units pool text. sym (append-nil d.pending))
 
 -- one step more of those that were seen

@@ -8,7 +8,7 @@ use Rattle.std.proofs.lemmas.List.{get_or-map, length-map, get_or_read, map-set,
 use Rattle.std.proofs.Math.Seq.{map-set_same}
 use Rattle.std.specs.Vec.{with_items}
 use Rattle.hall_core.specs.Facts.{Attached, unit_of}
-use Rattle.hall_core.specs.Files.{File, file_of, patched, written}
+use Rattle.stop_model.specs.Files.{File, file_of, patched, written}
 use Rattle.hall_core.specs.Laws.{other_name, same_name, tail_first, file_at_first, shape_at}
 use Rattle.hall_core.specs.Held.{file_of_pair, files_of, attached_as, shapes_of, units_at, IsFirst, AreFirst}
 use Rattle.hall_core.specs.declared.mem_hall.MemHall.{MemHall}

@@ -1,11 +1,8 @@
 -- What a hall always tells, in this project's profile: its units, the references that lead to it, and how many faults it had.
-use Rattle.std.specs.Prelude.{◌≡◌, ℕ, ◌+◌, ◌-◌, ◌^◌, ◌≤◌, min, List, [], ◌∷◌, ◌++◌, length, map, Contains, Result, OnOk, OnErr, IfOk, IsErrOf, slice_index_or}
+use Rattle.std.specs.Prelude.{◌≡◌, ◌⊎◌, ℕ, ◌≤◌, List, [], ◌∷◌, ◌++◌, length, map, Contains, Result, OnOk, OnErr, IfOk, IsErrOf, slice_index_or}
+use Rattle.stop_model.specs.Counts.{Rose}
 use Rattle.hall_core.specs.declared.hall.HallErr.{HallErr}
 use Rattle.hall_core.specs.declared.hall.HallErr.TheVariants.{Failed, Memory}
-
--- a count grew, or stands at its type's end
-abbrev pub Rose : ℕ → ℕ → Type 0
-Rose before now = min (before + 1) (2 ^ 64 - 1) ≤ now
 
 -- an attached file: its name, and its size in bytes
 pub record Attached : Type 0 where
@@ -22,6 +19,14 @@ pub record Facts : Type 0 where
 -- the attached file of a unit
 abbrev pub unit_of : List Attached → ℕ → Attached
 unit_of units unit = slice_index_or units unit (record { name = []; size = 0 })
+
+-- the name of the file of a unit
+abbrev pub name_in : Facts → ℕ → List ℕ
+name_in facts unit = (unit_of facts.units unit).name
+
+-- the size of a unit, in bytes
+abbrev pub size_in : Facts → ℕ → ℕ
+size_in facts unit = (unit_of facts.units unit).size
 
 -- a file is attached under this name
 abbrev pub IsAttached : List Attached → List ℕ → Type 0
@@ -71,3 +76,12 @@ pub record AttachCall (name : List ℕ) (old new : Facts) (result : Result ℕ H
   pub failed : IsErrOf result Failed → Rose old.dev_faults new.dev_faults
   pub others : ¬ IsErrOf result Failed → new.dev_faults ≡ old.dev_faults
   pub memory : IsErrOf result Memory → new ≡ old
+
+-- Calls of a device and of a printer: both counts stand still where they are done, one rose where they failed, and the rest stays.
+pub record OutsideCalls {T E : Type 0} (old new : Facts) (result : Result T E) : Type 0 where
+  pub units : new.units ≡ old.units
+  pub references : new.references ≡ old.references
+  pub devices : old.dev_faults ≤ new.dev_faults
+  pub prints : old.print_faults ≤ new.print_faults
+  pub done : OnOk result ((new.dev_faults ≡ old.dev_faults) × (new.print_faults ≡ old.print_faults))
+  pub failed : OnErr result (Rose old.dev_faults new.dev_faults ⊎ Rose old.print_faults new.print_faults)

@@ -1,8 +1,8 @@
 -- What the parts of a hall in memory stand for.
-use Rattle.std.specs.Prelude.{◌≢◌, ℕ, ◌<◌, List, length, map, Option, Some, None, slice_index, String, Vec, string_bytes}
+use Rattle.std.specs.Prelude.{◌≡◌, ◌≢◌, Bool, if◌then◌else◌, ℕ, ◌<◌, List, length, map, Option, Some, None, slice_index, String, Vec, string_bytes}
 use Rattle.std.specs.declared.alloc.Global.{Global}
 use Rattle.hall_core.specs.Facts.{Attached, unit_of}
-use Rattle.hall_core.specs.Files.{File}
+use Rattle.stop_model.specs.Files.{File, written}
 
 -- the file that a pair of a name and bytes stands for
 abbrev pub file_of_pair : String Global × Vec ℕ Global → File
@@ -29,10 +29,22 @@ shapes_of files = map attached_as files
 abbrev pub units_at : List Attached → List ℕ → List Attached
 units_at shapes places = map (λ place. unit_of shapes place) places
 
+-- the units at these places of the files of pairs
+abbrev pub attached_in : List (String Global × Vec ℕ Global) → List ℕ → List Attached
+attached_in pairs places = units_at (shapes_of (files_of pairs)) places
+
 -- a file at this place is the first of its name
 pub record IsFirst (shapes : List Attached) (place : ℕ) : Type 0 where
   pub inside : place < length shapes
   pub before : (k : ℕ) → k < place → (unit_of shapes k).name ≢ (unit_of shapes place).name
+
+-- a file at this place has this name, and is the first of it
+abbrev pub IsFirstNamed : List Attached → ℕ → List ℕ → Type 0
+IsFirstNamed shapes place name = IsFirst shapes place × ((unit_of shapes place).name ≡ name)
+
+-- the files, with a write over those of the name at a place where it is done
+abbrev pub with_bytes : List File → ℕ → ℕ → List ℕ → Bool → List File
+with_bytes files place at bytes is_done = if is_done then written files (unit_of (shapes_of files) place).name at bytes else files
 
 -- each place is that of the first file of its name
 abbrev pub AreFirst : List Attached → List ℕ → Type 0

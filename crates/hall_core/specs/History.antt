@@ -1,7 +1,7 @@
 -- The disk model, in this project's profile: what calls did to a disk, and what a stop at each moment of them leaves.
 use Rattle.std.specs.Prelude.{◌≡◌, ℕ, ◌≤◌, Bool, true, false, List, [], ◌∷◌, ◌++◌, length, take, Option, Some, slice_get, if◌then◌else◌}
-use Rattle.hall_core.specs.Moments.{Meaning}
-use Rattle.hall_core.specs.Files.{File, written, IsPrefixOf}
+use Rattle.stop_model.specs.Moments.{Meaning}
+use Rattle.stop_model.specs.Files.{File, written, IsPrefixOf}
 
 -- a write over the bytes of a file, from an offset on; and whether it was done, and so is read
 pub record Write : Type 0 where
@@ -10,11 +10,11 @@ pub record Write : Type 0 where
   pub bytes : List ℕ
   pub is_done : Bool
 
--- what a call did: a write; a sync; a print of these bytes, and whether a stop in it may leave a part of them; or nothing that stays
+-- what a call did: a write; a sync; a print of these bytes; or nothing that stays
 pub data Event : Type 0 where
   wrote : Write → Event
   synced : Event
-  printed : List ℕ → Bool → Event
+  printed : List ℕ → Event
   passed : Event
 
 -- the files as of the last sync, as they are read, the writes since that sync, and the bytes printed
@@ -41,7 +41,7 @@ with_writes files (w ∷ ws) = with_writes (with_write files w) ws
 abbrev pub after : Disk → Event → Disk
 after d (wrote w) = record d { files = if w.is_done then with_write d.files w else d.files; pending = d.pending ++ w ∷ [] }
 after d synced = record d { stable = d.files; pending = [] }
-after d (printed bytes is_cut) = record d { text = d.text ++ bytes }
+after d (printed bytes) = record d { text = d.text ++ bytes }
 after d passed = d
 
 -- the disk after these events, one after another
@@ -56,13 +56,17 @@ kept (flag ∷ flags) [] = []
 kept (true ∷ flags) (w ∷ ws) = w ∷ kept flags ws
 kept (false ∷ flags) (w ∷ ws) = kept flags ws
 
--- a stop leaves these files of a disk: the stable ones, over which pending writes were made, whichever are kept, in their order
+-- the stable files of a disk, over which the pending writes were made whose flag is true, in their order
+abbrev pub files_left : Disk → List Bool → List File
+files_left d flags = with_writes d.stable (kept flags d.pending)
+
+-- a stop leaves these files of a disk, whichever of the pending writes are kept
 abbrev pub MayLeave : Disk → List File → Type 0
-MayLeave d j = (flags : List Bool) × (j ≡ with_writes d.stable (kept flags d.pending))
+MayLeave d j = (flags : List Bool) × (j ≡ files_left d flags)
 
 -- the bytes of which a stop in an event may leave a part
 abbrev pub bytes_of_print : Option Event → List ℕ
-bytes_of_print (Some (printed bytes is_cut)) = if is_cut then bytes else []
+bytes_of_print (Some (printed bytes)) = bytes
 bytes_of_print _ = []
 
 -- a stop before the k-th event, counted from 0, or within it leaves these files and printed bytes of a disk that held those files at first

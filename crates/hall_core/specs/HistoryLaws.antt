@@ -2,8 +2,8 @@
 use Rattle.std.specs.Prelude.{◌≡◌, ◌≤◌, ℕ, List, [], ◌∷◌, ◌++◌, length, take, refl, Bool, true, false, None, slice_get}
 use Rattle.std.proofs.Common.{zero, suc, sym, ◌∙◌, ap, subst, arith}
 use Rattle.std.proofs.lemmas.List.{append-nil, take_all}
-use Rattle.hall_core.specs.Moments.{LeftNow}
-use Rattle.hall_core.specs.Files.{File, IsPrefixOf}
+use Rattle.stop_model.specs.Moments.{LeftNow}
+use Rattle.stop_model.specs.Files.{File, IsPrefixOf}
 use Rattle.hall_core.specs.History.{Write, Event, wrote, synced, printed, passed, Disk, new_disk, with_write, with_writes, after, after_all, kept, MayLeave, bytes_of_print, MayLeaveAt, MayLeaveSince, meaning_after}
 
 pub get_past : (es : List Event) (n : ℕ) → length es ≤ n → slice_get es n ≡ None
@@ -88,7 +88,7 @@ state_written d name at bytes false (flags, is) =
 pub state_after : (d : Disk) (e : Event) → MayLeave d d.files → MayLeave (after d e) (after d e).files
 state_after d (wrote w) left = state_written d w.name w.at w.bytes w.is_done left
 state_after d synced left = ([], refl)
-state_after d (printed bytes is_cut) left = left
+state_after d (printed bytes) left = left
 state_after d passed left = left
 
 pub state_left : (d : Disk) (es : List Event) → MayLeave d d.files → MayLeave (after_all d es) (after_all d es).files

@@ -5,8 +5,9 @@ use Rattle.std.proofs.Common.{zero, suc, sym, ◌∙◌, ap, subst, arith}
 use Rattle.std.proofs.lemmas.Slice.Eq.{bytes_eq-Decides}
 use Rattle.std.proofs.lemmas.List.{get_or-map, length-map}
 use Rattle.hall_core.specs.Facts.{Attached, unit_of}
-use Rattle.hall_core.specs.Files.{File, AreWhole, file_of}
-use Rattle.hall_core.specs.Moments.{IsDurable, LeftNow}
+use Rattle.stop_model.specs.Files.{File, file_of}
+use Rattle.hall_core.specs.Images.{AreWhole}
+use Rattle.stop_model.specs.Moments.{IsDurable, LeftNow}
 use Rattle.hall_core.specs.History.{Disk, Write, after_all, kept, new_disk, with_writes}
 use Rattle.hall_core.specs.Replay.{events_at, units_needed}
 use Rattle.hall_core.specs.declared.mem_hall.step.Step.{Step}
@@ -83,7 +84,7 @@ settled_after : (units : List Attached) (pool text : List ℕ) (steps : List Ste
 settled_after units pool text [] d none settled = settled
 settled_after units pool text (steps.Write unit at start len is_done ∷ steps) d none settled = absurd (let low = none 0 (omega arith) in omega (arith, low))
 settled_after units pool text (Sync ∷ steps) d none settled = settled_after units pool text steps _ (λ k low. none (suc k) (omega (arith, low))) (record { none = refl; same = refl })
-settled_after units pool text (Print start len is_cut ∷ steps) d none settled = settled_after units pool text steps _ (λ k low. none (suc k) (omega (arith, low))) (record { none = settled.none; same = settled.same })
+settled_after units pool text (Print start len ∷ steps) d none settled = settled_after units pool text steps _ (λ k low. none (suc k) (omega (arith, low))) (record { none = settled.none; same = settled.same })
 settled_after units pool text (Pass ∷ steps) d none settled = settled_after units pool text steps d (λ k low. none (suc k) (omega (arith, low))) settled
 
 -- of no writes none is kept

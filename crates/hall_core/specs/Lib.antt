@@ -1,13 +1,10 @@
 pub mod Cards
-pub mod Example
 pub mod Facts
-pub mod Files
 pub mod Held
 pub mod History
 pub mod HistoryLaws
+pub mod Images
 pub mod Laws
 pub mod Memory
 pub mod MemoryCards
-pub mod Moments
 pub mod Replay
-pub mod Steps

@@ -1,9 +1,9 @@
 -- What a hall in memory shows of itself.
-use Rattle.std.specs.Prelude.{◌≡◌, ◌↔◌, ◌⊎◌, ℕ, ◌+◌, ◌-◌, ◌^◌, ◌<◌, ◌≤◌, min, List, [], ◌∷◌, ◌++◌, length, take, Contains, Result, IsErrOf}
-use Rattle.hall_core.specs.Facts.{Facts}
-use Rattle.hall_core.specs.Files.{File}
-use Rattle.hall_core.specs.Moments.{Meaning}
-use Rattle.hall_core.specs.History.{Event, Disk, new_disk, after_all, meaning_after}
+use Rattle.std.specs.Prelude.{◌≡◌, ◌↔◌, ◌⊎◌, ℕ, ◌+◌, ◌<◌, ◌≤◌, Bool, List, [], ◌∷◌, ◌++◌, length, take, Contains, Result, IsErrOf}
+use Rattle.hall_core.specs.Facts.{Facts, name_in}
+use Rattle.stop_model.specs.Files.{File}
+use Rattle.stop_model.specs.Moments.{Meaning}
+use Rattle.hall_core.specs.History.{Event, wrote, Disk, new_disk, after_all, meaning_after}
 use Rattle.hall_core.specs.Held.{files_of, first_pairs, shapes_of, units_at}
 use Rattle.hall_core.specs.Replay.{events_at}
 use Rattle.hall_core.specs.declared.hall.HallErr.{HallErr}
@@ -26,6 +26,10 @@ events_of hall = events_at (facts_of hall).units hall.written.items hall.printed
 -- what it holds
 abbrev pub meaning_of : MemHall → Meaning (List File)
 meaning_of hall = meaning_after (first_files hall) (events_of hall)
+
+-- a write to a unit, done or failed
+abbrev pub write_to : Facts → ℕ → ℕ → List ℕ → Bool → Event
+write_to facts unit at bytes is_done = wrote (record { name = name_in facts unit; at = at; bytes = bytes; is_done = is_done })
 
 -- the disk at a moment: before the call of this number
 abbrev pub disk_at : MemHall → ℕ → Disk
@@ -99,8 +103,3 @@ pub record IsExactCall {T : Type 0} (used : ℕ) (call : Call) (event : Event) (
   pub lacking : LacksRoom old used → KeepsRoom old new × KeepsRecord old new
   pub room : HasRoom old used → Records used call event old new
   pub setup : KeepsSetup old new
-
--- a count grows by one where the call failed, unless it stands at its type's end, and stays where it didn't
-pub record CountsFailure {T : Type 0} (before now : ℕ) (result : Result T HallErr) : Type 0 where
-  pub failed : IsErrOf result Failed → now ≡ min (before + 1) (2 ^ 64 - 1)
-  pub others : ¬ IsErrOf result Failed → now ≡ before

@@ -1,11 +1,12 @@
 -- What the record of a hall in memory stands for: the events, over the units and the bytes that were written and printed.
-use Rattle.std.specs.Prelude.{◌≡◌, ℕ, ◌+◌, ◌<◌, ◌≤◌, Bool, true, false, List, [], ◌∷◌, ◌++◌, length, map, take, drop, slice_index_or, if◌then◌else◌}
+use Rattle.std.specs.Prelude.{◌≡◌, ℕ, ◌+◌, ◌<◌, ◌≤◌, Bool, true, false, List, [], ◌∷◌, ◌++◌, length, map, take, drop, slice_index_or, if◌then◌else◌, String, Vec}
+use Rattle.std.specs.declared.alloc.Global.{Global}
 use Rattle.hall_core.specs.declared.mem_hall.step.Step.{Step}
 use Rattle.hall_core.specs.declared.mem_hall.step.Step.TheVariants.{Write, Sync, Print, Pass}
 use Rattle.hall_core.specs.Facts.{Attached, unit_of}
-use Rattle.hall_core.specs.Files.{File}
+use Rattle.stop_model.specs.Files.{File}
 use Rattle.hall_core.specs.History.{Event, wrote, synced, printed, passed, Write as Writing, Disk, new_disk, after_all, with_writes}
-use Rattle.hall_core.specs.Held.{shapes_of, units_at, AreFirst}
+use Rattle.hall_core.specs.Held.{shapes_of, units_at, attached_in, AreFirst}
 
 -- so many bytes of a list, from a start on
 abbrev pub part : List ℕ → ℕ → ℕ → List ℕ
@@ -15,7 +16,7 @@ part bytes start len = take len (drop start bytes)
 abbrev pub event_of : List Attached → List ℕ → List ℕ → Step → Event
 event_of units pool text (Write unit at start len is_done) = wrote (record { name = (unit_of units unit).name; at = at; bytes = part pool start len; is_done = is_done })
 event_of units pool text Sync = synced
-event_of units pool text (Print start len is_cut) = printed (part text start len) is_cut
+event_of units pool text (Print start len) = printed (part text start len)
 event_of units pool text Pass = passed
 
 -- the events of these steps
@@ -44,7 +45,7 @@ pool_needed _ = 0
 
 -- how many bytes must have been printed for a step
 abbrev pub text_needed : Step → ℕ
-text_needed (Print start len is_cut) = start + len
+text_needed (Print start len) = start + len
 text_needed _ = 0
 
 -- a step speaks of a unit that there is, of bytes in it, and of bytes that were written or printed
@@ -85,21 +86,25 @@ abbrev pub writes_at : List Attached → List ℕ → List Step → List Writing
 writes_at units pool [] = []
 writes_at units pool (Write unit at start len is_done ∷ steps) = record { name = (unit_of units unit).name; at = at; bytes = part pool start len; is_done = is_done } ∷ writes_at units pool steps
 writes_at units pool (Sync ∷ steps) = writes_at units pool steps
-writes_at units pool (Print start len is_cut ∷ steps) = writes_at units pool steps
+writes_at units pool (Print start len ∷ steps) = writes_at units pool steps
 writes_at units pool (Pass ∷ steps) = writes_at units pool steps
+
+-- the writes among these steps, to units at these places of the files of pairs
+abbrev pub writes_in : List (String Global × Vec ℕ Global) → List ℕ → List ℕ → List Step → List Writing
+writes_in pairs places pool steps = writes_at (attached_in pairs places) pool steps
 
 -- a step is a write
 abbrev pub is_write : Step → Bool
 is_write (Write unit at start len is_done) = true
 is_write Sync = false
-is_write (Print start len is_cut) = false
+is_write (Print start len) = false
 is_write Pass = false
 
 -- a step is a write that was done
 abbrev pub is_done_write : Step → Bool
 is_done_write (Write unit at start len is_done) = is_done
 is_done_write Sync = false
-is_done_write (Print start len is_cut) = false
+is_done_write (Print start len) = false
 is_done_write Pass = false
 
 -- the writes that were done
@@ -112,7 +117,7 @@ abbrev pub prints_at : List ℕ → List Step → List ℕ
 prints_at text [] = []
 prints_at text (Write unit at start len is_done ∷ steps) = prints_at text steps
 prints_at text (Sync ∷ steps) = prints_at text steps
-prints_at text (Print start len is_cut ∷ steps) = part text start len ++ prints_at text steps
+prints_at text (Print start len ∷ steps) = part text start len ++ prints_at text steps
 prints_at text (Pass ∷ steps) = prints_at text steps
 
 -- the disk that held these files, after these steps
@@ -123,7 +128,7 @@ disk_after first units pool text steps = after_all (new_disk first) (events_at u
 abbrev pub pending_place : Step → ℕ → ℕ → ℕ
 pending_place Sync i from = i + 1
 pending_place (Write unit at start len is_done) i from = from
-pending_place (Print start len is_cut) i from = from
+pending_place (Print start len) i from = from
 pending_place Pass i from = from
 
 -- of these steps the pending writes are those from the n-th step on; the done ones before it are durable

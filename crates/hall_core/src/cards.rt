@@ -1,6 +1,6 @@
 //! The trait of a source of cards, which standard input and a test fixture implement alike.
 ghost use Rattle.std.specs.Prelude.{◌≡◌, ◌≤◌, ◌<◌, ℕ, List, Bool, length, IsTrue, IfOk, OnOk, OnErr};
-ghost use Rattle.hall_core.specs.Facts.{Rose};
+ghost use Rattle.stop_model.specs.Counts.{Rose};
 ghost use Rattle.hall_core.specs.Cards.{GivesNext};
 
 /// A source of cards failed, and its count of faults rose.
@@ -24,9 +24,9 @@ pub trait Cards {
     /// Puts the next bytes to the front of the buffer and gives their number, which is 0 exactly at
     /// the end. It may be less than what fits, also before the end.
     ///
-    /// The count of faults rises where a fault comes, and only there, and what is to come is then as
-    /// before. After a fault the buffer may hold anything, and so may its bytes behind those that were
-    /// given.
+    /// The count of faults rises where a fault comes, and only there, and what is to come is then
+    /// as before. After a fault the buffer may hold anything, and so may its bytes behind those that
+    /// were given.
     fn read(&mut self, buf: &mut [u8]) -> Result<usize, ReadFault>
         requires { 0 < length buf.old }
         ensures within { IfOk result (λ n. n ≤ length buf.old) }

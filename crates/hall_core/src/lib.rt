@@ -2,7 +2,6 @@
 #![tactic(auto)]
 
 mod cards;
-pub mod example;
 mod hall;
 mod mem_cards;
 mod mem_hall;

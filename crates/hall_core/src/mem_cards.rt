@@ -5,8 +5,8 @@ use crate::cards::{Cards, ReadFault};
 
 /// A source of cards in memory, which tells what is still to come and fails where it is told to.
 ///
-/// A call that is to fail answers `ReadFault` and raises the count of faults; any other gives as many
-/// bytes as there are, at most as many as the buffer has. None takes memory.
+/// A call that is to fail answers `ReadFault` and raises the count of faults; any other gives as
+/// many bytes as there are, at most as many as the buffer has. None takes memory.
 #[derive(Debug, Drop)]
 pub struct MemCards {
     bytes: Vec<u8>,
@@ -40,7 +40,7 @@ impl MemCards {
 
 impl Cards for MemCards {
     ghost use Rattle.std.specs.Prelude.{IfOk, OnOk, OnErr, IsErr, Contains, ◌↔◌, true, ◌^◌};
-    ghost use Rattle.hall_core.specs.Facts.{Rose};
+    ghost use Rattle.stop_model.specs.Counts.{Rose};
     ghost use Rattle.hall_core.specs.Cards.{GivesNext};
     ghost use Rattle.hall_core.specs.MemoryCards.{bytes_left, failing_reads, number_of_reads, faults_counted, IsNextRead};
 
@@ -57,7 +57,8 @@ impl Cards for MemCards {
         ensures later { faults_counted self.old ≤ faults_counted self.new }
         ensures done { OnOk result (faults_counted self.new ≡ faults_counted self.old) }
         ensures failed { OnErr result (Rose (faults_counted self.old) (faults_counted self.new)) }
-        ensures which { IsErr result ↔ Contains (failing_reads self.old) (number_of_reads self.old) }
+        ensures which { IsErr result
+            ↔ Contains (failing_reads self.old) (number_of_reads self.old) }
         ensures most { IfOk result (λ n. n ≡ min (length buf.old) (length (bytes_left self.old))) }
         ensures next { IsNextRead self.old self.new result }
     {
@@ -72,34 +73,5 @@ impl Cards for MemCards {
         buf[..count].copy_from_slice(&self.bytes[self.given..end]);
         self.given = end;
         Ok(count)
-    }
-}
-
-#[cfg(test)]
-mod tests {
-    use super::*;
-    use std::test::Fail;
-
-    #[test]
-    fn gives_the_next_bytes_and_fails_in_turn(rt: HostRuntime) -> Result<(), Fail> {
-        let alloc = rt.alloc();
-        let mut cards = MemCards::new(b"HELLO".to_vec(alloc)?, [1, 4].to_vec(alloc)?);
-        let mut buf = *b"...";
-        for (call, (answer, bytes)) in [
-            (Ok(3), b"HEL"),
-            (Err(ReadFault), b"HEL"),
-            (Ok(2), b"LOL"),
-            (Ok(0), b"LOL"),
-            (Err(ReadFault), b"LOL"),
-            (Ok(0), b"LOL"),
-        ]
-        .into_iter()
-        .enumerate()
-        {
-            assert_eq!(rt; cards.read(&mut buf), answer, "call {call}");
-            assert_eq!(rt; buf.as_slice(), bytes.as_slice(), "call {call}");
-        }
-        assert_eq!(rt; cards.faults, 2);
-        Ok(())
     }
 }

@@ -28,10 +28,10 @@ pub struct Left {
 
 /// A hall in memory, which tells what it holds and fails where it is told to.
 ///
-/// It keeps the record of its calls of `attach`, `read`, `write`, `sync` and `print`. Each uses up room
-/// for one call, and for the bytes that are attached as a name, written or printed. A call for which
-/// there is too little room answers `Failed`, raises its count of faults and does nothing else. None
-/// takes memory, so none answers `Memory`.
+/// It keeps the record of its calls of `attach`, `read`, `write`, `sync` and `print`. Each uses up
+/// room for one call, and for the bytes that are attached as a name, written or printed. A call for
+/// which there is too little room answers `Failed`, raises its count of faults and does nothing
+/// else. None takes memory, so none answers `Memory`.
 ///
 /// A write that fails leaves what is read as it was, and is pending; a sync that fails leaves the
 /// pending writes; a print that fails prints nothing.
@@ -50,7 +50,8 @@ pub struct MemHall {
     room_bytes: u64,
     dev_faults: u64,
     print_faults: u64,
-    ghost replay: { IsReplay (files_of (first_pairs first files.items)) (files_of files.items) units.items steps.items written.items printed.items },
+    ghost replay: { IsReplay (files_of (first_pairs first files.items)) (files_of files.items)
+        units.items steps.items written.items printed.items },
     ghost numbers: { vec_len calls ≡ vec_len steps },
     ghost copied: { ForNone first (room_calls ≡ 0) },
     ghost units_room: { vec_len units + room_calls ≤ vec_capacity units },
@@ -62,23 +63,23 @@ pub struct MemHall {
 
 impl MemHall {
     ghost use Rattle.std.specs.Prelude.{List, [], ◌∷◌, ◌++◌, take, Some, None, OnOk, OnErr, IfOk, MatchOption, IsTrue, ◌⊎◌, ◌↔◌, false, if◌then◌else◌};
-    ghost use Rattle.hall_core.specs.Facts.{unit_of};
-    ghost use Rattle.hall_core.specs.Files.{File, file_of, written};
+    ghost use Rattle.hall_core.specs.Facts.{unit_of, size_in};
+    ghost use Rattle.stop_model.specs.Files.{file_of};
     ghost use Rattle.hall_core.specs.Held.{shapes_of, IsFirst};
-    ghost use Rattle.hall_core.specs.History.{Event, wrote, synced, printed, passed, Disk, new_disk, after_all, with_writes, kept, MayLeaveAt};
-    ghost use Rattle.hall_core.specs.Moments.{LeftNow};
-    ghost use Rattle.hall_core.specs.Replay.{event_of};
-    ghost use Rattle.hall_core.specs.Memory.{first_files, events_of, meaning_of, facts_of, calls_of, failing_calls, number_of_calls, calls_left, bytes_left, LacksRoom, HasRoom, NextCallFails, KeepsRoom, KeepsSetup, KeepsAllButRoom, KeepsRecord, Records, disk_at};
+    ghost use Rattle.hall_core.specs.History.{synced, printed, passed, files_left};
+    ghost use Rattle.hall_core.specs.Memory.{first_files, events_of, meaning_of, facts_of, calls_of, failing_calls, calls_left, bytes_left, write_to, disk_at};
+    ghost use Rattle.hall_core.specs.Memory.{LacksRoom, HasRoom, NextCallFails, KeepsRoom, KeepsSetup, KeepsAllButRoom, KeepsRecord, Records};
 
     /// A hall that holds these files, each a name and its bytes, and has room for nothing.
     ///
-    /// Of files of one name the first counts. The calls that find room are numbered from 0, and those
-    /// with a number in `fails` fail.
+    /// Of files of one name the first counts. The calls that find room are numbered from 0, and
+    /// those with a number in `fails` fail.
     pub fn new(alloc: Global, files: Vec<(String, Vec<u8>)>, fails: Vec<u64>) -> MemHall
         ensures first { first_files result ≡ files_of files.items }
         ensures events { events_of result ≡ [] }
         ensures record_of_calls { calls_of result ≡ [] }
-        ensures facts { facts_of result ≡ record { units = []; references = []; dev_faults = 0; print_faults = 0 } }
+        ensures facts { facts_of result
+            ≡ record { units = []; references = []; dev_faults = 0; print_faults = 0 } }
         ensures failing { failing_calls result ≡ fails.items }
         ensures calls { calls_left result ≡ 0 }
         ensures bytes { bytes_left result ≡ 0 }
@@ -102,8 +103,8 @@ impl MemHall {
 
     /// Makes room for so many further calls and bytes, beside the room that is left.
     ///
-    /// An error comes where memory runs out, also where the room would be above 2^64 - 1. The room is
-    /// then as it was.
+    /// An error comes where memory runs out, also where the room would be above 2^64 - 1. The room
+    /// is then as it was.
     pub fn room(&mut self, calls: u64, bytes: u64) -> Result<(), AllocError>
         ensures calls { OnOk result (calls_left self.new ≡ calls_left self.old + calls) }
         ensures bytes { OnOk result (bytes_left self.new ≡ bytes_left self.old + bytes) }
@@ -135,7 +136,8 @@ impl MemHall {
 
     /// The bytes of the first file of this name, as they are read.
     pub fn image(&self, name: &str) -> Option<&[u8]>
-        ensures { MatchOption result (file_of (meaning_of self.now).state name.now ≡ None) (λ image. file_of (meaning_of self.now).state name.now ≡ Some image.now) }
+        ensures { MatchOption result (file_of (meaning_of self.now).state name.now ≡ None)
+            (λ image. file_of (meaning_of self.now).state name.now ≡ Some image.now) }
     {
         let place = first_named(&self.files, name)?;
         Some(self.files[place].1.as_slice())
@@ -148,17 +150,16 @@ impl MemHall {
         self.printed.as_slice()
     }
 
-    /// What a stop leaves at a moment: before the call of this number, counted from 0. The i-th flag
-    /// says whether the i-th write that is pending then is kept; a write without a flag isn't.
+    /// What a stop leaves at a moment: before the call of this number, counted from 0. The i-th
+    /// flag says whether the i-th write that is pending then is kept; a write without a flag isn't.
     ///
     /// From the number behind the last call on it is what a stop leaves now. Fails only for want of
     /// memory.
     pub fn left_at(&self, moment: u64, keep: &[bool]) -> Result<Left, AllocError>
-        ensures files { IfOk result (λ left. files_of left.files.items ≡ with_writes (disk_at self.now moment).stable (kept keep.now (disk_at self.now moment).pending)) }
-        ensures text { IfOk result (λ left. left.printed.items ≡ (disk_at self.now moment).text) }
-        ensures left { IfOk result (λ left. MayLeaveAt (first_files self.now) (events_of self.now) moment (files_of left.files.items) left.printed.items) }
-        ensures since { IfOk result (λ left. moment ≤ (meaning_of self.now).clock → (meaning_of self.now).left_since moment (files_of left.files.items) left.printed.items) }
-        ensures now { (meaning_of self.now).clock ≤ moment → IfOk result (λ left. LeftNow (meaning_of self.now) (files_of left.files.items) left.printed.items) }
+        ensures files { IfOk result (λ left. files_of left.files.items
+            ≡ files_left (disk_at self.now moment) keep.now) }
+        ensures text { IfOk result (λ left. left.printed.items
+            ≡ (disk_at self.now moment).text) }
     {
         let end = self.steps.len().min(moment as usize);
         let steps = &self.steps[..end];
@@ -211,8 +212,9 @@ impl MemHall {
     fn record_write(&mut self, unit: u8, at: u64, bytes: &[u8], is_done: bool)
         requires room { HasRoom self.old (length bytes.now) }
         requires attached { unit < length (facts_of self.old).units }
-        requires inside { at + length bytes.now ≤ (unit_of (facts_of self.old).units unit).size }
-        ensures noted { Records (length bytes.now) (Call.Write unit at) (wrote (record { name = (unit_of (facts_of self.old).units unit).name; at = at; bytes = bytes.now; is_done = is_done })) self.old self.new }
+        requires inside { at + length bytes.now ≤ size_in (facts_of self.old) unit }
+        ensures noted { Records (length bytes.now) (Call.Write unit at)
+            (write_to (facts_of self.old) unit at bytes.now is_done) self.old self.new }
         ensures setup { KeepsSetup self.old self.new }
         ensures facts { facts_of self.new ≡ facts_of self.old }
     {
@@ -237,10 +239,11 @@ impl MemHall {
         self.room_bytes -= bytes.len() as u64;
     }
 
-    // Makes a print, and puts it on the record; of one that isn't cut a stop leaves all or nothing.
-    fn record_print(&mut self, bytes: &[u8], is_cut: bool)
+    // Makes a print, and puts it on the record.
+    fn record_print(&mut self, bytes: &[u8])
         requires { HasRoom self.old (length bytes.now) }
-        ensures noted { Records (length bytes.now) Call.Print (printed bytes.now is_cut) self.old self.new }
+        ensures noted { Records (length bytes.now) Call.Print (printed bytes.now)
+            self.old self.new }
         ensures setup { KeepsSetup self.old self.new }
         ensures facts { facts_of self.new ≡ facts_of self.old }
     {
@@ -248,7 +251,6 @@ impl MemHall {
         let step = Step::Print {
             start,
             len: bytes.len(),
-            is_cut,
         };
         note(&mut self.calls, &mut self.steps, Call::Print, step);
         self.room_calls -= 1;
@@ -259,7 +261,10 @@ impl MemHall {
     fn add_unit(&mut self, place: usize)
         requires first { IsFirst (shapes_of (files_of self.old.files.items)) place }
         requires room { vec_len self.old.units + self.old.room_calls < vec_capacity self.old.units }
-        ensures facts { facts_of self.new ≡ record (facts_of self.old) { units = (facts_of self.old).units ++ unit_of (shapes_of (files_of self.old.files.items)) place ∷ [] } }
+        ensures facts { facts_of self.new ≡ record (facts_of self.old) {
+          units = (facts_of self.old).units
+              ++ unit_of (shapes_of (files_of self.old.files.items)) place ∷ [];
+        } }
         ensures setup { KeepsSetup self.old self.new }
         ensures room_left { KeepsRoom self.old self.new }
         ensures noted { KeepsRecord self.old self.new }
@@ -270,11 +275,12 @@ impl MemHall {
 
 impl Hall for MemHall {
     ghost use Rattle.std.specs.Prelude.{List, [], ◌∷◌, OnOk, OnErr, IfErr, IsErrOf, None, is_ok, if◌then◌else◌};
-    ghost use Rattle.hall_core.specs.Facts.{unit_of, IsAttached, DeviceCall, PrintCall, AttachCall, NotedCall};
-    ghost use Rattle.hall_core.specs.Files.{file_of, HasBytesAt, Attaches, AfterWrite, AfterSync, AfterPrint};
-    ghost use Rattle.hall_core.specs.Moments.{Same};
-    ghost use Rattle.hall_core.specs.History.{wrote, synced, printed, passed};
-    ghost use Rattle.hall_core.specs.Memory.{first_files, events_of, meaning_of, facts_of, IsExactCall, CountsFailure};
+    ghost use Rattle.hall_core.specs.Facts.{name_in, size_in, IsAttached, DeviceCall, PrintCall, AttachCall, NotedCall};
+    ghost use Rattle.stop_model.specs.Files.{file_of, HasBytesAt, AfterWrite, AfterSync, AfterPrint};
+    ghost use Rattle.hall_core.specs.Images.{Attaches};
+    ghost use Rattle.stop_model.specs.Moments.{Same};
+    ghost use Rattle.hall_core.specs.History.{synced, printed, passed};
+    ghost use Rattle.hall_core.specs.Memory.{meaning_of, facts_of, write_to, IsExactCall};
     ghost use Rattle.hall_core.specs.Laws.{leaves_state as state_left, counts_now as now_counted, only_now as none_since, whole_units, none_pending as none_settled};
 
     ghost tells = { true };
@@ -299,8 +305,6 @@ impl Hall for MemHall {
         ensures told { Attaches name.now (meaning_of self.old) (meaning_of self.new) result }
         ensures call { AttachCall name.now (facts_of self.old) (facts_of self.new) result }
         ensures exact { IsExactCall (length name.now) Call.Attach passed self.old self.new result }
-        ensures count { CountsFailure (facts_of self.old).dev_faults (facts_of self.new).dev_faults result }
-        ensures missing { ¬ IsErrOf result HallErr.Failed → file_of (meaning_of self.old).state name.now ≡ None → result ≡ Err HallErr.Missing }
     {
         if self.lacks_room(name.len()) {
             return Err(fault(&mut self.dev_faults));
@@ -324,14 +328,13 @@ impl Hall for MemHall {
 
     fn read(&mut self, unit: u8, at: u64, buf: &mut [u8]) -> Result<(), HallErr>
         requires attached { unit < length (facts_of self.old).units }
-        requires inside { at + length buf.old ≤ (unit_of (facts_of self.old).units unit).size }
-        ensures bytes { OnOk result (HasBytesAt (meaning_of self.old).state (unit_of (facts_of self.old).units unit).name at buf.new) }
+        requires inside { at + length buf.old ≤ size_in (facts_of self.old) unit }
+        ensures bytes { OnOk result
+            (HasBytesAt (meaning_of self.old).state (name_in (facts_of self.old) unit) at buf.new) }
         ensures told { Same (meaning_of self.old) (meaning_of self.new) }
         ensures call { DeviceCall (facts_of self.old) (facts_of self.new) result }
         ensures error { IfErr result (λ e. e ≡ HallErr.Failed) }
         ensures exact { IsExactCall 0 (Call.Read unit at) passed self.old self.new result }
-        ensures count { CountsFailure (facts_of self.old).dev_faults (facts_of self.new).dev_faults result }
-        ensures kept { OnErr result (buf.new ≡ buf.old) }
     {
         if self.lacks_room(0) {
             return Err(fault(&mut self.dev_faults));
@@ -347,12 +350,14 @@ impl Hall for MemHall {
 
     fn write(&mut self, unit: u8, at: u64, bytes: &[u8]) -> Result<(), HallErr>
         requires attached { unit < length (facts_of self.old).units }
-        requires inside { at + length bytes.now ≤ (unit_of (facts_of self.old).units unit).size }
-        ensures told { AfterWrite (unit_of (facts_of self.old).units unit).name at bytes.now (meaning_of self.old) (meaning_of self.new) result }
+        requires inside { at + length bytes.now ≤ size_in (facts_of self.old) unit }
+        ensures told { AfterWrite (name_in (facts_of self.old) unit) at bytes.now
+            (meaning_of self.old) (meaning_of self.new) result }
         ensures call { DeviceCall (facts_of self.old) (facts_of self.new) result }
         ensures error { IfErr result (λ e. e ≡ HallErr.Failed) }
-        ensures exact { IsExactCall (length bytes.now) (Call.Write unit at) (wrote (record { name = (unit_of (facts_of self.old).units unit).name; at = at; bytes = bytes.now; is_done = is_ok result })) self.old self.new result }
-        ensures count { CountsFailure (facts_of self.old).dev_faults (facts_of self.new).dev_faults result }
+        ensures exact { IsExactCall (length bytes.now) (Call.Write unit at)
+            (write_to (facts_of self.old) unit at bytes.now (is_ok result))
+            self.old self.new result }
     {
         if self.lacks_room(bytes.len()) {
             return Err(fault(&mut self.dev_faults));
@@ -369,8 +374,8 @@ impl Hall for MemHall {
         ensures told { AfterSync (meaning_of self.old) (meaning_of self.new) result }
         ensures call { DeviceCall (facts_of self.old) (facts_of self.new) result }
         ensures error { IfErr result (λ e. e ≡ HallErr.Failed) }
-        ensures exact { IsExactCall 0 Call.Sync (if is_ok result then synced else passed) self.old self.new result }
-        ensures count { CountsFailure (facts_of self.old).dev_faults (facts_of self.new).dev_faults result }
+        ensures exact { IsExactCall 0 Call.Sync (if is_ok result then synced else passed)
+            self.old self.new result }
     {
         if self.lacks_room(0) {
             return Err(fault(&mut self.dev_faults));
@@ -387,9 +392,8 @@ impl Hall for MemHall {
         ensures told { AfterPrint bytes.now (meaning_of self.old) (meaning_of self.new) result }
         ensures call { PrintCall (facts_of self.old) (facts_of self.new) result }
         ensures error { IfErr result (λ e. e ≡ HallErr.Failed) }
-        ensures exact { IsExactCall (length bytes.now) Call.Print (if is_ok result then printed bytes.now true else passed) self.old self.new result }
-        ensures count { CountsFailure (facts_of self.old).print_faults (facts_of self.new).print_faults result }
-        ensures nothing { OnErr result ((meaning_of self.new).printed ≡ (meaning_of self.old).printed) }
+        ensures exact { IsExactCall (length bytes.now) Call.Print
+            (if is_ok result then printed bytes.now else passed) self.old self.new result }
     {
         if self.lacks_room(bytes.len()) {
             return Err(fault(&mut self.print_faults));
@@ -398,7 +402,7 @@ impl Hall for MemHall {
             self.record_plain(bytes.len(), Call::Print, false);
             return Err(fault(&mut self.print_faults));
         }
-        self.record_print(bytes, true); // as a real device may cut it
+        self.record_print(bytes);
         Ok(())
     }
 

@@ -1,4 +1,3 @@
 mod OrderLemmas
-mod PastCases
 mod PastLemmas
 mod RenameLemmas

@@ -6,8 +6,8 @@ use Rattle.std.proofs.lemmas.List.{append-nil, drop-append-le, length-append}
 use Rattle.std.proofs.Math.Seq.{take-append_seam}
 use Rattle.std.specs.Prelude.{IsTrue, Ok}
 use Rattle.ebcdic_names.specs.declared.names.Dsn.{Dsn}
-use Rattle.hall_core.specs.Files.{IsPrefixOf}
-use Rattle.hall_core.specs.Moments.{Elapses, Meaning}
+use Rattle.stop_model.specs.Files.{IsPrefixOf}
+use Rattle.stop_model.specs.Moments.{Elapses, Meaning}
 use Rattle.map_machine.specs.declared.past.Done.{Done}
 use Rattle.map_machine.specs.declared.past.Done.TheVariants.{Printed, Renamed}
 use Rattle.map_machine.specs.Past.{Moment, before, before_all, meaning_after, moment_at}

@@ -1,6 +1,6 @@
 -- What a machine in memory holds.
 use Rattle.std.specs.Prelude.{true, []}
-use Rattle.hall_core.specs.Moments.{Meaning}
+use Rattle.stop_model.specs.Moments.{Meaning}
 use Rattle.map_machine.specs.Past.{Moment, meaning_after}
 use Rattle.map_machine.specs.declared.machine.MapMachine.{MapMachine}
 use Rattle.vol_model.specs.declared.contents.Shelf.{Shelf}

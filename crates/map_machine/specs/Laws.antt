@@ -2,7 +2,7 @@
 use Rattle.std.specs.Prelude.{◌≡◌, ℕ, ◌≤◌, List, length}
 use Rattle.std.proofs.Common.{sym, ap, ◌∙◌, arith}
 use Rattle.std.proofs.lemmas.List.{drop_all}
-use Rattle.hall_core.specs.Moments.{LeftNow}
+use Rattle.stop_model.specs.Moments.{LeftNow}
 use Rattle.map_machine.specs.declared.machine.MapMachine.{MapMachine}
 use Rattle.map_machine.specs.declared.past.Done.{Done}
 use Rattle.map_machine.specs.Past.{Moment, before_all, moment_at}

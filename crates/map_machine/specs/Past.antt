@@ -1,6 +1,6 @@
 -- The past of a machine in memory: what it held before it did things, found back from what it holds behind them.
 use Rattle.std.specs.Prelude.{◌≡◌, ℕ, ◌≤◌, List, [], ◌∷◌, length, take, drop}
-use Rattle.hall_core.specs.Moments.{Meaning}
+use Rattle.stop_model.specs.Moments.{Meaning}
 use Rattle.map_machine.specs.declared.past.Done.{Done}
 use Rattle.map_machine.specs.declared.past.Done.TheVariants.{Printed, Renamed}
 use Rattle.vol_model.specs.declared.contents.Shelf.{Shelf}

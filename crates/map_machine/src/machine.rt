@@ -34,7 +34,12 @@ impl MapMachine {
         ensures shelf { (meaning_of result).state ≡ shelf }
         ensures printed { (meaning_of result).printed ≡ [] }
         ensures clock { (meaning_of result).clock ≡ 0 }
-        ensures status { status_of result ≡ record { is_sound = true; base = []; dev_faults = 0; print_faults = 0 } }
+        ensures status { status_of result ≡ record {
+          is_sound = true;
+          base = [];
+          dev_faults = 0;
+          print_faults = 0;
+        } }
     {
         MapMachine {
             alloc,

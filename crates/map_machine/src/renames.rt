@@ -13,7 +13,8 @@ use vol_model::{DataSet, DataSets, Refusal, Shelf, Volume, Volumes, is_catalog};
 
 // Why a rename is refused, if it is.
 pub(crate) fn refusal(shelf: &Shelf, v: u8, old: &Dsn, new: &Dsn) -> Option<Refusal>
-    ensures { MatchOption result ((after : Shelf) × (step shelf.now (Rename v old.now new.now) ≡ Ok after)) (λ r. step shelf.now (Rename v old.now new.now) ≡ Err r) }
+    ensures { MatchOption result ((after : Shelf) × (step shelf.now (Rename v old.now new.now) ≡ Ok
+        after)) (λ r. step shelf.now (Rename v old.now new.now) ≡ Err r) }
 {
     match shelf.volumes.get(usize::from(v)) {
         Some(volume) => refusal_on(volume, old, new),

@@ -1,39 +1,40 @@
 -- The volume that an image stands for is lawful.
-use Rattle.std.proofs.Common.{◌≡◌, ◌+◌, ◌-◌, ◌*◌, ◌^◌, ◌<◌, ◌≤◌, ℕ, zero, suc, Bool, true, false, cond, ◌&&◌, List, [], ◌∷◌, ◌++◌, length, take, map, Option, Some, None, Result, Ok, Err, refl, sym, ap, subst, ◌∙◌, arith, length-append, length-take}
-use Rattle.std.specs.Prelude.{◌==◌, nat_le, nat_lt, unwrap_or, slice_get}
-use Rattle.std.specs.List.{AllByRecursion, IsDistinct, enumerate_from, filter_map, flat_map, list_all}
+use Rattle.std.proofs.Common.{◌≡◌, ◌+◌, ◌^◌, ◌<◌, ◌≤◌, ℕ, zero, suc, Bool, true, false, cond, not, eqb, ◌&&◌, List, [], ◌∷◌, ◌++◌, length, take, map, Option, Some, None, Result, Ok, Err, refl, ap, subst, arith, length-take}
+use Rattle.std.specs.Prelude.{nat_le, nat_lt, unwrap_or, slice_get, slice_range}
+use Rattle.std.specs.List.{AllByRecursion, enumerate_from, filter_map, list_all}
 use Rattle.std.proofs.Math.Dec.{eqb, eqb-suc-zero}
 use Rattle.std.proofs.Math.Nat.{mul-le-mul_right}
-use Rattle.std.proofs.lemmas.Bool.{and_parts, eqb-true, leb-true, ltb-true}
+use Rattle.std.proofs.lemmas.Bool.{and_parts, leb-true, ltb-true}
 use Rattle.std.proofs.lemmas.List.{length-map}
 use Rattle.std.proofs.lemmas.List.Elements.{All-from_recursion, recursion_from_All}
-use Rattle.std.proofs.lemmas.List.FromFn.{length-range_with_len}
 use Rattle.std.proofs.lemmas.List.Sorted.{All-permutation}
 use Rattle.ckd_image.specs.declared.header.Geometry.{Geometry}
 use Rattle.ckd_image.specs.declared.header.ImageErr.{ImageErr}
 use Rattle.ckd_image.specs.Header.{HasGeometry, geometry_of}
 use Rattle.ckd_image.proofs.GeometryLemmas.{has_geometry}
-use Rattle.dscb_codec.specs.Layout.{format_byte, refusal_of}
 use Rattle.vol_model.specs.declared.contents.Volume.{Volume}
 use Rattle.vol_model.specs.Order.{IsAscending, in_order}
 use Rattle.vol_model.specs.Shelf.{IsLawful, IsLawfulSet, IsLawfulVolume, IsOnPack}
 use Rattle.vol_model.proofs.InOrder.{in_order-permutation}
-use Rattle.vol_model.proofs.Steps.{in_order-ascending, same_names}
+use Rattle.vol_model.proofs.Steps.{in_order-ascending}
+use Rattle.std.proofs.Math.Nat.{mod-lt}
+use Rattle.dscb_codec.specs.declared.F1.{F1}
+use Rattle.dscb_codec.specs.declared.Dscb.{Dscb}
+use Rattle.dscb_codec.specs.declared.Dscb.TheVariants as formats
+use Rattle.dscb_codec.specs.declared.DscbErr.{DscbErr}
+use Rattle.vol_model.specs.declared.contents.Run.{Run}
 use Rattle.pack_spec.specs.declared.MountErr.{MountErr}
-use Rattle.pack_spec.specs.declared.MountErr.TheVariants.{BadVtoc}
-use Rattle.pack_spec.specs.declared.addressed.VtocSlot.{VtocSlot}
-use Rattle.pack_spec.specs.Label.{Address, address_at, heads_of, is_inside, label_of, track_of_address}
-use Rattle.pack_spec.specs.Vtoc.{Run, is_vtoc_extent, slots_on, vtoc_at, vtoc_by, vtoc_of}
-use Rattle.pack_spec.specs.Formats.{is_data_set, slot_fault}
-use Rattle.pack_spec.specs.Slots.{addressed_from, counted_extents, extent_count, has_chain, has_extents, has_types, is_extent, lower_of, slots_at, slots_of_vtoc, tracks_in, upper_of}
-use Rattle.pack_spec.specs.Faults.{dscb_fault, dscb_faults, extents_fault, front_faults, name_faults, slots_faults, track_faults, vtoc_fault}
-use Rattle.pack_spec.specs.Volume.{attr_of, data_set_of, data_sets_in, run_of_extent, secondary_of, unless, volume_of, volume_on, volume_with, volume_within}
-use Rattle.pack_spec.proofs.DataSets.{behind_first, fault_or-none, first_is_format_4, middle_holds, sets_among-all, two_formats}
-use Rattle.pack_spec.proofs.Extents.{length-slots_on}
+use Rattle.pack_spec.specs.declared.MountErr.TheVariants.{BadVtoc, UnsupportedExtent, BadExtent, BadChain}
+use Rattle.pack_spec.specs.declared.address.Address.{Address}
+use Rattle.pack_spec.specs.declared.slot.VtocSlot.{VtocSlot}
+use Rattle.pack_spec.specs.Label.{address_at, heads_of, is_inside, label_of, track_of_address}
+use Rattle.pack_spec.specs.Vtoc.{is_extent, is_vtoc_extent, lower_of, run_of_extent, upper_of, vtoc_at, vtoc_by, vtoc_of, vtoc_on}
+use Rattle.pack_spec.specs.Slots.{slots_of_vtoc, track_faults}
+use Rattle.pack_spec.specs.Rules.{content_fault, counted_extents, extents_fault, front_faults, has_chain, has_extents, has_types, is_f4, name_faults, set_in, slot_fault, slot_faults, slots_faults, vtoc_fault}
+use Rattle.pack_spec.specs.Volume.{attr_of, data_set_of, data_sets_in, secondary_of, unless, volume_of, volume_on, volume_with, volume_within}
 use Rattle.pack_spec.proofs.FirstFaults.{cons_option-none, first_append-both}
-use Rattle.pack_spec.proofs.Quantities.{AreBytes, HasShortQuantity, short_on_image}
-use Rattle.pack_spec.proofs.SetNames.{all_sets, names_apart}
-use Rattle.pack_spec.proofs.TrackSlots.{length-addressed_from}
+use Rattle.pack_spec.proofs.SetNames.{all_sets, distinct_sets, names_apart}
+use Rattle.pack_spec.proofs.SlotCounts.{few_slots}
 
 -- the tracks of an extent lie on the pack
 on_pack : (g : Geometry) (extent : List ℕ) → is_extent g extent ≡ true → IsOnPack g (run_of_extent g extent)
@@ -54,97 +55,122 @@ all_on_pack g (extent ∷ extents) are =
     (on_pack g extent parts.0, all_on_pack g extents parts.1)
 
 -- no more extents are counted than the count says
-few_counted : (slots : List VtocSlot) (set : List ℕ) → length (counted_extents slots set) ≤ extent_count set
+few_counted : (slots : List VtocSlot) (f : F1) → length (counted_extents slots f) ≤ f.extents
 unfolding counted_extents
-few_counted slots set = few_taken (extent_count set) _
+few_counted slots f = few_taken f.extents _
   where
     few_taken : (n : ℕ) (xs : List (List ℕ)) → length (take n xs) ≤ n
     few_taken n xs = omega (arith, length-take n xs)
 
+-- a secondary quantity has three bytes
+short : (f : F1) → secondary_of f < 2 ^ 24
+short f = by_unit _ (mod-lt f.scalo (omega arith))
+  where
+    by_unit : {n : ℕ} (b : Bool) → n < 2 ^ 24 → cond b n 0 < 2 ^ 24
+    by_unit true less = less
+    by_unit false less = omega arith
+
 -- a data set whose extents are good
-lawful_set : (g : Geometry) (slots : List VtocSlot) (set : List ℕ) → has_extents g slots set ≡ true → secondary_of set < 2 ^ 24 → IsLawfulSet g (data_set_of g slots set)
+lawful_set : (g : Geometry) (slots : List VtocSlot) (f : F1) → has_extents g slots f ≡ true → IsLawfulSet g (data_set_of g slots f)
 unfolding data_set_of attr_of has_extents
-lawful_set g slots set has short =
-    let parts = and_parts (nat_le (extent_count set) 16) (list_all (is_extent g) (counted_extents slots set)) has in
+lawful_set g slots f has =
+    let parts = and_parts (nat_le f.extents 16) (list_all (is_extent g) (counted_extents slots f)) has in
     record {
-      few = omega (arith, length-map (counted_extents slots set) (run_of_extent g), few_counted slots set, leb-true (extent_count set) 16 parts.0);
-      extents = all_on_pack g (counted_extents slots set) parts.1;
-      secondary = short;
+      few = omega (arith, length-map (counted_extents slots f) (run_of_extent g), few_counted slots f, leb-true f.extents 16 parts.0);
+      extents = all_on_pack g (counted_extents slots f) parts.1;
+      secondary = short f;
     }
 
--- the extents of a data set are good, where its slot breaks no rule
-good_extents : (g : Geometry) (slots : List VtocSlot) (k : ℕ) (s : VtocSlot) → 0 < k → dscb_fault g slots k s ≡ None → is_data_set s.bytes ≡ true → has_extents g slots s.bytes ≡ true
-unfolding dscb_fault extents_fault
-good_extents g slots zero s behind none is = absurd (omega arith)
-good_extents g slots (suc k) s behind none is =
-    let set = s.bytes in
-    let later = fault_or-none (slot_fault (suc k) (refusal_of set) (format_byte set)) (cond (is_data_set set) (extents_fault g slots (suc k) set) None) (behind_first (eqb (suc k) 0) _ (eqb-suc-zero k) none) in
-    middle_holds (has_types slots set) (has_extents g slots set) (has_chain slots (take (suc k) slots) set) (suc k)
-    (sym (ap (λ b. cond b (extents_fault g slots (suc k) set) None) is) ∙ later)
+-- the extents of a data set are good, where no rule on them is broken
+middle_holds : (a b c : Bool) (k : ℕ) → cond (not a) (Some (UnsupportedExtent k)) (cond (not b) (Some (BadExtent k)) (cond (not c) (Some (BadChain k)) None)) ≡ None → b ≡ true
+middle_holds true true c k e = refl
+middle_holds true false c k e = cc
+middle_holds false b c k e = cc
+
+good_content : (g : Geometry) (slots : List VtocSlot) (k : ℕ) (c : Result Dscb DscbErr) (f : F1) → content_fault g slots k c ≡ None → set_in c ≡ Some f → has_extents g slots f ≡ true
+unfolding extents_fault
+good_content g slots k (Ok formats.F0) f none is = cc
+good_content g slots k (Ok (formats.F1 h)) f none is =
+    let same : h ≡ f = cc in
+    subst (λ (x : F1). has_extents g slots x ≡ true) same (middle_holds (has_types slots h) (has_extents g slots h) (has_chain slots (take k slots) h) k none)
+good_content g slots k (Ok (formats.F3 h)) f none is = cc
+good_content g slots k (Ok (formats.F4 h)) f none is = cc
+good_content g slots k (Ok (formats.F5 h)) f none is = cc
+good_content g slots k (Err e) f none is = cc
 
 -- a slot, if it is a data set, has good extents
 abbrev HasGoodExtents : Geometry → List VtocSlot → VtocSlot → Type 0
-HasGoodExtents g slots s = is_data_set s.bytes ≡ true → has_extents g slots s.bytes ≡ true
+HasGoodExtents g slots s = (f : F1) → set_in s.content ≡ Some f → has_extents g slots f ≡ true
 
-good_behind : (g : Geometry) (slots : List VtocSlot) (k : ℕ) (rest : List VtocSlot) → 0 < k → slice_get (filter_map (λ p. dscb_fault g slots p.0 p.1) (enumerate_from k rest)) 0 ≡ None → AllByRecursion (HasGoodExtents g slots) rest
+good_slot : (g : Geometry) (slots : List VtocSlot) (k : ℕ) (s : VtocSlot) → 0 < k → slot_fault g slots k s ≡ None → HasGoodExtents g slots s
+unfolding slot_fault
+good_slot g slots zero s behind none f is = absurd (omega arith)
+good_slot g slots (suc k) s behind none f is =
+    good_content g slots (suc k) s.content f (behind_first (eqb (suc k) 0) (content_fault g slots (suc k) s.content) (eqb-suc-zero k) none) is
+  where
+    behind_first : (b : Bool) (o : Option MountErr) → b ≡ false → cond b None o ≡ None → o ≡ None
+    behind_first true o h e = cc
+    behind_first false o h e = e
+
+good_behind : (g : Geometry) (slots : List VtocSlot) (k : ℕ) (rest : List VtocSlot) → 0 < k → slice_get (filter_map (λ p. slot_fault g slots p.0 p.1) (enumerate_from k rest)) 0 ≡ None → AllByRecursion (HasGoodExtents g slots) rest
 good_behind g slots k [] behind none = tt
 good_behind g slots k (s ∷ rest) behind none =
-    let parts = cons_option-none (dscb_fault g slots k s) (filter_map (λ p. dscb_fault g slots p.0 p.1) (enumerate_from (k + 1) rest)) none in
-    (good_extents g slots k s behind parts.0, good_behind g slots (k + 1) rest (omega arith) parts.1)
+    let parts = cons_option-none (slot_fault g slots k s) (filter_map (λ p. slot_fault g slots p.0 p.1) (enumerate_from (k + 1) rest)) none in
+    (good_slot g slots k s behind parts.0, good_behind g slots (k + 1) rest (omega arith) parts.1)
 
--- slot 0 is exempt from the rules, but it is a format 4
-all_good : (g : Geometry) (slots : List VtocSlot) → slice_get (front_faults slots) 0 ≡ None → slice_get (dscb_faults g slots) 0 ≡ None → AllByRecursion (HasGoodExtents g slots) slots
-unfolding dscb_faults
+-- slot 0 is exempt from these rules, but it is a format 4
+f4_no_set : (c : Result Dscb DscbErr) (f : F1) → is_f4 c ≡ true → set_in c ≡ Some f → ⊥
+f4_no_set (Ok formats.F0) f four is = cc
+f4_no_set (Ok (formats.F1 h)) f four is = cc
+f4_no_set (Ok (formats.F3 h)) f four is = cc
+f4_no_set (Ok (formats.F4 h)) f four is = cc
+f4_no_set (Ok (formats.F5 h)) f four is = cc
+f4_no_set (Err e) f four is = cc
+
+first_is_f4 : (s : VtocSlot) (slots : List VtocSlot) → slice_get (front_faults (s ∷ slots)) 0 ≡ None → is_f4 s.content ≡ true
+unfolding front_faults
+first_is_f4 s slots e = front_none (is_f4 s.content) _ _ e
+  where
+    front_none : (b : Bool) (x : MountErr) (ys : List MountErr) → slice_get (cond b [] (x ∷ []) ++ ys) 0 ≡ None → b ≡ true
+    front_none true x ys e = refl
+    front_none false x ys e = cc
+
+all_good : (g : Geometry) (slots : List VtocSlot) → slice_get (front_faults slots) 0 ≡ None → slice_get (slot_faults g slots) 0 ≡ None → AllByRecursion (HasGoodExtents g slots) slots
+unfolding slot_faults
 all_good g [] front none = tt
 all_good g (s ∷ rest) front none =
-    let parts = cons_option-none (dscb_fault g (s ∷ rest) 0 s) (filter_map (λ p. dscb_fault g (s ∷ rest) p.0 p.1) (enumerate_from 1 rest)) none in
-    (λ is. absurd (two_formats (format_byte s.bytes) (first_is_format_4 (s ∷ rest) s front) is), good_behind g (s ∷ rest) 1 rest (omega arith) parts.1)
+    let parts = cons_option-none (slot_fault g (s ∷ rest) 0 s) (filter_map (λ p. slot_fault g (s ∷ rest) p.0 p.1) (enumerate_from 1 rest)) none in
+    (λ f is. absurd (f4_no_set s.content f (first_is_f4 s rest front) is), good_behind g (s ∷ rest) 1 rest (omega arith) parts.1)
 
-module _ {X : Type 0} where
-  both : (P Q : X → Type 0) (xs : List X) → AllByRecursion P xs → AllByRecursion Q xs → AllByRecursion (λ x. P x × Q x) xs
-  both P Q [] all more = tt
-  both P Q (x ∷ xs) all more = ((all.0, more.0), both P Q xs all.1 more.1)
+all_mapped : (g : Geometry) (slots : List VtocSlot) (fs : List F1) → AllByRecursion (λ f. IsLawfulSet g (data_set_of g slots f)) fs → AllByRecursion (IsLawfulSet g) (map (data_set_of g slots) fs)
+all_mapped g slots [] all = tt
+all_mapped g slots (f ∷ fs) all = (all.0, all_mapped g slots fs all.1)
+
+-- no rule of the three groups is broken
+pub groups_hold : (g : Geometry) (slots : List VtocSlot) → slots_faults g slots ≡ [] → (slice_get (front_faults slots) 0 ≡ None) × (slice_get (slot_faults g slots) 0 ≡ None) × (slice_get (name_faults slots) 0 ≡ None)
+unfolding slots_faults
+groups_hold g slots none =
+    let front = first_append-both (front_faults slots) (slot_faults g slots ++ name_faults slots) (ap (λ (l : List MountErr). slice_get l 0) none) in
+    let behind = first_append-both (slot_faults g slots) (name_faults slots) front.1 in
+    (front.0, behind.0, behind.1)
 
 -- the data sets in slots that break no rule, in their order
-lawful_sets : (g : Geometry) (slots : List VtocSlot) → slice_get (slots_faults g slots) 0 ≡ None → AllByRecursion HasShortQuantity slots → AllByRecursion (IsLawfulSet g) (in_order (data_sets_in g slots))
-unfolding slots_faults
-lawful_sets g slots none short =
-    let front = first_append-both (front_faults slots) (dscb_faults g slots ++ name_faults slots) none in
-    let behind = first_append-both (dscb_faults g slots) (name_faults slots) front.1 in
-    let all = all_sets g slots (λ s. HasGoodExtents g slots s × HasShortQuantity s) (IsLawfulSet g) (λ s is good. lawful_set g slots s.bytes (good.0 is) (good.1 is)) slots
-    (both (HasGoodExtents g slots) HasShortQuantity slots (all_good g slots front.0 behind.0) short) in
-    let held : AllByRecursion (IsLawfulSet g) (data_sets_in g slots) = subst (AllByRecursion (IsLawfulSet g)) (sets_among-all g slots) all in
+lawful_sets : (g : Geometry) (slots : List VtocSlot) → slots_faults g slots ≡ [] → AllByRecursion (IsLawfulSet g) (in_order (data_sets_in g slots))
+unfolding data_sets_in
+lawful_sets g slots none =
+    let groups = groups_hold g slots none in
+    let held : AllByRecursion (IsLawfulSet g) (data_sets_in g slots) =
+    all_mapped g slots _ (all_sets (λ f. IsLawfulSet g (data_set_of g slots f)) (HasGoodExtents g slots) (λ s f is good. lawful_set g slots f (good f is)) slots (all_good g slots groups.0 groups.1)) in
     recursion_from_All (IsLawfulSet g) (in_order (data_sets_in g slots))
     (All-permutation (IsLawfulSet g) (data_sets_in g slots) (in_order (data_sets_in g slots)) (in_order-permutation (data_sets_in g slots)) (All-from_recursion (IsLawfulSet g) (data_sets_in g slots) held))
 
 -- no name stands twice
-ascending_sets : (g : Geometry) (slots : List VtocSlot) → slice_get (slots_faults g slots) 0 ≡ None → IsAscending (in_order (data_sets_in g slots))
-unfolding slots_faults name_faults
+ascending_sets : (g : Geometry) (slots : List VtocSlot) → slots_faults g slots ≡ [] → IsAscending (in_order (data_sets_in g slots))
+unfolding name_faults data_sets_in
 ascending_sets g slots none =
-    let front = first_append-both (front_faults slots) (dscb_faults g slots ++ name_faults slots) none in
-    let behind = first_append-both (dscb_faults g slots) (name_faults slots) front.1 in
-    in_order-ascending (data_sets_in g slots) (subst (IsDistinct same_names) (sets_among-all g slots) (names_apart g slots behind.1))
+    in_order-ascending (data_sets_in g slots) (distinct_sets g slots _ (names_apart slots (groups_hold g slots none).2))
 
--- at most 255 slots stand on each track
-few_slots_at : (image : List ℕ) (g : Geometry) (track : ℕ) → length (slots_at image g track) ≤ 255
-unfolding slots_at
-few_slots_at image g track = found (slots_on image g track) refl
-  where
-    found : (o : Option (List (List ℕ))) → slots_on image g track ≡ o → length (addressed_from g track 1 (unwrap_or o [])) ≤ 255
-    found None is = omega arith
-    found (Some slots) is = omega (arith, length-addressed_from g track 1 slots, length-slots_on image g track slots is)
-
-few_slots_in : (image : List ℕ) (g : Geometry) (ts : List ℕ) → length (flat_map (slots_at image g) ts) ≤ length ts * 255
-few_slots_in image g [] = omega arith
-few_slots_in image g (t ∷ ts) =
-    omega (arith, few_slots_at image g t, few_slots_in image g ts, length-append (slots_at image g t) (flat_map (slots_at image g) ts))
-
-few_slots : (image : List ℕ) (g : Geometry) (vtoc : Run) → vtoc.len ≤ 257 → length (slots_of_vtoc image g vtoc) ≤ 65535
-unfolding slots_of_vtoc
-few_slots image g vtoc few =
-    omega (arith, few, few_slots_in image g (tracks_in vtoc), length-range_with_len vtoc.start vtoc.len)
-
--- the extent of a VTOC that is found
+-- a VTOC that is found has at most 257 tracks
 chosen_run : (b : Bool) (r vtoc : Run) (e : MountErr) → cond b (Ok r) (Err e) ≡ Ok vtoc → (b ≡ true) × (r ≡ vtoc)
 chosen_run true r vtoc e is = (refl, cc)
 chosen_run false r vtoc e is = cc
@@ -152,22 +178,13 @@ chosen_run false r vtoc e is = cc
 few_by : (g : Geometry) (at : Address) (o : Option (List ℕ)) (vtoc : Run) → vtoc_by g at o ≡ Ok vtoc → vtoc.len ≤ 257
 few_by g at None vtoc is = cc
 few_by g at (Some slot) vtoc is =
-    let lower = address_at 107 slot in
-    let upper = address_at 111 slot in
-    let found = chosen_run (is_vtoc_extent g at slot) _ vtoc BadVtoc is in
-    let last = and_parts _ (nat_lt (track_of_address g upper - track_of_address g lower) 257) found.0 in
-    let order = and_parts _ (nat_le (track_of_address g lower) (track_of_address g upper)) last.0 in
-    let head = and_parts _ (lower.head == at.head) order.0 in
-    let cylinder = and_parts _ (lower.cylinder == at.cylinder) head.0 in
-    let same_head : lower.head ≡ at.head = eqb-true lower.head at.head head.1 in
-    let same_cylinder : lower.cylinder ≡ at.cylinder = eqb-true lower.cylinder at.cylinder cylinder.1 in
-    let begins : track_of_address g lower ≡ track_of_address g at = ap (λ (n : ℕ). n * heads_of g + lower.head) same_cylinder ∙ ap (λ (n : ℕ). at.cylinder * heads_of g + n) same_head in
-    let few : track_of_address g upper - track_of_address g lower < 257 = ltb-true _ 257 last.1 in
-    let long : track_of_address g upper - track_of_address g at + 1 ≡ vtoc.len = ap (λ (r : Run). r.len) found.1 in
-    omega (arith, begins, few, long)
+    let extent : List ℕ = slice_range slot 105 115 in
+    let found = chosen_run (is_vtoc_extent g at extent) _ vtoc BadVtoc is in
+    let last = and_parts _ (nat_le (run_of_extent g extent).len 257) found.0 in
+    subst (λ (r : Run). r.len ≤ 257) found.1 (leb-true (run_of_extent g extent).len 257 last.1)
 
 few_at : (image : List ℕ) (g : Geometry) (o : Option (List ℕ)) (vtoc : Run) → vtoc_at image g o ≡ Ok vtoc → vtoc.len ≤ 257
-unfolding vtoc_at
+unfolding vtoc_at vtoc_on
 few_at image g None vtoc is = cc
 few_at image g (Some label) vtoc is =
     few_by g (address_at 11 label) _ vtoc (inside (is_inside g (address_at 11 label)) _ is)
@@ -181,18 +198,16 @@ unfolding vtoc_of
 few_tracks image g vtoc is = few_at image g (label_of image g) vtoc is
 
 -- The volume of a label and a VTOC whose slots break no rule is lawful.
-pub lawful_with : (len : ℕ) (image : List ℕ) (g : Geometry) (label : List ℕ) (vtoc : Run) → HasGeometry len g → vtoc_of image g ≡ Ok vtoc → slots_faults g (slots_of_vtoc image g vtoc) ≡ [] → AllByRecursion HasShortQuantity (slots_of_vtoc image g vtoc)
+pub lawful_with : (len : ℕ) (image : List ℕ) (g : Geometry) (label : List ℕ) (vtoc : Run) → HasGeometry len g → vtoc_of image g ≡ Ok vtoc → slots_faults g (slots_of_vtoc image g vtoc) ≡ []
     → IsLawfulVolume (volume_with g label vtoc (slots_of_vtoc image g vtoc))
 unfolding volume_with
-lawful_with len image g label vtoc has found none short =
-    let slots = slots_of_vtoc image g vtoc in
-    let first : slice_get (slots_faults g slots) 0 ≡ None = ap (λ (faults : List MountErr). slice_get faults 0) none in
+lawful_with len image g label vtoc has found none =
     record {
       some = has.cylinders;
       most = has.most;
       slots = few_slots image g vtoc (few_tracks image g vtoc found);
-      order = ascending_sets g slots first;
-      sets = lawful_sets g slots first short;
+      order = ascending_sets g (slots_of_vtoc image g vtoc) none;
+      sets = lawful_sets g (slots_of_vtoc image g vtoc) none;
     }
 
 -- What an image has that stands for a volume.
@@ -237,21 +252,13 @@ has_volume image volume is = by_header (geometry_of (take 512 image) (length ima
     by_header (Err e) header given = cc
     by_header (Ok g) header given = by_vtoc g header (vtoc_of image g) refl given
 
--- The volume that an image stands for is lawful, where the secondary quantities of its data sets have three bytes.
-pub lawful_by_quantities : (image : List ℕ) (volume : Volume) → ((g : Geometry) (vtoc : Run) → AllByRecursion HasShortQuantity (slots_of_vtoc image g vtoc)) → volume_of image ≡ Ok volume → IsLawfulVolume volume
-lawful_by_quantities image volume short is =
+-- The volume that an image stands for is lawful.
+pub lawful_volume : (image : List ℕ) (volume : Volume) → volume_of image ≡ Ok volume → IsLawfulVolume volume
+lawful_volume image volume is =
     let has = has_volume image volume is in
     subst IsLawfulVolume has.is
-    (lawful_with (length image) image has.geometry _ has.vtoc (has_geometry (take 512 image) (length image) has.geometry has.header) has.found has.slots (short has.geometry has.vtoc))
-
--- The volume that an image of bytes stands for is lawful.
-pub lawful_volume : (image : List ℕ) (volume : Volume) → AreBytes image → volume_of image ≡ Ok volume → IsLawfulVolume volume
-lawful_volume image volume are is = lawful_by_quantities image volume (λ g vtoc. short_on_image image g vtoc are) is
+    (lawful_with (length image) image has.geometry _ has.vtoc (has_geometry (take 512 image) (length image) has.geometry has.header) has.found has.slots)
 
 -- a shelf of one lawful volume
 pub lawful_single : (volume : Volume) → IsLawfulVolume volume → IsLawful (record { volumes = volume ∷ [] })
 lawful_single volume lawful = record { few = omega arith; volumes = (lawful, tt) }
-
--- and of the one that an image of bytes stands for
-pub lawful_shelf : (image : List ℕ) (volume : Volume) → AreBytes image → volume_of image ≡ Ok volume → IsLawful (record { volumes = volume ∷ [] })
-lawful_shelf image volume are is = lawful_single volume (lawful_volume image volume are is)

@@ -1,12 +1,12 @@
 pub mod Label
 pub mod Vtoc
-pub mod Formats
 pub mod Slots
-pub mod Faults
+pub mod Rules
 pub mod Volume
-pub mod Views
+pub mod Written
 pub use Rattle.ckd_image.specs.Header
 pub use Rattle.ckd_image.specs.Device
 pub use Rattle.ckd_image.specs.Track
 pub use Rattle.ckd_image.specs.Reading
+pub use Rattle.ckd_image.specs.Writing
 pub use Rattle.dscb_codec.specs.Layout

@@ -1,16 +1,45 @@
--- The VTOC of an image: its extent, and its slots (System Control Blocks GC28-6628).
-use Rattle.std.specs.Prelude.{ℕ, ◌+◌, ◌-◌, ◌==◌, ◌&&◌, nat_lt, nat_le, Bool, List, [], ◌∷◌, ◌++◌, length, map, Option, Some, None, Result, Ok, Err, option_and_then, if◌then◌else◌}
-use Rattle.std.specs.List.{list_all}
+-- Extents in DSCBs, and that of the VTOC (System Control Blocks GC28-6628).
+use Rattle.std.specs.Prelude.{ℕ, ◌+◌, ◌-◌, ◌==◌, ◌&&◌, ◌||◌, nat_le, Bool, List, [], ◌∷◌, ◌++◌, length, Option, Some, None, Result, Ok, Err, option_and_then, slice_index, slice_range, if◌then◌else◌}
 use Rattle.ckd_image.specs.declared.header.Geometry.{Geometry}
 use Rattle.ckd_image.specs.Track.{Record}
+use Rattle.vol_model.specs.declared.contents.Run.{Run}
 use Rattle.pack_spec.specs.declared.MountErr.{MountErr}
 use Rattle.pack_spec.specs.declared.MountErr.TheVariants.{NoLabel, BadVtoc, VtocTrack}
-use Rattle.pack_spec.specs.Label.{Address, address_at, is_inside, track_of_address, records_on, label_of}
+use Rattle.pack_spec.specs.declared.address.Address.{Address}
+use Rattle.pack_spec.specs.Label.{address_at, is_inside, track_of_address, records_on, label_of}
 
--- tracks in a row: the first, and how many
-pub record Run : Type 0 where
-  pub start : ℕ
-  pub len : ℕ
+-- the type of an extent; its ten bytes are type, sequence, lower CCHH and upper CCHH
+abbrev pub type_of : List ℕ → ℕ
+type_of extent = slice_index extent 0
+
+-- its first track
+abbrev pub lower_of : List ℕ → Address
+lower_of extent = address_at 2 extent
+
+-- its last track
+abbrev pub upper_of : List ℕ → Address
+upper_of extent = address_at 6 extent
+
+-- data, or data on cylinder boundaries
+abbrev pub is_counted_type : List ℕ → Bool
+is_counted_type extent = (type_of extent == 0x01) || (type_of extent == 0x81)
+
+-- the same, or no extent
+abbrev pub is_field_type : List ℕ → Bool
+is_field_type extent = (type_of extent == 0x00) || is_counted_type extent
+
+-- its ends are tracks of the image, in this order or the same
+abbrev pub is_extent : Geometry → List ℕ → Bool
+is_extent g extent =
+    is_inside g (lower_of extent) && is_inside g (upper_of extent)
+    && nat_le (track_of_address g (lower_of extent)) (track_of_address g (upper_of extent))
+
+-- the tracks of an extent
+abbrev pub run_of_extent : Geometry → List ℕ → Run
+run_of_extent g extent = record {
+  start = track_of_address g (lower_of extent);
+  len = track_of_address g (upper_of extent) - track_of_address g (lower_of extent) + 1;
+}
 
 -- a slot is a record with a key of 44 bytes and 96 bytes of data
 abbrev pub is_slot : Record → Bool
@@ -20,44 +49,37 @@ is_slot x = (length x.key == 44) && (length x.data == 96)
 abbrev pub slot_bytes : Record → List ℕ
 slot_bytes x = x.key ++ x.data
 
--- the bytes of the first slot of a track
+-- the bytes of the slot that the one record is
 abbrev pub first_slot : List Record → Option (List ℕ)
 first_slot (x ∷ []) = if is_slot x then Some (slot_bytes x) else None
 first_slot _ = None
 
--- the extent that stands at byte 105 of a slot lies in the image, begins at this address, and has 1 to 257 tracks
+-- an extent of the image that begins at this address and has 1 to 257 tracks
 abbrev pub is_vtoc_extent : Geometry → Address → List ℕ → Bool
-is_vtoc_extent g at slot =
-    let lower = address_at 107 slot in
-    let upper = address_at 111 slot in
-    is_inside g lower && is_inside g upper
-    && (lower.cylinder == at.cylinder) && (lower.head == at.head)
-    && nat_le (track_of_address g lower) (track_of_address g upper)
-    && nat_lt (track_of_address g upper - track_of_address g lower) 257
+is_vtoc_extent g at extent =
+    is_extent g extent
+    && ((lower_of extent).cylinder == at.cylinder) && ((lower_of extent).head == at.head)
+    && nat_le (run_of_extent g extent).len 257
 
--- the extent of the VTOC that begins at an address of the label, by the first slot there
+-- the VTOC that begins at an address, by the first slot there, whose extent stands at byte 105
 abbrev pub vtoc_by : Geometry → Address → Option (List ℕ) → Result Run MountErr
 vtoc_by g at None = Err (VtocTrack (track_of_address g at))
 vtoc_by g at (Some slot) =
-    if is_vtoc_extent g at slot
-    then Ok (record { start = track_of_address g at; len = track_of_address g (address_at 111 slot) - track_of_address g at + 1 })
-    else Err BadVtoc
+    let extent = slice_range slot 105 115 in
+    if is_vtoc_extent g at extent then Ok (run_of_extent g extent) else Err BadVtoc
 
--- the extent of the VTOC to which a label leads; the address stands at byte 11 of its data
+-- the same, by the first slot on an image
+unfoldable pub vtoc_on : List ℕ → Geometry → Address → Result Run MountErr
+vtoc_on image g at = vtoc_by g at (option_and_then first_slot
+    (records_on image g (Some 1) (track_of_address g at)))
+
+-- the VTOC to which a label leads; the address stands at byte 11 of its data
 unfoldable pub vtoc_at : List ℕ → Geometry → Option (List ℕ) → Result Run MountErr
 vtoc_at image g None = Err NoLabel
 vtoc_at image g (Some label) =
     let at = address_at 11 label in
-    if is_inside g at then vtoc_by g at (option_and_then first_slot (records_on image g (Some 1) (track_of_address g at))) else Err BadVtoc
+    if is_inside g at then vtoc_on image g at else Err BadVtoc
 
 -- the VTOC's extent on an image, or the first rule that is broken
 unfoldable pub vtoc_of : List ℕ → Geometry → Result Run MountErr
 vtoc_of image g = vtoc_at image g (label_of image g)
-
--- the slots that are these records
-abbrev pub slots_in : List Record → Option (List (List ℕ))
-slots_in records = if list_all is_slot records then Some (map slot_bytes records) else None
-
--- the slots on a track; nothing where it breaks the grammar, or has a record that is no slot
-unfoldable pub slots_on : List ℕ → Geometry → ℕ → Option (List (List ℕ))
-slots_on image g track = option_and_then slots_in (records_on image g None track)

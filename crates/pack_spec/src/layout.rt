@@ -40,23 +40,14 @@ pub const SLOT_LEN: usize = KEY_LEN + DATA_LEN;
 /// The key and the data of a slot.
 pub type Slot = [u8; SLOT_LEN];
 
-/// Where a slot has its format byte.
-pub const FORMAT_AT: usize = 44;
-
-/// That of a data set.
-pub const FORMAT_1: u8 = 0xF1;
-
-/// That of further extents of one.
-pub const FORMAT_3: u8 = 0xF3;
-
-/// That of the VTOC.
-pub const FORMAT_4: u8 = 0xF4;
-
-/// That of free space.
-pub const FORMAT_5: u8 = 0xF5;
-
 /// An extent as a DSCB has it: type, sequence, and the addresses CCHH of its first track and its last.
 pub type Extent = [u8; 10];
+
+/// Where the first slot of the VTOC has the extent of the VTOC.
+pub const VTOC_EXTENT_AT: usize = 105;
+
+/// The most tracks of a VTOC.
+pub const MOST_VTOC_TRACKS: u16 = 257;
 
 /// Where an extent has its type.
 pub const TYPE_AT: usize = 0;

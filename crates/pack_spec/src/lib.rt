@@ -1,39 +1,20 @@
-//! What the image of a pack stands for: definitions, and a plain program that follows them.
+//! What the image of a pack stands for, in definitions that each reader and writer of packs follows: the volume
+//! label, the slots of the VTOC, the rules of mounting, and the volume.
 #![tactic(auto)]
 
-ghost use Rattle.std.specs.Prelude.{◌≡◌, ◌≢◌, [], Err, IfOk, IfErr, length, slice_range, take, unwrap_or};
-ghost use Rattle.ckd_image.specs.Header.{HasGeometry, geometry_of};
-ghost use Rattle.pack_spec.specs.Label.{label_of};
-ghost use Rattle.pack_spec.specs.Vtoc.{vtoc_of};
-ghost use Rattle.pack_spec.specs.Views.{Answers};
-ghost use Rattle.pack_spec.specs.Volume.{volume_of, volume_within};
+ghost use Rattle.std.specs.Prelude.{◌≡◌};
 ghost use Rattle.pack_spec.specs.declared.MountErr.TheVariants as mount;
 
 mod address;
-mod addressed;
-mod dscbs;
-mod label;
 pub mod layout;
-mod rules;
-mod set_extents;
-mod sets;
-mod slots;
-mod track;
-mod vtoc;
+mod slot;
+mod written;
 
-use crate::addressed::slots_of_vtoc;
-use crate::label::label;
-use crate::layout::SERIAL_AT;
-use crate::rules::first_fault;
-use crate::sets::data_sets_in_order;
-use crate::vtoc::vtoc;
-pub use address::Address;
-pub use addressed::{VtocSlot, record_address};
-use ckd_image::{Geometry, Header, ImageErr};
-use ebcdic_names::Serial;
-use std::alloc::{AllocError, Global};
-use vol_model::{DataSets, Volume};
-pub use vtoc::vtoc_extent;
+pub use address::{Address, record_address};
+use ckd_image::ImageErr;
+pub use slot::VtocSlot;
+use std::alloc::AllocError;
+pub use written::{label_data, label_track, slots_track};
 
 /// Why a pack isn't mounted: the first rule that it breaks, in this order, or what kept it from being read.
 ///
@@ -117,73 +98,3 @@ impl From<AllocError> for MountErr {
         MountErr::Memory
     }
 }
-
-/// The volume that an image which lies in memory stands for, without the content of its data sets: the
-/// body of each is `Other`, and there is no catalog.
-///
-/// The error is the first rule of mounting that the image breaks, or `Memory`. Label and DSCBs follow System
-/// Control Blocks, GC28-6628, the rules and their order this project's profile.
-///
-/// This is written for its plainness, and to compare faster readers with: it holds all records of a track
-/// and all slots of the VTOC in memory, and goes over all slots for each of them.
-#[tactic(auto, unfolding(crate::specs::Volume::volume_of))]
-pub fn volume(alloc: Global, image: &[u8]) -> Result<Volume, MountErr>
-    ensures { Answers (λ volume. volume) (volume_of image.now) result }
-{
-    match geometry_of(image) {
-        Ok(geometry) => volume_on(alloc, image, geometry),
-        Err(fault) => Err(MountErr::Image(fault)),
-    }
-}
-
-// The volume of an image with this geometry.
-fn volume_on(alloc: Global, image: &[u8], geometry: Geometry) -> Result<Volume, MountErr>
-    requires { HasGeometry (length image.now) geometry }
-    ensures { Answers (λ volume. volume) (volume_within image.now geometry (vtoc_of image.now geometry)) result }
-{
-    let serial = serial(alloc, image, geometry)?;
-    let vtoc = vtoc(alloc, image, geometry)?;
-    let slots = slots_of_vtoc(alloc, image, geometry, vtoc)?;
-    if let Some(fault) = first_fault(alloc, geometry, &slots)? {
-        return Err(fault);
-    }
-    let sets = data_sets_in_order(alloc, geometry, &slots)?;
-    Ok(Volume {
-        serial,
-        geometry,
-        vtoc,
-        slots: slots.len() as u32,
-        sets: DataSets::from_vec(sets),
-        catalog: None,
-    })
-}
-
-// The serial in the volume label.
-#[tactic(auto, unfolding(crate::specs::Vtoc::vtoc_of, crate::specs::Vtoc::vtoc_at))]
-fn serial(alloc: Global, image: &[u8], geometry: Geometry) -> Result<Serial, MountErr>
-    requires { HasGeometry (length image.now) geometry }
-    ensures serial { IfOk result (λ serial. serial.bytes ≡ slice_range (unwrap_or (label_of image.now geometry) []) 4 10) }
-    ensures refused { IfErr result (λ e. e ≢ MountErr.Memory → vtoc_of image.now geometry ≡ Err e) }
-{
-    let Some(label) = label(alloc, image, geometry)? else {
-        return Err(MountErr::NoLabel);
-    };
-    let mut bytes = [0; 6];
-    bytes.copy_from_slice(&label[SERIAL_AT..SERIAL_AT + 6]);
-    Ok(Serial { bytes })
-}
-
-// The geometry that the header and the length of an image give.
-#[tactic(auto, unfolding(ckd_image::specs::Header::geometry_of))]
-fn geometry_of(image: &[u8]) -> Result<Geometry, ImageErr>
-    ensures exact { result ≡ geometry_of (take 512 image.now) (length image.now) }
-    ensures whole { IfOk result (HasGeometry (length image.now)) }
-{
-    match image.first_chunk() {
-        Some(header) => Header::read(header, image.len() as u64),
-        None => Err(ImageErr::BadMagic),
-    }
-}
-
-#[cfg(test)]
-mod tests;

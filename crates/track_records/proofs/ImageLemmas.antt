@@ -7,7 +7,8 @@ use Rattle.hall_core.specs.Facts.{Facts, Attached, unit_of}
 use Rattle.std.specs.Prelude.{unwrap_or, Result, Ok, Err, IfOk}
 use Rattle.ckd_image.specs.Reading.{records_of}
 use Rattle.ckd_image.specs.declared.header.Geometry.{Geometry}
-use Rattle.hall_core.specs.Files.{File, file_of, image_of, patched, written, AreWhole, HasBytesAt}
+use Rattle.stop_model.specs.Files.{File, file_of, patched, written, HasBytesAt}
+use Rattle.hall_core.specs.Images.{image_of, AreWhole}
 use Rattle.pack_spec.specs.Label.{heads_of, records_on, track_bytes}
 use Rattle.track_records.specs.Buffers.{records_at}
 

@@ -1,4 +1,3 @@
-mod Cases
 pub mod ImageLemmas
 mod PlaceLemmas
 pub mod PatchLemmas

@@ -3,7 +3,7 @@ use Rattle.std.proofs.Common.{◌≡◌, ◌<◌, ◌≤◌, ◌+◌, ◌-◌, �
 use Rattle.std.specs.Prelude.{slice_range, slice_index}
 use Rattle.std.proofs.lemmas.Bool.{cases_lt}
 use Rattle.std.proofs.lemmas.List.{take-take, drop-take, drop-drop, get_or-take, length-take-le, take-append-le, drop-append-le, take_at, drop_at}
-use Rattle.hall_core.specs.Files.{patched}
+use Rattle.stop_model.specs.Files.{patched}
 
 -- the bytes before the place are as they were
 pub take-patched : (image bytes : List ℕ) (n at : ℕ) → n ≤ at → at ≤ length image → take n (patched image at bytes) ≡ take n image

@@ -6,7 +6,7 @@ use borrow.Author.Tests.{leb-true}
 use Rattle.std.proofs.lemmas.List.{length-map, get_or_read, take_at, drop_at, drop-drop, take-take, drop-take, length-take-le}
 use Rattle.ckd_image.specs.Track.{Record}
 use Rattle.ckd_image.specs.Reading.{records_of, records_behind, records_up_to, records_to_end, is_front, is_at_end, is_record_at, front_record, record_length, key_length, data_length}
-use Rattle.hall_core.specs.Files.{patched}
+use Rattle.stop_model.specs.Files.{patched}
 use Rattle.std.proofs.Math.Seq.{take-add}
 use Rattle.track_records.specs.Buffers.{records_at, are_places, places_from, IsContentOf}
 use Rattle.track_records.proofs.PlaceLemmas.{first_place}

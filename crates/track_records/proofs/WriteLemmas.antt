@@ -6,8 +6,8 @@ use Rattle.std.proofs.lemmas.Result.{IfOk-from_err}
 use Rattle.ckd_image.specs.declared.header.Geometry.{Geometry}
 use Rattle.ckd_image.specs.Device.{row_of}
 use Rattle.hall_core.specs.Facts.{Attached, unit_of}
-use Rattle.hall_core.specs.Files.{File, AfterWrite}
-use Rattle.hall_core.specs.Moments.{Meaning}
+use Rattle.stop_model.specs.Files.{File, AfterWrite}
+use Rattle.stop_model.specs.Moments.{Meaning}
 use Rattle.track_records.specs.Calls.{HasTrack}
 
 on_err : {T E : Type 0} (answer : Result T E) (P : Type 0) → P → OnErr answer P

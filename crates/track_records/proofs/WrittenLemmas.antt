@@ -10,11 +10,12 @@ use Rattle.ckd_image.specs.Device.{row_of}
 use Rattle.ckd_image.specs.Reading.{records_of}
 use Rattle.std.specs.Option.{option_map}
 use Rattle.hall_core.specs.Facts.{Facts, unit_of}
-use Rattle.hall_core.specs.Files.{File, AreWhole, image_of, patched, written}
+use Rattle.stop_model.specs.Files.{File, patched, written}
+use Rattle.hall_core.specs.Images.{AreWhole, image_of}
 use Rattle.track_records.specs.Calls.{HasTrack}
 use Rattle.track_records.proofs.ImageLemmas.{unit_written}
 use Rattle.pack_spec.specs.Label.{heads_of, records_on, track_bytes}
-use Rattle.pack_spec.specs.Views.{tracks_of}
+use Rattle.pack_spec.specs.Label.{tracks_of}
 use Rattle.track_records.specs.Buffers.{Buffer}
 use Rattle.track_records.specs.Updates.{with_parts, offset_of, HasLengths}
 use Rattle.track_records.specs.Written.{place_of, StandsOn, IsUpdated, with_record}

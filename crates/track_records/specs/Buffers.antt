@@ -5,7 +5,7 @@ use Rattle.ckd_image.specs.declared.header.Geometry.{Geometry}
 use Rattle.ckd_image.specs.Track.{Record}
 use Rattle.ckd_image.specs.Reading.{is_record_at, front_record, record_length}
 
--- the geometry of the packs that a buffer is made for; the unit and the track that it is of, counted from 0; and the records behind R0 that it holds
+-- a buffer: the geometry of its packs, its unit and track, counted from 0, and the records behind R0
 pub record Buffer : Type 0 where
   pub geometry : Geometry
   pub unit : ℕ
@@ -19,7 +19,8 @@ records_at bytes places = map (λ at. front_record (drop at bytes)) places
 -- at these offsets records stand one behind another, the first of them as Rr at an offset of its own
 abbrev pub are_places : ℕ → ℕ → List ℕ → List ℕ → Bool
 are_places r at bytes [] = true
-are_places r at bytes (p ∷ ps) = (p == at) && is_record_at r (drop at bytes) && are_places (suc r) (at + record_length (drop at bytes)) bytes ps
+are_places r at bytes (p ∷ ps) = (p == at) && is_record_at r (drop at bytes) && are_places (suc r)
+    (at + record_length (drop at bytes)) bytes ps
 
 -- the offsets of so many records, the first of which has this one
 abbrev pub places_from : ℕ → ℕ → List ℕ → List ℕ

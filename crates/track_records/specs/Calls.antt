@@ -3,7 +3,7 @@ use Rattle.std.specs.Prelude.{ℕ, ◌<◌, List, length, Result, IsErrOf}
 use Rattle.ckd_image.specs.declared.header.Geometry.{Geometry}
 use Rattle.ckd_image.specs.Header.{HasGeometry}
 use Rattle.hall_core.specs.Facts.{Facts, Attached, ReportedCall, unit_of}
-use Rattle.pack_spec.specs.Views.{tracks_of}
+use Rattle.pack_spec.specs.Label.{tracks_of}
 use Rattle.track_records.specs.declared.error.TrackErr.{TrackErr}
 use Rattle.track_records.specs.declared.error.TrackErr.TheVariants.{Device}
 

@@ -23,10 +23,12 @@ with_parts (suc k) key content (x ∷ xs) = x ∷ with_parts k key content xs
 -- the k-th of these records has a key and data of these lengths
 abbrev pub HasLengths : List Record → ℕ → ℕ → ℕ → Type 0
 HasLengths [] k key_length data_length = ⊥
-HasLengths (x ∷ xs) zero key_length data_length = (key_length ≡ length x.key) × (data_length ≡ length x.data)
+HasLengths (x ∷ xs) zero key_length data_length = (key_length ≡ length x.key)
+    × (data_length ≡ length x.data)
 HasLengths (x ∷ xs) (suc k) key_length data_length = HasLengths xs k key_length data_length
 
 -- for lemmas: these records stand one after another from the front on, the first of them as Rr
 abbrev pub StandFrom : ℕ → List ℕ → List Record → Type 0
 StandFrom r bytes [] = Unit {0}
-StandFrom r bytes (x ∷ xs) = (is_record_at r bytes ≡ true) × ((x ≡ front_record bytes) × StandFrom (suc r) (drop (record_length bytes) bytes) xs)
+StandFrom r bytes (x ∷ xs) = (is_record_at r bytes ≡ true)
+    × ((x ≡ front_record bytes) × StandFrom (suc r) (drop (record_length bytes) bytes) xs)

@@ -2,8 +2,9 @@
 ghost use Rattle.std.specs.Prelude.{◌≡◌, ◌≤◌, ◌+◌, ◌-◌, ◌++◌, [], length, Some, IsTrue, IfOk, IfErr, OnOk, OnErr, slice_get};
 ghost use Rattle.std.specs.Option.{option_map};
 ghost use Rattle.hall_core.specs.Facts.{DeviceCall, unit_of};
-ghost use Rattle.hall_core.specs.Files.{AfterWrite, image_of, patched};
-ghost use Rattle.hall_core.specs.Moments.{Same};
+ghost use Rattle.stop_model.specs.Files.{AfterWrite, patched};
+ghost use Rattle.hall_core.specs.Images.{image_of};
+ghost use Rattle.stop_model.specs.Moments.{Same};
 ghost use Rattle.pack_spec.specs.Label.{records_on, track_bytes};
 ghost use Rattle.track_records.specs.Buffers.{IsContentOf, IsPartOf};
 ghost use Rattle.track_records.specs.Calls.{HasTrack, TrackCall};
@@ -48,7 +49,8 @@ impl Model for TrackBuf {
 impl TrackBuf {
     /// A buffer without records for the tracks of a pack of this geometry. Fails only for want of memory.
     pub fn new(alloc: Global, geometry: &Geometry) -> Result<TrackBuf, AllocError>
-        ensures { IfOk result (λ b. b ≡ record { geometry = geometry.now; unit = 0; track = 0; records = [] }) }
+        ensures { IfOk result (λ b. b ≡ record
+            { geometry = geometry.now; unit = 0; track = 0; records = [] }) }
     {
         let bytes = vec![in alloc; 0; geometry.track_size as usize]?;
         let places = Vec::with_capacity(alloc, MOST_RECORDS)?;
@@ -100,7 +102,8 @@ impl TrackBuf {
         requires there { HasLengths self.old.records (r - 1) (length key.now) (length payload.now) }
         ensures place { result ≡ 21 + offset_of self.old.records (r - 1) + 8 }
         ensures inside { result + length (key.now ++ payload.now) ≤ self.old.geometry.track_size }
-        ensures buffer { self.new ≡ record self.old { records = with_parts (r - 1) key.now payload.now self.old.records } }
+        ensures buffer { self.new ≡ record self.old
+            { records = with_parts (r - 1) key.now payload.now self.old.records } }
     {
         let place = self.places[usize::from(r) - 1] + COUNT_LEN;
         put_parts(&mut self.bytes, place, key, payload);
@@ -149,10 +152,15 @@ pub fn read_records<H: Hall>(
 ) -> Result<u8, TrackErr>
     requires { HasTrack (H.facts hall.old).units unit buf.old.geometry track }
     ensures count { IfOk result (λ n. length buf.new.records ≡ n) }
-    ensures buffer { buf.new ≡ record buf.old { unit = unit; track = track; records = buf.new.records } }
+    ensures buffer { buf.new ≡ record buf.old
+        { unit = unit; track = track; records = buf.new.records } }
     ensures none { OnErr result (buf.new.records ≡ []) }
-    ensures read { IsTrue H.tells → IfOk result (λ _. records_on (image_of (H.meaning hall.old).state (H.facts hall.old) unit) buf.old.geometry upto track ≡ Some buf.new.records) }
-    ensures broken { IsTrue H.tells → IfErr result (λ e. IsBroken (image_of (H.meaning hall.old).state (H.facts hall.old) unit) buf.old.geometry upto track e) }
+    ensures read { IsTrue H.tells → IfOk result
+        (λ _. records_on (image_of (H.meaning hall.old).state (H.facts hall.old) unit)
+        buf.old.geometry upto track ≡ Some buf.new.records) }
+    ensures broken { IsTrue H.tells → IfErr result
+        (λ e. IsBroken (image_of (H.meaning hall.old).state (H.facts hall.old) unit)
+        buf.old.geometry upto track e) }
     ensures told { IsTrue H.tells → Same (H.meaning hall.old) (H.meaning hall.new) }
     ensures call { TrackCall (H.facts hall.old) (H.facts hall.new) result }
 {
@@ -184,7 +192,9 @@ fn fill<H: Hall>(
     requires track { HasTrack (H.facts hall.old).units unit geometry track }
     requires room { length bytes.old.items ≡ geometry.track_size }
     ensures size { length bytes.new.items ≡ geometry.track_size }
-    ensures read { IsTrue H.tells → OnOk result (bytes.new.items ≡ track_bytes (image_of (H.meaning hall.old).state (H.facts hall.old) unit) geometry track) }
+    ensures read { IsTrue H.tells → OnOk result
+        (bytes.new.items ≡ track_bytes (image_of (H.meaning hall.old).state (H.facts hall.old) unit)
+        geometry track) }
     ensures told { IsTrue H.tells → Same (H.meaning hall.old) (H.meaning hall.new) }
     ensures call { DeviceCall (H.facts hall.old) (H.facts hall.new) result }
 {
@@ -207,9 +217,17 @@ pub fn update<H: Hall>(
     requires track { HasTrack (H.facts hall.old).units buf.old.unit buf.old.geometry buf.old.track }
     requires first { 1 ≤ r }
     requires there { HasLengths buf.old.records (r - 1) (length key.now) (length payload.now) }
-    ensures told { IsTrue H.tells → AfterWrite (unit_of (H.facts hall.old).units buf.old.unit).name (place_of buf.old (r - 1)) (key.now ++ payload.now) (H.meaning hall.old) (H.meaning hall.new) result }
-    ensures record { let image = image_of (H.meaning hall.old).state (H.facts hall.old) buf.old.unit in IsTrue H.tells → OnOk result (StandsOn image buf.old → IsUpdated buf.old (r - 1) key.now payload.now image (image_of (H.meaning hall.new).state (H.facts hall.new) buf.old.unit) × StandsOn (image_of (H.meaning hall.new).state (H.facts hall.new) buf.old.unit) buf.new) }
-    ensures buffer { buf.new ≡ record buf.old { records = with_parts (r - 1) key.now payload.now buf.old.records } }
+    ensures told { IsTrue H.tells → AfterWrite (unit_of (H.facts hall.old).units buf.old.unit).name
+        (place_of buf.old (r - 1)) (key.now ++ payload.now) (H.meaning hall.old)
+        (H.meaning hall.new) result }
+    ensures record { let image = image_of (H.meaning hall.old).state
+        (H.facts hall.old) buf.old.unit in
+        IsTrue H.tells → OnOk result (StandsOn image buf.old
+        → IsUpdated buf.old (r - 1) key.now payload.now image
+        (image_of (H.meaning hall.new).state (H.facts hall.new) buf.old.unit)
+        × StandsOn (image_of (H.meaning hall.new).state (H.facts hall.new) buf.old.unit) buf.new) }
+    ensures buffer { buf.new ≡ record buf.old
+        { records = with_parts (r - 1) key.now payload.now buf.old.records } }
     ensures call { DeviceCall (H.facts hall.old) (H.facts hall.new) result }
 {
     let place = buf.put(r, key, payload);

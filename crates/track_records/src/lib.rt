@@ -7,6 +7,3 @@ mod places;
 
 pub use buffer::{TrackBuf, read_records, update};
 pub use error::TrackErr;
-
-#[cfg(test)]
-mod tests;

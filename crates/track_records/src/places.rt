@@ -20,7 +20,8 @@ pub(crate) fn put_places(
     requires empty { places.old.items ≡ [] }
     requires room { 255 ≤ vec_capacity places.old }
     ensures count { IfOk result (λ n. length places.new.items ≡ n) }
-    ensures records { IfOk result (λ _. records_of cylinder head upto bytes.now ≡ Some (records_at bytes.now places.new.items)) }
+    ensures records { IfOk result (λ _. records_of cylinder head upto bytes.now
+        ≡ Some (records_at bytes.now places.new.items)) }
     ensures are { IsTrue (are_places 1 21 bytes.now places.new.items) }
     ensures broken { IfErr result (λ e. IsBrokenTrack cylinder head upto bytes.now e) }
     ensures none { OnErr result (places.new.items ≡ []) }

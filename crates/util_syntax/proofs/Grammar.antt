@@ -16,7 +16,7 @@ use Rattle.std.proofs.lemmas.Str.{IsAscii-append}
 use Rattle.std.proofs.lemmas.Str.Ascii.{IsAscii-from_all}
 use Rattle.ckd_image.specs.Device.{row_of}
 use Rattle.ckd_image.specs.declared.device.DiskType.{DiskType}
-use Rattle.ckd_image.specs.declared.device.DiskType.TheVariants.{D2311, D2314, D3330}
+use Rattle.ckd_image.specs.declared.device.DiskType.TheVariants.{D2311, D2314, D3330, D3350}
 use Rattle.ebcdic_names.specs.Names.{dsn_of, serial_of}
 use Rattle.ebcdic_names.specs.declared.names.Dsn.{Dsn}
 use Rattle.ebcdic_names.specs.declared.names.Serial.{Serial}
@@ -85,7 +85,10 @@ device_named word h =
         | inl second ↦ (D2314, (bytes_eq-Decides word (row_of D2314).device_word).0 second)
         | inr last ↦ elim (or_cases (bytes_eq word (row_of D3330).device_word) _ last) [
           | inl third ↦ (D3330, (bytes_eq-Decides word (row_of D3330).device_word).0 third)
-          | inr none ↦ cc
+          | inr rest ↦ elim (or_cases (bytes_eq word (row_of D3350).device_word) _ rest) [
+            | inl fourth ↦ (D3350, (bytes_eq-Decides word (row_of D3350).device_word).0 fourth)
+            | inr none ↦ cc
+          ]
         ]
       ]
     ]
@@ -94,6 +97,7 @@ word_known : (device : DiskType) → is_device_word (row_of device).device_word 
 word_known D2311 = refl
 word_known D2314 = refl
 word_known D3330 = refl
+word_known D3350 = refl
 
 -- bytes none of which is c
 pub free_of : (c : ℕ) (xs : List ℕ) → list_all (λ b. not (eqb b c)) xs ≡ true → All (λ b. eqb b c ≡ false) xs
@@ -112,11 +116,13 @@ word_no_equals : (device : DiskType) → All (λ b. eqb b 61 ≡ false) (row_of 
 word_no_equals D2311 = free_of 61 (row_of D2311).device_word refl
 word_no_equals D2314 = free_of 61 (row_of D2314).device_word refl
 word_no_equals D3330 = free_of 61 (row_of D3330).device_word refl
+word_no_equals D3350 = free_of 61 (row_of D3350).device_word refl
 
 word_no_comma : (device : DiskType) → All (λ b. eqb b 44 ≡ false) (row_of device).device_word
 word_no_comma D2311 = free_of 44 (row_of D2311).device_word refl
 word_no_comma D2314 = free_of 44 (row_of D2314).device_word refl
 word_no_comma D3330 = free_of 44 (row_of D3330).device_word refl
+word_no_comma D3350 = free_of 44 (row_of D3350).device_word refl
 
 -- an operand VOL=device=serial
 pub record VolumeIs (text : List ℕ) (serial : Serial) : Type 0 where
@@ -298,6 +304,7 @@ word_ascii : (device : DiskType) → IsAscii (row_of device).device_word
 word_ascii D2311 = ascii_text (row_of D2311).device_word refl
 word_ascii D2314 = ascii_text (row_of D2314).device_word refl
 word_ascii D3330 = ascii_text (row_of D3330).device_word refl
+word_ascii D3350 = ascii_text (row_of D3350).device_word refl
 
 all_ascii : (k old a word b serial c new ends : List ℕ) → IsAscii k → IsAscii old → IsAscii a → IsAscii word → IsAscii b → IsAscii serial → IsAscii c → IsAscii new → IsAscii ends
     → IsAscii (k ++ old ++ a ++ word ++ b ++ serial ++ c ++ new ++ ends)

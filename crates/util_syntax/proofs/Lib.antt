@@ -4,3 +4,6 @@ mod Grammar
 mod NameChars
 mod Parts
 pub mod StatementLemmas
+pub mod Absent
+pub mod Passing
+pub mod Tables

@@ -1,2 +1,6 @@
+pub mod Items
 pub mod Lines
+pub mod Listing
+pub mod Operands
 pub mod Statement
+pub mod Step

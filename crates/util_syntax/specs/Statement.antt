@@ -5,7 +5,7 @@ use Rattle.std.specs.Result.{result_ok}
 use Rattle.std.specs.Str.{bytes_eq}
 use Rattle.ckd_image.specs.Device.{row_of}
 use Rattle.ckd_image.specs.declared.device.DiskType.{DiskType}
-use Rattle.ckd_image.specs.declared.device.DiskType.TheVariants.{D2311, D2314, D3330}
+use Rattle.ckd_image.specs.declared.device.DiskType.TheVariants.{D2311, D2314, D3330, D3350}
 use Rattle.ebcdic_names.specs.Names.{dsn_of, serial_of}
 use Rattle.ebcdic_names.specs.declared.names.Dsn.{Dsn}
 use Rattle.ebcdic_names.specs.declared.names.Serial.{Serial}
@@ -25,7 +25,7 @@ name_behind keyword operand = option_and_then (λ name. result_ok (dsn_of name))
 
 -- whether a word names a device
 abbrev pub is_device_word : List ℕ → Bool
-is_device_word word = list_any (λ device. bytes_eq word (row_of device).device_word) (D2311 ∷ D2314 ∷ D3330 ∷ [])
+is_device_word word = list_any (λ device. bytes_eq word (row_of device).device_word) (D2311 ∷ D2314 ∷ D3330 ∷ D3350 ∷ [])
 
 -- the operands of a statement, which commas part
 abbrev pub operands_of : List ℕ → List (List ℕ)

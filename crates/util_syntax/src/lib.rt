@@ -1,11 +1,21 @@
-//! The statements of the utilities, and the lines that answer them.
+//! The statements of the utilities, the steps that they run in, and the lines that answer them.
 #![tactic(auto)]
 
+mod items;
 mod lines;
+mod listing;
+mod operands;
 mod statement;
+mod step;
 
+pub use card_text::{Card, Operand, Value};
+pub use items::{Item, Statement, statements};
+pub use jcl_forms::Dcb;
 pub use lines::result_line;
+pub use listing::{Object, Outcome, item_line, jcl_line, no_dd_line, no_program_line, syntax_line};
+pub use operands::SynErr;
 pub use statement::{Rename, rename_law, rename_of};
+pub use step::{DataCards, DdIn, DdTable, StepIn};
 
 #[cfg(test)]
 mod tests;

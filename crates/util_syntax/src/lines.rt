@@ -37,9 +37,9 @@ pub fn result_line(
     Ok(line)
 }
 
-// Adds a card's number.
+// Adds a card's number, in at least five digits.
 #[tactic(auto, unfolding(crate::specs::Lines::card_number))]
-fn push_card(line: &mut Vec<u8>, card: u32) -> Result<(), AllocError>
+pub fn push_card(line: &mut Vec<u8>, card: u32) -> Result<(), AllocError>
     ensures { OnOk result (line.new.items ≡ line.old.items ++ card_number card) }
 {
     let mut buffer = Buffer::new();
@@ -49,7 +49,7 @@ fn push_card(line: &mut Vec<u8>, card: u32) -> Result<(), AllocError>
 }
 
 // Adds a word behind a blank.
-fn push_word(line: &mut Vec<u8>, word: &[u8]) -> Result<(), AllocError>
+pub fn push_word(line: &mut Vec<u8>, word: &[u8]) -> Result<(), AllocError>
     ensures { OnOk result (line.new.items ≡ line.old.items ++ next_word word.now) }
 {
     line.push(b' ')?;
@@ -57,11 +57,18 @@ fn push_word(line: &mut Vec<u8>, word: &[u8]) -> Result<(), AllocError>
 }
 
 // Adds a name in ASCII behind a blank.
-#[tactic(auto, unfolding(ebcdic_names::specs::Names::shown))]
 fn push_name(line: &mut Vec<u8>, name: &[u8]) -> Result<(), AllocError>
     ensures { OnOk result (line.new.items ≡ line.old.items ++ next_word (shown name.now)) }
 {
     line.push(b' ')?;
+    push_shown(line, name)
+}
+
+// Adds a name in ASCII, without the blanks behind it.
+#[tactic(auto, unfolding(ebcdic_names::specs::Names::shown))]
+pub fn push_shown(line: &mut Vec<u8>, name: &[u8]) -> Result<(), AllocError>
+    ensures { OnOk result (line.new.items ≡ line.old.items ++ shown name.now) }
+{
     for byte in without_blanks(name) {
         line.push(to_ascii(*byte))?;
     }

@@ -10,7 +10,12 @@ use ebcdic_names::{Dsn, Serial};
 const COLUMNS: usize = 80;
 
 // The devices that a card can name.
-const DEVICES: [DiskType; 3] = [DiskType::D2311, DiskType::D2314, DiskType::D3330];
+const DEVICES: [DiskType; 4] = [
+    DiskType::D2311,
+    DiskType::D2314,
+    DiskType::D3330,
+    DiskType::D3350,
+];
 
 /// The statement RENAME of IEHPROGM, which gives a data set another name (Utilities GC28-6586).
 #[derive(Clone, Copy, Debug, PartialEq, Eq)]

@@ -1,232 +1,161 @@
-//! Cards and lines as they stand in a deck and a listing.
-use super::{Rename, rename_of, result_line};
-use ebcdic_names::{Dsn, Serial};
+//! Statements on cards, with what is read of them, and the lines that answer them.
+use super::{
+    Card, DdIn, DdTable, Item, Object, Outcome, SynErr, Value, item_line, jcl_line, no_dd_line,
+    no_program_line, statements, syntax_line,
+};
+use ebcdic_names::{Dsn, Name8, Serial};
+use std::alloc::{AllocError, Global};
 use std::test::Fail;
 use vol_model::Refusal;
 
-// A card, and the characters of the names and the serial that it holds.
-#[derive(Clone, Copy)]
-struct Case {
-    card: &'static [u8],
-    old: &'static str,
-    serial: &'static str,
-    new: &'static str,
+// A card of these characters, with blanks behind them.
+fn card_of(text: &[u8]) -> Card {
+    let mut bytes = [b' '; 80];
+    let count = text.len().min(80);
+    bytes[..count].copy_from_slice(&text[..count]);
+    Card { bytes }
 }
 
-const GOOD: [Case; 6] = [
-    Case {
-        card: b" RENAME DSNAME=J.K,VOL=2314=PACK07,NEWNAME=J.M",
-        old: "J.K",
-        serial: "PACK07",
-        new: "J.M",
-    },
-    Case {
-        card: b" RENAME DSNAME=SYS1.MACLIB,VOL=2311=1,NEWNAME=@#$A-1.$",
-        old: "SYS1.MACLIB",
-        serial: "1",
-        new: "@#$A-1.$",
-    },
-    Case {
-        card: b" RENAME DSNAME=A,VOL=3330=#@$9Z0,NEWNAME=A",
-        old: "A",
-        serial: "#@$9Z0",
-        new: "A",
-    },
-    // A name as its own keyword.
-    Case {
-        card: b" RENAME DSNAME=DSNAME,VOL=2311=2311,NEWNAME=NEWNAME",
-        old: "DSNAME",
-        serial: "2311",
-        new: "NEWNAME",
-    },
-    // The longest names, up to column 80.
-    Case {
-        card: b" RENAME DSNAME=A2345678.B2345678.C2345678.D2345678.E2345678,VOL=2311=1,NEWNAME=N",
-        old: "A2345678.B2345678.C2345678.D2345678.E2345678",
-        serial: "1",
-        new: "N",
-    },
-    Case {
-        card: b" RENAME DSNAME=O,VOL=3330=$,NEWNAME=A2345678.B2345678.C2345678.D2345678.E2345678",
-        old: "O",
-        serial: "$",
-        new: "A2345678.B2345678.C2345678.D2345678.E2345678",
-    },
+// The items on cards of these characters.
+fn items_of(alloc: Global, lines: &[&[u8]]) -> Result<Vec<Item>, AllocError> {
+    let mut cards = Vec::new(alloc);
+    let mut number = 0u32;
+    for line in lines {
+        number = number.saturating_add(1);
+        cards.push((number, card_of(line)))?;
+    }
+    statements(alloc, &cards)
+}
+
+// The first fault among items.
+fn fault_of(items: &[Item]) -> Option<(u32, u8, SynErr)> {
+    for item in items {
+        if let Item::Fault { card, column, kind } = item {
+            return Some((*card, *column, *kind));
+        }
+    }
+    None
+}
+
+// Cards, and the card, the column and the kind of the fault on them.
+type Faulty = (&'static [&'static [u8]], u32, u8, SynErr);
+
+#[rattlefmt::skip]
+const FAULTY: [Faulty; 22] = [
+    // A part that is missing would begin in the second column behind the last.
+    (&[b""], 1, 2, SynErr::NoOperation),
+    (&[b"NAME"], 1, 6, SynErr::NoOperation),
+    (&[b"* A COMMENT", b"NAME  "], 2, 6, SynErr::NoOperation),
+    (&[b"9AME COPY A"], 1, 1, SynErr::BadOperand),
+    (&[b" COPY-1 A"], 1, 2, SynErr::BadOperand),
+    (&[b" COPY ABCDEFGHI=1"], 1, 7, SynErr::BadOperand),
+    (&[b" COPY KEY="], 1, 7, SynErr::BadOperand),
+    (&[b" COPY ,A"], 1, 7, SynErr::BadOperand),
+    (&[b" COPY A,,B"], 1, 9, SynErr::BadOperand),
+    (&[b" COPY 'A'B"], 1, 7, SynErr::BadOperand),
+    (&[b" COPY A,(B,'C'),=D"], 1, 17, SynErr::BadOperand),
+    // Eight lists in one another are read, nine aren't.
+    (&[b" COPY ((((((((A)))))))),(((((((((A)))))))))"], 1, 25, SynErr::BadOperand),
+    (&[b" COPY =A,(B"], 1, 7, SynErr::BadOperand),
+    // The column is that of the operand, not of the parenthesis or the quote.
+    (&[b" LISTVTOC (A"], 1, 11, SynErr::Unbalanced),
+    (&[b" COPY A,B=(C"], 1, 9, SynErr::Unbalanced),
+    (&[b" COPY A=)B"], 1, 7, SynErr::Unbalanced),
+    (&[b" COPY A=('B)'"], 1, 7, SynErr::Unbalanced),
+    (&[b" COPY A,", b"      (B"], 2, 7, SynErr::Unbalanced),
+    (&[b" COPY A,"], 1, 10, SynErr::ContinuationMissing),
+    (&[b" COPY A,", b"* A COMMENT"], 1, 10, SynErr::ContinuationMissing),
+    (&[b" COPY A,", b"", b"      B,", b"NAME COPY C"], 3, 10, SynErr::ContinuationMissing),
+    // A character in column 72.
+    (&[b" COPY A                                                                X"], 1, 9, SynErr::ContinuationMissing),
 ];
 
 #[test]
-fn good_cards(rt: HostRuntime) -> Result<(), Fail> {
-    for case in GOOD {
-        let old = Dsn::read(case.old).ok().ok_or("the old name")?;
-        let serial = Serial::read(case.serial).ok().ok_or("the serial")?;
-        let new = Dsn::read(case.new).ok().ok_or("the new name")?;
-        let old_text = case.old;
-        assert_eq!(rt;
-            rename_of(case.card),
-            Some(Rename { old, serial, new }),
-            "{old_text}"
-        );
+fn statements_and_their_faults(rt: HostRuntime) -> Result<(), Fail> {
+    let alloc = rt.alloc();
+    for (lines, card, column, kind) in FAULTY {
+        let items = items_of(alloc, lines)?;
+        assert_eq!(rt; fault_of(&items), Some((card, column, kind)));
     }
+    let items = items_of(
+        alloc,
+        &[
+            b"NAME1   RENAME DSNAME=A.B,VOL=2314=(PACK01,PACK02),   A REMARK".as_slice(),
+            b"               TITLE=('IT''S',,C)   ANOTHER".as_slice(),
+            b" COPY =A".as_slice(),
+            b" COPY".as_slice(),
+        ],
+    )?;
+    assert_eq!(rt; items.len(), 3);
+    let Item::Stmt(first) = &items[0] else {
+        return Err("a statement")?;
+    };
+    assert_eq!(rt; first.card, 1);
+    assert_eq!(rt; first.name, Name8::read("NAME1").ok());
+    assert_eq!(rt; Some(first.op), Name8::read("RENAME").ok());
+    assert_eq!(rt; first.operands.len(), 3);
+    assert_eq!(rt; first.operands[0].value.as_word(), Some(b"A.B".as_slice()));
+    let volume = first.operands[1].value.as_list().ok_or("a list")?;
+    assert_eq!(rt; volume.len(), 2);
+    assert_eq!(rt; volume[0].as_word(), Some(b"2314".as_slice()));
+    let serials = volume[1].as_list().ok_or("a list")?;
+    assert_eq!(rt; serials.len(), 2);
+    assert_eq!(rt; serials[1].as_word(), Some(b"PACK02".as_slice()));
+    assert_eq!(rt; first.operands[2].key, Name8::read("TITLE").ok());
+    let title = first.operands[2].value.as_list().ok_or("a list")?;
+    assert_eq!(rt; title.len(), 3);
+    let Value::Quoted(text) = &title[0] else {
+        return Err("a text in quotes")?;
+    };
+    assert_eq!(rt; text.as_slice(), b"IT'S".as_slice());
+    assert!(rt; matches!(title[1], Value::Empty));
+    assert_eq!(rt; fault_of(&items), Some((3, 7, SynErr::BadOperand)));
+    let Item::Stmt(last) = &items[2] else {
+        return Err("a statement")?;
+    };
+    assert_eq!(rt; last.card, 4);
+    assert_eq!(rt; last.operands.len(), 0);
     Ok(())
 }
 
 #[test]
-fn names_in_ebcdic_and_blanks_behind_the_statement(rt: HostRuntime) {
-    let mut old = [0x40; 44];
-    old[..3].copy_from_slice(&[0xD1, 0x4B, 0xD2]);
-    let mut new = [0x40; 44];
-    new[..3].copy_from_slice(&[0xD1, 0x4B, 0xD4]);
-    let statement = Rename {
-        old: Dsn { bytes: old },
-        serial: Serial {
-            bytes: [0xD7, 0xC1, 0xC3, 0xD2, 0xF0, 0xF7],
-        },
-        new: Dsn { bytes: new },
-    };
-    let mut columns = [b' '; 81];
-    columns[..46].copy_from_slice(b" RENAME DSNAME=J.K,VOL=2314=PACK07,NEWNAME=J.M");
-    for length in 46..81 {
-        assert_eq!(rt;
-            rename_of(&columns[..length]),
-            Some(statement),
-            "{length} columns"
-        );
-    }
-    assert_eq!(rt; rename_of(&columns), None);
-    assert_eq!(rt; rename_of(&[b' '; 80]), None);
-}
-
-// Cards that are refused, each with what is wrong.
-#[rattlefmt::skip]
-const REFUSED: [(&str, &[u8]); 56] = [
-    ("empty", b""),
-    ("a blank alone", b" "),
-    ("no blank first", b"RENAME DSNAME=J.K,VOL=2314=PACK07,NEWNAME=J.M"),
-    ("two blanks first", b"  RENAME DSNAME=J.K,VOL=2314=PACK07,NEWNAME=J.M"),
-    ("a name in column 1", b"NAME RENAME DSNAME=J.K,VOL=2314=PACK07,NEWNAME=J.M"),
-    ("two blanks behind the operation", b" RENAME  DSNAME=J.K,VOL=2314=PACK07,NEWNAME=J.M"),
-    ("no blank behind the operation", b" RENAMEDSNAME=J.K,VOL=2314=PACK07,NEWNAME=J.M"),
-    ("another operation", b" SCRATCH DSNAME=J.K,VOL=2314=PACK07,NEWNAME=J.M"),
-    ("the operation alone", b" RENAME"),
-    ("the operation in lower case", b" rename DSNAME=J.K,VOL=2314=PACK07,NEWNAME=J.M"),
-    ("a keyword in lower case", b" RENAME DSNAME=J.K,vol=2314=PACK07,NEWNAME=J.M"),
-    ("a name in lower case", b" RENAME DSNAME=J.k,VOL=2314=PACK07,NEWNAME=J.M"),
-    ("a new name in lower case", b" RENAME DSNAME=J.K,VOL=2314=PACK07,NEWNAME=j.M"),
-    ("a serial in lower case", b" RENAME DSNAME=J.K,VOL=2314=pack07,NEWNAME=J.M"),
-    ("the volume first", b" RENAME VOL=2314=PACK07,DSNAME=J.K,NEWNAME=J.M"),
-    ("the volume last", b" RENAME DSNAME=J.K,NEWNAME=J.M,VOL=2314=PACK07"),
-    ("the new name first", b" RENAME NEWNAME=J.M,VOL=2314=PACK07,DSNAME=J.K"),
-    ("no data set", b" RENAME VOL=2314=PACK07,NEWNAME=J.M"),
-    ("no volume", b" RENAME DSNAME=J.K,NEWNAME=J.M"),
-    ("no new name", b" RENAME DSNAME=J.K,VOL=2314=PACK07"),
-    ("an operand twice", b" RENAME DSNAME=J.K,VOL=2314=PACK07,NEWNAME=J.M,NEWNAME=J.M"),
-    ("a member", b" RENAME DSNAME=J.K,VOL=2314=PACK07,NEWNAME=J,MEMBER=K"),
-    ("a device that isn't read", b" RENAME DSNAME=J.K,VOL=3350=PACK07,NEWNAME=J.M"),
-    ("a device that isn't known", b" RENAME DSNAME=J.K,VOL=DISK=PACK07,NEWNAME=J.M"),
-    ("a device cut off", b" RENAME DSNAME=J.K,VOL=231=PACK07,NEWNAME=J.M"),
-    ("a device with a digit more", b" RENAME DSNAME=J.K,VOL=23141=PACK07,NEWNAME=J.M"),
-    ("an empty device", b" RENAME DSNAME=J.K,VOL==PACK07,NEWNAME=J.M"),
-    ("no device", b" RENAME DSNAME=J.K,VOL=PACK07,NEWNAME=J.M"),
-    ("a device alone", b" RENAME DSNAME=J.K,VOL=2314,NEWNAME=J.M"),
-    ("an empty serial", b" RENAME DSNAME=J.K,VOL=2314=,NEWNAME=J.M"),
-    ("a serial of seven characters", b" RENAME DSNAME=J.K,VOL=2314=PACK072,NEWNAME=J.M"),
-    ("a hyphen in a serial", b" RENAME DSNAME=J.K,VOL=2314=PACK-7,NEWNAME=J.M"),
-    ("an equals sign in a serial", b" RENAME DSNAME=J.K,VOL=2314=PACK=7,NEWNAME=J.M"),
-    ("an empty name", b" RENAME DSNAME=,VOL=2314=PACK07,NEWNAME=J.M"),
-    ("an empty new name", b" RENAME DSNAME=J.K,VOL=2314=PACK07,NEWNAME="),
-    ("a level of nine characters", b" RENAME DSNAME=A23456789,VOL=2314=PACK07,NEWNAME=J.M"),
-    ("an equals sign in a name", b" RENAME DSNAME=J=K,VOL=2314=PACK07,NEWNAME=J.M"),
-    ("an equals sign in a new name", b" RENAME DSNAME=J.K,VOL=2314=PACK07,NEWNAME=J=M"),
-    ("a name in parentheses", b" RENAME DSNAME=J.K,VOL=2314=PACK07,NEWNAME=(J.M)"),
-    ("text behind blanks", b" RENAME DSNAME=J.K,VOL=2314=PACK07,NEWNAME=J.M  TEXT"),
-    ("a comma at the end", b" RENAME DSNAME=J.K,VOL=2314=PACK07,NEWNAME=J.M,"),
-    ("a comma behind blanks", b" RENAME DSNAME=J.K,VOL=2314=PACK07,NEWNAME=J.M ,"),
-    ("two commas", b" RENAME DSNAME=J.K,,VOL=2314=PACK07,NEWNAME=J.M"),
-    ("a comma for an equals sign", b" RENAME DSNAME=J.K,VOL=2314,PACK07,NEWNAME=J.M"),
-    ("a blank behind a comma", b" RENAME DSNAME=J.K, VOL=2314=PACK07,NEWNAME=J.M"),
-    ("a blank before a comma", b" RENAME DSNAME=J.K ,VOL=2314=PACK07,NEWNAME=J.M"),
-    ("a blank in a name", b" RENAME DSNAME=J K,VOL=2314=PACK07,NEWNAME=J.M"),
-    ("a tab first", b"\tRENAME DSNAME=J.K,VOL=2314=PACK07,NEWNAME=J.M"),
-    ("a tab behind the operation", b" RENAME\tDSNAME=J.K,VOL=2314=PACK07,NEWNAME=J.M"),
-    ("a tab at the end", b" RENAME DSNAME=J.K,VOL=2314=PACK07,NEWNAME=J.M\t"),
-    ("a carriage return at the end", b" RENAME DSNAME=J.K,VOL=2314=PACK07,NEWNAME=J.M\r"),
-    ("a line feed at the end", b" RENAME DSNAME=J.K,VOL=2314=PACK07,NEWNAME=J.M\n"),
-    ("a zero byte at the end", b" RENAME DSNAME=J.K,VOL=2314=PACK07,NEWNAME=J.M\0"),
-    ("a byte outside ASCII", b" RENAME DSNAME=J.K,VOL=2314=PACK07,NEWNAME=J.M\xC3"),
-    ("a letter outside ASCII in a name", b" RENAME DSNAME=J.K,VOL=2314=PACK07,NEWNAME=J.\xC3\x89"),
-    ("a blank outside ASCII at the end", b" RENAME DSNAME=J.K,VOL=2314=PACK07,NEWNAME=J.M\xC2\xA0"),
-];
-
-#[test]
-fn refused_cards(rt: HostRuntime) {
-    for (wrong, card) in REFUSED {
-        assert_eq!(rt; rename_of(card), None, "{wrong}");
-    }
-}
-
-// The card of a statement, its operation, the name and the outcome, and the line that answers it.
-type Answered = (
-    u32,
-    &'static str,
-    &'static str,
-    Result<(), Refusal>,
-    &'static str,
-);
-
-const ANSWERED: [Answered; 8] = [
-    (1, "RENAME", "J.K", Ok(()), "00001 RENAME J.K OK\n"),
-    (
-        23,
-        "SCRATCH",
-        "J.K",
-        Err(Refusal::NoSet),
-        "00023 SCRATCH J.K NO-SET\n",
-    ),
-    (
-        306,
-        "RENAME",
-        "TEST.CARDS",
-        Err(Refusal::SetExists),
-        "00306 RENAME TEST.CARDS SET-EXISTS\n",
-    ),
-    (
-        10000,
-        "RENAME",
-        "A2345678.B2345678.C2345678.D2345678.E2345678",
-        Ok(()),
-        "10000 RENAME A2345678.B2345678.C2345678.D2345678.E2345678 OK\n",
-    ),
-    (
-        99999,
-        "RENAME",
-        "J",
-        Err(Refusal::VtocFull { slots: 3 }),
-        "99999 RENAME J VTOC-FULL\n",
-    ),
-    (100000, "RENAME", "J", Ok(()), "100000 RENAME J OK\n"),
-    (
-        u32::MAX,
-        "RENAME",
-        "J",
-        Err(Refusal::Unreadable(7)),
-        "4294967295 RENAME J UNREADABLE\n",
-    ),
-    (
-        0,
-        "RENAME",
-        "@#$A-1.$",
-        Ok(()),
-        "00000 RENAME @#$A-1.$ OK\n",
-    ),
-];
-
-#[test]
-fn lines_that_answer_statements(rt: HostRuntime) -> Result<(), Fail> {
+fn lines_and_tables(rt: HostRuntime) -> Result<(), Fail> {
     let alloc = rt.alloc();
-    for (card, operation, name, outcome, line) in ANSWERED {
-        let object = Dsn::read(name).ok().ok_or("a data set name")?;
-        let text = result_line(alloc, card, operation, &object, outcome)?;
-        assert_eq!(rt; text.as_slice(), line.as_bytes());
-    }
+    let set = Dsn::read("A.B").ok().ok_or("a data set name")?;
+    let name = Name8::read("SYSUT1").ok().ok_or("a name")?;
+    let serial = Serial::read("ABC").ok().ok_or("a serial")?;
+    let member = Object::Member { set, name };
+    let refused = Outcome::Refused(Refusal::DirFull { blocks: 3 });
+    assert_eq!(rt;
+        item_line(alloc, 12, "SCRATCH", &member, refused)?.as_slice(),
+        b"00012 SCRATCH A.B(SYSUT1) DIR-FULL\n".as_slice()
+    );
+    assert_eq!(rt;
+        item_line(alloc, 7, "LISTVTOC", &Object::Volume(serial), Outcome::Done)?.as_slice(),
+        b"00007 LISTVTOC ABC OK\n".as_slice()
+    );
+    assert_eq!(rt;
+        syntax_line(alloc, 9, SynErr::Unbalanced)?.as_slice(),
+        b"00009 SYNTAX UNBALANCED\n".as_slice()
+    );
+    assert_eq!(rt;
+        no_dd_line(alloc, 3, &name)?.as_slice(),
+        b"00003 NO-DD SYSUT1\n".as_slice()
+    );
+    assert_eq!(rt;
+        no_program_line(alloc, 3, &name)?.as_slice(),
+        b"00003 NO-PROGRAM SYSUT1\n".as_slice()
+    );
+    assert_eq!(rt;
+        jcl_line(alloc, 2, 11, "NO-PROGRAM")?.as_slice(),
+        b"00002 11 JCL NO-PROGRAM\n".as_slice()
+    );
+    let other = Name8::read("SYSIN").ok().ok_or("a name")?;
+    let mut dds = DdTable::new(alloc);
+    dds.insert(name, DdIn::Dummy)?;
+    dds.insert(other, DdIn::Sysout)?;
+    assert_eq!(rt; dds.len(), 2);
+    assert!(rt; matches!(dds.get(&other), Some(DdIn::Sysout)));
+    assert!(rt; dds.get_index(0).map(|dd| dd.0) == Some(name));
     Ok(())
 }

@@ -2,5 +2,3 @@ pub mod Ranks
 pub mod InOrder
 pub mod Steps
 pub mod Stops
-mod EventCases
-mod ShelfCases

@@ -1,8 +1,8 @@
 -- What the calls of a machine leave, in this project's profile.
 use Rattle.std.specs.Prelude.{◌≡◌, ◌⊎◌, ℕ, ◌≤◌, Bool, true, false, List, ◌++◌, Result, Ok, Err, OnOk, IsErrOf, IsTrue}
-use Rattle.hall_core.specs.Facts.{Rose}
-use Rattle.hall_core.specs.Files.{File, IsPrefixOf}
-use Rattle.hall_core.specs.Moments.{Meaning, Elapses, Same}
+use Rattle.stop_model.specs.Counts.{Rose}
+use Rattle.stop_model.specs.Files.{File, IsPrefixOf}
+use Rattle.stop_model.specs.Moments.{Meaning, Elapses, Same}
 use Rattle.vol_model.specs.declared.answers.MachErr.{MachErr}
 use Rattle.vol_model.specs.declared.answers.MachErr.TheVariants.{Refused, Memory, Device, Print}
 use Rattle.vol_model.specs.declared.contents.Shelf.{Shelf}

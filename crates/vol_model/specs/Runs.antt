@@ -1,7 +1,7 @@
 -- What a run of events on any machine leaves, in this project's profile.
 use Rattle.std.specs.Prelude.{◌≡◌, ℕ, ◌≤◌, Bool, true, false, List, ◌++◌, Result, Err, OnOk, IsErrOf, IsTrue}
-use Rattle.hall_core.specs.Facts.{Rose}
-use Rattle.hall_core.specs.Moments.{Meaning, Elapses}
+use Rattle.stop_model.specs.Counts.{Rose}
+use Rattle.stop_model.specs.Moments.{Meaning, Elapses}
 use Rattle.vol_model.specs.declared.answers.Stop.{Stop}
 use Rattle.vol_model.specs.declared.answers.Stop.TheVariants.{Device, Print}
 use Rattle.vol_model.specs.declared.contents.Shelf.{Shelf}

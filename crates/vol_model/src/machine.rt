@@ -1,8 +1,8 @@
 //! The machine on which every utility works: a shelf of volumes, changed by one operation at a time, and a place to
 //! print on.
 ghost use Rattle.std.specs.Prelude.{◌≡◌, ◌≤◌, ℕ, List, Bool, IsTrue, IsErrOf};
-ghost use Rattle.hall_core.specs.Files.{File};
-ghost use Rattle.hall_core.specs.Moments.{Meaning, LeftNow, IsDurable};
+ghost use Rattle.stop_model.specs.Files.{File};
+ghost use Rattle.stop_model.specs.Moments.{Meaning, LeftNow, IsDurable};
 ghost use Rattle.vol_model.specs.declared.contents.Shelf.{Shelf};
 ghost use Rattle.vol_model.specs.Calls.{Status, MachineCall, Applies, IsIdle, Prints, Keeps};
 ghost use Rattle.vol_model.specs.Shelf.{IsLawful, step};
@@ -50,7 +50,8 @@ pub trait Machine {
         requires sound { IsTrue (status self.old).is_sound }
         ensures shelf { IsTrue tells → Applies op.now (meaning self.old) (meaning self.new) result }
         ensures promise { IsTrue tells → Keeps (meaning self.old).clock (promise self.old) (promise self.new) }
-        ensures stays { IsTrue tells → IsIdle (step (meaning self.old).state op.now) result → Keeps (meaning self.old).clock (stays self.old) (stays self.new) }
+        ensures stays { IsTrue tells → IsIdle (step (meaning self.old).state op.now) result
+            → Keeps (meaning self.old).clock (stays self.old) (stays self.new) }
         ensures call { MachineCall (status self.old) (status self.new) result }
         ensures print { IsErrOf result MachErr.Print → ⊥ };
 
@@ -59,7 +60,8 @@ pub trait Machine {
     /// It isn't refused. After `Print` or `Device` a prefix of the bytes is printed.
     fn print(&mut self, bytes: &[u8]) -> Result<(), MachErr>
         requires sound { IsTrue (status self.old).is_sound }
-        ensures shelf { IsTrue tells → Prints tells_prints bytes.now (meaning self.old) (meaning self.new) result }
+        ensures shelf { IsTrue tells
+            → Prints tells_prints bytes.now (meaning self.old) (meaning self.new) result }
         ensures promise { IsTrue tells → Keeps (meaning self.old).clock (promise self.old) (promise self.new) }
         ensures stays { IsTrue tells → Keeps (meaning self.old).clock (stays self.old) (stays self.new) }
         ensures call { MachineCall (status self.old) (status self.new) result }

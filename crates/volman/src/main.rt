@@ -2,29 +2,19 @@
 //! `volman run --date yyddd FILE` does a RENAME statement on it.
 #![tactic(auto)]
 
-mod deck;
-mod file_hall;
-mod machine;
-mod mount;
-mod names;
-mod reason;
-mod statement;
-mod status;
-mod std_cards;
-mod text;
-mod top;
-mod words;
-mod work;
+ghost use Rattle.std.specs.Prelude.{◌≡◌, ◌≢◌, [], IfOk, IfErr, IsOkAnd, IsErr};
+ghost use Rattle.std.specs.Vec.Iter.{into_iter_items};
+ghost use Rattle.std.specs.IoError.{error_kind};
+ghost use Rattle.volume_manager.specs.Run.{IsStatus};
 
-use file_hall::FileHall;
-use status::Status;
-use std::alloc::AllocError;
-use std::env;
+use hall_files::{FileHall, StdCards};
+use std::alloc::{AllocError, Global};
+use std::env::{self, Args};
 use std::fs::{File, Files};
-use std::io::{ErrorKind, Input, Print};
+use std::io::{self, ErrorKind, Input, Print};
 use std::process::ExitCode;
 use std::rt::Env;
-use std_cards::StdCards;
+use volume_manager::{Status, volman};
 
 fn main(rt: HostRuntime) -> ExitCode {
     ExitCode::from(run(&rt))
@@ -32,23 +22,28 @@ fn main(rt: HostRuntime) -> ExitCode {
 
 // Runs the program over the command line, the standard input, the files of the system and the
 // standard output.
-fn run<R: Files<File = File> + Input + Print + Env + AllocGlobal>(rt: &R) -> u8 {
+fn run<R: Files<File = File> + Input + Print + Env + AllocGlobal>(rt: &R) -> u8
+    ensures { IsStatus result }
+{
+    let Ok(words) = words_in(rt.alloc(), env::args(rt)) else {
+        return Status::Memory.code();
+    };
     let mut cards = StdCards::new(rt.reader());
     let mut hall = FileHall::new(rt.alloc(), rt);
-    match command_line(rt) {
-        Ok(words) => top::volman(rt.alloc(), &words, &mut cards, &mut hall),
-        Err(AllocError) => Status::Memory.code(),
-    }
+    volman(rt.alloc(), &words, &mut cards, &mut hall)
 }
 
-// The words of the command line, the program's name first, or no words where one isn't text.
-fn command_line<R: Env + AllocGlobal>(rt: &R) -> Result<Vec<String>, AllocError> {
-    match env::args(rt) {
-        Ok(words) => words.collect(rt.alloc()),
-        Err(error) if error.kind() == ErrorKind::InvalidData => Ok(Vec::new(rt.alloc())),
+// The words that the system gave, the program's name first, or no words where it says that one isn't
+// text. Any other error is want of memory.
+fn words_in(alloc: Global, given: io::Result<Args>) -> Result<Vec<String>, AllocError>
+    ensures given { IfOk given (λ args. IfOk result (λ words. words.items ≡ into_iter_items args)) }
+    ensures no_text { IfErr given (λ e. error_kind e ≡ ErrorKind.InvalidData
+        → IsOkAnd result (λ words. words.items ≡ [])) }
+    ensures memory { IfErr given (λ e. error_kind e ≢ ErrorKind.InvalidData → IsErr result) }
+{
+    match given {
+        Ok(args) => args.collect(alloc),
+        Err(error) if error.kind() == ErrorKind::InvalidData => Ok(Vec::new(alloc)),
         Err(_) => Err(AllocError),
     }
 }
-
-#[cfg(test)]
-mod tests;

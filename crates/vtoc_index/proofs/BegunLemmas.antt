@@ -3,9 +3,10 @@ use Rattle.std.proofs.Common.{◌≡◌, ◌⊎◌, inl, inr, ⊎_elim, ◌<◌,
 use Rattle.std.specs.Prelude.{Result, Ok, Err, IsErr, OnErr, OnOk}
 use Rattle.std.proofs.lemmas.Result.{IfOk-from_err}
 use Rattle.hall_core.specs.Facts.{Facts, Attached, unit_of}
-use Rattle.hall_core.specs.Files.{File, AfterWrite, IsPending, file_of, image_of, written}
-use Rattle.hall_core.specs.Moments.{Meaning, ElapsesExactly, LeftNow, LeavesSame, Same}
-use Rattle.hall_core.proofs.MomentLemmas.{CountsNow, left_back}
+use Rattle.stop_model.specs.Files.{File, AfterWrite, IsPending, file_of, written}
+use Rattle.hall_core.specs.Images.{image_of}
+use Rattle.stop_model.specs.Moments.{Meaning, ElapsesExactly, LeftNow, LeavesSame, Same}
+use Rattle.stop_model.proofs.MomentLemmas.{CountsNow, left_back}
 use Rattle.std.specs.Prelude.{unwrap_or}
 
 on_err : {T E : Type 0} (answer : Result T E) (P : Type 0) → P → OnErr answer P

@@ -4,23 +4,24 @@ use Rattle.std.specs.Prelude.{Result, Ok, Err, IfErr, IfOk, IsErrOf, IsTrue, Boo
 use Rattle.ckd_image.specs.declared.header.Geometry.{Geometry}
 use Rattle.ckd_image.specs.Header.{HasGeometry}
 use Rattle.ckd_image.specs.Track.{Record}
-use Rattle.hall_core.specs.Facts.{Attached, Facts, Rose, unit_of}
-use Rattle.hall_core.specs.Files.{File}
-use Rattle.hall_core.specs.Moments.{Meaning, Same}
-use Rattle.pack_spec.specs.Label.{label_in, label_of, records_on}
-use Rattle.pack_spec.specs.Views.{tracks_of}
+use Rattle.hall_core.specs.Facts.{Attached, Facts, unit_of}
+use Rattle.stop_model.specs.Counts.{Rose}
+use Rattle.stop_model.specs.Files.{File}
+use Rattle.stop_model.specs.Moments.{Meaning, Same}
+use Rattle.pack_spec.specs.Label.{label_in, label_of, records_on, tracks_of}
+use Rattle.pack_spec.specs.declared.MountErr.{MountErr}
+use Rattle.pack_spec.specs.declared.MountErr.TheVariants.{Memory, Device, VtocTrack}
+use Rattle.pack_spec.specs.declared.slot.VtocSlot.{VtocSlot}
+use Rattle.vtoc_index.specs.Calls.{MountCall}
+use Rattle.vtoc_index.specs.Index.{IsReason}
+use Rattle.vtoc_index.specs.Reading.{AreNumbered, AreTracksRead, Refuses}
+use Rattle.vtoc_index.specs.declared.tracks.ReadSlots.{ReadSlots}
 use Rattle.track_records.specs.Buffers.{Buffer}
 use Rattle.track_records.specs.Calls.{HasTrack}
 use Rattle.track_records.specs.Reads.{IsBroken}
 use Rattle.track_records.specs.Written.{StandsOn}
 use Rattle.track_records.specs.declared.error.TrackErr.{TrackErr}
 use Rattle.track_records.specs.declared.error.TrackErr.TheVariants as track_errors
-use Rattle.pack_spec.specs.declared.MountErr.{MountErr}
-use Rattle.pack_spec.specs.declared.MountErr.TheVariants.{Memory, Device, VtocTrack}
-use Rattle.vtoc_index.specs.Calls.{MountCall}
-use Rattle.vtoc_index.specs.Index.{IsReason}
-use Rattle.vtoc_index.specs.Reading.{AreNumbered, AreTracksRead, Refuses}
-use Rattle.vtoc_index.specs.declared.tracks.ReadSlots.{ReadSlots}
 
 -- a track that is reported broken has no records
 pub broken_none : (image : List ℕ) (g : Geometry) (upto : Option ℕ) (track : ℕ) (e : TrackErr) (at : ℕ) → e ≡ track_errors.BadCount at → IsBroken image g upto track e → records_on image g upto track ≡ None
@@ -113,7 +114,7 @@ call_fails f0 f f' e r stay call is = record {
 }
 
 -- why a track is refused
-pub track_reason : {X : Type 0} (given : Result X MountErr) (e other : MountErr) (track : ℕ) (slots : Option (List (List ℕ))) → (other ≡ Memory) ⊎ (other ≡ Device) → (e ≡ other) ⊎ ((e ≡ VtocTrack track) × (slots ≡ None)) → (slots ≡ None → given ≡ Err (VtocTrack track)) → Refuses given e
+pub track_reason : {X : Type 0} (given : Result X MountErr) (e other : MountErr) (track : ℕ) (slots : Option (List VtocSlot)) → (other ≡ Memory) ⊎ (other ≡ Device) → (e ≡ other) ⊎ ((e ≡ VtocTrack track) × (slots ≡ None)) → (slots ≡ None → given ≡ Err (VtocTrack track)) → Refuses given e
 track_reason given e other track slots free why refused = record {
   why = λ memory device. ⊎_elim (λ is. absurd (⊎_elim (λ m. memory (is ∙ m)) (λ d. device (is ∙ d)) free)) (λ none. refused none.1 ∙ ap Err (sym none.0)) why;
 }

@@ -1,55 +1,51 @@
 -- The VTOC's extent and the volume after a put slot.
-use Rattle.std.proofs.Common.{◌≡◌, ◌≢◌, ⊎_elim, ◌<◌, ◌≤◌, ◌+◌, ◌-◌, ◌/◌, ◌%◌, ℕ, zero, suc, Bool, true, false, cond, List, [], ◌∷◌, ◌++◌, length, take, drop, Option, Some, None, refl, sym, ◌∙◌, ap, subst, arith, length-drop}
-use Rattle.std.specs.Prelude.{Result, Ok, Err, option_and_then, slice_get, slice_range, unwrap_or, map, ◌&&◌, ◌==◌}
+use Rattle.std.proofs.Common.{◌≡◌, ◌≢◌, ⊎_elim, ◌<◌, ◌+◌, ◌*◌, ◌/◌, ◌%◌, ℕ, zero, suc, Bool, true, false, cond, List, [], ◌∷◌, ◌++◌, length, take, drop, Option, Some, None, refl, sym, ◌∙◌, ap, subst, arith, length-drop}
+use Rattle.std.specs.Prelude.{Result, Ok, Err, option_and_then, slice_get, slice_range, unwrap_or, ◌&&◌, ◌==◌}
 use Rattle.std.specs.List.{flat_map, list_all, range_with_len}
 use Rattle.std.specs.Option.{option_map}
-use Rattle.std.proofs.lemmas.Bool.{eq-eqb}
-use Rattle.std.proofs.lemmas.List.{drop-drop, length-take-le, take-append-drop}
+use Rattle.std.proofs.lemmas.Bool.{and_parts, eq-eqb, eqb-true}
+use Rattle.std.proofs.lemmas.List.{length-take-le, take-append-drop}
 use Rattle.ckd_image.specs.declared.header.Geometry.{Geometry}
 use Rattle.ckd_image.specs.Header.{geometry_of}
 use Rattle.ckd_image.specs.Track.{Record}
 use Rattle.dscb_codec.specs.declared.Dscb.{Dscb}
-use Rattle.dscb_codec.specs.declared.Dscb.TheVariants as formats
 use Rattle.dscb_codec.specs.declared.F4.{F4}
-use Rattle.dscb_codec.specs.Layout.{IsDscb}
+use Rattle.dscb_codec.specs.declared.DscbErr.{DscbErr}
+use Rattle.dscb_codec.specs.Layout.{decoded, f4_of}
+use Rattle.dscb_codec.proofs.Formats.{decoded_f4}
 use Rattle.pack_spec.specs.declared.MountErr.{MountErr}
 use Rattle.pack_spec.specs.declared.MountErr.TheVariants.{BadVtoc}
-use Rattle.pack_spec.specs.declared.addressed.VtocSlot.{VtocSlot}
-use Rattle.pack_spec.specs.Label.{Address, address_at, heads_of, is_inside, label_of, records_on, track_bytes, track_of_address}
-use Rattle.pack_spec.specs.Vtoc.{Run, first_slot, is_slot, is_vtoc_extent, slot_bytes, vtoc_at, vtoc_by, vtoc_of}
-use Rattle.pack_spec.specs.Slots.{addressed_from, record_address, slots_at, slots_of_vtoc}
-use Rattle.pack_spec.specs.Faults.{slots_faults, track_faults, vtoc_fault}
+use Rattle.pack_spec.specs.declared.slot.VtocSlot.{VtocSlot}
+use Rattle.pack_spec.specs.declared.address.Address.{Address}
+use Rattle.pack_spec.specs.Label.{address_at, heads_of, is_inside, label_of, records_on, track_bytes, track_of_address}
+use Rattle.vol_model.specs.declared.contents.Run.{Run}
+use Rattle.pack_spec.specs.Vtoc.{first_slot, is_slot, is_vtoc_extent, slot_bytes, vtoc_at, vtoc_by, vtoc_of, lower_of, is_extent, run_of_extent, vtoc_on}
+use Rattle.pack_spec.specs.Slots.{slots_of_vtoc, track_faults, slot_at, slots_from}
+use Rattle.pack_spec.specs.Rules.{slots_faults, vtoc_fault}
 use Rattle.pack_spec.specs.Volume.{unless, volume_of, volume_on, volume_with, volume_within}
-use Rattle.track_records.specs.Updates.{StandFrom, with_parts}
-use Rattle.track_records.specs.Written.{IsUpdated}
-use Rattle.track_records.proofs.PatchLemmas.{range_alike}
-use Rattle.track_records.proofs.StandLemmas.{stand}
 use Rattle.vtoc_index.specs.declared.vol.Vol.{Vol}
-use Rattle.vtoc_index.specs.Contents.{AreDscbs, with_bytes}
-use Rattle.vtoc_index.specs.Index.{IsIndexOf, IsMounted, IsPut, run_of, slots_before, track_index}
+use Rattle.vtoc_index.specs.Index.{IsIndexOf, IsMounted, IsPut, slots_before, track_index, with_dscb, place_of_slot}
 use Rattle.vtoc_index.specs.Puts.{IsHeld, IsReplaced}
 use Rattle.vtoc_index.proofs.PutLaw.{Found, buffer_of, front_of, index_put, same_records, slot_found, slot_written, some_label, track_of}
-use Rattle.vtoc_index.proofs.TrackPut.{slots_at-some, slots_by}
+use Rattle.vtoc_index.proofs.TrackPut.{slots_at, slots_at-some, slots_by}
 use Rattle.vtoc_index.proofs.VtocPut.{before_none, same_or_apart}
+use Rattle.dscb_codec.specs.declared.Dscb.TheVariants as formats
+use Rattle.stop_model.specs.Files.{patched}
+use Rattle.track_records.specs.Updates.{StandFrom, with_parts}
+use Rattle.track_records.specs.Written.{IsUpdated}
+use Rattle.track_records.proofs.StandLemmas.{stand}
 
--- bytes for slot 0 have the extent, ten bytes at 105, that stands in it
-abbrev pub KeepsExtent : ℕ → List ℕ → List VtocSlot → Type 0
-KeepsExtent slot bytes slots = slot ≡ 0 → (s : VtocSlot) → slice_get slots 0 ≡ Some s → slice_range bytes 105 115 ≡ slice_range s.bytes 105 115
+-- where slot 0 is put, its format 4 has the extent of the one that stands there
+abbrev pub KeepsExtent : ℕ → Dscb → List VtocSlot → Type 0
+KeepsExtent slot d slots = slot ≡ 0 → (s : VtocSlot) → slice_get slots 0 ≡ Some s → (f : F4) × (f' : F4) × (s.content ≡ Ok (formats.F4 f)) × (d ≡ formats.F4 f') × (f'.vtoc ≡ f.vtoc)
 
--- the same ten bytes hold the same addresses
-same_part : (i j : ℕ) (xs ys : List ℕ) → j ≤ 10 → slice_range xs 105 115 ≡ slice_range ys 105 115 → slice_range (drop 105 xs) i j ≡ slice_range (drop 105 ys) i j
-same_part i j xs ys low same = range_alike 10 i j (drop 105 xs) (drop 105 ys) low same
-
-part_at : (n i : ℕ) (xs ys : List ℕ) → take n (drop i (drop 105 xs)) ≡ take n (drop i (drop 105 ys)) → take n (drop (105 + i) xs) ≡ take n (drop (105 + i) ys)
-part_at n i xs ys same = ap (take n) (sym (drop-drop i 105 xs)) ∙ same ∙ ap (take n) (drop-drop i 105 ys)
+-- the bytes of a format 4 have its extent at byte 105
+extent_in : (bytes : List ℕ) (f : F4) → decoded bytes ≡ Ok (formats.F4 f) → slice_range bytes 105 115 ≡ f.vtoc
+unfolding f4_of
+extent_in bytes f is = ap (λ (x : F4). x.vtoc) (decoded_f4 bytes f is).1
 
 same_extent : (g : Geometry) (at : Address) (xs ys : List ℕ) → slice_range xs 105 115 ≡ slice_range ys 105 115 → vtoc_by g at (Some xs) ≡ vtoc_by g at (Some ys)
-same_extent g at xs ys same =
-    let a : slice_range xs 107 109 ≡ slice_range ys 107 109 = part_at 2 2 xs ys (same_part 2 4 xs ys (omega arith) same) in
-    let b : slice_range xs 109 111 ≡ slice_range ys 109 111 = part_at 2 4 xs ys (same_part 4 6 xs ys (omega arith) same) in
-    let c : slice_range xs 111 113 ≡ slice_range ys 111 113 = part_at 2 6 xs ys (same_part 6 8 xs ys (omega arith) same) in
-    let d : slice_range xs 113 115 ≡ slice_range ys 113 115 = part_at 2 8 xs ys (same_part 8 10 xs ys (omega arith) same) in
-    rw (a, b, c, d) refl
+same_extent g at xs ys same = ap (λ (extent : List ℕ). cond (is_vtoc_extent g at extent) (Ok (run_of_extent g extent)) (Err BadVtoc)) same
 
 -- the address of the VTOC in a label
 abbrev place_in : List ℕ → Address
@@ -65,14 +61,26 @@ record ExtentRead (image : List ℕ) (g : Geometry) (vtoc : Run) (label : List �
   extent : vtoc_by g (place_in label) (Some (slot_bytes first)) ≡ Ok vtoc
 
 begins : (g : Geometry) (at : Address) (vtoc : Run) (slot : List ℕ) → vtoc_by g at (Some slot) ≡ Ok vtoc → vtoc.start ≡ track_of_address g at
-begins g at vtoc slot is = by_test (is_vtoc_extent g at slot) is
+begins g at vtoc slot is = by_test (is_vtoc_extent g at extent) refl is
   where
-    by_test : (b : Bool) → cond b (Ok (record { start = track_of_address g at; len = track_of_address g (address_at 111 slot) - track_of_address g at + 1 })) (Err BadVtoc) ≡ Ok vtoc → vtoc.start ≡ track_of_address g at
-    by_test true same = cc
-    by_test false same = cc
+    extent : List ℕ
+    extent = slice_range slot 105 115
+
+    by_test : (b : Bool) → is_vtoc_extent g at extent ≡ b → cond b (Ok (run_of_extent g extent)) (Err BadVtoc) ≡ Ok vtoc → vtoc.start ≡ track_of_address g at
+    by_test false test same = cc
+    by_test true test same =
+        let tests = and_parts (is_extent g extent && ((lower_of extent).cylinder == at.cylinder) && ((lower_of extent).head == at.head)) _ test in
+        let heads = and_parts (is_extent g extent && ((lower_of extent).cylinder == at.cylinder)) _ tests.0 in
+        let cylinders = and_parts (is_extent g extent) _ heads.0 in
+        let cylinder : (lower_of extent).cylinder ≡ at.cylinder = eqb-true _ _ cylinders.1 in
+        let head : (lower_of extent).head ≡ at.head = eqb-true _ _ heads.1 in
+        let run : run_of_extent g extent ≡ vtoc = cc in
+        sym (ap (λ (r : Run). r.start) run)
+        ∙ ap (λ (n : ℕ). n * heads_of g + (lower_of extent).head) cylinder
+        ∙ ap (λ (n : ℕ). at.cylinder * heads_of g + n) head
 
 extent_read : (image : List ℕ) (g : Geometry) (vtoc : Run) (label : List ℕ) → label_of image g ≡ Some label → vtoc_of image g ≡ Ok vtoc → ExtentRead image g vtoc label
-unfolding vtoc_of vtoc_at
+unfolding vtoc_of vtoc_at vtoc_on
 extent_read image g vtoc label labelled is = by_inside (is_inside g at) refl (sym (ap (vtoc_at image g) labelled) ∙ is)
   where
     at : Address
@@ -94,7 +102,7 @@ extent_read image g vtoc label labelled is = by_inside (is_inside g at) refl (sy
 
 -- an extent that is read so is the VTOC's
 extent_is : (image : List ℕ) (g : Geometry) (vtoc : Run) (label : List ℕ) (x : Record) → label_of image g ≡ Some label → is_inside g (place_in label) ≡ true → records_on image g (Some 1) (track_of_address g (place_in label)) ≡ Some (x ∷ []) → is_slot x ≡ true → vtoc_by g (place_in label) (Some (slot_bytes x)) ≡ Ok vtoc → vtoc_of image g ≡ Ok vtoc
-unfolding vtoc_of vtoc_at
+unfolding vtoc_of vtoc_at vtoc_on
 extent_is image g vtoc label x labelled inside read slot is =
     let at : Address = place_in label in
     let found : Option (List Record) → Result Run MountErr = λ o. vtoc_by g at (option_and_then first_slot o) in
@@ -118,8 +126,8 @@ same_first : (r : ℕ) (bytes : List ℕ) (x y : Record) (xs ys : List Record) �
 same_first r bytes x y xs ys one other = one.1.0 ∙ sym other.1.0
 
 -- where the first slot of a VTOC is put, its old bytes are those by which the extent was read
-first_bytes : (image : List ℕ) (v : Vol) (slot : ℕ) (label : List ℕ) (f : Found image v slot) (e : ExtentRead image v.geometry (run_of v.vtoc) label) → track_of v slot ≡ track_of_address v.geometry (place_in label)
-    → (s : VtocSlot) × ((slice_get (slots_of_vtoc image v.geometry (run_of v.vtoc)) 0 ≡ Some s) × (s.bytes ≡ slot_bytes e.first))
+first_bytes : (image : List ℕ) (v : Vol) (slot : ℕ) (label : List ℕ) (f : Found image v slot) (e : ExtentRead image v.geometry v.vtoc label) → track_of v slot ≡ track_of_address v.geometry (place_in label)
+    → (s : VtocSlot) × ((slice_get (slots_of_vtoc image v.geometry v.vtoc) 0 ≡ Some s) × (s.content ≡ decoded (slot_bytes e.first)))
 unfolding records_on
 first_bytes image v slot label f e here = by_records f.records f.read f.are f.there
   where
@@ -132,31 +140,31 @@ first_bytes image v slot label f e here = by_records f.records f.read f.are f.th
     start : v.vtoc.start ≡ t
     start = e.start ∙ sym here
 
-    by_records : (records : List Record) → records_on image g None t ≡ Some records → list_all is_slot records ≡ true → front_of v slot < length records → (s : VtocSlot) × ((slice_get (slots_of_vtoc image g (run_of v.vtoc)) 0 ≡ Some s) × (s.bytes ≡ slot_bytes e.first))
+    by_records : (records : List Record) → records_on image g None t ≡ Some records → list_all is_slot records ≡ true → front_of v slot < length records → (s : VtocSlot) × ((slice_get (slots_of_vtoc image g v.vtoc) 0 ≡ Some s) × (s.content ≡ decoded (slot_bytes e.first)))
     by_records [] read are low = absurd (omega (arith, low))
     by_records (y ∷ ys) read are low =
-        let s : VtocSlot = record { address = record_address g t 1; bytes = slot_bytes y } in
-        let slots : slots_at image g t ≡ s ∷ addressed_from g t 2 (map slot_bytes ys) = slots_at-some image g t (map slot_bytes (y ∷ ys)) (slots_by image g t (y ∷ ys) read are) in
+        let s : VtocSlot = slot_at g t 1 y in
+        let slots : slots_at image g t ≡ s ∷ slots_from g t 2 ys = slots_at-some image g t (slots_from g t 1 (y ∷ ys)) (slots_by image g t (y ∷ ys) read are) in
         let one = stand (t / heads_of g) (t % heads_of g) None (track_bytes image g t) (y ∷ ys) read in
         let read_there : records_on image g (Some 1) t ≡ Some (e.first ∷ []) = ap (records_on image g (Some 1)) here ∙ e.read in
         let other = stand (t / heads_of g) (t % heads_of g) (Some 1) (track_bytes image g t) (e.first ∷ []) read_there in (
           s,
           (
-            first_slot_of image g (run_of v.vtoc) s _ (omega (arith, f.stands.inside)) (ap (slots_at image g) start ∙ slots),
-            ap slot_bytes (same_first 1 (drop 21 (track_bytes image g t)) y e.first ys [] one.records_stand other.records_stand),
+            first_slot_of image g v.vtoc s _ (omega (arith, f.stands.inside)) (ap (slots_at image g) start ∙ slots),
+            ap (λ (x : Record). decoded (slot_bytes x)) (same_first 1 (drop 21 (track_bytes image g t)) y e.first ys [] one.records_stand other.records_stand),
           ),
         )
 
 -- The extent of the VTOC stays, unless slot 0 gets another.
-pub extent_put : (image put : List ℕ) (v : Vol) (slot : ℕ) (bytes : List ℕ) → IsIndexOf image v → slot < length v.slots.items → length bytes ≡ 140 → IsPut v slot bytes image put → vtoc_of image v.geometry ≡ Ok (run_of v.vtoc)
-    → KeepsExtent slot bytes (slots_of_vtoc image v.geometry (run_of v.vtoc)) → vtoc_of put v.geometry ≡ Ok (run_of v.vtoc)
-extent_put image put v slot bytes index low size is extent keeps = ⊎_elim same_track other_track (same_or_apart (track_of v slot) (track_of_address g at))
+pub extent_put : (image put : List ℕ) (v : Vol) (slot : ℕ) (d : Dscb) (bytes : List ℕ) → IsIndexOf image v → slot < length v.slots.items → length bytes ≡ 140 → decoded bytes ≡ Ok d → put ≡ patched image (place_of_slot v slot) bytes → IsPut v slot d image put → vtoc_of image v.geometry ≡ Ok v.vtoc
+    → KeepsExtent slot d (slots_of_vtoc image v.geometry v.vtoc) → vtoc_of put v.geometry ≡ Ok v.vtoc
+extent_put image put v slot d bytes index low size dscb written is extent keeps = ⊎_elim same_track other_track (same_or_apart (track_of v slot) (track_of_address g at))
   where
     g : Geometry
     g = v.geometry
 
     vtoc : Run
-    vtoc = run_of v.vtoc
+    vtoc = v.vtoc
 
     label : (label : List ℕ) × (label_of image g ≡ Some label)
     label = some_label (label_of image g) v.serial.bytes index.serial
@@ -186,7 +194,7 @@ extent_put image put v slot bytes index low size is extent keeps = ⊎_elim same
     content = drop 44 bytes
 
     wrote : IsUpdated (buffer_of v slot f.records) (front_of v slot) key content image put
-    wrote = slot_written image put v slot bytes f index size is.written
+    wrote = slot_written image put v slot bytes f index size written
 
     first : track_of v slot ≡ track_of_address g at → front_of v slot ≡ 0 → slot ≡ 0
     first here none =
@@ -208,7 +216,9 @@ extent_put image put v slot bytes index low size is extent keeps = ⊎_elim same
         let old = first_bytes image v slot label.0 f e here in
         let there : records_on image g (Some 1) (track_of v slot) ≡ Some (e.first ∷ []) = ap (records_on image g (Some 1)) here ∙ e.read in
         by_front (front_of v slot)
-        (λ none. keeps (first here none) old.0 old.1.0 ∙ ap (λ (bs : List ℕ). slice_range bs 105 115) old.1.1)
+        (λ none.
+        let kept = keeps (first here none) old.0 old.1.0 in
+        extent_in bytes kept.1 (dscb ∙ ap {B = Result Dscb DscbErr} Ok kept.3) ∙ kept.4 ∙ sym (extent_in (slot_bytes e.first) kept.0 (sym old.1.1 ∙ kept.2)))
         (ap (records_on put g (Some 1)) (sym here) ∙ wrote.records (Some 1) ∙ ap (option_map (with_parts (front_of v slot) key content)) there)
 
 -- an image of this header, extent and slots, which break no rule, stands for the volume of its label and slots
@@ -221,31 +231,22 @@ volume_is image g vtoc header extent tracks slots =
     ∙ ap (λ (l : List MountErr). unless (slice_get l 0) meant) slots
 
 -- An image that stands for a volume still stands for one, where the slots that it then has break no rule; and this is its index.
-pub mounted_put : (image put : List ℕ) (v v' : Vol) (slot : ℕ) (d : Dscb) (bytes : List ℕ) → IsMounted image v → slot < length v.slots.items → length bytes ≡ 140 → IsPut v slot bytes image put → IsDscb d bytes → IsReplaced slot d v v' → IsHeld put v'.buf
-    → KeepsExtent slot bytes (slots_of_vtoc image v.geometry (run_of v.vtoc)) → slots_faults v.geometry (with_bytes slot bytes (slots_of_vtoc image v.geometry (run_of v.vtoc))) ≡ [] → IsMounted put v'
-mounted_put image put v v' slot d bytes mounted low size is dscb replaced held keeps lawful =
+pub mounted_put : (image put : List ℕ) (v v' : Vol) (slot : ℕ) (d : Dscb) (bytes : List ℕ) → IsMounted image v → slot < length v.slots.items → length bytes ≡ 140 → decoded bytes ≡ Ok d → put ≡ patched image (place_of_slot v slot) bytes → IsPut v slot d image put → IsReplaced slot d v v' → IsHeld put v'.buf
+    → KeepsExtent slot d (slots_of_vtoc image v.geometry v.vtoc) → slots_faults v.geometry (with_dscb slot d (slots_of_vtoc image v.geometry v.vtoc)) ≡ [] → IsMounted put v'
+mounted_put image put v v' slot d bytes mounted low size dscb written is replaced held keeps lawful =
     let g : Geometry = v.geometry in
     let w : Vol = record v { slots = v'.slots; buf = v'.buf } in
-    let index : IsIndexOf put w = subst (IsIndexOf put) replaced.others (index_put image put v v' slot d bytes mounted.index is dscb replaced held) in
-    let extent = extent_put image put v slot bytes mounted.index low size is mounted.vtoc keeps in
-    let good : slots_faults g (slots_of_vtoc put g (run_of v.vtoc)) ≡ [] = ap (slots_faults g) is.slots ∙ lawful in
+    let index : IsIndexOf put w = subst (IsIndexOf put) replaced.others (index_put image put v v' slot d mounted.index is replaced held) in
+    let extent = extent_put image put v slot d bytes mounted.index low size dscb written is mounted.vtoc keeps in
+    let good : slots_faults g (slots_of_vtoc put g v.vtoc) ≡ [] = ap (slots_faults g) is.slots ∙ lawful in
     let read : IsMounted put w = record {
       index = index;
       vtoc = extent;
       lawful = good;
-      volume = volume_is put g (run_of v.vtoc) index.header extent is.tracks good;
+      volume = volume_is put g v.vtoc index.header extent is.tracks good;
     } in
     subst (IsMounted put) (sym replaced.others) read
 
 -- another slot than slot 0 leaves the extent as it is
-pub keeps_other : (slot : ℕ) (bytes : List ℕ) (ss : List VtocSlot) → slot ≢ 0 → KeepsExtent slot bytes ss
-keeps_other slot bytes ss other none s first = absurd (other none)
-
--- and so does a format 4 with the same extent
-pub keeps_vtoc : (slot : ℕ) (f f' : F4) (bytes : List ℕ) (ds : List Dscb) (ss : List VtocSlot) → AreDscbs (formats.F4 f ∷ ds) ss → IsDscb (formats.F4 f') bytes → f'.vtoc ≡ f.vtoc → KeepsExtent slot bytes ss
-keeps_vtoc slot f f' bytes ds [] are dscb same none s first = absurd are
-keeps_vtoc slot f f' bytes ds (x ∷ ss) are dscb same none s first =
-    let here : x ≡ s = cc in
-    let old : slice_range x.bytes 105 115 ≡ f.vtoc = are.0.1.1.1.1.1.1.1.1.1.1.1.1.1.1.1.1.1.1.1.0 in
-    let new : slice_range bytes 105 115 ≡ f'.vtoc = dscb.1.1.1.1.1.1.1.1.1.1.1.1.1.1.1.1.1.1.1.0 in
-    new ∙ same ∙ sym old ∙ ap (λ (y : VtocSlot). slice_range y.bytes 105 115) here
+pub keeps_other : (slot : ℕ) (d : Dscb) (ss : List VtocSlot) → slot ≢ 0 → KeepsExtent slot d ss
+keeps_other slot d ss other none s first = absurd (other none)

@@ -1,13 +1,9 @@
 -- A walk over slots up to the first that breaks a rule.
-use Rattle.std.proofs.Common.{◌≡◌, ℕ, ◌+◌, ◌<◌, ◌≤◌, List, [], length, drop, get_or, Option, Some, None, ap, ◌∙◌}
+use Rattle.std.proofs.Common.{◌≡◌, ℕ, ◌+◌, ◌<◌, ◌≤◌, List, length, drop, get_or, Option, Some, None, ap, ◌∙◌}
 use Rattle.std.proofs.lemmas.List.{drop_all, drop_more}
 use Rattle.std.specs.List.{cons_option, enumerate_from, filter_map, slice_get}
 use Rattle.pack_spec.specs.declared.MountErr.{MountErr}
-use Rattle.pack_spec.specs.declared.addressed.VtocSlot.{VtocSlot}
-
--- a slot that stands for those past the end
-abbrev pub no_slot : VtocSlot
-no_slot = record { address = []; bytes = [] }
+use Rattle.pack_spec.specs.declared.slot.VtocSlot.{VtocSlot}
 
 -- the first rule that the slots from this one on break
 abbrev pub first_from : (ℕ × VtocSlot → Option MountErr) → List VtocSlot → ℕ → Option MountErr

@@ -7,9 +7,9 @@ use Rattle.std.proofs.lemmas.Slice.Eq.{bytes_eq-Decides}
 use Rattle.ckd_image.specs.declared.header.Geometry.{Geometry}
 use Rattle.ckd_image.specs.Track.{Record, end_marker}
 use Rattle.ckd_image.specs.Reading.{records_of, records_behind, records_up_to, records_to_end, is_front, is_at_end, is_record_at, front_record, record_length}
-use Rattle.pack_spec.specs.Label.{Address, records_on, heads_of, track_bytes, track_of_address}
-use Rattle.pack_spec.specs.Vtoc.{first_slot, vtoc_by}
-use Rattle.vtoc_index.specs.Reading.{vtoc_on}
+use Rattle.pack_spec.specs.declared.address.Address.{Address}
+use Rattle.pack_spec.specs.Label.{records_on, heads_of, track_bytes, track_of_address}
+use Rattle.pack_spec.specs.Vtoc.{first_slot, vtoc_by, vtoc_on}
 
 both : (b c : Bool) → (b && c) ≡ true → b ≡ true
 both true c is = refl

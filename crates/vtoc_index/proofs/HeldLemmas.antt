@@ -4,14 +4,17 @@ use Rattle.std.specs.Prelude.{nat_le, ◌&&◌, ◌==◌, slice_get, slice_index
 use Rattle.std.specs.Option.{option_map}
 use Rattle.std.specs.Bool.{IsFalse}
 use Rattle.std.proofs.lemmas.Bool.{and_parts, leb-true, le-leb}
-use Rattle.std.proofs.lemmas.List.{length-map, length-take}
+use Rattle.std.proofs.lemmas.List.{length-take}
 use Rattle.std.proofs.lemmas.Slice.Eq.{bytes_eq-Decides}
 use Rattle.ckd_image.specs.declared.header.Geometry.{Geometry}
 use Rattle.ckd_image.specs.Track.{Record, end_marker}
 use Rattle.ckd_image.specs.Reading.{records_of, records_behind, records_up_to, records_to_end, is_front, is_at_end, is_record_at, front_record, record_length}
-use Rattle.hall_core.specs.Facts.{Facts, Rose, DeviceCall, NotedCall}
+use Rattle.hall_core.specs.Facts.{Facts, DeviceCall, NotedCall}
+use Rattle.stop_model.specs.Counts.{Rose}
 use Rattle.pack_spec.specs.Label.{heads_of, records_on, track_bytes}
-use Rattle.pack_spec.specs.Vtoc.{slot_bytes}
+use Rattle.vtoc_index.specs.Puts.{HasSlot}
+use Rattle.vtoc_index.proofs.TrackPut.{slot_records, slot_there, same_lengths}
+use Rattle.pack_spec.proofs.SlotCounts.{length-slots_from}
 use Rattle.track_records.specs.Buffers.{Buffer}
 use Rattle.track_records.specs.Reads.{IsBroken}
 use Rattle.track_records.specs.declared.error.TrackErr.TheVariants.{BadCount}
@@ -19,8 +22,6 @@ use Rattle.track_records.specs.Updates.{HasLengths}
 use Rattle.track_records.specs.Written.{StandsOn}
 use Rattle.track_records.proofs.StandLemmas.{stand}
 use Rattle.track_records.proofs.UpdateLemmas.{has_lengths}
-use Rattle.vtoc_index.specs.Puts.{HasSlot}
-use Rattle.vtoc_index.proofs.TrackPut.{slot_records, slot_there, same_lengths}
 
 -- a record whose key and data were measured
 pub slot_tested : (xs : List Record) (k : ℕ) (key content : List ℕ) → option_map (λ (x : Record). x.key) (slice_get xs k) ≡ Some key → option_map (λ (x : Record). x.data) (slice_get xs k) ≡ Some content → length key ≡ 44 → length content ≡ 96 → HasLengths xs k 44 96
@@ -105,7 +106,7 @@ pub slot_read : (image : List ℕ) (g : Geometry) (track r : ℕ) → HasSlot im
 unfolding records_on
 slot_read image g track r has =
     let of = slot_records image g track has.found has.slots in
-    track_up_to (track / heads_of g) (track % heads_of g) r (track_bytes image g track) of.records of.read (omega (arith, has.there, ap length of.is, length-map of.records slot_bytes))
+    track_up_to (track / heads_of g) (track % heads_of g) r (track_bytes image g track) of.records of.read (omega (arith, has.there, ap length of.is, length-slots_from g track 1 of.records))
 
 -- and such a track isn't broken
 pub slot_unbroken : (image : List ℕ) (g : Geometry) (track r : ℕ) → HasSlot image g track r → records_on image g (Some r) track ≡ None → ⊥
@@ -131,7 +132,7 @@ held_slot image b r has stands first low =
     let bytes : List ℕ = track_bytes image b.geometry b.track in
     let one = stand c h stands.0 bytes b.records stands.1 in
     let other = stand c h None bytes of.records of.read in
-    let there : r - 1 < length of.records = omega (arith, has.there, first, ap length of.is, length-map of.records slot_bytes) in
+    let there : r - 1 < length of.records = omega (arith, has.there, first, ap length of.is, length-slots_from b.geometry b.track 1 of.records) in
     same_lengths 1 (r - 1) 44 96 (drop 21 bytes) b.records of.records one.records_stand other.records_stand (omega (arith, first, low)) (slot_there (r - 1) of.records of.are there)
 
 -- a hall that tells nothing counts what differs as a fault of the device

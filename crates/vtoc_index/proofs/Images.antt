@@ -5,7 +5,8 @@ use Rattle.std.proofs.lemmas.Bool.Decides.{nat_tests}
 use Rattle.ckd_image.specs.declared.header.ImageErr.TheVariants.{BadMagic}
 use Rattle.ckd_image.specs.Header.{geometry_of}
 use Rattle.hall_core.specs.Facts.{Facts, Attached, unit_of}
-use Rattle.hall_core.specs.Files.{File, file_of, HasBytesAt, AreWhole, image_of}
+use Rattle.stop_model.specs.Files.{File, file_of, HasBytesAt}
+use Rattle.hall_core.specs.Images.{AreWhole, image_of}
 
 -- an image is as long as its unit
 pub image_length : (files : List File) (units : List Attached) (unit : ℕ) → AreWhole files units → unit < length units → length (unwrap_or (file_of files (unit_of units unit).name) []) ≡ (unit_of units unit).size

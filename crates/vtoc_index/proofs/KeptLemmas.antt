@@ -6,13 +6,13 @@ use Rattle.std.proofs.lemmas.Bool.{le-leb}
 use Rattle.ckd_image.specs.Track.{Record}
 use Rattle.ckd_image.specs.Reading.{front_record, is_at_end, is_front, is_record_at, record_length, records_behind, records_of, records_to_end, records_up_to}
 use Rattle.pack_spec.specs.Label.{heads_of, records_on, track_bytes}
-use Rattle.track_records.specs.Buffers.{Buffer}
-use Rattle.track_records.specs.Written.{StandsOn}
 use Rattle.vtoc_index.specs.declared.vol.Vol.{Vol}
-use Rattle.vtoc_index.specs.Index.{IsMounted, run_of}
+use Rattle.vtoc_index.specs.Index.{IsMounted}
 use Rattle.vtoc_index.specs.Kept.{IsKept}
 use Rattle.vtoc_index.proofs.ExtentLaw.{volume_is}
 use Rattle.vtoc_index.proofs.HeldLemmas.{front_taken, room, way}
+use Rattle.track_records.specs.Buffers.{Buffer}
+use Rattle.track_records.specs.Written.{StandsOn}
 
 abbrev before : Record → List Record → List Record
 before x xs = x ∷ xs
@@ -111,5 +111,5 @@ mounted_of image v kept = record {
   };
   vtoc = kept.vtoc;
   lawful = kept.lawful;
-  volume = volume_is image v.geometry (run_of v.vtoc) kept.header kept.vtoc kept.tracks kept.lawful;
+  volume = volume_is image v.geometry v.vtoc kept.header kept.vtoc kept.tracks kept.lawful;
 }

@@ -1,22 +1,15 @@
-pub mod SetFields
-pub mod ReadSlots
-pub mod ExtentFaults
-pub mod SlotFaults
-pub mod FaultWalks
-pub mod FrontFaults
-pub mod NameFaults
-pub mod DscbLists
-pub mod Verdicts
-mod Images
-mod Reasons
+pub mod Images
+pub mod Reasons
 pub mod Labels
-mod FirstSlots
-mod TracksRead
-mod SlotsRead
-mod CallsMade
-mod Mounts
-pub mod NameLemmas
+pub mod FirstSlots
+pub mod TracksRead
+pub mod SlotsRead
+pub mod CallsMade
+pub mod Mounts
 pub mod Firsts
+pub mod FaultWalks
+pub mod HeldDscbs
+pub mod NameFaults
 pub mod TrackPut
 pub mod HeldLemmas
 pub mod VtocPut

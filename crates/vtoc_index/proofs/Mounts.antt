@@ -7,19 +7,17 @@ use Rattle.pack_spec.specs.declared.MountErr.{MountErr}
 use Rattle.pack_spec.specs.declared.MountErr.TheVariants.{Memory, BadVtoc}
 use Rattle.pack_spec.specs.Label.{is_inside, label_of}
 use Rattle.pack_spec.specs.Slots.{slots_of_vtoc}
-use Rattle.pack_spec.specs.Faults.{slots_faults}
-use Rattle.pack_spec.specs.Views.{address_of}
+use Rattle.pack_spec.specs.Rules.{slots_faults}
 use Rattle.pack_spec.specs.Volume.{volume_of, volume_within}
-use Rattle.pack_spec.specs.Vtoc.{vtoc_of}
-use Rattle.track_records.specs.Written.{StandsOn}
-use Rattle.vol_model.specs.declared.contents.Run as tracks
-use Rattle.vtoc_index.specs.Contents.{AreDscbs}
-use Rattle.vtoc_index.specs.Index.{IsMounted, IsReason, run_of}
-use Rattle.vtoc_index.specs.Reading.{AreTracksRead, IsLabel, Refuses, vtoc_on}
+use Rattle.pack_spec.specs.Vtoc.{vtoc_of, vtoc_on}
+use Rattle.vol_model.specs.declared.contents.Run.{Run}
+use Rattle.vtoc_index.specs.Index.{AreDscbs, IsMounted, IsReason}
+use Rattle.vtoc_index.specs.Reading.{AreTracksRead, IsLabel, Refuses}
 use Rattle.vtoc_index.specs.declared.label.Label.{Label}
 use Rattle.vtoc_index.specs.declared.tracks.ReadSlots.{ReadSlots}
 use Rattle.vtoc_index.specs.declared.vol.Vol.{Vol}
 use Rattle.vtoc_index.proofs.Reasons.{reason, refuses_same, serial_read, slot_refused, volume_read, volume_there, vtoc_inside, vtoc_outside}
+use Rattle.track_records.specs.Written.{StandsOn}
 
 -- the label is refused
 pub label_reason : (image seen : List ℕ) (g held : Geometry) (e : MountErr) → seen ≡ image → held ≡ g → geometry_of (take 512 image) (length image) ≡ Ok g → Refuses (volume_within seen held (vtoc_of seen held)) e → IsReason image e
@@ -35,39 +33,39 @@ label_seen image seen g held x same alike is =
     subst (λ (y : Geometry). IsLabel (label_of image y) x) alike (subst (λ (i : List ℕ). IsLabel (label_of i held) x) same is)
 
 -- it leads outside the image
-pub outside_reason : (image : List ℕ) (g : Geometry) (x : Label) → geometry_of (take 512 image) (length image) ≡ Ok g → IsLabel (label_of image g) x → is_inside g (address_of x.vtoc) ≡ false → volume_of image ≡ Err BadVtoc
+pub outside_reason : (image : List ℕ) (g : Geometry) (x : Label) → geometry_of (take 512 image) (length image) ≡ Ok g → IsLabel (label_of image g) x → is_inside g x.vtoc ≡ false → volume_of image ≡ Err BadVtoc
 outside_reason image g x header label outside = volume_read image g header ∙ vtoc_outside image g x label outside
 
 -- the VTOC is refused
-pub vtoc_reason : (image seen : List ℕ) (g : Geometry) (x : Label) (e : MountErr) → seen ≡ image → geometry_of (take 512 image) (length image) ≡ Ok g → IsLabel (label_of image g) x → is_inside g (address_of x.vtoc) ≡ true → Refuses (volume_within seen g (vtoc_on seen g (address_of x.vtoc))) e → IsReason image e
+pub vtoc_reason : (image seen : List ℕ) (g : Geometry) (x : Label) (e : MountErr) → seen ≡ image → geometry_of (take 512 image) (length image) ≡ Ok g → IsLabel (label_of image g) x → is_inside g x.vtoc ≡ true → Refuses (volume_within seen g (vtoc_on seen g x.vtoc)) e → IsReason image e
 vtoc_reason image seen g x e same header label inside refused =
     reason image e
     (refuses_same (volume_of image)
-    (ap (λ (i : List ℕ). volume_within i g (vtoc_on i g (address_of x.vtoc))) same ∙ ap (volume_within image g) (sym (vtoc_inside image g x label inside)) ∙ sym (volume_read image g header))
+    (ap (λ (i : List ℕ). volume_within i g (vtoc_on i g x.vtoc)) same ∙ ap (volume_within image g) (sym (vtoc_inside image g x label inside)) ∙ sym (volume_read image g header))
     refused)
 
 -- all that is read of an image
 pub record IsSeen (image : List ℕ) (g : Geometry) (x : Label) (v : Vol) (found : ReadSlots) : Type 0 where
   pub header : geometry_of (take 512 image) (length image) ≡ Ok g
   pub label : IsLabel (label_of image g) x
-  pub inside : is_inside g (address_of x.vtoc) ≡ true
-  pub extent : vtoc_on image g (address_of x.vtoc) ≡ Ok (run_of v.vtoc)
+  pub inside : is_inside g x.vtoc ≡ true
+  pub extent : vtoc_on image g x.vtoc ≡ Ok v.vtoc
   pub read : AreTracksRead image g v.vtoc.start v.vtoc.len found
 
-vtoc_is : (image : List ℕ) (g : Geometry) (x : Label) (v : Vol) (found : ReadSlots) → IsSeen image g x v found → vtoc_of image g ≡ Ok (run_of v.vtoc)
+vtoc_is : (image : List ℕ) (g : Geometry) (x : Label) (v : Vol) (found : ReadSlots) → IsSeen image g x v found → vtoc_of image g ≡ Ok v.vtoc
 vtoc_is image g x v found seen = vtoc_inside image g x seen.label seen.inside ∙ seen.extent
 
 -- a slot is refused
-pub slots_reason : (image : List ℕ) (g : Geometry) (x : Label) (vtoc : tracks.Run) (found : ReadSlots) (e : MountErr) → geometry_of (take 512 image) (length image) ≡ Ok g → IsLabel (label_of image g) x → is_inside g (address_of x.vtoc) ≡ true → vtoc_on image g (address_of x.vtoc) ≡ Ok (run_of vtoc) → AreTracksRead image g vtoc.start vtoc.len found
-    → (e ≡ Memory) ⊎ (slice_get (slots_faults g (slots_of_vtoc image g (run_of vtoc))) 0 ≡ Some e) → IsReason image e
+pub slots_reason : (image : List ℕ) (g : Geometry) (x : Label) (vtoc : Run) (found : ReadSlots) (e : MountErr) → geometry_of (take 512 image) (length image) ≡ Ok g → IsLabel (label_of image g) x → is_inside g x.vtoc ≡ true → vtoc_on image g x.vtoc ≡ Ok vtoc → AreTracksRead image g vtoc.start vtoc.len found
+    → (e ≡ Memory) ⊎ (slice_get (slots_faults g (slots_of_vtoc image g vtoc)) 0 ≡ Some e) → IsReason image e
 slots_reason image g x vtoc found e header label inside extent read why =
     reason image e (record {
-      why = λ memory _. ⊎_elim (λ is. absurd (memory is)) (λ fault. volume_read image g header ∙ ap (volume_within image g) (vtoc_inside image g x label inside ∙ extent) ∙ slot_refused image g (run_of vtoc) e read.tracks fault) why;
+      why = λ memory _. ⊎_elim (λ is. absurd (memory is)) (λ fault. volume_read image g header ∙ ap (volume_within image g) (vtoc_inside image g x label inside ∙ extent) ∙ slot_refused image g vtoc e read.tracks fault) why;
     })
 
 -- nothing is
 pub mounted : (image : List ℕ) (x : Label) (v : Vol) (found : ReadSlots) → IsSeen image v.geometry x v found → v.serial ≡ x.serial → v.firsts.items ≡ found.firsts.items → StandsOn image v.buf
-    → AreDscbs v.slots.items (slots_of_vtoc image v.geometry (run_of v.vtoc)) × (slots_faults v.geometry (slots_of_vtoc image v.geometry (run_of v.vtoc)) ≡ []) → IsMounted image v
+    → AreDscbs v.slots.items (slots_of_vtoc image v.geometry v.vtoc) × (slots_faults v.geometry (slots_of_vtoc image v.geometry v.vtoc) ≡ []) → IsMounted image v
 mounted image x v found seen serial firsts stands slots =
     let g = v.geometry in
     let vtoc = vtoc_is image g x v found seen in
@@ -82,5 +80,5 @@ mounted image x v found seen serial firsts stands slots =
       };
       vtoc = vtoc;
       lawful = slots.1;
-      volume = volume_read image g seen.header ∙ ap (volume_within image g) vtoc ∙ volume_there image g (run_of v.vtoc) seen.read.tracks slots.1;
+      volume = volume_read image g seen.header ∙ ap (volume_within image g) vtoc ∙ volume_there image g v.vtoc seen.read.tracks slots.1;
     }

@@ -10,18 +10,13 @@ use Rattle.std.proofs.lemmas.List.Folds.{position_or_len_push}
 use Rattle.std.proofs.lemmas.List.Sums.{prefix_len-le-length}
 use Rattle.std.proofs.lemmas.Slice.Eq.{bytes_eq-Decides}
 use lib.Dec.{eqb}
+use Rattle.dscb_codec.specs.declared.F1.{F1}
 use Rattle.dscb_codec.specs.declared.Dscb.{Dscb}
-use Rattle.dscb_codec.specs.declared.Dscb.TheVariants as formats
 use Rattle.dscb_codec.specs.declared.DscbErr.{DscbErr}
 use Rattle.pack_spec.specs.declared.MountErr.TheVariants.{DuplicateName}
-use Rattle.pack_spec.specs.declared.addressed.VtocSlot.{VtocSlot}
-use Rattle.pack_spec.specs.Faults.{is_named, name_fault}
-use Rattle.pack_spec.specs.Formats.{is_data_set}
-use Rattle.vtoc_index.specs.declared.slots.ReadSlot.{ReadSlot}
-use Rattle.vtoc_index.specs.Contents.{AreRead, IsContent, IsRead}
-use Rattle.vtoc_index.specs.Rules.{is_named_content, name_in}
-use Rattle.vtoc_index.proofs.SetFields.{name-is}
-use Rattle.vtoc_index.proofs.ReadSlots.{is_data_set-is, is_data_set-refused, is_named-same, position-same, read_take}
+use Rattle.pack_spec.specs.declared.slot.VtocSlot.{VtocSlot}
+use Rattle.pack_spec.specs.Rules.{is_named, name_fault, set_in}
+use Rattle.dscb_codec.specs.declared.Dscb.TheVariants as formats
 
 -- places in a list with one more element
 place-other : (n l m k : ℕ) → n ≤ l → m ≡ cond (eqb n l) (l + 1) n → k ≡ l + 1 → cond (nat_lt m k) (Some m) None ≡ cond (nat_lt n l) (Some n) None
@@ -43,7 +38,7 @@ position_push-first {X = X} p xs y none passes =
     (length-append xs (y ∷ [])) none
 
 -- the name of a content that has this name
-pub name_of_named : (name : List ℕ) (content : Result Dscb DscbErr) → is_named_content name content ≡ true → name_in content ≡ Some name
+pub name_of_named : (name : List ℕ) (content : Result Dscb DscbErr) → is_named name content ≡ true → option_map (λ f. f.name) (set_in content) ≡ Some name
 name_of_named name (Err e) named = cc
 name_of_named name (Ok formats.F0) named = cc
 name_of_named name (Ok (formats.F1 f)) named = ap Some ((bytes_eq-Decides f.name name).0 named)
@@ -52,7 +47,7 @@ name_of_named name (Ok (formats.F4 f)) named = cc
 name_of_named name (Ok (formats.F5 f)) named = cc
 
 -- and by the name of a content, whether it has another
-pub named_by : (key name : List ℕ) (content : Result Dscb DscbErr) → Some key ≡ name_in content → is_named_content name content ≡ bytes_eq key name
+pub named_by : (key name : List ℕ) (content : Result Dscb DscbErr) → Some key ≡ option_map (λ f. f.name) (set_in content) → is_named name content ≡ bytes_eq key name
 named_by key name (Err e) is = cc
 named_by key name (Ok formats.F0) is = cc
 named_by key name (Ok (formats.F1 f)) is = let same : f.name ≡ key = cc in ap (λ (k : List ℕ). bytes_eq k name) same
@@ -66,12 +61,12 @@ truth true = inl refl
 truth false = inr refl
 
 -- the lowest slot of each name, where one more slot has none, or one that is new
-pub lowest-more : (lowest : List ℕ → Option ℕ) (xs : List ReadSlot) (i : ℕ) (d : ReadSlot) → i < length xs → ((name : List ℕ) → lowest name ≡ position (λ x. is_named_content name x.content) (take i xs)) → option_and_then lowest (name_in (get_or xs i d).content) ≡ None → (name : List ℕ) → cond (is_named_content name (get_or xs i d).content) (Some i) (lowest name) ≡ position (λ x. is_named_content name x.content) (take (i + 1) xs)
+pub lowest-more : (lowest : List ℕ → Option ℕ) (xs : List VtocSlot) (i : ℕ) (d : VtocSlot) → i < length xs → ((name : List ℕ) → lowest name ≡ position (λ x. is_named name x.content) (take i xs)) → option_and_then lowest (option_map (λ f. f.name) (set_in (get_or xs i d).content)) ≡ None → (name : List ℕ) → cond (is_named name (get_or xs i d).content) (Some i) (lowest name) ≡ position (λ x. is_named name x.content) (take (i + 1) xs)
 lowest-more lowest xs i d below so_far new name =
     let x = get_or xs i d in
-    let named = λ (y : ReadSlot). is_named_content name y.content in
+    let named = λ (y : VtocSlot). is_named name y.content in
     let more : position named (take (i + 1) xs) ≡ position named (take i xs ++ x ∷ []) = ap (position named) (take_more xs i d below) in
-    elim (truth (is_named_content name x.content)) [
+    elim (truth (is_named name x.content)) [
       | inl is ↦
           let none : lowest name ≡ None = ap (option_and_then lowest) (sym (name_of_named name x.content is)) ∙ new in
           let long : length (take i xs) ≡ i = length-take-le i xs (omega arith) in
@@ -87,20 +82,10 @@ lowest-more lowest xs i d below so_far new name =
     ]
 
 -- the rule on names that a slot breaks, by the lowest slots so far
-pub name_fault-is : (lowest : List ℕ → Option ℕ) (xs : List ReadSlot) (ss : List VtocSlot) (i : ℕ) (x : ReadSlot) (s : VtocSlot) → ((name : List ℕ) → lowest name ≡ position (λ y. is_named_content name y.content) (take i xs)) → AreRead xs ss → IsRead x s → name_fault ss i s ≡ option_map (DuplicateName i) (option_and_then lowest (name_in x.content))
+pub name_fault-is : (lowest : List ℕ → Option ℕ) (xs : List VtocSlot) (i : ℕ) (s : VtocSlot) → ((name : List ℕ) → lowest name ≡ position (λ y. is_named name y.content) (take i xs)) → name_fault xs i s ≡ option_map (DuplicateName i) (option_and_then lowest (option_map (λ f. f.name) (set_in s.content)))
 unfolding name_fault
-name_fault-is lowest xs ss i x s so_far are is = told x.content s.bytes is.content
+name_fault-is lowest xs i s so_far = by_set (set_in s.content)
   where
-    none : (bytes : List ℕ) → is_data_set bytes ≡ false → cond (is_data_set bytes) (option_map (DuplicateName i) (position (is_named (take 44 bytes)) (take i ss))) None ≡ None
-    none bytes other = ap (λ (b : Bool). cond b (option_map (DuplicateName i) (position (is_named (take 44 bytes)) (take i ss))) None) other
-
-    told : (content : Result Dscb DscbErr) (bytes : List ℕ) → IsContent content bytes → cond (is_data_set bytes) (option_map (DuplicateName i) (position (is_named (take 44 bytes)) (take i ss))) None ≡ option_map (DuplicateName i) (option_and_then lowest (name_in content))
-    told (Err e) bytes is = none bytes (is_data_set-refused bytes e is)
-    told (Ok formats.F0) bytes is = none bytes (is_data_set-is formats.F0 bytes false is refl)
-    told (Ok (formats.F3 f)) bytes is = none bytes (is_data_set-is (formats.F3 f) bytes false is refl)
-    told (Ok (formats.F4 f)) bytes is = none bytes (is_data_set-is (formats.F4 f) bytes false is refl)
-    told (Ok (formats.F5 f)) bytes is = none bytes (is_data_set-is (formats.F5 f) bytes false is refl)
-    told (Ok (formats.F1 f)) bytes is =
-        ap (λ (b : Bool). cond b (option_map (DuplicateName i) (position (is_named (take 44 bytes)) (take i ss))) None) (is_data_set-is (formats.F1 f) bytes true is refl)
-        ∙ ap (λ (name : List ℕ). option_map (DuplicateName i) (position (is_named name) (take i ss))) (name-is f bytes is.0)
-        ∙ ap (option_map (DuplicateName i)) (sym (position-same (λ y. is_named_content f.name y.content) (is_named f.name) (is_named-same f.name) (take i xs) (take i ss) (read_take xs ss i are)) ∙ sym (so_far f.name))
+    by_set : (o : Option F1) → option_and_then (λ f. option_map (DuplicateName i) (position (λ t. is_named f.name t.content) (take i xs))) o ≡ option_map (DuplicateName i) (option_and_then lowest (option_map (λ f. f.name) o))
+    by_set None = refl
+    by_set (Some f) = ap (option_map (DuplicateName i)) (sym (so_far f.name))

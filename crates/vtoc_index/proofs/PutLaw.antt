@@ -1,12 +1,12 @@
 -- What a put slot does to an image, for each image that a stop leaves.
 use Rattle.std.proofs.Common.{◌≡◌, ◌≢◌, ⊎_elim, ◌<◌, ◌≤◌, ◌+◌, ◌*◌, ◌/◌, ◌%◌, ℕ, Bool, true, false, cond, List, [], ◌∷◌, ◌++◌, length, take, drop, Option, Some, None, refl, sym, ◌∙◌, ap, subst, arith, length-drop}
-use Rattle.std.specs.Prelude.{option_and_then, slice_range, ◌&&◌}
+use Rattle.std.specs.Prelude.{Ok, option_and_then, slice_range, unwrap_or, ◌&&◌}
 use Rattle.std.specs.Option.{option_map}
 use Rattle.std.specs.List.{list_all}
 use Rattle.std.specs.Str.{bytes_eq}
 use Rattle.std.proofs.Math.Nat.{mul-le-mul_right}
 use Rattle.std.proofs.lemmas.Bool.{and_parts, cases_lt}
-use Rattle.std.proofs.lemmas.List.{length-map, length-take, take-append-drop, length-take-le}
+use Rattle.std.proofs.lemmas.List.{length-take, take-append-drop, length-take-le}
 use Rattle.std.proofs.lemmas.Slice.Eq.{bytes_eq-Decides}
 use Rattle.ckd_image.specs.declared.header.Geometry.{Geometry}
 use Rattle.ckd_image.specs.Device.{row_of}
@@ -14,28 +14,27 @@ use Rattle.ckd_image.specs.Header.{HasGeometry, geometry_of}
 use Rattle.ckd_image.specs.Reading.{records_of}
 use Rattle.ckd_image.specs.Track.{Record}
 use Rattle.dscb_codec.specs.declared.Dscb.{Dscb}
-use Rattle.dscb_codec.specs.Layout.{IsDscb}
-use Rattle.hall_core.specs.Files.{patched}
-use Rattle.pack_spec.specs.declared.addressed.VtocSlot.{VtocSlot}
-use Rattle.pack_spec.specs.Label.{are_label, heads_of, ipl1, ipl2, vol1, is_keyed, label_in, label_of, records_on, track_bytes}
-use Rattle.pack_spec.specs.Vtoc.{Run, is_slot, slot_bytes, slots_on}
-use Rattle.pack_spec.specs.Slots.{slots_at, slots_of_vtoc}
-use Rattle.pack_spec.specs.Faults.{track_fault}
-use Rattle.pack_spec.specs.Views.{tracks_of}
+use Rattle.dscb_codec.specs.Layout.{decoded}
+use Rattle.pack_spec.specs.declared.slot.VtocSlot.{VtocSlot}
+use Rattle.pack_spec.specs.Label.{are_label, heads_of, ipl1, ipl2, vol1, is_keyed, label_in, label_of, records_on, track_bytes, tracks_of}
+use Rattle.vol_model.specs.declared.contents.Run.{Run}
+use Rattle.pack_spec.specs.Vtoc.{is_slot}
+use Rattle.pack_spec.specs.Slots.{slots_on, slots_of_vtoc, track_fault}
+use Rattle.vtoc_index.specs.declared.vol.Vol.{Vol}
+use Rattle.vtoc_index.specs.Index.{AreDscbs, IsIndexOf, IsPut, place_of_slot, slots_in_front, track_index, with_dscb}
+use Rattle.vtoc_index.specs.Puts.{HasSlot, IsHeld, IsReplaced}
+use Rattle.vtoc_index.proofs.HeldLemmas.{held_slot}
+use Rattle.vtoc_index.proofs.HeldDscbs.{dscbs_many}
+use Rattle.vtoc_index.proofs.TrackPut.{slots_at, TrackPut, length-with_dscb, same_offset, slot_offset, slot_records, slot_there, slots_found, track_put}
+use Rattle.vtoc_index.proofs.VtocPut.{Stands, dscbs_put, same_faults, same_firsts, same_or_apart, slot_stands, vtoc_put}
+use Rattle.pack_spec.proofs.SlotCounts.{length-slots_from}
+use Rattle.stop_model.specs.Files.{patched}
 use Rattle.track_records.specs.Buffers.{Buffer}
 use Rattle.track_records.specs.Updates.{HasLengths, offset_of}
 use Rattle.track_records.specs.Written.{IsUpdated, StandsOn, place_of}
 use Rattle.track_records.proofs.StandLemmas.{stand}
 use Rattle.track_records.proofs.WrittenLemmas.{updated}
-use Rattle.vtoc_index.specs.declared.vol.Vol.{Vol}
-use Rattle.vtoc_index.specs.Contents.{AreDscbs, with_bytes}
-use Rattle.vtoc_index.specs.Index.{IsIndexOf, IsPut, place_of_slot, run_of, slots_in_front, track_index}
-use Rattle.vtoc_index.specs.Puts.{HasSlot, IsHeld, IsReplaced}
 use Rattle.ckd_image.proofs.GeometryLemmas.{has_geometry}
-use Rattle.vtoc_index.proofs.HeldLemmas.{held_slot}
-use Rattle.vtoc_index.proofs.NameLemmas.{same_length}
-use Rattle.vtoc_index.proofs.TrackPut.{TrackPut, length-with_bytes, same_offset, slot_offset, slot_records, slot_there, slots_found, track_put}
-use Rattle.vtoc_index.proofs.VtocPut.{Stands, dscbs_put, same_faults, same_firsts, same_or_apart, slot_stands, vtoc_put}
 
 -- the track of a slot
 abbrev pub track_of : Vol → ℕ → ℕ
@@ -47,7 +46,7 @@ front_of v slot = slots_in_front v.firsts.items slot
 
 -- The record that a slot is: where it stands, and the records of its track.
 pub record Found (image : List ℕ) (v : Vol) (slot : ℕ) : Type 0 where
-  pub stands : Stands image v.geometry (run_of v.vtoc) (track_index v.firsts.items slot) (front_of v slot) slot
+  pub stands : Stands image v.geometry v.vtoc (track_index v.firsts.items slot) (front_of v slot) slot
   pub has : HasSlot image v.geometry (track_of v slot) (front_of v slot + 1)
   pub records : List Record
   pub read : records_on image v.geometry None (track_of v slot) ≡ Some records
@@ -57,8 +56,8 @@ pub record Found (image : List ℕ) (v : Vol) (slot : ℕ) : Type 0 where
 pub slot_found : (image : List ℕ) (v : Vol) (slot : ℕ) → IsIndexOf image v → slot < length v.slots.items → Found image v slot
 slot_found image v slot index low =
     let g : Geometry = v.geometry in
-    let vtoc : Run = run_of v.vtoc in
-    let stands = slot_stands image g vtoc v.firsts.items slot index.firsts (omega (arith, low, same_length v.slots.items (slots_of_vtoc image g vtoc) index.slots)) in
+    let vtoc : Run = v.vtoc in
+    let stands = slot_stands image g vtoc v.firsts.items slot index.firsts (omega (arith, low, dscbs_many v.slots.items (slots_of_vtoc image g vtoc) index.slots)) in
     let found = slots_found image g (track_of v slot) (front_of v slot) stands.there in
     let of = slot_records image g (track_of v slot) found.0 found.1.0 in
     record {
@@ -67,7 +66,7 @@ slot_found image v slot index low =
       records = of.records;
       read = of.read;
       are = of.are;
-      there = omega (arith, found.1.1, ap length of.is, length-map of.records slot_bytes);
+      there = omega (arith, found.1.1, ap length of.is, length-slots_from g (track_of v slot) 1 of.records);
     }
 
 -- the track of a record that is read lies within the image
@@ -183,28 +182,26 @@ unfolding slots_on
 same_slots_on image put g track same = rw (same_records image put g None track same) refl
 
 same_slots : (image put : List ℕ) (g : Geometry) (track : ℕ) → slots_on put g track ≡ slots_on image g track → slots_at put g track ≡ slots_at image g track
-unfolding slots_at
-same_slots image put g track same = rw same refl
+same_slots image put g track same = ap (λ (o : Option (List VtocSlot)). unwrap_or o []) same
 
 same_fault : (image put : List ℕ) (g : Geometry) (track : ℕ) → slots_on put g track ≡ slots_on image g track → track_fault put g track ≡ track_fault image g track
 unfolding track_fault
 same_fault image put g track same = rw same refl
 
-good_fault : (image : List ℕ) (g : Geometry) (track : ℕ) (found : List (List ℕ)) → slots_on image g track ≡ Some found → track_fault image g track ≡ None
+good_fault : (image : List ℕ) (g : Geometry) (track : ℕ) (found : List VtocSlot) → slots_on image g track ≡ Some found → track_fault image g track ≡ None
 unfolding track_fault
 good_fault image g track found good = rw good refl
 
 -- the image whose record was written over has that slot, and is otherwise as before
-put_updated : (image put : List ℕ) (v : Vol) (slot : ℕ) (key content : List ℕ) (f : Found image v slot) → IsIndexOf image v → length key ≡ 44 → length content ≡ 96 → put ≡ patched image (place_of_slot v slot) (key ++ content)
-    → IsUpdated (buffer_of v slot f.records) (front_of v slot) key content image put → IsPut v slot (key ++ content) image put
-put_updated image put v slot key content f index keys contents is u = record {
-  written = is;
+put_updated : (image put : List ℕ) (v : Vol) (slot : ℕ) (key content : List ℕ) (d : Dscb) (f : Found image v slot) → IsIndexOf image v → length key ≡ 44 → length content ≡ 96 → decoded (key ++ content) ≡ Ok d
+    → IsUpdated (buffer_of v slot f.records) (front_of v slot) key content image put → IsPut v slot d image put
+put_updated image put v slot key content d f index keys contents dscb u = record {
   size = u.size;
   header = u.header;
   label = same_label image put g (u.others 0 apart);
-  slots = vtoc_put image put g (run_of v.vtoc) (key ++ content) (track_index v.firsts.items slot) (front_of v slot) slot f.stands wrote.slots (λ j other. same_slots image put g j (same_slots_on image put g j (u.others j other)));
-  tracks = same_faults image put g (run_of v.vtoc) faults ∙ index.tracks;
-  firsts = same_firsts image put g (run_of v.vtoc) counts;
+  slots = vtoc_put image put g v.vtoc d (track_index v.firsts.items slot) (front_of v slot) slot f.stands wrote.slots (λ j other. same_slots image put g j (same_slots_on image put g j (u.others j other)));
+  tracks = same_faults image put g v.vtoc faults ∙ index.tracks;
+  firsts = same_firsts image put g v.vtoc counts;
   others = u.others;
 }
   where
@@ -214,8 +211,8 @@ put_updated image put v slot key content f index keys contents is u = record {
     t : ℕ
     t = track_of v slot
 
-    wrote : TrackPut image put g t (front_of v slot) (key ++ content)
-    wrote = track_put image put g t (front_of v slot) key content f.records keys contents f.read f.are (u.records None)
+    wrote : TrackPut image put g t (front_of v slot) d
+    wrote = track_put image put g t (front_of v slot) key content d f.records keys contents dscb f.read f.are (u.records None)
 
     apart : 0 ≢ t
     apart same =
@@ -232,25 +229,25 @@ put_updated image put v slot key content f index keys contents is u = record {
     counts : (j : ℕ) → length (slots_at put g j) ≡ length (slots_at image g j)
     counts j =
         ⊎_elim
-        (λ here. subst (λ (n : ℕ). length (slots_at put g n) ≡ length (slots_at image g n)) (sym here) (ap length wrote.slots ∙ length-with_bytes (front_of v slot) (key ++ content) (slots_at image g t)))
+        (λ here. subst (λ (n : ℕ). length (slots_at put g n) ≡ length (slots_at image g n)) (sym here) (ap length wrote.slots ∙ length-with_dscb (front_of v slot) d (slots_at image g t)))
         (λ other. ap length (same_slots image put g j (same_slots_on image put g j (u.others j other))))
         (same_or_apart j t)
 
--- Bytes of a slot, written at its place, are that slot, and nothing else on the image is changed.
-pub slot_put : (image : List ℕ) (v : Vol) (slot : ℕ) (bytes : List ℕ) → IsIndexOf image v → slot < length v.slots.items → length bytes ≡ 140 → IsPut v slot bytes image (patched image (place_of_slot v slot) bytes)
-slot_put image v slot bytes index low size =
+-- The bytes of a DSCB, written at a slot's place, are that slot, and nothing else on the image is changed.
+pub slot_put : (image : List ℕ) (v : Vol) (slot : ℕ) (d : Dscb) (bytes : List ℕ) → IsIndexOf image v → slot < length v.slots.items → length bytes ≡ 140 → decoded bytes ≡ Ok d → IsPut v slot d image (patched image (place_of_slot v slot) bytes)
+slot_put image v slot d bytes index low size dscb =
     let f = slot_found image v slot index low in
     let key : List ℕ = take 44 bytes in
     let content : List ℕ = drop 44 bytes in
     let keys : length key ≡ 44 = length-take-le 44 bytes (omega (arith, size)) in
     let contents : length content ≡ 96 = omega (arith, size, length-drop 44 bytes) in
     let joined : key ++ content ≡ bytes = take-append-drop 44 bytes in
-    subst (λ (bs : List ℕ). IsPut v slot bs image (patched image (place_of_slot v slot) bs)) joined
-    (put_updated image (patched image (place_of_slot v slot) (key ++ content)) v slot key content f index keys contents refl (slot_updated image v slot key content f index keys contents))
+    subst (λ (bs : List ℕ). IsPut v slot d image (patched image (place_of_slot v slot) bs)) joined
+    (put_updated image (patched image (place_of_slot v slot) (key ++ content)) v slot key content d f index keys contents (ap decoded joined ∙ dscb) (slot_updated image v slot key content f index keys contents))
 
--- The index of that image holds the slot's DSCB in its place.
-pub index_put : (image put : List ℕ) (v v' : Vol) (slot : ℕ) (d : Dscb) (bytes : List ℕ) → IsIndexOf image v → IsPut v slot bytes image put → IsDscb d bytes → IsReplaced slot d v v' → IsHeld put v'.buf → IsIndexOf put v'
-index_put image put v v' slot d bytes index is dscb replaced held =
+-- The index of that image holds the DSCB in the slot's place.
+pub index_put : (image put : List ℕ) (v v' : Vol) (slot : ℕ) (d : Dscb) → IsIndexOf image v → IsPut v slot d image put → IsReplaced slot d v v' → IsHeld put v'.buf → IsIndexOf put v'
+index_put image put v v' slot d index is replaced held =
     let g : Geometry = v.geometry in
     let w : Vol = record v { slots = v'.slots; buf = v'.buf } in
     let read : IsIndexOf put w = record {
@@ -259,7 +256,7 @@ index_put image put v v' slot d bytes index is dscb replaced held =
       tracks = is.tracks;
       slots =
           subst (λ (ss : List VtocSlot). AreDscbs v'.slots.items ss) (sym is.slots)
-          (subst (λ (ds : List Dscb). AreDscbs ds (with_bytes slot bytes (slots_of_vtoc image g (run_of v.vtoc)))) (sym replaced.items) (dscbs_put slot d bytes v.slots.items (slots_of_vtoc image g (run_of v.vtoc)) dscb index.slots));
+          (subst (λ (ds : List Dscb). AreDscbs ds (with_dscb slot d (slots_of_vtoc image g v.vtoc))) (sym replaced.items) (dscbs_put slot d v.slots.items (slots_of_vtoc image g v.vtoc) index.slots));
       firsts = index.firsts ∙ sym is.firsts;
       buffer = held;
     } in

@@ -7,14 +7,15 @@ use Rattle.ckd_image.specs.declared.header.ImageErr.{ImageErr}
 use Rattle.ckd_image.specs.Header.{geometry_of}
 use Rattle.pack_spec.specs.declared.MountErr.{MountErr}
 use Rattle.pack_spec.specs.declared.MountErr.TheVariants.{NoFile, Image, NoLabel, BadVtoc, VtocTrack, NoFormat4, NoFormat5, BadDscb, UnsupportedDscb, UnsupportedExtent, BadExtent, BadChain, DuplicateName, Memory, Device}
-use Rattle.pack_spec.specs.Label.{Address, is_inside, label_of}
-use Rattle.pack_spec.specs.Vtoc.{Run, vtoc_of, vtoc_at}
-use Rattle.pack_spec.specs.Slots.{slots_of_vtoc}
-use Rattle.pack_spec.specs.Faults.{track_faults, slots_faults, vtoc_fault}
+use Rattle.pack_spec.specs.declared.address.Address.{Address}
+use Rattle.pack_spec.specs.Label.{is_inside, label_of}
+use Rattle.vol_model.specs.declared.contents.Run.{Run}
+use Rattle.pack_spec.specs.Vtoc.{vtoc_of, vtoc_at, vtoc_on}
+use Rattle.pack_spec.specs.Slots.{slots_of_vtoc, track_faults}
+use Rattle.pack_spec.specs.Rules.{slots_faults, vtoc_fault}
 use Rattle.pack_spec.specs.Volume.{volume_of, volume_on, volume_within, volume_with, unless}
-use Rattle.pack_spec.specs.Views.{address_of}
 use Rattle.vtoc_index.specs.Index.{IsReason, serial_on}
-use Rattle.vtoc_index.specs.Reading.{Refuses, IsLabel, Says, vtoc_on}
+use Rattle.vtoc_index.specs.Reading.{Refuses, IsLabel, Says}
 use Rattle.vtoc_index.specs.declared.label.Label.{Label}
 
 pub refuses : {X : Type 0} {given : Result X MountErr} {e : MountErr} → given ≡ Err e → Refuses given e
@@ -76,22 +77,22 @@ chosen : {A : Type 0} (b c : Bool) (u v : A) → b ≡ c → cond b u v ≡ cond
 chosen b c u v is = ap (λ x. cond x u v) is
 
 -- it leads outside the image
-pub vtoc_outside : (image : List ℕ) (g : Geometry) (x : Label) → IsLabel (label_of image g) x → is_inside g (address_of x.vtoc) ≡ false → volume_within image g (vtoc_of image g) ≡ Err BadVtoc
+pub vtoc_outside : (image : List ℕ) (g : Geometry) (x : Label) → IsLabel (label_of image g) x → is_inside g x.vtoc ≡ false → volume_within image g (vtoc_of image g) ≡ Err BadVtoc
 unfolding vtoc_of vtoc_at vtoc_on
 vtoc_outside image g x is outside =
     let l = label_there (label_of image g) x is in
     ap (λ (m : Option (List ℕ)). volume_within image g (vtoc_at image g m)) l.1.0
     ∙ ap (λ (a : Address). volume_within image g (cond (is_inside g a) (vtoc_on image g a) (Err BadVtoc))) (sym l.1.1.vtoc)
-    ∙ ap (volume_within image g) (chosen (is_inside g (address_of x.vtoc)) false (vtoc_on image g (address_of x.vtoc)) (Err BadVtoc) outside)
+    ∙ ap (volume_within image g) (chosen (is_inside g x.vtoc) false (vtoc_on image g x.vtoc) (Err BadVtoc) outside)
 
 -- or to a track of the image
-pub vtoc_inside : (image : List ℕ) (g : Geometry) (x : Label) → IsLabel (label_of image g) x → is_inside g (address_of x.vtoc) ≡ true → vtoc_of image g ≡ vtoc_on image g (address_of x.vtoc)
+pub vtoc_inside : (image : List ℕ) (g : Geometry) (x : Label) → IsLabel (label_of image g) x → is_inside g x.vtoc ≡ true → vtoc_of image g ≡ vtoc_on image g x.vtoc
 unfolding vtoc_of vtoc_at vtoc_on
 vtoc_inside image g x is inside =
     let l = label_there (label_of image g) x is in
     ap (vtoc_at image g) l.1.0
     ∙ ap (λ (a : Address). cond (is_inside g a) (vtoc_on image g a) (Err BadVtoc)) (sym l.1.1.vtoc)
-    ∙ chosen (is_inside g (address_of x.vtoc)) true (vtoc_on image g (address_of x.vtoc)) (Err BadVtoc) inside
+    ∙ chosen (is_inside g x.vtoc) true (vtoc_on image g x.vtoc) (Err BadVtoc) inside
 
 -- the serial is that of the label
 pub serial_read : (image : List ℕ) (g : Geometry) (x : Label) → IsLabel (label_of image g) x → serial_on image g ≡ Some x.serial.bytes

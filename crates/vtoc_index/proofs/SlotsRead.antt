@@ -1,45 +1,51 @@
 -- The slots of one track, a record after another.
-use Rattle.std.proofs.Common.{◌≡◌, ℕ, zero, suc, ◌+◌, ◌<◌, ◌≤◌, Bool, true, false, cond, List, [], ◌∷◌, ◌++◌, length, take, Option, Some, None, refl, sym, ap, subst, ◌∙◌, arith, append_assoc, length-append, add-one}
-use Rattle.std.specs.Prelude.{option_and_then, map, slice_get, ◌&&◌}
+use Rattle.dscb_codec.specs.Layout.{decoded}
+use Rattle.std.proofs.Common.{◌≡◌, ℕ, zero, suc, ◌+◌, ◌<◌, ◌≤◌, Bool, true, false, cond, List, [], ◌∷◌, ◌++◌, length, take, Option, Some, None, refl, sym, ap, ◌∙◌, arith, append_assoc, length-append, add-one}
+use Rattle.std.specs.Prelude.{option_and_then, slice_get, ◌&&◌}
 use Rattle.std.specs.List.{list_all}
-use Rattle.std.proofs.lemmas.List.{append-nil, take_all, map-append, length-map}
+use Rattle.std.proofs.lemmas.List.{append-nil, take_all}
 use Rattle.std.proofs.lemmas.List.Folds.{list_all-append}
 use Rattle.ckd_image.specs.declared.header.Geometry.{Geometry}
 use Rattle.ckd_image.specs.Track.{Record}
-use Rattle.pack_spec.specs.Vtoc.{is_slot, slot_bytes, slots_in}
-use Rattle.pack_spec.specs.Slots.{addressed_from, record_address}
-use Rattle.pack_spec.proofs.TrackSlots.{addressed_from-push, length-addressed_from}
-use Rattle.vtoc_index.specs.Contents.{AreRead, IsRead}
 use Rattle.vtoc_index.specs.Reading.{Adds, slot_of}
-use Rattle.vtoc_index.specs.declared.slots.ReadSlot.{ReadSlot}
-use Rattle.vtoc_index.proofs.TracksRead.{AreRead-append, AreRead-length}
+use Rattle.pack_spec.specs.Vtoc.{is_slot, slot_bytes}
+use Rattle.pack_spec.specs.Slots.{record_address, slot_at, slots_from, slots_in}
+use Rattle.pack_spec.proofs.SlotCounts.{length-slots_from}
+use Rattle.pack_spec.specs.declared.slot.VtocSlot.{VtocSlot}
+
+-- one more slot on a track
+slots_from-push : (g : Geometry) (track r n : ℕ) (xs : List Record) (x : Record) → n ≡ r + length xs → slots_from g track r (xs ++ x ∷ []) ≡ slots_from g track r xs ++ slot_at g track n x ∷ []
+slots_from-push g track r n [] x is =
+    let same : r ≡ n = omega arith in
+    ap (λ (k : ℕ). slot_at g track k x ∷ []) same
+slots_from-push g track r n (y ∷ xs) x is =
+    let next : n ≡ r + 1 + length xs = omega arith in
+    ap (λ (l : List VtocSlot). slot_at g track r y ∷ l) (slots_from-push g track (r + 1) n xs x next)
 
 -- so many records are slots, and these were added
-pub record AddsSoFar (g : Geometry) (track : ℕ) (records : List Record) (passed : ℕ) (old new : List ReadSlot) : Type 0 where
-  pub bytes : List (List ℕ)
-  pub slots : List ReadSlot
-  pub are_slots : slots_in (take passed records) ≡ Some bytes
-  pub many : length bytes ≡ passed
+pub record AddsSoFar (g : Geometry) (track : ℕ) (records : List Record) (passed : ℕ) (old new : List VtocSlot) : Type 0 where
+  pub slots : List VtocSlot
+  pub are_slots : slots_in g track (take passed records) ≡ Some slots
+  pub many : length (take passed records) ≡ passed
   pub added : new ≡ old ++ slots
-  pub read : AreRead slots (addressed_from g track 1 bytes)
 
-pub so_far_none : (g : Geometry) (track : ℕ) (records : List Record) (old : List ReadSlot) → AddsSoFar g track records 0 old old
-so_far_none g track records old = record { bytes = []; slots = []; are_slots = refl; many = refl; added = sym (append-nil old); read = tt }
+pub so_far_none : (g : Geometry) (track : ℕ) (records : List Record) (old : List VtocSlot) → AddsSoFar g track records 0 old old
+so_far_none g track records old = record { slots = []; are_slots = refl; many = refl; added = sym (append-nil old) }
 
 -- records that are slots
-record AreSlots (xs : List Record) (bytes : List (List ℕ)) : Type 0 where
+record AreSlots (g : Geometry) (track : ℕ) (xs : List Record) (slots : List VtocSlot) : Type 0 where
   all : list_all is_slot xs ≡ true
-  parts : map slot_bytes xs ≡ bytes
+  parts : slots_from g track 1 xs ≡ slots
 
-are_slots_by : (b : Bool) (xs : List Record) (bytes : List (List ℕ)) → b ≡ list_all is_slot xs → cond b (Some (map slot_bytes xs)) None ≡ Some bytes → AreSlots xs bytes
-are_slots_by true xs bytes same is = record { all = sym same; parts = cc }
-are_slots_by false xs bytes same is = cc
+are_slots_by : (g : Geometry) (track : ℕ) (b : Bool) (xs : List Record) (slots : List VtocSlot) → b ≡ list_all is_slot xs → cond b (Some (slots_from g track 1 xs)) None ≡ Some slots → AreSlots g track xs slots
+are_slots_by g track true xs slots same is = record { all = sym same; parts = cc }
+are_slots_by g track false xs slots same is = cc
 
-slots_are : (xs : List Record) (bytes : List (List ℕ)) → slots_in xs ≡ Some bytes → AreSlots xs bytes
-slots_are xs bytes is = are_slots_by (list_all is_slot xs) xs bytes refl is
+slots_are : (g : Geometry) (track : ℕ) (xs : List Record) (slots : List VtocSlot) → slots_in g track xs ≡ Some slots → AreSlots g track xs slots
+slots_are g track xs slots is = are_slots_by g track (list_all is_slot xs) xs slots refl is
 
-are_slots_in : (xs : List Record) (bytes : List (List ℕ)) → AreSlots xs bytes → slots_in xs ≡ Some bytes
-are_slots_in xs bytes are = ap (λ b. cond b (Some (map slot_bytes xs)) None) are.all ∙ ap (λ (l : List (List ℕ)). Some l) are.parts
+are_slots_in : (g : Geometry) (track : ℕ) (xs : List Record) (slots : List VtocSlot) → AreSlots g track xs slots → slots_in g track xs ≡ Some slots
+are_slots_in g track xs slots are = ap (λ (b : Bool). cond b (Some (slots_from g track 1 xs)) None) are.all ∙ ap (λ (l : List VtocSlot). Some l) are.parts
 
 -- the record that is a slot with these bytes
 record IsSlot (o : Option Record) (s : List ℕ) : Type 0 where
@@ -61,30 +67,28 @@ take_slot [] p x is = cc
 take_slot (y ∷ xs) zero x is = let same : y ≡ x = cc in ap (λ (z : Record). z ∷ []) same
 take_slot (y ∷ xs) (suc p) x is = ap (λ (l : List Record). y ∷ l) (take_slot xs p x is)
 
-slots_push : (xs : List Record) (bytes : List (List ℕ)) (x : Record) (s : List ℕ) → slots_in xs ≡ Some bytes → is_slot x ≡ true → slot_bytes x ≡ s → slots_in (xs ++ x ∷ []) ≡ Some (bytes ++ s ∷ [])
-slots_push xs bytes x s is slot same =
-    let are = slots_are xs bytes is in
-    are_slots_in (xs ++ x ∷ []) (bytes ++ s ∷ []) (record {
-      all = list_all-append is_slot xs (x ∷ []) ∙ ap (λ b. b && (is_slot x && true)) are.all ∙ ap (λ b. b && true) slot;
-      parts = map-append slot_bytes xs (x ∷ []) ∙ ap (λ (l : List (List ℕ)). l ++ slot_bytes x ∷ []) are.parts ∙ ap (λ (t : List ℕ). bytes ++ t ∷ []) same;
+slots_push : (g : Geometry) (track n : ℕ) (xs : List Record) (slots : List VtocSlot) (x : Record) → slots_in g track xs ≡ Some slots → is_slot x ≡ true → n ≡ 1 + length xs → slots_in g track (xs ++ x ∷ []) ≡ Some (slots ++ slot_at g track n x ∷ [])
+slots_push g track n xs slots x is slot number =
+    let are = slots_are g track xs slots is in
+    are_slots_in g track (xs ++ x ∷ []) (slots ++ slot_at g track n x ∷ []) (record {
+      all = list_all-append is_slot xs (x ∷ []) ∙ ap (λ (b : Bool). b && (is_slot x && true)) are.all ∙ ap (λ (b : Bool). b && true) slot;
+      parts = slots_from-push g track 1 n xs x number ∙ ap (λ (l : List VtocSlot). l ++ slot_at g track n x ∷ []) are.parts;
     })
 
-pub so_far_more : (g : Geometry) (track passed at r : ℕ) (records : List Record) (old new after : List ReadSlot) (x : ReadSlot) (s : List ℕ) → option_and_then slot_of (slice_get records at) ≡ Some s → at ≡ passed → r ≡ passed + 1 → IsRead x (record { address = record_address g track r; bytes = s }) → after ≡ new ++ x ∷ [] → AddsSoFar g track records passed old new → AddsSoFar g track records (passed + 1) old after
-so_far_more g track passed at r records old new after x s found same number read pushed before =
+pub so_far_more : (g : Geometry) (track passed at r : ℕ) (records : List Record) (old new after : List VtocSlot) (y : VtocSlot) (s : List ℕ) → option_and_then slot_of (slice_get records at) ≡ Some s → at ≡ passed → r ≡ passed + 1 → y ≡ record { address = record_address g track r; content = decoded s } → after ≡ new ++ y ∷ [] → AddsSoFar g track records passed old new → AddsSoFar g track records (passed + 1) old after
+so_far_more g track passed at r records old new after y s found same number read pushed before =
     let slot = slot_there (slice_get records passed) s (ap (λ (n : ℕ). option_and_then slot_of (slice_get records n)) (sym same) ∙ found) in
-    let next : r ≡ 1 + length before.bytes = omega (arith, before.many, number) in
+    let next : r ≡ 1 + length (take passed records) = omega (arith, before.many, number) in
+    let front : take (passed + 1) records ≡ take passed records ++ slot.x ∷ [] = ap (λ (n : ℕ). take n records) (add-one passed) ∙ take_slot records passed slot.x slot.there in
+    let this : slot_at g track r slot.x ≡ y = ap (λ (b : List ℕ). record { address = record_address g track r; content = decoded b }) slot.bytes ∙ sym read in
     record {
-      bytes = before.bytes ++ s ∷ [];
-      slots = before.slots ++ x ∷ [];
+      slots = before.slots ++ y ∷ [];
       are_slots =
-          ap (λ (n : ℕ). slots_in (take n records)) (add-one passed)
-          ∙ ap slots_in (take_slot records passed slot.x slot.there)
-          ∙ slots_push (take passed records) before.bytes slot.x s before.are_slots slot.is slot.bytes;
-      many = length-append before.bytes (s ∷ []) ∙ ap (λ (n : ℕ). n + 1) before.many;
-      added = pushed ∙ ap (λ (l : List ReadSlot). l ++ x ∷ []) before.added ∙ append_assoc old before.slots (x ∷ []);
-      read =
-          subst (λ l. AreRead (before.slots ++ x ∷ []) l) (sym (addressed_from-push g track 1 r before.bytes s next))
-          (AreRead-append before.slots (x ∷ []) (addressed_from g track 1 before.bytes) (record { address = record_address g track r; bytes = s } ∷ []) before.read (read, tt));
+          ap (λ (l : List Record). slots_in g track l) front
+          ∙ slots_push g track r (take passed records) before.slots slot.x before.are_slots slot.is next
+          ∙ ap (λ (z : VtocSlot). Some (before.slots ++ z ∷ [])) this;
+      many = ap length front ∙ length-append (take passed records) (slot.x ∷ []) ∙ ap (λ (n : ℕ). n + 1) before.many;
+      added = pushed ∙ ap (λ (l : List VtocSlot). l ++ y ∷ []) before.added ∙ append_assoc old before.slots (y ∷ []);
     }
 
 not_by : (b c : Bool) (s : List ℕ) → cond b (Some s) None ≡ None → (b && c) ≡ false
@@ -100,22 +104,19 @@ not_all [] p low none = absurd (omega arith)
 not_all (x ∷ xs) zero low none = not_by (is_slot x) (list_all is_slot xs) (slot_bytes x) none
 not_all (x ∷ xs) (suc p) low none = and_false (is_slot x) (list_all is_slot xs) (not_all xs p (omega arith) none)
 
-pub so_far_not : (records : List Record) (at : ℕ) → at < length records → option_and_then slot_of (slice_get records at) ≡ None → slots_in records ≡ None
-so_far_not records at low none = ap (λ b. cond b (Some (map slot_bytes records)) None) (not_all records at low none)
+pub so_far_not : (g : Geometry) (track : ℕ) (records : List Record) (at : ℕ) → at < length records → option_and_then slot_of (slice_get records at) ≡ None → slots_in g track records ≡ None
+so_far_not g track records at low none = ap (λ (b : Bool). cond b (Some (slots_from g track 1 records)) None) (not_all records at low none)
 
-pub so_far_all : (g : Geometry) (track passed : ℕ) (records : List Record) (old new : List ReadSlot) → length records ≤ passed → AddsSoFar g track records passed old new → Adds g track records old new
+pub so_far_all : (g : Geometry) (track passed : ℕ) (records : List Record) (old new : List VtocSlot) → length records ≤ passed → AddsSoFar g track records passed old new → Adds g track records old new
 so_far_all g track passed records old new high done = record {
-  bytes = done.bytes;
   slots = done.slots;
-  are_slots = ap slots_in (sym (take_all passed records high)) ∙ done.are_slots;
+  are_slots = ap (λ (l : List Record). slots_in g track l) (sym (take_all passed records high)) ∙ done.are_slots;
   added = done.added;
-  read = done.read;
 }
 
 -- as many slots are added as there are records
-pub adds_few : (g : Geometry) (track count : ℕ) (records : List Record) (old new : List ReadSlot) → length records ≡ count → Adds g track records old new → length new ≡ length old + count
+pub adds_few : (g : Geometry) (track count : ℕ) (records : List Record) (old new : List VtocSlot) → length records ≡ count → Adds g track records old new → length new ≡ length old + count
 adds_few g track count records old new many adds =
-    let are = slots_are records adds.bytes adds.are_slots in
-    let bytes : length adds.bytes ≡ count = sym (ap length are.parts) ∙ length-map records slot_bytes ∙ many in
-    let slots : length adds.slots ≡ count = AreRead-length adds.slots (addressed_from g track 1 adds.bytes) adds.read ∙ length-addressed_from g track 1 adds.bytes ∙ bytes in
+    let are = slots_are g track records adds.slots adds.are_slots in
+    let slots : length adds.slots ≡ count = sym (ap length are.parts) ∙ length-slots_from g track 1 records ∙ many in
     ap length adds.added ∙ length-append old adds.slots ∙ ap (λ (n : ℕ). length old + n) slots

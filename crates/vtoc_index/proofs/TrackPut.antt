@@ -1,19 +1,21 @@
 -- A track of slots, of which one is written over.
-use Rattle.std.proofs.Common.{◌≡◌, ◌<◌, ◌+◌, ◌*◌, ℕ, zero, suc, Bool, true, false, cond, List, [], ◌∷◌, ◌++◌, length, drop, Option, Some, None, refl, sym, ◌∙◌, ap, arith}
-use Rattle.std.specs.Prelude.{map, ◌&&◌, ◌==◌, option_and_then, unwrap_or}
+use Rattle.std.proofs.Common.{◌≡◌, ◌<◌, ◌+◌, ◌*◌, ℕ, zero, suc, Bool, true, false, cond, List, [], ◌∷◌, ◌++◌, length, drop, Option, Some, None, Result, Ok, refl, sym, ◌∙◌, ap, arith}
+use Rattle.std.specs.Prelude.{◌&&◌, ◌==◌, option_and_then, unwrap_or}
 use Rattle.std.specs.List.{list_all}
 use Rattle.std.specs.Option.{option_map}
 use Rattle.std.proofs.lemmas.Bool.{and_parts, eqb-true, eq-eqb}
 use Rattle.ckd_image.specs.declared.header.Geometry.{Geometry}
 use Rattle.ckd_image.specs.Reading.{record_length}
 use Rattle.ckd_image.specs.Track.{Record}
-use Rattle.pack_spec.specs.declared.addressed.VtocSlot.{VtocSlot}
+use Rattle.dscb_codec.specs.declared.Dscb.{Dscb}
+use Rattle.dscb_codec.specs.declared.DscbErr.{DscbErr}
+use Rattle.dscb_codec.specs.Layout.{decoded}
+use Rattle.pack_spec.specs.declared.slot.VtocSlot.{VtocSlot}
 use Rattle.pack_spec.specs.Label.{records_on}
-use Rattle.pack_spec.specs.Vtoc.{is_slot, slot_bytes, slots_in, slots_on}
-use Rattle.pack_spec.specs.Slots.{addressed_from, record_address, slots_at}
-use Rattle.pack_spec.proofs.TrackSlots.{length-addressed_from}
+use Rattle.pack_spec.specs.Vtoc.{is_slot}
+use Rattle.pack_spec.specs.Slots.{slots_in, slots_on, record_address, slot_at, slots_from}
+use Rattle.vtoc_index.specs.Index.{with_dscb}
 use Rattle.track_records.specs.Updates.{HasLengths, StandFrom, length_of, offset_of, with_parts}
-use Rattle.vtoc_index.specs.Contents.{with_bytes}
 
 -- a slot has a key of 44 bytes and 96 bytes of data
 pub slot_lengths : (x : Record) → is_slot x ≡ true → (length x.key ≡ 44) × (length x.data ≡ 96)
@@ -63,71 +65,74 @@ same_lengths r zero n m bytes (x ∷ xs) (y ∷ ys) first second low has =
 same_lengths r (suc k) n m bytes (x ∷ xs) (y ∷ ys) first second low has = same_lengths (suc r) k n m (drop (record_length bytes) bytes) xs ys first.1.1 second.1.1 (omega (arith, low)) has
 
 -- the slots of records, of which one is written over
-pub put_addressed : (g : Geometry) (track r k : ℕ) (key content : List ℕ) (xs : List Record) → addressed_from g track r (map slot_bytes (with_parts k key content xs)) ≡ with_bytes k (key ++ content) (addressed_from g track r (map slot_bytes xs))
-put_addressed g track r k key content [] = refl
-put_addressed g track r zero key content (x ∷ xs) = refl
-put_addressed g track r (suc k) key content (x ∷ xs) =
-    let first : VtocSlot = record { address = record_address g track r; bytes = slot_bytes x } in
-    ap (λ (l : List VtocSlot). first ∷ l) (put_addressed g track (r + 1) k key content xs)
+pub put_slots : (g : Geometry) (track r k : ℕ) (key content : List ℕ) (d : Dscb) (xs : List Record) → decoded (key ++ content) ≡ Ok d → slots_from g track r (with_parts k key content xs) ≡ with_dscb k d (slots_from g track r xs)
+put_slots g track r k key content d [] is = refl
+put_slots g track r zero key content d (x ∷ xs) is = ap (λ (c : Result Dscb DscbErr). record { address = record_address g track r; content = c } ∷ slots_from g track (r + 1) xs) is
+put_slots g track r (suc k) key content d (x ∷ xs) is = ap (λ (l : List VtocSlot). slot_at g track r x ∷ l) (put_slots g track (r + 1) k key content d xs is)
 
-pub length-with_bytes : (k : ℕ) (bytes : List ℕ) (ss : List VtocSlot) → length (with_bytes k bytes ss) ≡ length ss
-length-with_bytes k bytes [] = refl
-length-with_bytes zero bytes (s ∷ ss) = refl
-length-with_bytes (suc k) bytes (s ∷ ss) = ap suc (length-with_bytes k bytes ss)
+pub length-with_dscb : (k : ℕ) (d : Dscb) (ss : List VtocSlot) → length (with_dscb k d ss) ≡ length ss
+length-with_dscb k d [] = refl
+length-with_dscb zero d (s ∷ ss) = refl
+length-with_dscb (suc k) d (s ∷ ss) = ap suc (length-with_dscb k d ss)
+
+-- the slots on a track; none where it breaks the rules
+abbrev pub slots_at : List ℕ → Geometry → ℕ → List VtocSlot
+slots_at image g track = unwrap_or (slots_on image g track) []
 
 -- the records that the slots of a track are
-pub record SlotRecords (image : List ℕ) (g : Geometry) (track : ℕ) (found : List (List ℕ)) : Type 0 where
+pub record SlotRecords (image : List ℕ) (g : Geometry) (track : ℕ) (found : List VtocSlot) : Type 0 where
   pub records : List Record
   pub read : records_on image g None track ≡ Some records
   pub are : list_all is_slot records ≡ true
-  pub is : found ≡ map slot_bytes records
+  pub is : found ≡ slots_from g track 1 records
 
-records_found : (image : List ℕ) (g : Geometry) (track : ℕ) (found : List (List ℕ)) (o : Option (List Record)) → records_on image g None track ≡ o → option_and_then slots_in o ≡ Some found → SlotRecords image g track found
+records_found : (image : List ℕ) (g : Geometry) (track : ℕ) (found : List VtocSlot) (o : Option (List Record)) → records_on image g None track ≡ o → option_and_then (slots_in g track) o ≡ Some found → SlotRecords image g track found
 records_found image g track found None read is = cc
 records_found image g track found (Some records) read is = by_test (list_all is_slot records) refl is
   where
-    by_test : (b : Bool) → list_all is_slot records ≡ b → cond b (Some (map slot_bytes records)) None ≡ Some found → SlotRecords image g track found
+    by_test : (b : Bool) → list_all is_slot records ≡ b → cond b (Some (slots_from g track 1 records)) None ≡ Some found → SlotRecords image g track found
     by_test true are same = record { records = records; read = read; are = are; is = cc }
     by_test false are same = cc
 
-pub slot_records : (image : List ℕ) (g : Geometry) (track : ℕ) (found : List (List ℕ)) → slots_on image g track ≡ Some found → SlotRecords image g track found
+pub slot_records : (image : List ℕ) (g : Geometry) (track : ℕ) (found : List VtocSlot) → slots_on image g track ≡ Some found → SlotRecords image g track found
 unfolding slots_on
 slot_records image g track found is = records_found image g track found (records_on image g None track) refl is
 
 -- a track with slots is one that is read
-pub slots_found : (image : List ℕ) (g : Geometry) (track k : ℕ) → k < length (slots_at image g track) → (found : List (List ℕ)) × ((slots_on image g track ≡ Some found) × (k < length found))
-unfolding slots_at
+pub slots_found : (image : List ℕ) (g : Geometry) (track k : ℕ) → k < length (slots_at image g track) → (found : List VtocSlot) × ((slots_on image g track ≡ Some found) × (k < length found))
 slots_found image g track k low = by_slots (slots_on image g track) refl low
   where
-    by_slots : (o : Option (List (List ℕ))) → slots_on image g track ≡ o → k < length (addressed_from g track 1 (unwrap_or o [])) → (found : List (List ℕ)) × ((slots_on image g track ≡ Some found) × (k < length found))
+    by_slots : (o : Option (List VtocSlot)) → slots_on image g track ≡ o → k < length (unwrap_or o []) → (found : List VtocSlot) × ((slots_on image g track ≡ Some found) × (k < length found))
     by_slots None is below = absurd (omega (arith, below))
-    by_slots (Some found) is below = (found, (is, omega (arith, below, length-addressed_from g track 1 found)))
+    by_slots (Some found) is below = (found, (is, below))
 
 -- the slots of a track, by its records
-pub slots_by : (image : List ℕ) (g : Geometry) (track : ℕ) (records : List Record) → records_on image g None track ≡ Some records → list_all is_slot records ≡ true → slots_on image g track ≡ Some (map slot_bytes records)
+pub slots_by : (image : List ℕ) (g : Geometry) (track : ℕ) (records : List Record) → records_on image g None track ≡ Some records → list_all is_slot records ≡ true → slots_on image g track ≡ Some (slots_from g track 1 records)
 unfolding slots_on
 slots_by image g track records read are =
-    ap (option_and_then slots_in) read ∙ ap (λ (b : Bool). cond b (Some (map slot_bytes records)) None) are
+    ap (option_and_then (slots_in g track)) read ∙ ap (λ (b : Bool). cond b (Some (slots_from g track 1 records)) None) are
 
-pub slots_at-some : (image : List ℕ) (g : Geometry) (track : ℕ) (found : List (List ℕ)) → slots_on image g track ≡ Some found → slots_at image g track ≡ addressed_from g track 1 found
-unfolding slots_at
-slots_at-some image g track found is = ap (λ (o : Option (List (List ℕ))). addressed_from g track 1 (unwrap_or o [])) is
+pub slots_at-some : (image : List ℕ) (g : Geometry) (track : ℕ) (found : List VtocSlot) → slots_on image g track ≡ Some found → slots_at image g track ≡ found
+slots_at-some image g track found is = ap (λ (o : Option (List VtocSlot)). unwrap_or o []) is
 
 -- A slot of a track was put: the track has it, and is otherwise as before.
-pub record TrackPut (image put : List ℕ) (g : Geometry) (track k : ℕ) (bytes : List ℕ) : Type 0 where
-  pub found : List (List ℕ)
+pub record TrackPut (image put : List ℕ) (g : Geometry) (track k : ℕ) (d : Dscb) : Type 0 where
+  pub found : List VtocSlot
   pub good : slots_on put g track ≡ Some found
-  pub slots : slots_at put g track ≡ with_bytes k bytes (slots_at image g track)
+  pub slots : slots_at put g track ≡ with_dscb k d (slots_at image g track)
 
-pub track_put : (image put : List ℕ) (g : Geometry) (track k : ℕ) (key content : List ℕ) (records : List Record) → length key ≡ 44 → length content ≡ 96 → records_on image g None track ≡ Some records → list_all is_slot records ≡ true
-    → records_on put g None track ≡ option_map (with_parts k key content) (records_on image g None track) → TrackPut image put g track k (key ++ content)
-track_put image put g track k key content records keys contents read are is =
+pub track_put : (image put : List ℕ) (g : Geometry) (track k : ℕ) (key content : List ℕ) (d : Dscb) (records : List Record) → length key ≡ 44 → length content ≡ 96 → decoded (key ++ content) ≡ Ok d → records_on image g None track ≡ Some records → list_all is_slot records ≡ true
+    → records_on put g None track ≡ option_map (with_parts k key content) (records_on image g None track) → TrackPut image put g track k d
+track_put image put g track k key content d records keys contents dscb read are is =
     let wrote : List Record = with_parts k key content records in
     let new : records_on put g None track ≡ Some wrote = is ∙ ap (option_map (with_parts k key content)) read in
-    let good : slots_on put g track ≡ Some (map slot_bytes wrote) = slots_by put g track wrote new (still_slots k key content records keys contents are) in
-    let old : slots_on image g track ≡ Some (map slot_bytes records) = slots_by image g track records read are in
+    let good : slots_on put g track ≡ Some (slots_from g track 1 wrote) = slots_by put g track wrote new (still_slots k key content records keys contents are) in
+    let old : slots_on image g track ≡ Some (slots_from g track 1 records) = slots_by image g track records read are in
     record {
-      found = map slot_bytes wrote;
+      found = slots_from g track 1 wrote;
       good = good;
-      slots = slots_at-some put g track (map slot_bytes wrote) good ∙ put_addressed g track 1 k key content records ∙ ap (with_bytes k (key ++ content)) (sym (slots_at-some image g track (map slot_bytes records) old));
+      slots =
+          slots_at-some put g track (slots_from g track 1 wrote) good
+          ∙ put_slots g track 1 k key content d records dscb
+          ∙ ap (with_dscb k d) (sym (slots_at-some image g track (slots_from g track 1 records) old));
     }

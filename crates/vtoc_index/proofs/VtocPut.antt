@@ -1,33 +1,32 @@
 -- The slots of a VTOC, of which one is written over.
-use Rattle.std.proofs.Common.{◌≡◌, ◌≢◌, ◌⊎◌, inl, inr, ⊎_elim, ◌<◌, ◌≤◌, ◌+◌, ◌-◌, ℕ, zero, suc, List, [], ◌∷◌, ◌++◌, length, get_or, Option, refl, sym, ◌∙◌, ap, subst, arith, length-append}
+use Rattle.vtoc_index.proofs.TrackPut.{slots_at}
+use Rattle.std.proofs.Common.{◌≡◌, ◌≢◌, ◌⊎◌, inl, inr, ⊎_elim, ◌<◌, ◌≤◌, ◌+◌, ◌-◌, ℕ, zero, suc, List, [], ◌∷◌, ◌++◌, length, get_or, Option, Result, Ok, refl, sym, ◌∙◌, ap, subst, arith, length-append}
 use Rattle.std.specs.Prelude.{map, filter}
 use Rattle.std.specs.List.{cons_option, filter_map, flat_map, range_with_len}
 use Rattle.std.proofs.Math.ListN.{set}
 use Rattle.std.proofs.lemmas.Bool.{cases_lt}
 use Rattle.std.proofs.lemmas.List.FromFn.{get_or-map-range_with_len}
 use Rattle.dscb_codec.specs.declared.Dscb.{Dscb}
-use Rattle.dscb_codec.specs.Layout.{IsDscb}
-use Rattle.ckd_image.specs.declared.header.Geometry.{Geometry}
+use Rattle.dscb_codec.specs.declared.DscbErr.{DscbErr}
 use Rattle.pack_spec.specs.declared.MountErr.{MountErr}
-use Rattle.pack_spec.specs.declared.addressed.VtocSlot.{VtocSlot}
-use Rattle.pack_spec.specs.Vtoc.{Run}
-use Rattle.pack_spec.specs.Slots.{slots_at, slots_of_vtoc, tracks_in}
-use Rattle.pack_spec.specs.Faults.{track_fault, track_faults}
-use Rattle.vtoc_index.specs.Contents.{AreDscbs, with_bytes}
-use Rattle.vtoc_index.specs.Index.{firsts_of, slots_before, slots_in_front, track_index}
+use Rattle.pack_spec.specs.declared.slot.VtocSlot.{VtocSlot}
+use Rattle.vol_model.specs.declared.contents.Run.{Run}
+use Rattle.pack_spec.specs.Slots.{slots_of_vtoc, tracks_in, track_fault, track_faults}
+use Rattle.vtoc_index.specs.Index.{AreDscbs, with_dscb, firsts_of, slots_before, slots_in_front, track_index}
 use Rattle.vtoc_index.proofs.Firsts.{Counted, counted, passes}
+use Rattle.ckd_image.specs.declared.header.Geometry.{Geometry}
 
 -- a slot behind others, or before them
-put_behind : (k : ℕ) (bytes : List ℕ) (xs ys : List VtocSlot) → with_bytes (length xs + k) bytes (xs ++ ys) ≡ xs ++ with_bytes k bytes ys
-put_behind k bytes [] ys = let none : 0 + k ≡ k = omega arith in ap (λ (n : ℕ). with_bytes n bytes ys) none
-put_behind k bytes (x ∷ xs) ys =
+put_behind : (k : ℕ) (d : Dscb) (xs ys : List VtocSlot) → with_dscb (length xs + k) d (xs ++ ys) ≡ xs ++ with_dscb k d ys
+put_behind k d [] ys = let none : 0 + k ≡ k = omega arith in ap (λ (n : ℕ). with_dscb n d ys) none
+put_behind k d (x ∷ xs) ys =
     let next : suc (length xs) + k ≡ suc (length xs + k) = omega arith in
-    ap (λ (n : ℕ). with_bytes n bytes (x ∷ (xs ++ ys))) next ∙ ap (λ (l : List VtocSlot). x ∷ l) (put_behind k bytes xs ys)
+    ap (λ (n : ℕ). with_dscb n d (x ∷ (xs ++ ys))) next ∙ ap (λ (l : List VtocSlot). x ∷ l) (put_behind k d xs ys)
 
-put_before : (k : ℕ) (bytes : List ℕ) (xs ys : List VtocSlot) → k < length xs → with_bytes k bytes (xs ++ ys) ≡ with_bytes k bytes xs ++ ys
-put_before k bytes [] ys low = absurd (omega (arith, low))
-put_before zero bytes (x ∷ xs) ys low = refl
-put_before (suc k) bytes (x ∷ xs) ys low = ap (λ (l : List VtocSlot). x ∷ l) (put_before k bytes xs ys (omega (arith, low)))
+put_before : (k : ℕ) (d : Dscb) (xs ys : List VtocSlot) → k < length xs → with_dscb k d (xs ++ ys) ≡ with_dscb k d xs ++ ys
+put_before k d [] ys low = absurd (omega (arith, low))
+put_before zero d (x ∷ xs) ys low = refl
+put_before (suc k) d (x ∷ xs) ys low = ap (λ (l : List VtocSlot). x ∷ l) (put_before k d xs ys (omega (arith, low)))
 
 -- lists of tracks that are the same from one on
 same_tracks : (f h : ℕ → List VtocSlot) (a n : ℕ) → ((j : ℕ) → a ≤ j → h j ≡ f j) → flat_map h (range_with_len a n) ≡ flat_map f (range_with_len a n)
@@ -37,23 +36,23 @@ same_tracks f h a (suc n) same =
     ∙ ap (λ (l : List VtocSlot). f a ++ l) (same_tracks f h (a + 1) n (λ j past. same j (omega (arith, past))))
 
 -- a slot of one track is put, and the others are as before
-pub put_tracks : (f h : ℕ → List VtocSlot) (bytes : List ℕ) (a n i k t : ℕ) → i < n → t ≡ a + i → k < length (f t) → h t ≡ with_bytes k bytes (f t) → ((j : ℕ) → j ≢ t → h j ≡ f j)
-    → flat_map h (range_with_len a n) ≡ with_bytes (length (flat_map f (range_with_len a i)) + k) bytes (flat_map f (range_with_len a n))
-put_tracks f h bytes a zero i k t inside at low put others = absurd (omega (arith, inside))
-put_tracks f h bytes a (suc n) zero k t inside at low put others =
+pub put_tracks : (f h : ℕ → List VtocSlot) (d : Dscb) (a n i k t : ℕ) → i < n → t ≡ a + i → k < length (f t) → h t ≡ with_dscb k d (f t) → ((j : ℕ) → j ≢ t → h j ≡ f j)
+    → flat_map h (range_with_len a n) ≡ with_dscb (length (flat_map f (range_with_len a i)) + k) d (flat_map f (range_with_len a n))
+put_tracks f h d a zero i k t inside at low put others = absurd (omega (arith, inside))
+put_tracks f h d a (suc n) zero k t inside at low put others =
     let here : t ≡ a = omega (arith, at) in
     let none : 0 + k ≡ k = omega arith in
     let below : k < length (f a) = subst (λ (j : ℕ). k < length (f j)) here low in
-    ap (λ (l : List VtocSlot). l ++ flat_map h (range_with_len (a + 1) n)) (subst (λ (j : ℕ). h j ≡ with_bytes k bytes (f j)) here put)
-    ∙ ap (λ (l : List VtocSlot). with_bytes k bytes (f a) ++ l) (same_tracks f h (a + 1) n (λ j past. others j (omega (arith, past, here))))
-    ∙ sym (put_before k bytes (f a) (flat_map f (range_with_len (a + 1) n)) below)
-    ∙ ap (λ (m : ℕ). with_bytes m bytes (f a ++ flat_map f (range_with_len (a + 1) n))) (sym none)
-put_tracks f h bytes a (suc n) (suc i) k t inside at low put others =
+    ap (λ (l : List VtocSlot). l ++ flat_map h (range_with_len (a + 1) n)) (subst (λ (j : ℕ). h j ≡ with_dscb k d (f j)) here put)
+    ∙ ap (λ (l : List VtocSlot). with_dscb k d (f a) ++ l) (same_tracks f h (a + 1) n (λ j past. others j (omega (arith, past, here))))
+    ∙ sym (put_before k d (f a) (flat_map f (range_with_len (a + 1) n)) below)
+    ∙ ap (λ (m : ℕ). with_dscb m d (f a ++ flat_map f (range_with_len (a + 1) n))) (sym none)
+put_tracks f h d a (suc n) (suc i) k t inside at low put others =
     let before : List VtocSlot = flat_map f (range_with_len (a + 1) i) in
     let place : length (f a ++ before) + k ≡ length (f a) + (length before + k) = omega (arith, length-append (f a) before) in
     ap (λ (l : List VtocSlot). l ++ flat_map h (range_with_len (a + 1) n)) (others a (omega (arith, at)))
-    ∙ ap (λ (l : List VtocSlot). f a ++ l) (put_tracks f h bytes (a + 1) n i k t (omega (arith, inside)) (omega (arith, at)) low put others)
-    ∙ sym (ap (λ (m : ℕ). with_bytes m bytes (f a ++ flat_map f (range_with_len (a + 1) n))) place ∙ put_behind (length before + k) bytes (f a) (flat_map f (range_with_len (a + 1) n)))
+    ∙ ap (λ (l : List VtocSlot). f a ++ l) (put_tracks f h d (a + 1) n i k t (omega (arith, inside)) (omega (arith, at)) low put others)
+    ∙ sym (ap (λ (m : ℕ). with_dscb m d (f a ++ flat_map f (range_with_len (a + 1) n))) place ∙ put_behind (length before + k) d (f a) (flat_map f (range_with_len (a + 1) n)))
 
 -- as many slots on each track are as many on all
 same_count : (f h : ℕ → List VtocSlot) (a n : ℕ) → ((j : ℕ) → length (h j) ≡ length (f j)) → length (flat_map h (range_with_len a n)) ≡ length (flat_map f (range_with_len a n))
@@ -115,12 +114,12 @@ slot_stands image g vtoc firsts slot is low = by_count (counted count 0 vtoc.len
         subst (λ (n : ℕ). Stands image g vtoc n (slots_in_front firsts slot) slot) (sym index) stands
 
 -- a put slot is one of all
-pub vtoc_put : (image put : List ℕ) (g : Geometry) (vtoc : Run) (bytes : List ℕ) (index front slot : ℕ) → Stands image g vtoc index front slot → slots_at put g (vtoc.start + index) ≡ with_bytes front bytes (slots_at image g (vtoc.start + index)) → ((j : ℕ) → j ≢ vtoc.start + index → slots_at put g j ≡ slots_at image g j)
-    → slots_of_vtoc put g vtoc ≡ with_bytes slot bytes (slots_of_vtoc image g vtoc)
+pub vtoc_put : (image put : List ℕ) (g : Geometry) (vtoc : Run) (d : Dscb) (index front slot : ℕ) → Stands image g vtoc index front slot → slots_at put g (vtoc.start + index) ≡ with_dscb front d (slots_at image g (vtoc.start + index)) → ((j : ℕ) → j ≢ vtoc.start + index → slots_at put g j ≡ slots_at image g j)
+    → slots_of_vtoc put g vtoc ≡ with_dscb slot d (slots_of_vtoc image g vtoc)
 unfolding slots_of_vtoc
-vtoc_put image put g vtoc bytes index front slot stands track others =
-    put_tracks (slots_at image g) (slots_at put g) bytes vtoc.start vtoc.len index front (vtoc.start + index) stands.inside refl stands.there track others
-    ∙ ap (λ (n : ℕ). with_bytes n bytes (flat_map (slots_at image g) (range_with_len vtoc.start vtoc.len))) stands.number
+vtoc_put image put g vtoc d index front slot stands track others =
+    put_tracks (slots_at image g) (slots_at put g) d vtoc.start vtoc.len index front (vtoc.start + index) stands.inside refl stands.there track others
+    ∙ ap (λ (n : ℕ). with_dscb n d (flat_map (slots_at image g) (range_with_len vtoc.start vtoc.len))) stands.number
 
 same_map : (f h : ℕ → ℕ) (xs : List ℕ) → ((j : ℕ) → h j ≡ f j) → map h xs ≡ map f xs
 same_map f h [] same = refl
@@ -140,12 +139,22 @@ unfolding track_faults
 same_faults image put g vtoc same = same_filtered (track_fault image g) (track_fault put g) (tracks_in vtoc) same
 
 -- a DSCB in a slot
-pub dscbs_put : (slot : ℕ) (d : Dscb) (bytes : List ℕ) (ds : List Dscb) (ss : List VtocSlot) → IsDscb d bytes → AreDscbs ds ss → AreDscbs (set ds slot d) (with_bytes slot bytes ss)
-dscbs_put slot d bytes [] [] is are = tt
-dscbs_put slot d bytes [] (s ∷ ss) is are = absurd are
-dscbs_put slot d bytes (x ∷ ds) [] is are = absurd are
-dscbs_put zero d bytes (x ∷ ds) (s ∷ ss) is are = (is, are.1)
-dscbs_put (suc slot) d bytes (x ∷ ds) (s ∷ ss) is are = (are.0, dscbs_put slot d bytes ds ss is are.1)
+pub dscbs_put : (slot : ℕ) (d : Dscb) (ds : List Dscb) (ss : List VtocSlot) → AreDscbs ds ss → AreDscbs (set ds slot d) (with_dscb slot d ss)
+dscbs_put slot d [] [] are = refl
+dscbs_put slot d [] (s ∷ ss) are = cc
+dscbs_put slot d (x ∷ ds) [] are = cc
+dscbs_put zero d (x ∷ ds) (s ∷ ss) are = ap (λ (l : List (Result Dscb DscbErr)). Ok d ∷ l) (others are)
+  where
+    others : s.content ∷ map (λ (t : VtocSlot). t.content) ss ≡ Ok x ∷ map Ok ds → map (λ (t : VtocSlot). t.content) ss ≡ map Ok ds
+    others same = cc
+dscbs_put (suc slot) d (x ∷ ds) (s ∷ ss) are =
+    ap (λ (r : Result Dscb DscbErr). r ∷ map (λ (t : VtocSlot). t.content) (with_dscb slot d ss)) first ∙ ap (λ (l : List (Result Dscb DscbErr)). Ok x ∷ l) (dscbs_put slot d ds ss others)
+  where
+    first : s.content ≡ Ok x
+    first = cc
+
+    others : map (λ (t : VtocSlot). t.content) ss ≡ map Ok ds
+    others = cc
 
 -- two numbers are the same or apart
 pub same_or_apart : (m n : ℕ) → (m ≡ n) ⊎ (m ≢ n)

@@ -1,7 +1,5 @@
-pub mod Contents
-pub mod Rules
-pub mod Reading
-pub mod Index
-pub mod Puts
-pub mod Kept
 pub mod Calls
+pub mod Index
+pub mod Kept
+pub mod Puts
+pub mod Reading

@@ -1,70 +1,66 @@
-//! The extent of the VTOC.
-ghost use Rattle.std.specs.Prelude.{◌≡◌, ℕ, ◌≤◌, ◌+◌, ◌-◌, ◌++◌, take, length, IsTrue, IfOk, IfErr, IsErrOf, Some, Ok, Err, slice_get, option_and_then};
+//! Extents, as the DSCBs of data sets and of the VTOC have them.
+ghost use Rattle.std.specs.Prelude.{◌≡◌, ℕ};
 ghost use Rattle.ckd_image.specs.Header.{HasGeometry};
-ghost use Rattle.pack_spec.specs.Label.{is_inside, track_of_address};
-ghost use Rattle.pack_spec.specs.Views.{address_of, tracks_of};
-ghost use Rattle.pack_spec.specs.Vtoc.{first_slot, vtoc_by};
-ghost use Rattle.vtoc_index.specs.Index.{run_of};
-ghost use Rattle.vtoc_index.specs.Reading.{IsExtent, slot_of};
+ghost use Rattle.pack_spec.specs.Vtoc.{is_counted_type, is_extent, is_field_type, lower_of, type_of, upper_of};
 
 use ckd_image::Geometry;
-use pack_spec::layout::{DATA_LEN, KEY_LEN, SLOT_LEN, Slot};
-use pack_spec::{Address, MountErr, vtoc_extent};
-use track_records::TrackBuf;
-use vol_model::Run;
+use pack_spec::Address;
+use pack_spec::layout::{
+    self, CYLINDER_EXTENT, DATA_EXTENT, LOWER_AT, NO_EXTENT, TYPE_AT, UPPER_AT,
+};
 
-// The extent of the VTOC that begins at an address of the label, where the buffer holds the first slot there.
-pub(crate) fn extent_held(buf: &TrackBuf, geometry: Geometry, at: Address) -> Result<Run, MountErr>
-    requires whole { (len : ℕ) × HasGeometry len geometry }
-    requires inside { IsTrue (is_inside geometry (address_of at)) }
-    ensures found { IfOk result (λ vtoc. vtoc_by geometry (address_of at) (first_slot (take 1 buf.now.records)) ≡ Ok (run_of vtoc)) }
-    ensures refused { IfErr result (λ e. vtoc_by geometry (address_of at) (first_slot (take 1 buf.now.records)) ≡ Err e) }
-    ensures extent { IfOk result (IsExtent geometry (address_of at)) }
-    ensures device { IsErrOf result MountErr.Device → ⊥ }
-    ensures file { IsErrOf result MountErr.NoFile → ⊥ }
-{
-    match first_slot(buf) {
-        Some(slot) => match vtoc_extent(geometry, at, &slot) {
-            Some(vtoc) => Ok(vtoc),
-            None => Err(MountErr::BadVtoc),
-        },
-        None => Err(MountErr::VtocTrack {
-            track: at.track(geometry),
-        }),
+// The bytes of an extent in a DSCB.
+pub(crate) type Row = layout::Extent;
+
+// An extent, or a field for one that has none.
+#[derive(Clone, Copy)]
+pub(crate) struct Extent {
+    pub kind: u8,
+    // Its first track.
+    pub lower: Address,
+    // Its last track.
+    pub upper: Address,
+}
+
+impl Extent {
+    // The extent that a DSCB has.
+    pub(crate) fn read(row: &Row) -> Extent
+        ensures kind { result.kind ≡ type_of row.now }
+        ensures lower { result.lower ≡ lower_of row.now }
+        ensures upper { result.upper ≡ upper_of row.now }
+    {
+        Extent {
+            kind: row[TYPE_AT],
+            lower: Address::read(row, LOWER_AT),
+            upper: Address::read(row, UPPER_AT),
+        }
     }
 }
 
-// The slot that is R1 in the buffer, if it is one.
-fn first_slot(buf: &TrackBuf) -> Option<Slot>
-    ensures { result ≡ first_slot (take 1 buf.now.records) }
+// Whether a field for an extent has one whose type is read, or none.
+pub(crate) fn is_field_type(row: &Row) -> bool
+    ensures { result ≡ is_field_type row.now }
 {
-    if buf.len() == 0 {
-        return None;
-    }
-    slot_held(buf, 1)
+    matches!(
+        Extent::read(row).kind,
+        NO_EXTENT | DATA_EXTENT | CYLINDER_EXTENT
+    )
 }
 
-// The slot that is Rr in the buffer, if it has a slot's lengths.
-pub(crate) fn slot_held(buf: &TrackBuf, r: u8) -> Option<Slot>
-    requires first { 1 ≤ r }
-    requires last { r ≤ length buf.now.records }
-    ensures { option_and_then slot_of (slice_get buf.now.records (r - 1)) ≡ result }
+// Whether an extent has a type that is read.
+pub(crate) fn is_counted_type(row: &Row) -> bool
+    ensures { result ≡ is_counted_type row.now }
 {
-    let key = buf.key(r);
-    let content = buf.data(r);
-    if key.len() != KEY_LEN || content.len() != DATA_LEN {
-        return None;
-    }
-    let mut slot = [0; SLOT_LEN];
-    join(&mut slot, key, content);
-    Some(slot)
+    matches!(Extent::read(row).kind, DATA_EXTENT | CYLINDER_EXTENT)
 }
 
-// Fills the bytes with two parts, one behind the other.
-fn join(bytes: &mut [u8], front: &[u8], back: &[u8])
-    requires { length bytes.old ≡ length front.now + length back.now }
-    ensures { bytes.new ≡ front.now ++ back.now }
+// Whether an extent is a run of tracks of the image.
+pub(crate) fn is_extent(geometry: Geometry, row: &Row) -> bool
+    requires { (len : ℕ) × HasGeometry len geometry }
+    ensures { result ≡ is_extent geometry row.now }
 {
-    bytes[..front.len()].copy_from_slice(front);
-    bytes[front.len()..].copy_from_slice(back);
+    let extent = Extent::read(row);
+    extent.lower.is_inside(geometry)
+        && extent.upper.is_inside(geometry)
+        && extent.lower.track(geometry) <= extent.upper.track(geometry)
 }

@@ -2,8 +2,8 @@
 ghost use Rattle.std.specs.Prelude.{◌≡◌, ◌<◌, length, take, IsTrue, IfOk, IfErr, IsErrOf, Ok};
 ghost use Rattle.ckd_image.specs.Header.{HasGeometry, geometry_of};
 ghost use Rattle.hall_core.specs.Facts.{unit_of};
-ghost use Rattle.hall_core.specs.Files.{image_of};
-ghost use Rattle.hall_core.specs.Moments.{Same};
+ghost use Rattle.hall_core.specs.Images.{image_in};
+ghost use Rattle.stop_model.specs.Moments.{Same};
 ghost use Rattle.pack_spec.specs.Volume.{volume_of};
 ghost use Rattle.vtoc_index.specs.Calls.{MountCall};
 ghost use Rattle.vtoc_index.specs.Reading.{Refuses};
@@ -16,8 +16,10 @@ use pack_spec::MountErr;
 pub(crate) fn read_geometry<H: Hall>(hall: &mut H, unit: u8) -> Result<Geometry, MountErr>
     requires { unit < length (H.facts hall.old).units }
     ensures whole { IfOk result (HasGeometry (unit_of (H.facts hall.old).units unit).size) }
-    ensures read { let image = image_of (H.meaning hall.old).state (H.facts hall.old) unit in IsTrue H.tells → IfOk result (λ g. geometry_of (take 512 image) (length image) ≡ Ok g) }
-    ensures refused { IsTrue H.tells → IfErr result (Refuses (volume_of (image_of (H.meaning hall.old).state (H.facts hall.old) unit))) }
+    ensures read { let image = image_in (H.meaning hall.old) (H.facts hall.old) unit in
+        IsTrue H.tells → IfOk result (λ g. geometry_of (take 512 image) (length image) ≡ Ok g) }
+    ensures refused { let image = image_in (H.meaning hall.old) (H.facts hall.old) unit in
+        IsTrue H.tells → IfErr result (Refuses (volume_of image)) }
     ensures told { IsTrue H.tells → Same (H.meaning hall.old) (H.meaning hall.new) }
     ensures call { MountCall (H.facts hall.old) (H.facts hall.new) result }
     ensures file { IsErrOf result MountErr.NoFile → ⊥ }

@@ -3,10 +3,9 @@ ghost use Rattle.std.specs.Prelude.{◌≡◌, ◌<◌, ◌≤◌, ◌-◌, leng
 ghost use Rattle.std.specs.Option.{option_copied};
 ghost use Rattle.ckd_image.specs.Header.{HasGeometry};
 ghost use Rattle.hall_core.specs.Facts.{unit_of};
-ghost use Rattle.hall_core.specs.Files.{image_of};
-ghost use Rattle.hall_core.specs.Moments.{Same};
+ghost use Rattle.hall_core.specs.Images.{image_in};
+ghost use Rattle.stop_model.specs.Moments.{Same};
 ghost use Rattle.pack_spec.specs.Label.{address_at, are_label, is_keyed, label_in, label_of};
-ghost use Rattle.pack_spec.specs.Views.{address_of};
 ghost use Rattle.pack_spec.specs.Volume.{volume_within};
 ghost use Rattle.pack_spec.specs.Vtoc.{vtoc_of};
 ghost use Rattle.vtoc_index.specs.Calls.{MountCall};
@@ -40,8 +39,11 @@ pub(crate) fn read_label<H: Hall>(
 ) -> Result<Label, MountErr>
     requires attached { unit < length (H.facts hall.old).units }
     requires whole { HasGeometry (unit_of (H.facts hall.old).units unit).size buf.old.geometry }
-    ensures label { IsTrue H.tells → IfOk result (IsLabel (label_of (image_of (H.meaning hall.old).state (H.facts hall.old) unit) buf.old.geometry)) }
-    ensures refused { let image = image_of (H.meaning hall.old).state (H.facts hall.old) unit in IsTrue H.tells → IfErr result (Refuses (volume_within image buf.old.geometry (vtoc_of image buf.old.geometry))) }
+    ensures label { let image = image_in (H.meaning hall.old) (H.facts hall.old) unit in
+        IsTrue H.tells → IfOk result (IsLabel (label_of image buf.old.geometry)) }
+    ensures refused { let image = image_in (H.meaning hall.old) (H.facts hall.old) unit in
+        IsTrue H.tells → IfErr result (Refuses
+        (volume_within image buf.old.geometry (vtoc_of image buf.old.geometry))) }
     ensures geometry { buf.new.geometry ≡ buf.old.geometry }
     ensures told { IsTrue H.tells → Same (H.meaning hall.old) (H.meaning hall.new) }
     ensures call { MountCall (H.facts hall.old) (H.facts hall.new) result }
@@ -82,7 +84,8 @@ fn label_data(buf: &TrackBuf) -> Option<&[u8]>
 // Whether the three records are those of the initial program and the label.
 fn are_label(buf: &TrackBuf) -> bool
     requires { length buf.now.records ≡ 3 }
-    ensures test { result ≡ are_label (record_number buf.now.records 0) (record_number buf.now.records 1) (record_number buf.now.records 2) }
+    ensures test { result ≡ are_label (record_number buf.now.records 0)
+        (record_number buf.now.records 1) (record_number buf.now.records 2) }
     ensures len { IsTrue result → length (record_number buf.now.records 2).data ≡ 80 }
 {
     is_keyed(buf, 1, IPL1, IPL1_LEN)
@@ -124,7 +127,7 @@ fn data_held(buf: &TrackBuf, r: u8) -> &[u8]
 fn label_of(label: &[u8]) -> Label
     requires { length label.now ≡ 80 }
     ensures serial { result.serial.bytes ≡ slice_range label.now 4 10 }
-    ensures vtoc { address_of result.vtoc ≡ address_at 11 label.now }
+    ensures vtoc { result.vtoc ≡ address_at 11 label.now }
 {
     let mut bytes = [0; 6];
     bytes.copy_from_slice(&label[SERIAL_AT..SERIAL_AT + 6]);

@@ -1,8 +1,8 @@
 //! One slot of a VTOC, written over.
 ghost use Rattle.std.specs.Prelude.{◌≡◌, ◌⊎◌, ◌<◌, ◌≤◌, ◌+◌, ◌-◌, [], length, filter, nat_le, slice_index, IsOk, IsTrue, OnOk};
 ghost use Rattle.hall_core.specs.Facts.{DeviceCall, unit_of};
-ghost use Rattle.hall_core.specs.Files.{image_of};
-ghost use Rattle.hall_core.specs.Moments.{Same};
+ghost use Rattle.hall_core.specs.Images.{image_in};
+ghost use Rattle.stop_model.specs.Moments.{Same};
 ghost use Rattle.track_records.specs.Calls.{HasTrack};
 ghost use Rattle.track_records.specs.Updates.{HasLengths};
 ghost use Rattle.track_records.specs.Written.{StandsOn};
@@ -35,8 +35,12 @@ struct Place {
 pub fn put_slot<H: Hall>(hall: &mut H, vol: &mut Vol, slot: u32, dscb: &Dscb) -> Result<(), Device>
     requires unit { IsOfUnit (H.facts hall.old).units vol.old }
     requires slot { slot < length vol.old.slots.items }
-    requires index { IsTrue H.tells → IsIndexOf (image_of (H.meaning hall.old).state (H.facts hall.old) vol.old.unit) vol.old }
-    ensures told { IsTrue H.tells → AfterPut (unit_of (H.facts hall.old).units vol.old.unit).name vol.old slot dscb.now vol.new (image_of (H.meaning hall.old).state (H.facts hall.old) vol.old.unit) (image_of (H.meaning hall.new).state (H.facts hall.new) vol.old.unit) (H.meaning hall.old) (H.meaning hall.new) result }
+    requires index { let image = image_in (H.meaning hall.old) (H.facts hall.old) vol.old.unit in
+        IsTrue H.tells → IsIndexOf image vol.old }
+    ensures told { let image = image_in (H.meaning hall.old) (H.facts hall.old) vol.old.unit in
+        IsTrue H.tells → AfterPut (unit_of (H.facts hall.old).units vol.old.unit).name vol.old slot
+        dscb.now vol.new image (image_in (H.meaning hall.new) (H.facts hall.new) vol.old.unit)
+        (H.meaning hall.old) (H.meaning hall.new) result }
     ensures index { IsWith slot dscb.now vol.old vol.new result }
     ensures unit { IsOfUnit (H.facts hall.new).units vol.new }
     ensures call { DeviceCall (H.facts hall.old) (H.facts hall.new) result }
@@ -92,12 +96,16 @@ fn hold<H: Hall>(hall: &mut H, unit: u8, place: Place, buf: &mut TrackBuf) -> Re
     requires unit { buf.old.unit ≡ unit }
     requires track { HasTrack (H.facts hall.old).units unit buf.old.geometry place.track }
     requires first { 1 ≤ place.number }
-    requires there { IsTrue H.tells → HasSlot (image_of (H.meaning hall.old).state (H.facts hall.old) unit) buf.old.geometry place.track place.number }
-    requires held { IsTrue H.tells → IsHeld (image_of (H.meaning hall.old).state (H.facts hall.old) unit) buf.old }
-    ensures buffer { OnOk result (buf.new ≡ record buf.old { track = place.track; records = buf.new.records }) }
+    requires there { let image = image_in (H.meaning hall.old) (H.facts hall.old) unit in
+        IsTrue H.tells → HasSlot image buf.old.geometry place.track place.number }
+    requires held { let image = image_in (H.meaning hall.old) (H.facts hall.old) unit in
+        IsTrue H.tells → IsHeld image buf.old }
+    ensures buffer { OnOk result (buf.new
+        ≡ record buf.old { track = place.track; records = buf.new.records }) }
     ensures kept { (buf.new.geometry ≡ buf.old.geometry) × (buf.new.unit ≡ buf.old.unit) }
     ensures lengths { OnOk result (HasLengths buf.new.records (place.number - 1) 44 96) }
-    ensures stands { IsTrue H.tells → OnOk result (StandsOn (image_of (H.meaning hall.new).state (H.facts hall.new) unit) buf.new) }
+    ensures stands { IsTrue H.tells → OnOk result
+        (StandsOn (image_in (H.meaning hall.new) (H.facts hall.new) unit) buf.new) }
     ensures told { IsTrue H.tells → Same (H.meaning hall.old) (H.meaning hall.new) }
     ensures call { DeviceCall (H.facts hall.old) (H.facts hall.new) result }
 {
@@ -115,11 +123,16 @@ fn fetch<H: Hall>(hall: &mut H, unit: u8, place: Place, buf: &mut TrackBuf) -> R
     requires unit { buf.old.unit ≡ unit }
     requires track { HasTrack (H.facts hall.old).units unit buf.old.geometry place.track }
     requires first { 1 ≤ place.number }
-    requires there { IsTrue H.tells → HasSlot (image_of (H.meaning hall.old).state (H.facts hall.old) unit) buf.old.geometry place.track place.number }
-    requires held { IsTrue H.tells → IsHeld (image_of (H.meaning hall.old).state (H.facts hall.old) unit) buf.old }
+    requires there { let image = image_in (H.meaning hall.old) (H.facts hall.old) unit in
+        IsTrue H.tells → HasSlot image buf.old.geometry place.track place.number }
+    requires held { let image = image_in (H.meaning hall.old) (H.facts hall.old) unit in
+        IsTrue H.tells → IsHeld image buf.old }
     ensures buffer { buf.new ≡ record buf.old { track = place.track; records = buf.new.records } }
-    ensures again { buf.old.track ≡ place.track → place.number ≤ length buf.old.records → IsOk result × (buf.new ≡ buf.old) }
-    ensures stands { IsTrue H.tells → OnOk result ((place.number ≤ length buf.new.records) × StandsOn (image_of (H.meaning hall.old).state (H.facts hall.old) unit) buf.new) }
+    ensures again { buf.old.track ≡ place.track → place.number ≤ length buf.old.records
+        → IsOk result × (buf.new ≡ buf.old) }
+    ensures stands { let image = image_in (H.meaning hall.old) (H.facts hall.old) unit in
+        IsTrue H.tells → OnOk result ((place.number ≤ length buf.new.records)
+        × StandsOn image buf.new) }
     ensures told { IsTrue H.tells → Same (H.meaning hall.old) (H.meaning hall.new) }
     ensures call { DeviceCall (H.facts hall.old) (H.facts hall.new) result }
 {
@@ -141,7 +154,8 @@ fn fetch<H: Hall>(hall: &mut H, unit: u8, place: Place, buf: &mut TrackBuf) -> R
 fn holds_slot(buf: &TrackBuf, r: u8) -> bool
     requires { 1 ≤ r }
     ensures slot { IsTrue result → HasLengths buf.now.records (r - 1) 44 96 }
-    ensures other { r ≤ length buf.now.records → HasLengths buf.now.records (r - 1) 44 96 → IsTrue result }
+    ensures other { r ≤ length buf.now.records → HasLengths buf.now.records (r - 1) 44 96
+        → IsTrue result }
 {
     if usize::from(r) > buf.len() {
         return false;

@@ -2,24 +2,24 @@
 ghost use Rattle.std.specs.Prelude.{◌≡◌, ◌≢◌, ℕ, ◌≤◌, ◌<◌, ◌+◌, ◌⊎◌, length, IsTrue, IfOk, IfErr, OnOk, OnErr, IsErrOf, Some, None, Ok, Err};
 ghost use Rattle.ckd_image.specs.Header.{HasGeometry};
 ghost use Rattle.hall_core.specs.Facts.{unit_of};
-ghost use Rattle.hall_core.specs.Files.{image_of};
-ghost use Rattle.hall_core.specs.Moments.{Same};
-ghost use Rattle.pack_spec.specs.Label.{is_inside, records_on, track_of_address};
-ghost use Rattle.pack_spec.specs.Views.{address_of, tracks_of};
+ghost use Rattle.hall_core.specs.Images.{image_in};
+ghost use Rattle.stop_model.specs.Moments.{Same};
+ghost use Rattle.pack_spec.specs.Label.{is_inside, records_on, track_of_address, tracks_of};
 ghost use Rattle.pack_spec.specs.Volume.{volume_within};
-ghost use Rattle.pack_spec.specs.Vtoc.{slots_on};
+ghost use Rattle.pack_spec.specs.Slots.{slots_on};
+ghost use Rattle.pack_spec.specs.Vtoc.{vtoc_on};
 ghost use Rattle.track_records.specs.Calls.{HasTrack};
 ghost use Rattle.track_records.specs.Written.{StandsOn};
 ghost use Rattle.vtoc_index.specs.Calls.{MountCall};
-ghost use Rattle.vtoc_index.specs.Index.{IsMounted, IsOfUnit, IsReason, run_of};
-ghost use Rattle.vtoc_index.specs.Reading.{AreNumbered, AreTracksRead, IsExtent, Refuses, vtoc_on};
+ghost use Rattle.vtoc_index.specs.Index.{IsMounted, IsOfUnit, IsReason};
+ghost use Rattle.vtoc_index.specs.Reading.{AreNumbered, AreTracksRead, IsExtent, Refuses};
 
-use crate::extent::extent_held;
 use crate::header::read_geometry;
 use crate::label::read_label;
 use crate::rules::dscbs_in;
 use crate::tracks::ReadSlots;
 use crate::vol::Vol;
+use crate::vtoc_extent::extent_held;
 use ckd_image::Geometry;
 use hall_core::Hall;
 use pack_spec::{Address, MountErr};
@@ -45,11 +45,13 @@ const FIRST_SLOT: u8 = 1;
 ///
 /// Label and DSCBs follow System Control Blocks, GC28-6628; the rules and their order are this project's
 /// profile.
-#[tactic(auto, using(hall_core::proofs::MomentLemmas::same_then))]
+#[tactic(auto, using(stop_model::proofs::MomentLemmas::same_then))]
 pub fn read_vtoc<H: Hall>(alloc: Global, hall: &mut H, unit: u8) -> Result<Vol, MountErr>
     requires { unit < length (H.facts hall.old).units }
-    ensures mounted { IsTrue H.tells → IfOk result (IsMounted (image_of (H.meaning hall.old).state (H.facts hall.old) unit)) }
-    ensures refused { IsTrue H.tells → IfErr result (IsReason (image_of (H.meaning hall.old).state (H.facts hall.old) unit)) }
+    ensures mounted { let image = image_in (H.meaning hall.old) (H.facts hall.old) unit in
+        IsTrue H.tells → IfOk result (IsMounted image) }
+    ensures refused { let image = image_in (H.meaning hall.old) (H.facts hall.old) unit in
+        IsTrue H.tells → IfErr result (IsReason image) }
     ensures unit { IfOk result (λ vol. (vol.unit ≡ unit) × IsOfUnit (H.facts hall.old).units vol) }
     ensures told { IsTrue H.tells → Same (H.meaning hall.old) (H.meaning hall.new) }
     ensures call { MountCall (H.facts hall.old) (H.facts hall.new) result }
@@ -75,7 +77,7 @@ pub fn read_vtoc<H: Hall>(alloc: Global, hall: &mut H, unit: u8) -> Result<Vol, 
 }
 
 // Reads the tracks of the VTOC that begins at an address of the pack: its extent, and its slots.
-#[tactic(auto, using(hall_core::proofs::MomentLemmas::same_then))]
+#[tactic(auto, using(stop_model::proofs::MomentLemmas::same_then))]
 fn read_slots<H: Hall>(
     alloc: Global,
     hall: &mut H,
@@ -87,12 +89,17 @@ fn read_slots<H: Hall>(
     requires attached { unit < length (H.facts hall.old).units }
     requires whole { HasGeometry (unit_of (H.facts hall.old).units unit).size geometry }
     requires buffer { buf.old.geometry ≡ geometry }
-    requires inside { IsTrue (is_inside geometry (address_of at)) }
-    ensures extent { IsTrue H.tells → IfOk result (λ p. vtoc_on (image_of (H.meaning hall.old).state (H.facts hall.old) unit) geometry (address_of at) ≡ Ok (run_of p.0)) }
-    ensures read { IsTrue H.tells → IfOk result (λ p. AreTracksRead (image_of (H.meaning hall.old).state (H.facts hall.old) unit) geometry p.0.start p.0.len p.1) }
-    ensures stands { IsTrue H.tells → OnOk result (StandsOn (image_of (H.meaning hall.old).state (H.facts hall.old) unit) buf.new) }
-    ensures refused { let image = image_of (H.meaning hall.old).state (H.facts hall.old) unit in IsTrue H.tells → IfErr result (Refuses (volume_within image geometry (vtoc_on image geometry (address_of at)))) }
-    ensures numbers { IfOk result (λ p. IsExtent geometry (address_of at) p.0 × AreNumbered p.0.len p.1) }
+    requires inside { IsTrue (is_inside geometry at) }
+    ensures extent { let image = image_in (H.meaning hall.old) (H.facts hall.old) unit in
+        IsTrue H.tells → IfOk result (λ p. vtoc_on image geometry at ≡ Ok p.0) }
+    ensures read { let image = image_in (H.meaning hall.old) (H.facts hall.old) unit in
+        IsTrue H.tells → IfOk result (λ p. AreTracksRead image geometry p.0.start p.0.len p.1) }
+    ensures stands { let image = image_in (H.meaning hall.old) (H.facts hall.old) unit in
+        IsTrue H.tells → OnOk result (StandsOn image buf.new) }
+    ensures refused { let image = image_in (H.meaning hall.old) (H.facts hall.old) unit in
+        IsTrue H.tells → IfErr result (Refuses
+        (volume_within image geometry (vtoc_on image geometry at))) }
+    ensures numbers { IfOk result (λ p. IsExtent geometry at p.0 × AreNumbered p.0.len p.1) }
     ensures buffer { OnOk result ((buf.new.geometry ≡ geometry) × (buf.new.unit ≡ unit)) }
     ensures told { IsTrue H.tells → Same (H.meaning hall.old) (H.meaning hall.new) }
     ensures call { MountCall (H.facts hall.old) (H.facts hall.new) result }
@@ -116,12 +123,18 @@ fn read_first<H: Hall>(
     requires attached { unit < length (H.facts hall.old).units }
     requires whole { HasGeometry (unit_of (H.facts hall.old).units unit).size geometry }
     requires buffer { buf.old.geometry ≡ geometry }
-    requires inside { IsTrue (is_inside geometry (address_of at)) }
-    ensures extent { IsTrue H.tells → IfOk result (λ p. vtoc_on (image_of (H.meaning hall.old).state (H.facts hall.old) unit) geometry (address_of at) ≡ Ok (run_of p.0)) }
-    ensures read { IsTrue H.tells → IfOk result (λ p. records_on (image_of (H.meaning hall.old).state (H.facts hall.old) unit) geometry None p.0.start ≡ Some buf.new.records) }
-    ensures refused { let image = image_of (H.meaning hall.old).state (H.facts hall.old) unit in IsTrue H.tells → IfErr result (Refuses (volume_within image geometry (vtoc_on image geometry (address_of at)))) }
-    ensures numbers { IfOk result (λ p. IsExtent geometry (address_of at) p.0 × (length buf.new.records ≡ p.1)) }
-    ensures buffer { IfOk result (λ p. (buf.new.geometry ≡ geometry) × ((buf.new.unit ≡ unit) × (buf.new.track ≡ p.0.start))) }
+    requires inside { IsTrue (is_inside geometry at) }
+    ensures extent { let image = image_in (H.meaning hall.old) (H.facts hall.old) unit in
+        IsTrue H.tells → IfOk result (λ p. vtoc_on image geometry at ≡ Ok p.0) }
+    ensures read { let image = image_in (H.meaning hall.old) (H.facts hall.old) unit in
+        IsTrue H.tells → IfOk result (λ p. records_on image geometry None p.0.start
+        ≡ Some buf.new.records) }
+    ensures refused { let image = image_in (H.meaning hall.old) (H.facts hall.old) unit in
+        IsTrue H.tells → IfErr result (Refuses
+        (volume_within image geometry (vtoc_on image geometry at))) }
+    ensures numbers { IfOk result (λ p. IsExtent geometry at p.0 × (length buf.new.records ≡ p.1)) }
+    ensures buffer { IfOk result (λ p. (buf.new.geometry ≡ geometry)
+        × ((buf.new.unit ≡ unit) × (buf.new.track ≡ p.0.start))) }
     ensures told { IsTrue H.tells → Same (H.meaning hall.old) (H.meaning hall.new) }
     ensures call { MountCall (H.facts hall.old) (H.facts hall.new) result }
     ensures file { IsErrOf result MountErr.NoFile → ⊥ }
@@ -138,7 +151,7 @@ fn read_first<H: Hall>(
 
 // Why a VTOC isn't read whose first track breaks the grammar: its extent is judged before what stands
 // behind its first slot.
-#[tactic(auto, using(hall_core::proofs::MomentLemmas::same_then))]
+#[tactic(auto, using(stop_model::proofs::MomentLemmas::same_then))]
 fn why_broken<H: Hall>(
     hall: &mut H,
     unit: u8,
@@ -149,8 +162,10 @@ fn why_broken<H: Hall>(
     requires attached { unit < length (H.facts hall.old).units }
     requires whole { HasGeometry (unit_of (H.facts hall.old).units unit).size geometry }
     requires buffer { buf.old.geometry ≡ geometry }
-    requires inside { IsTrue (is_inside geometry (address_of at)) }
-    ensures refused { let image = image_of (H.meaning hall.old).state (H.facts hall.old) unit in IsTrue H.tells → records_on image geometry None (track_of_address geometry (address_of at)) ≡ None → Refuses (volume_within image geometry (vtoc_on image geometry (address_of at))) result }
+    requires inside { IsTrue (is_inside geometry at) }
+    ensures refused { let image = image_in (H.meaning hall.old) (H.facts hall.old) unit in
+        IsTrue H.tells → records_on image geometry None (track_of_address geometry at) ≡ None
+        → Refuses (volume_within image geometry (vtoc_on image geometry at)) result }
     ensures told { IsTrue H.tells → Same (H.meaning hall.old) (H.meaning hall.new) }
     ensures call { MountCall {T = Unit {0}} (H.facts hall.old) (H.facts hall.new) (Err result) }
     ensures file { result ≢ MountErr.NoFile }
@@ -181,9 +196,14 @@ fn read_others<H: Hall>(
     requires inside { vtoc.start + vtoc.len ≤ tracks_of geometry }
     requires tracks { (1 ≤ vtoc.len) × (vtoc.len ≤ 257) }
     requires numbers { AreNumbered 1 found.old }
-    ensures read { let image = image_of (H.meaning hall.old).state (H.facts hall.old) unit in IsTrue H.tells → AreTracksRead image geometry vtoc.start 1 found.old → OnOk result (AreTracksRead image geometry vtoc.start vtoc.len found.new) }
-    ensures refused { let image = image_of (H.meaning hall.old).state (H.facts hall.old) unit in IsTrue H.tells → AreTracksRead image geometry vtoc.start 1 found.old → IfErr result (Refuses (volume_within image geometry (Ok (run_of vtoc)))) }
-    ensures stands { let image = image_of (H.meaning hall.old).state (H.facts hall.old) unit in IsTrue H.tells → StandsOn image buf.old → OnOk result (StandsOn image buf.new) }
+    ensures read { let image = image_in (H.meaning hall.old) (H.facts hall.old) unit in
+        IsTrue H.tells → AreTracksRead image geometry vtoc.start 1 found.old
+        → OnOk result (AreTracksRead image geometry vtoc.start vtoc.len found.new) }
+    ensures refused { let image = image_in (H.meaning hall.old) (H.facts hall.old) unit in
+        IsTrue H.tells → AreTracksRead image geometry vtoc.start 1 found.old
+        → IfErr result (Refuses (volume_within image geometry (Ok vtoc))) }
+    ensures stands { let image = image_in (H.meaning hall.old) (H.facts hall.old) unit in
+        IsTrue H.tells → StandsOn image buf.old → OnOk result (StandsOn image buf.new) }
     ensures numbers { OnOk result (AreNumbered vtoc.len found.new) }
     ensures buffer { (buf.new.geometry ≡ geometry) × (buf.new.unit ≡ unit) }
     ensures told { IsTrue H.tells → Same (H.meaning hall.old) (H.meaning hall.new) }
@@ -206,9 +226,14 @@ fn read_track<H: Hall>(
 ) -> Result<u8, MountErr>
     requires { HasTrack (H.facts hall.old).units unit buf.old.geometry track }
     ensures count { IfOk result (λ n. length buf.new.records ≡ n) }
-    ensures buffer { buf.new ≡ record buf.old { unit = unit; track = track; records = buf.new.records } }
-    ensures read { IsTrue H.tells → OnOk result (records_on (image_of (H.meaning hall.old).state (H.facts hall.old) unit) buf.old.geometry None track ≡ Some buf.new.records) }
-    ensures refused { IsTrue H.tells → IfErr result (λ e. (e ≡ MountErr.Device) ⊎ ((e ≡ MountErr.VtocTrack track) × (slots_on (image_of (H.meaning hall.old).state (H.facts hall.old) unit) buf.old.geometry track ≡ None))) }
+    ensures buffer { buf.new ≡ record buf.old
+        { unit = unit; track = track; records = buf.new.records } }
+    ensures read { let image = image_in (H.meaning hall.old) (H.facts hall.old) unit in
+        IsTrue H.tells → OnOk result (records_on image buf.old.geometry None track
+        ≡ Some buf.new.records) }
+    ensures refused { let image = image_in (H.meaning hall.old) (H.facts hall.old) unit in
+        IsTrue H.tells → IfErr result (λ e. (e ≡ MountErr.Device)
+        ⊎ ((e ≡ MountErr.VtocTrack track) × (slots_on image buf.old.geometry track ≡ None))) }
     ensures told { IsTrue H.tells → Same (H.meaning hall.old) (H.meaning hall.new) }
     ensures call { MountCall (H.facts hall.old) (H.facts hall.new) result }
     ensures file { IsErrOf result MountErr.NoFile → ⊥ }

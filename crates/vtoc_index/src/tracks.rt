@@ -1,16 +1,14 @@
 //! The slots of the tracks of a VTOC.
 ghost use Rattle.std.specs.Prelude.{◌≡◌, ◌⊎◌, ℕ, ◌≤◌, ◌<◌, ◌+◌, ◌++◌, List, [], ◌∷◌, length, take, drop, IsTrue, OnOk, OnErr, IfOk, IfErr, None};
-ghost use Rattle.pack_spec.specs.Slots.{record_address};
-ghost use Rattle.pack_spec.specs.Vtoc.{slots_in};
-ghost use Rattle.vtoc_index.specs.Contents.{IsRead};
+ghost use Rattle.dscb_codec.specs.Layout.{decoded};
+ghost use Rattle.pack_spec.specs.Slots.{record_address, slots_in};
 ghost use Rattle.vtoc_index.specs.Reading.{Adds};
 
-use crate::extent::slot_held;
-use crate::slots::ReadSlot;
+use crate::vtoc_extent::slot_held;
 use ckd_image::Geometry;
 use dscb_codec::decode;
 use pack_spec::layout::Slot;
-use pack_spec::{MountErr, record_address};
+use pack_spec::{MountErr, VtocSlot, record_address};
 use std::alloc::Global;
 use track_records::TrackBuf;
 
@@ -18,7 +16,7 @@ use track_records::TrackBuf;
 #[derive(Drop)]
 pub(crate) struct ReadSlots {
     // The slots on the tracks that were read.
-    pub slots: Vec<ReadSlot>,
+    pub slots: Vec<VtocSlot>,
     // The number of the first slot of each of these tracks.
     pub firsts: Vec<u32>,
 }
@@ -47,10 +45,14 @@ impl ReadSlots {
     ) -> Result<(), MountErr>
         requires count { length buf.now.records ≡ count }
         requires few { length self.old.slots.items ≤ 65280 }
-        ensures firsts { OnOk result (self.new.firsts.items ≡ self.old.firsts.items ++ length self.old.slots.items ∷ []) }
-        ensures slots { OnOk result (Adds geometry track buf.now.records self.old.slots.items self.new.slots.items) }
-        ensures few { OnOk result ((more : ℕ) × (more ≤ 255) × (length self.new.slots.items ≡ length self.old.slots.items + more)) }
-        ensures refused { IfErr result (λ e. (e ≡ MountErr.Memory) ⊎ ((e ≡ MountErr.VtocTrack track) × (slots_in buf.now.records ≡ None))) }
+        ensures firsts { OnOk result (self.new.firsts.items
+            ≡ self.old.firsts.items ++ length self.old.slots.items ∷ []) }
+        ensures slots { OnOk result (Adds geometry track buf.now.records self.old.slots.items
+            self.new.slots.items) }
+        ensures few { OnOk result ((more : ℕ) × (more ≤ 255)
+            × (length self.new.slots.items ≡ length self.old.slots.items + more)) }
+        ensures refused { IfErr result (λ e. (e ≡ MountErr.Memory)
+            ⊎ ((e ≡ MountErr.VtocTrack track) × (slots_in geometry track buf.now.records ≡ None))) }
     {
         let first = self.slots.len() as u32;
         let Ok(()) = self.firsts.push(first) else {
@@ -62,15 +64,17 @@ impl ReadSlots {
 
 // Puts the slots of a track, so many, behind others, where the buffer holds its records.
 fn push_slots(
-    slots: &mut Vec<ReadSlot>,
+    slots: &mut Vec<VtocSlot>,
     geometry: Geometry,
     track: u16,
     buf: &TrackBuf,
     count: u8,
 ) -> Result<(), MountErr>
     requires { length buf.now.records ≡ count }
-    ensures added { OnOk result (Adds geometry track buf.now.records slots.old.items slots.new.items) }
-    ensures refused { IfErr result (λ e. (e ≡ MountErr.Memory) ⊎ ((e ≡ MountErr.VtocTrack track) × (slots_in buf.now.records ≡ None))) }
+    ensures added { OnOk result (Adds geometry track buf.now.records slots.old.items
+        slots.new.items) }
+    ensures refused { IfErr result (λ e. (e ≡ MountErr.Memory)
+        ⊎ ((e ≡ MountErr.VtocTrack track) × (slots_in geometry track buf.now.records ≡ None))) }
 {
     for passed in 0..count {
         let Some(bytes) = slot_held(buf, passed + 1) else {
@@ -85,10 +89,10 @@ fn push_slots(
 }
 
 // The slot of these bytes.
-fn slot_read(address: [u8; 5], bytes: &Slot) -> ReadSlot
-    ensures { IsRead result (record { address = address; bytes = bytes.now }) }
+fn slot_read(address: [u8; 5], bytes: &Slot) -> VtocSlot
+    ensures { result ≡ record { address = address; content = decoded bytes.now } }
 {
-    ReadSlot {
+    VtocSlot {
         address,
         content: decode(bytes),
     }

@@ -1,14 +1,15 @@
 //! Files of a hall in memory: pairs of a name and bytes.
-ghost use Rattle.std.specs.Prelude.{◌≡◌, ◌+◌, ◌≤◌, length, take, drop, MatchOption, IfOk, None, if◌then◌else◌};
+ghost use Rattle.std.specs.Prelude.{◌≡◌, ◌+◌, ◌≤◌, length, take, drop, MatchOption, IfOk, None, true};
 ghost use Rattle.hall_core.specs.Facts.{unit_of};
-ghost use Rattle.hall_core.specs.Files.{file_of, patched, written};
-ghost use Rattle.hall_core.specs.Held.{file_of_pair, files_of, shapes_of, IsFirst};
+ghost use Rattle.stop_model.specs.Files.{file_of, patched};
+ghost use Rattle.hall_core.specs.Held.{file_of_pair, files_of, shapes_of, with_bytes, IsFirst, IsFirstNamed};
 
 use std::alloc::{AllocError, Global};
 
 // The place of the first file of this name.
 pub(super) fn first_named(files: &[(String, Vec<u8>)], name: &str) -> Option<usize>
-    ensures { MatchOption result (file_of (files_of files.now) name.now ≡ None) (λ place. IsFirst (shapes_of (files_of files.now)) place × ((unit_of (shapes_of (files_of files.now)) place).name ≡ name.now)) }
+    ensures { MatchOption result (file_of (files_of files.now) name.now ≡ None)
+        (λ place. IsFirstNamed (shapes_of (files_of files.now)) place name.now) }
 {
     for (place, file) in files.iter().enumerate() {
         if file.0.as_str() == name {
@@ -37,8 +38,10 @@ fn patch(image: &mut [u8], at: usize, bytes: &[u8])
 // Writes the bytes over those of the file at a place, from an offset on.
 pub(super) fn patch_file(files: &mut Vec<(String, Vec<u8>)>, place: usize, at: usize, bytes: &[u8])
     requires first { IsFirst (shapes_of (files_of files.old.items)) place }
-    requires inside { at + length bytes.now ≤ (unit_of (shapes_of (files_of files.old.items)) place).size }
-    ensures done { files_of files.new.items ≡ written (files_of files.old.items) (unit_of (shapes_of (files_of files.old.items)) place).name at bytes.now }
+    requires inside { at + length bytes.now
+        ≤ (unit_of (shapes_of (files_of files.old.items)) place).size }
+    ensures done { files_of files.new.items
+        ≡ with_bytes (files_of files.old.items) place at bytes.now true }
     ensures shapes { shapes_of (files_of files.new.items) ≡ shapes_of (files_of files.old.items) }
 {
     let file = &mut files[place];
@@ -54,8 +57,10 @@ pub(super) fn write_file(
     is_done: bool,
 )
     requires first { IsFirst (shapes_of (files_of files.old.items)) place }
-    requires inside { at + length bytes.now ≤ (unit_of (shapes_of (files_of files.old.items)) place).size }
-    ensures done { files_of files.new.items ≡ (if is_done then written (files_of files.old.items) (unit_of (shapes_of (files_of files.old.items)) place).name at bytes.now else files_of files.old.items) }
+    requires inside { at + length bytes.now
+        ≤ (unit_of (shapes_of (files_of files.old.items)) place).size }
+    ensures done { files_of files.new.items
+        ≡ with_bytes (files_of files.old.items) place at bytes.now is_done }
     ensures shapes { shapes_of (files_of files.new.items) ≡ shapes_of (files_of files.old.items) }
 {
     if is_done {

@@ -1,8 +1,8 @@
 //! What a stop leaves of a hall in memory, from the record of its calls.
 ghost use Rattle.std.specs.Prelude.{◌≡◌, ◌+◌, ◌<◌, ◌≤◌, ◌∷◌, ◌++◌, ◌^◌, [], ℕ, List, take, drop, false, length, if◌then◌else◌, IfOk, OnOk, slice_index_or};
 ghost use Rattle.hall_core.specs.History.{Write, with_writes, kept};
-ghost use Rattle.hall_core.specs.Held.{files_of, shapes_of, units_at, AreFirst};
-ghost use Rattle.hall_core.specs.Replay.{IsPendingFrom, IsWritable, AreWritable, ArePrinted, writes_at, done_of, prints_at, text_needed, is_write, is_done_write, pending_place};
+ghost use Rattle.hall_core.specs.Held.{files_of, shapes_of, attached_in, AreFirst};
+ghost use Rattle.hall_core.specs.Replay.{IsPendingFrom, IsWritable, AreWritable, ArePrinted, writes_in, done_of, prints_at, text_needed, is_write, is_done_write, pending_place};
 
 use super::pairs::write_file;
 use super::step::Step;
@@ -59,8 +59,10 @@ pub(super) fn pending_from(steps: &[Step]) -> usize
 // Makes a write again, where it is to be kept. A step that is none does nothing.
 fn redo(files: &mut Vec<(String, Vec<u8>)>, step: Step, units: &[usize], pool: &[u8], is_kept: bool)
     requires places { AreFirst (shapes_of (files_of files.old.items)) units.now }
-    requires within { IsWritable (units_at (shapes_of (files_of files.old.items)) units.now) (length pool.now) step }
-    ensures done { files_of files.new.items ≡ with_writes (files_of files.old.items) (if is_kept then writes_at (units_at (shapes_of (files_of files.old.items)) units.now) pool.now (step ∷ []) else []) }
+    requires within { IsWritable (attached_in files.old.items units.now) (length pool.now) step }
+    ensures done { files_of files.new.items
+        ≡ with_writes (files_of files.old.items) (if is_kept then
+        writes_in files.old.items units.now pool.now (step ∷ []) else []) }
     ensures shapes { shapes_of (files_of files.new.items) ≡ shapes_of (files_of files.old.items) }
 {
     if let Step::Write {
@@ -84,8 +86,11 @@ fn redo(files: &mut Vec<(String, Vec<u8>)>, step: Step, units: &[usize], pool: &
 // Makes the writes again that were done.
 fn apply_done(files: &mut Vec<(String, Vec<u8>)>, steps: &[Step], units: &[usize], pool: &[u8])
     requires places { AreFirst (shapes_of (files_of files.old.items)) units.now }
-    requires within { AreWritable (units_at (shapes_of (files_of files.old.items)) units.now) (length pool.now) steps.now }
-    ensures done { files_of files.new.items ≡ with_writes (files_of files.old.items) (done_of (writes_at (units_at (shapes_of (files_of files.old.items)) units.now) pool.now steps.now)) }
+    requires within { AreWritable (attached_in files.old.items units.now)
+        (length pool.now) steps.now }
+    ensures done { files_of files.new.items
+        ≡ with_writes (files_of files.old.items)
+        (done_of (writes_in files.old.items units.now pool.now steps.now)) }
     ensures shapes { shapes_of (files_of files.new.items) ≡ shapes_of (files_of files.old.items) }
 {
     for step in steps {
@@ -110,9 +115,11 @@ fn redo_flagged(
     next: usize,
 ) -> usize
     requires places { AreFirst (shapes_of (files_of files.old.items)) units.now }
-    requires within { IsWritable (units_at (shapes_of (files_of files.old.items)) units.now) (length pool.now) step }
+    requires within { IsWritable (attached_in files.old.items units.now) (length pool.now) step }
     requires fits { next + 1 < 2 ^ 64 }
-    ensures done { (ws : List Write) → with_writes (files_of files.old.items) (kept (drop next keep.now) (writes_at (units_at (shapes_of (files_of files.old.items)) units.now) pool.now (step ∷ []) ++ ws)) ≡ with_writes (files_of files.new.items) (kept (drop result keep.now) ws) }
+    ensures done { (ws : List Write) → with_writes (files_of files.old.items)
+        (kept (drop next keep.now) (writes_in files.old.items units.now pool.now (step ∷ []) ++ ws))
+        ≡ with_writes (files_of files.new.items) (kept (drop result keep.now) ws) }
     ensures shapes { shapes_of (files_of files.new.items) ≡ shapes_of (files_of files.old.items) }
     ensures next { result ≤ next + 1 }
 {
@@ -129,8 +136,11 @@ fn apply_kept(
     keep: &[bool],
 )
     requires places { AreFirst (shapes_of (files_of files.old.items)) units.now }
-    requires within { AreWritable (units_at (shapes_of (files_of files.old.items)) units.now) (length pool.now) steps.now }
-    ensures { files_of files.new.items ≡ with_writes (files_of files.old.items) (kept keep.now (writes_at (units_at (shapes_of (files_of files.old.items)) units.now) pool.now steps.now)) }
+    requires within { AreWritable (attached_in files.old.items units.now)
+        (length pool.now) steps.now }
+    ensures { files_of files.new.items
+        ≡ with_writes (files_of files.old.items)
+        (kept keep.now (writes_in files.old.items units.now pool.now steps.now)) }
 {
     let mut next = 0;
     for step in steps {
@@ -149,9 +159,13 @@ pub(super) fn apply_left(
     keep: &[bool],
 )
     requires places { AreFirst (shapes_of (files_of files.old.items)) units.now }
-    requires within { AreWritable (units_at (shapes_of (files_of files.old.items)) units.now) (length pool.now) steps.now }
+    requires within { AreWritable (attached_in files.old.items units.now)
+        (length pool.now) steps.now }
     requires inside { from ≤ length steps.now }
-    ensures { let attached = units_at (shapes_of (files_of files.old.items)) units.now in files_of files.new.items ≡ with_writes (with_writes (files_of files.old.items) (done_of (writes_at attached pool.now (take from steps.now)))) (kept keep.now (writes_at attached pool.now (drop from steps.now))) }
+    ensures { files_of files.new.items ≡ with_writes
+        (with_writes (files_of files.old.items)
+        (done_of (writes_in files.old.items units.now pool.now (take from steps.now))))
+        (kept keep.now (writes_in files.old.items units.now pool.now (drop from steps.now))) }
 {
     apply_done(files, &steps[..from], units, pool);
     apply_kept(files, &steps[from..], units, pool, keep);

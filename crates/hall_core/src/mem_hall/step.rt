@@ -15,8 +15,7 @@ pub enum Call {
     Print,
 }
 
-/// What a call did: a write, done or failed; a sync; a print, of which a stop leaves a prefix where it
-/// can be cut, and else all or nothing; or nothing that stays.
+/// What a call did: a write, done or failed; a sync; a print; or nothing that stays.
 ///
 /// The bytes are `len` of those written, or printed, from `start` on.
 #[derive(Clone, Copy, Debug)]
@@ -32,7 +31,6 @@ pub enum Step {
     Print {
         start: usize,
         len: usize,
-        is_cut: bool,
     },
     Pass,
 }

@@ -1,5 +1,5 @@
 use Rattle.std.proofs.Common.{◌/◌, ◌%◌, ap, ◌∙◌, ℕ}
-use Rattle.hall_core.specs.Files.{image_of}
+use Rattle.hall_core.specs.Images.{image_of}
 use Rattle.track_records.specs.Buffers.{Buffer}
 use Rattle.track_records.proofs.ImageLemmas.{records_read}
 use Rattle.track_records.proofs.buffer.read_records.Goals as goal

@@ -1,7 +1,7 @@
 use Rattle.std.proofs.Common.{◌≡◌, ◌+◌, ◌*◌, ◌-◌, ◌<◌, ◌≤◌, ◌++◌, arith, ap, subst, length, ℕ, sym, ◌∙◌}
 use Rattle.std.specs.Prelude.{slice_get}
 use Rattle.hall_core.specs.Facts.{unit_of}
-use Rattle.hall_core.specs.Files.{image_of}
+use Rattle.hall_core.specs.Images.{image_of}
 use Rattle.track_records.specs.Buffers.{Buffer, IsContentOf}
 use Rattle.track_records.specs.Written.{place_of, StandsOn}
 use Rattle.track_records.proofs.UpdateLemmas.{lengths_there, content_written, length-with_parts}

@@ -3,13 +3,13 @@ use Rattle.std.specs.Prelude.{IfOk, IfErr, Ok, take}
 use Rattle.ckd_image.specs.declared.header.ImageErr.TheVariants.{BadMagic}
 use Rattle.ckd_image.specs.Header.{geometry_of}
 use Rattle.hall_core.specs.Facts.{unit_of}
-use Rattle.hall_core.specs.Files.{image_of}
+use Rattle.hall_core.specs.Images.{image_of}
 use Rattle.pack_spec.specs.Volume.{volume_of}
 use Rattle.vtoc_index.specs.Reading.{Refuses}
 use Rattle.vtoc_index.proofs.Images.{image_length, short_refused, header_read}
 use Rattle.vtoc_index.proofs.Reasons.{refuses, volume_unread}
-use Rattle.vtoc_index.proofs.header.read_geometry.Goals as goal
 use Rattle.vtoc_index.proofs.header.read_geometry.Goals.{in-Ok-read, in-Err}
+use Rattle.vtoc_index.proofs.header.read_geometry.Goals as goal
 
 pub returns-then-len-clause-refused : goal.returns-then-len-clause-refused
 returns-then-len-clause-refused g c told =

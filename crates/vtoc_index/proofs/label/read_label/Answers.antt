@@ -1,6 +1,6 @@
 use Rattle.std.proofs.Common.{subst, sym, ◌∙◌, List, ℕ, Option}
 use Rattle.std.specs.Prelude.{IfOk, Some}
-use Rattle.hall_core.specs.Files.{image_of}
+use Rattle.hall_core.specs.Images.{image_of}
 use Rattle.pack_spec.specs.declared.MountErr.TheVariants.{NoLabel}
 use Rattle.pack_spec.specs.Vtoc.{vtoc_of}
 use Rattle.pack_spec.specs.Volume.{volume_within}

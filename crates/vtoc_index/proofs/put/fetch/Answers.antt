@@ -1,5 +1,5 @@
 use Rattle.std.proofs.Common.{subst, sym, Some}
-use Rattle.hall_core.specs.Files.{image_of}
+use Rattle.hall_core.specs.Images.{image_of}
 use Rattle.track_records.specs.Buffers.{Buffer}
 use Rattle.track_records.specs.Reads.{IsBroken}
 use Rattle.track_records.specs.Written.{StandsOn}

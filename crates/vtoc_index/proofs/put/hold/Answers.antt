@@ -1,5 +1,5 @@
 use Rattle.std.proofs.Common.{◌≡◌, subst, sym, false, true}
-use Rattle.hall_core.specs.Files.{image_of}
+use Rattle.hall_core.specs.Images.{image_of}
 use Rattle.track_records.specs.Buffers.{Buffer}
 use Rattle.vtoc_index.specs.Puts.{HasSlot}
 use Rattle.vtoc_index.proofs.HeldLemmas.{noted, held_slot}

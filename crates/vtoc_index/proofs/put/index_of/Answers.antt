@@ -1,8 +1,8 @@
 use Rattle.std.proofs.Common.{◌≡◌, ◌∙◌, ◌≤◌, ◌<◌, ◌+◌, ◌-◌, List, ℕ, length, get_or, ap, arith, subst}
 use Rattle.std.specs.Prelude.{filter}
 use Rattle.vtoc_index.proofs.Firsts.{Located, located, passes}
-use Rattle.vtoc_index.proofs.put.index_of.Goals as goal
 use Rattle.vtoc_index.proofs.put.index_of.Goals.{After-passed}
+use Rattle.vtoc_index.proofs.put.index_of.Goals as goal
 
 where_is : (c : After-passed) → Located c.args.vol.now.firsts.items c.args.slot
 where_is c = located 0 c.args.vol.now.firsts.items (length c.args.vol.now.slots.items) c.args.slot c.requires.firsts (omega arith) c.requires.slot

@@ -3,20 +3,21 @@ use Rattle.std.proofs.lemmas.List.{take-append-drop}
 use Rattle.std.proofs.lemmas.Result.{IfOk-from_err}
 use Rattle.ckd_image.specs.declared.header.Geometry.{Geometry}
 use Rattle.hall_core.specs.Facts.{Attached, unit_of}
-use Rattle.hall_core.specs.Files.{image_of, patched}
+use Rattle.hall_core.specs.Images.{image_of}
+use Rattle.stop_model.specs.Files.{patched}
 use Rattle.track_records.specs.Buffers.{Buffer}
 use Rattle.track_records.specs.Written.{StandsOn, place_of}
 use Rattle.track_records.proofs.UpdateLemmas.{lengths_there}
 use Rattle.track_records.proofs.WriteLemmas.{same_write, write_done, write_failed}
 use Rattle.vtoc_index.specs.Index.{IsPut, place_of_slot}
 use Rattle.vtoc_index.specs.Puts.{HasSlot, IsHeld, IsReplaced}
-use Rattle.std.specs.Vec.{with_item}
 use Rattle.dscb_codec.specs.declared.Dscb.{Dscb}
 use Rattle.vtoc_index.proofs.BegunLemmas.{after_same, not_begun, same_image}
 use Rattle.vtoc_index.proofs.PutLaw.{front_of, held_place, index_put, slot_found, slot_put, track_of}
 use Rattle.vtoc_index.proofs.put.put_slot.Given.{Over}
-use Rattle.vtoc_index.proofs.put.put_slot.Goals as goal
 use Rattle.vtoc_index.proofs.put.put_slot.Goals.{After-update}
+use Rattle.std.specs.Vec.{with_item}
+use Rattle.vtoc_index.proofs.put.put_slot.Goals as goal
 
 pub hold-requires-clause-there : goal.hold-requires-clause-there
 hold-requires-clause-there g c told =
@@ -31,12 +32,12 @@ hold-requires-clause-there g c told =
 pub returns-in_err-hold-clause-told : goal.returns-in_err-hold-clause-told
 returns-in_err-hold-clause-told g c told = record {
   bytes = c.encode-bytes.result;
-  dscb = c.encode-bytes.ensures.fields;
+  dscb = c.encode-bytes.ensures.decoded;
   size = search rules;
   write = not_begun c.from_residual.result c.from_residual.ensures.0 (c.in_err-hold.ensures.told told);
   kept =
       let image = image_of (g.H.Hall.meaning c.args.hall.now).state (g.H.Hall.facts c.args.hall.now) c.args.vol.now.unit in
-      slot_put image c.args.vol.now c.args.slot c.encode-bytes.result (c.requires.index told) c.requires.slot (search rules);
+      slot_put image c.args.vol.now c.args.slot c.args.dscb.now c.encode-bytes.result (c.requires.index told) c.requires.slot (search rules) c.encode-bytes.ensures.decoded;
   done = IfOk-from_err c.from_residual.result _ c.from_residual.ensures.0;
 }
 
@@ -71,7 +72,7 @@ returns-in_err-update-clause-told g c told =
     let w = (goal.at.returns-in_err-update-clause-told g c).After-update in
     record {
       bytes = c.encode-bytes.result;
-      dscb = c.encode-bytes.ensures.fields;
+      dscb = c.encode-bytes.ensures.decoded;
       size = search rules;
       write =
           write_failed c.from_residual-in_err-update.result c.from_residual-in_err-update.ensures.0
@@ -79,7 +80,7 @@ returns-in_err-update-clause-told g c told =
           (after_same _ _ _ _ _ _ (g.met.H.Hall.counts_now c.args.hall.now) (w.in_ok-hold.ensures.told told) _ (c.in_err-update.ensures.told told)));
       kept =
           let image = image_of (g.H.Hall.meaning c.args.hall.now).state (g.H.Hall.facts c.args.hall.now) c.args.vol.now.unit in
-          slot_put image c.args.vol.now c.args.slot c.encode-bytes.result (c.requires.index told) c.requires.slot (search rules);
+          slot_put image c.args.vol.now c.args.slot c.args.dscb.now c.encode-bytes.result (c.requires.index told) c.requires.slot (search rules) c.encode-bytes.ensures.decoded;
       done = IfOk-from_err c.from_residual-in_err-update.result _ c.from_residual-in_err-update.ensures.0;
     }
 
@@ -112,16 +113,16 @@ returns-clause-told g c told =
     ∙ ap (patched image (place_of_slot v c.args.slot)) (bytes_is g w)
     in
     let index = c.requires.index told in
-    let law : IsPut v c.args.slot bytes image put = subst (λ (i : List ℕ). IsPut v c.args.slot bytes image i) (sym is) (slot_put image v c.args.slot bytes index c.requires.slot size) in
+    let law : IsPut v c.args.slot c.args.dscb.now image put = subst (λ (i : List ℕ). IsPut v c.args.slot c.args.dscb.now image i) (sym is) (slot_put image v c.args.slot c.args.dscb.now bytes index c.requires.slot size c.encode-bytes.ensures.decoded) in
     let held : IsHeld put c.update.new.buf = inr (subst (λ (n : ℕ). StandsOn (image_of (g.H.Hall.meaning c.update.new.hall).state (g.H.Hall.facts c.update.new.hall) n) c.update.new.buf) number wrote.1) in
     record {
       bytes = bytes;
-      dscb = c.encode-bytes.ensures.fields;
+      dscb = c.encode-bytes.ensures.decoded;
       size = size;
       write =
           write_done tt
           (same_write _ _ _ _ _ _ (name_is g w) (place_is g w told) (bytes_is g w)
           (after_same _ _ _ _ _ _ (g.met.H.Hall.counts_now c.args.hall.now) (w.in_ok-hold.ensures.told told) _ (c.in_ok-update.ensures.told told)));
-      kept = slot_put image v c.args.slot bytes index c.requires.slot size;
-      done = (law, index_put image put v (record v { slots = with_item v.slots c.args.slot c.args.dscb.now; buf = c.update.new.buf }) c.args.slot c.args.dscb.now bytes index law c.encode-bytes.ensures.fields (replaced g w c.args.dscb.now) held);
+      kept = slot_put image v c.args.slot c.args.dscb.now bytes index c.requires.slot size c.encode-bytes.ensures.decoded;
+      done = (law, index_put image put v (record v { slots = with_item v.slots c.args.slot c.args.dscb.now; buf = c.update.new.buf }) c.args.slot c.args.dscb.now index law (replaced g w c.args.dscb.now) held);
     }

@@ -1,10 +1,10 @@
 use Rattle.std.proofs.Common.{◌∙◌, ap, sym, subst, None, ℕ, List}
 use Rattle.ckd_image.specs.declared.header.Geometry.{Geometry}
-use Rattle.hall_core.specs.Files.{image_of}
+use Rattle.hall_core.specs.Images.{image_of}
 use Rattle.pack_spec.specs.Label.{records_on, track_of_address}
-use Rattle.pack_spec.specs.Views.{address_of}
 use Rattle.pack_spec.specs.Volume.{volume_within}
-use Rattle.vtoc_index.specs.Reading.{Refuses, vtoc_on}
+use Rattle.vtoc_index.specs.Reading.{Refuses}
+use Rattle.pack_spec.specs.Vtoc.{vtoc_on}
 use Rattle.vtoc_index.proofs.CallsMade.{broken_none}
 use Rattle.vtoc_index.proofs.FirstSlots.{extent_whole}
 use Rattle.vtoc_index.proofs.Images.{same_image}
@@ -15,18 +15,18 @@ pub returns-in-Ok-extent_held-clause-extent : goal.returns-in-Ok-extent_held-cla
 returns-in-Ok-extent_held-clause-extent g c told =
     let image = image_of (g.H.Hall.meaning c.args.hall.now).state (g.H.Hall.facts c.args.hall.now) c.args.unit in
     let read = ap (λ (x : Geometry). records_on image x None c.track.result) (sym c.requires.buffer) ∙ c.in-Ok.ensures.read told in
-    extent_whole image c.args.geometry (address_of c.args.at) c.track.result c.read_records.new.buf.records c.track.ensures.exact read ∙ c.in-Ok-extent_held.ensures.found
+    extent_whole image c.args.geometry c.args.at c.track.result c.read_records.new.buf.records c.track.ensures.exact read ∙ c.in-Ok-extent_held.ensures.found
 
 pub returns-in-Err-clause-refused : goal.returns-in-Err-clause-refused
 returns-in-Err-clause-refused g c told =
     let image = image_of (g.H.Hall.meaning c.args.hall.now).state (g.H.Hall.facts c.args.hall.now) c.args.unit in
     let read = ap (λ (x : Geometry). records_on image x None c.track.result) (sym c.requires.buffer) ∙ c.in-Ok.ensures.read told in
-    let is = extent_whole image c.args.geometry (address_of c.args.at) c.track.result c.read_records.new.buf.records c.track.ensures.exact read ∙ c.in-Err.ensures.refused in
-    refuses (extent_refused image c.args.geometry (vtoc_on image c.args.geometry (address_of c.args.at)) c.in-Err.fault is)
+    let is = extent_whole image c.args.geometry c.args.at c.track.result c.read_records.new.buf.records c.track.ensures.exact read ∙ c.in-Err.ensures.refused in
+    refuses (extent_refused image c.args.geometry (vtoc_on image c.args.geometry c.args.at) c.in-Err.fault is)
 
 pub returns-in-Err-BadCount-clause-refused : goal.returns-in-Err-BadCount-clause-refused
 returns-in-Err-BadCount-clause-refused g c told =
-    let at = address_of c.args.at in
+    let at = c.args.at in
     let image = image_of (g.H.Hall.meaning c.args.hall.now).state (g.H.Hall.facts c.args.hall.now) c.args.unit in
     let same = same_image (g.H.Hall.meaning c.read_records.new.hall).state (g.H.Hall.meaning c.args.hall.now).state (g.H.Hall.facts c.read_records.new.hall) (g.H.Hall.facts c.args.hall.now) c.args.unit (c.in-Err-BadCount.ensures.told told).state c.in-Err-BadCount.ensures.call.units in
     let broken = broken_none image c.args.buf.now.geometry None c.track.result _ c.in-Err-BadCount.field-0-0 c.in-Err-BadCount.field-0-is (c.in-Err-BadCount.ensures.broken told) in

@@ -2,13 +2,12 @@ use Rattle.std.proofs.Common.{◌≡◌, ◌≢◌, ◌+◌, ◌-◌, ◌<◌, i
 use Rattle.std.specs.Prelude.{Ok, Err}
 use Rattle.std.proofs.lemmas.Result.{err_from_is_err_and}
 use Rattle.ckd_image.specs.declared.header.Geometry.{Geometry}
-use Rattle.hall_core.specs.Files.{image_of}
-use Rattle.hall_core.proofs.MomentLemmas.{same_none, same_then}
+use Rattle.hall_core.specs.Images.{image_of}
+use Rattle.stop_model.proofs.MomentLemmas.{same_none, same_then}
 use Rattle.pack_spec.specs.Label.{records_on}
-use Rattle.pack_spec.specs.Vtoc.{slots_on}
+use Rattle.pack_spec.specs.Slots.{slots_on}
 use Rattle.pack_spec.specs.Volume.{volume_within}
 use Rattle.pack_spec.specs.declared.MountErr.TheVariants.{Device, Memory, VtocTrack}
-use Rattle.vtoc_index.specs.Index.{run_of}
 use Rattle.vtoc_index.specs.Reading.{AreNumbered, AreTracksRead}
 use Rattle.vtoc_index.proofs.CallsMade.{buffer_read, call_done, call_fails, call_stays, has_track, refuses_at, not_device, stands_whole, stay_more, stay_none, track_reason}
 use Rattle.vtoc_index.proofs.Images.{same_image}
@@ -45,8 +44,8 @@ returns-in_err-count-clause-refused g c told first =
     let p = err_from_is_err_and c.from_residual.result c.from_residual.ensures.1 in
     let at : l.track ≡ start + (l.track - start) = omega (arith, l.auto.track) in
     let low : l.track - start < c.args.vtoc.len = omega (arith, l.auto.track, c.loop-track-test.true) in
-    refuses_at (volume_within image c.args.geometry (Ok (run_of c.args.vtoc))) c.from_residual.result c.in_err-count.field-0.0 (p.1 ∙ ap Err p.2)
-    (track_reason (volume_within image c.args.geometry (Ok (run_of c.args.vtoc))) c.in_err-count.field-0.0 Device l.track _ (inr refl) (c.in_err-count.ensures.refused told)
+    refuses_at (volume_within image c.args.geometry (Ok c.args.vtoc)) c.from_residual.result c.in_err-count.field-0.0 (p.1 ∙ ap Err p.2)
+    (track_reason (volume_within image c.args.geometry (Ok c.args.vtoc)) c.in_err-count.field-0.0 Device l.track _ (inr refl) (c.in_err-count.ensures.refused told)
     (λ none.
     let there = ap (λ (i : List ℕ). slots_on i c.args.geometry l.track) (sym same) ∙ ap (λ (x : Geometry). slots_on seen x l.track) (sym l.invariant.geometry) ∙ none in
     track_refused image c.args.geometry start (l.track - start) c.args.vtoc.len l.track at low (l.invariant.read told first).tracks there))
@@ -80,8 +79,8 @@ returns-in_err-add-clause-refused g c told first =
     let at : l.track ≡ start + (l.track - start) = omega (arith, l.auto.track) in
     let low : l.track - start < c.args.vtoc.len = omega (arith, l.auto.track, c.loop-track-test.true) in
     let read = ap (λ (i : List ℕ). records_on i c.args.geometry None l.track) (sym same) ∙ ap (λ (x : Geometry). records_on seen x None l.track) (sym l.invariant.geometry) ∙ c.in_ok-count.ensures.read told in
-    refuses_at (volume_within image c.args.geometry (Ok (run_of c.args.vtoc))) c.from_residual-in_err-add.result c.in_err-add.field-0.0 (p.1 ∙ ap Err p.2)
-    (track_reason (volume_within image c.args.geometry (Ok (run_of c.args.vtoc))) c.in_err-add.field-0.0 Memory l.track _ (inl refl) c.in_err-add.ensures.refused
+    refuses_at (volume_within image c.args.geometry (Ok c.args.vtoc)) c.from_residual-in_err-add.result c.in_err-add.field-0.0 (p.1 ∙ ap Err p.2)
+    (track_reason (volume_within image c.args.geometry (Ok c.args.vtoc)) c.in_err-add.field-0.0 Memory l.track _ (inl refl) c.in_err-add.ensures.refused
     (λ none.
     track_refused image c.args.geometry start (l.track - start) c.args.vtoc.len l.track at low (l.invariant.read told first).tracks (slots_are image c.args.geometry l.track c.read_track.new.buf.records None read none)))
 

@@ -1,5 +1,5 @@
 use Rattle.std.proofs.Common.{◌-◌}
-use Rattle.hall_core.specs.Files.{image_of}
+use Rattle.hall_core.specs.Images.{image_of}
 use Rattle.vtoc_index.proofs.CallsMade.{KeepsReading}
 use Rattle.vtoc_index.proofs.read.read_others.Given as goal
 

@@ -1,5 +1,5 @@
 use Rattle.std.proofs.Common.{inr, None, refl}
-use Rattle.hall_core.specs.Files.{image_of}
+use Rattle.hall_core.specs.Images.{image_of}
 use Rattle.vtoc_index.proofs.CallsMade.{broken_none}
 use Rattle.vtoc_index.proofs.TracksRead.{slots_none}
 use Rattle.vtoc_index.proofs.read.read_track.Goals as goal

@@ -1,19 +1,19 @@
-use Rattle.std.proofs.Common.{◌≡◌, refl, sym, ap, subst, ◌∙◌, arith, ℕ, List, length}
-use Rattle.std.specs.Prelude.{Err}
+use Rattle.std.proofs.Common.{◌≡◌, ◌⊎◌, [], Some, refl, sym, ap, subst, ◌∙◌, arith, ℕ, List, length}
+use Rattle.std.specs.Prelude.{Err, slice_get}
+use Rattle.pack_spec.specs.declared.MountErr.TheVariants.{Memory}
+use Rattle.pack_spec.specs.Rules.{slots_faults}
+use Rattle.vtoc_index.proofs.HeldDscbs.{dscbs_many}
 use Rattle.std.proofs.lemmas.Result.{err_from_is_err_and}
-use Rattle.hall_core.specs.Files.{image_of}
-use Rattle.pack_spec.specs.Slots.{slots_of_vtoc}
-use Rattle.pack_spec.specs.Views.{address_of}
-use Rattle.track_records.specs.Buffers.{Buffer}
-use Rattle.track_records.specs.Written.{StandsOn}
-use Rattle.vtoc_index.specs.Contents.{AreRead}
-use Rattle.vtoc_index.specs.Index.{AreFirsts, run_of}
-use Rattle.vtoc_index.specs.Reading.{AreTracksRead, vtoc_on}
-use Rattle.vtoc_index.specs.declared.slots.ReadSlot.{ReadSlot}
+use Rattle.hall_core.specs.Images.{image_of}
+use Rattle.vtoc_index.specs.Index.{AreDscbs, AreFirsts}
+use Rattle.vtoc_index.specs.Reading.{AreTracksRead}
+use Rattle.pack_spec.specs.Vtoc.{vtoc_on}
+use Rattle.pack_spec.specs.declared.slot.VtocSlot.{VtocSlot}
 use Rattle.vtoc_index.proofs.CallsMade.{reason_at}
 use Rattle.vtoc_index.proofs.Images.{same_image}
 use Rattle.vtoc_index.proofs.Mounts.{label_reason, label_seen, mounted, outside_reason, slots_reason, vtoc_reason}
-use Rattle.vtoc_index.proofs.TracksRead.{AreRead-length, dscbs_many}
+use Rattle.track_records.specs.Buffers.{Buffer}
+use Rattle.track_records.specs.Written.{StandsOn}
 use Rattle.vtoc_index.proofs.read.read_vtoc.Goals as goal
 
 pub returns-in_err-label-clause-refused : goal.returns-in_err-label-clause-refused
@@ -62,13 +62,13 @@ returns-in_err-slots-clause-refused g c told =
     let later = image_of (g.H.Hall.meaning c.read_label.new.hall).state (g.H.Hall.facts c.read_label.new.hall) c.args.unit in
     let still : later ≡ image = same_image (g.H.Hall.meaning c.read_label.new.hall).state (g.H.Hall.meaning c.read_geometry.new.hall).state (g.H.Hall.facts c.read_label.new.hall) (g.H.Hall.facts c.read_geometry.new.hall) c.args.unit (c.in_ok-label.ensures.told told).state c.in_ok-label.ensures.call.units ∙ same in
     let vtoc = c.in_ok-vtoc.vtoc in
-    let extent = ap (λ (i : List ℕ). vtoc_on i geometry (address_of c.in_ok-label.label.vtoc)) (sym still) ∙ c.in_ok-vtoc.ensures.extent told in
+    let extent = ap (λ (i : List ℕ). vtoc_on i geometry c.in_ok-label.label.vtoc) (sym still) ∙ c.in_ok-vtoc.ensures.extent told in
     let read = subst (λ (i : List ℕ). AreTracksRead i geometry vtoc.start vtoc.len c.in_ok-vtoc.found) still (c.in_ok-vtoc.ensures.read told) in
-    let slots = subst (λ (l : List ReadSlot). AreRead l (slots_of_vtoc image geometry (run_of vtoc))) (sym c.deref.ensures.value) read.slots in
+    let slots = c.deref.ensures.value ∙ read.slots in
     let p = err_from_is_err_and c.from_residual-in_err-slots.result c.from_residual-in_err-slots.ensures.1 in
     reason_at image c.from_residual-in_err-slots.result c.in_err-slots.field-0.0 (p.1 ∙ ap Err p.2)
     (slots_reason image geometry c.in_ok-label.label vtoc c.in_ok-vtoc.found c.in_err-slots.field-0.0 (c.in_ok-geometry.ensures.read told) label (sym c.if-not-is_inside.ensures) extent read
-    (c.in_err-slots.ensures.refused (slots_of_vtoc image geometry (run_of vtoc)) slots))
+    (subst (λ (l : List VtocSlot). (c.in_err-slots.field-0.0 ≡ Memory) ⊎ (slice_get (slots_faults geometry l) 0 ≡ Some c.in_err-slots.field-0.0)) slots c.in_err-slots.ensures.refused))
 
 pub returns-clause-mounted : goal.returns-clause-mounted
 returns-clause-mounted g c told =
@@ -81,22 +81,20 @@ returns-clause-mounted g c told =
     let later = image_of (g.H.Hall.meaning c.read_label.new.hall).state (g.H.Hall.facts c.read_label.new.hall) c.args.unit in
     let still : later ≡ image = same_image (g.H.Hall.meaning c.read_label.new.hall).state (g.H.Hall.meaning c.read_geometry.new.hall).state (g.H.Hall.facts c.read_label.new.hall) (g.H.Hall.facts c.read_geometry.new.hall) c.args.unit (c.in_ok-label.ensures.told told).state c.in_ok-label.ensures.call.units ∙ same in
     let vtoc = c.in_ok-vtoc.vtoc in
-    let extent = ap (λ (i : List ℕ). vtoc_on i geometry (address_of c.in_ok-label.label.vtoc)) (sym still) ∙ c.in_ok-vtoc.ensures.extent told in
+    let extent = ap (λ (i : List ℕ). vtoc_on i geometry c.in_ok-label.label.vtoc) (sym still) ∙ c.in_ok-vtoc.ensures.extent told in
     let read = subst (λ (i : List ℕ). AreTracksRead i geometry vtoc.start vtoc.len c.in_ok-vtoc.found) still (c.in_ok-vtoc.ensures.read told) in
-    let slots = subst (λ (l : List ReadSlot). AreRead l (slots_of_vtoc image geometry (run_of vtoc))) (sym c.deref.ensures.value) read.slots in
+    let slots = c.deref.ensures.value ∙ read.slots in
     let stands = subst (λ (i : List ℕ). StandsOn i c.read_slots.new.buf) still (c.in_ok-vtoc.ensures.stands told) in
     mounted image c.in_ok-label.label _ c.in_ok-vtoc.found
     (record { header = c.in_ok-geometry.ensures.read told; label = label; inside = sym c.if-not-is_inside.ensures; extent = extent; read = read })
-    refl refl stands (c.in_ok-slots.ensures.dscbs (slots_of_vtoc image geometry (run_of vtoc)) slots)
+    refl refl stands (subst (λ (l : List VtocSlot). AreDscbs c.in_ok-slots.slots.items l × (slots_faults geometry l ≡ [])) slots c.in_ok-slots.ensures.dscbs)
 
 -- as many slots are held as were read
 pub returns-clause-unit : goal.returns-clause-unit
 returns-clause-unit g c =
     let extent = c.in_ok-vtoc.ensures.numbers.0 in
     let numbers = c.in_ok-vtoc.ensures.numbers.1 in
-    let read = subst (λ (l : List ReadSlot). AreRead l numbers.read.0) (sym c.deref.ensures.value) numbers.read.1 in
-    let held = (c.in_ok-slots.ensures.dscbs numbers.read.0 read).0 in
-    let many : length c.in_ok-slots.slots.items ≡ length c.in_ok-vtoc.found.slots.items = dscbs_many c.in_ok-slots.slots.items numbers.read.0 held ∙ sym (AreRead-length c.in_ok-vtoc.found.slots.items numbers.read.0 numbers.read.1) in (
+    let many : length c.in_ok-slots.slots.items ≡ length c.in_ok-vtoc.found.slots.items = dscbs_many c.in_ok-slots.slots.items c.deref.result.now c.in_ok-slots.ensures.dscbs.0 ∙ ap length c.deref.ensures.value in (
       refl,
       record {
         attached = c.requires;

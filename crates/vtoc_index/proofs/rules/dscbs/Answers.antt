@@ -1,6 +1,6 @@
 -- A slot holds a DSCB or not.
 use Rattle.std.proofs.Common.{ap, ◌∙◌}
-use Rattle.vtoc_index.proofs.DscbLists.{dscbs-more, dscbs-same}
+use Rattle.vtoc_index.proofs.HeldDscbs.{dscbs-more, dscbs-same}
 use Rattle.vtoc_index.proofs.rules.dscbs.Goals as goal
 use Rattle.vtoc_index.proofs.rules.dscbs.Goals.{in-Ok+in_ok-push, in_default}
 

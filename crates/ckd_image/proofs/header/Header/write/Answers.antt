@@ -1,7 +1,7 @@
 -- The fields are written behind one another, and read back.
 use Rattle.std.proofs.Common.{◌≡◌, Ok, sym, subst, ◌∙◌}
 use Rattle.ckd_image.specs.Header.{geometry_of}
-use Rattle.ckd_image.proofs.Written.{written_bytes, written_read}
+use Rattle.ckd_image.proofs.WrittenHeaders.{written_bytes, written_read}
 use Rattle.ckd_image.proofs.header.Header.write.Goals as goal
 
 pub returns : goal.returns

@@ -1,5 +1,5 @@
 use Rattle.std.proofs.Common.{◌∙◌, sym, ap, List, ℕ, Some}
-use Rattle.hall_core.specs.Files.{File, file_of}
+use Rattle.stop_model.specs.Files.{File, file_of}
 use Rattle.hall_core.proofs.UnitLemmas.{pair_named}
 use Rattle.hall_core.proofs.mem_hall.MemHall.image.Goals as goal
 

@@ -5,10 +5,10 @@ use Rattle.hall_core.proofs.RecordLemmas.{IsMore, print_more}
 use Rattle.hall_core.proofs.mem_hall.MemHall.record_print.Goals as goal
 use Rattle.hall_core.proofs.mem_hall.MemHall.record_print.Goals.{After-note}
 
-more : (c : After-note) → let s = c.args.self.now in IsMore (files_of (first_pairs s.first s.files.items)) (files_of s.files.items) (files_of s.files.items) s.units.items s.steps.items c.note.new.steps.items s.written.items s.written.items s.printed.items c.append-start.new.pool.items (printed c.args.bytes.now c.args.is_cut)
+more : (c : After-note) → let s = c.args.self.now in IsMore (files_of (first_pairs s.first s.files.items)) (files_of s.files.items) (files_of s.files.items) s.units.items s.steps.items c.note.new.steps.items s.written.items s.written.items s.printed.items c.append-start.new.pool.items (printed c.args.bytes.now)
 more c =
     let s = c.args.self.now in
-    print_more _ _ _ _ _ _ s.replay c.args.bytes.now c.append-start.new.pool.items c.append-start.result c.args.is_cut c.note.new.steps.items c.append-start.ensures.start c.append-start.ensures.added c.note.ensures.steps
+    print_more _ _ _ _ _ _ s.replay c.args.bytes.now c.append-start.new.pool.items c.append-start.result c.note.new.steps.items c.append-start.ensures.start c.append-start.ensures.added c.note.ensures.steps
 
 pub invariant_of-self-clause-replay : goal.invariant_of-self-clause-replay
 invariant_of-self-clause-replay c = (more c).replay

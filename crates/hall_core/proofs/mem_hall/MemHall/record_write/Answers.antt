@@ -1,7 +1,7 @@
 use Rattle.std.proofs.Common.{◌∙◌, ap, sym, subst, arith, List, if◌then◌else◌}
 use Rattle.hall_core.specs.Held.{files_of, first_pairs, shapes_of, units_at}
 use Rattle.hall_core.specs.Facts.{Attached, unit_of}
-use Rattle.hall_core.specs.Files.{File, written}
+use Rattle.stop_model.specs.Files.{File, written}
 use Rattle.hall_core.specs.History.{wrote}
 use Rattle.hall_core.specs.Replay.{IsReplay}
 use Rattle.hall_core.proofs.RecordLemmas.{IsMore, write_more, first_stays}

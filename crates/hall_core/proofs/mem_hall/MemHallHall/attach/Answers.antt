@@ -1,7 +1,7 @@
 use Rattle.std.proofs.Common.{◌≡◌, ◌++◌, ◌∷◌, [], ap, sym, ◌∙◌, subst, List, ℕ, Some}
-use Rattle.hall_core.specs.Files.{File, file_of}
+use Rattle.stop_model.specs.Files.{File, file_of}
 use Rattle.hall_core.specs.Held.{files_of}
-use Rattle.hall_core.specs.Moments.{Same}
+use Rattle.stop_model.specs.Moments.{Same}
 use Rattle.hall_core.specs.History.{passed}
 use Rattle.hall_core.specs.Memory.{first_files, events_of, meaning_of}
 use Rattle.hall_core.proofs.CallLemmas.{moved, same_still, same_passed}
@@ -52,6 +52,3 @@ returns-clause-told c =
       missing = λ e. absurd (cc e);
       memory = λ e. absurd (cc e);
     }
-
-pub returns-clause-missing : goal.returns-clause-missing
-returns-clause-missing c fine none = let f = found (goal.at.returns-clause-missing c).After-add_unit in absurd (cc (f.1, none))

@@ -1,8 +1,8 @@
 use Rattle.std.proofs.Common.{[], ◌∷◌, ◌++◌, ap, ◌∙◌, arith, length, take, drop, List, ℕ}
 use Rattle.hall_core.specs.Facts.{unit_of}
-use Rattle.hall_core.specs.Files.{File, file_of}
+use Rattle.stop_model.specs.Files.{File, file_of}
 use Rattle.hall_core.specs.Held.{files_of, shapes_of}
-use Rattle.hall_core.specs.Moments.{Same}
+use Rattle.stop_model.specs.Moments.{Same}
 use Rattle.hall_core.specs.History.{passed}
 use Rattle.hall_core.specs.Memory.{first_files, events_of, meaning_of, facts_of}
 use Rattle.hall_core.proofs.CallLemmas.{moved, same_still, same_passed}

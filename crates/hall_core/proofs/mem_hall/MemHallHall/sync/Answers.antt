@@ -1,6 +1,6 @@
 use Rattle.std.proofs.Common.{[], ◌∷◌, ◌++◌, Ok, Err}
 use Rattle.hall_core.specs.declared.hall.HallErr.{HallErr}
-use Rattle.hall_core.specs.Files.{AfterSync}
+use Rattle.stop_model.specs.Files.{AfterSync}
 use Rattle.hall_core.specs.History.{synced, passed}
 use Rattle.hall_core.specs.Memory.{first_files, events_of, meaning_of}
 use Rattle.hall_core.proofs.CallLemmas.{moved, sync_lacking, sync_failed, sync_done}

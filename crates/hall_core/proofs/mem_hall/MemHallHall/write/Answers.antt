@@ -2,7 +2,7 @@ use Rattle.std.proofs.Common.{[], ◌∷◌, ◌++◌, Ok, Err, refl, ℕ, List,
 use Rattle.hall_core.specs.declared.hall.HallErr.{HallErr}
 use Rattle.hall_core.specs.declared.mem_hall.MemHall.{MemHall}
 use Rattle.hall_core.specs.Facts.{unit_of}
-use Rattle.hall_core.specs.Files.{AfterWrite}
+use Rattle.stop_model.specs.Files.{AfterWrite}
 use Rattle.hall_core.specs.History.{Write, wrote}
 use Rattle.hall_core.specs.Memory.{first_files, events_of, meaning_of, facts_of}
 use Rattle.hall_core.proofs.CallLemmas.{moved, write_lacking, write_failed, write_done}

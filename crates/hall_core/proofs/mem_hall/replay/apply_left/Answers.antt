@@ -1,7 +1,7 @@
 use Rattle.std.proofs.Common.{◌≡◌, ◌∙◌, ◌-◌, ap, arith, take, drop, length, List}
 use Rattle.std.proofs.lemmas.List.{take_all, length-drop}
 use Rattle.hall_core.specs.Facts.{Attached}
-use Rattle.hall_core.specs.Files.{File}
+use Rattle.stop_model.specs.Files.{File}
 use Rattle.hall_core.specs.History.{with_writes, kept}
 use Rattle.hall_core.specs.Held.{files_of, shapes_of, units_at}
 use Rattle.hall_core.specs.Replay.{writes_at}

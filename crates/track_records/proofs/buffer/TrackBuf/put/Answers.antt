@@ -1,6 +1,6 @@
 use Rattle.std.proofs.Common.{◌≡◌, ◌+◌, ◌-◌, ◌<◌, ◌++◌, arith, ap, subst, get_or, length, drop, take, List, ℕ, sym, ◌∙◌, IsTrue}
 use Rattle.std.proofs.lemmas.List.{take_at, length-map}
-use Rattle.hall_core.specs.Files.{patched}
+use Rattle.stop_model.specs.Files.{patched}
 use Rattle.ckd_image.specs.Track.{Record}
 use Rattle.ckd_image.specs.Reading.{front_record}
 use Rattle.track_records.specs.Buffers.{Buffer, records_at, are_places}

@@ -1,0 +1,4 @@
+pub mod Ascii
+pub mod Digits
+pub mod Levels
+pub mod Lists

@@ -1,0 +1,2 @@
+pub mod FileHall
+pub mod StdCards

@@ -1,0 +1,7 @@
+pub mod Faults
+pub mod JclCards
+pub mod Statements
+pub mod Pieces
+pub mod ExecOperands
+pub mod DdOperands
+pub mod Jobs

@@ -1,0 +1,22 @@
+//! Decks of jobs: the steps and DD statements that cards of JCL ask for, or the first fault of each job.
+#![tactic(auto)]
+
+mod dd_operands;
+mod exec_operands;
+mod faults;
+mod jcl_cards;
+mod job;
+mod lists;
+mod operands;
+mod reading;
+mod statements;
+
+pub use deck_cards::{DeckErr, read_deck};
+pub use faults::{JclErr, JclKind};
+pub use jcl_forms::{Dcb, DdAfter, DdPart, DdStatus, MAX_DIRECTORY_BLOCKS, Space, SpaceAsk};
+pub use job::{DataCards, Dd, DdSet, DdWhat, Dds, Job, Step, Steps};
+pub use lists::Listed;
+pub use reading::jobs;
+
+#[cfg(test)]
+mod tests;

@@ -1,0 +1,12 @@
+pub mod Steps
+pub mod Bounds
+pub mod Exact
+pub mod Spread
+pub mod Cuts
+pub mod Joins
+pub mod Faults
+pub mod Heads
+pub mod Unique
+pub mod Made
+pub mod Layouts
+pub mod ReadBack

@@ -1,0 +1,13 @@
+pub mod Formats
+pub mod Blocks
+pub mod Reading
+pub mod Deblocking
+pub mod Packing
+pub mod Packer
+pub mod Segments
+pub mod Joining
+pub mod Joiner
+pub mod Spanning
+pub mod Cut
+pub mod Layout
+pub mod Laws

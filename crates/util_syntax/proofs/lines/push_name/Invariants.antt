@@ -1,6 +1,0 @@
-use Rattle.std.proofs.Common.{◌≡◌, ◌++◌, take, map}
-use Rattle.ebcdic_names.specs.CodePage.{ascii_of}
-use Rattle.util_syntax.proofs.lines.push_name.Given as goal
-
-abbrev pub invariant-loop-byte : goal.invariant-loop-byte
-invariant-loop-byte l = l.line.items ≡ l.initial.line.items ++ map ascii_of (take l.byte-index l.byte-items)

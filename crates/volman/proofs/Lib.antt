@@ -1,9 +1,0 @@
-mod Listings
-mod Machines
-mod Units
-mod Tasks
-mod Works
-mod WordLemmas
-mod DeckLemmas
-mod Answering
-mod Cases

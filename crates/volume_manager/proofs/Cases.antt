@@ -1,0 +1,50 @@
+-- Definitions on cases that a near reading answers otherwise.
+use Rattle.std.proofs.Common.{◌≡◌, ◌≤◌, ℕ, [], ◌∷◌, length, replicate, refl, inl, inr, ⊎_elim, ap, arith, length-append}
+use Rattle.std.specs.Prelude.{◌⊎◌, codes}
+use Rattle.volume_manager.specs.Deck.{TakesAtMost}
+use Rattle.volume_manager.specs.Run.{IsFinal, IsStatus, IsUnasked, IsUnbegun, file_asked}
+use Rattle.volume_manager.specs.Words.{Names, Run}
+
+-- condition codes and refusals are final, faults and want of memory aren't
+codes_final : (n : ℕ) → n ≤ 16 → IsFinal n
+codes_final n few = inl (omega (arith, few))
+
+refusals_final : IsFinal 20 × (IsFinal 21 × IsFinal 26)
+refusals_final = (inl (omega arith), (inl (omega arith), inr refl))
+
+faults_not_final : (n : ℕ) → 22 ≤ n → n ≤ 25 → ¬ IsFinal n
+faults_not_final n low high final = ⊎_elim (λ (few : n ≤ 21). omega (arith, low, few)) (λ (deck : n ≡ 26). omega (arith, high, deck)) final
+
+-- 16 and 20 are statuses, what stands between them and behind 26 is none
+statuses : IsStatus 0 × (IsStatus 16 × (IsStatus 20 × IsStatus 26))
+statuses = (inl (omega arith), (inl (omega arith), (inr (omega arith, omega arith), inr (omega arith, omega arith))))
+
+no_statuses : (IsStatus 17 → ⊥) × ((IsStatus 19 → ⊥) × (IsStatus 27 → ⊥))
+no_statuses = (
+  λ is. ⊎_elim (λ (few : 17 ≤ 16). omega (arith, few)) (λ (high : (20 ≤ 17) × (17 ≤ 26)). omega (arith, high.0)) is,
+  (
+    λ is. ⊎_elim (λ (few : 19 ≤ 16). omega (arith, few)) (λ (high : (20 ≤ 19) × (19 ≤ 26)). omega (arith, high.0)) is,
+    λ is. ⊎_elim (λ (few : 27 ≤ 16). omega (arith, few)) (λ (high : (20 ≤ 27) × (27 ≤ 26)). omega (arith, high.1)) is,
+  ),
+)
+
+-- with 21 a file was asked for, and nothing begun
+begun_none : IsUnbegun 20 × (IsUnbegun 21 × (IsUnbegun 23 × IsUnbegun 26))
+begun_none = (inl (omega arith, omega arith), (inl (omega arith, omega arith), (inr (inl refl), inr (inr refl))))
+
+begun_some : (n : ℕ) → (n ≤ 16) ⊎ ((n ≡ 22) ⊎ ((n ≡ 24) ⊎ (n ≡ 25))) → ¬ IsUnbegun n
+begun_some n which is = ⊎_elim (λ few. omega (arith, which, few.0, few.1)) (λ more. omega (arith, which, more)) is
+
+asked_some : IsUnasked 21 → ⊥
+asked_some is = ⊎_elim (λ (words : 21 ≡ 20). omega (arith, words)) (λ more. omega (arith, more)) is
+
+-- a run asks for its file, and other words for none
+run_asks : file_asked (Run (codes "w.img")) ≡ codes "w.img"
+run_asks = refl
+
+names_asks : file_asked (Names (codes "w.img")) ≡ codes "w.img"
+names_asks = refl
+
+-- of 84 bytes one stays
+one_stays : TakesAtMost 83 (replicate 84 65) [] → ⊥
+one_stays takes = omega (arith, takes.few, ap length takes.front, length-append takes.taken [])

@@ -1,0 +1,160 @@
+-- What a run of the program leaves.
+use Rattle.std.specs.Prelude.{◌≡◌, ◌≢◌, ◌⊎◌, ℕ, ◌≤◌, Bool, List, [], ◌∷◌, ◌++◌, Option, Some, None, Ok, IsTrue}
+use Rattle.dadsm_ops.specs.Operations.{ChangesVtoc, image_named}
+use Rattle.hall_core.specs.Facts.{Facts}
+use Rattle.stop_model.specs.Counts.{Rose}
+use Rattle.stop_model.specs.Files.{File, IsPrefixOf}
+use Rattle.stop_model.specs.Moments.{Meaning, IsDurable, LeavesSame, LeftNow, Elapses}
+use Rattle.pack_spec.specs.Volume.{volume_of}
+use Rattle.util_syntax.specs.declared.statement.Rename.{Rename}
+use Rattle.vol_model.specs.declared.contents.Shelf.{Shelf}
+use Rattle.vol_model.specs.declared.contents.Volume.{Volume}
+use Rattle.vol_model.specs.Events as events
+use Rattle.vol_model.specs.Events.{Item, StandsIn, events_of, listing, operations_of, shelf_behind}
+use Rattle.volume_manager.specs.Deck.{deck_of}
+use Rattle.shelf_machine.specs.Machine.{shelf_with}
+use Rattle.volume_manager.specs.Task.{Task, Says, Works, task_of}
+use Rattle.volume_manager.specs.Words.{Request, Names, Run}
+use Rattle.volume_manager.specs.declared.status.Status.{Status}
+use Rattle.volume_manager.specs.declared.status.Status.TheVariants.{Done, Words, Unit, Device, Cards, Print, Memory, Deck}
+
+-- the number of a status
+abbrev pub code_of : Status → ℕ
+code_of Done = 0
+code_of Words = 20
+code_of Unit = 21
+code_of Device = 22
+code_of Cards = 23
+code_of Print = 24
+code_of Memory = 25
+code_of Deck = 26
+
+-- a number with which the program ends: a condition code, or the number of a refusal or a fault
+abbrev pub IsStatus : ℕ → Type 0
+IsStatus n = (n ≤ 16) ⊎ ((20 ≤ n) × (n ≤ 26))
+
+-- a status with which all was done that is to be done: a condition code, or a refusal
+abbrev pub IsFinal : ℕ → Type 0
+IsFinal n = (n ≤ 21) ⊎ (n ≡ 26)
+
+-- a prefix of the text stands behind what was printed
+abbrev pub AddsPrefix : List ℕ → List ℕ → List ℕ → Type 0
+AddsPrefix text old new = (q : List ℕ) × IsPrefixOf q text × (new ≡ old ++ q)
+
+-- the image under this name stands for a volume, and the shelf is that of it alone
+abbrev pub StandsFor : List ℕ → List File → Shelf → Type 0
+StandsFor file files shelf = (volume : Volume) × (volume_of (image_named files file) ≡ Ok volume) × (shelf ≡ shelf_with volume)
+
+-- All items were done: the status is their highest condition code, their lines were printed, the image stands durably for the shelf after all their operations, and nothing but tracks of its VTOC was changed.
+pub record AllItemsDone (file : List ℕ) (volume : Volume) (items : List Item) (old new : Meaning (List File)) (status : ℕ) : Type 0 where
+  pub code : status ≡ events.code_of items
+  pub printed : new.printed ≡ old.printed ++ listing (events_of items)
+  pub shelf : StandsFor file new.state (shelf_behind (shelf_with volume) (events_of items))
+  pub durable : IsDurable new
+  pub changes : ChangesVtoc file volume.geometry volume.vtoc old.state new.state
+
+-- the task was done, and this is its status
+abbrev pub IsTaskDone : Task → Meaning (List File) → Meaning (List File) → ℕ → Type 0
+IsTaskDone (Says code text) old new status = (status ≡ code) × (new.printed ≡ old.printed ++ text)
+IsTaskDone (Works file volume items) old new status = AllItemsDone file volume items old new status
+
+-- What a stop leaves of a run of items: behind what was printed a prefix of their lines; an image that stands for the shelf after some of their operations, all that are reported and none that can't have begun; and nothing changed but tracks of its VTOC, and nothing at all where there is no operation.
+pub record IsStopIn (file : List ℕ) (volume : Volume) (items : List Item) (old : Meaning (List File)) (files : List File) (printed : List ℕ) : Type 0 where
+  pub shelf : Shelf
+  pub stands : StandsFor file files shelf
+  pub front : List ℕ
+  pub text : printed ≡ old.printed ++ front
+  pub place : StandsIn (shelf_with volume) (events_of items) shelf front
+  pub changes : ChangesVtoc file volume.geometry volume.vtoc old.state files
+  pub idle : operations_of (events_of items) ≡ [] → files ≡ old.state
+
+-- A text was printed, or a prefix of it, and nothing was written: the files stay, and a stop leaves them as before.
+pub record KeepsFiles (text : List ℕ) (old new : Meaning (List File)) : Type 0 where
+  pub files : new.state ≡ old.state
+  pub left : LeavesSame old new
+  pub printed : AddsPrefix text old.printed new.printed
+  pub moments : Elapses old new (λ files p. old.left files × AddsPrefix text old.printed p)
+
+-- Time goes on, and whatever a stop since the begin left is what one in these items may leave.
+pub record StopsInItems (file : List ℕ) (volume : Volume) (items : List Item) (old new : Meaning (List File)) : Type 0 where
+  pub later : old.clock ≤ new.clock
+  pub stops : (files : List File) (printed : List ℕ) → new.left_since old.clock files printed → IsStopIn file volume items old files printed
+
+-- whatever the status, a stop at any moment leaves what the task allows
+abbrev pub StopsInTask : Task → Meaning (List File) → Meaning (List File) → Type 0
+StopsInTask (Says code text) old new = KeepsFiles text old new
+StopsInTask (Works file volume items) old new = StopsInItems file volume items old new
+
+-- A task is done where the status says so, and is safe whatever the status is; where memory ran out nothing was printed.
+pub record FollowsTask (task : Task) (old new : Meaning (List File)) (status : ℕ) : Type 0 where
+  pub ends : IsFinal status → IsTaskDone task old new status
+  pub silent : status ≡ 25 → new.printed ≡ old.printed
+  pub stops : StopsInTask task old new
+
+-- What the program promises, with the deck that the cards held at its begin, or, where these don't tell, with some deck.
+pub record Headline (request : Option Request) (tells : Bool) (input : List ℕ) (old new : Meaning (List File)) (status : ℕ) : Type 0 where
+  pub deck : Option Rename
+  pub given : IsTrue tells → deck ≡ deck_of input
+  pub does : FollowsTask (task_of request deck old.state) old new status
+
+-- A text was printed, all of it but where the printer failed. The files stay, and a stop leaves them as before; one meanwhile leaves a prefix of the text.
+pub record PrintsText (text : List ℕ) (old new : Meaning (List File)) (result : ℕ) : Type 0 where
+  pub done : result ≢ 24 → new.printed ≡ old.printed ++ text
+  pub files : KeepsFiles text old new
+
+-- a stop since a moment left what is there now
+abbrev pub LeftOnlyNow : Meaning (List File) → ℕ → Type 0
+LeftOnlyNow m t = (files : List File) (printed : List ℕ) → m.left_since t files printed → (files ≡ m.state) × (printed ≡ m.printed)
+
+-- Items on the shelf of a pack that was mounted: they are done where the status says so; and if a stop since a moment left nothing else than was there, then one since that moment leaves what one in the items may leave.
+pub record RunsItems (file : List ℕ) (volume : Volume) (items : List Item) (old new : Meaning (List File)) (status : ℕ) : Type 0 where
+  pub ends : IsFinal status → AllItemsDone file volume items old new status
+  pub later : old.clock ≤ new.clock
+  pub stops : (t : ℕ) → t ≤ old.clock → LeftOnlyNow old t → (files : List File) (printed : List ℕ) → new.left_since t files printed → IsStopIn file volume items old files printed
+
+-- A sync, done or failed: what is read stays, and is durable but where the status is that of a device fault.
+pub record OnlySynced (old new : Meaning (List File)) (status : ℕ) : Type 0 where
+  pub state : new.state ≡ old.state
+  pub printed : new.printed ≡ old.printed
+  pub durable : status ≢ 22 → IsDurable new
+  pub moments : Elapses old new (LeftNow old)
+
+-- no count of faults fell
+pub record NoCountFell (old new : Facts) : Type 0 where
+  pub devices : old.dev_faults ≤ new.dev_faults
+  pub prints : old.print_faults ≤ new.print_faults
+
+-- the file that is asked for
+abbrev pub file_asked : Request → List ℕ
+file_asked (Names file) = file
+file_asked (Run file) = file
+
+-- The units that stood stay, and at most this file was attached behind them.
+abbrev pub AttachesAtMost : List ℕ → Facts → Facts → Type 0
+AttachesAtMost name old new = (new.units ≡ old.units) ⊎ ((size : ℕ) × (new.units ≡ old.units ++ record { name = name; size = size } ∷ []))
+
+-- The units that stood stay, and at most the file that is asked for was attached behind them.
+abbrev pub AttachesAsked : Option Request → Facts → Facts → Type 0
+AttachesAsked None old new = new.units ≡ old.units
+AttachesAsked (Some request) old new = AttachesAtMost (file_asked request) old new
+
+-- Calls over a file: a fault is reported only where its count rose; at most the file was attached.
+pub record FileFacts (file : List ℕ) (old new : Facts) (status : ℕ) : Type 0 where
+  pub which : (status ≤ 16) ⊎ ((status ≡ 21) ⊎ ((status ≡ 22) ⊎ ((status ≡ 24) ⊎ (status ≡ 25))))
+  pub device : status ≡ 22 → Rose old.dev_faults new.dev_faults
+  pub print : status ≡ 24 → Rose old.print_faults new.print_faults
+  pub later : NoCountFell old new
+  pub references : new.references ≡ old.references
+  pub units : AttachesAtMost file old new
+
+-- the files stay, and a stop leaves them as before
+abbrev pub LeavesFiles : Meaning (List File) → Meaning (List File) → Type 0
+LeavesFiles old new = (new.state ≡ old.state) × LeavesSame old new
+
+-- a status with which nothing was begun: the words, the file or the deck is refused, or the cards couldn't be read
+abbrev pub IsUnbegun : ℕ → Type 0
+IsUnbegun n = ((20 ≤ n) × (n ≤ 21)) ⊎ ((n ≡ 23) ⊎ (n ≡ 26))
+
+-- a status with which no file was asked for
+abbrev pub IsUnasked : ℕ → Type 0
+IsUnasked n = (n ≡ 20) ⊎ ((n ≡ 23) ⊎ (n ≡ 26))

@@ -1,0 +1,17 @@
+//! The volume manager: all that the program `volman` does, over the files and the printer of a hall and
+//! over the cards of a source.
+#![tactic(auto)]
+
+mod deck;
+mod mount;
+mod names;
+mod reason;
+mod statement;
+mod status;
+mod text;
+mod top;
+mod words;
+mod work;
+
+pub use status::Status;
+pub use top::volman;

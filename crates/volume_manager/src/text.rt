@@ -1,0 +1,49 @@
+//! The texts that the program prints.
+ghost use Rattle.std.specs.Prelude.{◌≡◌, ◌++◌, List, ℕ, IfOk, OnOk};
+ghost use Rattle.volume_manager.specs.Lines.{deck_line, words_line, unit_line, name_line, names_listing};
+
+use crate::reason::push_reason;
+use ebcdic_names::push_name_in_ascii;
+use std::alloc::{AllocError, Global};
+use vtoc_index::MountErr;
+
+/// Where the words are refused.
+pub const WORDS_LINE: &[u8; 13] = b"VOLMAN WORDS\n";
+
+/// Where the deck is refused.
+pub const DECK_LINE: &[u8; 17] = b"VOLMAN DECK FORM\n";
+
+/// The line that says why a file is refused.
+#[tactic(auto, unfolding(crate::specs::Lines::unit_line))]
+pub fn unit_line(alloc: Global, file: &str, why: MountErr) -> Result<Vec<u8>, AllocError>
+    ensures { IfOk result (λ line. line.items ≡ unit_line file.now why) }
+{
+    let mut line = Vec::from_slice(alloc, b"VOLMAN UNIT ")?;
+    line.extend_from_slice(file.as_bytes())?;
+    line.push(b' ')?;
+    push_reason(&mut line, why)?;
+    line.push(b'\n')?;
+    Ok(line)
+}
+
+/// The names, each on a line without the blanks behind it.
+#[tactic(auto, unfolding(crate::specs::Lines::names_listing))]
+pub fn listing(alloc: Global, names: &[[u8; 44]]) -> Result<Vec<u8>, AllocError>
+    ensures { IfOk result (λ text. text.items ≡ names_listing names.now) }
+{
+    let mut text = Vec::new(alloc);
+    for name in names {
+        push_name(&mut text, name)?;
+    }
+    Ok(text)
+}
+
+// Adds a name and the end of its line.
+#[tactic(auto, unfolding(crate::specs::Lines::name_line))]
+fn push_name(text: &mut Vec<u8>, name: &[u8]) -> Result<(), AllocError>
+    ensures { OnOk result (text.new.items ≡ text.old.items ++ name_line name.now) }
+{
+    push_name_in_ascii(text, name)?;
+    text.push(b'\n')?;
+    Ok(())
+}
