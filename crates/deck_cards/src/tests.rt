@@ -14,6 +14,22 @@ fn deck_of(
     Ok(read_deck(alloc, &mut cards))
 }
 
+// A hundred thousand bytes: printable characters, line feeds, and now and then a carriage return.
+fn noise(alloc: Global) -> Result<Vec<u8>, AllocError> {
+    let mut bytes = Vec::new(alloc);
+    let mut state: u32 = 74_123;
+    for _ in 0..100_000 {
+        state = state.wrapping_mul(1_664_525).wrapping_add(1_013_904_223);
+        let byte = match state >> 24 {
+            0..=7 => b'\n',
+            8 => b'\r',
+            other => 32 + (other % 95) as u8,
+        };
+        bytes.push(byte)?;
+    }
+    Ok(bytes)
+}
+
 // Bytes, and the number of their cards or their fault.
 type Case = (&'static [u8], Result<usize, DeckErr>);
 
@@ -59,5 +75,10 @@ fn decks_and_their_first_faults(rt: HostRuntime) -> Result<(), Fail> {
     // The second read fails.
     let cards = deck_of(alloc, b"A\n", 1)?.map(|cards| cards.len());
     assert_eq!(rt; cards, Err(DeckErr::Read));
+    // Noise: no bytes are a fault of the source.
+    for deck in noise(alloc)?.chunks(100) {
+        let cards = deck_of(alloc, deck, 99)?;
+        assert!(rt; !matches!(cards, Err(DeckErr::Read | DeckErr::Memory)));
+    }
     Ok(())
 }

@@ -33,7 +33,7 @@ pub struct Rename {
 /// In this project's profile the card has a blank, `RENAME`, a blank, and the operands `DSNAME`, `VOL` and `NEWNAME`,
 /// each once and in this order, parted by commas: ` RENAME DSNAME=old,VOL=device=serial,NEWNAME=new`. Then come blanks
 /// alone. The names are data set names and the serial that of a volume, as Utilities GC28-6586 has them, and the device
-/// is `2311`, `2314` or `3330`. Columns 72 to 80 are read as the others, where Utilities GC28-6586 has the mark of a
+/// is `2311`, `2314`, `3330` or `3350`. Columns 72 to 80 are read as the others, where Utilities GC28-6586 has the mark of a
 /// continuation in 72 and numbers of cards in 73 to 80. Any other card, and one of more than 80 columns, gives `None`.
 pub fn rename_of(card: &[u8]) -> Option<Rename>
     ensures { result ≡ rename_of card.now }

@@ -115,6 +115,24 @@ fn statements_and_their_faults(rt: HostRuntime) -> Result<(), Fail> {
     };
     assert_eq!(rt; last.card, 4);
     assert_eq!(rt; last.operands.len(), 0);
+    // A library that is made, of which a member goes, and that is copied: no card has a fault.
+    let items = items_of(
+        alloc,
+        &[
+            b"   ADD NAME=M00001".as_slice(),
+            b"   ENDUP".as_slice(),
+            b" SCRATCH DSNAME=DRILL.LIB,VOL=2314=WORK01,MEMBER=M00003".as_slice(),
+            b" COPY OUTDD=SYSUT2,INDD=SYSUT1".as_slice(),
+            b" SCRATCH DSNAME=DRILL.LIB,VOL=2314=WORK01,PURGE".as_slice(),
+        ],
+    )?;
+    let mut operands = [0; 5];
+    for (place, item) in items.iter().enumerate() {
+        if let Item::Stmt(statement) = item {
+            operands[place.min(4)] = statement.operands.len();
+        }
+    }
+    assert_eq!(rt; operands, [1, 0, 3, 2, 3]);
     Ok(())
 }
 
