@@ -75,6 +75,7 @@ pub fn report(
 fn push_call(text: &mut String, call: Call) -> Result<()> {
     match call {
         Call::Attach => writeln!(text, ": attach")?,
+        Call::Create => writeln!(text, ": create")?,
         Call::Read { unit, at } => writeln!(text, ": read {unit} +{at}")?,
         Call::Write { unit, at } => writeln!(text, ": write {unit} +{at}")?,
         Call::Sync => writeln!(text, ": sync")?,

@@ -60,6 +60,14 @@ impl Hall for Unsteady {
         }
     }
 
+    fn create(&mut self, name: &str, len: u64) -> Result<u8, HallErr> {
+        match self.hall.create(name, len) {
+            Ok(unit) => Ok(unit),
+            Err(HallErr::Exists) => Err(HallErr::Exists),
+            Err(_) => Err(fault(&mut self.dev_faults)),
+        }
+    }
+
     fn size(&self, unit: u8) -> u64 {
         self.hall.size(unit)
     }

@@ -34,14 +34,14 @@ pub fn rename<H: Hall>(hall: &mut H, vol: &mut Vol, old: &Dsn, new: &Dsn) -> Res
     requires mounted { let image = image_in (H.meaning hall.old) (H.facts hall.old) vol.old.unit in
         IsTrue H.tells → IsMounted image vol.old }
     requires durable { IsTrue H.tells → IsDurable (H.meaning hall.old) }
-    ensures told { IsTrue H.tells → Operates (unit_of (H.facts hall.old).units vol.old.unit).name
+    ensures files { IsTrue H.tells → Operates (unit_of (H.facts hall.old).units vol.old.unit).name
         (rename_on old.now new.now) vol.new (H.meaning hall.old) (H.meaning hall.new) result }
     ensures unit { IsOfUnit (H.facts hall.new).units vol.new }
     ensures index { vol.new ≡ record vol.old { slots = vol.new.slots; buf = vol.new.buf } }
     ensures refused { (r : Refusal) → IsErrOf result (StoreErr.Refused r)
         → (hall.new ≡ hall.old) × (vol.new ≡ vol.old) }
     ensures memory { IsErrOf result StoreErr.Memory → ⊥ }
-    ensures call { StoreCall (H.facts hall.old) (H.facts hall.new) result }
+    ensures faults { StoreCall (H.facts hall.old) (H.facts hall.new) result }
 {
     let slot = slot_to_rename(vol, old, new).map_err(StoreErr::Refused)?;
     let dscb = under_name(&vol.slots[slot as usize], new);

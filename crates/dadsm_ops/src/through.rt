@@ -25,13 +25,13 @@ pub(crate) fn put_through<H: Hall>(
     requires index { let image = image_in (H.meaning hall.old) (H.facts hall.old) vol.old.unit in
         IsTrue H.tells → IsIndexOf image vol.old }
     requires durable { IsTrue H.tells → IsDurable (H.meaning hall.old) }
-    ensures told { IsTrue H.tells → PutsThrough
+    ensures files { IsTrue H.tells → PutsThrough
         (unit_of (H.facts hall.old).units vol.old.unit).name vol.old slot dscb.now vol.new
         (H.meaning hall.old) (H.meaning hall.new) result }
     ensures index { OnOk result (IsReplaced slot dscb.now vol.old vol.new) }
     ensures others { vol.new ≡ record vol.old { slots = vol.new.slots; buf = vol.new.buf } }
     ensures unit { IsOfUnit (H.facts hall.new).units vol.new }
-    ensures call { DeviceCall (H.facts hall.old) (H.facts hall.new) result }
+    ensures faults { DeviceCall (H.facts hall.old) (H.facts hall.new) result }
 {
     put_slot(hall, vol, slot, dscb)?;
     make_durable(hall)
@@ -39,8 +39,8 @@ pub(crate) fn put_through<H: Hall>(
 
 // Makes the writes durable. After an error they are pending as before.
 fn make_durable<H: Hall>(hall: &mut H) -> Result<(), Device>
-    ensures told { IsTrue H.tells → AfterSync (H.meaning hall.old) (H.meaning hall.new) result }
-    ensures call { DeviceCall (H.facts hall.old) (H.facts hall.new) result }
+    ensures files { IsTrue H.tells → AfterSync (H.meaning hall.old) (H.meaning hall.new) result }
+    ensures faults { DeviceCall (H.facts hall.old) (H.facts hall.new) result }
 {
     hall.sync()?;
     Ok(())

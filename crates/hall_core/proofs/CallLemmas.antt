@@ -1,13 +1,15 @@
 -- What each call does to what a hall means, by the event that it was.
 use Rattle.std.proofs.Common.{◌≡◌, ◌<◌, inl, inr, ⊎_elim, ℕ, List, [], ◌∷◌, ◌++◌, length, refl, sym, ◌∙◌, ap, subst, arith, append_assoc, length-append, true, false}
-use Rattle.std.specs.Prelude.{Ok, Err}
+use Rattle.std.specs.Prelude.{◌↔◌, Ok, Err, Some, None, IsErrOf}
 use Rattle.std.proofs.lemmas.List.{append-nil, append_cancel_left}
 use Rattle.hall_core.specs.declared.hall.HallErr.{HallErr}
 use Rattle.stop_model.specs.Moments.{Meaning, LeftNow, LeavesSame, ElapsesExactly, Same}
-use Rattle.stop_model.specs.Files.{File, IsPrefixOf, IsPending, AfterWrite, AfterSync, AfterPrint}
-use Rattle.hall_core.specs.HistoryLaws.{LeftIn, now_in, in_now, nothing_kept, state_left_now, now_since}
-use Rattle.hall_core.specs.History.{Write, Event, wrote, synced, printed, passed, Disk, new_disk, with_writes, after, after_all, MayLeave, meaning_after}
-use Rattle.hall_core.proofs.HistoryLemmas.{next_disk, elapses, left_more, left_out, left_in}
+use Rattle.stop_model.specs.Files.{File, file_of, IsPrefixOf, IsPending, AfterWrite, AfterSync, AfterPrint}
+use Rattle.hall_core.specs.HistoryLaws.{LeftIn, now_in, in_now, state_left_now, now_since}
+use Rattle.hall_core.specs.History.{Write, Event, wrote, made, synced, printed, passed, Disk, new_disk, after, after_all, MayLeave, meaning_after}
+use Rattle.hall_core.proofs.HistoryLemmas.{next_disk, elapses, left_more, left_out, left_in, left_behind, left_with}
+use Rattle.hall_core.specs.Images.{Creates, IsPartlyCreated, zeros_named}
+use Rattle.hall_core.specs.declared.hall.HallErr.TheVariants.{Exists, Memory}
 
 -- what is known of a meaning, of another that is the same
 pub moved : (P : Meaning (List File) → Type 0) (first first' : List File) (es es' : List Event) → first' ≡ first → es' ≡ es → P (meaning_after first es) → P (meaning_after first' es')
@@ -16,6 +18,24 @@ moved P first first' es es' same events known = subst (λ (f : List File). P (me
 only_nothing : (q r : List ℕ) → q ++ r ≡ [] → q ≡ []
 only_nothing [] r is = refl
 only_nothing (x ∷ q) r is = absurd (cc is)
+
+-- a creation behind which nothing changed but the time
+pub creates_nothing : (name : List ℕ) (len : ℕ) (old new : Meaning (List File)) (e : HallErr) → Same old new → (IsErrOf {T = ℕ} {E = HallErr} (Err e) Exists → (image : List ℕ) × (file_of old.state name ≡ Some image)) → ¬ IsErrOf {T = ℕ} {E = HallErr} (Err e) Memory → Creates name len old new (Err e)
+creates_nothing name len old new e same exists fine = record {
+  fresh = tt;
+  state = tt;
+  left = tt;
+  exists = exists;
+  stays = λ image there. same;
+  failed = (inl same.state, record { only = λ j left. (j, (same.left j).0 left, inl refl); each = λ j left. (j, (same.left j).1 left, inl refl) });
+  memory = λ memory. absurd (fine memory);
+  printed = same.printed;
+  moments = record {
+    later = same.time.later;
+    moments = λ t j p le left. ⊎_elim (λ before. inl before) (λ now. inr ((j, now.0, inl refl), now.1)) ((same.time.since t j p le).0 left);
+    keeps = λ t j p le left. (same.time.since t j p le).1 (inl left);
+  };
+}
 
 -- a call that did nothing, and wasn't put on the record
 module _ (first : List File) (es : List Event) where
@@ -118,7 +138,7 @@ module _ (first : List File) (es : List Event) where
   longer e = omega (arith, length-append es (e ∷ []))
 
   durable : (j : List File) → MayLeave (after d synced) j → j ≡ d.files
-  durable j (flags, is) = is ∙ ap (with_writes d.files) (nothing_kept flags)
+  durable j (flags, is) = is
 
   pub sync_done : AfterSync {T = Unit {0}} {E = HallErr} m synced_m (Ok tt)
   sync_done = record {
@@ -166,6 +186,51 @@ module _ (first : List File) (es : List Event) where
           (λ j p left is. inr (printing j p (left, (bytes, ([], append-nil bytes), is))))
           (λ j p has. inl (print_back j p has));
     }
+
+  -- a file that was made
+  module _ (f : File) where
+    made_disk : after_all (new_disk first) (es ++ made f ∷ []) ≡ after d (made f)
+    made_disk = next_disk first es (made f)
+
+    abbrev made_m : Meaning (List File)
+    made_m = meaning_after first (es ++ made f ∷ [])
+
+    made_left : (j : List File) → made_m.left j ↔ ((e : List File) × MayLeave d e × (j ≡ e ++ f ∷ []))
+    made_left j = (
+      (λ left. left_behind d f j (subst (λ (x : Disk). MayLeave x j) made_disk left)),
+      (λ (e, left, is). subst (λ (x : Disk). MayLeave x j) (sym made_disk) (subst (λ (l : List File). MayLeave (after d (made f)) l) (sym is) (left_with d f e left))),
+    )
+
+    made_time : ElapsesExactly m made_m (LeftNow made_m)
+    made_time = elapses first es (made f) (LeftNow made_m) (λ j p during. inl (in_now d j p during))
+        (λ j p left is. inr (subst (λ (x : Disk). MayLeave x j × (p ≡ x.text)) (sym made_disk) (left, is)))
+        (λ j p has. inr (subst (λ (x : Disk). MayLeave x j × (p ≡ x.text)) made_disk has))
+
+  pub create_done : (name : List ℕ) (len unit : ℕ) → file_of d.files name ≡ None → Creates name len m (meaning_after first (es ++ made (zeros_named name len) ∷ [])) (Ok unit)
+  create_done name len unit none = record {
+    fresh = none;
+    state = ap (λ (x : Disk). x.files) (made_disk f);
+    left = made_left f;
+    exists = λ e. absurd (cc e);
+    stays = λ image there. absurd (cc (there, none));
+    failed = tt;
+    memory = λ e. absurd (cc e);
+    printed = text;
+    moments = record {
+      later = (made_time f).later;
+      moments = λ t j p le left. ⊎_elim (λ before. inl before) (λ now. inr (partly j p now.1 ((made_left f j).0 now.0))) (((made_time f).since t j p le).0 left);
+      keeps = λ t j p le left. ((made_time f).since t j p le).1 (inl left);
+    };
+  }
+    where
+      f : File
+      f = zeros_named name len
+
+      text : (meaning_after first (es ++ made f ∷ [])).printed ≡ d.text
+      text = ap (λ (x : Disk). x.text) (made_disk f)
+
+      partly : (j : List File) (p : List ℕ) → p ≡ (meaning_after first (es ++ made f ∷ [])).printed → (e : List File) × MayLeave d e × (j ≡ e ++ f ∷ []) → ((e : List File) × MayLeave d e × IsPartlyCreated name len e j) × (p ≡ d.text)
+      partly j p is (e, left, whole) = ((e, left, inr (len, omega arith, whole)), is ∙ text)
 
   -- a write, done or failed, that was put on the record
   module _ (w : Write) where

@@ -2,8 +2,8 @@
 use Rattle.std.proofs.Common.{◌≡◌, ◌^◌, ◌-◌, ℕ, List, [], ◌∷◌, ◌++◌, ◌∙◌, get_or, refl, ap, arith, lit≤, true}
 use Rattle.stop_model.specs.Counts.{Rose}
 use Rattle.stop_model.specs.Files.{File}
-use Rattle.hall_core.specs.History.{Write, wrote, synced, printed, MayLeaveAt, MayLeaveSince, with_write, with_writes}
-use Rattle.hall_core.specs.HistoryLaws.{nothing_kept, since_now}
+use Rattle.hall_core.specs.History.{Write, wrote, synced, printed, MayLeaveAt, MayLeaveSince, writing, with_change}
+use Rattle.hall_core.specs.HistoryLaws.{since_now}
 
 -- a count that stands still rose at its type's end alone
 stands_at_the_end : Rose (2 ^ 64 - 1) (2 ^ 64 - 1)
@@ -32,7 +32,7 @@ nine = record { name = 65 ∷ []; at = 1; bytes = 9 ∷ []; is_done = true }
 left_out : MayLeaveSince files (wrote nine ∷ synced ∷ []) 0 files []
 left_out = (0, lit≤ tt, lit≤ tt, record { files = ([], refl); text = ([], ([], refl), refl) })
 
-always_kept : (j : List File) (p : List ℕ) → MayLeaveSince files (wrote nine ∷ synced ∷ []) 2 j p → j ≡ with_write files nine
+always_kept : (j : List File) (p : List ℕ) → MayLeaveSince files (wrote nine ∷ synced ∷ []) 2 j p → j ≡ with_change files (writing nine)
 always_kept j p left =
     let now = since_now files (wrote nine ∷ synced ∷ []) j p left in
-    now.0.1 ∙ ap (with_writes (with_write files nine)) (nothing_kept now.0.0)
+    now.0.1

@@ -5,8 +5,8 @@ use Rattle.std.proofs.lemmas.List.{append-nil, take-append-le}
 use Rattle.std.proofs.lemmas.Bool.{cases_lt}
 use Rattle.stop_model.specs.Moments.{ElapsesExactly}
 use Rattle.stop_model.specs.Files.{File}
-use Rattle.hall_core.specs.HistoryLaws.{LeftIn, at_of, of_at, now_in, last_disk, now_since, since_now, with_writes_more, nothing_kept, kept_with}
-use Rattle.hall_core.specs.History.{Write, Event, wrote, Disk, new_disk, with_write, with_writes, after, after_all, kept, MayLeave, bytes_of_print, MayLeaveAt, MayLeaveSince, meaning_after}
+use Rattle.hall_core.specs.HistoryLaws.{LeftIn, at_of, of_at, now_in, last_disk, now_since, since_now, with_changes_more, kept_with, left_made}
+use Rattle.hall_core.specs.History.{Write, Change, writing, making, Event, wrote, made, Disk, new_disk, with_change, with_changes, after, after_all, kept, MayLeave, bytes_of_print, MayLeaveAt, MayLeaveSince, meaning_after}
 
 pub after_all_more : (d : Disk) (es : List Event) (e : Event) → after_all d (es ++ e ∷ []) ≡ after (after_all d es) e
 after_all_more d [] e = refl
@@ -109,21 +109,30 @@ module _ (first : List File) (es : List Event) (e : Event) where
       forth t j p le left = ⊎_elim (λ before. inl before) (λ new. was t j p le (⊎_elim (during j p) (λ now. behind j p now.0 now.1) new)) (since_more t j p le left)
 
 -- what is kept of one write more
-kept_more : (flags : List Bool) (ws : List Write) (w : Write) → (less : List Bool) × ((kept flags (ws ++ w ∷ []) ≡ kept less ws) ⊎ (kept flags (ws ++ w ∷ []) ≡ kept less ws ++ w ∷ []))
-kept_more [] ws w = ([], inl refl)
-kept_more (true ∷ flags) [] w = ([], inr (ap (λ (l : List Write). w ∷ l) (nothing_kept flags)))
-kept_more (false ∷ flags) [] w = ([], inl (nothing_kept flags))
-kept_more (true ∷ flags) (v ∷ ws) w = let r = kept_more flags ws w in (true ∷ r.0, ⊎_elim (λ same. inl (ap (λ (l : List Write). v ∷ l) same)) (λ more. inr (ap (λ (l : List Write). v ∷ l) more)) r.1)
-kept_more (false ∷ flags) (v ∷ ws) w = let r = kept_more flags ws w in (false ∷ r.0, r.1)
+kept_more : (flags : List Bool) (cs : List Change) (w : Write) → (less : List Bool) × ((kept flags (cs ++ writing w ∷ []) ≡ kept less cs) ⊎ (kept flags (cs ++ writing w ∷ []) ≡ kept less cs ++ writing w ∷ []))
+kept_more [] [] w = ([], inl refl)
+kept_more (true ∷ flags) [] w = ([], inr refl)
+kept_more (false ∷ flags) [] w = ([], inl refl)
+kept_more flags (making f ∷ cs) w = let r = kept_more flags cs w in (r.0, ⊎_elim (λ same. inl (ap (λ (l : List Change). making f ∷ l) same)) (λ more. inr (ap (λ (l : List Change). making f ∷ l) more)) r.1)
+kept_more [] (writing v ∷ cs) w = let r = kept_more [] cs w in (false ∷ r.0, r.1)
+kept_more (true ∷ flags) (writing v ∷ cs) w = let r = kept_more flags cs w in (true ∷ r.0, ⊎_elim (λ same. inl (ap (λ (l : List Change). writing v ∷ l) same)) (λ more. inr (ap (λ (l : List Change). writing v ∷ l) more)) r.1)
+kept_more (false ∷ flags) (writing v ∷ cs) w = let r = kept_more flags cs w in (false ∷ r.0, r.1)
 
 -- a write is pending
-pub left_more : (d : Disk) (w : Write) (j : List File) → MayLeave (after d (wrote w)) j → (e : List File) × MayLeave d e × ((j ≡ e) ⊎ (j ≡ with_write e w))
+pub left_more : (d : Disk) (w : Write) (j : List File) → MayLeave (after d (wrote w)) j → (e : List File) × MayLeave d e × ((j ≡ e) ⊎ (j ≡ with_change e (writing w)))
 left_more d w j (flags, is) =
     let r = kept_more flags d.pending w in
-    (with_writes d.stable (kept r.0 d.pending), (r.0, refl), ⊎_elim (λ same. inl (is ∙ ap (with_writes d.stable) same)) (λ more. inr (is ∙ ap (with_writes d.stable) more ∙ with_writes_more d.stable (kept r.0 d.pending) w)) r.1)
+    (with_changes d.stable (kept r.0 d.pending), (r.0, refl), ⊎_elim (λ same. inl (is ∙ ap (with_changes d.stable) same)) (λ more. inr (is ∙ ap (with_changes d.stable) more ∙ with_changes_more d.stable (kept r.0 d.pending) (writing w))) r.1)
 
 pub left_out : (d : Disk) (w : Write) (j : List File) → MayLeave d j → MayLeave (after d (wrote w)) j
-left_out d w j (flags, is) = let r = kept_with false flags d.pending w in (r.0, is ∙ ap (with_writes d.stable) (sym (r.1 ∙ append-nil (kept flags d.pending))))
+left_out d w j (flags, is) = let r = kept_with false flags d.pending w in (r.0, is ∙ ap (with_changes d.stable) (sym (r.1 ∙ append-nil (kept flags d.pending))))
 
-pub left_in : (d : Disk) (w : Write) (j : List File) → MayLeave d j → MayLeave (after d (wrote w)) (with_write j w)
-left_in d w j (flags, is) = let r = kept_with true flags d.pending w in (r.0, ap (λ (l : List File). with_write l w) is ∙ sym (with_writes_more d.stable (kept flags d.pending) w) ∙ ap (with_writes d.stable) (sym r.1))
+pub left_in : (d : Disk) (w : Write) (j : List File) → MayLeave d j → MayLeave (after d (wrote w)) (with_change j (writing w))
+left_in d w j (flags, is) = let r = kept_with true flags d.pending w in (r.0, ap (λ (l : List File). with_change l (writing w)) is ∙ sym (with_changes_more d.stable (kept flags d.pending) (writing w)) ∙ ap (with_changes d.stable) (sym r.1))
+
+-- a file that was made is left, with what was left before
+pub left_behind : (d : Disk) (f : File) (j : List File) → MayLeave (after d (made f)) j → (e : List File) × MayLeave d e × (j ≡ e ++ f ∷ [])
+left_behind d f j (flags, is) = (with_changes d.stable (kept flags d.pending), (flags, refl), is ∙ left_made d flags f)
+
+pub left_with : (d : Disk) (f : File) (e : List File) → MayLeave d e → MayLeave (after d (made f)) (e ++ f ∷ [])
+left_with d f e (flags, is) = (flags, ap (λ (l : List File). l ++ f ∷ []) is ∙ sym (left_made d flags f))

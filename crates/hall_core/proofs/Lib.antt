@@ -4,5 +4,6 @@ mod Cases
 mod CountLemmas
 mod HistoryLemmas
 mod RecordLemmas
+mod RedoLemmas
 mod ReplayLemmas
 mod UnitLemmas

@@ -1,5 +1,5 @@
 -- Units and the files that they are.
-use Rattle.std.proofs.Common.{◌≡◌, ◌≢◌, ◌<◌, ◌+◌, ℕ, zero, suc, List, [], ◌∷◌, ◌++◌, length, take, drop, get_or, Bool, Some, None, refl, sym, ◌∙◌, ap, subst, arith, append_assoc}
+use Rattle.std.proofs.Common.{◌≡◌, ◌≢◌, ◌<◌, ◌≤◌, ◌+◌, ℕ, zero, suc, List, [], ◌∷◌, ◌++◌, length, take, drop, get_or, Bool, Some, None, refl, sym, ◌∙◌, ap, subst, arith, append_assoc}
 use Rattle.std.specs.Prelude.{String, Vec, string_bytes}
 use Rattle.std.specs.declared.alloc.Global.{Global}
 use Rattle.std.specs.Str.{bytes_eq}
@@ -10,8 +10,18 @@ use Rattle.std.specs.Vec.{with_items}
 use Rattle.hall_core.specs.Facts.{Attached, unit_of}
 use Rattle.stop_model.specs.Files.{File, file_of, patched, written}
 use Rattle.hall_core.specs.Laws.{other_name, same_name, tail_first, file_at_first, shape_at}
-use Rattle.hall_core.specs.Held.{file_of_pair, files_of, attached_as, shapes_of, units_at, IsFirst, AreFirst}
+use Rattle.hall_core.specs.Held.{file_of_pair, files_of, attached_as, shapes_of, units_at, IsFirst, AreFirst, IsSpare}
+use Rattle.std.specs.List.{All}
+use Rattle.std.proofs.lemmas.List.Elements.{All-weaker}
 use Rattle.hall_core.specs.declared.mem_hall.MemHall.{MemHall}
+
+-- a spare pair has also less room
+pub spare_less : (pair : String Global × Vec ℕ Global) (n m : ℕ) → m ≤ n → IsSpare n pair → IsSpare m pair
+spare_less pair n m less spare = record { no_name = spare.no_name; no_bytes = spare.no_bytes; name_room = omega (arith, less, spare.name_room); bytes_room = omega (arith, less, spare.bytes_room) }
+
+-- so have spare pairs
+pub spares_less : (pairs : List (String Global × Vec ℕ Global)) (n m : ℕ) → m ≤ n → All (IsSpare n) pairs → All (IsSpare m) pairs
+spares_less pairs n m less all = All-weaker (IsSpare n) (IsSpare m) (λ pair spare. spare_less pair n m less spare) pairs all
 
 -- a write over the first file of a name
 pub written_first : (files : List File) (place : ℕ) (d : File) (at : ℕ) (bytes : List ℕ) → IsFirst (shapes_of files) place → written files (unit_of (shapes_of files) place).name at bytes ≡ set files place (record (get_or files place d) { bytes = patched (get_or files place d).bytes at bytes })

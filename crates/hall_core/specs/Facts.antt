@@ -2,7 +2,7 @@
 use Rattle.std.specs.Prelude.{◌≡◌, ◌⊎◌, ℕ, ◌≤◌, List, [], ◌∷◌, ◌++◌, length, map, Contains, Result, OnOk, OnErr, IfOk, IsErrOf, slice_index_or}
 use Rattle.stop_model.specs.Counts.{Rose}
 use Rattle.hall_core.specs.declared.hall.HallErr.{HallErr}
-use Rattle.hall_core.specs.declared.hall.HallErr.TheVariants.{Failed, Memory}
+use Rattle.hall_core.specs.declared.hall.HallErr.TheVariants.{Missing, Exists, Failed, Memory}
 
 -- an attached file: its name, and its size in bytes
 pub record Attached : Type 0 where
@@ -76,6 +76,19 @@ pub record AttachCall (name : List ℕ) (old new : Facts) (result : Result ℕ H
   pub failed : IsErrOf result Failed → Rose old.dev_faults new.dev_faults
   pub others : ¬ IsErrOf result Failed → new.dev_faults ≡ old.dev_faults
   pub memory : IsErrOf result Memory → new ≡ old
+  pub never_exists : ¬ IsErrOf result Exists
+
+-- A creation: the file is the next unit, of this size, or the units stay; the counts are as in an attachment.
+pub record CreateCall (name : List ℕ) (len : ℕ) (old new : Facts) (result : Result ℕ HallErr) : Type 0 where
+  pub added : IfOk result (λ unit. (unit ≡ length old.units) × (new.units ≡ old.units ++ record { name = name; size = len } ∷ []))
+  pub stays : OnErr result (new.units ≡ old.units)
+  pub references : new.references ≡ old.references
+  pub prints : new.print_faults ≡ old.print_faults
+  pub later : old.dev_faults ≤ new.dev_faults
+  pub failed : IsErrOf result Failed → Rose old.dev_faults new.dev_faults
+  pub others : ¬ IsErrOf result Failed → new.dev_faults ≡ old.dev_faults
+  pub memory : IsErrOf result Memory → new ≡ old
+  pub never_missing : ¬ IsErrOf result Missing
 
 -- Calls of a device and of a printer: both counts stand still where they are done, one rose where they failed, and the rest stays.
 pub record OutsideCalls {T E : Type 0} (old new : Facts) (result : Result T E) : Type 0 where

@@ -1,5 +1,5 @@
 -- What the parts of a hall in memory stand for.
-use Rattle.std.specs.Prelude.{◌≡◌, ◌≢◌, Bool, if◌then◌else◌, ℕ, ◌<◌, List, length, map, Option, Some, None, slice_index, String, Vec, string_bytes}
+use Rattle.std.specs.Prelude.{◌≡◌, ◌≢◌, ◌≤◌, Bool, if◌then◌else◌, ℕ, ◌<◌, List, length, map, Option, Some, None, slice_index, String, Vec, string_bytes, string_len, string_capacity, vec_len, vec_capacity}
 use Rattle.std.specs.declared.alloc.Global.{Global}
 use Rattle.hall_core.specs.Facts.{Attached, unit_of}
 use Rattle.stop_model.specs.Files.{File, written}
@@ -11,6 +11,13 @@ file_of_pair pair = record { name = string_bytes pair.0; bytes = pair.1.items }
 -- the files that pairs stand for
 abbrev pub files_of : List (String Global × Vec ℕ Global) → List File
 files_of pairs = map file_of_pair pairs
+
+-- a pair that is empty, and has room for a name and bytes of this length
+pub record IsSpare (room : ℕ) (pair : String Global × Vec ℕ Global) : Type 0 where
+  pub no_name : string_len pair.0 ≡ 0
+  pub no_bytes : vec_len pair.1 ≡ 0
+  pub name_room : room ≤ string_capacity pair.0
+  pub bytes_room : room ≤ vec_capacity pair.1
 
 -- the files as first given: the copy of them, or where none was made yet, the present ones
 abbrev pub first_pairs : Option (Vec (String Global × Vec ℕ Global) Global) → List (String Global × Vec ℕ Global) → List (String Global × Vec ℕ Global)

@@ -10,36 +10,44 @@ pub record Write : Type 0 where
   pub bytes : List ℕ
   pub is_done : Bool
 
--- what a call did: a write; a sync; a print of these bytes; or nothing that stays
+-- a change of the files since the last sync: a write, which a stop may leave out, or a file made, which it never does
+pub data Change : Type 0 where
+  writing : Write → Change
+  making : File → Change
+
+-- what a call did: a write; a file made; a sync; a print of these bytes; or nothing that stays
 pub data Event : Type 0 where
   wrote : Write → Event
+  made : File → Event
   synced : Event
   printed : List ℕ → Event
   passed : Event
 
--- the files as of the last sync, as they are read, the writes since that sync, and the bytes printed
+-- the files as of the last sync, as they are read, the changes since that sync, and the bytes printed
 pub record Disk : Type 0 where
   pub stable : List File
   pub files : List File
-  pub pending : List Write
+  pub pending : List Change
   pub text : List ℕ
 
 -- a disk that holds these files, before any call
 abbrev pub new_disk : List File → Disk
 new_disk files = record { stable = files; files = files; pending = []; text = [] }
 
--- files over which a write was made
-abbrev pub with_write : List File → Write → List File
-with_write files w = written files w.name w.at w.bytes
+-- files after a change
+abbrev pub with_change : List File → Change → List File
+with_change files (writing w) = written files w.name w.at w.bytes
+with_change files (making f) = files ++ f ∷ []
 
--- files over which these writes were made, one after another
-abbrev pub with_writes : List File → List Write → List File
-with_writes files [] = files
-with_writes files (w ∷ ws) = with_writes (with_write files w) ws
+-- files after these changes, one after another
+abbrev pub with_changes : List File → List Change → List File
+with_changes files [] = files
+with_changes files (c ∷ cs) = with_changes (with_change files c) cs
 
 -- the disk after an event
 abbrev pub after : Disk → Event → Disk
-after d (wrote w) = record d { files = if w.is_done then with_write d.files w else d.files; pending = d.pending ++ w ∷ [] }
+after d (wrote w) = record d { files = if w.is_done then with_change d.files (writing w) else d.files; pending = d.pending ++ writing w ∷ [] }
+after d (made f) = record d { files = with_change d.files (making f); pending = d.pending ++ making f ∷ [] }
 after d synced = record d { stable = d.files; pending = [] }
 after d (printed bytes) = record d { text = d.text ++ bytes }
 after d passed = d
@@ -49,16 +57,17 @@ abbrev pub after_all : Disk → List Event → Disk
 after_all d [] = d
 after_all d (e ∷ es) = after_all (after d e) es
 
--- the writes whose flag is true; a missing flag counts as false
-abbrev pub kept : List Bool → List Write → List Write
-kept [] ws = []
-kept (flag ∷ flags) [] = []
-kept (true ∷ flags) (w ∷ ws) = w ∷ kept flags ws
-kept (false ∷ flags) (w ∷ ws) = kept flags ws
+-- the files made, and the writes whose flag is true; a missing flag counts as false
+abbrev pub kept : List Bool → List Change → List Change
+kept flags [] = []
+kept flags (making f ∷ cs) = making f ∷ kept flags cs
+kept [] (writing w ∷ cs) = kept [] cs
+kept (true ∷ flags) (writing w ∷ cs) = writing w ∷ kept flags cs
+kept (false ∷ flags) (writing w ∷ cs) = kept flags cs
 
--- the stable files of a disk, over which the pending writes were made whose flag is true, in their order
+-- the stable files of a disk, with the files made since and the writes whose flag is true, in their order
 abbrev pub files_left : Disk → List Bool → List File
-files_left d flags = with_writes d.stable (kept flags d.pending)
+files_left d flags = with_changes d.stable (kept flags d.pending)
 
 -- a stop leaves these files of a disk, whichever of the pending writes are kept
 abbrev pub MayLeave : Disk → List File → Type 0

@@ -4,7 +4,7 @@ use Rattle.std.proofs.Common.{zero, suc, sym, ◌∙◌, ap, subst, arith}
 use Rattle.std.proofs.lemmas.List.{append-nil, take_all}
 use Rattle.stop_model.specs.Moments.{LeftNow}
 use Rattle.stop_model.specs.Files.{File, IsPrefixOf}
-use Rattle.hall_core.specs.History.{Write, Event, wrote, synced, printed, passed, Disk, new_disk, with_write, with_writes, after, after_all, kept, MayLeave, bytes_of_print, MayLeaveAt, MayLeaveSince, meaning_after}
+use Rattle.hall_core.specs.History.{Write, Change, writing, making, Event, wrote, made, synced, printed, passed, Disk, new_disk, with_change, with_changes, after, after_all, kept, MayLeave, bytes_of_print, MayLeaveAt, MayLeaveSince, meaning_after}
 
 pub get_past : (es : List Event) (n : ℕ) → length es ≤ n → slice_get es n ≡ None
 get_past [] n le = refl
@@ -53,40 +53,49 @@ module _ (first : List File) (es : List Event) where
       let same : k ≡ length es = omega arith in
       in_now d j p (at_of first es (length es) d [] j p last_disk last_print (subst (λ (n : ℕ). MayLeaveAt first es n j p) same left))
 
--- files over which one write more was made
-pub with_writes_more : (s : List File) (ws : List Write) (w : Write) → with_writes s (ws ++ w ∷ []) ≡ with_write (with_writes s ws) w
-with_writes_more s [] w = refl
-with_writes_more s (v ∷ ws) w = with_writes_more (with_write s v) ws w
+-- files after one change more
+pub with_changes_more : (s : List File) (cs : List Change) (c : Change) → with_changes s (cs ++ c ∷ []) ≡ with_change (with_changes s cs) c
+with_changes_more s [] c = refl
+with_changes_more s (v ∷ cs) c = with_changes_more (with_change s v) cs c
 
-pub nothing_kept : (flags : List Bool) → kept flags [] ≡ []
-nothing_kept [] = refl
-nothing_kept (flag ∷ flags) = refl
-
-abbrev pub one_if : Bool → Write → List Write
-one_if true w = w ∷ []
+abbrev pub one_if : Bool → Write → List Change
+one_if true w = writing w ∷ []
 one_if false w = []
 
 -- one write more may be left out or kept
-pub kept_with : (b : Bool) (flags : List Bool) (ws : List Write) (w : Write) → (more : List Bool) × (kept more (ws ++ w ∷ []) ≡ kept flags ws ++ one_if b w)
-kept_with true flags [] w = (true ∷ [], sym (ap (λ (l : List Write). l ++ w ∷ []) (nothing_kept flags)))
-kept_with false flags [] w = (false ∷ [], sym (ap (λ (l : List Write). l ++ []) (nothing_kept flags)))
-kept_with b [] (v ∷ ws) w = let r = kept_with b [] ws w in (false ∷ r.0, r.1)
-kept_with b (true ∷ flags) (v ∷ ws) w = let r = kept_with b flags ws w in (true ∷ r.0, ap (λ (l : List Write). v ∷ l) r.1)
-kept_with b (false ∷ flags) (v ∷ ws) w = let r = kept_with b flags ws w in (false ∷ r.0, r.1)
+pub kept_with : (b : Bool) (flags : List Bool) (cs : List Change) (w : Write) → (more : List Bool) × (kept more (cs ++ writing w ∷ []) ≡ kept flags cs ++ one_if b w)
+kept_with true flags [] w = (true ∷ [], refl)
+kept_with false flags [] w = (false ∷ [], refl)
+kept_with b flags (making f ∷ cs) w = let r = kept_with b flags cs w in (r.0, ap (λ (l : List Change). making f ∷ l) r.1)
+kept_with b [] (writing v ∷ cs) w = let r = kept_with b [] cs w in (false ∷ r.0, r.1)
+kept_with b (true ∷ flags) (writing v ∷ cs) w = let r = kept_with b flags cs w in (true ∷ r.0, ap (λ (l : List Change). writing v ∷ l) r.1)
+kept_with b (false ∷ flags) (writing v ∷ cs) w = let r = kept_with b flags cs w in (false ∷ r.0, r.1)
+
+-- one file more is kept
+pub kept_made : (flags : List Bool) (cs : List Change) (f : File) → kept flags (cs ++ making f ∷ []) ≡ kept flags cs ++ making f ∷ []
+kept_made flags [] f = refl
+kept_made flags (making g ∷ cs) f = ap (λ (l : List Change). making g ∷ l) (kept_made flags cs f)
+kept_made [] (writing v ∷ cs) f = kept_made [] cs f
+kept_made (true ∷ flags) (writing v ∷ cs) f = ap (λ (l : List Change). writing v ∷ l) (kept_made flags cs f)
+kept_made (false ∷ flags) (writing v ∷ cs) f = kept_made flags cs f
+
+pub left_made : (d : Disk) (flags : List Bool) (f : File) → with_changes d.stable (kept flags (d.pending ++ making f ∷ [])) ≡ with_changes d.stable (kept flags d.pending) ++ f ∷ []
+left_made d flags f = ap (with_changes d.stable) (kept_made flags d.pending f) ∙ with_changes_more d.stable (kept flags d.pending) (making f)
 
 -- a disk reads as a stop may leave it
 pub state_written : (d : Disk) (name : List ℕ) (at : ℕ) (bytes : List ℕ) (is_done : Bool) → MayLeave d d.files → let w : Write = record { name = name; at = at; bytes = bytes; is_done = is_done } in MayLeave (after d (wrote w)) (after d (wrote w)).files
 state_written d name at bytes true (flags, is) =
     let w : Write = record { name = name; at = at; bytes = bytes; is_done = true } in
     let r = kept_with true flags d.pending w in
-    (r.0, ap (λ (l : List File). with_write l w) is ∙ sym (with_writes_more d.stable (kept flags d.pending) w) ∙ ap (with_writes d.stable) (sym r.1))
+    (r.0, ap (λ (l : List File). with_change l (writing w)) is ∙ sym (with_changes_more d.stable (kept flags d.pending) (writing w)) ∙ ap (with_changes d.stable) (sym r.1))
 state_written d name at bytes false (flags, is) =
     let w : Write = record { name = name; at = at; bytes = bytes; is_done = false } in
     let r = kept_with false flags d.pending w in
-    (r.0, is ∙ ap (with_writes d.stable) (sym (r.1 ∙ append-nil (kept flags d.pending))))
+    (r.0, is ∙ ap (with_changes d.stable) (sym (r.1 ∙ append-nil (kept flags d.pending))))
 
 pub state_after : (d : Disk) (e : Event) → MayLeave d d.files → MayLeave (after d e) (after d e).files
 state_after d (wrote w) left = state_written d w.name w.at w.bytes w.is_done left
+state_after d (made f) (flags, is) = (flags, ap (λ (l : List File). l ++ f ∷ []) is ∙ sym (left_made d flags f))
 state_after d synced left = ([], refl)
 state_after d (printed bytes) left = left
 state_after d passed left = left

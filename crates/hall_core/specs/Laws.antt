@@ -1,5 +1,5 @@
 -- What the trait asks of every hall, for one in memory.
-use Rattle.std.specs.Prelude.{◌≡◌, ◌≢◌, ◌<◌, ◌≤◌, ℕ, List, [], ◌∷◌, length, refl, Bool, true, false, Some, slice_index_or as get_or}
+use Rattle.std.specs.Prelude.{◌≡◌, ◌≢◌, ◌<◌, ◌≤◌, ℕ, List, [], ◌∷◌, length, refl, Bool, true, false, Some, None, slice_index_or as get_or}
 use Rattle.std.specs.Str.{bytes_eq}
 use Rattle.std.proofs.Common.{zero, suc, sym, ◌∙◌, ap, subst, arith}
 use Rattle.std.proofs.lemmas.Slice.Eq.{bytes_eq-Decides}
@@ -8,11 +8,11 @@ use Rattle.hall_core.specs.Facts.{Attached, unit_of}
 use Rattle.stop_model.specs.Files.{File, file_of}
 use Rattle.hall_core.specs.Images.{AreWhole}
 use Rattle.stop_model.specs.Moments.{IsDurable, LeftNow}
-use Rattle.hall_core.specs.History.{Disk, Write, after_all, kept, new_disk, with_writes}
+use Rattle.hall_core.specs.History.{Disk, Change, after_all, kept, new_disk, with_changes}
 use Rattle.hall_core.specs.Replay.{events_at, units_needed}
 use Rattle.hall_core.specs.declared.mem_hall.step.Step.{Step}
 use Rattle.hall_core.specs.declared.mem_hall.step.Step.TheVariants as steps
-use Rattle.hall_core.specs.declared.mem_hall.step.Step.TheVariants.{Sync, Print, Pass}
+use Rattle.hall_core.specs.declared.mem_hall.step.Step.TheVariants.{Create, Sync, Print, Pass}
 use Rattle.hall_core.specs.Held.{files_of, attached_as, shapes_of, units_at, IsFirst, AreFirst}
 use Rattle.hall_core.specs.HistoryLaws.{state_left_now, now_since, since_now}
 use Rattle.hall_core.specs.Memory.{first_files, events_of, meaning_of, facts_of}
@@ -38,6 +38,22 @@ pub file_at_first : (files : List File) (place : ℕ) (d : File) → IsFirst (sh
 file_at_first [] place d first = absurd (omega (arith, first.inside))
 file_at_first (f ∷ files) zero d first = rw (same_name f.name) refl
 file_at_first (f ∷ files) (suc place) d first = rw (other_name f.name _ (first.before 0 (omega arith))) (file_at_first files place d (tail_first f files place first))
+
+-- where no file has a name, each of them has another
+pub others_named : (files : List File) (name : List ℕ) → file_of files name ≡ None → (k : ℕ) → k < length files → (unit_of (shapes_of files) k).name ≢ name
+others_named [] name none k low = absurd (omega arith)
+others_named (f ∷ files) name none k low = by_test (bytes_eq f.name name) refl (λ none. others_named files name none) k low
+  where
+    found : bytes_eq f.name name ≡ true → file_of (f ∷ files) name ≡ Some f.bytes
+    found same = rw same refl
+
+    rest : bytes_eq f.name name ≡ false → file_of files name ≡ None
+    rest other = rw other at none
+
+    by_test : (t : Bool) → bytes_eq f.name name ≡ t → (file_of files name ≡ None → (k : ℕ) → k < length files → (unit_of (shapes_of files) k).name ≢ name) → (k : ℕ) → k < length (f ∷ files) → (unit_of (shapes_of (f ∷ files)) k).name ≢ name
+    by_test true same others k low is = absurd (cc (found same, none))
+    by_test false other others zero low is = absurd (cc ((bytes_eq-Decides f.name name).1 is, other))
+    by_test false other others (suc k) low is = others (rest other) k (omega (arith, low)) is
 
 -- the size of a file at a place
 pub shape_at : (files : List File) (place : ℕ) (d : File) → place < length files → unit_of (shapes_of files) place ≡ attached_as (get_or files place d)
@@ -83,14 +99,10 @@ record IsSettled (d : Disk) : Type 0 where
 settled_after : (units : List Attached) (pool text : List ℕ) (steps : List Step) (d : Disk) → ((k : ℕ) → k < length steps → units_needed (get_or steps k Pass) ≤ 0) → IsSettled d → IsSettled (after_all d (events_at units pool text steps))
 settled_after units pool text [] d none settled = settled
 settled_after units pool text (steps.Write unit at start len is_done ∷ steps) d none settled = absurd (let low = none 0 (omega arith) in omega (arith, low))
+settled_after units pool text (Create unit ∷ steps) d none settled = absurd (let low = none 0 (omega arith) in omega (arith, low))
 settled_after units pool text (Sync ∷ steps) d none settled = settled_after units pool text steps _ (λ k low. none (suc k) (omega (arith, low))) (record { none = refl; same = refl })
 settled_after units pool text (Print start len ∷ steps) d none settled = settled_after units pool text steps _ (λ k low. none (suc k) (omega (arith, low))) (record { none = settled.none; same = settled.same })
 settled_after units pool text (Pass ∷ steps) d none settled = settled_after units pool text steps d (λ k low. none (suc k) (omega (arith, low))) settled
-
--- of no writes none is kept
-none_kept : (flags : List Bool) → kept flags [] ≡ []
-none_kept [] = refl
-none_kept (flag ∷ flags) = refl
 
 -- without a unit no write is pending
 pub none_pending : (hall : MemHall) → (facts_of hall).units ≡ [] → IsDurable (meaning_of hall)
@@ -99,4 +111,4 @@ none_pending hall none j left =
     let each : (k : ℕ) → k < length hall.steps.items → units_needed (get_or hall.steps.items k Pass) ≤ 0 = λ k low. omega (arith, (hall.replay.within k low).unit, ap length none) in
     let settled = settled_after units hall.written.items hall.printed.items hall.steps.items (new_disk (first_files hall)) each (record { none = refl; same = refl }) in
     let d : Disk = after_all (new_disk (first_files hall)) (events_of hall) in
-    left.1 ∙ ap (λ (ws : List Write). with_writes d.stable (kept left.0 ws)) settled.none ∙ ap (with_writes d.stable) (none_kept left.0) ∙ settled.same
+    left.1 ∙ ap (λ (cs : List Change). with_changes d.stable (kept left.0 cs)) settled.none ∙ settled.same

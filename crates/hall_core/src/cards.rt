@@ -30,7 +30,7 @@ pub trait Cards {
     fn read(&mut self, buf: &mut [u8]) -> Result<usize, ReadFault>
         requires { 0 < length buf.old }
         ensures within { IfOk result (λ n. n ≤ length buf.old) }
-        ensures told { IsTrue tells → GivesNext (left self.old) (left self.new) buf.new result }
+        ensures files { IsTrue tells → GivesNext (left self.old) (left self.new) buf.new result }
         ensures later { faults self.old ≤ faults self.new }
         ensures done { OnOk result (faults self.new ≡ faults self.old) }
         ensures failed { OnErr result (Rose (faults self.old) (faults self.new)) };

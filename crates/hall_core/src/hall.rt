@@ -1,19 +1,21 @@
 //! The trait of the outside, which a device and a test fixture implement alike.
 ghost use Rattle.std.specs.Prelude.{◌≡◌, ◌+◌, ◌<◌, ◌≤◌, [], ◌∷◌, ℕ, List, Bool, length, IsTrue, IsFalse, OnOk, IfErr, ◌-◌, ◌^◌, min};
-ghost use Rattle.hall_core.specs.Facts.{Facts, name_in, size_in, IsAttached, DeviceCall, NotedCall, PrintCall, AttachCall};
+ghost use Rattle.hall_core.specs.Facts.{Facts, name_in, size_in, IsAttached, DeviceCall, NotedCall, PrintCall, AttachCall, CreateCall};
 ghost use Rattle.stop_model.specs.Counts.{Rose};
 ghost use Rattle.stop_model.specs.Moments.{Meaning, LeftNow, IsDurable, Same};
 ghost use Rattle.stop_model.specs.Files.{File, HasBytesAt, AfterWrite, AfterSync, AfterPrint};
-ghost use Rattle.hall_core.specs.Images.{AreWhole, Attaches};
+ghost use Rattle.hall_core.specs.Images.{AreWhole, Attaches, Creates};
 
 /// Why a call failed.
 #[derive(Clone, Copy, Debug, PartialEq, Eq)]
 pub enum HallErr {
-    /// No file has the name.
+    /// No file has the name. Only an attachment answers so.
     Missing,
+    /// A file has the name already. Only a creation answers so.
+    Exists,
     /// The device failed, or in a print the printer, and its count of faults rose.
     Failed,
-    /// Memory ran out, and nothing changed. Only an attachment answers so.
+    /// Memory ran out, and nothing changed. Only an attachment or a creation answers so.
     Memory,
 }
 
@@ -57,9 +59,22 @@ pub trait Hall {
     fn attach(&mut self, name: &str) -> Result<u8, HallErr>
         requires few { length (facts self.old).units < 255 }
         requires once { ¬ IsAttached (facts self.old).units name.now }
-        ensures told { IsTrue tells
+        ensures files { IsTrue tells
             → Attaches name.now (meaning self.old) (meaning self.new) result }
-        ensures call { AttachCall name.now (facts self.old) (facts self.new) result };
+        ensures faults { AttachCall name.now (facts self.old) (facts self.new) result };
+
+    /// Makes a file of `len` zero bytes, attaches it as the next unit, and gives the number of the unit.
+    ///
+    /// Once it is done, every stop leaves the file. Where a file has the name, all stays as it was;
+    /// `Exists` comes only there. A call that a stop ends, or that answers `Failed`, leaves else no
+    /// file of the name, or one of at most `len` zero bytes; `Failed` comes only where the count of
+    /// device faults rose. After `Memory` all is as it was. No error adds a unit.
+    fn create(&mut self, name: &str, len: u64) -> Result<u8, HallErr>
+        requires few { length (facts self.old).units < 255 }
+        requires once { ¬ IsAttached (facts self.old).units name.now }
+        ensures files { IsTrue tells
+            → Creates name.now len (meaning self.old) (meaning self.new) result }
+        ensures faults { CreateCall name.now len (facts self.old) (facts self.new) result };
 
     /// The size of a unit, in bytes.
     fn size(&self, unit: u8) -> u64
@@ -75,8 +90,8 @@ pub trait Hall {
         requires inside { at + length buf.old ≤ size_in (facts self.old) unit }
         ensures bytes { IsTrue tells → OnOk result
             (HasBytesAt (meaning self.old).state (name_in (facts self.old) unit) at buf.new) }
-        ensures told { IsTrue tells → Same (meaning self.old) (meaning self.new) }
-        ensures call { DeviceCall (facts self.old) (facts self.new) result }
+        ensures files { IsTrue tells → Same (meaning self.old) (meaning self.new) }
+        ensures faults { DeviceCall (facts self.old) (facts self.new) result }
         ensures error { IfErr result (λ e. e ≡ HallErr.Failed) };
 
     /// Writes the bytes over those of the unit, from the offset `at` on, which counts them from 0.
@@ -86,9 +101,9 @@ pub trait Hall {
     fn write(&mut self, unit: u8, at: u64, bytes: &[u8]) -> Result<(), HallErr>
         requires attached { unit < length (facts self.old).units }
         requires inside { at + length bytes.now ≤ size_in (facts self.old) unit }
-        ensures told { IsTrue tells → AfterWrite (name_in (facts self.old) unit) at bytes.now
+        ensures files { IsTrue tells → AfterWrite (name_in (facts self.old) unit) at bytes.now
             (meaning self.old) (meaning self.new) result }
-        ensures call { DeviceCall (facts self.old) (facts self.new) result }
+        ensures faults { DeviceCall (facts self.old) (facts self.new) result }
         ensures error { IfErr result (λ e. e ≡ HallErr.Failed) };
 
     /// Makes the writes to all units durable.
@@ -96,8 +111,8 @@ pub trait Hall {
     /// The error is `Failed`, and the count of device faults rose. The writes are then pending as
     /// before.
     fn sync(&mut self) -> Result<(), HallErr>
-        ensures told { IsTrue tells → AfterSync (meaning self.old) (meaning self.new) result }
-        ensures call { DeviceCall (facts self.old) (facts self.new) result }
+        ensures files { IsTrue tells → AfterSync (meaning self.old) (meaning self.new) result }
+        ensures faults { DeviceCall (facts self.old) (facts self.new) result }
         ensures error { IfErr result (λ e. e ≡ HallErr.Failed) };
 
     /// Prints the bytes, whatever they are.
@@ -105,9 +120,9 @@ pub trait Hall {
     /// The error is `Failed`, and the count of print faults rose. A prefix of the bytes is then
     /// printed.
     fn print(&mut self, bytes: &[u8]) -> Result<(), HallErr>
-        ensures told { IsTrue tells
+        ensures files { IsTrue tells
             → AfterPrint bytes.now (meaning self.old) (meaning self.new) result }
-        ensures call { PrintCall (facts self.old) (facts self.new) result }
+        ensures faults { PrintCall (facts self.old) (facts self.new) result }
         ensures error { IfErr result (λ e. e ≡ HallErr.Failed) };
 
     /// Notes that a track of a unit isn't as it was read before, or can't be as it is read.
@@ -119,8 +134,8 @@ pub trait Hall {
         requires { unit < length (facts self.old).units }
         ensures rose { IsFalse tells
             → Rose (facts self.old).dev_faults (facts self.new).dev_faults }
-        ensures call { NotedCall (facts self.old) (facts self.new) }
-        ensures told { IsTrue tells → Same (meaning self.old) (meaning self.new) }
+        ensures faults { NotedCall (facts self.old) (facts self.new) }
+        ensures files { IsTrue tells → Same (meaning self.old) (meaning self.new) }
         ensures clock { IsTrue tells → (meaning self.new).clock ≡ (meaning self.old).clock }
         ensures facts { IsTrue tells → facts self.new ≡ facts self.old };
 
@@ -163,6 +178,10 @@ impl<H: Hall> Hall for &mut H {
 
     fn attach(&mut self, name: &str) -> Result<u8, HallErr> {
         (**self).attach(name)
+    }
+
+    fn create(&mut self, name: &str, len: u64) -> Result<u8, HallErr> {
+        (**self).create(name, len)
     }
 
     fn size(&self, unit: u8) -> u64 {

@@ -53,7 +53,7 @@ impl Cards for MemCards {
     fn read(&mut self, buf: &mut [u8]) -> Result<usize, ReadFault>
         requires { 0 < length buf.old }
         ensures within { IfOk result (λ n. n ≤ length buf.old) }
-        ensures told { GivesNext (bytes_left self.old) (bytes_left self.new) buf.new result }
+        ensures files { GivesNext (bytes_left self.old) (bytes_left self.new) buf.new result }
         ensures later { faults_counted self.old ≤ faults_counted self.new }
         ensures done { OnOk result (faults_counted self.new ≡ faults_counted self.old) }
         ensures failed { OnErr result (Rose (faults_counted self.old) (faults_counted self.new)) }

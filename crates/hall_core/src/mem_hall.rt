@@ -1,7 +1,8 @@
 //! A hall in memory, for tests of what stands on the trait.
 ghost use Rattle.std.specs.Prelude.{◌≡◌, ℕ, ◌+◌, ◌-◌, ◌^◌, min, ◌<◌, ◌≤◌, Bool, true, length, vec_len, vec_capacity};
 ghost use Rattle.std.specs.Option.{ForNone};
-ghost use Rattle.hall_core.specs.Held.{files_of, first_pairs};
+ghost use Rattle.std.specs.List.{All};
+ghost use Rattle.hall_core.specs.Held.{files_of, first_pairs, IsSpare};
 ghost use Rattle.hall_core.specs.Replay.{IsReplay};
 
 mod note;
@@ -11,8 +12,8 @@ mod step;
 
 use crate::hall::{Hall, HallErr, fault};
 use note::{append, note, plain_step};
-use pairs::{copy_at, copy_of, first_named, write_file};
-use replay::{apply_left, pending_from, text_printed};
+use pairs::{copy_at, copy_of, filled, first_named, new_spares, write_file};
+use replay::{Record, apply_left, pending_from, text_printed};
 use std::alloc::{AllocError, Global};
 pub use step::Call;
 use step::Step;
@@ -28,10 +29,12 @@ pub struct Left {
 
 /// A hall in memory, which tells what it holds and fails where it is told to.
 ///
-/// It keeps the record of its calls of `attach`, `read`, `write`, `sync` and `print`. Each uses up
-/// room for one call, and for the bytes that are attached as a name, written or printed. A call for
-/// which there is too little room answers `Failed`, raises its count of faults and does nothing
-/// else. None takes memory, so none answers `Memory`.
+/// It keeps the record of its calls but `size` and `differs`. Each uses up room for one call, and for
+/// the bytes that are written, printed, or named and made. A call for which there is too little room
+/// answers `Failed`, raises its count of faults and does nothing else. None takes memory, so none
+/// answers `Memory`.
+///
+/// A file that is made is there whole, whenever a stop comes after its call.
 ///
 /// A write that fails leaves what is read as it was, and is pending; a sync that fails leaves the
 /// pending writes; a print that fails prints nothing.
@@ -43,6 +46,7 @@ pub struct MemHall {
     units: Vec<usize>,
     calls: Vec<Call>,
     steps: Vec<Step>,
+    spares: Vec<(String, Vec<u8>)>,
     written: Vec<u8>,
     printed: Vec<u8>,
     fails: Vec<u64>,
@@ -53,6 +57,9 @@ pub struct MemHall {
     ghost replay: { IsReplay (files_of (first_pairs first files.items)) (files_of files.items)
         units.items steps.items written.items printed.items },
     ghost numbers: { vec_len calls ≡ vec_len steps },
+    ghost files_room: { vec_len files + room_calls ≤ vec_capacity files },
+    ghost spares_number: { min room_calls (255 - vec_len units) ≤ vec_len spares },
+    ghost spares_room: { All (IsSpare room_bytes) spares.items },
     ghost copied: { ForNone first (room_calls ≡ 0) },
     ghost units_room: { vec_len units + room_calls ≤ vec_capacity units },
     ghost calls_room: { vec_len calls + room_calls ≤ vec_capacity calls },
@@ -62,11 +69,12 @@ pub struct MemHall {
 }
 
 impl MemHall {
-    ghost use Rattle.std.specs.Prelude.{List, [], ◌∷◌, ◌++◌, take, Some, None, OnOk, OnErr, IfOk, MatchOption, IsTrue, ◌⊎◌, ◌↔◌, false, if◌then◌else◌};
+    ghost use Rattle.std.specs.Prelude.{List, [], ◌∷◌, ◌++◌, take, Some, None, OnOk, OnErr, IfOk, IsSome, MatchOption, IsTrue, ◌⊎◌, ◌↔◌, false, if◌then◌else◌};
     ghost use Rattle.hall_core.specs.Facts.{unit_of, size_in};
     ghost use Rattle.stop_model.specs.Files.{file_of};
     ghost use Rattle.hall_core.specs.Held.{shapes_of, IsFirst};
-    ghost use Rattle.hall_core.specs.History.{synced, printed, passed, files_left};
+    ghost use Rattle.hall_core.specs.Images.{zeros_named};
+    ghost use Rattle.hall_core.specs.History.{made, synced, printed, passed, files_left};
     ghost use Rattle.hall_core.specs.Memory.{first_files, events_of, meaning_of, facts_of, calls_of, failing_calls, calls_left, bytes_left, write_to, disk_at};
     ghost use Rattle.hall_core.specs.Memory.{LacksRoom, HasRoom, NextCallFails, KeepsRoom, KeepsSetup, KeepsAllButRoom, KeepsRecord, Records};
 
@@ -91,6 +99,7 @@ impl MemHall {
             units: Vec::new(alloc),
             calls: Vec::new(alloc),
             steps: Vec::new(alloc),
+            spares: Vec::new(alloc),
             written: Vec::new(alloc),
             printed: Vec::new(alloc),
             fails,
@@ -113,16 +122,28 @@ impl MemHall {
     {
         let all_calls = self.room_calls.checked_add(calls).ok_or(AllocError)?;
         let all_bytes = self.room_bytes.checked_add(bytes).ok_or(AllocError)?;
+        self.keep_first()?;
+        self.files.reserve(all_calls as usize)?;
         self.units.reserve(all_calls as usize)?;
         self.calls.reserve(all_calls as usize)?;
         self.steps.reserve(all_calls as usize)?;
         self.written.reserve(all_bytes as usize)?;
         self.printed.reserve(all_bytes as usize)?;
+        self.spares = new_spares(self.alloc, all_calls.min(255) as usize, all_bytes as usize)?;
+        self.room_calls = all_calls;
+        self.room_bytes = all_bytes;
+        Ok(())
+    }
+
+    // Copies the files as they were first given, where there is no copy yet.
+    fn keep_first(&mut self) -> Result<(), AllocError>
+        ensures copy { OnOk result (IsSome self.new.first) }
+        ensures room_left { KeepsRoom self.old self.new }
+        ensures rest { KeepsAllButRoom self.old self.new }
+    {
         if self.first.is_none() {
             self.first = Some(copy_of(self.alloc, &self.files)?);
         }
-        self.room_calls = all_calls;
-        self.room_bytes = all_bytes;
         Ok(())
     }
 
@@ -165,7 +186,12 @@ impl MemHall {
         let steps = &self.steps[..end];
         let from = pending_from(steps);
         let mut files = copy_of(self.alloc, self.first_files())?;
-        apply_left(&mut files, steps, from, &self.units, &self.written, keep);
+        let record = Record {
+            units: &self.units,
+            files: &self.files,
+            pool: &self.written,
+        };
+        apply_left(self.alloc, &mut files, steps, from, &record, keep)?;
         let printed = text_printed(self.alloc, steps, &self.printed)?;
         Ok(Left { files, printed })
     }
@@ -185,6 +211,13 @@ impl MemHall {
         ensures { IsTrue result ↔ LacksRoom self.now bytes }
     {
         self.room_calls == 0 || self.room_bytes < bytes as u64
+    }
+
+    // Whether there is too little room for a call that uses a name and so many bytes.
+    fn lacks_room_beside(&self, name: &str, len: u64) -> bool
+        ensures { IsTrue result ↔ LacksRoom self.now (length name.now + len) }
+    {
+        self.lacks_room(name.len()) || self.room_bytes - (name.len() as u64) < len
     }
 
     // Whether the next call that finds room is to fail.
@@ -257,6 +290,29 @@ impl MemHall {
         self.room_bytes -= bytes.len() as u64;
     }
 
+    // Makes a file and attaches it as the next unit, and puts that on the record.
+    fn record_create(&mut self, name: &str, len: u64)
+        requires room { HasRoom self.old (length name.now + len) }
+        requires few { length (facts_of self.old).units < 255 }
+        requires fresh { file_of (files_of self.old.files.items) name.now ≡ None }
+        ensures noted { Records (length name.now + len) Call.Create
+            (made (zeros_named name.now len)) self.old self.new }
+        ensures setup { KeepsSetup self.old self.new }
+        ensures facts { facts_of self.new ≡ record (facts_of self.old) {
+          units = (facts_of self.old).units ++ record { name = name.now; size = len } ∷ [];
+        } }
+    {
+        let unit = self.units.len() as u8;
+        let spare = self.spares.pop().unwrap();
+        let place = self.files.len();
+        self.files.push(filled(spare, name, len as usize)).unwrap();
+        self.units.push(place).unwrap();
+        let step = Step::Create { unit };
+        note(&mut self.calls, &mut self.steps, Call::Create, step);
+        self.room_calls -= 1;
+        self.room_bytes -= name.len() as u64 + len;
+    }
+
     // Attaches the file at a place as the next unit, where there is memory for it.
     fn add_unit(&mut self, place: usize)
         requires first { IsFirst (shapes_of (files_of self.old.files.items)) place }
@@ -275,11 +331,11 @@ impl MemHall {
 
 impl Hall for MemHall {
     ghost use Rattle.std.specs.Prelude.{List, [], ◌∷◌, OnOk, OnErr, IfErr, IsErrOf, None, is_ok, if◌then◌else◌};
-    ghost use Rattle.hall_core.specs.Facts.{name_in, size_in, IsAttached, DeviceCall, PrintCall, AttachCall, NotedCall};
+    ghost use Rattle.hall_core.specs.Facts.{name_in, size_in, IsAttached, DeviceCall, PrintCall, AttachCall, CreateCall, NotedCall};
     ghost use Rattle.stop_model.specs.Files.{file_of, HasBytesAt, AfterWrite, AfterSync, AfterPrint};
-    ghost use Rattle.hall_core.specs.Images.{Attaches};
+    ghost use Rattle.hall_core.specs.Images.{Attaches, Creates, zeros_named};
     ghost use Rattle.stop_model.specs.Moments.{Same};
-    ghost use Rattle.hall_core.specs.History.{synced, printed, passed};
+    ghost use Rattle.hall_core.specs.History.{made, synced, printed, passed};
     ghost use Rattle.hall_core.specs.Memory.{meaning_of, facts_of, write_to, IsExactCall};
     ghost use Rattle.hall_core.specs.Laws.{leaves_state as state_left, counts_now as now_counted, only_now as none_since, whole_units, none_pending as none_settled};
 
@@ -302,8 +358,8 @@ impl Hall for MemHall {
     fn attach(&mut self, name: &str) -> Result<u8, HallErr>
         requires few { length (facts_of self.old).units < 255 }
         requires once { ¬ IsAttached (facts_of self.old).units name.now }
-        ensures told { Attaches name.now (meaning_of self.old) (meaning_of self.new) result }
-        ensures call { AttachCall name.now (facts_of self.old) (facts_of self.new) result }
+        ensures files { Attaches name.now (meaning_of self.old) (meaning_of self.new) result }
+        ensures faults { AttachCall name.now (facts_of self.old) (facts_of self.new) result }
         ensures exact { IsExactCall (length name.now) Call.Attach passed self.old self.new result }
     {
         if self.lacks_room(name.len()) {
@@ -322,6 +378,35 @@ impl Hall for MemHall {
         Ok(unit)
     }
 
+    fn create(&mut self, name: &str, len: u64) -> Result<u8, HallErr>
+        requires few { length (facts_of self.old).units < 255 }
+        requires once { ¬ IsAttached (facts_of self.old).units name.now }
+        ensures files { Creates name.now len (meaning_of self.old) (meaning_of self.new) result }
+        ensures faults { CreateCall name.now len (facts_of self.old) (facts_of self.new) result }
+        ensures exact { IsExactCall (length name.now + len) Call.Create
+            (if is_ok result then made (zeros_named name.now len) else passed)
+            self.old self.new result }
+    {
+        if self.lacks_room_beside(name, len) {
+            return Err(fault(&mut self.dev_faults));
+        }
+        if self.next_fails() {
+            self.record_plain(name.len() + len as usize, Call::Create, false);
+            return Err(fault(&mut self.dev_faults));
+        }
+        match first_named(&self.files, name) {
+            Some(_) => {
+                self.record_plain(name.len() + len as usize, Call::Create, false);
+                Err(HallErr::Exists)
+            }
+            None => {
+                let unit = self.units.len() as u8;
+                self.record_create(name, len);
+                Ok(unit)
+            }
+        }
+    }
+
     fn size(&self, unit: u8) -> u64 {
         self.files[self.units[unit as usize]].1.len() as u64
     }
@@ -331,8 +416,8 @@ impl Hall for MemHall {
         requires inside { at + length buf.old ≤ size_in (facts_of self.old) unit }
         ensures bytes { OnOk result
             (HasBytesAt (meaning_of self.old).state (name_in (facts_of self.old) unit) at buf.new) }
-        ensures told { Same (meaning_of self.old) (meaning_of self.new) }
-        ensures call { DeviceCall (facts_of self.old) (facts_of self.new) result }
+        ensures files { Same (meaning_of self.old) (meaning_of self.new) }
+        ensures faults { DeviceCall (facts_of self.old) (facts_of self.new) result }
         ensures error { IfErr result (λ e. e ≡ HallErr.Failed) }
         ensures exact { IsExactCall 0 (Call.Read unit at) passed self.old self.new result }
     {
@@ -351,9 +436,9 @@ impl Hall for MemHall {
     fn write(&mut self, unit: u8, at: u64, bytes: &[u8]) -> Result<(), HallErr>
         requires attached { unit < length (facts_of self.old).units }
         requires inside { at + length bytes.now ≤ size_in (facts_of self.old) unit }
-        ensures told { AfterWrite (name_in (facts_of self.old) unit) at bytes.now
+        ensures files { AfterWrite (name_in (facts_of self.old) unit) at bytes.now
             (meaning_of self.old) (meaning_of self.new) result }
-        ensures call { DeviceCall (facts_of self.old) (facts_of self.new) result }
+        ensures faults { DeviceCall (facts_of self.old) (facts_of self.new) result }
         ensures error { IfErr result (λ e. e ≡ HallErr.Failed) }
         ensures exact { IsExactCall (length bytes.now) (Call.Write unit at)
             (write_to (facts_of self.old) unit at bytes.now (is_ok result))
@@ -371,8 +456,8 @@ impl Hall for MemHall {
     }
 
     fn sync(&mut self) -> Result<(), HallErr>
-        ensures told { AfterSync (meaning_of self.old) (meaning_of self.new) result }
-        ensures call { DeviceCall (facts_of self.old) (facts_of self.new) result }
+        ensures files { AfterSync (meaning_of self.old) (meaning_of self.new) result }
+        ensures faults { DeviceCall (facts_of self.old) (facts_of self.new) result }
         ensures error { IfErr result (λ e. e ≡ HallErr.Failed) }
         ensures exact { IsExactCall 0 Call.Sync (if is_ok result then synced else passed)
             self.old self.new result }
@@ -389,8 +474,8 @@ impl Hall for MemHall {
     }
 
     fn print(&mut self, bytes: &[u8]) -> Result<(), HallErr>
-        ensures told { AfterPrint bytes.now (meaning_of self.old) (meaning_of self.new) result }
-        ensures call { PrintCall (facts_of self.old) (facts_of self.new) result }
+        ensures files { AfterPrint bytes.now (meaning_of self.old) (meaning_of self.new) result }
+        ensures faults { PrintCall (facts_of self.old) (facts_of self.new) result }
         ensures error { IfErr result (λ e. e ≡ HallErr.Failed) }
         ensures exact { IsExactCall (length bytes.now) Call.Print
             (if is_ok result then printed bytes.now else passed) self.old self.new result }

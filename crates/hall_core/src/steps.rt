@@ -29,10 +29,10 @@ pub fn write_through<H: Hall>(hall: &mut H, unit: u8, at: u64, bytes: &[u8]) -> 
     requires attached { unit < length (H.facts hall.old).units }
     requires inside { at + length bytes.now ≤ size_in (H.facts hall.old) unit }
     requires durable { IsTrue H.tells → IsDurable (H.meaning hall.old) }
-    ensures told { IsTrue H.tells → StepTo (λ files. files)
+    ensures files { IsTrue H.tells → StepTo (λ files. files)
         (written (H.meaning hall.old).state (name_in (H.facts hall.old) unit) at bytes.now)
         (H.meaning hall.old) (H.meaning hall.new) result }
-    ensures call { DeviceCall (H.facts hall.old) (H.facts hall.new) result }
+    ensures faults { DeviceCall (H.facts hall.old) (H.facts hall.new) result }
 {
     hall.write(unit, at, bytes)?;
     hall.sync()?;

@@ -1,8 +1,8 @@
--- What a hall over real files tells, which of its units are noted, and which files it finds missing or opens to read alone.
+-- What a hall over real files tells, which of its units are noted, and which files it finds missing, there already, or to be read alone.
 use Rattle.std.specs.Prelude.{◌≡◌, ◌⊎◌, Bool, List, [], map, string_bytes}
 use Rattle.std.specs.IoError.{error_kind}
 use Rattle.std.specs.declared.io.Error.{Error}
-use Rattle.std.specs.declared.io.ErrorKind.TheVariants.{NotFound, NotADirectory, PermissionDenied, ReadOnlyFilesystem}
+use Rattle.std.specs.declared.io.ErrorKind.TheVariants.{NotFound, NotADirectory, AlreadyExists, PermissionDenied, ReadOnlyFilesystem}
 use Rattle.hall_core.specs.Facts.{Attached, Facts}
 use Rattle.hall_files.specs.declared.file_hall.Unit.{Unit}
 use Rattle.hall_files.specs.declared.file_hall.FileHall.{FileHall}
@@ -26,6 +26,10 @@ notes_of hall = map (λ (u : Unit). u.is_written) (units_in hall)
 -- an error says that no file has the name: there is no entry of that name, or what should be its folder is none
 abbrev pub SaysMissing : Error → Type 0
 SaysMissing error = (error_kind error ≡ NotFound) ⊎ (error_kind error ≡ NotADirectory)
+
+-- an error says that a file has the name already
+abbrev pub SaysExists : Error → Type 0
+SaysExists error = error_kind error ≡ AlreadyExists
 
 -- an error says that the file may not be written: there is no leave to do it, or nothing on the medium may be written
 abbrev pub SaysReadOnly : Error → Type 0

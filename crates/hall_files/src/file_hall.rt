@@ -3,17 +3,20 @@
 //! What the system does can't be proved. It is taken on trust that reads give what the file holds,
 //! writes before them included; that a sync of a file's data makes every write before it durable; that
 //! a stop leaves each write since then whole or not at all; that two names are two files, and that a
-//! file is missing where the system says so. What is proved is what the hall answers and counts: each
+//! file is missing, or there already, where the system says so. It is trusted too that a new file that
+//! is set to a length reads as zeros, and that a sync of it and of its folder makes it durable by its
+//! name. What is proved is what the hall answers and counts: each
 //! call of the hall that answers `Failed` counts a fault, once, and else `differs` alone does.
 ghost use Rattle.std.specs.Prelude.{◌≡◌, ◌+◌, ◌-◌, ◌^◌, ◌<◌, ◌≤◌, ◌↔◌, min, length, refl, Err, IfOk, IfErr, OnOk, OnErr, IsErrOf, IsTrue, true, false, []};
 ghost use Rattle.stop_model.specs.Counts.{Rose};
-ghost use Rattle.hall_files.specs.FileHall.{SaysMissing, SaysReadOnly};
+ghost use Rattle.hall_files.specs.FileHall.{SaysExists, SaysMissing, SaysReadOnly};
 
 use hall_core::{Hall, HallErr, fault};
 use std::alloc::Global;
 use std::fs::{File, Files, OpenOptions};
 use std::io::{self, Error, ErrorKind, Print};
 use std::os::unix::fs::FileExt;
+use std::path::Path;
 
 // An attached file, its size in bytes as of then, and whether it may have been written since the last
 // sync that was done.
@@ -62,6 +65,31 @@ fn open<R: Files<File = File>>(rt: &R, name: &str) -> io::Result<(File, u64)> {
     Ok((file, size))
 }
 
+// Makes an empty file, where none has the name. The descriptor is never that of a standard stream.
+fn open_new<R: Files<File = File>>(rt: &R, name: &str) -> io::Result<File> {
+    let made = OpenOptions::new()
+        .read(true)
+        .write(true)
+        .create_new(true)
+        .open(rt, name)?;
+    made.try_clone()
+}
+
+// The folder in which a file of this name stands.
+fn folder_of(name: &str) -> Path<'_> {
+    match Path::new(name).parent() {
+        Some(folder) if !folder.as_str().is_empty() => folder,
+        _ => Path::new("."),
+    }
+}
+
+// Sets a new file to a length, in bytes, and makes it and its name durable.
+fn fill_new<R: Files<File = File>>(rt: &R, name: &str, file: &File, len: u64) -> io::Result<()> {
+    file.set_len(len)?;
+    file.sync_all()?;
+    File::open(rt, folder_of(name))?.sync_all()
+}
+
 // Whether the file may not be written, but perhaps be read.
 fn is_read_only(error: Error) -> bool
     ensures { IsTrue result ↔ SaysReadOnly error }
@@ -79,12 +107,39 @@ fn is_missing(error: Error) -> bool
     matches!(error.kind(), ErrorKind::NotFound | ErrorKind::NotADirectory)
 }
 
+// Whether a file has the name already.
+fn is_there(error: Error) -> bool
+    ensures { IsTrue result ↔ SaysExists error }
+{
+    matches!(error.kind(), ErrorKind::AlreadyExists)
+}
+
+// What the making of a file comes to: a file that is there already is no fault, and any other failure is
+// counted once.
+fn made(outcome: io::Result<File>, faults: &mut u64) -> Result<File, HallErr>
+    ensures ok { IfOk outcome (λ file. result ≡ Ok file) }
+    ensures exists { IfErr outcome (λ e. SaysExists e → result ≡ Err HallErr.Exists) }
+    ensures failed { IfErr outcome (λ e. ¬ SaysExists e → result ≡ Err HallErr.Failed) }
+    ensures memory { ¬ IsErrOf result HallErr.Memory }
+    ensures never_missing { ¬ IsErrOf result HallErr.Missing }
+    ensures count { IsErrOf result HallErr.Failed → Rose faults.old faults.new }
+    ensures others { ¬ IsErrOf result HallErr.Failed → faults.new ≡ faults.old }
+    ensures later { faults.old ≤ faults.new }
+{
+    match outcome {
+        Ok(file) => Ok(file),
+        Err(error) if is_there(error) => Err(HallErr::Exists),
+        Err(_) => Err(fault(faults)),
+    }
+}
+
 // What an opening comes to: a file that is missing is no fault, and any other failure is counted once.
 fn opened(outcome: io::Result<(File, u64)>, faults: &mut u64) -> Result<(File, u64), HallErr>
     ensures ok { IfOk outcome (λ found. result ≡ Ok found) }
     ensures missing { IfErr outcome (λ e. SaysMissing e → result ≡ Err HallErr.Missing) }
     ensures failed { IfErr outcome (λ e. ¬ SaysMissing e → result ≡ Err HallErr.Failed) }
     ensures memory { ¬ IsErrOf result HallErr.Memory }
+    ensures never_exists { ¬ IsErrOf result HallErr.Exists }
     ensures count { IsErrOf result HallErr.Failed → Rose faults.old faults.new }
     ensures others { ¬ IsErrOf result HallErr.Failed → faults.new ≡ faults.old }
     ensures later { faults.old ≤ faults.new }
@@ -169,8 +224,8 @@ impl<R: Files<File = File> + Print> Hall for FileHall<'_, R> {
     ghost use Rattle.std.specs.Prelude.{◌++◌, ◌∷◌, set, IsFalse};
     ghost use Rattle.std.specs.List.{All};
     ghost use Rattle.std.proofs.lemmas.Bool.{false≢true};
-    ghost use Rattle.hall_core.specs.Facts.{unit_of, IsAttached, DeviceCall, PrintCall, AttachCall, NotedCall};
-    ghost use Rattle.hall_core.specs.Images.{untold, Attaches};
+    ghost use Rattle.hall_core.specs.Facts.{unit_of, IsAttached, DeviceCall, PrintCall, AttachCall, CreateCall, NotedCall};
+    ghost use Rattle.hall_core.specs.Images.{untold, Attaches, Creates};
     ghost use Rattle.stop_model.specs.Counts.{Rose};
     ghost use Rattle.stop_model.specs.Files.{HasBytesAt, AfterWrite, AfterSync, AfterPrint};
     ghost use Rattle.stop_model.specs.Moments.{Same};
@@ -197,8 +252,8 @@ impl<R: Files<File = File> + Print> Hall for FileHall<'_, R> {
     fn attach(&mut self, name: &str) -> Result<u8, HallErr>
         requires few { length (facts_of self.old).units < 255 }
         requires once { ¬ IsAttached (facts_of self.old).units name.now }
-        ensures told { IsTrue false → Attaches name.now untold untold result }
-        ensures call { AttachCall name.now (facts_of self.old) (facts_of self.new) result }
+        ensures files { IsTrue false → Attaches name.now untold untold result }
+        ensures faults { AttachCall name.now (facts_of self.old) (facts_of self.new) result }
         ensures notes { IfOk result (λ _. notes_of self.new ≡ notes_of self.old ++ false ∷ []) }
         ensures kept { OnErr result (notes_of self.new ≡ notes_of self.old) }
     {
@@ -217,6 +272,31 @@ impl<R: Files<File = File> + Print> Hall for FileHall<'_, R> {
         Ok(unit)
     }
 
+    fn create(&mut self, name: &str, len: u64) -> Result<u8, HallErr>
+        requires few { length (facts_of self.old).units < 255 }
+        requires once { ¬ IsAttached (facts_of self.old).units name.now }
+        ensures files { IsTrue false → Creates name.now len untold untold result }
+        ensures faults { CreateCall name.now len (facts_of self.old) (facts_of self.new) result }
+        ensures notes { IfOk result (λ _. notes_of self.new ≡ notes_of self.old ++ false ∷ []) }
+        ensures kept { OnErr result (notes_of self.new ≡ notes_of self.old) }
+    {
+        let name_copy = String::from_str(self.alloc, name).map_err(|_| HallErr::Memory)?;
+        self.units.reserve(1).map_err(|_| HallErr::Memory)?;
+        let file = made(open_new(self.rt, name), &mut self.dev_faults)?;
+        let filled = fill_new(self.rt, name, &file, len);
+        counted(filled, &mut self.dev_faults)?;
+        let unit = self.units.len() as u8;
+        self.units
+            .push(Unit {
+                name: name_copy,
+                file,
+                size: len,
+                is_written: false,
+            })
+            .unwrap();
+        Ok(unit)
+    }
+
     fn size(&self, unit: u8) -> u64 {
         self.units[unit as usize].size
     }
@@ -227,8 +307,8 @@ impl<R: Files<File = File> + Print> Hall for FileHall<'_, R> {
         ensures bytes { IsTrue false
             → OnOk result (HasBytesAt untold.state (unit_of (facts_of self.old).units unit).name at
             buf.new) }
-        ensures told { IsTrue false → Same untold untold }
-        ensures call { DeviceCall (facts_of self.old) (facts_of self.new) result }
+        ensures files { IsTrue false → Same untold untold }
+        ensures faults { DeviceCall (facts_of self.old) (facts_of self.new) result }
         ensures error { IfErr result (λ e. e ≡ HallErr.Failed) }
         ensures notes { notes_of self.new ≡ notes_of self.old }
     {
@@ -239,10 +319,10 @@ impl<R: Files<File = File> + Print> Hall for FileHall<'_, R> {
     fn write(&mut self, unit: u8, at: u64, bytes: &[u8]) -> Result<(), HallErr>
         requires attached { unit < length (facts_of self.old).units }
         requires inside { at + length bytes.now ≤ (unit_of (facts_of self.old).units unit).size }
-        ensures told { IsTrue false
+        ensures files { IsTrue false
             → AfterWrite (unit_of (facts_of self.old).units unit).name at bytes.now untold untold
             result }
-        ensures call { DeviceCall (facts_of self.old) (facts_of self.new) result }
+        ensures faults { DeviceCall (facts_of self.old) (facts_of self.new) result }
         ensures error { IfErr result (λ e. e ≡ HallErr.Failed) }
         ensures notes { notes_of self.new ≡ set (notes_of self.old) unit true }
     {
@@ -252,8 +332,8 @@ impl<R: Files<File = File> + Print> Hall for FileHall<'_, R> {
     }
 
     fn sync(&mut self) -> Result<(), HallErr>
-        ensures told { IsTrue false → AfterSync untold untold result }
-        ensures call { DeviceCall (facts_of self.old) (facts_of self.new) result }
+        ensures files { IsTrue false → AfterSync untold untold result }
+        ensures faults { DeviceCall (facts_of self.old) (facts_of self.new) result }
         ensures error { IfErr result (λ e. e ≡ HallErr.Failed) }
         ensures none { All IsFalse (notes_of self.old) → result ≡ Ok tt }
         ensures notes { OnOk result (All IsFalse (notes_of self.new)) }
@@ -266,8 +346,8 @@ impl<R: Files<File = File> + Print> Hall for FileHall<'_, R> {
     }
 
     fn print(&mut self, bytes: &[u8]) -> Result<(), HallErr>
-        ensures told { IsTrue false → AfterPrint bytes.now untold untold result }
-        ensures call { PrintCall (facts_of self.old) (facts_of self.new) result }
+        ensures files { IsTrue false → AfterPrint bytes.now untold untold result }
+        ensures faults { PrintCall (facts_of self.old) (facts_of self.new) result }
         ensures error { IfErr result (λ e. e ≡ HallErr.Failed) }
         ensures notes { notes_of self.new ≡ notes_of self.old }
     {
@@ -278,8 +358,8 @@ impl<R: Files<File = File> + Print> Hall for FileHall<'_, R> {
     fn differs(&mut self, unit: u8, track: u16)
         requires { unit < length (facts_of self.old).units }
         ensures rose { IsFalse false → Rose (facts_of self.old).dev_faults (facts_of self.new).dev_faults }
-        ensures call { NotedCall (facts_of self.old) (facts_of self.new) }
-        ensures told { IsTrue false → Same untold untold }
+        ensures faults { NotedCall (facts_of self.old) (facts_of self.new) }
+        ensures files { IsTrue false → Same untold untold }
         ensures clock { IsTrue false → untold.clock ≡ untold.clock }
         ensures facts { IsTrue false → facts_of self.new ≡ facts_of self.old }
         ensures notes { notes_of self.new ≡ notes_of self.old }
@@ -293,31 +373,6 @@ mod tests {
     use super::*;
     use std::fs;
     use std::test::Fail;
-
-    #[test]
-    fn reads_a_file_until_it_shrinks(rt: HostRuntime) -> Result<(), Fail> {
-        let name = "file_hall_shrinks.tmp";
-        fs::write(&rt, name, "01234567")?;
-        let other = OpenOptions::new().write(true).open(&rt, name)?;
-        let mut hall = FileHall::new(rt.alloc(), &rt);
-        let attached = hall.attach(name);
-        fs::remove_file(&rt, name)?;
-        let unit = attached?;
-        assert_eq!(rt; unit, 0);
-        assert_eq!(rt; hall.size(unit), 8);
-        let mut buf = [0u8; 3];
-        hall.read(unit, 5, &mut buf)?;
-        assert_eq!(rt; buf, *b"567");
-        other.set_len(7)?;
-        assert_eq!(rt; hall.size(unit), 8);
-        assert_eq!(rt; hall.read(unit, 5, &mut buf), Err(HallErr::Failed));
-        assert_eq!(rt; hall.dev_faults, 1);
-        hall.read(unit, 4, &mut buf)?;
-        assert_eq!(rt; buf, *b"456");
-        hall.print(b"printed\n")?;
-        assert_eq!(rt; (hall.dev_faults, hall.print_faults), (1, 0));
-        Ok(())
-    }
 
     // A name, why it can't be attached, and the count of faults then.
     const REFUSED: &[(&str, HallErr, u64)] = &[
@@ -336,6 +391,28 @@ mod tests {
             assert_eq!(rt; hall.attach(name), Err(*want), "at {name}");
             assert_eq!(rt; hall.dev_faults, *faults, "at {name}");
         }
+    }
+
+    // A new file of zeros, which is there then, and one in a folder that is not.
+    #[test]
+    fn makes_a_file_where_there_is_none(rt: HostRuntime) -> Result<(), Fail> {
+        let name = "file_hall_makes.tmp";
+        let mut hall = FileHall::new(rt.alloc(), &rt);
+        let unit = hall.create(name, 5)?;
+        assert_eq!(rt; (unit, hall.size(unit)), (0, 5));
+        let mut other = FileHall::new(rt.alloc(), &rt);
+        assert_eq!(rt; other.create(name, 9), Err(HallErr::Exists));
+        assert_eq!(rt; other.dev_faults, 0);
+        assert_eq!(rt;
+            other.create("no_such_folder/pack", 9),
+            Err(HallErr::Failed)
+        );
+        assert_eq!(rt; other.dev_faults, 1);
+        hall.write(unit, 2, b"ab")?;
+        hall.sync()?;
+        assert_eq!(rt; fs::read(&rt, name)?.as_slice(), b"\0\0ab\0".as_slice());
+        fs::remove_file(&rt, name)?;
+        Ok(())
     }
 
     // A sync after no write, a write, of which one has no bytes and stands at the end, and a sync.

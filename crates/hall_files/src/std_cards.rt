@@ -103,37 +103,6 @@ mod tests {
         }
     }
 
-    // A reader that gives nothing at its first read, and then what another gives.
-    #[derive(Drop)]
-    struct Late<'a> {
-        was_read: bool,
-        rest: &'a [u8],
-    }
-
-    impl Read for Late<'_> {
-        fn read(&mut self, buf: &mut [u8]) -> IoResult<usize> {
-            if self.was_read {
-                return self.rest.read(buf);
-            }
-            self.was_read = true;
-            Ok(0)
-        }
-    }
-
-    #[test]
-    fn a_read_of_nothing_is_not_tried_again(rt: HostRuntime) {
-        let mut cards = StdCards::new(Late {
-            was_read: false,
-            rest: b"A".as_slice(),
-        });
-        let mut buf = *b"//";
-        for (count, held) in [(0, b"//"), (1, b"A/")] {
-            assert_eq!(rt; cards.read(&mut buf), Ok(count));
-            assert_eq!(rt; buf, *held);
-        }
-        assert_eq!(rt; cards.faults, 0);
-    }
-
     // A slice ends, and a folder that was opened can't be read.
     #[test]
     fn reads_to_the_end_and_counts_faults(rt: HostRuntime) -> Result<(), Fail> {

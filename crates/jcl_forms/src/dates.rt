@@ -47,9 +47,9 @@ pub fn date_after(date: &[u8; 3], days: u32) -> Option<[u8; 3]>
     date_of_day(days_before(u32::from(date[0])) + (day + days))
 }
 
-// The date that five digits give.
+/// The date that five digits `yyddd` give: the year since 1900 and a day of 001 to 366, in two bytes.
 #[tactic(auto, unfolding(crate::specs::Dates::date_in))]
-fn date_in(text: &[u8]) -> Option<[u8; 3]>
+pub fn date_in(text: &[u8]) -> Option<[u8; 3]>
     ensures { result ≡ date_in text.now }
 {
     if text.len() != 5 {

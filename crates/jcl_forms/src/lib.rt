@@ -12,7 +12,8 @@ mod volume;
 
 pub use attributes::{Dcb, attributes_of};
 pub use data_set::{DdPart, data_set_of};
-pub use dates::{date_after, expiry_of};
+pub use dates::{date_after, date_in, expiry_of};
 pub use disposition::{DdAfter, DdStatus, disposition_of};
+pub use numbers::number_below;
 pub use space::{MAX_DIRECTORY_BLOCKS, Space, SpaceAsk, space_of};
 pub use volume::volume_of;

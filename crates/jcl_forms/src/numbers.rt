@@ -4,7 +4,7 @@ ghost use Rattle.jcl_forms.specs.Numbers.{number_below, number_or_zero};
 
 use card_text::number_of;
 
-// The number that a text is, if it is less than a limit.
+/// The number that a text of one to eight digits is, if it is less than a limit.
 #[tactic(auto, unfolding(crate::specs::Numbers::number_below))]
 pub fn number_below(limit: u32, text: &[u8]) -> Option<u32>
     ensures value { result ≡ number_below limit text.now }

@@ -1,2 +1,2 @@
 pub mod Absent
-pub mod Passing
+pub mod Steps

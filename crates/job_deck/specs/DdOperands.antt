@@ -19,7 +19,7 @@ use Rattle.job_deck.specs.Pieces.{is_unbalanced_piece, pieces, with_continuation
 use Rattle.job_deck.specs.Statements.{is_text}
 use Rattle.job_deck.specs.declared.faults.JclErr.{JclErr}
 use Rattle.job_deck.specs.declared.faults.JclKind.TheVariants.{BadOperand, Unbalanced}
-use Rattle.job_deck.specs.declared.jcl_cards.Joined.{Joined}
+use Rattle.job_deck.specs.declared.statements.Joined.{Joined}
 use Rattle.job_deck.specs.declared.job.DdSet.{DdSet}
 use Rattle.job_deck.specs.declared.operands.Piece.{Piece}
 use Rattle.job_deck.specs.declared.dd_operands.DdKey.{DdKey}

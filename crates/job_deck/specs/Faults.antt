@@ -1,5 +1,6 @@
 -- The first of faults.
 use Rattle.std.specs.Prelude.{◌==◌, ◌&&◌, ◌||◌, if◌then◌else◌, nat_lt, List, [], ◌∷◌, Option, Some, None, Result, Ok, Err}
+use Rattle.std.specs.Option.{option_or}
 use Rattle.card_text.specs.declared.cards.CardColumn.{CardColumn}
 use Rattle.job_deck.specs.declared.faults.JclErr.{JclErr}
 use Rattle.job_deck.specs.declared.faults.JclKind.{JclKind}
@@ -26,3 +27,18 @@ abbrev pub with_first_fault : {X : Type 0} → Option JclErr → Result X JclErr
 with_first_fault None read = read
 with_first_fault (Some fault) (Ok value) = Err fault
 with_first_fault (Some fault) (Err other) = Err (earlier fault other)
+
+-- the first of faults that are found in order
+abbrev pub first_some : List (Option JclErr) → Option JclErr
+first_some [] = None
+first_some (found ∷ others) = option_or found (first_some others)
+
+-- what is read behind what is read
+abbrev pub and_then : {X Y : Type 0} → (X → Result Y JclErr) → Result X JclErr → Result Y JclErr
+and_then next (Err fault) = Err fault
+and_then next (Ok value) = next value
+
+-- what is read, unless a fault stands in front of it
+abbrev pub unless : {X : Type 0} → Option JclErr → Result X JclErr → Result X JclErr
+unless None read = read
+unless (Some fault) read = Err fault

@@ -1,11 +1,10 @@
 -- Cards of JCL (this project's profile).
-use Rattle.std.specs.Prelude.{ℕ, ◌+◌, ◌==◌, Bool, true, false, not, ◌&&◌, if◌then◌else◌, List, [], ◌∷◌, ◌++◌, take, drop, slice_index}
+use Rattle.std.specs.Prelude.{ℕ, ◌==◌, Bool, not, ◌&&◌, List, ◌++◌, take, drop, slice_index}
 use Rattle.std.specs.List.{list_all}
 use Rattle.card_text.specs.declared.cards.Card.{Card}
 use Rattle.card_text.specs.declared.characters.Character.{Character}
 use Rattle.card_text.specs.Cards.{statement_characters}
-use Rattle.card_text.specs.Characters.{past_blanks, field_part, in_quotes, ends_in_comma}
-use Rattle.job_deck.specs.declared.jcl_cards.Joined.{Joined}
+use Rattle.card_text.specs.Characters.{past_blanks, field_part, in_quotes}
 
 -- a card that begins with two slashes
 unfoldable pub is_jcl : ℕ × Card → Bool
@@ -32,12 +31,3 @@ continues card = is_jcl card && ((slice_index card.1.bytes 2 == 32) && not (is_e
 -- operands with those of one more card: from the first that isn't blank to a blank outside quotes
 unfoldable pub field_with_card : List Character → ℕ × Card → List Character
 field_with_card field card = field ++ field_part (past_blanks (drop 2 (statement_characters (in_quotes field) card)))
-
--- the operands that begin so on a card: each that ends in a comma takes in those of the next card
-unfoldable pub joined_operands : List Character → ℕ × Card → ℕ → List (ℕ × Card) → Joined
-joined_operands field last further [] = record { field = field; last = last; further = further; missing = ends_in_comma field }
-joined_operands field last further (next ∷ others) =
-    if ends_in_comma field
-    then (if continues next then joined_operands (field_with_card field next) next (further + 1) others
-    else record { field = field; last = last; further = further; missing = true })
-    else record { field = field; last = last; further = further; missing = false }

@@ -1,272 +1,173 @@
 -- The jobs of a deck (this project's profile).
-use Rattle.std.specs.Prelude.{ℕ, zero, suc, ◌+◌, ◌==◌, nat_eq, Bool, true, false, not, ◌||◌, if◌then◌else◌, List, [], ◌∷◌, ◌++◌, length, take, drop, position, slice_get, Option, Some, None, option_map, Result, Ok, Err}
-use Rattle.std.specs.List.{list_any}
-use Rattle.std.specs.Option.{option_map_or}
+use Rattle.std.specs.Prelude.{ℕ, nat_eq, Bool, true, false, not, if◌then◌else◌, List, [], ◌∷◌, ◌++◌, map, flat_map, find, Option, Some, None, Result, Ok, Err}
+use Rattle.std.specs.List.{list_any, before_first}
+use Rattle.std.specs.Option.{option_map_or, option_or}
 use Rattle.std.specs.Cmp.Lexicographic.{pointwise}
 use Rattle.ebcdic_names.specs.declared.names.Name8.{Name8}
 use Rattle.card_text.specs.declared.cards.Card.{Card}
-use Rattle.card_text.specs.declared.characters.Character.{Character}
-use Rattle.card_text.specs.Cards.{missing_place, cards_up_to}
-use Rattle.card_text.specs.Characters.{bytes_of}
 use Rattle.card_text.specs.Names.{name_of}
-use Rattle.job_deck.specs.Faults.{fault_at, earliest, with_first_fault}
-use Rattle.job_deck.specs.JclCards.{is_jcl, is_comment, is_end, ends_data}
-use Rattle.job_deck.specs.Statements.{operation_of, card_operation, statement, blank_name, name_or_blank, column_of, name_faults}
-use Rattle.job_deck.specs.Pieces.{balance_fault, pieces, with_continuation}
+use Rattle.job_deck.specs.Deck.{cards_of, begins_job, divides, begins_step, begins_statement, groups, continuation, cards_behind, is_comment_card, data_of, behind_data}
+use Rattle.job_deck.specs.Faults.{fault_at, earliest, first_some, unless, and_then, with_first_fault}
+use Rattle.job_deck.specs.Statements.{statement, name_on, blank_name, name_or_blank, column_of, name_faults, operation_fault}
+use Rattle.job_deck.specs.Pieces.{balance_fault, pieces, continuation_faults}
 use Rattle.job_deck.specs.ExecOperands.{program_of}
 use Rattle.job_deck.specs.DdOperands.{dd_form_of, set_of}
+use Rattle.job_deck.specs.declared.deck.DeckCard.{DeckCard}
+use Rattle.job_deck.specs.declared.deck.Role.{Role}
+use Rattle.job_deck.specs.declared.deck.Role.TheVariants as role
 use Rattle.job_deck.specs.declared.faults.JclErr.{JclErr}
-use Rattle.job_deck.specs.declared.faults.JclKind.{JclKind}
-use Rattle.job_deck.specs.declared.faults.JclKind.TheVariants.{NoJob, Stray, NoOperation, BadOperation, DuplicateDd}
-use Rattle.job_deck.specs.declared.jcl_cards.Joined.{Joined}
+use Rattle.job_deck.specs.declared.faults.JclKind.TheVariants.{NoJob, Stray, DuplicateDd}
 use Rattle.job_deck.specs.declared.job.Job.{Job}
 use Rattle.job_deck.specs.declared.job.Step.{Step}
 use Rattle.job_deck.specs.declared.job.Dd.{Dd}
 use Rattle.job_deck.specs.declared.job.DdWhat.{DdWhat}
 use Rattle.job_deck.specs.declared.job.DdWhat.TheVariants as what
-use Rattle.job_deck.specs.declared.statements.Operation.{Operation}
 use Rattle.job_deck.specs.declared.statements.Operation.TheVariants as operation
 use Rattle.job_deck.specs.declared.statements.Statement.{Statement}
 use Rattle.job_deck.specs.declared.exec_operands.Program.{Program}
 use Rattle.job_deck.specs.declared.dd_operands.DdForm.{DdForm}
 use Rattle.job_deck.specs.declared.dd_operands.DdForm.TheVariants as form
 use Rattle.job_deck.specs.declared.dd_operands.DdOperands.{DdOperands}
-use Rattle.job_deck.specs.declared.reading.CardKind.{CardKind}
-use Rattle.job_deck.specs.declared.reading.CardKind.TheVariants as kind
-use Rattle.job_deck.specs.declared.reading.OpenJob.{OpenJob}
-use Rattle.job_deck.specs.declared.reading.Reading.{Reading}
-use Rattle.job_deck.specs.declared.reading.Turn.{Turn}
-use Rattle.job_deck.specs.declared.reading.Reading.TheVariants as reading
 
-abbrev pub kind_of_operation : Operation → CardKind
-kind_of_operation operation.Job = kind.JobCard
-kind_of_operation operation.Missing = kind.Other
-kind_of_operation operation.Exec = kind.Other
-kind_of_operation operation.Dd = kind.Other
-kind_of_operation operation.Other = kind.Other
+-- the fault of cards that are no JCL and that no DD takes
+abbrev pub stray_fault : List DeckCard → Option JclErr
+stray_fault [] = None
+stray_fault (card ∷ cards) = Some (fault_at (column_of card.card 1) Stray)
 
--- what a card is, where it isn't data and continues no statement
-abbrev pub kind_of : ℕ × Card → CardKind
-kind_of card =
-    if not (is_jcl card) then kind.NotJcl
-    else (if is_comment card then kind.Comment
-    else (if is_end card then kind.End
-    else kind_of_operation (card_operation card)))
+-- what is read of a statement with such cards behind it
+abbrev pub without_stray : {X : Type 0} → List DeckCard → Result X JclErr → Result X JclErr
+without_stray cards read = and_then (λ value. unless (stray_fault cards) (Ok value)) read
 
--- a card in front of which data end
-abbrev pub stops_data : ℕ × Card → Bool
-stops_data card = is_jcl card || ends_data card
+-- the statement that begins on a card, with those of the cards behind it that continue it
+abbrev pub statement_on : DeckCard → List DeckCard → Statement
+statement_on first others = statement first.card (continuation others)
 
--- how many data cards stand in front
-abbrev pub data_len : List (ℕ × Card) → ℕ
-data_len cards = option_map_or (λ at. at) (position stops_data cards) (length cards)
+-- the first fault of a statement that has no operation, or none that is taken
+unfoldable pub wrong_operation : Statement → Option JclErr
+wrong_operation s = earliest None (name_faults false s ++ operation_fault s ∷ [])
 
--- with the card that ends them
-abbrev pub data_used : List (ℕ × Card) → ℕ → ℕ
-data_used cards count = option_map_or (λ card. if ends_data card then count + 1 else count) (slice_get cards count) count
+-- the first fault of a JOB, whose operands are read for their balance and their continuation alone
+unfoldable pub job_fault : Statement → Option JclErr
+job_fault s =
+    earliest None (name_faults true s ++ option_map_or (λ fault. fault ∷ []) (balance_fault (pieces s.operands)) [] ++ continuation_faults s.operands)
 
--- the steps of a job that is read: those that are over, and the last
-abbrev pub steps_of : OpenJob → List Step
-steps_of job = job.steps ++ option_map_or (λ step. step ∷ []) job.last []
+-- the first fault of a statement in front of the first EXEC, which is a comment or a fault
+abbrev pub early_fault : DeckCard → List DeckCard → Role → Option JclErr
+early_fault first others role.Comment = stray_fault others
+early_fault first others (role.Statement operation.Dd) = Some (fault_at (column_of first.card 1) Stray)
+early_fault first others _ = wrong_operation (statement_on first others)
 
-abbrev pub accepted_job : OpenJob → Job
-accepted_job job = record { name = job.name; card = job.card; steps = Ok (steps_of job) }
+-- the first fault in front of the first EXEC
+unfoldable pub head_fault : DeckCard → List DeckCard → Option JclErr
+head_fault job others =
+    let own = before_first begins_statement others in
+    option_or (job_fault (statement_on job own))
+    (option_or (stray_fault (cards_behind own))
+    (first_some (map (λ s. early_fault s.0 s.1 s.0.role) (groups begins_statement others))))
 
-abbrev pub refused_job : Name8 → ℕ → JclErr → Job
-refused_job name card fault = record { name = name; card = card; steps = Err fault }
+abbrev pub step_with : Statement → Result Program JclErr → Result Step JclErr
+step_with s (Err fault) = Err fault
+step_with s (Ok program) = Ok (record { name = name_of s.name; card = s.card.0; pgm = program.pgm; parm = program.parm; dds = [] })
 
--- the jobs with one that ends, if one is read
-abbrev pub ended_jobs : List Job → Reading → List Job
-ended_jobs jobs reading.Outside = jobs
-ended_jobs jobs reading.Refused = jobs
-ended_jobs jobs (reading.Within job) = jobs ++ accepted_job job ∷ []
-
--- the jobs that are over, what is read now, and how many of the next cards are used already
-pub record TurnView : Type 0 where
-  pub jobs : List Job
-  pub now : Reading
-  pub used : ℕ
-
-abbrev pub turn_view : List Job → Turn → TurnView
-turn_view jobs turn = record { jobs = jobs; now = turn.now; used = turn.used }
-
--- a job that is refused, with the cards up to that of its fault
-unfoldable pub refusal_turn : List Job → Name8 → ℕ → ℕ × Card → List (ℕ × Card) → JclErr → TurnView
-refusal_turn jobs name number card others fault =
-    record { jobs = jobs ++ refused_job name number fault ∷ []; now = reading.Refused; used = cards_up_to card others fault.card }
-
-abbrev pub balance_result : Option JclErr → Result Bool JclErr
-balance_result None = Ok true
-balance_result (Some fault) = Err fault
-
--- the first fault of the operands of JOB, which are read for their balance and their continuation alone
-unfoldable pub job_operands : Joined → Result Bool JclErr
-job_operands operands = with_continuation operands (balance_result (balance_fault (pieces operands)))
-
-abbrev pub begun_job_turn : List Job → ℕ × Card → List (ℕ × Card) → Statement → Result Bool JclErr → TurnView
-begun_job_turn jobs card others s (Err fault) = refusal_turn jobs (name_or_blank s.name) card.0 card others fault
-begun_job_turn jobs card others s (Ok fine) =
-    record {
-      jobs = jobs;
-      now = reading.Within (record { name = name_or_blank s.name; card = card.0; steps = []; last = None });
-      used = s.operands.further;
-    }
-
--- a job begins, or is refused by its first fault
-unfoldable pub job_card_turn : List Job → ℕ × Card → List (ℕ × Card) → TurnView
-job_card_turn jobs card others =
-    let s = statement card others in
-    begun_job_turn jobs card others s (with_first_fault (earliest None (name_faults card true s.name)) (job_operands s.operands))
-
--- a job with a further step
-unfoldable pub with_step : OpenJob → ℕ → List ℕ → Program → OpenJob
-with_step job card name program =
-    record {
-      name = job.name;
-      card = job.card;
-      steps = steps_of job;
-      last = Some (record { name = name_of name; card = card; pgm = program.pgm; parm = program.parm; dds = [] });
-    }
-
-abbrev pub step_with : Dd → Step → Step
-step_with dd step = record step { dds = step.dds ++ dd ∷ [] }
-
--- a job with a further DD of its last step
-unfoldable pub with_dd : OpenJob → Dd → OpenJob
-with_dd job dd = record job { last = option_map (step_with dd) job.last }
-
-abbrev pub exec_result_turn : List Job → OpenJob → ℕ × Card → List (ℕ × Card) → Statement → Result Program JclErr → TurnView
-exec_result_turn jobs job card others s (Err fault) = refusal_turn jobs job.name job.card card others fault
-exec_result_turn jobs job card others s (Ok program) =
-    record { jobs = jobs; now = reading.Within (with_step job card.0 s.name program); used = s.operands.further }
-
--- an EXEC
-unfoldable pub exec_turn : List Job → OpenJob → ℕ × Card → List (ℕ × Card) → Statement → TurnView
-exec_turn jobs job card others s =
-    exec_result_turn jobs job card others s (with_first_fault (earliest None (name_faults card false s.name)) (program_of s.operands))
+-- the step of an EXEC, without its DDs
+unfoldable pub exec : Statement → Result Step JclErr
+exec s = step_with s (with_first_fault (earliest None (name_faults false s)) (program_of s.operands))
 
 abbrev pub same_name : Name8 → Name8 → Bool
 same_name name other = pointwise nat_eq name.bytes other.bytes
 
--- whether a step has a DD of this name
-abbrev pub has_dd : Step → Name8 → Bool
-has_dd step name = list_any (λ dd. same_name dd.name name) step.dds
+-- whether one of these DDs has the name
+abbrev pub has_dd : List Dd → Name8 → Bool
+has_dd dds name = list_any (λ dd. same_name dd.name name) dds
 
--- the fault of a DD's place in its job
-abbrev pub place_faults : ℕ × Card → Option Step → Option Name8 → List JclErr
-place_faults card None name = fault_at (column_of card 1) Stray ∷ []
-place_faults card (Some step) None = []
-place_faults card (Some step) (Some name) = if has_dd step name then fault_at (column_of card 3) DuplicateDd ∷ [] else []
-
-unfoldable pub dd_faults : ℕ × Card → OpenJob → List ℕ → List JclErr
-dd_faults card job name = place_faults card job.last (name_of name) ++ name_faults card true name
+-- the fault of a DD whose name an earlier DD of the step has
+abbrev pub duplicate_faults : List Dd → Statement → Option Name8 → List JclErr
+duplicate_faults earlier s None = []
+duplicate_faults earlier s (Some name) = if has_dd earlier name then fault_at (column_of s.card 3) DuplicateDd ∷ [] else []
 
 abbrev pub what_of_operands : DdOperands → DdWhat
 what_of_operands operands = option_map_or (λ named. what.Set (set_of operands named)) operands.dsn what.Dummy
 
--- what a form defines: the data are the cards behind the statement
-abbrev pub what_of : DdForm → List (ℕ × Card) → DdWhat
-what_of form.Empty behind = what.Dummy
-what_of form.Dummy behind = what.Dummy
-what_of form.Cards behind = what.Cards (take (data_len behind) behind)
+-- what a form defines: the data of a DD * are cards behind the statement
+abbrev pub what_of : DdForm → List DeckCard → DdWhat
+what_of form.Cards behind = what.Cards (map (λ card. card.card) (data_of behind))
 what_of form.Sysout behind = what.Sysout
 what_of (form.Keyed operands) behind = what_of_operands operands
+what_of form.Dummy behind = what.Dummy
+what_of form.Empty behind = what.Dummy
 
--- how many cards behind the statement belong to it
-abbrev pub cards_used : DdForm → List (ℕ × Card) → ℕ
-cards_used form.Empty behind = 0
-cards_used form.Dummy behind = 0
-cards_used form.Cards behind = data_used behind (data_len behind)
-cards_used form.Sysout behind = 0
-cards_used (form.Keyed operands) behind = 0
+-- the cards behind a DD that it doesn't take
+abbrev pub left_by : DdForm → List DeckCard → List DeckCard
+left_by form.Cards behind = behind_data behind
+left_by form.Sysout behind = behind
+left_by (form.Keyed operands) behind = behind
+left_by form.Dummy behind = behind
+left_by form.Empty behind = behind
 
-unfoldable pub dd_of : ℕ → List ℕ → DdForm → List (ℕ × Card) → Dd
-dd_of card name form behind = record { name = name_or_blank name; card = card; what = what_of form behind }
+abbrev pub dd_with : Statement → List DeckCard → Result DdForm JclErr → Result Dd JclErr
+dd_with s behind (Err fault) = Err fault
+dd_with s behind (Ok form) =
+    without_stray (left_by form behind) (Ok (record { name = name_or_blank s.name; card = s.card.0; what = what_of form behind }))
 
-abbrev pub dd_result_turn : List Job → OpenJob → ℕ × Card → List (ℕ × Card) → Statement → Result DdForm JclErr → TurnView
-dd_result_turn jobs job card others s (Err fault) = refusal_turn jobs job.name job.card card others fault
-dd_result_turn jobs job card others s (Ok form) =
-    let behind = drop s.operands.further others in
-    record {
-      jobs = jobs;
-      now = reading.Within (with_dd job (dd_of card.0 s.name form behind));
-      used = s.operands.further + cards_used form behind;
-    }
+-- a DD, behind the earlier ones of its step
+unfoldable pub dd_of : List ℕ → List Dd → DeckCard → List DeckCard → Result Dd JclErr
+dd_of date earlier first others =
+    let s = statement_on first others in
+    dd_with s (cards_behind others)
+    (with_first_fault (earliest None (duplicate_faults earlier s (name_of s.name) ++ name_faults true s)) (dd_form_of date s.operands))
 
--- a DD, with its data
-unfoldable pub dd_turn : List ℕ → List Job → OpenJob → ℕ × Card → List (ℕ × Card) → Statement → TurnView
-dd_turn date jobs job card others s =
-    dd_result_turn jobs job card others s (with_first_fault (earliest None (dd_faults card job s.name)) (dd_form_of date s.operands))
+-- the DDs of a step with what a further statement adds
+abbrev pub with_statement : List ℕ → List Dd → DeckCard → List DeckCard → Role → Result (List Dd) JclErr
+with_statement date dds first others role.Comment = without_stray others (Ok dds)
+with_statement date dds first others (role.Statement operation.Dd) = and_then (λ dd. Ok (dds ++ dd ∷ [])) (dd_of date dds first others)
+with_statement date dds first others _ = unless (wrong_operation (statement_on first others)) (Ok dds)
 
--- the column of an operation
-abbrev pub operation_column : List Character → ℕ
-operation_column word = option_map_or (λ c. c.column) (slice_get word 0) 0
+-- the DDs of a step with those of further statements, or the first fault
+unfoldable pub with_statements : List ℕ → List Dd → List (DeckCard × List DeckCard) → Result (List Dd) JclErr
+with_statements date dds [] = Ok dds
+with_statements date dds (s ∷ others) = and_then (λ more. with_statements date more others) (with_statement date dds s.0 s.1 s.0.role)
 
--- a statement with another operation, or with none
-abbrev pub operation_fault : ℕ × Card → List Character → JclErr
-operation_fault card word =
-    if length word == 0 then fault_at (missing_place card) NoOperation
-    else fault_at (column_of card (operation_column word)) BadOperation
+-- a step: its EXEC and the statements behind it
+unfoldable pub step_of : List ℕ → DeckCard → List DeckCard → Result Step JclErr
+step_of date first others =
+    let own = before_first begins_statement others in
+    and_then (λ step. and_then (λ dds. Ok (record step { dds = dds })) (with_statements date [] (groups begins_statement others)))
+    (without_stray (cards_behind own) (exec (statement_on first own)))
 
-abbrev pub fault_result_turn : List Job → OpenJob → ℕ × Card → List (ℕ × Card) → Result Bool JclErr → TurnView
-fault_result_turn jobs job card others (Err fault) = refusal_turn jobs job.name job.card card others fault
-fault_result_turn jobs job card others (Ok fine) = record { jobs = jobs; now = reading.Within job; used = 0 }
+abbrev pub in_front : Step → Result (List Step) JclErr → Result (List Step) JclErr
+in_front step (Err fault) = Err fault
+in_front step (Ok others) = Ok (step ∷ others)
 
-unfoldable pub fault_turn : List Job → OpenJob → ℕ × Card → List (ℕ × Card) → Statement → TurnView
-fault_turn jobs job card others s =
-    fault_result_turn jobs job card others (with_first_fault (earliest None (name_faults card false s.name)) (Err (operation_fault card s.operation)))
+-- the steps, of which each is read, or the first fault
+abbrev pub all_steps : List (Result Step JclErr) → Result (List Step) JclErr
+all_steps [] = Ok []
+all_steps (step ∷ others) = and_then (λ s. in_front s (all_steps others)) step
 
-abbrev pub operation_turn : List ℕ → List Job → OpenJob → ℕ × Card → List (ℕ × Card) → Statement → Operation → TurnView
-operation_turn date jobs job card others s operation.Exec = exec_turn jobs job card others s
-operation_turn date jobs job card others s operation.Dd = dd_turn date jobs job card others s
-operation_turn date jobs job card others s operation.Job = fault_turn jobs job card others s
-operation_turn date jobs job card others s operation.Missing = fault_turn jobs job card others s
-operation_turn date jobs job card others s operation.Other = fault_turn jobs job card others s
+-- the steps of a job, or its first fault
+unfoldable pub steps_of : List ℕ → DeckCard → List DeckCard → Result (List Step) JclErr
+steps_of date job others =
+    unless (head_fault job (before_first begins_step others))
+    (all_steps (map (λ s. step_of date s.0 s.1) (groups begins_step others)))
 
--- a statement of a job
-unfoldable pub statement_turn : List ℕ → List Job → OpenJob → ℕ × Card → List (ℕ × Card) → TurnView
-statement_turn date jobs job card others =
-    let s = statement card others in operation_turn date jobs job card others s (operation_of (bytes_of s.operation))
+-- a job: its JOB and the cards up to the next JOB or null statement
+unfoldable pub job_of : List ℕ → DeckCard → List DeckCard → Job
+job_of date job others =
+    record { name = name_or_blank (name_on job.card); card = job.card.0; steps = steps_of date job others }
 
-abbrev pub stray_turn : List Job → Name8 → ℕ → ℕ × Card → JclKind → TurnView
-stray_turn jobs name number card kind =
-    record { jobs = jobs ++ refused_job name number (fault_at (column_of card 1) kind) ∷ []; now = reading.Refused; used = 0 }
+-- the first of cards in no job that is no comment makes a refused job of a blank name
+unfoldable pub outside : List DeckCard → List Job
+outside cards =
+    option_map_or (λ card. record { name = blank_name; card = card.card.0; steps = Err (fault_at (column_of card.card 1) NoJob) } ∷ [])
+    (find (λ card. not (is_comment_card card)) cards) []
 
--- a card that isn't JCL
-abbrev pub not_jcl_turn : List Job → ℕ × Card → Reading → TurnView
-not_jcl_turn jobs card reading.Outside = stray_turn jobs blank_name card.0 card NoJob
-not_jcl_turn jobs card reading.Refused = record { jobs = jobs; now = reading.Refused; used = 0 }
-not_jcl_turn jobs card (reading.Within job) = stray_turn jobs job.name job.card card Stray
+-- what a JOB or a null statement begins: a job, or cards in no job
+abbrev pub jobs_behind : List ℕ → DeckCard → List DeckCard → List Job
+jobs_behind date first others = if begins_job first then job_of date first others ∷ [] else outside others
 
--- a statement that begins no job
-abbrev pub other_turn : List ℕ → List Job → ℕ × Card → List (ℕ × Card) → Reading → TurnView
-other_turn date jobs card others reading.Outside = stray_turn jobs blank_name card.0 card NoJob
-other_turn date jobs card others reading.Refused = record { jobs = jobs; now = reading.Refused; used = 0 }
-other_turn date jobs card others (reading.Within job) = statement_turn date jobs job card others
-
-abbrev pub kind_turn : List ℕ → List Job → Reading → ℕ × Card → List (ℕ × Card) → CardKind → TurnView
-kind_turn date jobs now card others kind.Comment = record { jobs = jobs; now = now; used = 0 }
-kind_turn date jobs now card others kind.End = record { jobs = ended_jobs jobs now; now = reading.Outside; used = 0 }
-kind_turn date jobs now card others kind.JobCard = job_card_turn (ended_jobs jobs now) card others
-kind_turn date jobs now card others kind.NotJcl = not_jcl_turn jobs card now
-kind_turn date jobs now card others kind.Other = other_turn date jobs card others now
-
--- what a card comes to, with those behind it
-unfoldable pub card_turn : List ℕ → List Job → Reading → ℕ × Card → List (ℕ × Card) → TurnView
-card_turn date jobs now card others = kind_turn date jobs now card others (kind_of card)
-
--- the jobs of cards, of which the first are used already
-unfoldable pub jobs_from : List ℕ → List Job → Reading → ℕ → List (ℕ × Card) → List Job
-jobs_from date jobs now used [] = ended_jobs jobs now
-jobs_from date jobs now (suc used) (card ∷ others) = jobs_from date jobs now used others
-jobs_from date jobs now zero (card ∷ others) =
-    let turn = card_turn date jobs now card others in jobs_from date turn.jobs turn.now turn.used others
-
--- cards with their numbers
-abbrev pub numbered_cards : ℕ → List Card → List (ℕ × Card)
-numbered_cards number [] = []
-numbered_cards number (card ∷ cards) = (number, card) ∷ numbered_cards (number + 1) cards
+-- the jobs of cards, which JOB and null statements divide
+abbrev pub divided : List ℕ → List DeckCard → List Job
+divided date cards = outside (before_first divides cards) ++ flat_map (λ part. jobs_behind date part.0 part.1) (groups divides cards)
 
 -- the jobs of a deck on a date
 unfoldable pub jobs_of : List ℕ → List Card → List Job
-jobs_of date deck = jobs_from date [] reading.Outside 0 (numbered_cards 1 deck)
+jobs_of date deck = divided date (cards_of 1 [] deck)

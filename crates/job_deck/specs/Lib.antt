@@ -1,5 +1,6 @@
 pub mod Faults
 pub mod JclCards
+pub mod Deck
 pub mod Statements
 pub mod Pieces
 pub mod ExecOperands

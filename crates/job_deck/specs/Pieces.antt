@@ -8,7 +8,7 @@ use Rattle.card_text.specs.Nesting.{nested, is_separator, is_unbalanced}
 use Rattle.job_deck.specs.Faults.{fault_at}
 use Rattle.job_deck.specs.declared.faults.JclErr.{JclErr}
 use Rattle.job_deck.specs.declared.faults.JclKind.TheVariants.{Unbalanced, ContinuationMissing}
-use Rattle.job_deck.specs.declared.jcl_cards.Joined.{Joined}
+use Rattle.job_deck.specs.declared.statements.Joined.{Joined}
 use Rattle.job_deck.specs.declared.operands.Piece.{Piece}
 
 -- whether a piece is what a missing card would have: an empty last one
@@ -43,3 +43,7 @@ abbrev pub with_continuation : {X : Type 0} → Joined → Result X JclErr → R
 with_continuation operands (Err fault) = Err fault
 with_continuation operands (Ok value) =
     if operands.missing then Err (fault_at (missing_place operands.last) ContinuationMissing) else Ok value
+
+-- the fault of operands that a further card should continue
+abbrev pub continuation_faults : Joined → List JclErr
+continuation_faults operands = if operands.missing then fault_at (missing_place operands.last) ContinuationMissing ∷ [] else []

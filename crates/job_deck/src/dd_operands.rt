@@ -8,9 +8,9 @@ ghost use Rattle.job_deck.specs.DdOperands.{is_either, plain_key_of, dd_key_of, 
 ghost use Rattle.job_deck.specs.declared.dd_operands.DdForm.TheVariants as form;
 
 use crate::faults::{JclErr, JclKind, fault_at};
-use crate::jcl_cards::Joined;
 use crate::job::DdSet;
 use crate::operands::{Piece, is_unbalanced_piece, pieces, with_continuation};
+use crate::statements::Joined;
 use card_text::{Mark, is_word, keyed, missing_place, text_of};
 use ebcdic_names::{Dsn, Serial};
 use jcl_forms::{

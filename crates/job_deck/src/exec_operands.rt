@@ -4,8 +4,8 @@ ghost use Rattle.card_text.specs.Operands.{keyed};
 ghost use Rattle.job_deck.specs.ExecOperands.{exec_key_of, parm_of, with_exec_value, with_exec_parts, with_exec_piece, with_exec_pieces, no_exec_operands, program_with, program_of};
 
 use crate::faults::{JclErr, JclKind, fault_at};
-use crate::jcl_cards::Joined;
 use crate::operands::{Piece, is_unbalanced_piece, pieces, with_continuation};
+use crate::statements::Joined;
 use card_text::{
     LEVELS, Mark, Text, is_quoted, keyed, missing_place, name_of, read_value, text_of, unquoted,
 };

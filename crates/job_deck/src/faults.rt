@@ -1,6 +1,6 @@
 //! The faults of jobs.
 ghost use Rattle.std.specs.Prelude.{◌≡◌, None};
-ghost use Rattle.job_deck.specs.Faults.{fault_at, earlier, earliest, with_first_fault};
+ghost use Rattle.job_deck.specs.Faults.{fault_at, earlier, earliest, with_first_fault, unless};
 
 use card_text::CardColumn;
 
@@ -86,5 +86,15 @@ pub fn with_first_fault<T: Drop>(faults: &[JclErr], read: Result<T, JclErr>) -> 
             Ok(_) => Err(fault),
             Err(other) => Err(earlier(fault, other)),
         },
+    }
+}
+
+// What is read, unless a fault stands in front of it.
+pub fn unless<T: Drop>(fault: Option<JclErr>, read: T) -> Result<T, JclErr>
+    ensures { result ≡ unless fault (Ok read) }
+{
+    match fault {
+        None => Ok(read),
+        Some(fault) => Err(fault),
     }
 }

@@ -2,6 +2,7 @@
 #![tactic(auto)]
 
 mod dd_operands;
+mod deck;
 mod exec_operands;
 mod faults;
 mod jcl_cards;

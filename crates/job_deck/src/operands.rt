@@ -2,11 +2,11 @@
 ghost use Rattle.std.specs.Prelude.{◌≡◌, ◌≤◌, ◌++◌, [], find, option_map, option_copied, IfOk, OnOk};
 ghost use Rattle.std.specs.List.{slice_split};
 ghost use Rattle.card_text.specs.Nesting.{is_separator, other_pieces};
-ghost use Rattle.job_deck.specs.Pieces.{is_absent, placed_pieces, pieces, is_unbalanced_piece, balance_fault, with_continuation};
+ghost use Rattle.job_deck.specs.Pieces.{is_absent, placed_pieces, pieces, is_unbalanced_piece, balance_fault, with_continuation, continuation_faults};
 
 use crate::faults::{JclErr, JclKind, fault_at};
-use crate::jcl_cards::Joined;
 use crate::lists::Listed;
+use crate::statements::Joined;
 use card_text::{CardColumn, Mark, first_piece, first_place, is_unbalanced, missing_place, nested};
 use std::alloc::{AllocError, Global};
 
@@ -103,4 +103,15 @@ pub fn with_continuation<T: Drop>(operands: &Joined, read: Result<T, JclErr>) ->
         return Err(fault_at(missing_place(&operands.last), JclKind::ContinuationMissing));
     }
     Ok(value)
+}
+
+// Adds the fault of operands that a further card should continue.
+pub fn add_continuation_fault(faults: &mut Vec<JclErr>, operands: &Joined) -> Result<(), AllocError>
+    ensures { OnOk result (faults.new.items ≡ faults.old.items ++ continuation_faults operands.now) }
+{
+    if operands.missing {
+        let place = missing_place(&operands.last);
+        faults.push(fault_at(place, JclKind::ContinuationMissing))?;
+    }
+    Ok(())
 }

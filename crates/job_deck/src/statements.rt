@@ -1,13 +1,14 @@
 //! The parts of a statement.
-ghost use Rattle.std.specs.Prelude.{◌≡◌, ◌≤◌, ◌++◌, length, IfOk, OnOk};
-ghost use Rattle.job_deck.specs.Statements.{operation_of, behind_slashes, card_operation, statement, blank_name, name_or_blank, column_of, name_faults};
+ghost use Rattle.std.specs.Prelude.{◌≡◌, ◌++◌, IfOk, OnOk};
+ghost use Rattle.job_deck.specs.Statements.{operation_of, behind_slashes, card_operation, name_on, first_operands, joined, statement, blank_name, name_or_blank, column_of, name_faults, operation_column, operation_fault};
 
+use crate::deck::DeckCard;
 use crate::faults::{JclErr, JclKind, fault_at};
-use crate::jcl_cards::{Joined, join};
+use crate::jcl_cards::add_card;
 use crate::lists::Listed;
 use card_text::{
-    CardColumn, Character, Numbered, Text, bytes_of, field_part, first_word, missing_place,
-    name_of, past_blanks, statement_characters,
+    CardColumn, Character, Numbered, Text, bytes_of, ends_in_comma, field_part, first_word,
+    missing_place, name_of, past_blanks, statement_characters,
 };
 use ebcdic_names::Name8;
 use std::alloc::{AllocError, Global};
@@ -22,9 +23,22 @@ pub enum Operation {
     Other,
 }
 
+// The operands of a statement.
+#[derive(Drop)]
+pub struct Joined {
+    // Their characters.
+    pub field: Listed<Character>,
+    // The last card of the statement.
+    pub last: Numbered,
+    // Whether a card is missing behind the last.
+    pub missing: bool,
+}
+
 // A statement of JCL.
 #[derive(Drop)]
 pub struct Statement {
+    // Its first card.
+    pub card: Numbered,
     pub name: Text,
     pub operation: Listed<Character>,
     pub operands: Joined,
@@ -72,27 +86,67 @@ pub fn card_operation(alloc: Global, card: &Numbered) -> Result<Operation, Alloc
     Ok(operation_of(&bytes_of(alloc, operation)?))
 }
 
-// The statement that begins on a card.
-#[tactic(auto, unfolding(crate::specs::Statements::statement))]
-pub fn statement_at(
-    alloc: Global,
-    card: &Numbered,
-    others: &[Numbered],
-) -> Result<Statement, AllocError>
-    ensures parts { IfOk result (λ s. s ≡ statement card.now others.now) }
-    ensures within { IfOk result (λ s. s.operands.further ≤ length others.now) }
+// The name on the first card of a statement.
+#[tactic(auto, unfolding(crate::specs::Statements::name_on))]
+pub fn name_on(alloc: Global, card: &Numbered) -> Result<Vec<u8>, AllocError>
+    ensures { IfOk result (λ name. name.items ≡ name_on card.now) }
 {
     let text = behind_slashes(alloc, card)?;
-    let (name, behind_name) = first_word(&text);
-    let (operation, behind_operation) = first_word(past_blanks(behind_name));
-    let operands = join(
-        alloc,
-        field_part(past_blanks(behind_operation)),
-        card,
-        others,
-    )?;
+    let (name, _) = first_word(&text);
+    bytes_of(alloc, name)
+}
+
+// The operands on the first card of a statement.
+#[tactic(auto, unfolding(crate::specs::Statements::first_operands))]
+pub fn first_operands(alloc: Global, card: &Numbered) -> Result<Vec<Character>, AllocError>
+    ensures { IfOk result (λ field. field.items ≡ first_operands card.now) }
+{
+    let text = behind_slashes(alloc, card)?;
+    let (_, behind_name) = first_word(&text);
+    let (_, behind_operation) = first_word(past_blanks(behind_name));
+    field_part(past_blanks(behind_operation)).to_vec(alloc)
+}
+
+// The operands of a statement, which begin so on its first card, with those of the cards that continue it.
+#[tactic(auto, unfolding(crate::specs::Statements::joined))]
+fn join(
+    alloc: Global,
+    first: Vec<Character>,
+    card: &Numbered,
+    others: &[DeckCard],
+) -> Result<Joined, AllocError>
+    ensures { IfOk result (λ j. j ≡ joined first.items card.now others.now) }
+{
+    let mut field = first;
+    let mut last = *card;
+    for next in others {
+        add_card(alloc, &mut field, &next.card)?;
+        last = next.card;
+    }
+    let missing = ends_in_comma(&field);
+    Ok(Joined {
+        field: Listed::from_vec(field),
+        last,
+        missing,
+    })
+}
+
+// The statement on a card and those that continue it.
+#[tactic(auto, unfolding(crate::specs::Statements::statement))]
+pub fn statement_of(
+    alloc: Global,
+    card: &Numbered,
+    others: &[DeckCard],
+) -> Result<Statement, AllocError>
+    ensures { IfOk result (λ s. s ≡ statement card.now others.now) }
+{
+    let text = behind_slashes(alloc, card)?;
+    let (_, behind_name) = first_word(&text);
+    let (operation, _) = first_word(past_blanks(behind_name));
+    let operands = join(alloc, first_operands(alloc, card)?, card, others)?;
     Ok(Statement {
-        name: Text::from_vec(bytes_of(alloc, name)?),
+        card: *card,
+        name: Text::from_vec(name_on(alloc, card)?),
         operation: Listed::from_vec(operation.to_vec(alloc)?),
         operands,
     })
@@ -126,24 +180,50 @@ pub fn column_of(card: &Numbered, column: u8) -> CardColumn
     }
 }
 
-// Adds the fault of a name.
+// Adds the fault of a statement's name.
 #[tactic(auto, unfolding(crate::specs::Statements::name_faults))]
 pub fn add_name_fault(
     faults: &mut Vec<JclErr>,
-    card: &Numbered,
     needed: bool,
-    name: &[u8],
+    statement: &Statement,
 ) -> Result<(), AllocError>
-    ensures { OnOk result (faults.new.items ≡ faults.old.items ++ name_faults card.now needed name.now) }
+    ensures { OnOk result (faults.new.items ≡ faults.old.items ++ name_faults needed statement.now) }
 {
+    let name = statement.name.as_slice();
     if name.is_empty() {
         if needed {
-            faults.push(fault_at(missing_place(card), JclKind::BadName))?;
+            let place = missing_place(&statement.operands.last);
+            faults.push(fault_at(place, JclKind::BadName))?;
         }
         return Ok(());
     }
     if name_of(name).is_none() {
-        faults.push(fault_at(column_of(card, 3), JclKind::BadName))?;
+        faults.push(fault_at(column_of(&statement.card, 3), JclKind::BadName))?;
     }
     Ok(())
+}
+
+fn operation_column(word: &[Character]) -> u8
+    ensures { result ≡ operation_column word.now }
+{
+    match word.first() {
+        Some(first) => first.column,
+        None => 0,
+    }
+}
+
+// The fault of a statement that has no operation, or none that is taken.
+#[tactic(auto, unfolding(crate::specs::Statements::operation_fault))]
+pub fn operation_fault(statement: &Statement) -> JclErr
+    ensures { result ≡ operation_fault statement.now }
+{
+    let word = statement.operation.as_slice();
+    if word.is_empty() {
+        fault_at(missing_place(&statement.card), JclKind::NoOperation)
+    } else {
+        fault_at(
+            column_of(&statement.card, operation_column(word)),
+            JclKind::BadOperation,
+        )
+    }
 }

@@ -45,6 +45,8 @@ fn faults_stand_at_their_columns(rt: HostRuntime) -> Result<(), Fail> {
         ("//J1 JOB\nHELLO", 2, 1, JclKind::Stray),
         ("//J1 JOB\n//D1 DD DUMMY", 2, 1, JclKind::Stray),
         ("// JOB", 1, 8, JclKind::BadName),
+        ("// JOB A,\n//  B", 2, 7, JclKind::BadName),
+        ("// JOB A,", 1, 11, JclKind::BadName),
         ("//J1 JOB\n//1S EXEC PGM=A", 2, 3, JclKind::BadName),
         ("//J1 JOB\n//S1", 2, 6, JclKind::NoOperation),
         ("//J1 JOB\n//S1 PROC", 2, 6, JclKind::BadOperation),
@@ -125,6 +127,26 @@ const TWO_JOBS: &str = "//J1 JOB
 //D1 DD DSNAME=PAY.LOG(-1),DISP=(MOD,CATLG),VOLUME=SER=V,
 //  LABEL=RETPD=30,SPACE=(CYL,(1,,2000),,CONTIG)
 //D2 DD DSN=LIB(MEMBER),DISP=(,UNCATLG)";
+
+// Cards in no job on both sides of a null statement, a card that continues a statement and so is no JOB, a refused job with
+// more statements, and a job without steps.
+const DIVIDED: &str = "//* HELLO
+HELLO
+//D1 DD DSN=A,
+//  JOB
+//J1 JOB
+//1S EXEC PGM=A
+//S2 EXEC PGM=B
+/*
+//J2 JOB
+//
+//
+//S1 EXEC PGM=A";
+
+// The first cards of jobs.
+fn first_cards(alloc: Global, jobs: &[Job]) -> Result<Vec<u32>, AllocError> {
+    jobs.iter().map(|job| job.card).collect(alloc)
+}
 
 fn step_at(jobs: &[Job], job: usize, step: usize) -> Option<&Step> {
     match &jobs.get(job)?.steps {
@@ -211,5 +233,8 @@ fn jobs_have_the_fields_of_their_cards(rt: HostRuntime) -> Result<(), Fail> {
     assert_eq!(rt; step.parm.as_slice(), b"A'B".as_slice());
     assert!(rt; is_last_generation(set_at(step, 0).ok_or("no generation")?));
     assert!(rt; is_new_member(set_at(step, 1).ok_or("no member")?));
+    let jobs = read(rt.alloc(), DIVIDED)?;
+    let cards = first_cards(rt.alloc(), &jobs)?;
+    assert_eq!(rt; cards.as_slice(), [2, 5, 9, 12].as_slice());
     Ok(())
 }

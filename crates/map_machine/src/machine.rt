@@ -65,7 +65,7 @@ impl MapMachine {
 
     // Gives a data set another name, unless that is refused.
     fn rename(&mut self, v: u8, old: &Dsn, new: &Dsn) -> Result<(), MachErr>
-        ensures told { Applies (Rename v old.now new.now) (meaning_of self.old) (meaning_of self.new) result }
+        ensures files { Applies (Rename v old.now new.now) (meaning_of self.old) (meaning_of self.new) result }
         ensures device { IsErrOf result MachErr.Device → ⊥ }
         ensures print { IsErrOf result MachErr.Print → ⊥ }
     {

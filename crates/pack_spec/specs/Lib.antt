@@ -4,6 +4,7 @@ pub mod Slots
 pub mod Rules
 pub mod Volume
 pub mod Written
+pub mod New
 pub use Rattle.ckd_image.specs.Header
 pub use Rattle.ckd_image.specs.Device
 pub use Rattle.ckd_image.specs.Track

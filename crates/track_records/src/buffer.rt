@@ -161,8 +161,8 @@ pub fn read_records<H: Hall>(
     ensures broken { IsTrue H.tells → IfErr result
         (λ e. IsBroken (image_of (H.meaning hall.old).state (H.facts hall.old) unit)
         buf.old.geometry upto track e) }
-    ensures told { IsTrue H.tells → Same (H.meaning hall.old) (H.meaning hall.new) }
-    ensures call { TrackCall (H.facts hall.old) (H.facts hall.new) result }
+    ensures files { IsTrue H.tells → Same (H.meaning hall.old) (H.meaning hall.new) }
+    ensures faults { TrackCall (H.facts hall.old) (H.facts hall.new) result }
 {
     buf.unit = unit;
     buf.track = track;
@@ -195,8 +195,8 @@ fn fill<H: Hall>(
     ensures read { IsTrue H.tells → OnOk result
         (bytes.new.items ≡ track_bytes (image_of (H.meaning hall.old).state (H.facts hall.old) unit)
         geometry track) }
-    ensures told { IsTrue H.tells → Same (H.meaning hall.old) (H.meaning hall.new) }
-    ensures call { DeviceCall (H.facts hall.old) (H.facts hall.new) result }
+    ensures files { IsTrue H.tells → Same (H.meaning hall.old) (H.meaning hall.new) }
+    ensures faults { DeviceCall (H.facts hall.old) (H.facts hall.new) result }
 {
     let at = HEADER_LEN as u64 + u64::from(track) * u64::from(geometry.track_size);
     hall.read(unit, at, bytes)
@@ -217,7 +217,7 @@ pub fn update<H: Hall>(
     requires track { HasTrack (H.facts hall.old).units buf.old.unit buf.old.geometry buf.old.track }
     requires first { 1 ≤ r }
     requires there { HasLengths buf.old.records (r - 1) (length key.now) (length payload.now) }
-    ensures told { IsTrue H.tells → AfterWrite (unit_of (H.facts hall.old).units buf.old.unit).name
+    ensures files { IsTrue H.tells → AfterWrite (unit_of (H.facts hall.old).units buf.old.unit).name
         (place_of buf.old (r - 1)) (key.now ++ payload.now) (H.meaning hall.old)
         (H.meaning hall.new) result }
     ensures record { let image = image_of (H.meaning hall.old).state
@@ -228,7 +228,7 @@ pub fn update<H: Hall>(
         × StandsOn (image_of (H.meaning hall.new).state (H.facts hall.new) buf.old.unit) buf.new) }
     ensures buffer { buf.new ≡ record buf.old
         { records = with_parts (r - 1) key.now payload.now buf.old.records } }
-    ensures call { DeviceCall (H.facts hall.old) (H.facts hall.new) result }
+    ensures faults { DeviceCall (H.facts hall.old) (H.facts hall.new) result }
 {
     let place = buf.put(r, key, payload);
     let at = HEADER_LEN as u64

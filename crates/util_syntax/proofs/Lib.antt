@@ -5,5 +5,5 @@ mod NameChars
 mod Parts
 pub mod StatementLemmas
 pub mod Absent
-pub mod Passing
+pub mod Reading
 pub mod Tables

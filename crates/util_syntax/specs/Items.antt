@@ -1,10 +1,10 @@
 -- The statements of utilities on cards (Utilities GC28-6586, in this project's profile): columns 1 to 71 have the text, and column 72 says whether it goes on.
 use Rattle.std.specs.Prelude.{ℕ, zero, suc, ◌==◌, Bool, true, false, not, ◌||◌, if◌then◌else◌, List, [], ◌∷◌, ◌++◌, length, map, slice_index, Option, Some, None, option_map, Result, Ok, Err, ok_or}
-use Rattle.std.specs.List.{slice_split}
+use Rattle.std.specs.List.{slice_split, after_first}
 use Rattle.ebcdic_names.specs.declared.names.Name8.{Name8}
 use Rattle.card_text.specs.declared.cards.Card.{Card}
 use Rattle.card_text.specs.declared.characters.Character.{Character}
-use Rattle.card_text.specs.Cards.{statement_characters, missing_place, cards_up_to}
+use Rattle.card_text.specs.Cards.{statement_characters, missing_place, has_number}
 use Rattle.card_text.specs.Characters.{first_word, behind_word, past_blanks, field_part, in_quotes, ends_in_comma, bytes_of}
 use Rattle.card_text.specs.Names.{name_of}
 use Rattle.card_text.specs.Nesting.{nested, is_separator}
@@ -126,14 +126,18 @@ read card others =
 unfoldable pub is_comment : ℕ × Card → Bool
 is_comment card = slice_index card.1.bytes 0 == 42
 
--- the statements and faults of cards, of which so many are passed over
-unfoldable pub items_behind : ℕ → List (ℕ × Card) → List ItemView
-items_behind passed [] = []
-items_behind (suc passed) (card ∷ others) = items_behind passed others
-items_behind zero (card ∷ others) =
-    if is_comment card then items_behind zero others
-    else (read card others).item ∷ items_behind (cards_up_to card others (read card others).last) others
+-- the cards behind the one of that number
+abbrev pub cards_after : ℕ → List (ℕ × Card) → List (ℕ × Card)
+cards_after number cards = after_first (has_number number) cards
+
+-- the statements and faults on cards, of which there are at most so many: behind each, reading goes on at the next card
+unfoldable pub items_within : ℕ → List (ℕ × Card) → List ItemView
+items_within limit [] = []
+items_within zero (card ∷ others) = []
+items_within (suc limit) (card ∷ others) =
+    if is_comment card then items_within limit others
+    else (read card others).item ∷ items_within limit (cards_after (read card others).last (card ∷ others))
 
 -- the statements on cards, in order, each or its first fault; behind a fault reading goes on at the card after its own
 abbrev pub items_of : List (ℕ × Card) → List ItemView
-items_of cards = items_behind 0 cards
+items_of cards = items_within (length cards) cards

@@ -1,14 +1,14 @@
 //! The utility statements on cards.
-ghost use Rattle.std.specs.Prelude.{◌≡◌, ◌++◌, map, IfOk, OnOk};
+ghost use Rattle.std.specs.Prelude.{◌≡◌, ◌<◌, ◌≤◌, ◌-◌, ◌++◌, length, map, position, IfOk, IfSome, OnOk};
 ghost use Rattle.std.specs.Result.{result_map_both};
+ghost use Rattle.card_text.specs.Cards.{has_number};
 ghost use Rattle.card_text.specs.Operands.{operand_view};
-ghost use Rattle.util_syntax.specs.Items.{goes_on, continues, continued, joined, joined_view, optional_name, operation, head, field_operands, refused, finished, read, read_view, is_comment, item_view, items_of};
+ghost use Rattle.util_syntax.specs.Items.{goes_on, continues, continued, joined, joined_view, optional_name, operation, head, field_operands, refused, finished, read, read_view, is_comment, item_view, cards_after, items_of};
 
 use crate::operands::{Fault, SynErr, operands};
 use card_text::{
-    Card, CardColumn, Character, Numbered, Operand, bytes_of, cards_up_to, ends_in_comma,
-    field_part, first_word, in_quotes, missing_place, name_of, nested, past_blanks,
-    statement_characters,
+    Card, CardColumn, Character, Numbered, Operand, bytes_of, ends_in_comma, field_part,
+    first_word, in_quotes, missing_place, name_of, nested, past_blanks, statement_characters,
 };
 use ebcdic_names::Name8;
 use std::alloc::{AllocError, Global};
@@ -285,6 +285,26 @@ fn is_comment(card: &Numbered) -> bool
     card.1.bytes[0] == b'*'
 }
 
+// The index of the first card of this number.
+fn card_at(cards: &[Numbered], number: u32) -> Option<usize>
+    ensures at { result ≡ position (has_number number) cards.now }
+    ensures within { IfSome result (λ at. at < length cards.now) }
+{
+    cards.iter().position(|card| card.0 == number)
+}
+
+// The cards behind the one of this number.
+#[tactic(auto, using(card_text::proofs::Lists::cuts))]
+fn cards_after(cards: &[Numbered], number: u32) -> &[Numbered]
+    ensures cards { result.now ≡ cards_after number cards.now }
+    ensures fewer { length result.now ≤ length cards.now - 1 }
+{
+    match card_at(cards, number) {
+        Some(at) => &cards[at + 1..],
+        None => &[],
+    }
+}
+
 /// The statements on cards, in order, each or its first fault (Utilities GC28-6586, in this project's profile).
 ///
 /// A statement stands in columns 1 to 71: a name from column 1 on, where that isn't blank, then blanks, the operation,
@@ -292,24 +312,23 @@ fn is_comment(card: &Numbered) -> bool
 /// character in column 72, go on at the first column of the next card that isn't blank, and column 1 of that card is
 /// blank. A card with `*` in column 1 is a comment. Behind a fault reading goes on at the card after the one on which it
 /// stands. The one error is want of memory.
-#[tactic(auto, using(crate::proofs::Passing::passed_over), unfolding(crate::specs::Items::items_behind))]
+#[tactic(auto, using(crate::proofs::Reading::reading))]
 pub fn statements(alloc: Global, cards: &[(u32, Card)]) -> Result<Vec<Item>, AllocError>
     ensures { IfOk result (λ v. map item_view v.items ≡ items_of cards.now) }
 {
     let mut items = Vec::new(alloc);
-    let mut passed = 0;
-    for (i, card) in cards.iter().enumerate() {
-        if passed > 0 {
-            passed -= 1;
-            continue;
-        }
+    let mut rest = cards;
+    'statements: loop {
+        let (card, others) = match rest.split_first() {
+            Some(parts) => parts,
+            None => return Ok(items),
+        };
         if is_comment(card) {
-            continue;
+            rest = others;
+        } else {
+            let Read { item, last } = read_statement(alloc, card, others)?;
+            items.push(item)?;
+            rest = cards_after(rest, last);
         }
-        let others = &cards[i + 1..];
-        let Read { item, last } = read_statement(alloc, card, others)?;
-        items.push(item)?;
-        passed = cards_up_to(card, others, last);
     }
-    Ok(items)
 }

@@ -52,7 +52,7 @@ pub trait Machine {
         ensures promise { IsTrue tells → Keeps (meaning self.old).clock (promise self.old) (promise self.new) }
         ensures stays { IsTrue tells → IsIdle (step (meaning self.old).state op.now) result
             → Keeps (meaning self.old).clock (stays self.old) (stays self.new) }
-        ensures call { MachineCall (status self.old) (status self.new) result }
+        ensures faults { MachineCall (status self.old) (status self.new) result }
         ensures print { IsErrOf result MachErr.Print → ⊥ };
 
     /// Prints the bytes.
@@ -64,7 +64,7 @@ pub trait Machine {
             → Prints tells_prints bytes.now (meaning self.old) (meaning self.new) result }
         ensures promise { IsTrue tells → Keeps (meaning self.old).clock (promise self.old) (promise self.new) }
         ensures stays { IsTrue tells → Keeps (meaning self.old).clock (stays self.old) (stays self.new) }
-        ensures call { MachineCall (status self.old) (status self.new) result }
+        ensures faults { MachineCall (status self.old) (status self.new) result }
         ensures refused { (r : Refusal) → IsErrOf result (MachErr.Refused r) → ⊥ };
 
     /// The shelf of a sound machine is lawful.

@@ -1,7 +1,7 @@
 mod Listings
 mod Tasks
 mod Works
-mod WordLemmas
 mod DeckLemmas
 mod Answering
 mod Cases
+mod Making

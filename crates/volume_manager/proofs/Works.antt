@@ -31,14 +31,16 @@ use Rattle.vol_model.proofs.Stops.{HaveLines, have_items, stands, stops_start}
 use Rattle.vtoc_index.specs.declared.vol.Vol.{Vol}
 use Rattle.vtoc_index.specs.Index.{IsMounted}
 use Rattle.shelf_machine.specs.Machine.{ChangesOnlyVtoc, LeavesJust, shelf_in, shelf_named, shelf_with}
-use Rattle.volume_manager.specs.Run.{FollowsTask, Headline, AllItemsDone, LeftOnlyNow, IsFinal, StandsFor, IsStopIn, OnlySynced, RunsItems}
+use Rattle.volume_manager.specs.Run.{DoesTask, FollowsTask, AllItemsDone, LeftOnlyNow, IsFinal, StandsFor, IsStopIn, OnlySynced, RunsItems}
 use Rattle.volume_manager.specs.Statement.{answer_line, item_by, item_of, item_on, operation_on}
 use Rattle.volume_manager.specs.Deck.{deck_of}
 use Rattle.volume_manager.specs.Lines.{deck_line, unit_line, words_line}
 use Rattle.volume_manager.specs.Mount.{IsPackIn, RefusesFile}
-use Rattle.volume_manager.specs.Task.{Says, Task, Works, names_task, statement_task, task_for, task_of, task_on}
-use Rattle.volume_manager.specs.Words.{Names, Request, Run as Running}
+use Rattle.command_words.specs.declared.action.NewPack.{NewPack}
+use Rattle.volume_manager.specs.Task.{Says, init_task, Task, Works, names_task, statement_task, task_for, task_of, task_on}
+use Rattle.volume_manager.specs.Words.{Init, Names, Request, Run as Running}
 use Rattle.shelf_machine.proofs.Machines.{same_plan}
+use Rattle.volume_manager.proofs.Making.{nothing_made}
 use Rattle.volume_manager.proofs.Tasks.{durable_left, kept_then, nothing_said}
 
 -- ---- one volume
@@ -325,6 +327,7 @@ pub nothing_done : (request : Option Request) (deck : Option Rename) {old new : 
 unfolding task_of
 nothing_done None deck status durable only same other = nothing_said _ 20 status same other
 nothing_done (Some (Names file)) deck status durable only same other = nothing_named file status same other
+nothing_done (Some (Init pack file)) deck status durable only same other = nothing_made pack file status durable only same other
 nothing_done (Some (Running file)) None status durable only same other = nothing_said _ 26 status same other
 nothing_done (Some (Running file)) (Some s) status durable only same other = nothing_stated file s status durable only same other
 
@@ -339,26 +342,30 @@ on_pack {file} {files} {v} task found {old} {new} {status} does =
     (does _ (ap volume_of here ∙ stands) (subst (λ (image : List ℕ). IsMounted image v) (sym here) found.mounted)))
 
 -- the answer to the words, with the deck that they need
-pub answered_words : {old new : Meaning (List File)} (request : Option Request) (tells : Bool) (input : List ℕ) (status : ℕ) → request ≡ None → FollowsTask (Says 20 words_line) old new status → Headline request tells input old new status
+pub answered_words : {old new : Meaning (List File)} (request : Option Request) (tells : Bool) (input : List ℕ) (status : ℕ) → request ≡ None → FollowsTask (Says 20 words_line) old new status → DoesTask request tells input old new status
 unfolding task_of
-answered_words {old} {new} request tells input status is does = record { deck = deck_of input; given = λ _. refl; does = subst (λ (r : Option Request). FollowsTask (task_of r (deck_of input) old.state) old new status) (sym is) does }
+answered_words {old} {new} request tells input status is follows = record { deck = deck_of input; given = λ _. refl; follows = subst (λ (r : Option Request). FollowsTask (task_of r (deck_of input) old.state) old new status) (sym is) follows }
 
-pub answered_names : {old new : Meaning (List File)} (request : Option Request) (file : List ℕ) (tells : Bool) (input : List ℕ) (status : ℕ) → request ≡ Some (Names file) → FollowsTask (task_on file names_task (file_of old.state file)) old new status → Headline request tells input old new status
+pub answered_names : {old new : Meaning (List File)} (request : Option Request) (file : List ℕ) (tells : Bool) (input : List ℕ) (status : ℕ) → request ≡ Some (Names file) → FollowsTask (task_on file names_task (file_of old.state file)) old new status → DoesTask request tells input old new status
 unfolding task_of
-answered_names {old} {new} request file tells input status is does = record { deck = deck_of input; given = λ _. refl; does = subst (λ (r : Option Request). FollowsTask (task_of r (deck_of input) old.state) old new status) (sym is) does }
+answered_names {old} {new} request file tells input status is follows = record { deck = deck_of input; given = λ _. refl; follows = subst (λ (r : Option Request). FollowsTask (task_of r (deck_of input) old.state) old new status) (sym is) follows }
 
 pub answered_deck : {old new : Meaning (List File)} (request : Option Request) (file : List ℕ) (s : Rename) (tells : Bool) (input : List ℕ) (status : ℕ) → request ≡ Some (Running file) → (IsTrue tells → deck_of input ≡ Some s)
-    → FollowsTask (task_on file (statement_task file s) (file_of old.state file)) old new status → Headline request tells input old new status
+    → FollowsTask (task_on file (statement_task file s) (file_of old.state file)) old new status → DoesTask request tells input old new status
 unfolding task_of
-answered_deck {old} {new} request file s tells input status is given does = record { deck = Some s; given = λ told. sym (given told); does = subst (λ (r : Option Request). FollowsTask (task_of r (Some s) old.state) old new status) (sym is) does }
+answered_deck {old} {new} request file s tells input status is given follows = record { deck = Some s; given = λ told. sym (given told); follows = subst (λ (r : Option Request). FollowsTask (task_of r (Some s) old.state) old new status) (sym is) follows }
+
+pub answered_init : {old new : Meaning (List File)} (request : Option Request) (pack : NewPack) (file : List ℕ) (tells : Bool) (input : List ℕ) (status : ℕ) → request ≡ Some (Init pack file) → FollowsTask (init_task pack file (file_of old.state file)) old new status → DoesTask request tells input old new status
+unfolding task_of
+answered_init {old} {new} request pack file tells input status is follows = record { deck = deck_of input; given = λ _. refl; follows = subst (λ (r : Option Request). FollowsTask (task_of r (deck_of input) old.state) old new status) (sym is) follows }
 
 pub answered_form : {old new : Meaning (List File)} (request : Option Request) (file : List ℕ) (tells : Bool) (input : List ℕ) (status : ℕ) → request ≡ Some (Running file) → (IsTrue tells → deck_of input ≡ None)
-    → FollowsTask (Says 26 deck_line) old new status → Headline request tells input old new status
+    → FollowsTask (Says 26 deck_line) old new status → DoesTask request tells input old new status
 unfolding task_of
-answered_form {old} {new} request file tells input status is given does = record { deck = None; given = λ told. sym (given told); does = subst (λ (r : Option Request). FollowsTask (task_of r None old.state) old new status) (sym is) does }
+answered_form {old} {new} request file tells input status is given follows = record { deck = None; given = λ told. sym (given told); follows = subst (λ (r : Option Request). FollowsTask (task_of r None old.state) old new status) (sym is) follows }
 
-pub answered_nothing : {old new : Meaning (List File)} (request : Option Request) (tells : Bool) (input : List ℕ) (status : ℕ) → IsDurable old → OnlyNow old → Same old new → ¬ IsFinal status → Headline request tells input old new status
-answered_nothing request tells input status durable only same other = record { deck = deck_of input; given = λ _. refl; does = nothing_done request (deck_of input) status durable only same other }
+pub answered_nothing : {old new : Meaning (List File)} (request : Option Request) (tells : Bool) (input : List ℕ) (status : ℕ) → IsDurable old → OnlyNow old → Same old new → ¬ IsFinal status → DoesTask request tells input old new status
+answered_nothing request tells input status durable only same other = record { deck = deck_of input; given = λ _. refl; follows = nothing_done request (deck_of input) status durable only same other }
 
 -- ---- a file that is refused
 

@@ -1,5 +1,4 @@
 pub mod Words
-pub mod Action
 pub mod Deck
 pub mod Lines
 pub mod Names

@@ -60,6 +60,14 @@ reason_of mount.Device = with_numbers (codes "DEVICE") []
 unfoldable pub unit_line : List ℕ → MountErr → List ℕ
 unit_line file why = line (codes "VOLMAN UNIT " ++ file ++ codes " " ++ reason_of why)
 
+-- where the file of a new pack is there already
+unfoldable pub exists_line : List ℕ → List ℕ
+exists_line file = line (codes "VOLMAN UNIT " ++ file ++ codes " EXISTS")
+
+-- where a new pack was made
+unfoldable pub init_line : List ℕ → List ℕ
+init_line serial = line (codes "INIT " ++ shown serial)
+
 -- a name on a line of its own, in ASCII and without the blanks behind it
 unfoldable pub name_line : List ℕ → List ℕ
 name_line name = line (shown name)

@@ -1,10 +1,13 @@
 -- What a run of the program leaves.
 use Rattle.std.specs.Prelude.{◌≡◌, ◌≢◌, ◌⊎◌, ℕ, ◌≤◌, Bool, List, [], ◌∷◌, ◌++◌, Option, Some, None, Ok, IsTrue}
+use Rattle.command_words.specs.declared.action.NewPack.{NewPack}
 use Rattle.dadsm_ops.specs.Operations.{ChangesVtoc, image_named}
 use Rattle.hall_core.specs.Facts.{Facts}
 use Rattle.stop_model.specs.Counts.{Rose}
 use Rattle.stop_model.specs.Files.{File, IsPrefixOf}
 use Rattle.stop_model.specs.Moments.{Meaning, IsDurable, LeavesSame, LeftNow, Elapses}
+use Rattle.pack_init.specs.Init.{IsInitLeft, with_file}
+use Rattle.pack_spec.specs.New.{IsNewImage}
 use Rattle.pack_spec.specs.Volume.{volume_of}
 use Rattle.util_syntax.specs.declared.statement.Rename.{Rename}
 use Rattle.vol_model.specs.declared.contents.Shelf.{Shelf}
@@ -13,8 +16,9 @@ use Rattle.vol_model.specs.Events as events
 use Rattle.vol_model.specs.Events.{Item, StandsIn, events_of, listing, operations_of, shelf_behind}
 use Rattle.volume_manager.specs.Deck.{deck_of}
 use Rattle.shelf_machine.specs.Machine.{shelf_with}
-use Rattle.volume_manager.specs.Task.{Task, Says, Works, task_of}
-use Rattle.volume_manager.specs.Words.{Request, Names, Run}
+use Rattle.volume_manager.specs.Lines.{init_line}
+use Rattle.volume_manager.specs.Task.{Task, Says, Works, Makes, task_of}
+use Rattle.volume_manager.specs.Words.{IsRun, Request, Names, Run, Init}
 use Rattle.volume_manager.specs.declared.status.Status.{Status}
 use Rattle.volume_manager.specs.declared.status.Status.TheVariants.{Done, Words, Unit, Device, Cards, Print, Memory, Deck}
 
@@ -53,10 +57,22 @@ pub record AllItemsDone (file : List ℕ) (volume : Volume) (items : List Item) 
   pub durable : IsDurable new
   pub changes : ChangesVtoc file volume.geometry volume.vtoc old.state new.state
 
+-- the whole new pack stands in its file, behind the files that were there
+abbrev pub HasNewPack : NewPack → List ℕ → List File → List File → Type 0
+HasNewPack pack file files j = (image : List ℕ) × (j ≡ with_file files file image) × IsNewImage pack.geometry pack.serial.bytes pack.vtoc image
+
+-- A new pack was made: it stands durably in its file, which wasn't there, and its line was printed.
+pub record PackMade (pack : NewPack) (file : List ℕ) (old new : Meaning (List File)) (status : ℕ) : Type 0 where
+  pub code : status ≡ 0
+  pub printed : new.printed ≡ old.printed ++ init_line pack.serial.bytes
+  pub made : HasNewPack pack file old.state new.state
+  pub durable : IsDurable new
+
 -- the task was done, and this is its status
 abbrev pub IsTaskDone : Task → Meaning (List File) → Meaning (List File) → ℕ → Type 0
 IsTaskDone (Says code text) old new status = (status ≡ code) × (new.printed ≡ old.printed ++ text)
 IsTaskDone (Works file volume items) old new status = AllItemsDone file volume items old new status
+IsTaskDone (Makes pack file) old new status = PackMade pack file old new status
 
 -- What a stop leaves of a run of items: behind what was printed a prefix of their lines; an image that stands for the shelf after some of their operations, all that are reported and none that can't have begun; and nothing changed but tracks of its VTOC, and nothing at all where there is no operation.
 pub record IsStopIn (file : List ℕ) (volume : Volume) (items : List Item) (old : Meaning (List File)) (files : List File) (printed : List ℕ) : Type 0 where
@@ -80,22 +96,30 @@ pub record StopsInItems (file : List ℕ) (volume : Volume) (items : List Item) 
   pub later : old.clock ≤ new.clock
   pub stops : (files : List File) (printed : List ℕ) → new.left_since old.clock files printed → IsStopIn file volume items old files printed
 
+-- What a stop leaves of the making of a pack: no file, one whose image is refused, or the whole new pack, and that where a byte of its line is printed.
+pub record IsStopInInit (pack : NewPack) (file : List ℕ) (old : Meaning (List File)) (files : List File) (printed : List ℕ) : Type 0 where
+  pub left : IsInitLeft pack.geometry pack.serial.bytes pack.vtoc file old.state files
+  pub front : List ℕ
+  pub text : printed ≡ old.printed ++ front
+  pub prefix : IsPrefixOf front (init_line pack.serial.bytes)
+  pub whole : (front ≡ []) ⊎ HasNewPack pack file old.state files
+
+-- Time goes on, and whatever a stop since the begin left is what one in the making of a pack may leave.
+pub record StopsInInit (pack : NewPack) (file : List ℕ) (old new : Meaning (List File)) : Type 0 where
+  pub later : old.clock ≤ new.clock
+  pub stops : (files : List File) (printed : List ℕ) → new.left_since old.clock files printed → IsStopInInit pack file old files printed
+
 -- whatever the status, a stop at any moment leaves what the task allows
 abbrev pub StopsInTask : Task → Meaning (List File) → Meaning (List File) → Type 0
 StopsInTask (Says code text) old new = KeepsFiles text old new
 StopsInTask (Works file volume items) old new = StopsInItems file volume items old new
+StopsInTask (Makes pack file) old new = StopsInInit pack file old new
 
 -- A task is done where the status says so, and is safe whatever the status is; where memory ran out nothing was printed.
 pub record FollowsTask (task : Task) (old new : Meaning (List File)) (status : ℕ) : Type 0 where
   pub ends : IsFinal status → IsTaskDone task old new status
   pub silent : status ≡ 25 → new.printed ≡ old.printed
   pub stops : StopsInTask task old new
-
--- What the program promises, with the deck that the cards held at its begin, or, where these don't tell, with some deck.
-pub record Headline (request : Option Request) (tells : Bool) (input : List ℕ) (old new : Meaning (List File)) (status : ℕ) : Type 0 where
-  pub deck : Option Rename
-  pub given : IsTrue tells → deck ≡ deck_of input
-  pub does : FollowsTask (task_of request deck old.state) old new status
 
 -- A text was printed, all of it but where the printer failed. The files stay, and a stop leaves them as before; one meanwhile leaves a prefix of the text.
 pub record PrintsText (text : List ℕ) (old new : Meaning (List File)) (result : ℕ) : Type 0 where
@@ -128,6 +152,7 @@ pub record NoCountFell (old new : Facts) : Type 0 where
 abbrev pub file_asked : Request → List ℕ
 file_asked (Names file) = file
 file_asked (Run file) = file
+file_asked (Init pack file) = file
 
 -- The units that stood stay, and at most this file was attached behind them.
 abbrev pub AttachesAtMost : List ℕ → Facts → Facts → Type 0
@@ -158,3 +183,41 @@ IsUnbegun n = ((20 ≤ n) × (n ≤ 21)) ⊎ ((n ≡ 23) ⊎ (n ≡ 26))
 -- a status with which no file was asked for
 abbrev pub IsUnasked : ℕ → Type 0
 IsUnasked n = (n ≡ 20) ⊎ ((n ≡ 23) ⊎ (n ≡ 26))
+
+-- The task that is asked for is done or safe, with the deck that the cards held at the begin, or, where these don't tell, with some deck.
+pub record DoesTask (request : Option Request) (tells : Bool) (input : List ℕ) (old new : Meaning (List File)) (status : ℕ) : Type 0 where
+  pub deck : Option Rename
+  pub given : IsTrue tells → deck ≡ deck_of input
+  pub follows : FollowsTask (task_of request deck old.state) old new status
+
+-- What the program promises: the task is done or safe; where nothing was begun the files stay; a fault in a task without statements prints nothing; and but for a fault of the device or of the printer no write is pending then.
+pub record Headline (request : Option Request) (tells : Bool) (input : List ℕ) (old new : Meaning (List File)) (status : ℕ) : Type 0 where
+  pub does : DoesTask request tells input old new status
+  pub unbegun : IsUnbegun status → LeavesFiles old new
+  pub silent : ¬ IsRun request → (status ≡ 22) ⊎ (status ≡ 25) → new.printed ≡ old.printed
+  pub durable : IsFinal status ⊎ ((status ≡ 23) ⊎ (status ≡ 25)) → IsDurable new
+
+-- Why the program ends with a status: the words are refused, the deck is, or a fault came whose count rose; and where the words or the deck are refused it says so, unless a fault or want of memory comes before. Counts of faults never fall.
+pub record Causes (request : Option Request) (tells : Bool) (input : List ℕ) (card_faults card_faults' : ℕ) (old new : Facts) (status : ℕ) : Type 0 where
+  pub which : IsStatus status
+  pub words : status ≡ 20 → request ≡ None
+  pub refused : request ≡ None → (status ≡ 20) ⊎ ((status ≡ 24) ⊎ (status ≡ 25))
+  pub asked : status ≡ 26 → IsRun request
+  pub form : status ≡ 26 → IsTrue tells → deck_of input ≡ None
+  pub formless : IsTrue tells → IsRun request → deck_of input ≡ None → (status ≡ 26) ⊎ ((status ≡ 23) ⊎ ((status ≡ 24) ⊎ (status ≡ 25)))
+  pub device : status ≡ 22 → Rose old.dev_faults new.dev_faults
+  pub read : status ≡ 23 → Rose card_faults card_faults'
+  pub print : status ≡ 24 → Rose old.print_faults new.print_faults
+  pub later : NoCountFell old new
+  pub cards_later : card_faults ≤ card_faults'
+
+-- It is the same hall, with at most the file that the words name, and that only where words and deck are taken.
+pub record Attachments (request : Option Request) (tells : Bool) (input : List ℕ) (old new : Facts) (status : ℕ) : Type 0 where
+  pub references : new.references ≡ old.references
+  pub units : AttachesAsked request old new
+  pub unasked : IsUnasked status → new.units ≡ old.units
+  pub refused_deck : IsTrue tells → IsRun request → deck_of input ≡ None → new.units ≡ old.units
+
+-- no card is left where a deck was done or refused by its statement
+abbrev pub ReadsDeck : Option Request → List ℕ → ℕ → Type 0
+ReadsDeck request left status = IsRun request → status ≤ 16 → left ≡ []

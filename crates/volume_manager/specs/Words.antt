@@ -1,45 +1,44 @@
--- What the words of the command line ask for, in this project's profile.
-use Rattle.std.specs.Prelude.{ℕ, ◌+◌, ◌-◌, ◌*◌, Bool, false, ◌==◌, ◌&&◌, not, nat_le, List, [], ◌∷◌, codes, Option, Some, None, if◌then◌else◌}
-use Rattle.std.specs.Char.{is_ascii_digit}
-use Rattle.std.specs.List.{list_all}
-use Rattle.std.specs.Str.{bytes_eq}
+-- What the program is asked for by the words of the command line, in this project's profile.
+use Rattle.std.specs.Prelude.{ℕ, List, [], ◌∷◌, Option, Some, None, option_and_then}
+use Rattle.command_words.specs.declared.action.NewPack.{NewPack}
+use Rattle.command_words.specs.Requests as words
+use Rattle.volume_manager.specs.declared.words.Action.{Action}
+use Rattle.volume_manager.specs.declared.words.Action.TheVariants as action
 
--- what is asked for: the names on the pack in a file, or a deck run over it
+-- what is asked for: the names on the pack in a file, a deck run over it, or a new pack in it
 pub data Request : Type 0 where
   Names : List ℕ → Request
   Run : List ℕ → Request
+  Init : NewPack → List ℕ → Request
 
--- a word is a file's name where it isn't empty and doesn't begin with a hyphen
-abbrev pub is_file_word : List ℕ → Bool
-is_file_word [] = false
-is_file_word (c ∷ cs) = not (c == 45)
+-- a run over one file; more files aren't taken yet
+abbrev pub run_over : List (List ℕ) → Option Request
+run_over (file ∷ []) = Some (Run file)
+run_over _ = None
 
--- the value of a decimal digit
-abbrev pub value_of : ℕ → ℕ
-value_of digit = digit - 48
-
--- three decimal digits are a day of the year, from 001 to 366
-abbrev pub is_day : ℕ → ℕ → ℕ → Bool
-is_day hundreds tens ones =
-    let day = 100 * value_of hundreds + 10 * value_of tens + value_of ones in
-    nat_le 1 day && nat_le day 366
-
--- a word is a date, yyddd: five decimal digits, the last three a day of the year
-abbrev pub is_date : List ℕ → Bool
-is_date (y ∷ z ∷ a ∷ b ∷ c ∷ []) = list_all is_ascii_digit (y ∷ z ∷ a ∷ b ∷ c ∷ []) && is_day a b c
-is_date _ = false
-
--- what `names` and a file ask for
-abbrev pub names_request : List ℕ → List ℕ → Option Request
-names_request action file = if bytes_eq action (codes "names") && is_file_word file then Some (Names file) else None
-
--- what `run`, `--date`, a date and a file ask for
-abbrev pub run_request : List ℕ → List ℕ → List ℕ → List ℕ → Option Request
-run_request action option date file =
-    if bytes_eq action (codes "run") && bytes_eq option (codes "--date") && is_date date && is_file_word file then Some (Run file) else None
+-- what is done of that for which words may ask; a check isn't made yet
+abbrev pub taken : words.Request → Option Request
+taken (words.Run date files) = run_over files
+taken (words.Init pack file) = Some (Init pack file)
+taken (words.Names file) = Some (Names file)
+taken (words.Check file) = None
 
 -- what the words ask for, the program's name first
-abbrev pub request_of : List (List ℕ) → Option Request
-request_of (program ∷ action ∷ file ∷ []) = names_request action file
-request_of (program ∷ action ∷ option ∷ date ∷ file ∷ []) = run_request action option date file
-request_of _ = None
+unfoldable pub request_of : List (List ℕ) → Option Request
+request_of given = option_and_then taken (words.request_of given)
+
+-- the request that an action stands for
+abbrev pub request_in : Action → Request
+request_in (action.Names file) = Names file.now
+request_in (action.Run file) = Run file.now
+request_in (action.Init pack file) = Init pack file.now
+
+-- where an action makes a pack, that is a proper one
+abbrev pub MakesProperPack : Action → Type 0
+MakesProperPack (action.Init pack file) = words.IsProper pack
+MakesProperPack _ = Unit {0}
+
+-- a deck is asked for
+abbrev pub IsRun : Option Request → Type 0
+IsRun (Some (Run file)) = Unit {0}
+IsRun _ = ⊥

@@ -3,6 +3,8 @@
 #![tactic(auto)]
 
 mod deck;
+mod end;
+mod init;
 mod mount;
 mod names;
 mod reason;

@@ -34,7 +34,7 @@ pub fn mount<H: Hall>(alloc: Global, hall: &mut H, file: &str) -> Result<Vol, Mo
     let unit = match hall.attach(file) {
         Ok(unit) => unit,
         Err(HallErr::Missing) => return Err(MountErr::NoFile),
-        Err(HallErr::Failed) => return Err(MountErr::Device),
+        Err(HallErr::Failed | HallErr::Exists) => return Err(MountErr::Device),
         Err(HallErr::Memory) => return Err(MountErr::Memory),
     };
     read_vtoc(alloc, hall, unit)

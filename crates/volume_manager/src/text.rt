@@ -1,9 +1,9 @@
 //! The texts that the program prints.
 ghost use Rattle.std.specs.Prelude.{◌≡◌, ◌++◌, List, ℕ, IfOk, OnOk};
-ghost use Rattle.volume_manager.specs.Lines.{deck_line, words_line, unit_line, name_line, names_listing};
+ghost use Rattle.volume_manager.specs.Lines.{deck_line, exists_line, init_line, words_line, unit_line, name_line, names_listing};
 
 use crate::reason::push_reason;
-use ebcdic_names::push_name_in_ascii;
+use ebcdic_names::{Serial, push_name_in_ascii};
 use std::alloc::{AllocError, Global};
 use vtoc_index::MountErr;
 
@@ -22,6 +22,28 @@ pub fn unit_line(alloc: Global, file: &str, why: MountErr) -> Result<Vec<u8>, Al
     line.extend_from_slice(file.as_bytes())?;
     line.push(b' ')?;
     push_reason(&mut line, why)?;
+    line.push(b'\n')?;
+    Ok(line)
+}
+
+/// The line that says that the file of a new pack is there already.
+#[tactic(auto, unfolding(crate::specs::Lines::exists_line))]
+pub fn exists_line(alloc: Global, file: &str) -> Result<Vec<u8>, AllocError>
+    ensures { IfOk result (λ line. line.items ≡ exists_line file.now) }
+{
+    let mut line = Vec::from_slice(alloc, b"VOLMAN UNIT ")?;
+    line.extend_from_slice(file.as_bytes())?;
+    line.extend_from_slice(b" EXISTS\n")?;
+    Ok(line)
+}
+
+/// The line that says that a new pack was made.
+#[tactic(auto, unfolding(crate::specs::Lines::init_line))]
+pub fn init_line(alloc: Global, serial: &Serial) -> Result<Vec<u8>, AllocError>
+    ensures { IfOk result (λ line. line.items ≡ init_line serial.now.bytes) }
+{
+    let mut line = Vec::from_slice(alloc, b"INIT ")?;
+    push_name_in_ascii(&mut line, &serial.bytes)?;
     line.push(b'\n')?;
     Ok(line)
 }

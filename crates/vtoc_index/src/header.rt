@@ -20,8 +20,8 @@ pub(crate) fn read_geometry<H: Hall>(hall: &mut H, unit: u8) -> Result<Geometry,
         IsTrue H.tells → IfOk result (λ g. geometry_of (take 512 image) (length image) ≡ Ok g) }
     ensures refused { let image = image_in (H.meaning hall.old) (H.facts hall.old) unit in
         IsTrue H.tells → IfErr result (Refuses (volume_of image)) }
-    ensures told { IsTrue H.tells → Same (H.meaning hall.old) (H.meaning hall.new) }
-    ensures call { MountCall (H.facts hall.old) (H.facts hall.new) result }
+    ensures files { IsTrue H.tells → Same (H.meaning hall.old) (H.meaning hall.new) }
+    ensures faults { MountCall (H.facts hall.old) (H.facts hall.new) result }
     ensures file { IsErrOf result MountErr.NoFile → ⊥ }
 {
     let len = hall.size(unit);

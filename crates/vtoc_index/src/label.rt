@@ -45,8 +45,8 @@ pub(crate) fn read_label<H: Hall>(
         IsTrue H.tells → IfErr result (Refuses
         (volume_within image buf.old.geometry (vtoc_of image buf.old.geometry))) }
     ensures geometry { buf.new.geometry ≡ buf.old.geometry }
-    ensures told { IsTrue H.tells → Same (H.meaning hall.old) (H.meaning hall.new) }
-    ensures call { MountCall (H.facts hall.old) (H.facts hall.new) result }
+    ensures files { IsTrue H.tells → Same (H.meaning hall.old) (H.meaning hall.new) }
+    ensures faults { MountCall (H.facts hall.old) (H.facts hall.new) result }
     ensures file { IsErrOf result MountErr.NoFile → ⊥ }
 {
     match read_records(hall, unit, LABEL_TRACK, Some(LABEL_RECORD), buf) {

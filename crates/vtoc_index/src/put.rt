@@ -37,13 +37,13 @@ pub fn put_slot<H: Hall>(hall: &mut H, vol: &mut Vol, slot: u32, dscb: &Dscb) ->
     requires slot { slot < length vol.old.slots.items }
     requires index { let image = image_in (H.meaning hall.old) (H.facts hall.old) vol.old.unit in
         IsTrue H.tells → IsIndexOf image vol.old }
-    ensures told { let image = image_in (H.meaning hall.old) (H.facts hall.old) vol.old.unit in
+    ensures files { let image = image_in (H.meaning hall.old) (H.facts hall.old) vol.old.unit in
         IsTrue H.tells → AfterPut (unit_of (H.facts hall.old).units vol.old.unit).name vol.old slot
         dscb.now vol.new image (image_in (H.meaning hall.new) (H.facts hall.new) vol.old.unit)
         (H.meaning hall.old) (H.meaning hall.new) result }
     ensures index { IsWith slot dscb.now vol.old vol.new result }
     ensures unit { IsOfUnit (H.facts hall.new).units vol.new }
-    ensures call { DeviceCall (H.facts hall.old) (H.facts hall.new) result }
+    ensures faults { DeviceCall (H.facts hall.old) (H.facts hall.new) result }
 {
     let place = place_of(vol, slot);
     let bytes = encode(dscb);
@@ -106,8 +106,8 @@ fn hold<H: Hall>(hall: &mut H, unit: u8, place: Place, buf: &mut TrackBuf) -> Re
     ensures lengths { OnOk result (HasLengths buf.new.records (place.number - 1) 44 96) }
     ensures stands { IsTrue H.tells → OnOk result
         (StandsOn (image_in (H.meaning hall.new) (H.facts hall.new) unit) buf.new) }
-    ensures told { IsTrue H.tells → Same (H.meaning hall.old) (H.meaning hall.new) }
-    ensures call { DeviceCall (H.facts hall.old) (H.facts hall.new) result }
+    ensures files { IsTrue H.tells → Same (H.meaning hall.old) (H.meaning hall.new) }
+    ensures faults { DeviceCall (H.facts hall.old) (H.facts hall.new) result }
 {
     fetch(hall, unit, place, buf)?;
     if !holds_slot(buf, place.number) {
@@ -133,8 +133,8 @@ fn fetch<H: Hall>(hall: &mut H, unit: u8, place: Place, buf: &mut TrackBuf) -> R
     ensures stands { let image = image_in (H.meaning hall.old) (H.facts hall.old) unit in
         IsTrue H.tells → OnOk result ((place.number ≤ length buf.new.records)
         × StandsOn image buf.new) }
-    ensures told { IsTrue H.tells → Same (H.meaning hall.old) (H.meaning hall.new) }
-    ensures call { DeviceCall (H.facts hall.old) (H.facts hall.new) result }
+    ensures files { IsTrue H.tells → Same (H.meaning hall.old) (H.meaning hall.new) }
+    ensures faults { DeviceCall (H.facts hall.old) (H.facts hall.new) result }
 {
     if buf.track() == place.track && usize::from(place.number) <= buf.len() {
         return Ok(());

@@ -53,8 +53,8 @@ pub fn read_vtoc<H: Hall>(alloc: Global, hall: &mut H, unit: u8) -> Result<Vol, 
     ensures refused { let image = image_in (H.meaning hall.old) (H.facts hall.old) unit in
         IsTrue H.tells → IfErr result (IsReason image) }
     ensures unit { IfOk result (λ vol. (vol.unit ≡ unit) × IsOfUnit (H.facts hall.old).units vol) }
-    ensures told { IsTrue H.tells → Same (H.meaning hall.old) (H.meaning hall.new) }
-    ensures call { MountCall (H.facts hall.old) (H.facts hall.new) result }
+    ensures files { IsTrue H.tells → Same (H.meaning hall.old) (H.meaning hall.new) }
+    ensures faults { MountCall (H.facts hall.old) (H.facts hall.new) result }
     ensures file { IsErrOf result MountErr.NoFile → ⊥ }
 {
     let geometry = read_geometry(hall, unit)?;
@@ -101,8 +101,8 @@ fn read_slots<H: Hall>(
         (volume_within image geometry (vtoc_on image geometry at))) }
     ensures numbers { IfOk result (λ p. IsExtent geometry at p.0 × AreNumbered p.0.len p.1) }
     ensures buffer { OnOk result ((buf.new.geometry ≡ geometry) × (buf.new.unit ≡ unit)) }
-    ensures told { IsTrue H.tells → Same (H.meaning hall.old) (H.meaning hall.new) }
-    ensures call { MountCall (H.facts hall.old) (H.facts hall.new) result }
+    ensures files { IsTrue H.tells → Same (H.meaning hall.old) (H.meaning hall.new) }
+    ensures faults { MountCall (H.facts hall.old) (H.facts hall.new) result }
     ensures file { IsErrOf result MountErr.NoFile → ⊥ }
 {
     let (vtoc, count) = read_first(hall, unit, geometry, at, buf)?;
@@ -135,8 +135,8 @@ fn read_first<H: Hall>(
     ensures numbers { IfOk result (λ p. IsExtent geometry at p.0 × (length buf.new.records ≡ p.1)) }
     ensures buffer { IfOk result (λ p. (buf.new.geometry ≡ geometry)
         × ((buf.new.unit ≡ unit) × (buf.new.track ≡ p.0.start))) }
-    ensures told { IsTrue H.tells → Same (H.meaning hall.old) (H.meaning hall.new) }
-    ensures call { MountCall (H.facts hall.old) (H.facts hall.new) result }
+    ensures files { IsTrue H.tells → Same (H.meaning hall.old) (H.meaning hall.new) }
+    ensures faults { MountCall (H.facts hall.old) (H.facts hall.new) result }
     ensures file { IsErrOf result MountErr.NoFile → ⊥ }
 {
     match read_records(hall, unit, at.track(geometry), None, buf) {
@@ -166,8 +166,8 @@ fn why_broken<H: Hall>(
     ensures refused { let image = image_in (H.meaning hall.old) (H.facts hall.old) unit in
         IsTrue H.tells → records_on image geometry None (track_of_address geometry at) ≡ None
         → Refuses (volume_within image geometry (vtoc_on image geometry at)) result }
-    ensures told { IsTrue H.tells → Same (H.meaning hall.old) (H.meaning hall.new) }
-    ensures call { MountCall {T = Unit {0}} (H.facts hall.old) (H.facts hall.new) (Err result) }
+    ensures files { IsTrue H.tells → Same (H.meaning hall.old) (H.meaning hall.new) }
+    ensures faults { MountCall {T = Unit {0}} (H.facts hall.old) (H.facts hall.new) (Err result) }
     ensures file { result ≢ MountErr.NoFile }
 {
     let track = at.track(geometry);
@@ -206,8 +206,8 @@ fn read_others<H: Hall>(
         IsTrue H.tells → StandsOn image buf.old → OnOk result (StandsOn image buf.new) }
     ensures numbers { OnOk result (AreNumbered vtoc.len found.new) }
     ensures buffer { (buf.new.geometry ≡ geometry) × (buf.new.unit ≡ unit) }
-    ensures told { IsTrue H.tells → Same (H.meaning hall.old) (H.meaning hall.new) }
-    ensures call { MountCall (H.facts hall.old) (H.facts hall.new) result }
+    ensures files { IsTrue H.tells → Same (H.meaning hall.old) (H.meaning hall.new) }
+    ensures faults { MountCall (H.facts hall.old) (H.facts hall.new) result }
     ensures file { IsErrOf result MountErr.NoFile → ⊥ }
 {
     for track in vtoc.start + 1..vtoc.start + vtoc.len {
@@ -234,8 +234,8 @@ fn read_track<H: Hall>(
     ensures refused { let image = image_in (H.meaning hall.old) (H.facts hall.old) unit in
         IsTrue H.tells → IfErr result (λ e. (e ≡ MountErr.Device)
         ⊎ ((e ≡ MountErr.VtocTrack track) × (slots_on image buf.old.geometry track ≡ None))) }
-    ensures told { IsTrue H.tells → Same (H.meaning hall.old) (H.meaning hall.new) }
-    ensures call { MountCall (H.facts hall.old) (H.facts hall.new) result }
+    ensures files { IsTrue H.tells → Same (H.meaning hall.old) (H.meaning hall.new) }
+    ensures faults { MountCall (H.facts hall.old) (H.facts hall.new) result }
     ensures file { IsErrOf result MountErr.NoFile → ⊥ }
 {
     match read_records(hall, unit, track, None, buf) {

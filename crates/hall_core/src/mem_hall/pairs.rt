@@ -1,8 +1,11 @@
 //! Files of a hall in memory: pairs of a name and bytes.
-ghost use Rattle.std.specs.Prelude.{◌≡◌, ◌+◌, ◌≤◌, length, take, drop, MatchOption, IfOk, None, true};
+ghost use Rattle.std.specs.Prelude.{◌≡◌, ◌+◌, ◌≤◌, length, take, drop, MatchOption, IfOk, None, true, vec_len, vec_capacity};
+ghost use Rattle.std.specs.List.{All};
+ghost use Rattle.hall_core.specs.Images.{zeros_named};
 ghost use Rattle.hall_core.specs.Facts.{unit_of};
 ghost use Rattle.stop_model.specs.Files.{file_of, patched};
-ghost use Rattle.hall_core.specs.Held.{file_of_pair, files_of, shapes_of, with_bytes, IsFirst, IsFirstNamed};
+ghost use Rattle.hall_core.specs.Held.{file_of_pair, files_of, attached_as, shapes_of, with_bytes, IsFirst, IsFirstNamed, IsSpare};
+ghost use Rattle.hall_core.specs.Replay.{new_file};
 
 use std::alloc::{AllocError, Global};
 
@@ -43,6 +46,8 @@ pub(super) fn patch_file(files: &mut Vec<(String, Vec<u8>)>, place: usize, at: u
     ensures done { files_of files.new.items
         ≡ with_bytes (files_of files.old.items) place at bytes.now true }
     ensures shapes { shapes_of (files_of files.new.items) ≡ shapes_of (files_of files.old.items) }
+    ensures len { vec_len files.new ≡ vec_len files.old }
+    ensures capacity { vec_capacity files.new ≡ vec_capacity files.old }
 {
     let file = &mut files[place];
     patch(&mut file.1, at, bytes);
@@ -62,6 +67,8 @@ pub(super) fn write_file(
     ensures done { files_of files.new.items
         ≡ with_bytes (files_of files.old.items) place at bytes.now is_done }
     ensures shapes { shapes_of (files_of files.new.items) ≡ shapes_of (files_of files.old.items) }
+    ensures len { vec_len files.new ≡ vec_len files.old }
+    ensures capacity { vec_capacity files.new ≡ vec_capacity files.old }
 {
     if is_done {
         patch_file(files, place, at, bytes);
@@ -74,6 +81,50 @@ fn copy_pair(alloc: Global, file: &(String, Vec<u8>)) -> Result<(String, Vec<u8>
 {
     let name = String::from_str(alloc, file.0.as_str())?;
     let bytes = file.1.as_slice().to_vec(alloc)?;
+    Ok((name, bytes))
+}
+
+// So many empty pairs, each with room for a name and bytes of a length.
+pub(super) fn new_spares(
+    alloc: Global,
+    count: usize,
+    room: usize,
+) -> Result<Vec<(String, Vec<u8>)>, AllocError>
+    ensures number { IfOk result (λ spares. vec_len spares ≡ count) }
+    ensures spare { IfOk result (λ spares. All (IsSpare room) spares.items) }
+{
+    let mut spares = Vec::new(alloc);
+    for _ in 0..count {
+        let mut name = String::new(alloc);
+        name.reserve(room)?;
+        let mut bytes = Vec::new(alloc);
+        bytes.reserve(room)?;
+        spares.push((name, bytes))?;
+    }
+    Ok(spares)
+}
+
+// A file of this name, of so many zeros, in the memory of an empty pair.
+pub(super) fn filled(spare: (String, Vec<u8>), name: &str, len: usize) -> (String, Vec<u8>)
+    requires { IsSpare (length name.now + len) spare }
+    ensures { file_of_pair result ≡ zeros_named name.now len }
+{
+    let (mut file_name, mut bytes) = spare;
+    file_name.push_str(name).unwrap();
+    bytes.resize(len, 0).unwrap();
+    (file_name, bytes)
+}
+
+// A file again as it was made, of zeros, in memory of its own.
+pub(super) fn new_pair(
+    alloc: Global,
+    file: &(String, Vec<u8>),
+) -> Result<(String, Vec<u8>), AllocError>
+    ensures { IfOk result (λ pair. file_of_pair pair ≡ new_file (attached_as (file_of_pair file.now))) }
+{
+    let name = String::from_str(alloc, file.0.as_str())?;
+    let mut bytes = Vec::new(alloc);
+    bytes.resize(file.1.len(), 0)?;
     Ok((name, bytes))
 }
 

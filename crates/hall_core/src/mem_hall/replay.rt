@@ -1,12 +1,21 @@
 //! What a stop leaves of a hall in memory, from the record of its calls.
 ghost use Rattle.std.specs.Prelude.{◌≡◌, ◌+◌, ◌<◌, ◌≤◌, ◌∷◌, ◌++◌, ◌^◌, [], ℕ, List, take, drop, false, length, if◌then◌else◌, IfOk, OnOk, slice_index_or};
-ghost use Rattle.hall_core.specs.History.{Write, with_writes, kept};
-ghost use Rattle.hall_core.specs.Held.{files_of, shapes_of, attached_in, AreFirst};
-ghost use Rattle.hall_core.specs.Replay.{IsPendingFrom, IsWritable, AreWritable, ArePrinted, writes_in, done_of, prints_at, text_needed, is_write, is_done_write, pending_place};
+ghost use Rattle.hall_core.specs.History.{with_changes, kept};
+ghost use Rattle.hall_core.specs.Held.{files_of};
+ghost use Rattle.hall_core.specs.Replay.{IsPendingFrom, ArePrinted, IsRedoable, AreRedoable, HasRedone, changes_in, done_of, prints_at, text_needed, files_made, is_write, is_done_write, is_kept_step, pending_place};
 
-use super::pairs::write_file;
+use super::pairs::{new_pair, write_file};
 use super::step::Step;
 use std::alloc::{AllocError, Global};
+
+// What the steps of a hall speak of: its units, as places of files, its files as they are now, and all
+// bytes that were written.
+#[derive(Drop)]
+pub(super) struct Record<'a> {
+    pub(super) units: &'a [usize],
+    pub(super) files: &'a [(String, Vec<u8>)],
+    pub(super) pool: &'a [u8],
+}
 
 // Whether a step is a write.
 fn writes(step: Step) -> bool
@@ -14,6 +23,7 @@ fn writes(step: Step) -> bool
 {
     match step {
         Step::Write { .. } => true,
+        Step::Create { .. } => false,
         Step::Sync => false,
         Step::Print { .. } => false,
         Step::Pass => false,
@@ -26,6 +36,7 @@ fn wrote(step: Step) -> bool
 {
     match step {
         Step::Write { is_done, .. } => is_done,
+        Step::Create { .. } => false,
         Step::Sync => false,
         Step::Print { .. } => false,
         Step::Pass => false,
@@ -39,6 +50,7 @@ fn pending_after(step: Step, i: usize, from: usize) -> usize
 {
     match step {
         Step::Write { .. } => from,
+        Step::Create { .. } => from,
         Step::Sync => i + 1,
         Step::Print { .. } => from,
         Step::Pass => from,
@@ -56,46 +68,60 @@ pub(super) fn pending_from(steps: &[Step]) -> usize
     from
 }
 
-// Makes a write again, where it is to be kept. A step that is none does nothing.
-fn redo(files: &mut Vec<(String, Vec<u8>)>, step: Step, units: &[usize], pool: &[u8], is_kept: bool)
-    requires places { AreFirst (shapes_of (files_of files.old.items)) units.now }
-    requires within { IsWritable (attached_in files.old.items units.now) (length pool.now) step }
-    ensures done { files_of files.new.items
-        ≡ with_writes (files_of files.old.items) (if is_kept then
-        writes_in files.old.items units.now pool.now (step ∷ []) else []) }
-    ensures shapes { shapes_of (files_of files.new.items) ≡ shapes_of (files_of files.old.items) }
+// Makes a file again, or a write where it is to be kept. Any other step does nothing.
+fn redo(
+    alloc: Global,
+    files: &mut Vec<(String, Vec<u8>)>,
+    step: Step,
+    source: &Record,
+    is_kept: bool,
+) -> Result<(), AllocError>
+    requires { IsRedoable source.now.files.now source.now.units.now (length source.now.pool.now)
+        files.old.items step }
+    ensures { OnOk result (HasRedone source.now.files.now files.old.items files.new.items
+        (if is_kept_step step is_kept then
+        changes_in source.now.files.now source.now.units.now source.now.pool.now (step ∷ []) else [])
+        (files_made (step ∷ []))) }
 {
-    if let Step::Write {
-        unit,
-        at,
-        start,
-        len,
-        ..
-    } = step
-    {
-        write_file(
-            files,
-            units[unit as usize],
+    match step {
+        Step::Write {
+            unit,
             at,
-            &pool[start..start + len],
-            is_kept,
-        );
+            start,
+            len,
+            ..
+        } => {
+            let bytes = &source.pool[start..start + len];
+            write_file(files, source.units[unit as usize], at, bytes, is_kept);
+        }
+        Step::Create { unit } => {
+            let pair = new_pair(alloc, &source.files[source.units[unit as usize]])?;
+            files.push(pair)?;
+        }
+        Step::Sync => {}
+        Step::Print { .. } => {}
+        Step::Pass => {}
     }
+    Ok(())
 }
 
-// Makes the writes again that were done.
-fn apply_done(files: &mut Vec<(String, Vec<u8>)>, steps: &[Step], units: &[usize], pool: &[u8])
-    requires places { AreFirst (shapes_of (files_of files.old.items)) units.now }
-    requires within { AreWritable (attached_in files.old.items units.now)
-        (length pool.now) steps.now }
-    ensures done { files_of files.new.items
-        ≡ with_writes (files_of files.old.items)
-        (done_of (writes_in files.old.items units.now pool.now steps.now)) }
-    ensures shapes { shapes_of (files_of files.new.items) ≡ shapes_of (files_of files.old.items) }
+// Makes the files and the writes again that were done.
+fn apply_done(
+    alloc: Global,
+    files: &mut Vec<(String, Vec<u8>)>,
+    steps: &[Step],
+    source: &Record,
+) -> Result<(), AllocError>
+    requires { AreRedoable source.now.files.now source.now.units.now (length source.now.pool.now)
+        files.old.items steps.now }
+    ensures { OnOk result (HasRedone source.now.files.now files.old.items files.new.items
+        (done_of (changes_in source.now.files.now source.now.units.now source.now.pool.now steps.now))
+        (files_made steps.now)) }
 {
     for step in steps {
-        redo(files, *step, units, pool, wrote(*step));
+        redo(alloc, files, *step, source, wrote(*step))?;
     }
+    Ok(())
 }
 
 // The flag at a place; a missing one counts as false.
@@ -105,70 +131,58 @@ fn flag_at(keep: &[bool], next: usize) -> bool
     next < keep.len() && keep[next]
 }
 
-// Makes a write again whose flag is true, and gives the place of the flag behind it.
-fn redo_flagged(
-    files: &mut Vec<(String, Vec<u8>)>,
-    step: Step,
-    units: &[usize],
-    pool: &[u8],
-    keep: &[bool],
-    next: usize,
-) -> usize
-    requires places { AreFirst (shapes_of (files_of files.old.items)) units.now }
-    requires within { IsWritable (attached_in files.old.items units.now) (length pool.now) step }
-    requires fits { next + 1 < 2 ^ 64 }
-    ensures done { (ws : List Write) → with_writes (files_of files.old.items)
-        (kept (drop next keep.now) (writes_in files.old.items units.now pool.now (step ∷ []) ++ ws))
-        ≡ with_writes (files_of files.new.items) (kept (drop result keep.now) ws) }
-    ensures shapes { shapes_of (files_of files.new.items) ≡ shapes_of (files_of files.old.items) }
-    ensures next { result ≤ next + 1 }
+// The place of the flag behind that of a step.
+fn next_flag(step: Step, next: usize) -> usize
+    requires { next + 1 < 2 ^ 64 }
+    ensures { result ≡ (if is_write step then next + 1 else next) }
 {
-    redo(files, step, units, pool, flag_at(keep, next));
     if writes(step) { next + 1 } else { next }
 }
 
-// Makes the writes again whose flag is true; a missing flag counts as false.
+// Makes the files again, and the writes whose flag is true; a missing flag counts as false.
 fn apply_kept(
+    alloc: Global,
     files: &mut Vec<(String, Vec<u8>)>,
     steps: &[Step],
-    units: &[usize],
-    pool: &[u8],
+    source: &Record,
     keep: &[bool],
-)
-    requires places { AreFirst (shapes_of (files_of files.old.items)) units.now }
-    requires within { AreWritable (attached_in files.old.items units.now)
-        (length pool.now) steps.now }
-    ensures { files_of files.new.items
-        ≡ with_writes (files_of files.old.items)
-        (kept keep.now (writes_in files.old.items units.now pool.now steps.now)) }
+) -> Result<(), AllocError>
+    requires { AreRedoable source.now.files.now source.now.units.now (length source.now.pool.now)
+        files.old.items steps.now }
+    ensures { OnOk result (files_of files.new.items ≡ with_changes (files_of files.old.items)
+        (kept keep.now
+        (changes_in source.now.files.now source.now.units.now source.now.pool.now steps.now))) }
 {
     let mut next = 0;
     for step in steps {
-        next = redo_flagged(files, *step, units, pool, keep, next);
+        redo(alloc, files, *step, source, flag_at(keep, next))?;
+        next = next_flag(*step, next);
     }
+    Ok(())
 }
 
-// Makes the writes again that a stop leaves: those before a place that were done, and over them those
-// from it on whose flag is true.
+// Makes the changes again that a stop leaves: those before a place that were done, and over them the
+// files made from it on and the writes whose flag is true.
 pub(super) fn apply_left(
+    alloc: Global,
     files: &mut Vec<(String, Vec<u8>)>,
     steps: &[Step],
     from: usize,
-    units: &[usize],
-    pool: &[u8],
+    source: &Record,
     keep: &[bool],
-)
-    requires places { AreFirst (shapes_of (files_of files.old.items)) units.now }
-    requires within { AreWritable (attached_in files.old.items units.now)
-        (length pool.now) steps.now }
+) -> Result<(), AllocError>
+    requires within { AreRedoable source.now.files.now source.now.units.now (length source.now.pool.now)
+        files.old.items steps.now }
     requires inside { from ≤ length steps.now }
-    ensures { files_of files.new.items ≡ with_writes
-        (with_writes (files_of files.old.items)
-        (done_of (writes_in files.old.items units.now pool.now (take from steps.now))))
-        (kept keep.now (writes_in files.old.items units.now pool.now (drop from steps.now))) }
+    ensures { OnOk result (files_of files.new.items ≡ with_changes
+        (with_changes (files_of files.old.items)
+        (done_of (changes_in source.now.files.now source.now.units.now source.now.pool.now (take from steps.now))))
+        (kept keep.now
+        (changes_in source.now.files.now source.now.units.now source.now.pool.now (drop from steps.now)))) }
 {
-    apply_done(files, &steps[..from], units, pool);
-    apply_kept(files, &steps[from..], units, pool, keep);
+    apply_done(alloc, files, &steps[..from], source)?;
+    apply_kept(alloc, files, &steps[from..], source, keep)?;
+    Ok(())
 }
 
 // Adds the bytes that a step printed.

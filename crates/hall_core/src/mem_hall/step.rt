@@ -5,6 +5,8 @@
 pub enum Call {
     /// A file was to be attached.
     Attach,
+    /// A file was to be made and attached.
+    Create,
     /// Bytes of a unit were to be read, from the offset `at` on, in bytes.
     Read { unit: u8, at: u64 },
     /// Bytes were to be written over those of a unit, from the offset `at` on, in bytes.
@@ -15,7 +17,8 @@ pub enum Call {
     Print,
 }
 
-/// What a call did: a write, done or failed; a sync; a print; or nothing that stays.
+/// What a call did: a write, done or failed; a file made and attached as this unit; a sync; a print;
+/// or nothing that stays.
 ///
 /// The bytes are `len` of those written, or printed, from `start` on.
 #[derive(Clone, Copy, Debug)]
@@ -26,6 +29,9 @@ pub enum Step {
         start: usize,
         len: usize,
         is_done: bool,
+    },
+    Create {
+        unit: u8,
     },
     Sync,
     Print {

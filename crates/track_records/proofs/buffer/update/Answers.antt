@@ -43,23 +43,23 @@ write-requires-clause-inside g c =
     let inside : 512 + c.from.result * c.from-2.result + c.put-place.result + length c.content.result.now ≤ (unit_of units b.unit).size = omega (arith, fits, c.put-place.ensures.inside, track_is g c, ap length (content_is g c)) in
     subst (λ (u : ℕ). 512 + c.from.result * c.from-2.result + c.put-place.result + length c.content.result.now ≤ (unit_of units u).size) (sym (unit_is g c)) inside
 
-pub returns-in_err-write-clause-told : goal.returns-in_err-write-clause-told
-returns-in_err-write-clause-told g c told =
-    let w = (goal.at.returns-in_err-write-clause-told g c).After-content in
+pub returns-in_err-write-clause-files : goal.returns-in_err-write-clause-files
+returns-in_err-write-clause-files g c told =
+    let w = (goal.at.returns-in_err-write-clause-files g c).After-content in
     write_failed c.from_residual.result c.from_residual.ensures.0
-    (same_write _ _ _ _ _ _ (ap (λ (u : ℕ). (unit_of (g.H.Hall.facts c.args.hall.now).units u).name) (unit_is g w)) (place_is g w) (content_is g w) (c.in_err-write.ensures.told told))
+    (same_write _ _ _ _ _ _ (ap (λ (u : ℕ). (unit_of (g.H.Hall.facts c.args.hall.now).units u).name) (unit_is g w)) (place_is g w) (content_is g w) (c.in_err-write.ensures.files told))
 
-pub returns-clause-told : goal.returns-clause-told
-returns-clause-told g c told =
-    let w = (goal.at.returns-clause-told g c).After-content in
+pub returns-clause-files : goal.returns-clause-files
+returns-clause-files g c told =
+    let w = (goal.at.returns-clause-files g c).After-content in
     write_done tt
-    (same_write _ _ _ _ _ _ (ap (λ (u : ℕ). (unit_of (g.H.Hall.facts c.args.hall.now).units u).name) (unit_is g w)) (place_is g w) (content_is g w) (c.in_ok-write.ensures.told told))
+    (same_write _ _ _ _ _ _ (ap (λ (u : ℕ). (unit_of (g.H.Hall.facts c.args.hall.now).units u).name) (unit_is g w)) (place_is g w) (content_is g w) (c.in_ok-write.ensures.files told))
 
 pub returns-clause-record : goal.returns-clause-record
 returns-clause-record g c told stands =
     let w = (goal.at.returns-clause-record g c).After-content in
-    let write = same_write _ _ _ _ _ _ (ap (λ (u : ℕ). (unit_of (g.H.Hall.facts c.args.hall.now).units u).name) (unit_is g w)) (place_is g w) (content_is g w) (c.in_ok-write.ensures.told told) in
+    let write = same_write _ _ _ _ _ _ (ap (λ (u : ℕ). (unit_of (g.H.Hall.facts c.args.hall.now).units u).name) (unit_is g w)) (place_is g w) (content_is g w) (c.in_ok-write.ensures.files told) in
     let b = c.args.buf.now in
     let new = image_of (g.H.Hall.meaning c.write.new.self).state (g.H.Hall.facts c.write.new.self) b.unit in
-    let is = unit_updated _ _ (g.H.Hall.facts c.args.hall.now) (g.H.Hall.facts c.write.new.self) c.args.buf.now (c.args.r - 1) c.args.key.now c.args.payload.now (g.met.H.Hall.whole c.args.hall.now told) c.requires.track c.requires.there c.in_ok-write.ensures.call.units write.done stands in
+    let is = unit_updated _ _ (g.H.Hall.facts c.args.hall.now) (g.H.Hall.facts c.write.new.self) c.args.buf.now (c.args.r - 1) c.args.key.now c.args.payload.now (g.met.H.Hall.whole c.args.hall.now told) c.requires.track c.requires.there c.in_ok-write.ensures.faults.units write.done stands in
     (is, subst (StandsOn new) (sym w.put-place.ensures.buffer) (stands_written b (c.args.r - 1) c.args.key.now c.args.payload.now _ new is stands))

@@ -1,6 +1,9 @@
-use Rattle.std.proofs.Common.{◌≡◌, ◌++◌, map, drop}
-use Rattle.util_syntax.specs.Items.{item_view, items_behind}
+use Rattle.std.proofs.Common.{◌≡◌, ◌++◌, length, map}
+use Rattle.util_syntax.specs.Items.{item_view, items_within, items_of}
 use Rattle.util_syntax.proofs.items.statements.Given as goal
 
-abbrev pub invariant-loop-i : goal.invariant-loop-i
-invariant-loop-i l = map item_view l.items.items ++ items_behind l.passed (drop l.i l.cards) ≡ items_behind 0 l.cards
+abbrev pub decreases-statements : goal.decreases-statements
+decreases-statements l = length l.rest
+
+abbrev pub invariant-statements : goal.invariant-statements
+invariant-statements l = map item_view l.items.items ++ items_within (length l.rest) l.rest ≡ items_of l.cards

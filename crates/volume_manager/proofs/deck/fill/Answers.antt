@@ -12,6 +12,6 @@ loop-count-preserved g c =
     record {
       inside = omega arith;
       length_stays = same ∙ c.loop-count.invariant.length_stays;
-      next = λ tells. read_on bytes c.read.new.buf _ _ _ count c.in_ok-given.given c.loop-count.invariant.inside within (c.loop-count.invariant.next tells) (c.in_ok-given.ensures.told tells).next;
+      next = λ tells. read_on bytes c.read.new.buf _ _ _ count c.in_ok-given.given c.loop-count.invariant.inside within (c.loop-count.invariant.next tells) (c.in_ok-given.ensures.files tells).next;
       faults = c.in_ok-given.ensures.done ∙ c.loop-count.invariant.faults;
     }

@@ -17,11 +17,11 @@ returns-in-Ok-clause-stands g c told =
     let stands : StandsOn image was = (Some c.args.place.number, read) in
     (slot_held image c.args.buf.now.geometry c.args.place.track c.args.place.number b.records (c.requires.there told) read, subst (λ (x : Buffer). StandsOn image x) (sym c.in-Ok.ensures.buffer) stands)
 
-pub returns-in-Err-BadCount-clause-call : goal.returns-in-Err-BadCount-clause-call
-returns-in-Err-BadCount-clause-call g c =
-    let was = c.in-Err-BadCount.ensures.call in
+pub returns-in-Err-BadCount-clause-faults : goal.returns-in-Err-BadCount-clause-faults
+returns-in-Err-BadCount-clause-faults g c =
+    let was = c.in-Err-BadCount.ensures.faults in
     let image = image_of (g.H.Hall.meaning c.args.hall.now).state (g.H.Hall.facts c.args.hall.now) c.args.unit in
-    noted was.units was.references was.prints was.later c.differs.ensures.call c.differs.ensures.rose
+    noted was.units was.references was.prints was.later c.differs.ensures.faults c.differs.ensures.rose
     (λ told.
     let broken : IsBroken image c.args.buf.now.geometry (Some c.args.place.number) c.args.place.track (errors.BadCount c.in-Err-BadCount.field-0-0) =
     subst (λ (e : TrackErr). IsBroken image c.args.buf.now.geometry (Some c.args.place.number) c.args.place.track e) c.in-Err-BadCount.field-0-is (c.in-Err-BadCount.ensures.broken told) in

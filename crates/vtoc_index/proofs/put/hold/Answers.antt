@@ -8,13 +8,13 @@ use Rattle.vtoc_index.proofs.put.hold.Goals as goal
 never : false ≡ true → ⊥
 never is = cc
 
-pub returns-then-not-holds_slot-clause-call : goal.returns-then-not-holds_slot-clause-call
-returns-then-not-holds_slot-clause-call g c =
-    let was = c.in_ok-fetch.ensures.call in
+pub returns-then-not-holds_slot-clause-faults : goal.returns-then-not-holds_slot-clause-faults
+returns-then-not-holds_slot-clause-faults g c =
+    let was = c.in_ok-fetch.ensures.faults in
     let b = c.fetch.new.buf in
     let image = image_of (g.H.Hall.meaning c.args.hall.now).state (g.H.Hall.facts c.args.hall.now) c.args.unit in
     let kept = c.in_ok-fetch.ensures.buffer in
-    noted was.units was.references was.prints was.later c.differs.ensures.call c.differs.ensures.rose
+    noted was.units was.references was.prints was.later c.differs.ensures.faults c.differs.ensures.rose
     (λ told.
     let stands = c.in_ok-fetch.ensures.stands told in
     let has : HasSlot image b.geometry b.track c.args.place.number =

@@ -29,12 +29,12 @@ hold-requires-clause-there g c told =
     (subst (λ (n : ℕ). HasSlot image v.buf.geometry (track_of v c.args.slot) n) (sym place.ensures.number)
     (subst (λ (x : Geometry). HasSlot image x (track_of v c.args.slot) (front_of v c.args.slot + 1)) (sym c.requires.unit.buffer.0) f.has))
 
-pub returns-in_err-hold-clause-told : goal.returns-in_err-hold-clause-told
-returns-in_err-hold-clause-told g c told = record {
+pub returns-in_err-hold-clause-files : goal.returns-in_err-hold-clause-files
+returns-in_err-hold-clause-files g c told = record {
   bytes = c.encode-bytes.result;
   dscb = c.encode-bytes.ensures.decoded;
   size = search rules;
-  write = not_begun c.from_residual.result c.from_residual.ensures.0 (c.in_err-hold.ensures.told told);
+  write = not_begun c.from_residual.result c.from_residual.ensures.0 (c.in_err-hold.ensures.files told);
   kept =
       let image = image_of (g.H.Hall.meaning c.args.hall.now).state (g.H.Hall.facts c.args.hall.now) c.args.vol.now.unit in
       slot_put image c.args.vol.now c.args.slot c.args.dscb.now c.encode-bytes.result (c.requires.index told) c.requires.slot (search rules) c.encode-bytes.ensures.decoded;
@@ -44,14 +44,14 @@ returns-in_err-hold-clause-told g c told = record {
 -- the write is one of the slot's bytes at its place
 name_is : (g : Over) (c : After-update g) → (unit_of (g.H.Hall.facts c.hold.new.hall).units c.hold.new.buf.unit).name ≡ (unit_of (g.H.Hall.facts c.args.hall.now).units c.args.vol.now.unit).name
 name_is g c =
-    ap (λ (us : List Attached). (unit_of us c.hold.new.buf.unit).name) c.in_ok-hold.ensures.call.units
+    ap (λ (us : List Attached). (unit_of us c.hold.new.buf.unit).name) c.in_ok-hold.ensures.faults.units
     ∙ ap (λ (u : ℕ). (unit_of (g.H.Hall.facts c.args.hall.now).units u).name) (c.in_ok-hold.ensures.kept.1 ∙ c.requires.unit.buffer.1)
 
 front_is : (g : Over) (c : After-update g) → c.place_of-place.result.number - 1 ≡ front_of c.args.vol.now c.args.slot
 front_is g c = omega (arith, c.place_of-place.ensures.number)
 
 image_is : (g : Over) (c : After-update g) → IsTrue g.H.Hall.tells → image_of (g.H.Hall.meaning c.hold.new.hall).state (g.H.Hall.facts c.hold.new.hall) c.args.vol.now.unit ≡ image_of (g.H.Hall.meaning c.args.hall.now).state (g.H.Hall.facts c.args.hall.now) c.args.vol.now.unit
-image_is g c told = same_image _ _ (g.H.Hall.facts c.args.hall.now) (g.H.Hall.facts c.hold.new.hall) c.args.vol.now.unit c.args.vol.now.unit (c.in_ok-hold.ensures.told told).state c.in_ok-hold.ensures.call.units refl
+image_is g c told = same_image _ _ (g.H.Hall.facts c.args.hall.now) (g.H.Hall.facts c.hold.new.hall) c.args.vol.now.unit c.args.vol.now.unit (c.in_ok-hold.ensures.files told).state c.in_ok-hold.ensures.faults.units refl
 
 place_is : (g : Over) (c : After-update g) → IsTrue g.H.Hall.tells → place_of c.hold.new.buf (c.place_of-place.result.number - 1) ≡ place_of_slot c.args.vol.now c.args.slot
 place_is g c told =
@@ -67,9 +67,9 @@ place_is g c told =
 bytes_is : (g : Over) (c : After-update g) → c.split_at.result.0.now ++ c.split_at.result.1.now ≡ c.encode-bytes.result
 bytes_is g c = ap (λ (l : List ℕ). l ++ c.split_at.result.1.now) c.split_at.ensures.front ∙ ap (λ (l : List ℕ). take 44 c.encode-bytes.result ++ l) c.split_at.ensures.back ∙ take-append-drop 44 c.encode-bytes.result
 
-pub returns-in_err-update-clause-told : goal.returns-in_err-update-clause-told
-returns-in_err-update-clause-told g c told =
-    let w = (goal.at.returns-in_err-update-clause-told g c).After-update in
+pub returns-in_err-update-clause-files : goal.returns-in_err-update-clause-files
+returns-in_err-update-clause-files g c told =
+    let w = (goal.at.returns-in_err-update-clause-files g c).After-update in
     record {
       bytes = c.encode-bytes.result;
       dscb = c.encode-bytes.ensures.decoded;
@@ -77,7 +77,7 @@ returns-in_err-update-clause-told g c told =
       write =
           write_failed c.from_residual-in_err-update.result c.from_residual-in_err-update.ensures.0
           (same_write _ _ _ _ _ _ (name_is g w) (place_is g w told) (bytes_is g w)
-          (after_same _ _ _ _ _ _ (g.met.H.Hall.counts_now c.args.hall.now) (w.in_ok-hold.ensures.told told) _ (c.in_err-update.ensures.told told)));
+          (after_same _ _ _ _ _ _ (g.met.H.Hall.counts_now c.args.hall.now) (w.in_ok-hold.ensures.files told) _ (c.in_err-update.ensures.files told)));
       kept =
           let image = image_of (g.H.Hall.meaning c.args.hall.now).state (g.H.Hall.facts c.args.hall.now) c.args.vol.now.unit in
           slot_put image c.args.vol.now c.args.slot c.args.dscb.now c.encode-bytes.result (c.requires.index told) c.requires.slot (search rules) c.encode-bytes.ensures.decoded;
@@ -92,9 +92,9 @@ replaced g c d = record {
   unit = ap (λ (x : Buffer). x.unit) c.update.ensures.buffer ∙ c.in_ok-hold.ensures.kept.1;
 }
 
-pub returns-clause-told : goal.returns-clause-told
-returns-clause-told g c told =
-    let w = (goal.at.returns-clause-told g c).After-update in
+pub returns-clause-files : goal.returns-clause-files
+returns-clause-files g c told =
+    let w = (goal.at.returns-clause-files g c).After-update in
     let v = c.args.vol.now in
     let image = image_of (g.H.Hall.meaning c.args.hall.now).state (g.H.Hall.facts c.args.hall.now) v.unit in
     let put = image_of (g.H.Hall.meaning c.update.new.hall).state (g.H.Hall.facts c.update.new.hall) v.unit in
@@ -122,7 +122,7 @@ returns-clause-told g c told =
       write =
           write_done tt
           (same_write _ _ _ _ _ _ (name_is g w) (place_is g w told) (bytes_is g w)
-          (after_same _ _ _ _ _ _ (g.met.H.Hall.counts_now c.args.hall.now) (w.in_ok-hold.ensures.told told) _ (c.in_ok-update.ensures.told told)));
+          (after_same _ _ _ _ _ _ (g.met.H.Hall.counts_now c.args.hall.now) (w.in_ok-hold.ensures.files told) _ (c.in_ok-update.ensures.files told)));
       kept = slot_put image v c.args.slot c.args.dscb.now bytes index c.requires.slot size c.encode-bytes.ensures.decoded;
       done = (law, index_put image put v (record v { slots = with_item v.slots c.args.slot c.args.dscb.now; buf = c.update.new.buf }) c.args.slot c.args.dscb.now index law (replaced g w c.args.dscb.now) held);
     }

@@ -28,7 +28,7 @@ pub returns-in-Err-BadCount-clause-refused : goal.returns-in-Err-BadCount-clause
 returns-in-Err-BadCount-clause-refused g c told =
     let at = c.args.at in
     let image = image_of (g.H.Hall.meaning c.args.hall.now).state (g.H.Hall.facts c.args.hall.now) c.args.unit in
-    let same = same_image (g.H.Hall.meaning c.read_records.new.hall).state (g.H.Hall.meaning c.args.hall.now).state (g.H.Hall.facts c.read_records.new.hall) (g.H.Hall.facts c.args.hall.now) c.args.unit (c.in-Err-BadCount.ensures.told told).state c.in-Err-BadCount.ensures.call.units in
+    let same = same_image (g.H.Hall.meaning c.read_records.new.hall).state (g.H.Hall.meaning c.args.hall.now).state (g.H.Hall.facts c.read_records.new.hall) (g.H.Hall.facts c.args.hall.now) c.args.unit (c.in-Err-BadCount.ensures.files told).state c.in-Err-BadCount.ensures.faults.units in
     let broken = broken_none image c.args.buf.now.geometry None c.track.result _ c.in-Err-BadCount.field-0-0 c.in-Err-BadCount.field-0-is (c.in-Err-BadCount.ensures.broken told) in
     let none =
     ap (λ (i : List ℕ). records_on i c.args.geometry None (track_of_address c.args.geometry at)) same

@@ -55,13 +55,13 @@ returns-in_err-count-clause-buffer g c =
     let read = buffer_read c.loop-track.buf c.read_track.new.buf c.args.unit c.loop-track.track c.read_track.new.buf.records c.in_err-count.ensures.buffer in
     (read.geometry ∙ c.loop-track.invariant.geometry, read.unit_is)
 
-pub returns-in_err-count-clause-told : goal.returns-in_err-count-clause-told
-returns-in_err-count-clause-told g c told = same_then (c.loop-track.invariant.told told) (c.in_err-count.ensures.told told)
+pub returns-in_err-count-clause-files : goal.returns-in_err-count-clause-files
+returns-in_err-count-clause-files g c told = same_then (c.loop-track.invariant.told told) (c.in_err-count.ensures.files told)
 
-pub returns-in_err-count-clause-call : goal.returns-in_err-count-clause-call
-returns-in_err-count-clause-call g c =
+pub returns-in_err-count-clause-faults : goal.returns-in_err-count-clause-faults
+returns-in_err-count-clause-faults g c =
     let p = err_from_is_err_and c.from_residual.result c.from_residual.ensures.1 in
-    call_fails _ _ _ c.in_err-count.field-0.0 c.from_residual.result c.loop-track.invariant.facts c.in_err-count.ensures.call (p.1 ∙ ap Err p.2)
+    call_fails _ _ _ c.in_err-count.field-0.0 c.from_residual.result c.loop-track.invariant.facts c.in_err-count.ensures.faults (p.1 ∙ ap Err p.2)
 
 pub add-requires-clause-few : goal.add-requires-clause-few
 add-requires-clause-few g c =
@@ -89,14 +89,14 @@ returns-in_err-add-clause-buffer g c =
     let read = buffer_read c.loop-track.buf c.read_track.new.buf c.args.unit c.loop-track.track c.read_track.new.buf.records c.in_ok-count.ensures.buffer in
     (read.geometry ∙ c.loop-track.invariant.geometry, read.unit_is)
 
-pub returns-in_err-add-clause-told : goal.returns-in_err-add-clause-told
-returns-in_err-add-clause-told g c told = same_then (c.loop-track.invariant.told told) (c.in_ok-count.ensures.told told)
+pub returns-in_err-add-clause-files : goal.returns-in_err-add-clause-files
+returns-in_err-add-clause-files g c told = same_then (c.loop-track.invariant.told told) (c.in_ok-count.ensures.files told)
 
-pub returns-in_err-add-clause-call : goal.returns-in_err-add-clause-call
-returns-in_err-add-clause-call g c =
+pub returns-in_err-add-clause-faults : goal.returns-in_err-add-clause-faults
+returns-in_err-add-clause-faults g c =
     let p = err_from_is_err_and c.from_residual-in_err-add.result c.from_residual-in_err-add.ensures.1 in
     let other : c.in_err-add.field-0.0 ≢ Device = λ is. ⊎_elim (λ memory. let no : Memory ≡ Device = sym memory ∙ is in cc) (λ why. let no : VtocTrack c.loop-track.track ≡ Device = sym why.0 ∙ is in cc) c.in_err-add.ensures.refused in
-    call_stays _ _ c.from_residual-in_err-add.result (stay_more _ _ _ c.in_ok-count.count c.loop-track.invariant.facts c.in_ok-count.ensures.call) (not_device (p.1 ∙ ap Err p.2) other)
+    call_stays _ _ c.from_residual-in_err-add.result (stay_more _ _ _ c.in_ok-count.count c.loop-track.invariant.facts c.in_ok-count.ensures.faults) (not_device (p.1 ∙ ap Err p.2) other)
 
 pub loop-track-preserved : goal.loop-track-preserved
 loop-track-preserved g c =
@@ -109,8 +109,8 @@ loop-track-preserved g c =
     let geometry : c.read_track.new.buf.geometry ≡ c.args.geometry = held.geometry ∙ l.invariant.geometry in
     let few = c.in_ok-add.ensures.few in
     record {
-      facts = stay_more _ _ _ c.in_ok-count.count l.invariant.facts c.in_ok-count.ensures.call;
-      told = λ told. same_then (l.invariant.told told) (c.in_ok-count.ensures.told told);
+      facts = stay_more _ _ _ c.in_ok-count.count l.invariant.facts c.in_ok-count.ensures.faults;
+      told = λ told. same_then (l.invariant.told told) (c.in_ok-count.ensures.files told);
       geometry = geometry;
       unit_is = held.unit_is;
       numbers = subst (λ (n : ℕ). AreNumbered n c.add.new.self) next (numbered_more c.args.geometry l.track (l.track - start) few.0 c.read_track.new.buf.records l.found c.add.new.self l.invariant.numbers c.in_ok-add.ensures.firsts few.1 few.2 c.in_ok-add.ensures.slots);
@@ -146,8 +146,8 @@ returns-clause-numbers g c =
 pub returns-clause-buffer : goal.returns-clause-buffer
 returns-clause-buffer g c = (c.loop-track.invariant.geometry, c.loop-track.invariant.unit_is)
 
-pub returns-clause-told : goal.returns-clause-told
-returns-clause-told g c told = c.loop-track.invariant.told told
+pub returns-clause-files : goal.returns-clause-files
+returns-clause-files g c told = c.loop-track.invariant.told told
 
-pub returns-clause-call : goal.returns-clause-call
-returns-clause-call g c = call_done _ _ tt c.loop-track.invariant.facts
+pub returns-clause-faults : goal.returns-clause-faults
+returns-clause-faults g c = call_done _ _ tt c.loop-track.invariant.facts

@@ -29,7 +29,7 @@ returns-in_err-read_others-clause-refused g c told =
     let at = c.args.at in
     let image = image_of (g.H.Hall.meaning c.args.hall.now).state (g.H.Hall.facts c.args.hall.now) c.args.unit in
     let vtoc = c.in_ok-vtoc.vtoc in
-    let same = same_image (g.H.Hall.meaning c.read_first.new.hall).state (g.H.Hall.meaning c.args.hall.now).state (g.H.Hall.facts c.read_first.new.hall) (g.H.Hall.facts c.args.hall.now) c.args.unit (c.in_ok-vtoc.ensures.told told).state c.in_ok-vtoc.ensures.call.units in
+    let same = same_image (g.H.Hall.meaning c.read_first.new.hall).state (g.H.Hall.meaning c.args.hall.now).state (g.H.Hall.facts c.read_first.new.hall) (g.H.Hall.facts c.args.hall.now) c.args.unit (c.in_ok-vtoc.ensures.files told).state c.in_ok-vtoc.ensures.faults.units in
     let first = first_read image c.args.geometry vtoc.start c.read_first.new.buf.records c.new-found.result c.add.new.self c.new-found.ensures.slots c.new-found.ensures.firsts (c.in_ok-vtoc.ensures.read told) c.in_ok-add.ensures.firsts c.in_ok-add.ensures.slots in
     let p = err_from_is_err_and c.from_residual-in_err-read_others.result c.from_residual-in_err-read_others.ensures.1 in
     refuses_at (volume_within image c.args.geometry (vtoc_on image c.args.geometry at)) c.from_residual-in_err-read_others.result c.in_err-read_others.field-0.0 (p.1 ∙ ap Err p.2)
@@ -41,7 +41,7 @@ pub returns-clause-read : goal.returns-clause-read
 returns-clause-read g c told =
     let image = image_of (g.H.Hall.meaning c.args.hall.now).state (g.H.Hall.facts c.args.hall.now) c.args.unit in
     let vtoc = c.in_ok-vtoc.vtoc in
-    let same = same_image (g.H.Hall.meaning c.read_first.new.hall).state (g.H.Hall.meaning c.args.hall.now).state (g.H.Hall.facts c.read_first.new.hall) (g.H.Hall.facts c.args.hall.now) c.args.unit (c.in_ok-vtoc.ensures.told told).state c.in_ok-vtoc.ensures.call.units in
+    let same = same_image (g.H.Hall.meaning c.read_first.new.hall).state (g.H.Hall.meaning c.args.hall.now).state (g.H.Hall.facts c.read_first.new.hall) (g.H.Hall.facts c.args.hall.now) c.args.unit (c.in_ok-vtoc.ensures.files told).state c.in_ok-vtoc.ensures.faults.units in
     let first = first_read image c.args.geometry vtoc.start c.read_first.new.buf.records c.new-found.result c.add.new.self c.new-found.ensures.slots c.new-found.ensures.firsts (c.in_ok-vtoc.ensures.read told) c.in_ok-add.ensures.firsts c.in_ok-add.ensures.slots in
     subst (λ (i : List ℕ). AreTracksRead i c.args.geometry vtoc.start vtoc.len c.read_others.new.found) same
     (c.in_ok-read_others.ensures.read told (subst (λ (i : List ℕ). AreTracksRead i c.args.geometry vtoc.start 1 c.add.new.self) (sym same) first))

@@ -1,3 +1,4 @@
+use Rattle.hall_core.proofs.UnitLemmas.{spares_less}
 use Rattle.std.proofs.Common.{arith}
 use Rattle.hall_core.specs.Held.{files_of, first_pairs}
 use Rattle.hall_core.proofs.RecordLemmas.{IsMore, plain_more}
@@ -6,7 +7,7 @@ use Rattle.std.specs.Prelude.{if◌then◌else◌}
 use Rattle.hall_core.proofs.mem_hall.MemHall.record_plain.Goals as goal
 use Rattle.hall_core.proofs.mem_hall.MemHall.record_plain.Goals.{After-note}
 
-more : (c : After-note) → let s = c.args.self.now in IsMore (files_of (first_pairs s.first s.files.items)) (files_of s.files.items) (files_of s.files.items) s.units.items s.steps.items c.note.new.steps.items s.written.items s.written.items s.printed.items s.printed.items (if c.args.is_sync then synced else passed)
+more : (c : After-note) → let s = c.args.self.now in IsMore (files_of (first_pairs s.first s.files.items)) (files_of s.files.items) (files_of s.files.items) s.units.items s.units.items s.steps.items c.note.new.steps.items s.written.items s.written.items s.printed.items s.printed.items (if c.args.is_sync then synced else passed)
 more c =
     let s = c.args.self.now in
     plain_more _ _ _ _ _ _ s.replay c.args.is_sync c.plain_step.result c.note.new.steps.items c.plain_step.ensures c.note.ensures.steps
@@ -21,3 +22,6 @@ returns-clause-noted c = record {
   room_calls = omega (arith, c.requires.calls);
   room_bytes = omega (arith, c.requires.bytes);
 }
+
+pub invariant_of-self-clause-spares_room : goal.invariant_of-self-clause-spares_room
+invariant_of-self-clause-spares_room c = spares_less c.args.self.now.spares.items c.args.self.now.room_bytes _ (omega arith) c.args.self.now.spares_room

@@ -1,3 +1,4 @@
+use Rattle.hall_core.proofs.UnitLemmas.{spares_less}
 use Rattle.std.proofs.Common.{arith}
 use Rattle.hall_core.specs.Held.{files_of, first_pairs}
 use Rattle.hall_core.specs.History.{printed}
@@ -5,7 +6,7 @@ use Rattle.hall_core.proofs.RecordLemmas.{IsMore, print_more}
 use Rattle.hall_core.proofs.mem_hall.MemHall.record_print.Goals as goal
 use Rattle.hall_core.proofs.mem_hall.MemHall.record_print.Goals.{After-note}
 
-more : (c : After-note) → let s = c.args.self.now in IsMore (files_of (first_pairs s.first s.files.items)) (files_of s.files.items) (files_of s.files.items) s.units.items s.steps.items c.note.new.steps.items s.written.items s.written.items s.printed.items c.append-start.new.pool.items (printed c.args.bytes.now)
+more : (c : After-note) → let s = c.args.self.now in IsMore (files_of (first_pairs s.first s.files.items)) (files_of s.files.items) (files_of s.files.items) s.units.items s.units.items s.steps.items c.note.new.steps.items s.written.items s.written.items s.printed.items c.append-start.new.pool.items (printed c.args.bytes.now)
 more c =
     let s = c.args.self.now in
     print_more _ _ _ _ _ _ s.replay c.args.bytes.now c.append-start.new.pool.items c.append-start.result c.note.new.steps.items c.append-start.ensures.start c.append-start.ensures.added c.note.ensures.steps
@@ -20,3 +21,6 @@ returns-clause-noted c = record {
   room_calls = omega (arith, c.requires.calls);
   room_bytes = omega (arith, c.requires.bytes);
 }
+
+pub invariant_of-self-clause-spares_room : goal.invariant_of-self-clause-spares_room
+invariant_of-self-clause-spares_room c = spares_less c.args.self.now.spares.items c.args.self.now.room_bytes _ (omega arith) c.args.self.now.spares_room

@@ -1,3 +1,4 @@
+use Rattle.hall_core.proofs.UnitLemmas.{spares_less}
 use Rattle.std.proofs.Common.{◌∙◌, ap, sym, subst, arith, List, if◌then◌else◌}
 use Rattle.hall_core.specs.Held.{files_of, first_pairs, shapes_of, units_at}
 use Rattle.hall_core.specs.Facts.{Attached, unit_of}
@@ -15,7 +16,7 @@ write_file-requires c =
     let place = place_read (shapes_of (files_of s.files.items)) s.units.items c.args.unit c.index.result.now s.replay.firsts c.requires.attached c.index.ensures in
     record { first = place.is_first; inside = omega (arith, c.requires.inside, ap (λ (u : Attached). u.size) place.shape) }
 
-more : (c : After-note) → let s = c.args.self.now in let units = units_at (shapes_of (files_of s.files.items)) s.units.items in IsMore (files_of (first_pairs s.first s.files.items)) (files_of s.files.items) (files_of c.write_file.new.files.items) s.units.items s.steps.items c.note.new.steps.items s.written.items c.append-start.new.pool.items s.printed.items s.printed.items (wrote (record { name = (unit_of units c.args.unit).name; at = c.args.at; bytes = c.args.bytes.now; is_done = c.args.is_done }))
+more : (c : After-note) → let s = c.args.self.now in let units = units_at (shapes_of (files_of s.files.items)) s.units.items in IsMore (files_of (first_pairs s.first s.files.items)) (files_of s.files.items) (files_of c.write_file.new.files.items) s.units.items s.units.items s.steps.items c.note.new.steps.items s.written.items c.append-start.new.pool.items s.printed.items s.printed.items (wrote (record { name = (unit_of units c.args.unit).name; at = c.args.at; bytes = c.args.bytes.now; is_done = c.args.is_done }))
 more c =
     let s = c.args.self.now in
     let place = place_read (shapes_of (files_of s.files.items)) s.units.items c.args.unit c.index.result.now s.replay.firsts c.requires.attached c.index.ensures in
@@ -36,3 +37,6 @@ returns-clause-noted c = record {
   room_calls = omega (arith, c.requires.room.calls);
   room_bytes = omega (arith, c.requires.room.bytes);
 }
+
+pub invariant_of-self-clause-spares_room : goal.invariant_of-self-clause-spares_room
+invariant_of-self-clause-spares_room c = spares_less c.args.self.now.spares.items c.args.self.now.room_bytes _ (omega arith) c.args.self.now.spares_room

@@ -9,11 +9,11 @@ use Rattle.hall_core.proofs.UnitLemmas.{there}
 use Rattle.hall_core.proofs.mem_hall.MemHallHall.attach.Goals as goal
 use Rattle.hall_core.proofs.mem_hall.MemHallHall.attach.Goals.{After-add_unit}
 
-pub returns-then-lacks_room-clause-told : goal.returns-then-lacks_room-clause-told
-returns-then-lacks_room-clause-told c = record { same = same_still (first_files c.args.self.now) (events_of c.args.self.now); there = tt; missing = λ e. absurd (cc (e, c.fault.ensures.error)); memory = λ e. absurd (cc (e, c.fault.ensures.error)) }
+pub returns-then-lacks_room-clause-files : goal.returns-then-lacks_room-clause-files
+returns-then-lacks_room-clause-files c = record { same = same_still (first_files c.args.self.now) (events_of c.args.self.now); there = tt; missing = λ e. absurd (cc (e, c.fault.ensures.error)); memory = λ e. absurd (cc (e, c.fault.ensures.error)) }
 
-pub returns-then-fails-clause-told : goal.returns-then-fails-clause-told
-returns-then-fails-clause-told c =
+pub returns-then-fails-clause-files : goal.returns-then-fails-clause-files
+returns-then-fails-clause-files c =
     let old = c.args.self.now in
     record {
       same = moved (λ m. Same (meaning_of old) m) (first_files old) (first_files c.record_plain.new.self) (events_of old ++ passed ∷ []) (events_of c.record_plain.new.self)
@@ -23,8 +23,8 @@ returns-then-fails-clause-told c =
       memory = λ e. absurd (cc (e, c.fault-then-fails.ensures.error));
     }
 
-pub returns-in_default-clause-told : goal.returns-in_default-clause-told
-returns-in_default-clause-told c =
+pub returns-in_default-clause-files : goal.returns-in_default-clause-files
+returns-in_default-clause-files c =
     let old = c.args.self.now in
     let none = rw (c.deref.ensures.value, c.record_plain.ensures.files) at c.in_default.ensures in
     record {
@@ -42,8 +42,8 @@ found c =
     let image = there (files_of old.files.items) c.in-Some.place c.args.name.now place.0 place.1 in
     (image.0, subst (λ (l : List File). file_of l c.args.name.now ≡ Some image.0) (sym old.replay.present) image.1)
 
-pub returns-clause-told : goal.returns-clause-told
-returns-clause-told c =
+pub returns-clause-files : goal.returns-clause-files
+returns-clause-files c =
     let old = c.args.self.now in
     record {
       same = moved (λ m. Same (meaning_of old) m) (first_files old) (first_files c.add_unit.new.self) (events_of old ++ passed ∷ []) (events_of c.add_unit.new.self)

@@ -9,17 +9,17 @@ use Rattle.hall_core.proofs.CallLemmas.{moved, same_still, same_passed}
 use Rattle.hall_core.proofs.UnitLemmas.{place_read, inside_pairs, unit_read}
 use Rattle.hall_core.proofs.mem_hall.MemHallHall.read.Goals as goal
 
-pub returns-then-lacks_room-clause-told : goal.returns-then-lacks_room-clause-told
-returns-then-lacks_room-clause-told c = same_still (first_files c.args.self.now) (events_of c.args.self.now)
+pub returns-then-lacks_room-clause-files : goal.returns-then-lacks_room-clause-files
+returns-then-lacks_room-clause-files c = same_still (first_files c.args.self.now) (events_of c.args.self.now)
 
-pub returns-then-fails-clause-told : goal.returns-then-fails-clause-told
-returns-then-fails-clause-told c =
+pub returns-then-fails-clause-files : goal.returns-then-fails-clause-files
+returns-then-fails-clause-files c =
     let old = c.args.self.now in
     moved (λ m. Same (meaning_of old) m) (first_files old) (first_files c.record_plain.new.self) (events_of old ++ passed ∷ []) (events_of c.record_plain.new.self)
     c.record_plain.ensures.setup.first c.record_plain.ensures.noted.events (same_passed (first_files old) (events_of old))
 
-pub returns-clause-told : goal.returns-clause-told
-returns-clause-told c =
+pub returns-clause-files : goal.returns-clause-files
+returns-clause-files c =
     let old = c.args.self.now in
     moved (λ m. Same (meaning_of old) m) (first_files old) (first_files c.record_plain.new.self) (events_of old ++ passed ∷ []) (events_of c.record_plain.new.self)
     c.record_plain.ensures.setup.first c.record_plain.ensures.noted.events (same_passed (first_files old) (events_of old))

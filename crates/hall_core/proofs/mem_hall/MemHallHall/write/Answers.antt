@@ -11,18 +11,18 @@ use Rattle.hall_core.proofs.mem_hall.MemHallHall.write.Goals as goal
 abbrev write_of : MemHall → ℕ → ℕ → List ℕ → Bool → Write
 write_of hall unit at bytes is_done = record { name = (unit_of (facts_of hall).units unit).name; at = at; bytes = bytes; is_done = is_done }
 
-pub returns-then-lacks_room-clause-told : goal.returns-then-lacks_room-clause-told
-returns-then-lacks_room-clause-told c = let old = c.args.self.now in write_lacking (first_files old) (events_of old) (unit_of (facts_of old).units c.args.unit).name c.args.at c.args.bytes.now c.fault.result
+pub returns-then-lacks_room-clause-files : goal.returns-then-lacks_room-clause-files
+returns-then-lacks_room-clause-files c = let old = c.args.self.now in write_lacking (first_files old) (events_of old) (unit_of (facts_of old).units c.args.unit).name c.args.at c.args.bytes.now c.fault.result
 
-pub returns-then-next_fails-clause-told : goal.returns-then-next_fails-clause-told
-returns-then-next_fails-clause-told c =
+pub returns-then-next_fails-clause-files : goal.returns-then-next_fails-clause-files
+returns-then-next_fails-clause-files c =
     let old = c.args.self.now in
     let w = write_of old c.args.unit c.args.at c.args.bytes.now false in
     moved (λ m. AfterWrite {T = Unit {0}} w.name w.at w.bytes (meaning_of old) m (Err c.fault-then-next_fails.result)) (first_files old) (first_files c.record_write.new.self) (events_of old ++ wrote w ∷ []) (events_of c.record_write.new.self)
     c.record_write.ensures.setup.first c.record_write.ensures.noted.events (write_failed (first_files old) (events_of old) w refl c.fault-then-next_fails.result)
 
-pub returns-clause-told : goal.returns-clause-told
-returns-clause-told c =
+pub returns-clause-files : goal.returns-clause-files
+returns-clause-files c =
     let old = c.args.self.now in
     let w = write_of old c.args.unit c.args.at c.args.bytes.now true in
     moved (λ m. AfterWrite {T = Unit {0}} {E = HallErr} w.name w.at w.bytes (meaning_of old) m (Ok tt)) (first_files old) (first_files c.record_write-2.new.self) (events_of old ++ wrote w ∷ []) (events_of c.record_write-2.new.self)

@@ -1,25 +1,22 @@
-use Rattle.std.proofs.Common.{◌≡◌, ◌∙◌, [], ◌∷◌, get_or, ap, List, Bool, false, if◌then◌else◌}
-use Rattle.hall_core.specs.Facts.{Attached}
-use Rattle.hall_core.specs.History.{with_writes}
-use Rattle.hall_core.specs.Held.{files_of, shapes_of, units_at}
-use Rattle.hall_core.specs.Replay.{writes_at, is_done_write}
+use Rattle.std.proofs.Common.{[], ◌∷◌, get_or, subst, Bool, false, if◌then◌else◌}
+use Rattle.hall_core.specs.Replay.{changes_in, is_kept_step, files_made, HasRedone}
 use Rattle.hall_core.specs.declared.mem_hall.step.Step.{Step}
 use Rattle.hall_core.specs.declared.mem_hall.step.Step.TheVariants.{Write}
-use Rattle.hall_core.proofs.ReplayLemmas.{done_step, step_read}
+use Rattle.hall_core.proofs.ReplayLemmas.{step_read}
+use Rattle.hall_core.proofs.RedoLemmas.{redoable_at, redone_done}
 use Rattle.hall_core.proofs.mem_hall.replay.apply_done.Goals as goal
+
+pub redo-requires : goal.redo-requires
+redo-requires c =
+    let source = c.args.source.now in
+    let i = c.loop-step.step-index in
+    redoable_at source.files.now source.units.now source.pool.now c.args.files.now.items c.loop-step.files.items c.args.steps.now i _ c.requires c.loop-step-test.true (step_read c.args.steps.now i _ c.loop-step-test.true) c.loop-step.invariant.shapes c.loop-step.invariant.files
 
 pub loop-step-preserved : goal.loop-step-preserved
 loop-step-preserved c =
+    let source = c.args.source.now in
     let steps = c.args.steps.now in
-    let first = files_of c.args.files.now.items in
-    let units = units_at (shapes_of first) c.args.units.now in
-    let here : Step = get_or steps c.loop-step.step-index (Write 0 0 0 0 false) in
-    let files = files_of c.loop-step.files.items in
-    let made : files_of c.redo.new.files.items ≡ with_writes files (if is_done_write here then writes_at units c.args.pool.now (here ∷ []) else []) =
-    c.redo.ensures.done
-    ∙ ap (λ (b : Bool). with_writes files (if b then writes_at (units_at (shapes_of files) c.args.units.now) c.args.pool.now (here ∷ []) else [])) c.wrote.ensures
-    ∙ ap (λ (shapes : List Attached). with_writes files (if is_done_write here then writes_at (units_at shapes c.args.units.now) c.args.pool.now (here ∷ []) else [])) c.loop-step.invariant.shapes in
-    record {
-      made = done_step first units c.args.pool.now steps c.loop-step.step-index here files (files_of c.redo.new.files.items) c.loop-step-test.true (step_read steps c.loop-step.step-index _ c.loop-step-test.true) c.loop-step.invariant.made made;
-      shapes = c.redo.ensures.shapes ∙ c.loop-step.invariant.shapes;
-    }
+    let i = c.loop-step.step-index in
+    let here : Step = get_or steps i (Write 0 0 0 0 false) in
+    redone_done source.files.now source.units.now source.pool.now c.args.files.now.items c.loop-step.files.items c.redo.new.files.items steps i here c.loop-step-test.true (step_read steps i _ c.loop-step-test.true) c.loop-step.invariant
+    (subst (λ (b : Bool). HasRedone source.files.now c.loop-step.files.items c.redo.new.files.items (if is_kept_step here b then changes_in source.files.now source.units.now source.pool.now (here ∷ []) else []) (files_made (here ∷ []))) c.wrote.ensures c.in_ok-redo.ensures)

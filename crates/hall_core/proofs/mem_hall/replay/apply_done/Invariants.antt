@@ -1,12 +1,7 @@
-use Rattle.std.proofs.Common.{◌≡◌, take}
-use Rattle.hall_core.specs.History.{with_writes}
-use Rattle.hall_core.specs.Held.{files_of, shapes_of, units_at}
-use Rattle.hall_core.specs.Replay.{writes_at, done_of}
+use Rattle.std.proofs.Common.{take}
+use Rattle.hall_core.specs.Replay.{changes_in, done_of, files_made, HasRedone}
 use Rattle.hall_core.proofs.mem_hall.replay.apply_done.Given as goal
 
--- the done writes so far were made
+-- what was done so far was made
 abbrev pub invariant-loop-step : goal.invariant-loop-step
-invariant-loop-step l = record {
-  made : files_of l.files.items ≡ with_writes (files_of l.fn.files.items) (done_of (writes_at (units_at (shapes_of (files_of l.fn.files.items)) l.units) l.pool (take l.step-index l.steps)));
-  shapes : shapes_of (files_of l.files.items) ≡ shapes_of (files_of l.fn.files.items);
-}
+invariant-loop-step l = HasRedone l.source.files.now l.fn.files.items l.files.items (done_of (changes_in l.source.files.now l.source.units.now l.source.pool.now (take l.step-index l.steps))) (files_made (take l.step-index l.steps))

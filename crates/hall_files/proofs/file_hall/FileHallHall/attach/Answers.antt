@@ -5,8 +5,8 @@ use Rattle.hall_files.specs.FileHall.{units_of}
 use Rattle.hall_files.proofs.Units.{units_of-push}
 use Rattle.hall_files.proofs.file_hall.FileHallHall.attach.Goals as goal
 
-pub returns-clause-call : goal.returns-clause-call
-returns-clause-call g c =
+pub returns-clause-faults : goal.returns-clause-faults
+returns-clause-faults g c =
     let old = c.args.self.now.units.items in
     let named : string_bytes c.in_ok-name_copy.name_copy ≡ c.args.name.now = search rules in
     let pushed : c.push.new.self.items ≡ old ++ record { name = c.in_ok-name_copy.name_copy; file = c.in_ok-file.file; size = c.in_ok-file.size; is_written = false } ∷ [] = search rules in
@@ -21,4 +21,5 @@ returns-clause-call g c =
       failed = λ e. absurd (cc e);
       others = λ _. uncounted;
       memory = λ e. absurd (cc e);
+      never_exists = λ e. absurd (cc e);
     }

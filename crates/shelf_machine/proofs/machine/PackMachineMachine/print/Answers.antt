@@ -2,19 +2,19 @@ use Rattle.shelf_machine.proofs.Machines.{just_printed, keeps_printed, printed_a
 use Rattle.shelf_machine.proofs.machine.PackMachineMachine.print.Goals as goal
 
 pub returns-in-Ok-clause-shelf : goal.returns-in-Ok-clause-shelf
-returns-in-Ok-clause-shelf g c told = prints_at _ _ c.args.self.now.vol.unit c.print.ensures.call.units (g.H.Hall.meaning c.args.self.now.hall) (g.H.Hall.meaning c.print.new.self) (prints_done _ g.H.Hall.tells (c.args.self.now.durable c.requires.sound told) _ _ (c.in-Ok.ensures.told told))
+returns-in-Ok-clause-shelf g c told = prints_at _ _ c.args.self.now.vol.unit c.print.ensures.faults.units (g.H.Hall.meaning c.args.self.now.hall) (g.H.Hall.meaning c.print.new.self) (prints_done _ g.H.Hall.tells (c.args.self.now.durable c.requires.sound told) _ _ (c.in-Ok.ensures.files told))
 
 pub returns-in-Ok-clause-promise : goal.returns-in-Ok-clause-promise
-returns-in-Ok-clause-promise g c told = printed_at _ _ c.args.self.now.vol.unit c.print.ensures.call.units (g.H.Hall.meaning c.args.self.now.hall) (g.H.Hall.meaning c.print.new.self) (keeps_printed (g.met.H.Hall.counts_now c.args.self.now.hall) (c.print.ensures.told told))
+returns-in-Ok-clause-promise g c told = printed_at _ _ c.args.self.now.vol.unit c.print.ensures.faults.units (g.H.Hall.meaning c.args.self.now.hall) (g.H.Hall.meaning c.print.new.self) (keeps_printed (g.met.H.Hall.counts_now c.args.self.now.hall) (c.print.ensures.files told))
 
 pub returns-in-Err-clause-shelf : goal.returns-in-Err-clause-shelf
-returns-in-Err-clause-shelf g c told = prints_at _ _ c.args.self.now.vol.unit c.print.ensures.call.units (g.H.Hall.meaning c.args.self.now.hall) (g.H.Hall.meaning c.print.new.self) (prints_failed _ g.H.Hall.tells (c.args.self.now.durable c.requires.sound told) c.fault.result c.fault.ensures.error (c.print.ensures.told told))
+returns-in-Err-clause-shelf g c told = prints_at _ _ c.args.self.now.vol.unit c.print.ensures.faults.units (g.H.Hall.meaning c.args.self.now.hall) (g.H.Hall.meaning c.print.new.self) (prints_failed _ g.H.Hall.tells (c.args.self.now.durable c.requires.sound told) c.fault.result c.fault.ensures.error (c.print.ensures.files told))
 
 pub returns-in-Err-clause-promise : goal.returns-in-Err-clause-promise
-returns-in-Err-clause-promise g c told = printed_at _ _ c.args.self.now.vol.unit c.print.ensures.call.units (g.H.Hall.meaning c.args.self.now.hall) (g.H.Hall.meaning c.print.new.self) (keeps_printed (g.met.H.Hall.counts_now c.args.self.now.hall) (c.print.ensures.told told))
+returns-in-Err-clause-promise g c told = printed_at _ _ c.args.self.now.vol.unit c.print.ensures.faults.units (g.H.Hall.meaning c.args.self.now.hall) (g.H.Hall.meaning c.print.new.self) (keeps_printed (g.met.H.Hall.counts_now c.args.self.now.hall) (c.print.ensures.files told))
 
 pub returns-in-Ok-clause-stays : goal.returns-in-Ok-clause-stays
-returns-in-Ok-clause-stays g c told = just_printed (g.met.H.Hall.counts_now c.args.self.now.hall) (c.print.ensures.told told)
+returns-in-Ok-clause-stays g c told = just_printed (g.met.H.Hall.counts_now c.args.self.now.hall) (c.print.ensures.files told)
 
 pub returns-in-Err-clause-stays : goal.returns-in-Err-clause-stays
-returns-in-Err-clause-stays g c told = just_printed (g.met.H.Hall.counts_now c.args.self.now.hall) (c.print.ensures.told told)
+returns-in-Err-clause-stays g c told = just_printed (g.met.H.Hall.counts_now c.args.self.now.hall) (c.print.ensures.files told)

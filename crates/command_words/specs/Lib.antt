@@ -1,0 +1,4 @@
+pub mod Command
+pub mod Given
+pub mod Requests
+pub mod Values

@@ -1,0 +1,10 @@
+pub mod EmptyLemmas
+pub mod FrontLemmas
+pub mod ImageLemmas
+pub mod LabelLemmas
+pub mod ListLemmas
+pub mod PackLemmas
+pub mod PatchLemmas
+pub mod ReadLemmas
+pub mod RefusalLemmas
+pub mod WriteLemmas

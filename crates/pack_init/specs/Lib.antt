@@ -1,0 +1,3 @@
+pub mod Init
+pub mod Layout
+pub mod Progress
