@@ -1,8 +1,9 @@
 -- An image in which one slot holds a data set's format 1 under another name: it stands for the renamed volume.
-use Rattle.std.proofs.Common.{◌≡◌, inl, ℕ, ◌<◌, Bool, true, false, cond, List, [], ◌∷◌, ◌++◌, map, length, Option, Some, None, refl, sym, ap, ◌∙◌, arith}
+use Rattle.std.proofs.Common.{◌≡◌, inl, ℕ, ◌<◌, Bool, true, false, cond, List, [], ◌∷◌, ◌++◌, map, length, Option, Some, None, refl, sym, ap, subst, ◌∙◌, arith}
 use Rattle.std.specs.Prelude.{◌||◌, is_some, position, slice_get, slice_set, unwrap_or, not, Result, Ok, Err, if◌then◌else◌}
 use Rattle.std.specs.List.{list_any}
 use Rattle.std.specs.Vec.{with_items}
+use Rattle.std.proofs.lemmas.Bool.{or_parts}
 use Rattle.std.proofs.lemmas.List.{length-set, with_items_is}
 use Rattle.std.proofs.lemmas.List.Quantifiers.{position-Some}
 use Rattle.ckd_image.specs.declared.header.Geometry.{Geometry}
@@ -13,7 +14,9 @@ use Rattle.pack_spec.proofs.Lawful.{groups_hold}
 use Rattle.vtoc_index.proofs.HeldDscbs.{dscbs_many}
 use Rattle.pack_spec.specs.declared.MountErr.{MountErr}
 use Rattle.pack_spec.specs.declared.slot.VtocSlot.{VtocSlot}
-use Rattle.pack_spec.specs.Label.{label_of}
+use Rattle.pack_spec.specs.Label.{heads_of, label_of}
+use Rattle.pack_spec.specs.FreeChain.{entries_of, free_entries}
+use Rattle.pack_spec.specs.Settled.{AreGuarded, AreSettled, IsGuarded, IsSettledVtoc, slots_for}
 use Rattle.pack_spec.specs.Slots.{slots_of_vtoc}
 use Rattle.pack_spec.specs.Rules.{front_faults, slots_faults, is_f4}
 use Rattle.pack_spec.specs.Volume.{volume_of, volume_with}
@@ -21,6 +24,8 @@ use Rattle.vol_model.specs.declared.contents.Run.{Run}
 use Rattle.vol_model.specs.declared.contents.Volume.{Volume}
 use Rattle.vol_model.specs.declared.refusals.Refusal.{Refusal}
 use Rattle.vol_model.specs.declared.refusals.Refusal.TheVariants.{NoSet, SetExists, WrongKind}
+use Rattle.pack_spec.specs.Owned.{volume_faults}
+use Rattle.vol_model.specs.Space.{free_runs}
 use Rattle.vol_model.specs.Shelf.{has_set, is_catalog, rename_on, rename_refusal, renamed, unless_refused}
 use Rattle.vtoc_index.specs.declared.vol.Vol.{Vol}
 use Rattle.vtoc_index.specs.Index.{IsIndexOf, IsMounted, IsPut, with_dscb, place_of_slot}
@@ -32,9 +37,11 @@ use Rattle.stop_model.specs.Files.{patched}
 use Rattle.std.specs.Option.{option_map}
 use Rattle.std.proofs.lemmas.Slice.Eq.{bytes_eq-Decides}
 use Rattle.ebcdic_names.specs.declared.names.Dsn.{Dsn}
-use Rattle.dadsm_ops.specs.Operations.{DiffersInVtoc}
+use Rattle.pack_spec.specs.Alike.{DifferInVtoc}
 use Rattle.dadsm_ops.proofs.ChangedLists.{any_first, none_passes}
 use Rattle.dadsm_ops.proofs.FoundSets.{content_at}
+use Rattle.dadsm_ops.proofs.RenamedFaults.{runs_alike, volume_alike}
+use Rattle.dadsm_ops.proofs.RenamedGuards.{guarded_alike, settled_alike}
 use Rattle.dadsm_ops.proofs.RenamedSets.{has_set_found, volume_renamed}
 use Rattle.dadsm_ops.proofs.RenamedSlots.{faults_alike, has_named, named_once, put_is_renaming, renamed_slot}
 
@@ -60,10 +67,12 @@ pub record StandsAfter (v : Vol) (stepped : Result Volume Refusal) (image put : 
   pub after : Volume
   pub step : stepped ≡ Ok after
   pub stands : volume_of put ≡ Ok after
-  pub changes : DiffersInVtoc v.geometry v.vtoc image put
+  pub guarded : IsGuarded image → IsGuarded put
+  pub settled : IsSettledVtoc image → IsSettledVtoc put
+  pub changes : DifferInVtoc v.geometry v.vtoc image put
 
 -- a put slot changes a track of the VTOC alone
-pub differs_in_vtoc : (image put : List ℕ) (v : Vol) (slot : ℕ) (d : Dscb) → IsIndexOf image v → slot < length v.slots.items → IsPut v slot d image put → DiffersInVtoc v.geometry v.vtoc image put
+pub differs_in_vtoc : (image put : List ℕ) (v : Vol) (slot : ℕ) (d : Dscb) → IsIndexOf image v → slot < length v.slots.items → IsPut v slot d image put → DifferInVtoc v.geometry v.vtoc image put
 differs_in_vtoc image put v slot d index low is =
     let stands = (slot_found image v slot index low).stands in
     record {
@@ -73,7 +82,7 @@ differs_in_vtoc image put v slot d index low is =
     }
 
 -- and the image itself differs in none
-pub differs_not : (image : List ℕ) (g : Geometry) (vtoc : Run) → DiffersInVtoc g vtoc image image
+pub differs_not : (image : List ℕ) (g : Geometry) (vtoc : Run) → DifferInVtoc g vtoc image image
 differs_not image g vtoc = record { size = refl; header = refl; tracks = λ track outside. refl }
 
 -- a data set doesn't stand in slot 0
@@ -95,6 +104,9 @@ record IsRenaming (image : List ℕ) (v : Vol) (old new : List ℕ) (slot : ℕ)
   low : slot < length v.slots.items
   slots : with_dscb slot d (slots_on_image image v) ≡ map (renamed_slot old new) (slots_on_image image v)
   lawful : slots_faults v.geometry (with_dscb slot d (slots_on_image image v)) ≡ []
+  volume : volume_with v.geometry (unwrap_or (label_of image v.geometry) []) v.vtoc (with_dscb slot d (slots_on_image image v)) ≡ renamed (volume_on_image image v) old (record { bytes = new })
+  whole : volume_faults (volume_with v.geometry (unwrap_or (label_of image v.geometry) []) v.vtoc (with_dscb slot d (slots_on_image image v))) ≡ []
+  free : v.free.items ≡ free_runs (volume_with v.geometry (unwrap_or (label_of image v.geometry) []) v.vtoc (with_dscb slot d (slots_on_image image v)))
   keeps : KeepsExtent slot d (slots_on_image image v)
   apart : list_any (has_named new) (slots_on_image image v) ≡ false
 
@@ -107,12 +119,20 @@ is_renaming image v old new slot f can =
     let at = position-Some (has_named old.bytes) slots slot no_slot can.found in
     let once = named_once old.bytes slots slot groups.2 can.found in
     let is : with_dscb slot d slots ≡ map (renamed_slot old.bytes new.bytes) slots = put_is_renaming old.bytes new.bytes slot slots f content ((bytes_eq-Decides f.name old.bytes).1 can.named) once in
+    let apart : list_any (has_named new.bytes) slots ≡ false = any_first (has_named new.bytes) slots ∙ ap is_some can.absent in
+    let kinds = or_parts (is_catalog old.bytes) (is_catalog new.bytes) can.not_catalog in
+    let label : List ℕ = unwrap_or (label_of image v.geometry) [] in
+    let volume : volume_with v.geometry label v.vtoc (with_dscb slot d slots) ≡ renamed (volume_on_image image v) old.bytes new =
+    ap (volume_with v.geometry label v.vtoc) is ∙ volume_renamed v.geometry label v.vtoc slots old.bytes new kinds.0 kinds.1 apart in
     record {
       low = omega (arith, at.0, dscbs_many v.slots.items slots can.mounted.index.slots);
       slots = is;
       lawful = ap (slots_faults v.geometry) is ∙ faults_alike old.bytes new.bytes v.geometry slots (none_passes (has_named new.bytes) slots can.absent) ∙ can.mounted.lawful;
+      volume = volume;
+      whole = ap volume_faults volume ∙ volume_alike old.bytes new (volume_on_image image v) ∙ can.mounted.whole;
+      free = can.mounted.free ∙ sym (ap free_runs volume ∙ runs_alike old.bytes new (volume_on_image image v));
       keeps = keeps_other slot d slots (λ none. not_first slots f groups.0 (ap (λ (k : ℕ). option_map (λ s. s.content) (slice_get slots k)) (sym none) ∙ content));
-      apart = any_first (has_named new.bytes) slots ∙ ap is_some can.absent;
+      apart = apart;
     }
   where
     no_slot : VtocSlot
@@ -123,7 +143,7 @@ pub rename_put : (image put : List ℕ) (v v' : Vol) (old new : Dsn) (slot : ℕ
     → IsPut v slot (formats.F1 (record f { name = new.bytes })) image put → IsReplaced slot (formats.F1 (record f { name = new.bytes })) v v' → IsHeld put v'.buf → IsMounted put v'
 rename_put image put v v' old new slot f bytes can size dscb written is replaced held =
     let of = is_renaming image v old new slot f can in
-    mounted_put image put v v' slot (formats.F1 (record f { name = new.bytes })) bytes can.mounted of.low size dscb written is replaced held of.keeps of.lawful
+    mounted_put image put v v' slot (formats.F1 (record f { name = new.bytes })) bytes can.mounted of.low size dscb written is replaced held of.keeps of.lawful of.whole of.free
 
 -- an index of the image that a stop leaves
 index_then : Vol → ℕ → Dscb → Vol
@@ -158,6 +178,28 @@ renamed_by image v old new volume is =
     ap (λ (b : Bool). outcome b (has_set volume new.bytes) kept after) (has old.bytes)
     ∙ ap (λ (b : Bool). outcome (is_some (position (has_named old.bytes) (slots_on_image image v))) b kept after) (has new.bytes)
 
+-- An image whose slots are those of another under a new name is guarded and settled as that was.
+module _ (image put : List ℕ) (v : Vol) (old : List ℕ) (new : Dsn) (mounted : IsMounted image v) (slots : slots_on_image put v ≡ map (renamed_slot old new.bytes) (slots_on_image image v)) (stands : volume_of put ≡ Ok (renamed (volume_on_image image v) old new)) where
+  same_space : free_entries (renamed (volume_on_image image v) old new) ≡ free_entries (volume_on_image image v)
+  unfolding renamed
+  same_space = ap (entries_of (heads_of (volume_on_image image v).geometry)) (runs_alike old new (volume_on_image image v))
+
+  keeps_guarded : IsGuarded image → IsGuarded put
+  unfolding renamed volume_with
+  keeps_guarded was =
+      let volume : Volume = volume_on_image image v in
+      let after : Volume = renamed volume old new in
+      let here : AreGuarded (slots_on_image image v) volume = subst (λ (x : Volume). AreGuarded (slots_for image x) x) (volume_is image v was.0 mounted was.1) was.2 in
+      (after, stands, subst (λ (ss : List VtocSlot). AreGuarded ss after) (sym slots) (guarded_alike old new.bytes (slots_on_image image v) volume after same_space here))
+
+  keeps_settled : IsSettledVtoc image → IsSettledVtoc put
+  unfolding renamed volume_with
+  keeps_settled was =
+      let volume : Volume = volume_on_image image v in
+      let after : Volume = renamed volume old new in
+      let here : AreSettled (slots_on_image image v) volume = subst (λ (x : Volume). AreSettled (slots_for image x) x) (volume_is image v was.0 mounted was.1) was.2 in
+      (after, stands, subst (λ (ss : List VtocSlot). AreSettled ss after) (sym slots) (settled_alike old new.bytes (slots_on_image image v) volume after same_space here))
+
 -- Each image with the slot put, also one that a stop leaves, stands for the renamed volume.
 pub rename_stands : (image put : List ℕ) (v : Vol) (old new : Dsn) (slot : ℕ) (f : F1) (bytes : List ℕ) (volume : Volume) → CanRename image v old new slot f → volume_of image ≡ Ok volume → length bytes ≡ 140 → decoded bytes ≡ Ok (formats.F1 (record f { name = new.bytes }))
     → put ≡ patched image (place_of_slot v slot) bytes → IsPut v slot (formats.F1 (record f { name = new.bytes })) image put → StandsAfter v (rename_on old new volume) image put
@@ -168,11 +210,13 @@ rename_stands image put v old new slot f bytes volume can stands size dscb writt
     let of = is_renaming image v old new slot f can in
     let read = rename_put image put v (index_then v slot d) old new slot f bytes can size dscb written is (is_replaced v slot d) (inl refl) in
     let before : volume ≡ volume_on_image image v = volume_is image v volume can.mounted stands in
-    let after : volume_on_image put v ≡ renamed volume old.bytes new =
+    let made : volume_on_image put v ≡ renamed (volume_on_image image v) old.bytes new =
     ap (λ (o : Option (List ℕ)). volume_with g (unwrap_or o []) v.vtoc (slots_on_image put v)) is.label
-    ∙ ap (volume_with g (unwrap_or (label_of image g) []) v.vtoc) (is.slots ∙ of.slots)
-    ∙ volume_renamed g (unwrap_or (label_of image g) []) v.vtoc (slots_on_image image v) old.bytes new of.apart
-    ∙ ap (λ (x : Volume). renamed x old.bytes new) (sym before) in
+    ∙ ap (volume_with g (unwrap_or (label_of image g) []) v.vtoc) is.slots
+    ∙ of.volume in
+    let after : volume_on_image put v ≡ renamed volume old.bytes new = made ∙ ap (λ (x : Volume). renamed x old.bytes new) (sym before) in
+    let slots : slots_on_image put v ≡ map (renamed_slot old.bytes new.bytes) (slots_on_image image v) = is.slots ∙ of.slots in
+    let stands_made : volume_of put ≡ Ok (renamed (volume_on_image image v) old.bytes new) = read.volume ∙ ap Ok made in
     record {
       after = renamed volume old.bytes new;
       step = renamed_by image v old new volume before
@@ -180,6 +224,8 @@ rename_stands image put v old new slot f bytes volume can stands size dscb writt
           ∙ ap (λ (o : Option ℕ). outcome true (is_some o) (is_catalog old.bytes || is_catalog new.bytes) (renamed volume old.bytes new)) can.absent
           ∙ ap (λ (b : Bool). outcome true false b (renamed volume old.bytes new)) can.not_catalog;
       stands = read.volume ∙ ap Ok after;
+      guarded = keeps_guarded image put v old.bytes new can.mounted slots stands_made;
+      settled = keeps_settled image put v old.bytes new can.mounted slots stands_made;
       changes = differs_in_vtoc image put v slot d can.mounted.index of.low is;
     }
 

@@ -1,10 +1,11 @@
 -- The data sets in slots of which the format 1 DSCBs of one name get another, and the volume with these.
 use Rattle.std.proofs.Common.{◌≡◌, ℕ, Bool, true, false, cond, List, [], ◌∷◌, map, length, Option, Some, None, Result, Ok, Err, refl, sym, ap, ◌∙◌}
-use Rattle.std.specs.Prelude.{◌||◌, is_some, position, slice_range}
+use Rattle.std.specs.Prelude.{◌&&◌, ◌||◌, ◌==◌, is_some, not, position, slice_range}
 use Rattle.std.specs.List.{cons_option, filter_map, list_any}
 use Rattle.std.specs.Option.{option_map}
 use Rattle.std.specs.Str.{bytes_eq}
 use Rattle.std.proofs.lemmas.List.{length-map}
+use Rattle.std.proofs.lemmas.Slice.Eq.{bytes_eq-Decides}
 use Rattle.ckd_image.specs.declared.header.Geometry.{Geometry}
 use Rattle.dscb_codec.specs.declared.F1.{F1}
 use Rattle.dscb_codec.specs.declared.Dscb.{Dscb}
@@ -15,32 +16,46 @@ use Rattle.pack_spec.specs.declared.slot.VtocSlot.{VtocSlot}
 use Rattle.pack_spec.specs.Vtoc.{run_of_extent}
 use Rattle.pack_spec.specs.Rules.{counted_extents, is_named, set_in}
 use Rattle.pack_spec.specs.Volume.{attr_of, data_set_of, data_sets_in, volume_with}
+use Rattle.pack_spec.specs.Bodies.{body_of, catalog_of, has_no_block}
 use Rattle.pack_spec.proofs.SetNames.{named_set}
-use Rattle.vol_model.specs.declared.contents.Body.TheVariants.{Other}
+use Rattle.vol_model.specs.declared.contents.Attr.{Attr}
+use Rattle.vol_model.specs.declared.contents.Body.{Body}
+use Rattle.vol_model.specs.declared.contents.Body.TheVariants.{Seq, Other, Unreadable}
 use Rattle.vol_model.specs.declared.contents.DataSet.{DataSet}
 use Rattle.vol_model.specs.declared.contents.Run.{Run}
 use Rattle.vol_model.specs.Order.{in_order}
-use Rattle.vol_model.specs.Shelf.{has_name, has_set, renamed, with_name}
+use Rattle.vol_model.specs.declared.catalogs.CatBody.TheVariants as catalogs
+use Rattle.vol_model.specs.Shelf.{catalog_name, has_name, has_set, is_catalog, organization, renamed, with_name}
 use Rattle.vol_model.proofs.Steps.{any_in_order, renamed_in_order}
-use Rattle.dadsm_ops.proofs.ChangedLists.{any_first}
+use Rattle.dadsm_ops.proofs.ChangedLists.{any_first, list_any-map}
 use Rattle.dadsm_ops.proofs.RenamedSlots.{counted_alike, has_named, renamed_set, renamed_slot, set_in-renamed}
 
-module _ (old : List ℕ) (new : Dsn) where
+-- a name that isn't the catalog's tells nothing of a body
+body_alike : (old new : List ℕ) (attr : Attr) (lstar : List ℕ) → is_catalog old ≡ false → is_catalog new ≡ false → body_of new attr lstar ≡ body_of old attr lstar
+unfolding body_of
+body_alike old new attr lstar no_old no_new =
+    let by : Bool → Body = λ b. cond ((not b && organization attr == 32) && has_no_block lstar) (Seq []) (cond (b || ((not b && organization attr == 32) || (not b && organization attr == 1))) (Unreadable 0) Other) in
+    ap by (no_new ∙ sym no_old)
+
+module _ (old : List ℕ) (new : Dsn) (no_old : is_catalog old ≡ false) (no_new : is_catalog new.bytes ≡ false) where
   -- a data set, under the new name where it had the old one
   set_renamed : (g : Geometry) (slots : List VtocSlot) (f : F1) → data_set_of g (map (renamed_slot old new.bytes) slots) (renamed_set old new.bytes f) ≡ with_name old new (data_set_of g slots f)
   unfolding data_set_of attr_of
   set_renamed g slots f =
-      ap (λ (rows : List (List ℕ)). record { name = record { bytes = (renamed_set old new.bytes f).name }; attr = attr_of (renamed_set old new.bytes f); extents = map (run_of_extent g) rows; body = Other }) (counted_alike old new.bytes slots f)
-      ∙ by_test (bytes_eq f.name old)
+      let h : F1 = renamed_set old new.bytes f in
+      ap (λ (rows : List (List ℕ)). record { name = record { bytes = h.name }; attr = attr_of h; extents = map (run_of_extent g) rows; body = body_of h.name (attr_of h) h.lstar }) (counted_alike old new.bytes slots f)
+      ∙ by_test (bytes_eq f.name old) refl
     where
-      by_test : (b : Bool) → record {
+      by_test : (b : Bool) → bytes_eq f.name old ≡ b → record {
         name = record { bytes = (cond b (record f { name = new.bytes }) f).name };
         attr = attr_of (cond b (record f { name = new.bytes }) f);
         extents = map (run_of_extent g) (counted_extents slots f);
-        body = Other;
+        body = body_of (cond b (record f { name = new.bytes }) f).name (attr_of (cond b (record f { name = new.bytes }) f)) (cond b (record f { name = new.bytes }) f).lstar;
       } ≡ cond b (record (data_set_of g slots f) { name = new }) (data_set_of g slots f)
-      by_test true = refl
-      by_test false = refl
+      by_test true is =
+          let named : is_catalog f.name ≡ false = ap is_catalog ((bytes_eq-Decides f.name old).0 is) ∙ no_old in
+          ap (λ (y : Body). record { name = new; attr = attr_of f; extents = map (run_of_extent g) (counted_extents slots f); body = y }) (body_alike f.name new.bytes (attr_of f) f.lstar named no_new)
+      by_test false is = refl
 
   sets_among : (g : Geometry) (slots some : List VtocSlot)
       → map (data_set_of g (map (renamed_slot old new.bytes) slots)) (filter_map (λ s. set_in s.content) (map (renamed_slot old new.bytes) some)) ≡ map (with_name old new) (map (data_set_of g slots) (filter_map (λ s. set_in s.content) some))
@@ -89,12 +104,25 @@ unfolding volume_with
 has_set_found g label vtoc slots name =
     any_in_order (has_name name) (data_sets_in g slots) ∙ named_in g slots name ∙ any_first (has_named name) slots
 
+-- whether there is a catalog, where it isn't renamed, and none becomes one
+catalog_alike : (old : List ℕ) (new : Dsn) (sets : List DataSet) → is_catalog old ≡ false → is_catalog new.bytes ≡ false → catalog_of (in_order (map (with_name old new) sets)) ≡ catalog_of sets
+unfolding catalog_of
+catalog_alike old new sets no_old no_new =
+    ap (λ (b : Bool). cond b (Some (catalogs.Unreadable 0)) None)
+    (any_in_order (has_name catalog_name) (map (with_name old new) sets) ∙ list_any-map (has_name catalog_name) (has_name catalog_name) (with_name old new) (λ x. by_test x (has_name old x) refl) sets)
+  where
+    by_test : (x : DataSet) (b : Bool) → has_name old x ≡ b → has_name catalog_name (cond b (record x { name = new }) x) ≡ has_name catalog_name x
+    by_test x true is = no_new ∙ sym (ap is_catalog ((bytes_eq-Decides x.name.bytes old).0 is) ∙ no_old)
+    by_test x false is = refl
+
 -- The volume with the slots under another name is the renamed volume.
-pub volume_renamed : (g : Geometry) (label : List ℕ) (vtoc : Run) (slots : List VtocSlot) (old : List ℕ) (new : Dsn) → list_any (has_named new.bytes) slots ≡ false → volume_with g label vtoc (map (renamed_slot old new.bytes) slots) ≡ renamed (volume_with g label vtoc slots) old new
+pub volume_renamed : (g : Geometry) (label : List ℕ) (vtoc : Run) (slots : List VtocSlot) (old : List ℕ) (new : Dsn) → is_catalog old ≡ false → is_catalog new.bytes ≡ false → list_any (has_named new.bytes) slots ≡ false → volume_with g label vtoc (map (renamed_slot old new.bytes) slots) ≡ renamed (volume_with g label vtoc slots) old new
 unfolding volume_with renamed
-volume_renamed g label vtoc slots old new absent =
+volume_renamed g label vtoc slots old new no_old no_new absent =
     let sets : in_order (data_sets_in g (map (renamed_slot old new.bytes) slots)) ≡ in_order (map (with_name old new) (in_order (data_sets_in g slots))) =
-    ap in_order (sets_renamed old new g slots) ∙ sym (renamed_in_order old new (data_sets_in g slots) (named_in g slots new.bytes ∙ absent)) in
+    ap in_order (sets_renamed old new no_old no_new g slots) ∙ sym (renamed_in_order old new (data_sets_in g slots) (named_in g slots new.bytes ∙ absent)) in
+    let catalog : catalog_of (in_order (data_sets_in g (map (renamed_slot old new.bytes) slots))) ≡ catalog_of (in_order (data_sets_in g slots)) =
+    ap catalog_of sets ∙ catalog_alike old new (in_order (data_sets_in g slots)) no_old no_new in
     let many : length (map (renamed_slot old new.bytes) slots) ≡ length slots = length-map slots (renamed_slot old new.bytes) in
     λ i. record {
       serial = record { bytes = slice_range label 4 10 };
@@ -102,5 +130,5 @@ volume_renamed g label vtoc slots old new absent =
       vtoc = vtoc;
       slots = many i;
       sets = sets i;
-      catalog = None;
+      catalog = catalog i;
     }

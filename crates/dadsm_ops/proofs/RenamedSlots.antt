@@ -90,7 +90,7 @@ module _ (old new : List ℕ) where
   set_in-renamed (Ok (formats.F5 f)) = refl
   set_in-renamed (Err e) = refl
 
-  f3-renamed : (c : Content) → is_f3 (renamed_content old new c) ≡ is_f3 c
+  pub f3-renamed : (c : Content) → is_f3 (renamed_content old new c) ≡ is_f3 c
   f3-renamed (Ok formats.F0) = refl
   f3-renamed (Ok (formats.F1 f)) = refl
   f3-renamed (Ok (formats.F3 f)) = refl
@@ -106,7 +106,7 @@ module _ (old new : List ℕ) where
   f4-renamed (Ok (formats.F5 f)) = refl
   f4-renamed (Err e) = refl
 
-  f5-renamed : (c : Content) → is_f5_or_f0 (renamed_content old new c) ≡ is_f5_or_f0 c
+  pub f5-renamed : (c : Content) → is_f5_or_f0 (renamed_content old new c) ≡ is_f5_or_f0 c
   f5-renamed (Ok formats.F0) = refl
   f5-renamed (Ok (formats.F1 f)) = refl
   f5-renamed (Ok (formats.F3 f)) = refl

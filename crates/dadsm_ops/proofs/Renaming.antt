@@ -1,6 +1,6 @@
 -- A set under its new name, put and made durable: what the operation on the volume is then.
 use Rattle.std.proofs.Common.{◌≡◌, ℕ, List, Some, sym, ap, subst, ◌∙◌, get_or}
-use Rattle.std.specs.Prelude.{Result, Ok, Err, slice_get}
+use Rattle.std.specs.Prelude.{Result, Ok, Err, slice_get, slice_set}
 use Rattle.std.proofs.lemmas.Option.{get_or_from_slice_get}
 use Rattle.dscb_codec.specs.declared.Dscb.{Dscb}
 use Rattle.dscb_codec.specs.declared.Dscb.TheVariants as formats
@@ -21,6 +21,8 @@ use Rattle.dadsm_ops.specs.Operations.{Operates, image_named}
 use Rattle.dadsm_ops.specs.Through.{PutsThrough}
 use Rattle.dadsm_ops.proofs.FoundSets.{FoundSet, named_alike, set_found}
 use Rattle.dadsm_ops.proofs.Operating.{LeadsTo, operates, operates_not}
+use Rattle.dadsm_ops.proofs.Reordering.{IsReordered, mounted_reordered, order_changes, put_changes, slot_renamed}
+use Rattle.vtoc_index.specs.Names.{IsRenamed}
 use Rattle.dadsm_ops.proofs.RenamedImages.{CanRename, rename_put, rename_stands, slots_on_image}
 
 -- the DSCB in a slot, under the new name
@@ -60,17 +62,24 @@ module _ (name : List ℕ) (v v' : Vol) (old new : Dsn) (slot : ℕ) (x d : Dscb
     leads : (volume : Volume) → volume_of (image_named m.state name) ≡ Ok volume → LeadsTo name (rename_on old new volume) v m.state put.after
     leads volume before =
         let s = rename_stands (image_named m.state name) (image_named put.after name) v old new slot set.f put.bytes volume can before put.size under_new put.put.written put_new in
-        record { after = s.after; step = s.step; stands = s.stands; changes = record { others = put.put.others; image = s.changes } }
+        record { after = s.after; step = s.step; stands = s.stands; guarded = s.guarded; settled = s.settled; changes = record { others = put.put.others; image = s.changes } }
 
-  -- it is done
-  pub renames : {T X Y : Type 0} {y : X} (answer : T) → v' ≡ record v { slots = v'.slots; buf = v'.buf } → IsReplaced slot d v v' → PutsThrough {T = X} {E = Y} name v slot d v' m n (Ok y) → Operates name (rename_on old new) v' m n (Ok answer)
-  renames answer same replaced put =
+  -- it is done, and the order of names follows
+  pub renames : {T X Y : Type 0} {y : X} (answer : T) (w : Vol) → v' ≡ record v { slots = v'.slots; buf = v'.buf } → IsReordered v' w → IsReplaced slot d v v' → PutsThrough {T = X} {E = Y} name v slot d v' m n (Ok y) → Operates name (rename_on old new) w m n (Ok answer)
+  renames answer w same order replaced put =
       let same_files : (image_named n.state name) ≡ (image_named put.after name) = ap (λ (files : List File). image_named files name) put.step.done.0 in
       let there : IsPut v slot (formats.F1 (record set.f { name = new.bytes })) (image_named m.state name) (image_named n.state name) =
       subst (λ (i : List ℕ). IsPut v slot (formats.F1 (record set.f { name = new.bytes })) (image_named m.state name) i) (sym same_files) (put_new put) in
-      operates name (rename_on old new) v v' same m n _ mounted.volume put.after (leads put _ mounted.volume) answer put.step
-      (rename_put (image_named m.state name) (image_named n.state name) v v' old new slot set.f put.bytes can put.size (under_new put) (same_files ∙ put.put.written) there (subst (λ (y : Dscb). IsReplaced slot y v v') dscb replaced) put.index.buffer)
+      operates name (rename_on old new) v w (order_changes v v' w same order) m n _ mounted.volume put.after (leads put _ mounted.volume) answer put.step
+      (mounted_reordered (image_named n.state name) v' w order
+      (rename_put (image_named m.state name) (image_named n.state name) v v' old new slot set.f put.bytes can put.size (under_new put) (same_files ∙ put.put.written) there (subst (λ (y : Dscb). IsReplaced slot y v v') dscb replaced) put.index.buffer))
 
   -- the device failed
   pub renames_not : {T X Y : Type 0} {result : Result X Y} → v' ≡ record v { slots = v'.slots; buf = v'.buf } → PutsThrough name v slot d v' m n result → Operates {T = T} name (rename_on old new) v' m n (Err Device)
-  renames_not same put = operates_not name (rename_on old new) v v' same m n _ mounted.volume put.after (leads put _ mounted.volume) put.step
+  renames_not same put = operates_not name (rename_on old new) v v' (put_changes v v' same) m n _ mounted.volume put.after (leads put _ mounted.volume) put.step
+
+-- behind the put the data set in the slot has its new name
+pub is_renamed : (v v' : Vol) (old new : Dsn) (slot : ℕ) (x d : Dscb) → IsToRename v.slots.items old.bytes new.bytes slot → x ≡ get_or v.slots.items slot x → d ≡ under_name new.bytes x → IsReplaced slot d v v' → IsRenamed slot v.slots.items v'.slots.items
+is_renamed v v' old new slot x d found read is replaced =
+    let set = set_found old.bytes v.slots.items slot found.found in
+    slot_renamed v.slots.items v'.slots.items slot set.f new.bytes set.low set.set found.absent (replaced.items ∙ ap (slice_set v.slots.items slot) (named_dscb new.bytes v.slots.items slot x d set.f set.set read is))

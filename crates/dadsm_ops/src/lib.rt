@@ -2,6 +2,8 @@
 #![tactic(auto)]
 
 mod naming;
+mod scratching;
 mod through;
 
 pub use naming::rename;
+pub use scratching::scratch;

@@ -192,6 +192,7 @@ impl Reader {
     pub fn finish(self) -> Result<Vec<Card>, DeckErr>
         requires { IsFit self }
         ensures ok { IfOk result (λ cards. deck_of self [] ≡ Ok cards.items) }
+        ensures few { IfOk result (λ cards. length cards.items ≤ 100000) }
         ensures err { IfErr result (λ e. Refuses e (deck_of self [] ≡ Err e) ⊥) }
     {
         let mut reader = self;

@@ -1,5 +1,5 @@
 //! Cards from a source.
-ghost use Rattle.std.specs.Prelude.{◌≡◌, ◌≤◌, IsTrue, IfOk, IfErr, Ok, Err};
+ghost use Rattle.std.specs.Prelude.{◌≡◌, ◌≤◌, [], length, IsTrue, IfOk, IfErr, OnOk, Ok, Err};
 ghost use Rattle.stop_model.specs.Counts.{Rose};
 ghost use Rattle.deck_cards.specs.Deck.{deck, Refuses};
 ghost use Rattle.deck_cards.specs.declared.reader.DeckErr.TheVariants as deck_err;
@@ -28,6 +28,8 @@ impl From<ReadFault> for DeckErr {
 /// bytes gives some cards or an error.
 pub fn read_deck<C: Cards>(alloc: Global, cards: &mut C) -> Result<Vec<Card>, DeckErr>
     ensures cards { IsTrue C.tells → IfOk result (λ v. deck (C.left cards.old) ≡ Ok v.items) }
+    ensures few { IfOk result (λ v. length v.items ≤ 100000) }
+    ensures end { IsTrue C.tells → OnOk result (C.left cards.new ≡ []) }
     ensures causes { IfErr result (λ e. Refuses e (IsTrue C.tells → deck (C.left cards.old) ≡ Err e)
         (Rose (C.faults cards.old) (C.faults cards.new))) }
     ensures later { C.faults cards.old ≤ C.faults cards.new }

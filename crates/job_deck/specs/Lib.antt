@@ -4,5 +4,6 @@ pub mod Deck
 pub mod Statements
 pub mod Pieces
 pub mod ExecOperands
+pub mod Taken
 pub mod DdOperands
 pub mod Jobs

@@ -1,5 +1,5 @@
 -- The parts of a statement: a name, blanks, an operation, blanks, operands.
-use Rattle.std.specs.Prelude.{ℕ, ◌==◌, nat_eq, Bool, false, if◌then◌else◌, List, [], ◌∷◌, codes, length, drop, slice_get, is_none, unwrap_or, replicate}
+use Rattle.std.specs.Prelude.{ℕ, ◌==◌, nat_eq, Bool, false, ◌||◌, if◌then◌else◌, List, [], ◌∷◌, codes, length, drop, slice_get, is_none, unwrap_or, replicate}
 use Rattle.std.specs.Option.{option_map_or}
 use Rattle.std.specs.Cmp.Lexicographic.{pointwise}
 use Rattle.ebcdic_names.specs.declared.names.Name8.{Name8}
@@ -21,6 +21,9 @@ use Rattle.job_deck.specs.declared.statements.Statement.{Statement}
 
 abbrev pub is_text : List ℕ → List ℕ → Bool
 is_text text word = pointwise nat_eq word text
+
+abbrev pub is_either : List ℕ → List ℕ → List ℕ → Bool
+is_either one other text = is_text one text || is_text other text
 
 unfoldable pub operation_of : List ℕ → Operation
 operation_of word =

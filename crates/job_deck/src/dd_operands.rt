@@ -4,19 +4,17 @@ ghost use Rattle.card_text.specs.Operands.{keyed};
 ghost use Rattle.card_text.specs.Values.{text_of};
 ghost use Rattle.jcl_forms.specs.Attributes.{new_value};
 ghost use Rattle.jcl_forms.specs.Dates.{IsDate};
-ghost use Rattle.job_deck.specs.DdOperands.{is_either, plain_key_of, dd_key_of, with_dd_value, with_dd_parts, no_dd_operands, is_class, is_sysout, first_form, with_dd_operand, with_dd_piece, with_dd_pieces, form_or_missing, dd_form_of, set_of};
+ghost use Rattle.job_deck.specs.DdOperands.{plain_key_of, dd_key_of, with_dd_value, with_dd_parts, no_dd_operands, is_class, is_sysout, first_form, with_dd_operand, with_dd_piece, with_dd_pieces, form_or_missing, dd_form_of, set_of};
 ghost use Rattle.job_deck.specs.declared.dd_operands.DdForm.TheVariants as form;
 
 use crate::faults::{JclErr, JclKind, fault_at};
 use crate::job::DdSet;
 use crate::operands::{Piece, is_unbalanced_piece, pieces, with_continuation};
-use crate::statements::Joined;
+use crate::statements::{Joined, is_either};
+use crate::taken::{plain_disposition_of, plain_space_of, whole_set_of};
 use card_text::{Mark, is_word, keyed, missing_place, text_of};
 use ebcdic_names::{Dsn, Serial};
-use jcl_forms::{
-    Dcb, DdAfter, DdPart, DdStatus, Space, attributes_of, data_set_of, disposition_of, expiry_of,
-    space_of, volume_of,
-};
+use jcl_forms::{Dcb, DdAfter, DdPart, DdStatus, Space, attributes_of, expiry_of, volume_of};
 use std::alloc::{AllocError, Global};
 
 // A keyword of DD.
@@ -56,12 +54,6 @@ pub enum DdForm {
     Sysout,
     // Operands with keywords.
     Keyed(DdOperands),
-}
-
-fn is_either(one: &[u8], other: &[u8], text: &[u8]) -> bool
-    ensures { result ≡ is_either one.now other.now text.now }
-{
-    text == one || text == other
 }
 
 // The keyword that has one spelling.
@@ -122,10 +114,10 @@ fn with_dd_value(
 {
     let mut operands = operands;
     match key {
-        DdKey::Dsn => operands.dsn = Some(new_value(operands.dsn, data_set_of(text))?),
-        DdKey::Disp => operands.disp = Some(new_value(operands.disp, disposition_of(text))?),
+        DdKey::Dsn => operands.dsn = Some(new_value(operands.dsn, whole_set_of(text))?),
+        DdKey::Disp => operands.disp = Some(new_value(operands.disp, plain_disposition_of(text))?),
         DdKey::Volume => operands.serial = Some(new_value(operands.serial, volume_of(text))?),
-        DdKey::Space => operands.space = Some(new_value(operands.space, space_of(text))?),
+        DdKey::Space => operands.space = Some(new_value(operands.space, plain_space_of(text))?),
         DdKey::Dcb => operands.dcb = Some(new_value(operands.dcb, attributes_of(text))?),
         DdKey::Label => {
             operands.expires = Some(new_value(operands.expires, expiry_of(date, text))?);

@@ -11,6 +11,7 @@ mod lists;
 mod operands;
 mod reading;
 mod statements;
+mod taken;
 
 pub use deck_cards::{DeckErr, read_deck};
 pub use faults::{JclErr, JclKind};

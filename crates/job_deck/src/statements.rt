@@ -1,6 +1,6 @@
 //! The parts of a statement.
 ghost use Rattle.std.specs.Prelude.{◌≡◌, ◌++◌, IfOk, OnOk};
-ghost use Rattle.job_deck.specs.Statements.{operation_of, behind_slashes, card_operation, name_on, first_operands, joined, statement, blank_name, name_or_blank, column_of, name_faults, operation_column, operation_fault};
+ghost use Rattle.job_deck.specs.Statements.{is_either, operation_of, behind_slashes, card_operation, name_on, first_operands, joined, statement, blank_name, name_or_blank, column_of, name_faults, operation_column, operation_fault};
 
 use crate::deck::DeckCard;
 use crate::faults::{JclErr, JclKind, fault_at};
@@ -42,6 +42,13 @@ pub struct Statement {
     pub name: Text,
     pub operation: Listed<Character>,
     pub operands: Joined,
+}
+
+// Whether a text is one of two.
+pub fn is_either(one: &[u8], other: &[u8], text: &[u8]) -> bool
+    ensures { result ≡ is_either one.now other.now text.now }
+{
+    text == one || text == other
 }
 
 // The operation that a word names.

@@ -4,7 +4,7 @@ use crate::{
     DdAfter, DdPart, DdSet, DdStatus, DdWhat, JclErr, JclKind, Job, Space, SpaceAsk, Step, jobs,
 };
 use card_text::Card;
-use ebcdic_names::{Dsn, Name8, Serial};
+use ebcdic_names::{Dsn, Serial};
 use jcl_forms::Dcb;
 use std::alloc::{AllocError, Global};
 use std::test::Fail;
@@ -94,6 +94,48 @@ fn faults_stand_at_their_columns(rt: HostRuntime) -> Result<(), Fail> {
             16,
             JclKind::BadOperand,
         ),
+        (
+            "//J1 JOB\n//S1 EXEC PGM=A\n//D1 DD DSN=A(M)",
+            3,
+            9,
+            JclKind::BadOperand,
+        ),
+        (
+            "//J1 JOB\n//S1 EXEC PGM=A\n//D1 DD UNIT=A,DSN=A(+1)",
+            3,
+            16,
+            JclKind::BadOperand,
+        ),
+        (
+            "//J1 JOB\n//S1 EXEC PGM=A\n//D1 DD DSN=A,DISP=(OLD,CATLG)",
+            3,
+            15,
+            JclKind::BadOperand,
+        ),
+        (
+            "//J1 JOB\n//S1 EXEC PGM=A\n//D1 DD DISP=(,UNCATLG)",
+            3,
+            9,
+            JclKind::BadOperand,
+        ),
+        (
+            "//J1 JOB\n//S1 EXEC PGM=A\n//D1 DD SPACE=(TRK,(1,1,1))",
+            3,
+            9,
+            JclKind::BadOperand,
+        ),
+        (
+            "//J1 JOB\n//S1 EXEC PGM=A\n//D1 DD DSN=A,UNIT=(",
+            3,
+            9,
+            JclKind::BadOperand,
+        ),
+        (
+            "//J1 JOB\n//S1 EXEC PGM=A\n//D1 DD DISP=MOD,DSNAME=A",
+            3,
+            18,
+            JclKind::BadOperand,
+        ),
     ];
     for (text, card, column, kind) in cases {
         let want = Some(JclErr { card, column, kind });
@@ -102,11 +144,11 @@ fn faults_stand_at_their_columns(rt: HostRuntime) -> Result<(), Fail> {
     Ok(())
 }
 
-const GENERATED_SET: &str = "//J1 JOB
+const LISTED_SET: &str = "//J1 JOB
 //S1 EXEC PGM=IEBGENER
 //SYSPRINT DD SYSOUT=A
 //SYSIN DD DUMMY
-//SYSUT2 DD DSN=TEST.CARDS,DISP=(NEW,KEEP),VOL=SER=WORK01,
+//SYSUT2 DD DSN=TEST.CARDS,DISP=(OLD,KEEP),VOL=SER=WORK01,
 //             UNIT=2314,SPACE=(TRK,(2,1)),
 //             DCB=(RECFM=FB,LRECL=80,BLKSIZE=800)
 //SYSUT1 DD *
@@ -124,9 +166,9 @@ const TWO_JOBS: &str = "//J1 JOB
 //S2 EXEC PGM=A
 //J2 JOB
 //S1 EXEC PGM=IEFBR14,PARM='A''B'
-//D1 DD DSNAME=PAY.LOG(-1),DISP=(MOD,CATLG),VOLUME=SER=V,
-//  LABEL=RETPD=30,SPACE=(CYL,(1,,2000),,CONTIG)
-//D2 DD DSN=LIB(MEMBER),DISP=(,UNCATLG)";
+//D1 DD DSNAME=PAY.LOG,DISP=(OLD,DELETE),VOLUME=SER=V,
+//  LABEL=RETPD=30,SPACE=(CYL,(1,,0),,CONTIG)
+//D2 DD DSN=SYSCTLG,DISP=SHR";
 
 // Cards in no job on both sides of a null statement, a card that continues a statement and so is no JOB, a refused job with
 // more statements, and a job without steps.
@@ -170,7 +212,7 @@ fn data_at(step: &Step, dd: usize) -> Option<(u32, usize)> {
     }
 }
 
-// The set that the first step of the first text makes.
+// The set of the first step of the first text.
 fn is_generated(set: &DdSet) -> bool {
     let space = Space {
         ask: SpaceAsk::Tracks,
@@ -187,7 +229,7 @@ fn is_generated(set: &DdSet) -> bool {
         dsorg: None,
     };
     Some(set.dsn) == Dsn::read("TEST.CARDS").ok()
-        && set.status == DdStatus::New
+        && set.status == DdStatus::Old
         && set.after == DdAfter::Keep
         && set.serial == Serial::read("WORK01").ok()
         && set.space == Some(space)
@@ -195,32 +237,32 @@ fn is_generated(set: &DdSet) -> bool {
         && set.expires == [0, 0, 0]
 }
 
-// The generation that the second text names.
-fn is_last_generation(set: &DdSet) -> bool {
+// The set that the second text scratches.
+fn is_log(set: &DdSet) -> bool {
     let space = Space {
         ask: SpaceAsk::Cylinders,
         primary: 1,
         secondary: 0,
-        dir: 2000,
+        dir: 0,
         contig: true,
     };
-    set.part == DdPart::Generation(-1)
-        && set.status == DdStatus::Mod
-        && set.after == DdAfter::Catlg
+    set.part == DdPart::Whole
+        && set.status == DdStatus::Old
+        && set.after == DdAfter::Delete
         && set.space == Some(space)
         && set.expires == [75, 0, 15]
 }
 
-// The member that the second text names.
-fn is_new_member(set: &DdSet) -> bool {
-    Some(set.part) == Name8::read("MEMBER").ok().map(DdPart::Member)
-        && set.status == DdStatus::New
-        && set.after == DdAfter::Uncatlg
+// The catalog that is there.
+fn is_old_catalog(set: &DdSet) -> bool {
+    Some(set.dsn) == Dsn::read("SYSCTLG").ok()
+        && set.status == DdStatus::Shr
+        && set.after == DdAfter::Keep
 }
 
 #[test]
 fn jobs_have_the_fields_of_their_cards(rt: HostRuntime) -> Result<(), Fail> {
-    let jobs = read(rt.alloc(), GENERATED_SET)?;
+    let jobs = read(rt.alloc(), LISTED_SET)?;
     let step = step_at(&jobs, 0, 0).ok_or("no step")?;
     assert!(rt; is_generated(set_at(step, 2).ok_or("no set")?));
     assert_eq!(rt; data_at(step, 3), Some((9, 2)));
@@ -231,8 +273,8 @@ fn jobs_have_the_fields_of_their_cards(rt: HostRuntime) -> Result<(), Fail> {
     assert!(rt; step_at(&jobs, 0, 0).is_none());
     let step = step_at(&jobs, 1, 0).ok_or("no step of the second job")?;
     assert_eq!(rt; step.parm.as_slice(), b"A'B".as_slice());
-    assert!(rt; is_last_generation(set_at(step, 0).ok_or("no generation")?));
-    assert!(rt; is_new_member(set_at(step, 1).ok_or("no member")?));
+    assert!(rt; is_log(set_at(step, 0).ok_or("no log")?));
+    assert!(rt; is_old_catalog(set_at(step, 1).ok_or("no catalog")?));
     let jobs = read(rt.alloc(), DIVIDED)?;
     let cards = first_cards(rt.alloc(), &jobs)?;
     assert_eq!(rt; cards.as_slice(), [2, 5, 9, 12].as_slice());

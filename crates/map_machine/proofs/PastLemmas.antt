@@ -1,23 +1,20 @@
 -- What one thing more on the record does to the past.
 use Rattle.std.proofs.Common.{◌≡◌, ◌⊎◌, ◌≤◌, ℕ, List, [], ◌∷◌, ◌++◌, drop, length, take, true, refl, sym, subst, ap, ◌∙◌, arith}
 use Rattle.std.proofs.Math.Logic.{⊎_elim, inl, inr}
+use Rattle.std.proofs.Math.Seq.{take-append_seam}
 use Rattle.std.proofs.lemmas.Bool.{cases_lt}
 use Rattle.std.proofs.lemmas.List.{append-nil, drop-append-le, length-append}
-use Rattle.std.proofs.Math.Seq.{take-append_seam}
 use Rattle.std.specs.Prelude.{IsTrue, Ok}
-use Rattle.ebcdic_names.specs.declared.names.Dsn.{Dsn}
 use Rattle.stop_model.specs.Files.{IsPrefixOf}
-use Rattle.stop_model.specs.Moments.{Elapses, Meaning}
+use Rattle.stop_model.specs.Moments.{Elapses, IsDurable, LeftNow, Meaning, Same}
+use Rattle.stop_model.proofs.MomentLemmas.{same_none}
 use Rattle.map_machine.specs.declared.past.Done.{Done}
-use Rattle.map_machine.specs.declared.past.Done.TheVariants.{Printed, Renamed}
+use Rattle.map_machine.specs.declared.past.Done.TheVariants.{Printed}
+use Rattle.map_machine.specs.Held.{Held, meaning_in}
+use Rattle.map_machine.specs.Laws.{counts_now, last_moment}
 use Rattle.map_machine.specs.Past.{Moment, before, before_all, meaning_after, moment_at}
-use Rattle.map_machine.specs.Laws.{last_moment}
 use Rattle.vol_model.specs.declared.contents.Shelf.{Shelf}
-use Rattle.vol_model.specs.declared.requests.Op.TheVariants.{Rename}
-use Rattle.vol_model.specs.Calls.{Applies, Prints}
-use Rattle.vol_model.specs.Events.{behind}
-use Rattle.vol_model.specs.Shelf.{IsLawful, step}
-use Rattle.vol_model.proofs.Steps.{undone}
+use Rattle.vol_model.specs.Calls.{Prints}
 
 before_all-more : (log : List Done) (done : Done) (now : Moment) → before_all (log ++ done ∷ []) now ≡ before_all log (before done now)
 before_all-more [] done now = refl
@@ -56,38 +53,29 @@ module _ (log : List Done) (done : Done) (now later : Moment) (is : before done 
           (k, low, omega (arith, length-append log (done ∷ [])), ap (λ (m : Moment). m.shelf) same ∙ left.3, ap (λ (m : Moment). m.text) same ∙ left.4);
     }
 
--- nothing happens
-pub elapses-none : (log : List Done) (now : Moment) (P : Shelf → List ℕ → Type 0) (m : Meaning Shelf) → m ≡ meaning_after log now → Elapses (meaning_after log now) m P
-elapses-none log now P m same =
-    subst (λ n. Elapses (meaning_after log now) n P) (sym same) (record { later = omega arith; moments = λ t shelf text early left. inl left; keeps = λ t shelf text early left. left })
+-- nothing changes, and no time passes
+pub same_held : (old new : Held) → new ≡ old → Same (meaning_in old) (meaning_in new)
+same_held old new same = subst (λ h. Same (meaning_in old) (meaning_in h)) (sym same) (same_none (meaning_in old) (λ t shelf early left. counts_now old t shelf early left))
 
--- a rename that is done, and is on the record
-pub rename_applies : (log log' : List Done) (now : Moment) (after : Shelf) (v : ℕ) (old new : Dsn) → IsLawful now.shelf → step now.shelf (Rename v old new) ≡ Ok after → log' ≡ log ++ Renamed v old new ∷ []
-    → Applies {T = Unit {0}} (Rename v old new) (meaning_after log now) (meaning_after log' (record { shelf = after; text = now.text })) (Ok tt)
-rename_applies log log' now after v old new lawful done noted =
-    let later : Moment = record { shelf = after; text = now.text } in
-    let P : Shelf → List ℕ → Type 0 = λ shelf p. ((shelf ≡ now.shelf) ⊎ (step now.shelf (Rename v old new) ≡ Ok shelf)) × (p ≡ now.text) in
-    let back : before (Renamed v old new) later ≡ now = ap (λ r. record { shelf = behind after r; text = now.text }) (undone now.shelf after v old new lawful done) in
-    record {
-      answer = done;
-      idle = ⊎_elim (λ refused. let never = sym done ∙ refused.1 in absurd (cc never)) (λ short. cc);
-      printed = refl;
-      moments = subst (λ l. Elapses (meaning_after log now) (meaning_after l later) P) (sym noted) (elapses-more log (Renamed v old new) now later back P (inr done, refl));
-    }
+-- nothing happens
+pub elapses-none : (old new : Held) (P : Shelf → List ℕ → Type 0) → new ≡ old → Elapses (meaning_in old) (meaning_in new) P
+elapses-none old new P same =
+    subst (λ h. Elapses (meaning_in old) (meaning_in h) P) (sym same) (record { later = omega arith; moments = λ t shelf text early left. inl left; keeps = λ t shelf text early left. left })
 
 -- a print that is done, and is on the record
-pub print_prints : (log log' : List Done) (now : Moment) (bytes text : List ℕ) (n : ℕ) → text ≡ now.text ++ bytes → n ≡ length now.text → log' ≡ log ++ Printed n ∷ []
-    → Prints {T = Unit {0}} true bytes (meaning_after log now) (meaning_after log' (record { shelf = now.shelf; text = text })) (Ok tt)
-print_prints log log' now bytes text n is size noted =
-    let later : Moment = record { shelf = now.shelf; text = text } in
-    let P : Shelf → List ℕ → Type 0 = λ shelf p. (shelf ≡ now.shelf) × ((q : List ℕ) × IsPrefixOf q bytes × (IsTrue true → p ≡ now.text ++ q)) in
+pub print_prints : (old new : Held) (bytes : List ℕ) (n : ℕ) → n ≡ length old.now.text
+    → new ≡ record old { now = record old.now { text = old.now.text ++ bytes }; log = old.log ++ Printed n ∷ [] }
+    → Prints {T = Unit {0}} true bytes (meaning_in old) (meaning_in new) (Ok tt)
+print_prints old new bytes n size is =
+    let later : Moment = record old.now { text = old.now.text ++ bytes } in
+    let P : Shelf → List ℕ → Type 0 = λ shelf p. (shelf ≡ old.now.shelf) × ((q : List ℕ) × IsPrefixOf q bytes × (IsTrue true → p ≡ old.now.text ++ q)) in
     let whole : IsPrefixOf bytes bytes = ([], append-nil bytes) in
-    let cut : take n text ≡ now.text = ap (λ l. take n l) is ∙ ap (λ k. take k (now.text ++ bytes)) size ∙ take-append_seam now.text bytes in
-    let back : before (Printed n) later ≡ now = ap (λ p. record { shelf = now.shelf; text = p }) cut in
-    record {
+    let cut : take n (old.now.text ++ bytes) ≡ old.now.text = ap (λ k. take k (old.now.text ++ bytes)) size ∙ take-append_seam old.now.text bytes in
+    let back : before (Printed n) later ≡ old.now = ap (λ p. record { shelf = old.now.shelf; text = p }) cut in
+    subst (λ h. Prints {T = Unit {0}} true bytes (meaning_in old) (meaning_in h) (Ok tt)) (sym is) (record {
       shelf = refl;
-      done = λ told. is;
+      done = λ told. refl;
       memory = λ e. cc;
-      failed = (bytes, whole, λ told. is);
-      moments = subst (λ l. Elapses (meaning_after log now) (meaning_after l later) P) (sym noted) (elapses-more log (Printed n) now later back P (refl, (bytes, whole, λ told. is)));
-    }
+      failed = (bytes, whole, λ told. refl);
+      moments = elapses-more old.log (Printed n) old.now later back P (refl, (bytes, whole, λ told. refl));
+    })

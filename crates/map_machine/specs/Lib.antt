@@ -1,3 +1,9 @@
 pub mod Past
+pub mod Reads
+pub mod Rooms
+pub mod Plans
 pub mod Held
+pub mod Steps
 pub mod Laws
+pub mod Made
+pub mod Open

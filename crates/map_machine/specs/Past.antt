@@ -1,21 +1,18 @@
--- The past of a machine in memory: what it held before it did things, found back from what it holds behind them.
-use Rattle.std.specs.Prelude.{◌≡◌, ℕ, ◌≤◌, List, [], ◌∷◌, length, take, drop}
+-- The past of a machine in memory: what it held before it did things, found back from what it holds now.
+use Rattle.std.specs.Prelude.{◌≡◌, ℕ, ◌≤◌, List, [], ◌∷◌, length, take, drop, slice_set}
 use Rattle.stop_model.specs.Moments.{Meaning}
 use Rattle.map_machine.specs.declared.past.Done.{Done}
-use Rattle.map_machine.specs.declared.past.Done.TheVariants.{Printed, Renamed}
+use Rattle.map_machine.specs.declared.past.Done.TheVariants.{Changed, Printed}
 use Rattle.vol_model.specs.declared.contents.Shelf.{Shelf}
-use Rattle.vol_model.specs.declared.requests.Op.TheVariants.{Rename}
-use Rattle.vol_model.specs.Events.{behind}
-use Rattle.vol_model.specs.Shelf.{step}
 
 -- A shelf, and all that was printed.
 pub record Moment : Type 0 where
   pub shelf : Shelf
   pub text : List ℕ
 
--- The moment before something was done, by the one behind it: the data set has its old name again, and what was printed is gone. A rename back that is refused would leave the shelf; of a rename that was done it never is.
+-- The moment before something was done, by the one behind it: the volume is as it was, and what was printed is gone.
 abbrev pub before : Done → Moment → Moment
-before (Renamed v old new) m = record m { shelf = behind m.shelf (step m.shelf (Rename v new old)) }
+before (Changed v volume) m = record m { shelf = record { volumes = slice_set m.shelf.volumes v volume } }
 before (Printed n) m = record m { text = take n m.text }
 
 -- the moment before all of this was done, in its order, by the one behind it

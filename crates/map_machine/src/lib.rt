@@ -1,13 +1,11 @@
 //! The plain machine: a shelf in memory, changed by its definition, for tests of what works on machines.
 #![tactic(auto)]
 
-mod lawful;
+mod changes;
 mod machine;
 mod past;
-mod renames;
+mod reads;
+mod rooms;
+mod space;
 
-pub use lawful::is_lawful;
 pub use machine::MapMachine;
-
-#[cfg(test)]
-mod tests;

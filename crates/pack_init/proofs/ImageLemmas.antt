@@ -123,10 +123,10 @@ zero_head D2314 = refl
 zero_head D3330 = refl
 zero_head D3350 = refl
 
-not_first : (k : ℕ) → 1 ≤ k → (k == 0) ≡ false
+pub not_first : (k : ℕ) → 1 ≤ k → (k == 0) ≡ false
 not_first k some = grind (arith, nat_tests)
 
-is_within : (k n : ℕ) → k < 1 + n → nat_le k n ≡ true
+pub is_within : (k n : ℕ) → k < 1 + n → nat_le k n ≡ true
 is_within k n few = grind (arith, nat_tests)
 
 is_behind : (k n : ℕ) → n + 1 ≤ k → nat_le k n ≡ false

@@ -3,8 +3,11 @@ pub mod FrontLemmas
 pub mod ImageLemmas
 pub mod LabelLemmas
 pub mod ListLemmas
+pub mod MountLemmas
 pub mod PackLemmas
 pub mod PatchLemmas
 pub mod ReadLemmas
 pub mod RefusalLemmas
+pub mod SlotLemmas
+pub mod SpaceLemmas
 pub mod WriteLemmas

@@ -1,9 +1,8 @@
 -- What is read of the image of a new pack: the bytes and the records of its tracks.
-use Rattle.std.proofs.Common.{◌≡◌, ◌≤◌, ◌<◌, ◌+◌, ◌-◌, ◌*◌, ◌/◌, ◌%◌, ◌^◌, ℕ, zero, suc, Bool, true, false, List, [], ◌∷◌, ◌++◌, length, map, take, drop, replicate, None, Some, ap, ap₂, sym, subst, refl, ◌∙◌, arith, lit≤, append_assoc, length-append, length-drop, length-take-le, if◌then◌else◌}
-use Rattle.std.specs.Prelude.{nat_le, ◌==◌, Option}
+use Rattle.std.proofs.Common.{◌≡◌, ◌≤◌, ◌<◌, ◌+◌, ◌-◌, ◌*◌, ◌/◌, ◌%◌, ◌^◌, ℕ, zero, suc, Bool, true, false, List, [], ◌∷◌, ◌++◌, length, map, take, drop, replicate, None, Some, ap, sym, refl, ◌∙◌, arith, lit≤, append_assoc, length-append, length-drop, length-take-le, if◌then◌else◌}
+use Rattle.std.specs.Prelude.{nat_le, ◌==◌}
 use Rattle.std.specs.List.{AllByRecursion, flat_map, range_with_len}
-use Rattle.std.proofs.lemmas.List.{length-map, length-replicate, take_at, drop_at}
-use Rattle.std.proofs.lemmas.Bool.Decides.{nat_tests}
+use Rattle.std.proofs.lemmas.List.{length-replicate, take_at, drop_at}
 use Rattle.std.proofs.Math.Nat.{div-lt_iff_lt-mul, mod-lt}
 use Rattle.ckd_image.specs.declared.device.DiskType.{DiskType}
 use Rattle.ckd_image.specs.declared.device.DiskType.TheVariants.{D2311, D2314, D3330, D3350}
@@ -12,7 +11,7 @@ use Rattle.ckd_image.specs.Device.{row_of}
 use Rattle.ckd_image.specs.Header.{header_bytes}
 use Rattle.ckd_image.specs.Reading.{records_of}
 use Rattle.ckd_image.specs.Track.{AreRecords, Record, end_marker, record_bytes, records_bytes}
-use Rattle.ckd_image.specs.Writing.{front_bytes, new_track, record_on}
+use Rattle.ckd_image.specs.Writing.{front_bytes, new_track}
 use Rattle.ckd_image.proofs.WrittenTracks.{record_stands, written_up_to, written_whole}
 use Rattle.pack_spec.specs.declared.address.Address.{Address}
 use Rattle.pack_spec.specs.Label.{heads_of, ipl1, ipl2, records_on, track_bytes, tracks_of, vol1}

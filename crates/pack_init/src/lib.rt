@@ -3,11 +3,13 @@
 
 mod dscbs;
 mod error;
+mod law;
 mod layout;
 mod pack;
 mod tracks;
 
 pub use error::InitErr;
+pub use law::new_pack_law;
 pub use pack::init;
 
 #[cfg(test)]

@@ -1,7 +1,7 @@
 -- The volume that an image stands for is lawful.
-use Rattle.std.proofs.Common.{◌≡◌, ◌+◌, ◌^◌, ◌<◌, ◌≤◌, ℕ, zero, suc, Bool, true, false, cond, not, eqb, ◌&&◌, List, [], ◌∷◌, ◌++◌, length, take, map, Option, Some, None, Result, Ok, Err, refl, ap, subst, arith, length-take}
-use Rattle.std.specs.Prelude.{nat_le, nat_lt, unwrap_or, slice_get, slice_range}
-use Rattle.std.specs.List.{AllByRecursion, enumerate_from, filter_map, list_all}
+use Rattle.std.proofs.Common.{◌≡◌, ◌+◌, ◌^◌, ◌<◌, ◌≤◌, ℕ, zero, suc, Bool, true, false, cond, not, eqb, ◌&&◌, ◌||◌, List, [], ◌∷◌, ◌++◌, length, take, map, Option, Some, None, Result, Ok, Err, refl, ap, ◌∙◌, subst, arith, length-take}
+use Rattle.std.specs.Prelude.{is_some, nat_le, nat_lt, slice_get, slice_range}
+use Rattle.std.specs.List.{AllByRecursion, enumerate_from, filter_map, list_all, list_any}
 use Rattle.std.proofs.Math.Dec.{eqb, eqb-suc-zero}
 use Rattle.std.proofs.Math.Nat.{mul-le-mul_right}
 use Rattle.std.proofs.lemmas.Bool.{and_parts, leb-true, ltb-true}
@@ -14,7 +14,12 @@ use Rattle.ckd_image.specs.Header.{HasGeometry, geometry_of}
 use Rattle.ckd_image.proofs.GeometryLemmas.{has_geometry}
 use Rattle.vol_model.specs.declared.contents.Volume.{Volume}
 use Rattle.vol_model.specs.Order.{IsAscending, in_order}
-use Rattle.vol_model.specs.Shelf.{IsLawful, IsLawfulSet, IsLawfulVolume, IsOnPack}
+use Rattle.vol_model.specs.Lawful.{IsLawfulBody, IsLawfulCatalog, IsLawfulSet, IsLawfulVolume, IsOnPack, OwnsOnce, is_of_kind}
+use Rattle.vol_model.specs.Shelf.{catalog_name, has_name, is_catalog, is_partitioned, is_sequential}
+use Rattle.vol_model.specs.declared.catalogs.CatBody.TheVariants as catalogs
+use Rattle.vol_model.specs.declared.contents.Attr.{Attr}
+use Rattle.vol_model.specs.declared.contents.Body.TheVariants.{Seq, Other, Unreadable}
+use Rattle.vol_model.specs.declared.contents.DataSet.{DataSet}
 use Rattle.vol_model.proofs.InOrder.{in_order-permutation}
 use Rattle.vol_model.proofs.Steps.{in_order-ascending}
 use Rattle.std.proofs.Math.Nat.{mod-lt}
@@ -30,11 +35,59 @@ use Rattle.pack_spec.specs.declared.slot.VtocSlot.{VtocSlot}
 use Rattle.pack_spec.specs.Label.{address_at, heads_of, is_inside, label_of, track_of_address}
 use Rattle.pack_spec.specs.Vtoc.{is_extent, is_vtoc_extent, lower_of, run_of_extent, upper_of, vtoc_at, vtoc_by, vtoc_of, vtoc_on}
 use Rattle.pack_spec.specs.Slots.{slots_of_vtoc, track_faults}
-use Rattle.pack_spec.specs.Rules.{content_fault, counted_extents, extents_fault, front_faults, has_chain, has_extents, has_types, is_f4, name_faults, set_in, slot_fault, slot_faults, slots_faults, vtoc_fault}
-use Rattle.pack_spec.specs.Volume.{attr_of, data_set_of, data_sets_in, secondary_of, unless, volume_of, volume_on, volume_with, volume_within}
+use Rattle.pack_spec.specs.Rules.{content_fault, counted_extents, extents_fault, front_faults, has_chain, has_extents, has_types, is_f4, name_faults, set_in, slot_fault, slot_faults, slots_faults}
+use Rattle.pack_spec.specs.Owned.{overlap_faults, room_faults, volume_faults}
+use Rattle.pack_spec.specs.Bodies.{body_of, catalog_of, has_no_block}
+use Rattle.pack_spec.specs.Volume.{attr_of, data_set_of, data_sets_in, secondary_of, unless, volume_by, volume_of, volume_on, volume_with, volume_within, vtoc_fault}
 use Rattle.pack_spec.proofs.FirstFaults.{cons_option-none, first_append-both}
 use Rattle.pack_spec.proofs.SetNames.{all_sets, distinct_sets, names_apart}
 use Rattle.pack_spec.proofs.SlotCounts.{few_slots}
+use Rattle.pack_spec.proofs.OwnedTracks.{has_room, owned_end, owns_once}
+
+-- a set's body is of the kind that its name and organization give, and lawful
+kind_of_body : (name : List ℕ) (attr : Attr) (lstar : List ℕ) → is_of_kind name attr (body_of name attr lstar) ≡ true
+unfolding body_of
+kind_of_body name attr lstar = by_tests (is_catalog name) (is_sequential name attr) (is_partitioned name attr) (has_no_block lstar) refl refl refl
+  where
+    by_tests : (c s p z : Bool) → is_catalog name ≡ c → is_sequential name attr ≡ s → is_partitioned name attr ≡ p → is_of_kind name attr (cond (s && z) (Seq []) (cond (c || (s || p)) (Unreadable 0) Other)) ≡ true
+    by_tests c true p true catalog sequential partitioned = sequential
+    by_tests c true p false catalog sequential partitioned = unread c
+      where
+        unread : (b : Bool) → is_of_kind name attr (cond (b || true) (Unreadable 0) Other) ≡ true
+        unread true = refl
+        unread false = refl
+    by_tests true false p z catalog sequential partitioned = refl
+    by_tests false false true z catalog sequential partitioned = refl
+    by_tests false false false z catalog sequential partitioned =
+        ap (λ (b : Bool). not (b || (is_sequential name attr || is_partitioned name attr))) catalog
+        ∙ ap (λ (b : Bool). not (b || is_partitioned name attr)) sequential
+        ∙ ap not partitioned
+
+lawful_body : (tracks : ℕ) (name : List ℕ) (attr : Attr) (lstar : List ℕ) → IsLawfulBody tracks (body_of name attr lstar)
+unfolding body_of
+lawful_body tracks name attr lstar = by_tests (is_sequential name attr && has_no_block lstar) (is_catalog name || (is_sequential name attr || is_partitioned name attr))
+  where
+    by_tests : (a b : Bool) → IsLawfulBody tracks (cond a (Seq []) (cond b (Unreadable 0) Other))
+    by_tests true b = (tt, tt)
+    by_tests false true = tt
+    by_tests false false = tt
+
+-- there is a catalog where there is a SYSCTLG, and it isn't read
+catalog_is : (sets : List DataSet) → list_any (has_name catalog_name) sets ≡ is_some (catalog_of sets)
+unfolding catalog_of
+catalog_is sets = by_test (list_any (has_name catalog_name) sets)
+  where
+    by_test : (b : Bool) → b ≡ is_some (cond b (Some (catalogs.Unreadable 0)) None)
+    by_test true = refl
+    by_test false = refl
+
+lawful_catalog : (sets : List DataSet) → IsLawfulCatalog (catalog_of sets)
+unfolding catalog_of
+lawful_catalog sets = by_test (list_any (has_name catalog_name) sets)
+  where
+    by_test : (b : Bool) → IsLawfulCatalog (cond b (Some (catalogs.Unreadable 0)) None)
+    by_test true = tt
+    by_test false = tt
 
 -- the tracks of an extent lie on the pack
 on_pack : (g : Geometry) (extent : List ℕ) → is_extent g extent ≡ true → IsOnPack g (run_of_extent g extent)
@@ -79,6 +132,8 @@ lawful_set g slots f has =
       few = omega (arith, length-map (counted_extents slots f) (run_of_extent g), few_counted slots f, leb-true f.extents 16 parts.0);
       extents = all_on_pack g (counted_extents slots f) parts.1;
       secondary = short f;
+      kind = kind_of_body f.name (attr_of f) f.lstar;
+      body = lawful_body _ f.name (attr_of f) f.lstar;
     }
 
 -- the extents of a data set are good, where no rule on them is broken
@@ -154,6 +209,19 @@ groups_hold g slots none =
     let behind = first_append-both (slot_faults g slots) (name_faults slots) front.1 in
     (front.0, behind.0, behind.1)
 
+-- a data set in slots that break no rule has good extents
+pub good_sets : (g : Geometry) (slots : List VtocSlot) → slots_faults g slots ≡ [] → (k : ℕ) (s : VtocSlot) (f : F1) → slice_get slots k ≡ Some s → set_in s.content ≡ Some f → has_extents g slots f ≡ true
+good_sets g slots none =
+    let groups = groups_hold g slots none in
+    at slots (all_good g slots groups.0 groups.1)
+  where
+    at : (xs : List VtocSlot) → AllByRecursion (HasGoodExtents g slots) xs → (k : ℕ) (s : VtocSlot) (f : F1) → slice_get xs k ≡ Some s → set_in s.content ≡ Some f → has_extents g slots f ≡ true
+    at [] all k s f there is = cc
+    at (x ∷ xs) all zero s f there is =
+        let same : x ≡ s = cc in
+        all.0 f (ap (λ (y : VtocSlot). set_in y.content) same ∙ is)
+    at (x ∷ xs) all (suc k) s f there is = at xs all.1 k s f there is
+
 -- the data sets in slots that break no rule, in their order
 lawful_sets : (g : Geometry) (slots : List VtocSlot) → slots_faults g slots ≡ [] → AllByRecursion (IsLawfulSet g) (in_order (data_sets_in g slots))
 unfolding data_sets_in
@@ -175,39 +243,66 @@ chosen_run : (b : Bool) (r vtoc : Run) (e : MountErr) → cond b (Ok r) (Err e) 
 chosen_run true r vtoc e is = (refl, cc)
 chosen_run false r vtoc e is = cc
 
-few_by : (g : Geometry) (at : Address) (o : Option (List ℕ)) (vtoc : Run) → vtoc_by g at o ≡ Ok vtoc → vtoc.len ≤ 257
-few_by g at None vtoc is = cc
-few_by g at (Some slot) vtoc is =
+-- it lies on the pack, and has few tracks
+abbrev IsShort : Geometry → Run → Type 0
+IsShort g run = IsOnPack g run × (run.len ≤ 257)
+
+short_by : (g : Geometry) (at : Address) (o : Option (List ℕ)) (vtoc : Run) → vtoc_by g at o ≡ Ok vtoc → IsShort g vtoc
+short_by g at None vtoc is = cc
+short_by g at (Some slot) vtoc is =
     let extent : List ℕ = slice_range slot 105 115 in
     let found = chosen_run (is_vtoc_extent g at extent) _ vtoc BadVtoc is in
     let last = and_parts _ (nat_le (run_of_extent g extent).len 257) found.0 in
-    subst (λ (r : Run). r.len ≤ 257) found.1 (leb-true (run_of_extent g extent).len 257 last.1)
+    let begins = and_parts (is_extent g extent && eqb (lower_of extent).cylinder at.cylinder) _ last.0 in
+    let inside = and_parts (is_extent g extent) _ begins.0 in
+    subst (λ (r : Run). IsShort g r) found.1 (on_pack g extent inside.0, leb-true (run_of_extent g extent).len 257 last.1)
 
-few_at : (image : List ℕ) (g : Geometry) (o : Option (List ℕ)) (vtoc : Run) → vtoc_at image g o ≡ Ok vtoc → vtoc.len ≤ 257
+short_at : (image : List ℕ) (g : Geometry) (o : Option (List ℕ)) (vtoc : Run) → vtoc_at image g o ≡ Ok vtoc → IsShort g vtoc
 unfolding vtoc_at vtoc_on
-few_at image g None vtoc is = cc
-few_at image g (Some label) vtoc is =
-    few_by g (address_at 11 label) _ vtoc (inside (is_inside g (address_at 11 label)) _ is)
+short_at image g None vtoc is = cc
+short_at image g (Some label) vtoc is =
+    short_by g (address_at 11 label) _ vtoc (inside (is_inside g (address_at 11 label)) _ is)
   where
     inside : (b : Bool) (r : Result Run MountErr) → cond b r (Err BadVtoc) ≡ Ok vtoc → r ≡ Ok vtoc
     inside true r e = e
     inside false r e = cc
 
-few_tracks : (image : List ℕ) (g : Geometry) (vtoc : Run) → vtoc_of image g ≡ Ok vtoc → vtoc.len ≤ 257
+short_vtoc : (image : List ℕ) (g : Geometry) (vtoc : Run) → vtoc_of image g ≡ Ok vtoc → IsShort g vtoc
 unfolding vtoc_of
-few_tracks image g vtoc is = few_at image g (label_of image g) vtoc is
+short_vtoc image g vtoc is = short_at image g (label_of image g) vtoc is
 
--- The volume of a label and a VTOC whose slots break no rule is lawful.
-pub lawful_with : (len : ℕ) (image : List ℕ) (g : Geometry) (label : List ℕ) (vtoc : Run) → HasGeometry len g → vtoc_of image g ≡ Ok vtoc → slots_faults g (slots_of_vtoc image g vtoc) ≡ []
-    → IsLawfulVolume (volume_with g label vtoc (slots_of_vtoc image g vtoc))
+-- the rules on the volume as a whole
+no_faults : (volume : Volume) → volume_faults volume ≡ [] → (overlap_faults volume ≡ []) × (room_faults volume ≡ [])
+unfolding volume_faults
+no_faults volume none = both_empty (overlap_faults volume) (room_faults volume) none
+  where
+    both_empty : (xs ys : List MountErr) → xs ++ ys ≡ [] → (xs ≡ []) × (ys ≡ [])
+    both_empty [] ys e = (refl, e)
+    both_empty (x ∷ xs) ys e = absurd (cc)
+
+only_extents : (g : Geometry) (xs : List DataSet) → AllByRecursion (IsLawfulSet g) xs → AllByRecursion (λ (x : DataSet). AllByRecursion (IsOnPack g) x.extents) xs
+only_extents g [] all = tt
+only_extents g (x ∷ xs) all = (all.0.extents, only_extents g xs all.1)
+
+-- The volume of a label and a VTOC that break no rule is lawful.
+pub lawful_with : (len : ℕ) (image : List ℕ) (g : Geometry) (vtoc : Run) → HasGeometry len g → vtoc_of image g ≡ Ok vtoc → slots_faults g (slots_of_vtoc image g vtoc) ≡ []
+    → volume_faults (volume_by image g vtoc) ≡ [] → IsLawfulVolume (volume_by image g vtoc)
 unfolding volume_with
-lawful_with len image g label vtoc has found none =
+lawful_with len image g vtoc has found none whole =
+    let volume : Volume = volume_by image g vtoc in
+    let short = short_vtoc image g vtoc found in
+    let sets = lawful_sets g (slots_of_vtoc image g vtoc) none in
+    let faults = no_faults volume whole in
     record {
       some = has.cylinders;
       most = has.most;
-      slots = few_slots image g vtoc (few_tracks image g vtoc found);
+      slots = few_slots image g vtoc short.1;
+      room = has_room volume faults.1;
       order = ascending_sets g (slots_of_vtoc image g vtoc) none;
-      sets = lawful_sets g (slots_of_vtoc image g vtoc) none;
+      sets = sets;
+      owned = owns_once volume (owned_end volume short.0 (only_extents g _ sets)) faults.0;
+      has_catalog = catalog_is volume.sets;
+      catalog = lawful_catalog volume.sets;
     }
 
 -- What an image has that stands for a volume.
@@ -218,7 +313,8 @@ pub record HasVolume (image : List ℕ) (volume : Volume) : Type 0 where
   pub found : vtoc_of image geometry ≡ Ok vtoc
   pub tracks : track_faults image geometry vtoc ≡ []
   pub slots : slots_faults geometry (slots_of_vtoc image geometry vtoc) ≡ []
-  pub is : volume_with geometry (unwrap_or (label_of image geometry) []) vtoc (slots_of_vtoc image geometry vtoc) ≡ volume
+  pub whole : volume_faults (volume_by image geometry vtoc) ≡ []
+  pub is : volume_by image geometry vtoc ≡ volume
 
 nothing_first : {X : Type 0} (xs : List X) → slice_get xs 0 ≡ None → xs ≡ []
 nothing_first [] is = refl
@@ -230,17 +326,19 @@ unfolding volume_of vtoc_fault
 has_volume image volume is = by_header (geometry_of (take 512 image) (length image)) refl is
   where
     by_fault : (g : Geometry) (vtoc : Run) → geometry_of (take 512 image) (length image) ≡ Ok g → vtoc_of image g ≡ Ok vtoc → (o : Option MountErr) → vtoc_fault image g vtoc ≡ o
-        → unless o (volume_with g (unwrap_or (label_of image g) []) vtoc (slots_of_vtoc image g vtoc)) ≡ Ok volume → HasVolume image volume
+        → unless o (volume_by image g vtoc) ≡ Ok volume → HasVolume image volume
     by_fault g vtoc header found (Some e) none given = cc
     by_fault g vtoc header found None none given =
-        let first = first_append-both (track_faults image g vtoc) (slots_faults g (slots_of_vtoc image g vtoc)) none in
+        let first = first_append-both (track_faults image g vtoc) (slots_faults g (slots_of_vtoc image g vtoc) ++ volume_faults (volume_by image g vtoc)) none in
+        let second = first_append-both (slots_faults g (slots_of_vtoc image g vtoc)) (volume_faults (volume_by image g vtoc)) first.1 in
         record {
           geometry = g;
           vtoc = vtoc;
           header = header;
           found = found;
           tracks = nothing_first (track_faults image g vtoc) first.0;
-          slots = nothing_first (slots_faults g (slots_of_vtoc image g vtoc)) first.1;
+          slots = nothing_first (slots_faults g (slots_of_vtoc image g vtoc)) second.0;
+          whole = nothing_first (volume_faults (volume_by image g vtoc)) second.1;
           is = cc;
         }
 
@@ -252,13 +350,9 @@ has_volume image volume is = by_header (geometry_of (take 512 image) (length ima
     by_header (Err e) header given = cc
     by_header (Ok g) header given = by_vtoc g header (vtoc_of image g) refl given
 
--- The volume that an image stands for is lawful.
+-- The volume of an image that mounts is lawful.
 pub lawful_volume : (image : List ℕ) (volume : Volume) → volume_of image ≡ Ok volume → IsLawfulVolume volume
 lawful_volume image volume is =
     let has = has_volume image volume is in
     subst IsLawfulVolume has.is
-    (lawful_with (length image) image has.geometry _ has.vtoc (has_geometry (take 512 image) (length image) has.geometry has.header) has.found has.slots)
-
--- a shelf of one lawful volume
-pub lawful_single : (volume : Volume) → IsLawfulVolume volume → IsLawful (record { volumes = volume ∷ [] })
-lawful_single volume lawful = record { few = omega arith; volumes = (lawful, tt) }
+    (lawful_with (length image) image has.geometry has.vtoc (has_geometry (take 512 image) (length image) has.geometry has.header) has.found has.slots has.whole)

@@ -3,3 +3,9 @@ pub mod Lawful
 pub mod SetNames
 pub mod SlotCounts
 pub mod WrittenTracks
+pub mod OwnedTracks
+pub mod OwnedRuns
+pub mod AlikeSlots
+pub mod AddressesApart
+pub mod AlikeVolumes
+pub mod FreeCases

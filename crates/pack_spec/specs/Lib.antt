@@ -2,9 +2,15 @@ pub mod Label
 pub mod Vtoc
 pub mod Slots
 pub mod Rules
+pub mod Owned
+pub mod Bodies
 pub mod Volume
 pub mod Written
 pub mod New
+pub mod FreeChain
+pub mod Settled
+pub mod Alike
+pub mod Shelf
 pub use Rattle.ckd_image.specs.Header
 pub use Rattle.ckd_image.specs.Device
 pub use Rattle.ckd_image.specs.Track

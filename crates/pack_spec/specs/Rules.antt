@@ -9,12 +9,10 @@ use Rattle.dscb_codec.specs.declared.Dscb.{Dscb}
 use Rattle.dscb_codec.specs.declared.Dscb.TheVariants as formats
 use Rattle.dscb_codec.specs.declared.DscbErr.{DscbErr}
 use Rattle.dscb_codec.specs.declared.DscbErr.TheVariants.{Unsupported, BadFormat}
-use Rattle.vol_model.specs.declared.contents.Run.{Run}
 use Rattle.pack_spec.specs.declared.MountErr.{MountErr}
 use Rattle.pack_spec.specs.declared.MountErr.TheVariants.{NoFormat4, NoFormat5, BadDscb, UnsupportedDscb, UnsupportedExtent, BadExtent, BadChain, DuplicateName}
 use Rattle.pack_spec.specs.declared.slot.VtocSlot.{VtocSlot}
 use Rattle.pack_spec.specs.Vtoc.{is_counted_type, is_extent, is_field_type}
-use Rattle.pack_spec.specs.Slots.{slots_of_vtoc, track_faults}
 
 -- the format 1 that a slot holds
 abbrev pub set_in : Result Dscb DscbErr → Option F1
@@ -129,8 +127,3 @@ name_faults slots = filter_map (λ p. name_fault slots p.0 p.1) (enumerate_from 
 -- the rules that slots break, in the order in which they are judged
 unfoldable pub slots_faults : Geometry → List VtocSlot → List MountErr
 slots_faults g slots = front_faults slots ++ (slot_faults g slots ++ name_faults slots)
-
--- the first rule that a VTOC breaks: its tracks go before its slots
-unfoldable pub vtoc_fault : List ℕ → Geometry → Run → Option MountErr
-vtoc_fault image g vtoc = slice_get (track_faults image g vtoc ++ slots_faults g
-    (slots_of_vtoc image g vtoc)) 0

@@ -1,12 +1,11 @@
 -- The volume that an image stands for, by the label and the DSCBs of System Control Blocks, GC28-6628.
-use Rattle.std.specs.Prelude.{ℕ, ◌/◌, ◌%◌, ◌^◌, ◌==◌, ◌||◌, List, [], length, map, take, bit_and, Option, Some, None, Result, Ok, Err, unwrap_or, slice_range, if◌then◌else◌}
+use Rattle.std.specs.Prelude.{ℕ, ◌/◌, ◌%◌, ◌^◌, ◌==◌, ◌||◌, List, [], ◌++◌, length, map, take, bit_and, Option, Some, None, Result, Ok, Err, unwrap_or, slice_get, slice_range, if◌then◌else◌}
 use Rattle.std.specs.List.{filter_map}
 use Rattle.ckd_image.specs.declared.header.Geometry.{Geometry}
 use Rattle.ckd_image.specs.declared.header.ImageErr.{ImageErr}
 use Rattle.ckd_image.specs.Header.{geometry_of}
 use Rattle.dscb_codec.specs.declared.F1.{F1}
 use Rattle.vol_model.specs.declared.contents.Attr.{Attr}
-use Rattle.vol_model.specs.declared.contents.Body.TheVariants.{Other}
 use Rattle.vol_model.specs.declared.contents.DataSet.{DataSet}
 use Rattle.vol_model.specs.declared.contents.Run.{Run}
 use Rattle.vol_model.specs.declared.contents.Volume.{Volume}
@@ -16,8 +15,10 @@ use Rattle.pack_spec.specs.declared.MountErr.TheVariants.{Image}
 use Rattle.pack_spec.specs.declared.slot.VtocSlot.{VtocSlot}
 use Rattle.pack_spec.specs.Label.{label_of}
 use Rattle.pack_spec.specs.Vtoc.{run_of_extent, vtoc_of}
-use Rattle.pack_spec.specs.Slots.{slots_of_vtoc}
-use Rattle.pack_spec.specs.Rules.{counted_extents, set_in, vtoc_fault}
+use Rattle.pack_spec.specs.Slots.{slots_of_vtoc, track_faults}
+use Rattle.pack_spec.specs.Rules.{counted_extents, set_in, slots_faults}
+use Rattle.pack_spec.specs.Bodies.{body_of, catalog_of}
+use Rattle.pack_spec.specs.Owned.{volume_faults}
 
 -- the flags of a space request, the top byte of SCALO
 abbrev pub space_flags : F1 → ℕ
@@ -54,7 +55,7 @@ data_set_of g slots f = record {
   name = record { bytes = f.name };
   attr = attr_of f;
   extents = map (run_of_extent g) (counted_extents slots f);
-  body = Other;
+  body = body_of f.name (attr_of f) f.lstar;
 }
 
 -- the data sets in slots, in the order of these
@@ -69,8 +70,18 @@ volume_with g label vtoc slots = record {
   vtoc = vtoc;
   slots = length slots;
   sets = in_order (data_sets_in g slots);
-  catalog = None;
+  catalog = catalog_of (in_order (data_sets_in g slots));
 }
+
+-- the volume of an image with this VTOC, whatever rules the image breaks
+abbrev pub volume_by : List ℕ → Geometry → Run → Volume
+volume_by image g vtoc = volume_with g (unwrap_or (label_of image g) []) vtoc
+    (slots_of_vtoc image g vtoc)
+
+-- the first rule that a VTOC breaks: its tracks go before its slots, and these before the volume
+unfoldable pub vtoc_fault : List ℕ → Geometry → Run → Option MountErr
+vtoc_fault image g vtoc = slice_get (track_faults image g vtoc ++ (slots_faults g
+    (slots_of_vtoc image g vtoc) ++ volume_faults (volume_by image g vtoc))) 0
 
 -- the value, unless a rule is broken
 abbrev pub unless : {X : Type 0} → Option MountErr → X → Result X MountErr
@@ -80,9 +91,7 @@ unless None x = Ok x
 -- the volume of an image whose VTOC is found, or not
 abbrev pub volume_within : List ℕ → Geometry → Result Run MountErr → Result Volume MountErr
 volume_within image g (Err e) = Err e
-volume_within image g (Ok vtoc) =
-    unless (vtoc_fault image g vtoc) (volume_with g (unwrap_or (label_of image g) []) vtoc
-    (slots_of_vtoc image g vtoc))
+volume_within image g (Ok vtoc) = unless (vtoc_fault image g vtoc) (volume_by image g vtoc)
 
 -- the volume of an image whose header is read, or refused
 abbrev pub volume_on : List ℕ → Result Geometry ImageErr → Result Volume MountErr

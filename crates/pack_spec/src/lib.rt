@@ -85,6 +85,26 @@ pub enum MountErr {
         /// The lowest slot of that name.
         other: u32,
     },
+    /// A track is owned twice: track 0, the tracks of the VTOC, and those of each extent that a data set
+    /// counts are owned.
+    Overlap {
+        /// The lowest such track, counted from 0 over the volume.
+        track: u16,
+    },
+    /// The VTOC has fewer slots than are needed: one for its format 4, one for each started 26 runs of
+    /// free tracks, but at least one, one for each data set, and one more for each data set of more than
+    /// three extents.
+    VtocFull {
+        /// The slots that are needed.
+        slots: u32,
+    },
+    /// Two of several packs have one serial, which is looked for once each of them mounts.
+    SameSerial {
+        /// The lowest unit that has the serial of one before it.
+        unit: u8,
+        /// The lowest unit of that serial.
+        other: u8,
+    },
     /// Memory ran out, which says nothing of the image.
     Memory,
     /// The device failed, and its count of faults rose; which says nothing of the image.

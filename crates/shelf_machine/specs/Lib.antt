@@ -1,2 +1,10 @@
+pub mod Opening
+pub mod Props
+pub mod Reads
 pub mod Machine
+pub mod Lawful
+pub mod Packs
+pub mod Reporting
+pub mod Operating
 pub mod Parts
+pub mod Opened

@@ -1,44 +1,58 @@
--- What a machine over one pack is made of, and what it means, tells and promises by that.
-use Rattle.std.specs.Prelude.{Bool, ℕ, List}
-use Rattle.hall_core.specs.Facts.{unit_of}
+-- What a machine over several packs is made of, and what it means, tells and promises by that.
+use Rattle.std.specs.Prelude.{Bool, ℕ, List, is_some}
+use Rattle.hall_core.specs.Facts.{Facts}
 use Rattle.hall_core.specs.declared.hall.Hall.{Ghosts}
 use Rattle.stop_model.specs.Files.{File}
 use Rattle.stop_model.specs.Moments.{Meaning}
 use Rattle.stop_model.specs.Steps.{seen}
-use Rattle.vol_model.specs.Calls.{Status}
+use Rattle.vol_model.specs.Calls.{Known, Status}
+use Rattle.vol_model.specs.Writing.{OpenWriter}
 use Rattle.vol_model.specs.declared.contents.Shelf.{Shelf}
 use Rattle.vtoc_index.specs.declared.vol.Vol.{Vol}
-use Rattle.shelf_machine.specs.Machine.{ChangesOnlyVtoc, LeavesJust, shelf_named, status_with}
-use Rattle.shelf_machine.specs.declared.machine.PackMachine.{PackMachine}
+use Rattle.shelf_machine.specs.Opening.{names_of}
+use Rattle.shelf_machine.specs.Machine.{ByFiles, KeepsSafe, LeavesJust, shelf_under, status_with, units_of, writer_in}
+use Rattle.shelf_machine.specs.declared.machine.HallShelf.{HallShelf}
 
 -- the hall that it is on
-abbrev pub hall_of : {X : Type 0} {g : Ghosts X} → PackMachine X g → X
+abbrev pub hall_of : {X : Type 0} {g : Ghosts X} → HallShelf X g → X
 hall_of machine = machine.hall
 
--- the index of its pack
-abbrev pub index_of : {X : Type 0} {g : Ghosts X} → PackMachine X g → Vol
-index_of machine = machine.vol
+-- the indexes of its packs, in the order of its volumes
+abbrev pub indexes_of : {X : Type 0} {g : Ghosts X} → HallShelf X g → List Vol
+indexes_of machine = machine.vols.items
 
 -- whether no call of its hall failed
-abbrev pub is_sound : {X : Type 0} {g : Ghosts X} → PackMachine X g → Bool
+abbrev pub is_sound : {X : Type 0} {g : Ghosts X} → HallShelf X g → Bool
 is_sound machine = machine.is_sound
 
--- the name of the file that holds its pack
-abbrev pub pack_name : {X : Type 0} {g : Ghosts X} → PackMachine X g → List ℕ
-pack_name {g = g} machine = (unit_of (g.facts machine.hall).units machine.vol.unit).name
+-- whether a writer is open
+abbrev pub is_open : {X : Type 0} {g : Ghosts X} → HallShelf X g → Bool
+is_open machine = is_some machine.writer
 
--- the shelf of its pack, as its hall holds it
-abbrev pub meaning_of : {X : Type 0} {g : Ghosts X} → PackMachine X g → Meaning Shelf
-meaning_of {g = g} machine = seen (shelf_named (pack_name machine)) (g.meaning machine.hall)
+-- the units that hold its packs
+abbrev pub units_in : {X : Type 0} {g : Ghosts X} → HallShelf X g → List ℕ
+units_in machine = units_of machine.vols.items
+
+-- the names of their files
+abbrev pub pack_names : {X : Type 0} {g : Ghosts X} → HallShelf X g → List (List ℕ)
+pack_names {g = g} machine = names_of (g.facts machine.hall).units (units_of machine.vols.items)
+
+-- the shelf of its packs, as its hall holds it
+abbrev pub meaning_of : {X : Type 0} {g : Ghosts X} → HallShelf X g → Meaning Shelf
+meaning_of {g = g} machine = seen (shelf_under (pack_names machine)) (g.meaning machine.hall)
 
 -- what it always tells
-abbrev pub status_of : {X : Type 0} {g : Ghosts X} → PackMachine X g → Status
-status_of {g = g} machine = status_with machine.is_sound (g.facts machine.hall) machine.vol
+abbrev pub status_of : {X : Type 0} {g : Ghosts X} → HallShelf X g → Status
+status_of {g = g} machine = status_with machine.is_sound machine.writer machine.done (g.facts machine.hall) machine.vols.items
 
--- since that moment every stop leaves files that differ from these in the VTOC of its pack alone
-abbrev pub PromisesVtoc : {X : Type 0} {g : Ghosts X} → PackMachine X g → ℕ → List File → Type 0
-PromisesVtoc {g = g} machine t files = ChangesOnlyVtoc (pack_name machine) machine.vol.geometry machine.vol.vtoc (g.meaning machine.hall) t files
+-- its writer
+abbrev pub writer_of : {X : Type 0} {g : Ghosts X} → HallShelf X g → OpenWriter
+writer_of machine = writer_in machine.writer
+
+-- since that moment every stop leaves images that are safe
+abbrev pub PromisesSafety : {X : Type 0} {g : Ghosts X} → HallShelf X g → ℕ → Known → Type 0
+PromisesSafety {g = g} machine = ByFiles (KeepsSafe (pack_names machine) machine.vols.items (g.meaning machine.hall))
 
 -- since that moment every stop leaves just these files
-abbrev pub PromisesFiles : {X : Type 0} {g : Ghosts X} → PackMachine X g → ℕ → List File → Type 0
+abbrev pub PromisesFiles : {X : Type 0} {g : Ghosts X} → HallShelf X g → ℕ → List File → Type 0
 PromisesFiles {g = g} machine t files = LeavesJust (g.meaning machine.hall) t files

@@ -1,146 +1,222 @@
-//! The machine over the image of one pack.
+//! The machine over the images of several packs.
 ghost use Rattle.std.specs.Prelude.{◌≡◌, true, false, IsTrue, refl};
-ghost use Rattle.hall_core.specs.Facts.{unit_of};
-ghost use Rattle.hall_core.specs.Images.{image_in};
 ghost use Rattle.stop_model.specs.Moments.{IsDurable};
-ghost use Rattle.stop_model.specs.Steps.{seen};
 ghost use Rattle.stop_model.proofs.MomentLemmas.{durable_seen, counts_now_seen, only_now_seen};
-ghost use Rattle.vol_model.specs.Shelf.{number_of, step};
-ghost use Rattle.vtoc_index.specs.Index.{IsMounted, IsOfUnit};
-ghost use Rattle.vtoc_index.specs.Kept.{IsKept, kept_props};
-ghost use Rattle.shelf_machine.specs.Machine.{lawful_in, shelf_named};
+ghost use Rattle.shelf_machine.specs.Props.{shelf_props};
+ghost use Rattle.shelf_machine.specs.Machine.{AreInOrder, AreIndexes, AreKept, shelf_under};
 
-use dadsm_ops::rename;
-use ebcdic_names::{Dsn, Serial};
+use crate::open_err::OpenErr;
+use crate::opening::open_packs;
+use crate::operations::operate;
+use crate::reads;
+use crate::reporting::{fault, report};
+use crate::writer::Writer;
+use ebcdic_names::{Dsn, Name8};
 use hall_core::Hall;
-use vol_model::{MachErr, Machine, Op, Refusal, StoreErr};
+use std::alloc::Global;
+use vol_model::{
+    Block, BlockBuf, CatNode, CatPath, CheckErr, Entry, MachErr, Machine, Mode, Op, Place, ReadErr,
+    Run, SetInfo, VolumeInfo, WorkErr,
+};
 use vtoc_index::Vol;
 
-/// The machine over the image of one pack, which is the only volume of its shelf, of number 0.
+/// The machine over the images of packs on 1 to 255 units; its volumes have the order of the units, from number 0.
 ///
-/// It is sound as long as no call of its hall failed.
+/// It is sound as long as no call of its hall failed. Of the operations it does `Rename` and `Scratch`; for every other,
+/// and for a writer, it wants memory.
 #[derive(Drop)]
-pub struct PackMachine<H: Hall> {
+pub struct HallShelf<H: Hall> {
     hall: H,
-    vol: Vol,
+    vols: Vec<Vol>,
     is_sound: bool,
-    pub ghost unit: { IsOfUnit (H.facts hall).units vol } by { Prim.hlevel kept_props },
-    pub ghost kept: { is_sound ≡ true → IsTrue H.tells → IsKept (image_in (H.meaning hall) (H.facts hall) vol.unit) vol } by { Prim.hlevel kept_props },
+    done: u64,
+    writer: Option<Writer>,
+    pub ghost indexes: { AreIndexes (H.facts hall).units vols.items } by { Prim.hlevel shelf_props },
+    pub ghost order: { is_sound ≡ true → AreInOrder vols.items } by { Prim.hlevel shelf_props },
+    pub ghost kept: { is_sound ≡ true → IsTrue H.tells
+        → AreKept (H.meaning hall).state (H.facts hall).units vols.items } by { Prim.hlevel shelf_props },
     pub ghost durable: { is_sound ≡ true → IsTrue H.tells → IsDurable (H.meaning hall) },
 }
 
-// Ends the soundness of a machine, and gives the error that it answers.
-fn fault(is_sound: &mut bool, error: MachErr) -> MachErr
-    ensures error { result ≡ error }
-    ensures sound { is_sound.new ≡ false }
-{
-    *is_sound = false;
-    error
-}
+impl<H: Hall> HallShelf<H> {
+    ghost use Rattle.std.specs.Prelude.{◌<◌, IfOk, IfErr, length};
+    ghost use Rattle.shelf_machine.specs.Opening.{AreUnits, LeavesSafe, names_of};
+    ghost use Rattle.shelf_machine.specs.Opened.{IsOpened, LeavesSettled, OpenCall, OpensShelf, RefusesShelf, hall_left};
+    ghost use Rattle.shelf_machine.specs.Parts.{hall_of, is_sound, pack_names};
 
-impl<H: Hall> PackMachine<H> {
-    ghost use Rattle.shelf_machine.specs.Parts.{hall_of, index_of, is_sound, meaning_of};
-
-    /// The machine over a pack that is mounted, of which no write is pending.
-    pub fn open(hall: H, vol: Vol) -> PackMachine<H>
-        requires unit { IsOfUnit (H.facts hall).units vol }
-        requires mounted { IsTrue H.tells → IsMounted (image_in (H.meaning hall) (H.facts hall) vol.unit) vol }
+    /// Opens the machine over the packs on these units: reads all, compares their serials, and then repairs each whose
+    /// VTOC isn't settled.
+    ///
+    /// The error names the unit at which it stopped: the first whose pack breaks a rule of mounting, with the first rule
+    /// that it breaks, or else the lowest whose serial an earlier one has (`SameSerial`). `Device` comes only where the
+    /// count of device faults rose. But for that, nothing is written behind an error. A pack that is settled isn't
+    /// written to. A stop at any moment leaves images that stand for the same volumes, each guarded or with the VTOC that
+    /// it had (the bit of an interrupted update: this project's profile).
+    pub fn open(alloc: Global, hall: H, units: &[u8]) -> Result<HallShelf<H>, OpenErr<H>>
+        requires units { AreUnits (H.facts hall).units units.now }
         requires durable { IsTrue H.tells → IsDurable (H.meaning hall) }
-        ensures hall { hall_of result ≡ hall }
-        ensures vol { index_of result ≡ vol }
-        ensures sound { is_sound result ≡ true }
+        ensures opened { IfOk result (IsOpened units.now) }
+        ensures shelf { IsTrue H.tells → IfOk result
+            (OpensShelf (names_of (H.facts hall).units units.now) (H.meaning hall)) }
+        ensures refused { IsTrue H.tells → IfErr result
+            (RefusesShelf H.meaning (names_of (H.facts hall).units units.now) (H.meaning hall)) }
+        ensures unit { IfErr result (λ e. e.unit < length units.now) }
+        ensures stops { IsTrue H.tells → LeavesSafe (names_of (H.facts hall).units units.now)
+            (H.meaning hall) (H.meaning (hall_left result)) }
+        ensures faults { OpenCall (H.facts hall) result }
     {
-        PackMachine {
-            hall,
-            vol,
-            is_sound: true,
+        let mut hall = hall;
+        match open_packs(alloc, &mut hall, units) {
+            Ok(vols) => Ok(HallShelf {
+                hall,
+                vols,
+                is_sound: true,
+                done: 0,
+                writer: None,
+            }),
+            Err(stopped) => Err(OpenErr {
+                hall,
+                unit: stopped.unit,
+                why: stopped.why,
+            }),
         }
     }
 
-    /// The hall, as it is.
+    /// The hall, as it is: nothing is called. Behind a sound machine its packs are settled, and no write is pending.
     pub fn close(self) -> H
-        ensures { result ≡ hall_of self }
+        ensures hall { result ≡ hall_of self }
+        ensures settled { IsTrue (is_sound self) → IsTrue H.tells
+            → LeavesSettled self (pack_names self) }
     {
         self.hall
     }
-
-    /// The number of the volume with this serial, if it is on the shelf of a sound machine: 0, since there is
-    /// but one.
-    pub fn number_of(&self, serial: &Serial) -> Option<u8>
-        requires { is_sound self.now ≡ true }
-        ensures { IsTrue H.tells → result ≡ number_of (meaning_of self.now).state serial.now.bytes }
-    {
-        if self.vol.serial == *serial {
-            Some(0)
-        } else {
-            None
-        }
-    }
 }
 
-impl<H: Hall> PackMachine<H> {
-    ghost use Rattle.std.specs.Prelude.{IsErrOf};
-    ghost use Rattle.vol_model.specs.Calls.{Applies, IsIdle, Keeps, MachineCall};
-    ghost use Rattle.shelf_machine.specs.Parts.{PromisesFiles, PromisesVtoc, is_sound, meaning_of, status_of};
-
-    // Gives a data set of the volume of this number another name.
-    fn rename(&mut self, v: u8, old: &Dsn, new: &Dsn) -> Result<(), MachErr>
-        requires sound { IsTrue (is_sound self.old) }
-        ensures shelf { IsTrue H.tells
-            → Applies (Op.Rename v old.now new.now) (meaning_of self.old) (meaning_of self.new)
-            result }
-        ensures promise { IsTrue H.tells
-            → Keeps (meaning_of self.old).clock (PromisesVtoc self.old) (PromisesVtoc self.new) }
-        ensures stays { IsTrue H.tells
-            → IsIdle (step (meaning_of self.old).state (Op.Rename v old.now new.now)) result
-            → Keeps (meaning_of self.old).clock (PromisesFiles self.old) (PromisesFiles self.new) }
-        ensures status { MachineCall (status_of self.old) (status_of self.new) result }
-        ensures print { ¬ IsErrOf result MachErr.Print }
-    {
-        if v != 0 {
-            return Err(MachErr::Refused(Refusal::NoVolume));
-        }
-        match rename(&mut self.hall, &mut self.vol, old, new) {
-            Ok(()) => Ok(()),
-            Err(StoreErr::Refused(refusal)) => Err(MachErr::Refused(refusal)),
-            Err(_) => Err(fault(&mut self.is_sound, MachErr::Device)),
-        }
-    }
-}
-
-impl<H: Hall> Machine for PackMachine<H> {
-    ghost use Rattle.shelf_machine.specs.Parts.{PromisesFiles, PromisesVtoc, meaning_of, pack_name, status_of};
+impl<H: Hall> Machine for HallShelf<H> {
+    ghost use Rattle.shelf_machine.specs.Parts.{PromisesFiles, PromisesSafety, meaning_of, pack_names, status_of, writer_of};
+    ghost use Rattle.shelf_machine.specs.Lawful.{lawful_under};
 
     ghost tells = { H.tells };
 
     ghost tells_prints = { H.tells };
 
+    ghost roomy = { false };
+
     ghost meaning = { λ m. meaning_of m };
+
+    ghost writer = { λ m. writer_of m };
 
     ghost status = { λ m. status_of m };
 
-    ghost promise = { λ m t files. PromisesVtoc m t files };
+    ghost promise = { λ m t known. PromisesSafety m t known };
 
     ghost stays = { λ m t files. PromisesFiles m t files };
 
-    ghost lawful = { λ m told sound. lawful_in _ _ (m.kept sound told) };
+    ghost lawful = { λ m told sound. lawful_under (H.meaning m.hall).state (H.facts m.hall).units m.vols.items m.indexes.few };
 
-    ghost durable = { λ m told sound. durable_seen (shelf_named (pack_name m)) (H.meaning m.hall) (m.durable sound told) };
+    ghost durable = { λ m told sound. durable_seen (shelf_under (pack_names m)) (H.meaning m.hall) (m.durable sound told) };
 
     ghost leaves_state = { λ m told. ((H.meaning m.hall).state, H.leaves_state m.hall, refl) };
 
-    ghost counts_now = { λ m. counts_now_seen (shelf_named (pack_name m)) (H.meaning m.hall) (H.counts_now m.hall) };
+    ghost counts_now = { λ m. counts_now_seen (shelf_under (pack_names m)) (H.meaning m.hall) (H.counts_now m.hall) };
 
-    ghost only_now = { λ m. only_now_seen (shelf_named (pack_name m)) (H.meaning m.hall) (H.only_now m.hall) };
+    ghost only_now = { λ m. only_now_seen (shelf_under (pack_names m)) (H.meaning m.hall) (H.only_now m.hall) };
 
     fn is_sound(&self) -> bool {
         self.is_sound
     }
 
-    fn apply(&mut self, op: &Op) -> Result<(), MachErr> {
-        match op {
-            Op::Rename { v, old, new } => self.rename(*v, old, new),
+    fn done(&self) -> u64 {
+        self.done
+    }
+
+    fn volume(&self, v: u8) -> Option<VolumeInfo> {
+        reads::volume_on(&self.vols, v)
+    }
+
+    fn name_at(&mut self, v: u8, k: u32) -> Result<Option<Dsn>, WorkErr> {
+        Ok(reads::name_on(&self.vols, v, k))
+    }
+
+    fn attr(&mut self, v: u8, dsn: &Dsn) -> Result<Option<SetInfo>, WorkErr> {
+        Ok(reads::info_on(&self.vols, v, dsn))
+    }
+
+    fn extent(&mut self, v: u8, dsn: &Dsn, k: u8) -> Result<Option<Run>, WorkErr> {
+        Ok(reads::extent_on(&self.vols, v, dsn, k))
+    }
+
+    fn entry(&mut self, v: u8, dsn: &Dsn, _name: &Name8) -> Result<Option<Entry>, ReadErr> {
+        match reads::unread_on(&self.vols, v, dsn) {
+            Some(track) => Err(ReadErr::Unreadable(track)),
+            None => Ok(None),
         }
+    }
+
+    fn entry_at(&mut self, v: u8, dsn: &Dsn, _k: u32) -> Result<Option<Entry>, ReadErr> {
+        match reads::unread_on(&self.vols, v, dsn) {
+            Some(track) => Err(ReadErr::Unreadable(track)),
+            None => Ok(None),
+        }
+    }
+
+    fn read_block(&mut self, v: u8, dsn: &Dsn, _from: Place) -> Result<Option<Block>, ReadErr> {
+        match reads::unread_on(&self.vols, v, dsn) {
+            Some(track) => Err(ReadErr::Unreadable(track)),
+            None => Ok(None),
+        }
+    }
+
+    fn cat_node(&mut self, v: u8, _path: &CatPath) -> Result<Option<CatNode>, ReadErr> {
+        match reads::unread_catalog(&self.vols, v) {
+            Some(track) => Err(ReadErr::Unreadable(track)),
+            None => Ok(None),
+        }
+    }
+
+    fn cat_child_at(&mut self, v: u8, _path: &CatPath, _k: u32) -> Result<Option<Name8>, ReadErr> {
+        match reads::unread_catalog(&self.vols, v) {
+            Some(track) => Err(ReadErr::Unreadable(track)),
+            None => Ok(None),
+        }
+    }
+
+    fn read_into(
+        &mut self,
+        v: u8,
+        dsn: &Dsn,
+        _from: Place,
+        block: &mut BlockBuf,
+    ) -> Result<bool, CheckErr> {
+        block.clear();
+        match reads::unread_on(&self.vols, v, dsn) {
+            Some(track) => Err(CheckErr::Unreadable(track)),
+            None => Ok(false),
+        }
+    }
+
+    fn apply(&mut self, op: &Op) -> Result<(), MachErr> {
+        let ran = operate(&mut self.hall, &mut self.vols, op);
+        report(&mut self.is_sound, &mut self.done, ran)
+    }
+
+    fn begin(&mut self, v: u8, dsn: &Dsn, mode: Mode) -> Result<(), MachErr> {
+        match reads::write_refusal(&self.vols, v, dsn, mode) {
+            Some(refusal) => Err(MachErr::Refused(refusal)),
+            None => Err(MachErr::Memory),
+        }
+    }
+
+    fn put(&mut self, _key: &[u8], _payload: &[u8]) -> Result<Place, MachErr> {
+        Err(MachErr::Memory)
+    }
+
+    fn commit(&mut self) -> Result<(), MachErr> {
+        Err(MachErr::Memory)
+    }
+
+    fn abandon(&mut self) {
+        self.writer = None;
     }
 
     fn print(&mut self, bytes: &[u8]) -> Result<(), MachErr> {

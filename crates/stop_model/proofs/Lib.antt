@@ -1,3 +1,4 @@
+pub mod BlockLemmas
 pub mod MomentLemmas
 pub mod StageLemmas
 pub mod StepLemmas

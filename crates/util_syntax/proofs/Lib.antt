@@ -7,3 +7,4 @@ pub mod StatementLemmas
 pub mod Absent
 pub mod Reading
 pub mod Tables
+pub mod FormLemmas

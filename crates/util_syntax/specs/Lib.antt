@@ -1,6 +1,8 @@
+pub mod Forms
 pub mod Items
 pub mod Lines
 pub mod Listing
 pub mod Operands
+pub mod Program
 pub mod Statement
 pub mod Step

@@ -1,4 +1,10 @@
 pub mod Ranks
 pub mod InOrder
 pub mod Steps
+pub mod LawfulFacts
+pub mod FreeRuns
+pub mod Taken
 pub mod Stops
+pub mod Working
+pub mod Keeping
+pub mod Filling

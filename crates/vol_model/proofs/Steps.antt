@@ -1,25 +1,22 @@
 -- What the order of data sets, and a step, do to a shelf: its data sets stay in order, it stays lawful, and a rename can be undone.
 use Rattle.std.proofs.Common.{◌≡◌, ◌+◌, ◌<◌, ℕ, zero, suc, Bool, true, false, cond, not, ◌&&◌, ◌||◌, List, [], ◌∷◌, length, map, get_or, refl, sym, ap, subst, ◌∙◌, arith}
 use Rattle.std.proofs.Math.Logic.{⊎_elim}
-use Rattle.std.proofs.Props.{props}
 use Rattle.std.proofs.lemmas.Bool.{cases_Bool}
 use Rattle.std.proofs.lemmas.Cmp.{nat_list_cmp_total}
-use Rattle.std.proofs.lemmas.List.{length-set}
 use Rattle.std.proofs.lemmas.List.Elements.{All-from_recursion, recursion_from_All}
 use Rattle.std.proofs.lemmas.List.Folds.{Any-from_list_any}
-use Rattle.std.proofs.lemmas.List.Sorted.{All-permutation, Contains-permutation, IsPermutation-sym, list_any-IsPermutation, sorted_far}
+use Rattle.std.proofs.lemmas.List.Sorted.{Contains-permutation, IsPermutation-sym, list_any-IsPermutation, sorted_far}
 use Rattle.std.proofs.lemmas.Map.Keys.{IsDistinct-IsPermutation, apart_from_distinct}
 use Rattle.std.proofs.lemmas.Map.Text.{is_eq-slice_cmp}
 use Rattle.std.proofs.lemmas.Slice.Eq.{bytes_eq-Decides}
 use Rattle.std.specs.Cmp.Lexicographic.{slice_cmp}
-use Rattle.std.specs.List.{AllByRecursion, AllByRecursion-prop, IsDistinct, filter, list_any}
+use Rattle.std.specs.List.{AllByRecursion, IsDistinct, filter, list_any}
 use Rattle.std.specs.List.Sorted.{IsPermutation, IsSortedBy, ties}
 use Rattle.std.specs.Ordering.{is_lt, is_eq, nat_cmp, ordering_reverse}
 use Rattle.std.specs.Prelude.{None, Ok, Option, Some, if◌then◌else◌, slice_get, slice_set}
 use Rattle.std.specs.Str.{bytes_eq}
 use Rattle.std.specs.declared.cmp.Ordering.{Ordering}
 use Rattle.std.specs.declared.cmp.Ordering.TheVariants.{Less, Equal, Greater}
-use Rattle.ckd_image.specs.declared.header.Geometry.{Geometry}
 use Rattle.ebcdic_names.specs.declared.names.Dsn.{Dsn}
 use Rattle.vol_model.specs.declared.contents.DataSet.{DataSet}
 use Rattle.vol_model.specs.Order.{IsAscending, in_order, is_before}
@@ -27,9 +24,9 @@ use Rattle.vol_model.specs.declared.contents.Shelf.{Shelf}
 use Rattle.vol_model.specs.declared.contents.Volume.{Volume}
 use Rattle.vol_model.specs.declared.refusals.Refusal.{Refusal}
 use Rattle.vol_model.specs.declared.refusals.Refusal.TheVariants.{NoSet, SetExists, WrongKind}
-use Rattle.vol_model.specs.declared.requests.Op.{Op}
 use Rattle.vol_model.specs.declared.requests.Op.TheVariants.{Rename}
-use Rattle.vol_model.specs.Shelf.{IsLawful, IsLawfulSet, IsLawfulVolume, has_name, has_set, is_catalog, on_volume, rename_on, rename_refusal, renamed, step, unless_refused, with_name, with_volume}
+use Rattle.vol_model.specs.Lawful.{IsLawful, IsLawfulVolume}
+use Rattle.vol_model.specs.Shelf.{has_name, has_set, is_catalog, on_volume, rename_on, rename_refusal, renamed, step, step_on, unless_refused, with_name, with_volume}
 use Rattle.vol_model.proofs.InOrder.{in_order-permutation, in_order-sorted, in_order-stable, in_order-unique, is_before-order}
 
 -- two names are equal, or not
@@ -309,14 +306,6 @@ module _ (old : List ℕ) (new : Dsn) where
   renamed_sorted sets sorted up none moved sorted_up =
       sorted_in_order (map (with_name old new) sets) sorted (renamed-distinct sets (ascending-distinct sets up) none) moved sorted_up
 
-  lawful_set : (g : Geometry) (x : DataSet) (b : Bool) → IsLawfulSet g x → IsLawfulSet g (if b then record x { name = new } else x)
-  lawful_set g x true h = record { few = h.few; extents = h.extents; secondary = h.secondary }
-  lawful_set g x false h = h
-
-  lawful_sets : (g : Geometry) (sets : List DataSet) → AllByRecursion (IsLawfulSet g) sets → AllByRecursion (IsLawfulSet g) (map (with_name old new) sets)
-  lawful_sets g [] all = tt
-  lawful_sets g (x ∷ sets) all = (lawful_set g x (has_name old x) all.0, lawful_sets g sets all.1)
-
   later : (b c : Bool) → c ≡ true → (b || c) ≡ true
   later true c e = refl
   later false c e = e
@@ -389,12 +378,12 @@ module _ (shelf after : Shelf) (v : ℕ) (old new : Dsn) where
 
   -- what a rename that is done has found and left
   pub renames_of : step shelf (Rename v old new) ≡ Ok after → Renames shelf v old new after
-  unfolding step
+  unfolding step step_on
   renames_of = on_which (slice_get shelf.volumes v) refl
 
   -- the rename is done where it finds and leaves that
   pub renames_done : Renames shelf v old new after → step shelf (Rename v old new) ≡ Ok after
-  unfolding step rename_on rename_refusal
+  unfolding step step_on rename_on rename_refusal
   renames_done r =
       let volume = r.volume in
       ap (on_volume shelf v (rename_on old new)) r.at
@@ -402,21 +391,6 @@ module _ (shelf after : Shelf) (v : ℕ) (old new : Dsn) where
       ∙ ap (λ b. with_volume shelf v (unless_refused (refused_by true b (is_catalog old.bytes || is_catalog new.bytes)) (renamed volume old.bytes new))) r.no_new
       ∙ ap (λ c. with_volume shelf v (unless_refused (refused_by true false c) (renamed volume old.bytes new))) r.no_catalog
       ∙ ap Ok (sym r.is)
-
--- of a lawful volume the data sets in order are lawful after a rename
-lawful_renamed : (volume : Volume) (old : List ℕ) (new : Dsn) → IsLawfulVolume volume → has_set volume new.bytes ≡ false → IsLawfulVolume (renamed volume old new)
-unfolding renamed
-lawful_renamed volume old new h none =
-    let sets = map (with_name old new) volume.sets in
-    let Lawful : DataSet → Type 0 = IsLawfulSet volume.geometry in
-    let each = All-from_recursion Lawful sets (lawful_sets old new volume.geometry volume.sets h.sets) in
-    record {
-      some = h.some;
-      most = h.most;
-      slots = h.slots;
-      order = renamed-ascending old new volume.sets h.order none;
-      sets = recursion_from_All Lawful (in_order sets) (All-permutation Lawful sets (in_order sets) (in_order-permutation sets) each);
-    }
 
 module _ {X : Type 0} (P : X → Type 0) where
   each_at : (xs : List X) (i : ℕ) (x : X) → AllByRecursion P xs → slice_get xs i ≡ Some x → P x
@@ -438,18 +412,6 @@ set_back : {X : Type 0} (xs : List X) (i : ℕ) (x y : X) → slice_get xs i ≡
 set_back [] i x y at = refl
 set_back (z ∷ xs) zero x y at = let same : x ≡ z = cc in ap (λ w. w ∷ xs) same
 set_back (z ∷ xs) (suc i) x y at = ap (λ l. z ∷ l) (set_back xs i x y at)
-
-lawful_after : (shelf after : Shelf) (v : ℕ) (old new : Dsn) → IsLawful shelf → Renames shelf v old new after → IsLawful after
-lawful_after shelf after v old new h r =
-    let volume = r.volume in
-    let other = renamed volume old.bytes new in
-    let lawful = lawful_renamed volume old.bytes new (each_at IsLawfulVolume shelf.volumes v volume h.volumes r.at) r.no_new in
-    let few = h.few in
-    subst IsLawful (sym r.is) (record { few = omega (arith, length-set shelf.volumes v other); volumes = each_set IsLawfulVolume shelf.volumes v other h.volumes lawful })
-
--- a step leaves a lawful shelf lawful
-pub step_lawful : (s t : Shelf) (op : Op) → IsLawful s → step s op ≡ Ok t → IsLawful t
-step_lawful s t (Rename v old new) h done = lawful_after s t v old new h (renames_of s t v old new done)
 
 renamed_back : (volume : Volume) (old new : Dsn) → IsAscending volume.sets → has_set volume new.bytes ≡ false → bytes_eq new.bytes old.bytes ≡ false → renamed (renamed volume old.bytes new) new.bytes old ≡ volume
 unfolding renamed
@@ -490,19 +452,3 @@ back_renames s t v old new h r =
 -- a rename of a lawful shelf is undone by the one back to the old name
 pub undone : (s t : Shelf) (v : ℕ) (old new : Dsn) → IsLawful s → step s (Rename v old new) ≡ Ok t → step t (Rename v new old) ≡ Ok s
 undone s t v old new h done = renames_done t s v new old (back_renames s t v old new h (renames_of s t v old new done))
-
--- ---- that a shelf is lawful has one proof
-
-IsAscending-prop : (sets : List DataSet) → IsProp (IsAscending sets)
-IsAscending-prop [] = hlevel
-IsAscending-prop (x ∷ sets) = hlevel (props, IsAscending-prop sets)
-
-IsLawfulSet-prop : (g : Geometry) (x : DataSet) → IsProp (IsLawfulSet g x)
-IsLawfulSet-prop g x = hlevel (props, AllByRecursion-prop)
-
-IsLawfulVolume-prop : (volume : Volume) → IsProp (IsLawfulVolume volume)
-IsLawfulVolume-prop volume = hlevel (props, AllByRecursion-prop, IsAscending-prop, IsLawfulSet-prop)
-
--- so a machine may keep it
-pub IsLawful-prop : (shelf : Shelf) → IsProp (IsLawful shelf)
-IsLawful-prop shelf = hlevel (props, AllByRecursion-prop, IsLawfulVolume-prop)

@@ -1,6 +1,16 @@
 pub mod Order
+pub mod Trees
+pub mod Space
+pub mod Places
+pub mod Slots
 pub mod Shelf
+pub mod Lawful
 pub mod Events
+pub mod Did
+pub mod Writing
+pub mod Reading
+pub mod Moving
 pub mod Calls
+pub mod Quiet
 pub mod Runs
 pub mod Words

@@ -1,21 +1,22 @@
 //! The abstract volume: what a disk pack of OS/360 holds, without a slot, a chain or a bit of it, and the words in
 //! which operations on it are asked for and answered.
-//!
-//! Some types stand here for calls to come, and nothing uses them yet: `ReadErr`, `CheckErr`, `WorkErr`, `BadTtr`, `Mode`,
-//! `Kind`, `VolumeInfo`, `SetInfo`, `SpaceUnit` and `Request`.
 #![tactic(auto)]
 
 mod answers;
+mod buffers;
 mod catalogs;
 mod contents;
 mod lists;
 mod machine;
+mod moving;
+mod quiet;
 mod refusals;
 mod requests;
 
 pub use answers::{
     BadTtr, CheckErr, Kind, MachErr, Mode, ReadErr, SetInfo, Stop, StoreErr, VolumeInfo, WorkErr,
 };
+pub use buffers::BlockBuf;
 pub use catalogs::{CatBody, CatNode, CatPath, Names, Nodes, VolRef, VolRefs};
 pub use contents::{
     Attr, Block, Blocks, Body, DataSet, DataSets, Entries, Entry, Place, Run, Runs, Shelf, Volume,
@@ -23,8 +24,16 @@ pub use contents::{
 };
 pub use lists::{Listed, Text};
 pub use machine::Machine;
+pub use moving::move_ttrs;
+pub use quiet::Quiet;
 pub use refusals::Refusal;
 pub use requests::{Op, Request, SpaceUnit, is_catalog};
+
+/// The most units that are mounted together.
+pub const MAX_UNITS: usize = 8;
+
+/// The most blocks of a new directory.
+pub const MAX_DIR: u32 = 2_000;
 
 #[cfg(test)]
 mod tests;

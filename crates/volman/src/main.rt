@@ -1,5 +1,5 @@
-//! The volume manager: `volman names FILE` prints the names of the data sets on a pack, and
-//! `volman run --date yyddd FILE` does a RENAME statement on it.
+//! The volume manager: `volman run --date yyddd FILE...` runs a deck of jobs over packs, `init` makes a pack,
+//! `names` prints the names of the data sets on one, and `check` says whether one is settled.
 #![tactic(auto)]
 
 ghost use Rattle.std.specs.Prelude.{◌≡◌, ◌≢◌, [], IfOk, IfErr, IsOkAnd, IsErr};

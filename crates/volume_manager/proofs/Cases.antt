@@ -1,9 +1,11 @@
 -- Definitions on cases that a near reading answers otherwise.
-use Rattle.std.proofs.Common.{◌≡◌, ◌≤◌, ℕ, [], ◌∷◌, length, replicate, refl, inl, inr, ⊎_elim, ap, arith, length-append}
+use Rattle.std.proofs.Common.{◌≡◌, ◌≤◌, ℕ, refl, inl, inr, ⊎_elim, arith}
+use Rattle.std.specs.Fmt.{digits}
 use Rattle.std.specs.Prelude.{◌⊎◌, codes}
-use Rattle.volume_manager.specs.Deck.{TakesAtMost}
-use Rattle.volume_manager.specs.Run.{IsFinal, IsStatus, IsUnasked, IsUnbegun, file_asked}
-use Rattle.volume_manager.specs.Words.{Names, Run}
+use Rattle.deck_cards.specs.declared.reader.DeckErr.TheVariants.{Long, Wide, Byte}
+use Rattle.pack_spec.specs.declared.MountErr.TheVariants.{SameSerial}
+use Rattle.volume_manager.specs.Lines.{deck_line, deck_reason, reason_of}
+use Rattle.volume_manager.specs.Run.{IsFinal, IsStatus, IsUnasked, IsUnbegun}
 
 -- condition codes and refusals are final, faults and want of memory aren't
 codes_final : (n : ℕ) → n ≤ 16 → IsFinal n
@@ -38,13 +40,20 @@ begun_some n which is = ⊎_elim (λ few. omega (arith, which, few.0, few.1)) (�
 asked_some : IsUnasked 21 → ⊥
 asked_some is = ⊎_elim (λ (words : 21 ≡ 20). omega (arith, words)) (λ more. omega (arith, more)) is
 
--- a run asks for its file, and other words for none
-run_asks : file_asked (Run (codes "w.img")) ≡ codes "w.img"
-run_asks = refl
+-- the lines of a deck that is refused, and of a check
+wide_line : deck_line (Wide 7) ≡ codes "VOLMAN DECK WIDE 7\n"
+unfolding deck_line deck_reason digits
+wide_line = refl
 
-names_asks : file_asked (Names (codes "w.img")) ≡ codes "w.img"
-names_asks = refl
+byte_line : deck_line (Byte 12 73) ≡ codes "VOLMAN DECK BYTE 12 73\n"
+unfolding deck_line deck_reason digits
+byte_line = refl
 
--- of 84 bytes one stays
-one_stays : TakesAtMost 83 (replicate 84 65) [] → ⊥
-one_stays takes = omega (arith, takes.few, ap length takes.front, length-append takes.taken [])
+long_line : deck_line Long ≡ codes "VOLMAN DECK LONG\n"
+unfolding deck_line deck_reason digits
+long_line = refl
+
+-- two units of one serial
+same_serial_line : reason_of (SameSerial 1 0) ≡ codes "SAME-SERIAL 1 0"
+unfolding reason_of digits
+same_serial_line = refl

@@ -1,7 +1,13 @@
 mod Listings
 mod Tasks
+mod JobLines
 mod Works
-mod DeckLemmas
-mod Answering
-mod Cases
 mod Making
+mod FileTasks
+mod Checks
+mod Words
+mod Attaching
+mod Running
+mod Opening
+mod Bases
+mod Cases

@@ -18,7 +18,7 @@ use Rattle.vol_model.specs.Order.{in_order}
 use Rattle.vol_model.proofs.InOrder.{in_order-named}
 use Rattle.vol_model.specs.declared.contents.Volume.{Volume}
 use Rattle.vtoc_index.specs.declared.vol.Vol.{Vol}
-use Rattle.vtoc_index.specs.Index.{AreDscbs, IsMounted}
+use Rattle.vtoc_index.specs.Index.{IsMounted}
 use Rattle.volume_manager.specs.Names.{IsListing, names_in, names_of, set_name}
 
 -- the format 1 DSCBs in slots are those in their contents

@@ -1,17 +1,17 @@
 -- A new pack that is made, or not, and what a stop leaves of it.
 use Rattle.std.proofs.Common.{◌≡◌, ◌≢◌, ⊎_elim, inl, inr, ℕ, ◌++◌, List, [], refl, sym, ◌∙◌, ap, subst, arith}
-use Rattle.std.specs.Prelude.{◌⊎◌, Option, Some, None, Result, Ok, Err, IsErrOf}
+use Rattle.std.specs.Prelude.{◌⊎◌, Option, Some, None, Result, Ok, Err}
 use Rattle.std.proofs.lemmas.List.{append-nil}
 use Rattle.command_words.specs.declared.action.NewPack.{NewPack}
 use Rattle.pack_init.specs.declared.error.InitErr.{InitErr}
 use Rattle.pack_init.specs.declared.error.InitErr.TheVariants.{Device}
 use Rattle.pack_init.specs.Init.{IsInitLeft, MakesPack, with_file}
 use Rattle.stop_model.proofs.MomentLemmas.{OnlyNow}
-use Rattle.stop_model.specs.Files.{File, IsPrefixOf, file_of}
-use Rattle.stop_model.specs.Moments.{IsDurable, LeftNow, Meaning, Same}
+use Rattle.stop_model.specs.Files.{File, file_of}
+use Rattle.stop_model.specs.Moments.{IsDurable, Meaning, Same}
 use Rattle.volume_manager.specs.Lines.{exists_line, init_line}
-use Rattle.volume_manager.specs.Run.{AddsPrefix, FollowsTask, HasNewPack, IsFinal, IsStopInInit, PackMade, PrintsText}
-use Rattle.volume_manager.specs.Task.{Makes, Says, init_task}
+use Rattle.volume_manager.specs.Run.{AddsPrefix, FollowsTask, IsFinal, IsStopInInit, PrintsText}
+use Rattle.volume_manager.specs.Task.{Makes, init_task}
 use Rattle.volume_manager.proofs.Tasks.{durable_left, nothing_said, text_said}
 
 -- the making of a pack as the program asks for it

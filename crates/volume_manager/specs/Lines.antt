@@ -1,10 +1,12 @@
 -- The lines that the program prints.
-use Rattle.std.specs.Prelude.{ℕ, List, [], ◌∷◌, ◌++◌, codes}
+use Rattle.std.specs.Prelude.{ℕ, Bool, List, [], ◌∷◌, ◌++◌, codes, if◌then◌else◌}
 use Rattle.std.specs.Fmt.{decimal}
 use Rattle.std.specs.List.{flat_map}
 use Rattle.ebcdic_names.specs.Names.{shown}
 use Rattle.ckd_image.specs.declared.header.ImageErr.{ImageErr}
 use Rattle.ckd_image.specs.declared.header.ImageErr.TheVariants as image
+use Rattle.deck_cards.specs.declared.reader.DeckErr.{DeckErr}
+use Rattle.deck_cards.specs.declared.reader.DeckErr.TheVariants as deck
 use Rattle.pack_spec.specs.declared.MountErr.{MountErr}
 use Rattle.pack_spec.specs.declared.MountErr.TheVariants as mount
 
@@ -16,10 +18,6 @@ line text = text ++ 10 ∷ []
 unfoldable pub words_line : List ℕ
 words_line = line (codes "VOLMAN WORDS")
 
--- where the deck is refused
-unfoldable pub deck_line : List ℕ
-deck_line = line (codes "VOLMAN DECK FORM")
-
 -- a number in decimal, behind a blank
 abbrev pub number_text : ℕ → List ℕ
 number_text n = 32 ∷ decimal n
@@ -27,6 +25,18 @@ number_text n = 32 ∷ decimal n
 -- a word, and numbers behind it
 abbrev pub with_numbers : List ℕ → List ℕ → List ℕ
 with_numbers word numbers = word ++ flat_map number_text numbers
+
+-- why a deck is refused: a word for its cause, and the numbers that it has
+unfoldable pub deck_reason : DeckErr → List ℕ
+deck_reason deck.Long = with_numbers (codes "LONG") []
+deck_reason (deck.Wide card) = with_numbers (codes "WIDE") (card ∷ [])
+deck_reason (deck.Byte card column) = with_numbers (codes "BYTE") (card ∷ column ∷ [])
+deck_reason deck.Read = with_numbers (codes "READ") []
+deck_reason deck.Memory = with_numbers (codes "MEMORY") []
+
+-- where the deck is refused
+unfoldable pub deck_line : DeckErr → List ℕ
+deck_line why = line (codes "VOLMAN DECK " ++ deck_reason why)
 
 -- why a header is refused: a word for its cause, and the number that it has
 unfoldable pub image_reason : ImageErr → List ℕ
@@ -53,6 +63,9 @@ reason_of (mount.UnsupportedExtent slot) = with_numbers (codes "UNSUPPORTED-EXTE
 reason_of (mount.BadExtent slot) = with_numbers (codes "BAD-EXTENT") (slot ∷ [])
 reason_of (mount.BadChain slot) = with_numbers (codes "BAD-CHAIN") (slot ∷ [])
 reason_of (mount.DuplicateName slot other) = with_numbers (codes "DUPLICATE-NAME") (slot ∷ other ∷ [])
+reason_of (mount.Overlap track) = with_numbers (codes "OVERLAP") (track ∷ [])
+reason_of (mount.VtocFull slots) = with_numbers (codes "VTOC-FULL") (slots ∷ [])
+reason_of (mount.SameSerial unit other) = with_numbers (codes "SAME-SERIAL") (unit ∷ other ∷ [])
 reason_of mount.Memory = with_numbers (codes "MEMORY") []
 reason_of mount.Device = with_numbers (codes "DEVICE") []
 
@@ -63,6 +76,14 @@ unit_line file why = line (codes "VOLMAN UNIT " ++ file ++ codes " " ++ reason_o
 -- where the file of a new pack is there already
 unfoldable pub exists_line : List ℕ → List ℕ
 exists_line file = line (codes "VOLMAN UNIT " ++ file ++ codes " EXISTS")
+
+-- whether a pack is settled
+abbrev pub settled_word : Bool → List ℕ
+settled_word settled = if settled then codes " SETTLED" else codes " UNSETTLED"
+
+-- whether the pack of this serial is settled
+unfoldable pub check_line : List ℕ → Bool → List ℕ
+check_line serial settled = line (codes "CHECK " ++ shown serial ++ settled_word settled)
 
 -- where a new pack was made
 unfoldable pub init_line : List ℕ → List ℕ

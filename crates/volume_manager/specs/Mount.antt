@@ -17,4 +17,4 @@ pub record IsPackIn (file : List ℕ) (files : List File) (v : Vol) : Type 0 whe
 
 -- Whatever was to be done, this is why the file is refused; want of memory and a fault of the device say nothing of it.
 pub record RefusesFile (file : List ℕ) (files : List File) (e : MountErr) : Type 0 where
-  pub why : e ≢ Memory → e ≢ Device → (task : Volume → Task) → task_on file task (file_of files file) ≡ Says 21 (unit_line file e)
+  pub why : e ≢ Memory → e ≢ Device → (task : List ℕ → Volume → Task) → task_on file task (file_of files file) ≡ Says 21 (unit_line file e)

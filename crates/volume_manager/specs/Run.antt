@@ -1,30 +1,31 @@
 -- What a run of the program leaves.
-use Rattle.std.specs.Prelude.{◌≡◌, ◌≢◌, ◌⊎◌, ℕ, ◌≤◌, Bool, List, [], ◌∷◌, ◌++◌, Option, Some, None, Ok, IsTrue}
+use Rattle.std.specs.Prelude.{◌≡◌, ◌≢◌, ◌⊎◌, ℕ, ◌≤◌, Bool, List, [], ◌∷◌, ◌++◌, map, take, Option, Some, None, Result, Ok, IsTrue}
+use Rattle.card_text.specs.declared.cards.Card.{Card}
 use Rattle.command_words.specs.declared.action.NewPack.{NewPack}
-use Rattle.dadsm_ops.specs.Operations.{ChangesVtoc, image_named}
-use Rattle.hall_core.specs.Facts.{Facts}
+use Rattle.command_words.specs.Requests.{Request, Run, Init, Names, Check}
+use Rattle.deck_cards.specs.Deck.{deck}
+use Rattle.deck_cards.specs.declared.reader.DeckErr.{DeckErr}
+use Rattle.hall_core.specs.Facts.{Attached, Facts}
 use Rattle.stop_model.specs.Counts.{Rose}
 use Rattle.stop_model.specs.Files.{File, IsPrefixOf}
 use Rattle.stop_model.specs.Moments.{Meaning, IsDurable, LeavesSame, LeftNow, Elapses}
 use Rattle.pack_init.specs.Init.{IsInitLeft, with_file}
 use Rattle.pack_spec.specs.New.{IsNewImage}
-use Rattle.pack_spec.specs.Volume.{volume_of}
-use Rattle.util_syntax.specs.declared.statement.Rename.{Rename}
+use Rattle.pack_spec.specs.Shelf.{shelf_of}
+use Rattle.shelf_machine.specs.Opening.{AreSafe, AreSettledVtocs, images_named}
 use Rattle.vol_model.specs.declared.contents.Shelf.{Shelf}
-use Rattle.vol_model.specs.declared.contents.Volume.{Volume}
 use Rattle.vol_model.specs.Events as events
-use Rattle.vol_model.specs.Events.{Item, StandsIn, events_of, listing, operations_of, shelf_behind}
-use Rattle.volume_manager.specs.Deck.{deck_of}
-use Rattle.shelf_machine.specs.Machine.{shelf_with}
+use Rattle.vol_model.specs.Events.{Item, StandsIn, events_of, listing, shelf_behind}
 use Rattle.volume_manager.specs.Lines.{init_line}
-use Rattle.volume_manager.specs.Task.{Task, Says, Works, Makes, task_of}
-use Rattle.volume_manager.specs.Words.{IsRun, Request, Names, Run, Init}
+use Rattle.volume_manager.specs.Task.{IsSilent, Task, Says, Works, Makes, task_of}
+use Rattle.volume_manager.specs.Words.{IsRefused, IsRun}
 use Rattle.volume_manager.specs.declared.status.Status.{Status}
-use Rattle.volume_manager.specs.declared.status.Status.TheVariants.{Done, Words, Unit, Device, Cards, Print, Memory, Deck}
+use Rattle.volume_manager.specs.declared.status.Status.TheVariants.{Done, Unsettled, Words, Unit, Device, Cards, Print, Memory, Deck}
 
 -- the number of a status
 abbrev pub code_of : Status → ℕ
 code_of Done = 0
+code_of Unsettled = 4
 code_of Words = 20
 code_of Unit = 21
 code_of Device = 22
@@ -45,17 +46,16 @@ IsFinal n = (n ≤ 21) ⊎ (n ≡ 26)
 abbrev pub AddsPrefix : List ℕ → List ℕ → List ℕ → Type 0
 AddsPrefix text old new = (q : List ℕ) × IsPrefixOf q text × (new ≡ old ++ q)
 
--- the image under this name stands for a volume, and the shelf is that of it alone
-abbrev pub StandsFor : List ℕ → List File → Shelf → Type 0
-StandsFor file files shelf = (volume : Volume) × (volume_of (image_named files file) ≡ Ok volume) × (shelf ≡ shelf_with volume)
-
--- All items were done: the status is their highest condition code, their lines were printed, the image stands durably for the shelf after all their operations, and nothing but tracks of its VTOC was changed.
-pub record AllItemsDone (file : List ℕ) (volume : Volume) (items : List Item) (old new : Meaning (List File)) (status : ℕ) : Type 0 where
+-- All items were done: the status is their highest condition code, their lines were printed, and the images, each settled, stand durably for the shelf after all their operations; besides, nothing but the VTOCs was changed.
+pub record AllItemsDone (names : List (List ℕ)) (shelf : Shelf) (items : List Item)
+    (before : List File) (printed : List ℕ) (new : Meaning (List File)) (status : ℕ) : Type 0 where
   pub code : status ≡ events.code_of items
-  pub printed : new.printed ≡ old.printed ++ listing (events_of items)
-  pub shelf : StandsFor file new.state (shelf_behind (shelf_with volume) (events_of items))
+  pub few : status ≤ 16
+  pub listed : new.printed ≡ printed ++ listing (events_of items)
+  pub stands : shelf_of (images_named new.state names) ≡ Ok (shelf_behind shelf (events_of items))
+  pub settled : AreSettledVtocs names new.state
   pub durable : IsDurable new
-  pub changes : ChangesVtoc file volume.geometry volume.vtoc old.state new.state
+  pub safe : AreSafe names shelf.volumes before new.state
 
 -- the whole new pack stands in its file, behind the files that were there
 abbrev pub HasNewPack : NewPack → List ℕ → List File → List File → Type 0
@@ -71,18 +71,18 @@ pub record PackMade (pack : NewPack) (file : List ℕ) (old new : Meaning (List 
 -- the task was done, and this is its status
 abbrev pub IsTaskDone : Task → Meaning (List File) → Meaning (List File) → ℕ → Type 0
 IsTaskDone (Says code text) old new status = (status ≡ code) × (new.printed ≡ old.printed ++ text)
-IsTaskDone (Works file volume items) old new status = AllItemsDone file volume items old new status
+IsTaskDone (Works names shelf items) old new status = AllItemsDone names shelf items old.state old.printed new status
 IsTaskDone (Makes pack file) old new status = PackMade pack file old new status
 
--- What a stop leaves of a run of items: behind what was printed a prefix of their lines; an image that stands for the shelf after some of their operations, all that are reported and none that can't have begun; and nothing changed but tracks of its VTOC, and nothing at all where there is no operation.
-pub record IsStopIn (file : List ℕ) (volume : Volume) (items : List Item) (old : Meaning (List File)) (files : List File) (printed : List ℕ) : Type 0 where
-  pub shelf : Shelf
-  pub stands : StandsFor file files shelf
+-- What a stop leaves of a run of items: behind what was printed a prefix of their lines; images that stand for the shelf after some of their operations, all that are reported and none that can't have begun; and each image guarded or with the VTOC of the begin, and else as it was.
+pub record IsStopIn (names : List (List ℕ)) (shelf : Shelf) (items : List Item)
+    (before : List File) (start : List ℕ) (files : List File) (printed : List ℕ) : Type 0 where
+  pub left : Shelf
+  pub stands : shelf_of (images_named files names) ≡ Ok left
   pub front : List ℕ
-  pub text : printed ≡ old.printed ++ front
-  pub place : StandsIn (shelf_with volume) (events_of items) shelf front
-  pub changes : ChangesVtoc file volume.geometry volume.vtoc old.state files
-  pub idle : operations_of (events_of items) ≡ [] → files ≡ old.state
+  pub text : printed ≡ start ++ front
+  pub place : StandsIn shelf (events_of items) left front
+  pub safe : AreSafe names shelf.volumes before files
 
 -- A text was printed, or a prefix of it, and nothing was written: the files stay, and a stop leaves them as before.
 pub record KeepsFiles (text : List ℕ) (old new : Meaning (List File)) : Type 0 where
@@ -92,9 +92,11 @@ pub record KeepsFiles (text : List ℕ) (old new : Meaning (List File)) : Type 0
   pub moments : Elapses old new (λ files p. old.left files × AddsPrefix text old.printed p)
 
 -- Time goes on, and whatever a stop since the begin left is what one in these items may leave.
-pub record StopsInItems (file : List ℕ) (volume : Volume) (items : List Item) (old new : Meaning (List File)) : Type 0 where
+pub record StopsInItems (names : List (List ℕ)) (shelf : Shelf) (items : List Item)
+    (old new : Meaning (List File)) : Type 0 where
   pub later : old.clock ≤ new.clock
-  pub stops : (files : List File) (printed : List ℕ) → new.left_since old.clock files printed → IsStopIn file volume items old files printed
+  pub stops : (files : List File) (printed : List ℕ) → new.left_since old.clock files printed
+      → IsStopIn names shelf items old.state old.printed files printed
 
 -- What a stop leaves of the making of a pack: no file, one whose image is refused, or the whole new pack, and that where a byte of its line is printed.
 pub record IsStopInInit (pack : NewPack) (file : List ℕ) (old : Meaning (List File)) (files : List File) (printed : List ℕ) : Type 0 where
@@ -112,13 +114,13 @@ pub record StopsInInit (pack : NewPack) (file : List ℕ) (old new : Meaning (Li
 -- whatever the status, a stop at any moment leaves what the task allows
 abbrev pub StopsInTask : Task → Meaning (List File) → Meaning (List File) → Type 0
 StopsInTask (Says code text) old new = KeepsFiles text old new
-StopsInTask (Works file volume items) old new = StopsInItems file volume items old new
+StopsInTask (Works names shelf items) old new = StopsInItems names shelf items old new
 StopsInTask (Makes pack file) old new = StopsInInit pack file old new
 
--- A task is done where the status says so, and is safe whatever the status is; where memory ran out nothing was printed.
+-- A task is done where the status says so, and is safe whatever the status is; where memory ran out nothing was printed but lines of items.
 pub record FollowsTask (task : Task) (old new : Meaning (List File)) (status : ℕ) : Type 0 where
   pub ends : IsFinal status → IsTaskDone task old new status
-  pub silent : status ≡ 25 → new.printed ≡ old.printed
+  pub silent : status ≡ 25 → IsSilent task old new
   pub stops : StopsInTask task old new
 
 -- A text was printed, all of it but where the printer failed. The files stay, and a stop leaves them as before; one meanwhile leaves a prefix of the text.
@@ -130,11 +132,18 @@ pub record PrintsText (text : List ℕ) (old new : Meaning (List File)) (result 
 abbrev pub LeftOnlyNow : Meaning (List File) → ℕ → Type 0
 LeftOnlyNow m t = (files : List File) (printed : List ℕ) → m.left_since t files printed → (files ≡ m.state) × (printed ≡ m.printed)
 
--- Items on the shelf of a pack that was mounted: they are done where the status says so; and if a stop since a moment left nothing else than was there, then one since that moment leaves what one in the items may leave.
-pub record RunsItems (file : List ℕ) (volume : Volume) (items : List Item) (old new : Meaning (List File)) (status : ℕ) : Type 0 where
-  pub ends : IsFinal status → AllItemsDone file volume items old new status
-  pub later : old.clock ≤ new.clock
-  pub stops : (t : ℕ) → t ≤ old.clock → LeftOnlyNow old t → (files : List File) (printed : List ℕ) → new.left_since t files printed → IsStopIn file volume items old files printed
+-- a stop since a moment left images that stand for this shelf, and what is printed now
+abbrev pub LeavesShelf : List (List ℕ) → Shelf → Meaning (List File) → ℕ → Type 0
+LeavesShelf names shelf m t = (files : List File) (printed : List ℕ) → m.left_since t files printed
+    → (shelf_of (images_named files names) ≡ Ok shelf) × (printed ≡ m.printed)
+
+-- Items on a shelf, since a moment of which the files and the printed bytes are known: they are done where the status says so, and a stop since that moment leaves what one in them may leave.
+pub record RunsItems (names : List (List ℕ)) (shelf : Shelf) (items : List Item) (t : ℕ)
+    (before : List File) (start : List ℕ) (new : Meaning (List File)) (status : ℕ) : Type 0 where
+  pub ends : IsFinal status → AllItemsDone names shelf items before start new status
+  pub later : t ≤ new.clock
+  pub stops : (files : List File) (printed : List ℕ) → new.left_since t files printed
+      → IsStopIn names shelf items before start files printed
 
 -- A sync, done or failed: what is read stays, and is durable but where the status is that of a device fault.
 pub record OnlySynced (old new : Meaning (List File)) (status : ℕ) : Type 0 where
@@ -148,29 +157,40 @@ pub record NoCountFell (old new : Facts) : Type 0 where
   pub devices : old.dev_faults ≤ new.dev_faults
   pub prints : old.print_faults ≤ new.print_faults
 
--- the file that is asked for
-abbrev pub file_asked : Request → List ℕ
-file_asked (Names file) = file
-file_asked (Run file) = file
-file_asked (Init pack file) = file
-
 -- The units that stood stay, and at most this file was attached behind them.
 abbrev pub AttachesAtMost : List ℕ → Facts → Facts → Type 0
-AttachesAtMost name old new = (new.units ≡ old.units) ⊎ ((size : ℕ) × (new.units ≡ old.units ++ record { name = name; size = size } ∷ []))
+AttachesAtMost name old new = (new.units ≡ old.units)
+    ⊎ ((size : ℕ) × (new.units ≡ old.units ++ record { name = name; size = size } ∷ []))
 
--- The units that stood stay, and at most the file that is asked for was attached behind them.
+-- The units that stood stay, and some first ones of these files were attached behind them.
+abbrev pub AttachesFirst : List (List ℕ) → Facts → Facts → Type 0
+AttachesFirst names old new = (count : ℕ) × (added : List Attached)
+    × (map (λ (u : Attached). u.name) added ≡ take count names) × (new.units ≡ old.units ++ added)
+
+-- The units that stood stay, and at most the files that are asked for were attached behind them, in order.
 abbrev pub AttachesAsked : Option Request → Facts → Facts → Type 0
 AttachesAsked None old new = new.units ≡ old.units
-AttachesAsked (Some request) old new = AttachesAtMost (file_asked request) old new
+AttachesAsked (Some (Run date files)) old new = AttachesFirst files old new
+AttachesAsked (Some (Init pack file)) old new = AttachesAtMost file old new
+AttachesAsked (Some (Names file)) old new = AttachesAtMost file old new
+AttachesAsked (Some (Check file)) old new = AttachesAtMost file old new
 
--- Calls over a file: a fault is reported only where its count rose; at most the file was attached.
-pub record FileFacts (file : List ℕ) (old new : Facts) (status : ℕ) : Type 0 where
+-- Calls over files, of which these were attached: a fault is reported only where its count rose.
+pub record EndFacts (attached : Type 0) (old new : Facts) (status : ℕ) : Type 0 where
   pub which : (status ≤ 16) ⊎ ((status ≡ 21) ⊎ ((status ≡ 22) ⊎ ((status ≡ 24) ⊎ (status ≡ 25))))
   pub device : status ≡ 22 → Rose old.dev_faults new.dev_faults
   pub print : status ≡ 24 → Rose old.print_faults new.print_faults
   pub later : NoCountFell old new
   pub references : new.references ≡ old.references
-  pub units : AttachesAtMost file old new
+  pub units : attached
+
+-- such calls over one file
+abbrev pub FileFacts : List ℕ → Facts → Facts → ℕ → Type 0
+FileFacts file old new status = EndFacts (AttachesAtMost file old new) old new status
+
+-- and over several
+abbrev pub RunFacts : List (List ℕ) → Facts → Facts → ℕ → Type 0
+RunFacts names old new status = EndFacts (AttachesFirst names old new) old new status
 
 -- the files stay, and a stop leaves them as before
 abbrev pub LeavesFiles : Meaning (List File) → Meaning (List File) → Type 0
@@ -186,11 +206,11 @@ IsUnasked n = (n ≡ 20) ⊎ ((n ≡ 23) ⊎ (n ≡ 26))
 
 -- The task that is asked for is done or safe, with the deck that the cards held at the begin, or, where these don't tell, with some deck.
 pub record DoesTask (request : Option Request) (tells : Bool) (input : List ℕ) (old new : Meaning (List File)) (status : ℕ) : Type 0 where
-  pub deck : Option Rename
-  pub given : IsTrue tells → deck ≡ deck_of input
-  pub follows : FollowsTask (task_of request deck old.state) old new status
+  pub cards : Result (List Card) DeckErr
+  pub given : IsTrue tells → cards ≡ deck input
+  pub follows : FollowsTask (task_of request cards old.state) old new status
 
--- What the program promises: the task is done or safe; where nothing was begun the files stay; a fault in a task without statements prints nothing; and but for a fault of the device or of the printer no write is pending then.
+-- What the program promises: the task is done or safe; where nothing was begun the files stay; a fault in a task without a deck prints nothing; and but for a fault of the device or of the printer no write is pending then.
 pub record Headline (request : Option Request) (tells : Bool) (input : List ℕ) (old new : Meaning (List File)) (status : ℕ) : Type 0 where
   pub does : DoesTask request tells input old new status
   pub unbegun : IsUnbegun status → LeavesFiles old new
@@ -203,21 +223,21 @@ pub record Causes (request : Option Request) (tells : Bool) (input : List ℕ) (
   pub words : status ≡ 20 → request ≡ None
   pub refused : request ≡ None → (status ≡ 20) ⊎ ((status ≡ 24) ⊎ (status ≡ 25))
   pub asked : status ≡ 26 → IsRun request
-  pub form : status ≡ 26 → IsTrue tells → deck_of input ≡ None
-  pub formless : IsTrue tells → IsRun request → deck_of input ≡ None → (status ≡ 26) ⊎ ((status ≡ 23) ⊎ ((status ≡ 24) ⊎ (status ≡ 25)))
+  pub form : status ≡ 26 → IsTrue tells → IsRefused (deck input)
+  pub formless : IsTrue tells → IsRun request → IsRefused (deck input) → (status ≡ 26) ⊎ ((status ≡ 23) ⊎ ((status ≡ 24) ⊎ (status ≡ 25)))
   pub device : status ≡ 22 → Rose old.dev_faults new.dev_faults
   pub read : status ≡ 23 → Rose card_faults card_faults'
   pub print : status ≡ 24 → Rose old.print_faults new.print_faults
   pub later : NoCountFell old new
   pub cards_later : card_faults ≤ card_faults'
 
--- It is the same hall, with at most the file that the words name, and that only where words and deck are taken.
+-- It is the same hall, with at most the files that the words name, and those only where words and deck are taken.
 pub record Attachments (request : Option Request) (tells : Bool) (input : List ℕ) (old new : Facts) (status : ℕ) : Type 0 where
   pub references : new.references ≡ old.references
   pub units : AttachesAsked request old new
   pub unasked : IsUnasked status → new.units ≡ old.units
-  pub refused_deck : IsTrue tells → IsRun request → deck_of input ≡ None → new.units ≡ old.units
+  pub refused_deck : IsTrue tells → IsRun request → IsRefused (deck input) → new.units ≡ old.units
 
--- no card is left where a deck was done or refused by its statement
+-- no card is left where a deck was done
 abbrev pub ReadsDeck : Option Request → List ℕ → ℕ → Type 0
 ReadsDeck request left status = IsRun request → status ≤ 16 → left ≡ []

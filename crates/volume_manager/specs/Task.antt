@@ -1,23 +1,29 @@
 -- What the program is to do, by its words, the deck and the files.
-use Rattle.std.specs.Prelude.{ℕ, List, [], ◌∷◌, Option, Some, None, Result, Ok, Err}
+use Rattle.std.specs.Prelude.{◌≡◌, ℕ, List, [], find, is_none, slice_index_or, Option, Some, None, Result, Ok, Err, if◌then◌else◌}
+use Rattle.card_text.specs.declared.cards.Card.{Card}
 use Rattle.command_words.specs.declared.action.NewPack.{NewPack}
+use Rattle.command_words.specs.Requests.{Request, Run, Init, Names, Check}
+use Rattle.deck_cards.specs.declared.reader.DeckErr.{DeckErr}
+use Rattle.job_deck.specs.Jobs.{jobs_of}
+use Rattle.job_runner.specs.Jobs.{jobs_work}
 use Rattle.stop_model.specs.Files.{File, file_of}
+use Rattle.stop_model.specs.Moments.{Meaning}
 use Rattle.pack_spec.specs.declared.MountErr.{MountErr}
 use Rattle.pack_spec.specs.declared.MountErr.TheVariants.{NoFile}
+use Rattle.free_rebuild.specs.Settled.{is_settled_vtoc}
+use Rattle.pack_spec.specs.Shelf.{UnitRefusal, shelf_of}
 use Rattle.pack_spec.specs.Volume.{volume_of}
-use Rattle.util_syntax.specs.declared.statement.Rename.{Rename}
+use Rattle.vol_model.specs.declared.contents.Shelf.{Shelf}
 use Rattle.vol_model.specs.declared.contents.Volume.{Volume}
 use Rattle.vol_model.specs.Events.{Item}
-use Rattle.volume_manager.specs.Lines.{deck_line, exists_line, names_listing, unit_line, words_line}
-use Rattle.shelf_machine.specs.Machine.{shelf_with}
+use Rattle.shelf_machine.specs.Opening.{images_named}
+use Rattle.volume_manager.specs.Lines.{check_line, deck_line, exists_line, names_listing, unit_line, words_line}
 use Rattle.volume_manager.specs.Names.{names_of}
-use Rattle.volume_manager.specs.Statement.{item_of}
-use Rattle.volume_manager.specs.Words.{Request, Names, Run, Init}
 
--- A text to print, and the status to end with; or a file, the volume that its image stands for, and what is to be done on the shelf of that; or a new pack to make in a file that isn't there.
+-- A text to print, and the status to end with; or files, the shelf that their images stand for, and what is to be done on that; or a new pack to make in a file that isn't there.
 pub data Task : Type 0 where
   Says : (status : ℕ) → (text : List ℕ) → Task
-  Works : (file : List ℕ) → (volume : Volume) → (items : List Item) → Task
+  Works : (files : List (List ℕ)) → (shelf : Shelf) → (items : List Item) → Task
   Makes : (pack : NewPack) → (file : List ℕ) → Task
 
 -- the task on a file whose image stands for a volume, or is refused
@@ -26,22 +32,46 @@ task_for file task (Err e) = Says 21 (unit_line file e)
 task_for file task (Ok volume) = task volume
 
 -- the task on a file, which may be missing
-abbrev pub task_on : List ℕ → (Volume → Task) → Option (List ℕ) → Task
+abbrev pub task_on : List ℕ → (List ℕ → Volume → Task) → Option (List ℕ) → Task
 task_on file task None = Says 21 (unit_line file NoFile)
-task_on file task (Some image) = task_for file task (volume_of image)
+task_on file task (Some image) = task_for file (task image) (volume_of image)
 
 -- the names on a volume
-abbrev pub names_task : Volume → Task
-names_task volume = Says 0 (names_listing (names_of volume.sets))
+abbrev pub names_task : List ℕ → Volume → Task
+names_task image volume = Says 0 (names_listing (names_of volume.sets))
 
--- a statement on the volume in a file
-abbrev pub statement_task : List ℕ → Rename → Volume → Task
-statement_task file s volume = Works file volume (item_of (shelf_with volume) s ∷ [])
+-- whether the image that stands for a volume is settled
+abbrev pub check_task : List ℕ → Volume → Task
+check_task image volume =
+    let settled = is_settled_vtoc image in
+    Says (if settled then 0 else 4) (check_line volume.serial.bytes settled)
 
--- a deck over a file: it is refused before the file is asked for
-abbrev pub deck_task : List ℕ → Option Rename → List File → Task
-deck_task file None files = Says 26 deck_line
-deck_task file (Some s) files = task_on file (statement_task file s) (file_of files file)
+-- the items of the jobs that cards ask for, on the date of a run
+abbrev pub items_of : List ℕ → List Card → Shelf → List Item
+items_of date cards shelf = (jobs_work date (jobs_of date cards) shelf).items
+
+-- the name of a unit
+abbrev pub name_of : List (List ℕ) → ℕ → List ℕ
+name_of names unit = slice_index_or names unit []
+
+-- cards on the shelf of the images in files, or the refusal of one of these
+abbrev pub shelf_task : List ℕ → List (List ℕ) → List Card → Result Shelf UnitRefusal → Task
+shelf_task date names cards (Err r) = Says 21 (unit_line (name_of names r.unit) r.why)
+shelf_task date names cards (Ok shelf) = Works names shelf (items_of date cards shelf)
+
+-- the first of these names that no file has
+abbrev pub missing_of : List File → List (List ℕ) → Option (List ℕ)
+missing_of files names = find (λ name. is_none (file_of files name)) names
+
+-- cards over files, of which one may be missing
+abbrev pub cards_task : List ℕ → List (List ℕ) → List Card → List File → Option (List ℕ) → Task
+cards_task date names cards files None = shelf_task date names cards (shelf_of (images_named files names))
+cards_task date names cards files (Some name) = Says 21 (unit_line name NoFile)
+
+-- a deck over files: it is refused before the files are asked for
+abbrev pub deck_task : List ℕ → List (List ℕ) → Result (List Card) DeckErr → List File → Task
+deck_task date names (Err e) files = Says 26 (deck_line e)
+deck_task date names (Ok cards) files = cards_task date names cards files (missing_of files names)
 
 -- a new pack in a file, which may be there already
 abbrev pub init_task : NewPack → List ℕ → Option (List ℕ) → Task
@@ -49,8 +79,14 @@ init_task pack file None = Makes pack file
 init_task pack file (Some image) = Says 21 (exists_line file)
 
 -- what is to be done where the words ask for this, or are refused, with this deck and these files
-unfoldable pub task_of : Option Request → Option Rename → List File → Task
+unfoldable pub task_of : Option Request → Result (List Card) DeckErr → List File → Task
 task_of None deck files = Says 20 words_line
 task_of (Some (Names file)) deck files = task_on file names_task (file_of files file)
-task_of (Some (Run file)) deck files = deck_task file deck files
+task_of (Some (Check file)) deck files = task_on file check_task (file_of files file)
+task_of (Some (Run date names)) deck files = deck_task date names deck files
 task_of (Some (Init pack file)) deck files = init_task pack file (file_of files file)
+
+-- nothing was printed, unless items were to be done
+abbrev pub IsSilent : Task → Meaning (List File) → Meaning (List File) → Type 0
+IsSilent (Works names shelf items) old new = Unit {0}
+IsSilent _ old new = new.printed ≡ old.printed

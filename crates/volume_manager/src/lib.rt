@@ -2,17 +2,17 @@
 //! over the cards of a source.
 #![tactic(auto)]
 
-mod deck;
+mod attach;
+mod check;
 mod end;
 mod init;
 mod mount;
 mod names;
 mod reason;
-mod statement;
+mod run;
 mod status;
 mod text;
 mod top;
-mod words;
 mod work;
 
 pub use status::Status;

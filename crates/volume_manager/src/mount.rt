@@ -4,10 +4,12 @@ ghost use Rattle.stop_model.specs.Counts.{Rose};
 ghost use Rattle.hall_core.specs.Facts.{unit_of};
 ghost use Rattle.stop_model.specs.Moments.{Same};
 ghost use Rattle.vtoc_index.specs.Index.{IsOfUnit};
+ghost use Rattle.vtoc_index.specs.Names.{AreByName, name_at};
 ghost use Rattle.volume_manager.specs.Mount.{IsPackIn, RefusesFile};
 ghost use Rattle.volume_manager.specs.Run.{AttachesAtMost};
 
-use hall_core::{Hall, HallErr};
+use crate::attach::attach;
+use hall_core::Hall;
 use std::alloc::Global;
 use vtoc_index::{MountErr, Vol, read_vtoc};
 
@@ -23,6 +25,7 @@ pub fn mount<H: Hall>(alloc: Global, hall: &mut H, file: &str) -> Result<Vol, Mo
     ensures refused { IsTrue H.tells → IfErr result (RefusesFile file.now (H.meaning hall.old).state) }
     ensures unit { IfOk result (λ vol. IsOfUnit (H.facts hall.new).units vol × ((unit_of (H.facts
         hall.new).units vol.unit).name ≡ file.now)) }
+    ensures names { IfOk result (λ vol. AreByName (name_at vol.slots.items) vol.by_name.items) }
     ensures files { IsTrue H.tells → Same (H.meaning hall.old) (H.meaning hall.new) }
     ensures units { AttachesAtMost file.now (H.facts hall.old) (H.facts hall.new) }
     ensures references { (H.facts hall.new).references ≡ (H.facts hall.old).references }
@@ -31,11 +34,6 @@ pub fn mount<H: Hall>(alloc: Global, hall: &mut H, file: &str) -> Result<Vol, Mo
     ensures device { IsErrOf result MountErr.Device
         → Rose (H.facts hall.old).dev_faults (H.facts hall.new).dev_faults }
 {
-    let unit = match hall.attach(file) {
-        Ok(unit) => unit,
-        Err(HallErr::Missing) => return Err(MountErr::NoFile),
-        Err(HallErr::Failed | HallErr::Exists) => return Err(MountErr::Device),
-        Err(HallErr::Memory) => return Err(MountErr::Memory),
-    };
+    let unit = attach(hall, file)?;
     read_vtoc(alloc, hall, unit)
 }

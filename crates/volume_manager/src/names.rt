@@ -1,15 +1,53 @@
-//! The names of the data sets in a VTOC.
-ghost use Rattle.std.specs.Prelude.{◌≡◌, IfOk};
-ghost use Rattle.volume_manager.specs.Names.{names_in, set_name};
+//! The names of the data sets on a pack.
+ghost use Rattle.std.specs.Prelude.{◌≡◌, ◌⊎◌, [], List, ℕ, IsTrue, IfOk};
+ghost use Rattle.stop_model.specs.Files.{file_of};
+ghost use Rattle.volume_manager.specs.Lines.{names_listing};
+ghost use Rattle.volume_manager.specs.Names.{IsListing, names_in, set_name};
+ghost use Rattle.volume_manager.specs.Run.{FileFacts, FollowsTask, LeavesFiles};
+ghost use Rattle.volume_manager.specs.Task.{names_task, task_on};
 
+use crate::end::{end, refuse};
+use crate::mount::mount;
+use crate::status::Status;
+use crate::text::listing;
 use dscb_codec::Dscb;
+use hall_core::Hall;
 use std::alloc::{AllocError, Global};
 
-/// The name of a data set: 44 bytes in EBCDIC, with blanks behind it.
-pub type Name = [u8; 44];
+// The name of a data set: 44 bytes in EBCDIC, with blanks behind it.
+type Name = [u8; 44];
 
-/// The names in the format 1 DSCBs among these, in their order. Fails only for want of memory.
-pub fn names_in(alloc: Global, dscbs: &[Dscb]) -> Result<Vec<Name>, AllocError>
+/// Prints the names of the data sets on the pack in a file, in the order of their EBCDIC bytes, and gives the status.
+pub fn names<H: Hall>(alloc: Global, hall: &mut H, file: &str) -> u8
+    requires { (H.facts hall.old).units ≡ [] }
+    ensures task { IsTrue H.tells → FollowsTask (task_on file.now names_task (file_of (H.meaning hall.old).state file.now))
+        (H.meaning hall.old) (H.meaning hall.new) result }
+    ensures files { IsTrue H.tells → LeavesFiles (H.meaning hall.old) (H.meaning hall.new) }
+    ensures silent { IsTrue H.tells → (result ≡ 22) ⊎ (result ≡ 25)
+        → (H.meaning hall.new).printed ≡ (H.meaning hall.old).printed }
+    ensures facts { FileFacts file.now (H.facts hall.old) (H.facts hall.new) result }
+{
+    match mount(alloc, hall, file) {
+        Ok(vol) => match names_text(alloc, &vol.slots) {
+            Ok(text) => end(hall, &text, Status::Done),
+            Err(AllocError) => Status::Memory.code(),
+        },
+        Err(why) => refuse(alloc, hall, file, why),
+    }
+}
+
+// The names in DSCBs, in the order of their bytes, a line each.
+fn names_text(alloc: Global, dscbs: &[Dscb]) -> Result<Vec<u8>, AllocError>
+    ensures { IfOk result (λ text. (listed : List (List ℕ)) × IsListing (names_in dscbs.now) listed ×
+        (text.items ≡ names_listing listed)) }
+{
+    let mut names = names_in(alloc, dscbs)?;
+    names.sort()?;
+    listing(alloc, &names)
+}
+
+// The names in the format 1 DSCBs among these, in their order. Fails only for want of memory.
+fn names_in(alloc: Global, dscbs: &[Dscb]) -> Result<Vec<Name>, AllocError>
     ensures { IfOk result (λ names. names.items ≡ names_in dscbs.now) }
 {
     dscbs.iter().filter_map(set_name).collect(alloc)

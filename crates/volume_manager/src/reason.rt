@@ -1,9 +1,10 @@
-//! Why a pack isn't mounted, in words.
+//! Why a pack isn't mounted, or a deck isn't taken, in words.
 ghost use Rattle.std.specs.Prelude.{◌≡◌, ◌++◌, ◌∷◌, [], OnOk};
-ghost use Rattle.volume_manager.specs.Lines.{image_reason, number_text, reason_of, with_numbers};
+ghost use Rattle.volume_manager.specs.Lines.{deck_reason, image_reason, number_text, reason_of, with_numbers};
 
 use ckd_image::ImageErr;
 use itoa::Buffer;
+use job_deck::DeckErr;
 use std::alloc::AllocError;
 use vtoc_index::MountErr;
 
@@ -28,8 +29,25 @@ pub fn push_reason(text: &mut Vec<u8>, why: MountErr) -> Result<(), AllocError>
         MountErr::BadExtent { slot } => push_slot(text, "BAD-EXTENT", slot),
         MountErr::BadChain { slot } => push_slot(text, "BAD-CHAIN", slot),
         MountErr::DuplicateName { slot, other } => push_slots(text, "DUPLICATE-NAME", slot, other),
+        MountErr::Overlap { track } => push_words(text, "OVERLAP", &[u64::from(track)]),
+        MountErr::VtocFull { slots } => push_slot(text, "VTOC-FULL", slots),
+        MountErr::SameSerial { unit, other } => push_units(text, "SAME-SERIAL", unit, other),
         MountErr::Memory => push_words(text, "MEMORY", &[]),
         MountErr::Device => push_words(text, "DEVICE", &[]),
+    }
+}
+
+/// Adds why a deck is refused: the word for the fault, its card from 1, and its column from 1.
+#[tactic(auto, unfolding(crate::specs::Lines::deck_reason))]
+pub fn push_deck_reason(text: &mut Vec<u8>, why: DeckErr) -> Result<(), AllocError>
+    ensures { OnOk result (text.new.items ≡ text.old.items ++ deck_reason why) }
+{
+    match why {
+        DeckErr::Long => push_words(text, "LONG", &[]),
+        DeckErr::Wide { card } => push_words(text, "WIDE", &[u64::from(card)]),
+        DeckErr::Byte { card, column } => push_place(text, "BYTE", card, column),
+        DeckErr::Read => push_words(text, "READ", &[]),
+        DeckErr::Memory => push_words(text, "MEMORY", &[]),
     }
 }
 
@@ -68,6 +86,20 @@ fn push_slots(text: &mut Vec<u8>, word: &str, slot: u32, other: u32) -> Result<(
     ensures { OnOk result (text.new.items ≡ text.old.items ++ with_numbers word.now (slot ∷ other ∷ [])) }
 {
     push_words(text, word, &[u64::from(slot), u64::from(other)])
+}
+
+// Adds a word, and the numbers of two units.
+fn push_units(text: &mut Vec<u8>, word: &str, unit: u8, other: u8) -> Result<(), AllocError>
+    ensures { OnOk result (text.new.items ≡ text.old.items ++ with_numbers word.now (unit ∷ other ∷ [])) }
+{
+    push_words(text, word, &[u64::from(unit), u64::from(other)])
+}
+
+// Adds a word, and a card and a column.
+fn push_place(text: &mut Vec<u8>, word: &str, card: u32, column: u8) -> Result<(), AllocError>
+    ensures { OnOk result (text.new.items ≡ text.old.items ++ with_numbers word.now (card ∷ column ∷ [])) }
+{
+    push_words(text, word, &[u64::from(card), u64::from(column)])
 }
 
 // Adds a word, and numbers behind it.

@@ -5,11 +5,13 @@ ghost use Rattle.volume_manager.specs.Run.{code_of};
 /// How the program ends.
 #[derive(Clone, Copy, Debug, PartialEq, Eq)]
 pub enum Status {
-    /// The names were printed. A deck ends with its condition code, 0 or 8.
+    /// The names were printed, a pack was made, or is settled. A deck ends with its condition code, 0 to 16.
     Done = 0,
+    /// A pack isn't settled.
+    Unsettled = 4,
     /// The words are refused.
     Words = 20,
-    /// The file is missing, or its image is refused.
+    /// A file is missing, or the images are refused, or the file of a new pack is there.
     Unit = 21,
     /// The device failed.
     Device = 22,

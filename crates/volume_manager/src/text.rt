@@ -1,17 +1,15 @@
 //! The texts that the program prints.
 ghost use Rattle.std.specs.Prelude.{◌≡◌, ◌++◌, List, ℕ, IfOk, OnOk};
-ghost use Rattle.volume_manager.specs.Lines.{deck_line, exists_line, init_line, words_line, unit_line, name_line, names_listing};
+ghost use Rattle.volume_manager.specs.Lines.{check_line, deck_line, exists_line, init_line, settled_word, words_line, unit_line, name_line, names_listing};
 
-use crate::reason::push_reason;
+use crate::reason::{push_deck_reason, push_reason};
 use ebcdic_names::{Serial, push_name_in_ascii};
+use job_deck::DeckErr;
 use std::alloc::{AllocError, Global};
 use vtoc_index::MountErr;
 
 /// Where the words are refused.
 pub const WORDS_LINE: &[u8; 13] = b"VOLMAN WORDS\n";
-
-/// Where the deck is refused.
-pub const DECK_LINE: &[u8; 17] = b"VOLMAN DECK FORM\n";
 
 /// The line that says why a file is refused.
 #[tactic(auto, unfolding(crate::specs::Lines::unit_line))]
@@ -22,6 +20,36 @@ pub fn unit_line(alloc: Global, file: &str, why: MountErr) -> Result<Vec<u8>, Al
     line.extend_from_slice(file.as_bytes())?;
     line.push(b' ')?;
     push_reason(&mut line, why)?;
+    line.push(b'\n')?;
+    Ok(line)
+}
+
+/// The line that says why a deck is refused.
+#[tactic(auto, unfolding(crate::specs::Lines::deck_line))]
+pub fn deck_line(alloc: Global, why: DeckErr) -> Result<Vec<u8>, AllocError>
+    ensures { IfOk result (λ line. line.items ≡ deck_line why) }
+{
+    let mut line = Vec::from_slice(alloc, b"VOLMAN DECK ")?;
+    push_deck_reason(&mut line, why)?;
+    line.push(b'\n')?;
+    Ok(line)
+}
+
+// The word for a pack that is settled, or isn't.
+fn settled_word(settled: bool) -> &'static str
+    ensures { result.now ≡ settled_word settled }
+{
+    if settled { " SETTLED" } else { " UNSETTLED" }
+}
+
+/// The line that says whether the pack of this serial is settled.
+#[tactic(auto, unfolding(crate::specs::Lines::check_line))]
+pub fn check_line(alloc: Global, serial: &Serial, settled: bool) -> Result<Vec<u8>, AllocError>
+    ensures { IfOk result (λ line. line.items ≡ check_line serial.now.bytes settled) }
+{
+    let mut line = Vec::from_slice(alloc, b"CHECK ")?;
+    push_name_in_ascii(&mut line, &serial.bytes)?;
+    line.extend_from_slice(settled_word(settled).as_bytes())?;
     line.push(b'\n')?;
     Ok(line)
 }

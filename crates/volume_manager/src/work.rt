@@ -1,54 +1,53 @@
-//! A statement on a pack that is mounted.
-ghost use Rattle.std.specs.Prelude.{◌≡◌, ◌≤◌, ◌⊎◌, [], ◌∷◌, IsTrue, OnOk, Ok};
+//! Jobs on a shelf that is open.
+ghost use Rattle.std.specs.Prelude.{◌≡◌, ◌≤◌, ◌⊎◌, ℕ, List, true, false, IsTrue, Ok};
+ghost use Rattle.job_runner.specs.Jobs.{jobs_work};
+ghost use Rattle.pack_spec.specs.Shelf.{shelf_of};
+ghost use Rattle.shelf_machine.specs.Opening.{images_named};
+ghost use Rattle.shelf_machine.specs.Parts.{PromisesSafety, hall_of, is_open, is_sound, meaning_of, pack_names};
 ghost use Rattle.stop_model.specs.Counts.{Rose};
-ghost use Rattle.hall_core.specs.Facts.{unit_of};
-ghost use Rattle.hall_core.specs.Images.{image_in};
+ghost use Rattle.stop_model.specs.Files.{File};
 ghost use Rattle.stop_model.specs.Moments.{IsDurable};
-ghost use Rattle.vol_model.specs.declared.contents.Volume.{Volume};
-ghost use Rattle.pack_spec.specs.Volume.{volume_of};
-ghost use Rattle.vtoc_index.specs.Index.{IsMounted, IsOfUnit};
-ghost use Rattle.shelf_machine.specs.Machine.{shelf_with};
-ghost use Rattle.volume_manager.specs.Run.{NoCountFell, OnlySynced, RunsItems};
-ghost use Rattle.volume_manager.specs.Statement.{item_of};
+ghost use Rattle.vol_model.specs.Calls.{Files};
+ghost use Rattle.vol_model.specs.declared.contents.Shelf.{Shelf};
+ghost use Rattle.volume_manager.specs.Run.{LeavesShelf, NoCountFell, OnlySynced, RunsItems};
 
-use crate::statement::run_rename;
 use crate::status::Status;
 use hall_core::Hall;
-use shelf_machine::PackMachine;
+use job_deck::Job;
+use job_runner::run_jobs;
+use shelf_machine::HallShelf;
 use std::alloc::Global;
-use util_syntax::Rename;
 use vol_model::Stop;
-use vtoc_index::Vol;
 
-/// Does a statement on a pack that is mounted on a hall, makes all writes durable, and gives the status and
-/// the hall: the condition code, 0 or 8, or the status of a fault of the device, 22, of the printer, 24, or
-/// of want of memory, 25.
+/// Runs jobs on a shelf that is open, makes all writes durable, and gives the status and the hall: the highest
+/// condition code, or the status of a fault of the device, 22, of the printer, 24, or of want of memory, 25.
 ///
-/// No write is pending before. Behind a fault the hall is one that a stop may leave; behind want of memory
-/// the statement may be done, and nothing was printed.
-pub fn run_statement<H: Hall>(alloc: Global, statement: &Rename, vol: Vol, hall: H) -> (u8, H)
-    requires unit { IsOfUnit (H.facts hall).units vol }
-    requires mounted { IsTrue H.tells → IsMounted (image_in (H.meaning hall) (H.facts hall) vol.unit) vol }
-    requires durable { IsTrue H.tells → IsDurable (H.meaning hall) }
-    ensures task { IsTrue H.tells → (volume : Volume)
-        → volume_of (image_in (H.meaning hall) (H.facts hall) vol.unit) ≡ Ok volume
-        → RunsItems (unit_of (H.facts hall).units vol.unit).name volume (item_of (shelf_with volume)
-        statement.now ∷ []) (H.meaning hall) (H.meaning result.1) result.0 }
+/// After a fault the hall is one that a stop may leave; after want of memory a prefix of the jobs is done.
+pub fn work<H: Hall>(alloc: Global, machine: HallShelf<H>, jobs: &[Job], date: [u8; 3]) -> (u8, H)
+    requires sound { is_sound machine ≡ true }
+    requires closed { is_open machine ≡ false }
+    ensures items { IsTrue H.tells → (shelf : Shelf) (t : ℕ) (before : List File)
+        → shelf_of (images_named before (pack_names machine)) ≡ Ok shelf → (meaning_of machine).state ≡ shelf
+        → t ≤ (H.meaning (hall_of machine)).clock
+        → LeavesShelf (pack_names machine) shelf (H.meaning (hall_of machine)) t
+        → PromisesSafety machine t (Files before)
+        → RunsItems (pack_names machine) shelf (jobs_work date jobs.now shelf).items t before
+        (H.meaning (hall_of machine)).printed (H.meaning result.1) result.0 }
     ensures durable { IsTrue H.tells → result.0 ≡ 25 → IsDurable (H.meaning result.1) }
-    ensures silent { IsTrue H.tells → result.0 ≡ 25 → (H.meaning result.1).printed ≡ (H.meaning hall).printed }
     ensures status { (result.0 ≤ 16) ⊎ ((result.0 ≡ 22) ⊎ ((result.0 ≡ 24) ⊎ (result.0 ≡ 25))) }
-    ensures device { result.0 ≡ 22 → Rose (H.facts hall).dev_faults (H.facts result.1).dev_faults }
-    ensures print { result.0 ≡ 24 → Rose (H.facts hall).print_faults (H.facts result.1).print_faults }
-    ensures later { NoCountFell (H.facts hall) (H.facts result.1) }
-    ensures units { (H.facts result.1).units ≡ (H.facts hall).units }
-    ensures references { (H.facts result.1).references ≡ (H.facts hall).references }
+    ensures device { result.0 ≡ 22
+        → Rose (H.facts (hall_of machine)).dev_faults (H.facts result.1).dev_faults }
+    ensures print { result.0 ≡ 24
+        → Rose (H.facts (hall_of machine)).print_faults (H.facts result.1).print_faults }
+    ensures later { NoCountFell (H.facts (hall_of machine)) (H.facts result.1) }
+    ensures units { (H.facts result.1).units ≡ (H.facts (hall_of machine)).units }
+    ensures references { (H.facts result.1).references ≡ (H.facts (hall_of machine)).references }
 {
-    let mut machine = PackMachine::open(hall, vol);
-    let volume = machine.number_of(&statement.serial);
-    let ran = run_rename(alloc, &mut machine, volume, statement);
+    let mut machine = machine;
+    let ran = run_jobs(alloc, &mut machine, jobs, date);
     let mut hall = machine.close();
     let status = match ran {
-        Ok(code) => finish(&mut hall, code),
+        Ok(ran) => finish(&mut hall, ran.code),
         Err(Stop::Device) => Status::Device.code(),
         Err(Stop::Print) => Status::Print.code(),
         Err(Stop::Memory) => Status::Memory.code(),

@@ -56,6 +56,10 @@ has_track units units0 unit track g g0 same alike attached whole inside =
 pub refuses_at : {X T : Type 0} (given : Result X MountErr) (r : Result T MountErr) (e : MountErr) → r ≡ Err e → Refuses given e → IfErr r (Refuses given)
 refuses_at given r e is refused = subst (λ x. IfErr x (Refuses given)) (sym is) refused
 
+-- what holds of the error that a result is
+pub err_at : {T E : Type 0} (r : Result T E) (P : E → Type 0) (e : E) → r ≡ Err e → P e → IfErr r P
+err_at r P e is holds = subst (λ x. IfErr x P) (sym is) holds
+
 pub reason_at : {T : Type 0} (image : List ℕ) (r : Result T MountErr) (e : MountErr) → r ≡ Err e → IsReason image e → IfErr r (IsReason image)
 reason_at image r e is reason = subst (λ x. IfErr x (IsReason image)) (sym is) reason
 

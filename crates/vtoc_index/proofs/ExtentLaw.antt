@@ -21,8 +21,11 @@ use Rattle.pack_spec.specs.Label.{address_at, heads_of, is_inside, label_of, rec
 use Rattle.vol_model.specs.declared.contents.Run.{Run}
 use Rattle.pack_spec.specs.Vtoc.{first_slot, is_slot, is_vtoc_extent, slot_bytes, vtoc_at, vtoc_by, vtoc_of, lower_of, is_extent, run_of_extent, vtoc_on}
 use Rattle.pack_spec.specs.Slots.{slots_of_vtoc, track_faults, slot_at, slots_from}
-use Rattle.pack_spec.specs.Rules.{slots_faults, vtoc_fault}
-use Rattle.pack_spec.specs.Volume.{unless, volume_of, volume_on, volume_with, volume_within}
+use Rattle.pack_spec.specs.Rules.{slots_faults}
+use Rattle.pack_spec.specs.Owned.{volume_faults}
+use Rattle.pack_spec.specs.Volume.{volume_by, volume_of, volume_with, volume_within}
+use Rattle.vol_model.specs.Space.{free_runs}
+use Rattle.vtoc_index.proofs.Reasons.{volume_read, volume_there}
 use Rattle.vtoc_index.specs.declared.vol.Vol.{Vol}
 use Rattle.vtoc_index.specs.Index.{IsIndexOf, IsMounted, IsPut, slots_before, track_index, with_dscb, place_of_slot}
 use Rattle.vtoc_index.specs.Puts.{IsHeld, IsReplaced}
@@ -222,28 +225,36 @@ extent_put image put v slot d bytes index low size dscb written is extent keeps 
         (ap (records_on put g (Some 1)) (sym here) ∙ wrote.records (Some 1) ∙ ap (option_map (with_parts (front_of v slot) key content)) there)
 
 -- an image of this header, extent and slots, which break no rule, stands for the volume of its label and slots
-pub volume_is : (image : List ℕ) (g : Geometry) (vtoc : Run) → geometry_of (take 512 image) (length image) ≡ Ok g → vtoc_of image g ≡ Ok vtoc → track_faults image g vtoc ≡ [] → slots_faults g (slots_of_vtoc image g vtoc) ≡ [] → volume_of image ≡ Ok (volume_with g (unwrap_or (label_of image g) []) vtoc (slots_of_vtoc image g vtoc))
-unfolding volume_of vtoc_fault
-volume_is image g vtoc header extent tracks slots =
-    let meant = volume_with g (unwrap_or (label_of image g) []) vtoc (slots_of_vtoc image g vtoc) in
-    ap (volume_on image) header ∙ ap (volume_within image g) extent
-    ∙ ap (λ (l : List MountErr). unless (slice_get (l ++ slots_faults g (slots_of_vtoc image g vtoc)) 0) meant) tracks
-    ∙ ap (λ (l : List MountErr). unless (slice_get l 0) meant) slots
+pub volume_is : (image : List ℕ) (g : Geometry) (vtoc : Run) → geometry_of (take 512 image) (length image) ≡ Ok g → vtoc_of image g ≡ Ok vtoc → track_faults image g vtoc ≡ [] → slots_faults g (slots_of_vtoc image g vtoc) ≡ [] → volume_faults (volume_by image g vtoc) ≡ [] → volume_of image ≡ Ok (volume_by image g vtoc)
+volume_is image g vtoc header extent tracks slots whole =
+    volume_read image g header ∙ ap (volume_within image g) extent ∙ volume_there image g vtoc tracks slots whole
 
--- An image that stands for a volume still stands for one, where the slots that it then has break no rule; and this is its index.
+-- the volume of an image in which a slot is put
+pub volume_put : (image put : List ℕ) (v : Vol) (slot : ℕ) (d : Dscb) → IsPut v slot d image put → volume_by put v.geometry v.vtoc ≡ volume_with v.geometry (unwrap_or (label_of image v.geometry) []) v.vtoc (with_dscb slot d (slots_of_vtoc image v.geometry v.vtoc))
+volume_put image put v slot d is =
+    ap (λ (o : Option (List ℕ)). volume_with v.geometry (unwrap_or o []) v.vtoc (slots_of_vtoc put v.geometry v.vtoc)) is.label
+    ∙ ap (volume_with v.geometry (unwrap_or (label_of image v.geometry) []) v.vtoc) is.slots
+
+-- An image that stands for a volume still stands for one, where the slots that it then has break no rule; and this is its index, where the free runs stay.
 pub mounted_put : (image put : List ℕ) (v v' : Vol) (slot : ℕ) (d : Dscb) (bytes : List ℕ) → IsMounted image v → slot < length v.slots.items → length bytes ≡ 140 → decoded bytes ≡ Ok d → put ≡ patched image (place_of_slot v slot) bytes → IsPut v slot d image put → IsReplaced slot d v v' → IsHeld put v'.buf
-    → KeepsExtent slot d (slots_of_vtoc image v.geometry v.vtoc) → slots_faults v.geometry (with_dscb slot d (slots_of_vtoc image v.geometry v.vtoc)) ≡ [] → IsMounted put v'
-mounted_put image put v v' slot d bytes mounted low size dscb written is replaced held keeps lawful =
+    → KeepsExtent slot d (slots_of_vtoc image v.geometry v.vtoc) → slots_faults v.geometry (with_dscb slot d (slots_of_vtoc image v.geometry v.vtoc)) ≡ []
+    → volume_faults (volume_with v.geometry (unwrap_or (label_of image v.geometry) []) v.vtoc (with_dscb slot d (slots_of_vtoc image v.geometry v.vtoc))) ≡ []
+    → v.free.items ≡ free_runs (volume_with v.geometry (unwrap_or (label_of image v.geometry) []) v.vtoc (with_dscb slot d (slots_of_vtoc image v.geometry v.vtoc))) → IsMounted put v'
+mounted_put image put v v' slot d bytes mounted low size dscb written is replaced held keeps lawful whole free =
     let g : Geometry = v.geometry in
     let w : Vol = record v { slots = v'.slots; buf = v'.buf } in
     let index : IsIndexOf put w = subst (IsIndexOf put) replaced.others (index_put image put v v' slot d mounted.index is replaced held) in
     let extent = extent_put image put v slot d bytes mounted.index low size dscb written is mounted.vtoc keeps in
     let good : slots_faults g (slots_of_vtoc put g v.vtoc) ≡ [] = ap (slots_faults g) is.slots ∙ lawful in
+    let volume = volume_put image put v slot d is in
+    let no_fault : volume_faults (volume_by put g v.vtoc) ≡ [] = ap volume_faults volume ∙ whole in
     let read : IsMounted put w = record {
       index = index;
       vtoc = extent;
       lawful = good;
-      volume = volume_is put g v.vtoc index.header extent is.tracks good;
+      whole = no_fault;
+      free = free ∙ sym (ap free_runs volume);
+      volume = volume_is put g v.vtoc index.header extent is.tracks good no_fault;
     } in
     subst (IsMounted put) (sym replaced.others) read
 

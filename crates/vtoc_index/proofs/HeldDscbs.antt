@@ -1,5 +1,5 @@
 -- The DSCBs that slots hold, and that slots which break no rule all hold one.
-use Rattle.std.proofs.Common.{◌≡◌, ℕ, zero, suc, ◌+◌, ◌<◌, Bool, true, false, cond, List, [], ◌∷◌, ◌++◌, length, map, take, get_or, Option, None, Result, Ok, Err, refl, sym, ap, subst, ◌∙◌, arith}
+use Rattle.std.proofs.Common.{◌≡◌, ℕ, zero, suc, ◌+◌, ◌<◌, Bool, true, false, cond, List, [], ◌∷◌, ◌++◌, length, map, take, get_or, Option, Some, None, Result, Ok, Err, append_assoc, refl, sym, ap, subst, ◌∙◌, arith}
 use Rattle.std.proofs.Math.Dec.{eqb, eqb-suc-zero}
 use Rattle.std.proofs.lemmas.List.{append-nil, length-map, take_more}
 use Rattle.std.proofs.lemmas.List.Elements.{filter_map-append}
@@ -12,7 +12,7 @@ use Rattle.dscb_codec.specs.declared.DscbErr.TheVariants.{Unsupported, BadFormat
 use Rattle.pack_spec.specs.declared.MountErr.{MountErr}
 use Rattle.pack_spec.specs.declared.slot.VtocSlot.{VtocSlot}
 use Rattle.pack_spec.specs.Rules.{content_fault, front_faults, is_f4, name_faults, slot_fault, slot_faults, slots_faults}
-use Rattle.pack_spec.proofs.FirstFaults.{cons_option-none, first_append-both}
+use Rattle.pack_spec.proofs.FirstFaults.{cons_option-none, first_append-both, first_append-none, first_append-some}
 use Rattle.vtoc_index.specs.Index.{AreDscbs}
 
 -- the DSCB in a slot, if there is one
@@ -95,6 +95,19 @@ whole g [] front none = refl
 whole g (s ∷ ss) front none =
     let parts = cons_option-none (slot_fault g (s ∷ ss) 0 s) (filter_map (λ p. slot_fault g (s ∷ ss) p.0 p.1) (enumerate_from 1 ss)) none in
     held_more s s.content (filter_map content_dscb ss) ss refl (λ e. f4_held s.content e (first_only (is_f4 s.content) _ _ front)) (all_held g (s ∷ ss) 1 ss (omega arith) parts.1)
+
+-- the rules on single slots, and those on names
+grouped : (g : Geometry) (ss : List VtocSlot) → slots_faults g ss ≡ (front_faults ss ++ slot_faults g ss) ++ name_faults ss
+unfolding slots_faults
+grouped g ss = sym (append_assoc (front_faults ss) (slot_faults g ss) (name_faults ss))
+
+-- a single slot breaks the first rule
+pub single_first : (g : Geometry) (ss : List VtocSlot) (e : MountErr) → Some e ≡ slice_get (front_faults ss ++ slot_faults g ss) 0 → slice_get (slots_faults g ss) 0 ≡ Some e
+single_first g ss e is = ap (λ (l : List MountErr). slice_get l 0) (grouped g ss) ∙ sym (first_append-some (front_faults ss ++ slot_faults g ss) (name_faults ss) e is)
+
+-- or none does, and a name is the first
+pub names_first : (g : Geometry) (ss : List VtocSlot) (o : Option MountErr) → None ≡ slice_get (front_faults ss ++ slot_faults g ss) 0 → slice_get (name_faults ss) 0 ≡ o → slice_get (slots_faults g ss) 0 ≡ o
+names_first g ss o none is = ap (λ (l : List MountErr). slice_get l 0) (grouped g ss) ∙ sym (first_append-none (front_faults ss ++ slot_faults g ss) (name_faults ss) none) ∙ is
 
 -- slots that break no rule hold DSCBs
 pub held_dscbs : (g : Geometry) (ss : List VtocSlot) (found : List Dscb) → None ≡ slice_get (slots_faults g ss) 0 → found ≡ filter_map content_dscb ss → AreDscbs found ss × (slots_faults g ss ≡ [])

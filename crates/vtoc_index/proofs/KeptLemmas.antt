@@ -86,6 +86,8 @@ kept_of image v mounted = record {
   vtoc = mounted.vtoc;
   tracks = mounted.index.tracks;
   lawful = mounted.lawful;
+  whole = mounted.whole;
+  free = mounted.free;
   slots = mounted.index.slots;
   firsts = mounted.index.firsts;
   buffer = λ some. ⊎_elim (λ (none : v.buf.records ≡ []). absurd (some none)) (λ (stands : StandsOn image v.buf). counted image v.buf stands) mounted.index.buffer;
@@ -111,5 +113,7 @@ mounted_of image v kept = record {
   };
   vtoc = kept.vtoc;
   lawful = kept.lawful;
-  volume = volume_is image v.geometry v.vtoc kept.header kept.vtoc kept.tracks kept.lawful;
+  whole = kept.whole;
+  free = kept.free;
+  volume = volume_is image v.geometry v.vtoc kept.header kept.vtoc kept.tracks kept.lawful kept.whole;
 }

@@ -8,6 +8,7 @@ pub mod CallsMade
 pub mod Mounts
 pub mod Firsts
 pub mod FaultWalks
+pub mod GoodSets
 pub mod HeldDscbs
 pub mod NameFaults
 pub mod TrackPut
@@ -16,5 +17,12 @@ pub mod VtocPut
 pub mod BegunLemmas
 pub mod PutLaw
 pub mod ExtentLaw
-pub mod LawfulVolumes
 pub mod KeptLemmas
+pub mod NameOrder
+pub mod NamePlaces
+pub mod NameSearch
+pub mod NamedSets
+pub mod NamesRead
+pub mod OwnedSets
+pub mod OwnedVolumes
+pub mod Reordered

@@ -1,5 +1,5 @@
 -- What is read of an image is its volume, or a reason why there is none.
-use Rattle.std.proofs.Common.{◌≡◌, ◌⊎◌, inr, ⊎_elim, ℕ, true, false, List, [], length, take, Some, sym, ap, subst, ◌∙◌}
+use Rattle.std.proofs.Common.{◌≡◌, ◌⊎◌, inr, ⊎_elim, ℕ, true, false, List, [], ◌++◌, length, take, Some, sym, ap, subst, ◌∙◌}
 use Rattle.std.specs.Prelude.{Ok, Err, slice_get}
 use Rattle.ckd_image.specs.declared.header.Geometry.{Geometry}
 use Rattle.ckd_image.specs.Header.{geometry_of}
@@ -8,9 +8,11 @@ use Rattle.pack_spec.specs.declared.MountErr.TheVariants.{Memory, BadVtoc}
 use Rattle.pack_spec.specs.Label.{is_inside, label_of}
 use Rattle.pack_spec.specs.Slots.{slots_of_vtoc}
 use Rattle.pack_spec.specs.Rules.{slots_faults}
-use Rattle.pack_spec.specs.Volume.{volume_of, volume_within}
+use Rattle.pack_spec.specs.Owned.{volume_faults}
+use Rattle.pack_spec.specs.Volume.{volume_by, volume_of, volume_within}
 use Rattle.pack_spec.specs.Vtoc.{vtoc_of, vtoc_on}
 use Rattle.vol_model.specs.declared.contents.Run.{Run}
+use Rattle.vol_model.specs.Space.{free_runs}
 use Rattle.vtoc_index.specs.Index.{AreDscbs, IsMounted, IsReason}
 use Rattle.vtoc_index.specs.Reading.{AreTracksRead, IsLabel, Refuses}
 use Rattle.vtoc_index.specs.declared.label.Label.{Label}
@@ -55,9 +57,9 @@ pub record IsSeen (image : List ℕ) (g : Geometry) (x : Label) (v : Vol) (found
 vtoc_is : (image : List ℕ) (g : Geometry) (x : Label) (v : Vol) (found : ReadSlots) → IsSeen image g x v found → vtoc_of image g ≡ Ok v.vtoc
 vtoc_is image g x v found seen = vtoc_inside image g x seen.label seen.inside ∙ seen.extent
 
--- a slot is refused
+-- a slot is refused, or the volume as a whole
 pub slots_reason : (image : List ℕ) (g : Geometry) (x : Label) (vtoc : Run) (found : ReadSlots) (e : MountErr) → geometry_of (take 512 image) (length image) ≡ Ok g → IsLabel (label_of image g) x → is_inside g x.vtoc ≡ true → vtoc_on image g x.vtoc ≡ Ok vtoc → AreTracksRead image g vtoc.start vtoc.len found
-    → (e ≡ Memory) ⊎ (slice_get (slots_faults g (slots_of_vtoc image g vtoc)) 0 ≡ Some e) → IsReason image e
+    → (e ≡ Memory) ⊎ (slice_get (slots_faults g (slots_of_vtoc image g vtoc) ++ volume_faults (volume_by image g vtoc)) 0 ≡ Some e) → IsReason image e
 slots_reason image g x vtoc found e header label inside extent read why =
     reason image e (record {
       why = λ memory _. ⊎_elim (λ is. absurd (memory is)) (λ fault. volume_read image g header ∙ ap (volume_within image g) (vtoc_inside image g x label inside ∙ extent) ∙ slot_refused image g vtoc e read.tracks fault) why;
@@ -65,8 +67,9 @@ slots_reason image g x vtoc found e header label inside extent read why =
 
 -- nothing is
 pub mounted : (image : List ℕ) (x : Label) (v : Vol) (found : ReadSlots) → IsSeen image v.geometry x v found → v.serial ≡ x.serial → v.firsts.items ≡ found.firsts.items → StandsOn image v.buf
-    → AreDscbs v.slots.items (slots_of_vtoc image v.geometry v.vtoc) × (slots_faults v.geometry (slots_of_vtoc image v.geometry v.vtoc) ≡ []) → IsMounted image v
-mounted image x v found seen serial firsts stands slots =
+    → AreDscbs v.slots.items (slots_of_vtoc image v.geometry v.vtoc) × (slots_faults v.geometry (slots_of_vtoc image v.geometry v.vtoc) ≡ [])
+    → (volume_faults (volume_by image v.geometry v.vtoc) ≡ []) × (v.free.items ≡ free_runs (volume_by image v.geometry v.vtoc)) → IsMounted image v
+mounted image x v found seen serial firsts stands slots whole =
     let g = v.geometry in
     let vtoc = vtoc_is image g x v found seen in
     record {
@@ -80,5 +83,7 @@ mounted image x v found seen serial firsts stands slots =
       };
       vtoc = vtoc;
       lawful = slots.1;
-      volume = volume_read image g seen.header ∙ ap (volume_within image g) vtoc ∙ volume_there image g v.vtoc seen.read.tracks slots.1;
+      whole = whole.0;
+      free = whole.1;
+      volume = volume_read image g seen.header ∙ ap (volume_within image g) vtoc ∙ volume_there image g v.vtoc seen.read.tracks slots.1 whole.0;
     }

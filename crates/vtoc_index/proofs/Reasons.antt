@@ -6,14 +6,15 @@ use Rattle.ckd_image.specs.declared.header.Geometry.{Geometry}
 use Rattle.ckd_image.specs.declared.header.ImageErr.{ImageErr}
 use Rattle.ckd_image.specs.Header.{geometry_of}
 use Rattle.pack_spec.specs.declared.MountErr.{MountErr}
-use Rattle.pack_spec.specs.declared.MountErr.TheVariants.{NoFile, Image, NoLabel, BadVtoc, VtocTrack, NoFormat4, NoFormat5, BadDscb, UnsupportedDscb, UnsupportedExtent, BadExtent, BadChain, DuplicateName, Memory, Device}
+use Rattle.pack_spec.specs.declared.MountErr.TheVariants.{NoFile, Image, NoLabel, BadVtoc, VtocTrack, NoFormat4, NoFormat5, BadDscb, UnsupportedDscb, UnsupportedExtent, BadExtent, BadChain, DuplicateName, Overlap, VtocFull, SameSerial, Memory, Device}
 use Rattle.pack_spec.specs.declared.address.Address.{Address}
 use Rattle.pack_spec.specs.Label.{is_inside, label_of}
 use Rattle.vol_model.specs.declared.contents.Run.{Run}
 use Rattle.pack_spec.specs.Vtoc.{vtoc_of, vtoc_at, vtoc_on}
 use Rattle.pack_spec.specs.Slots.{slots_of_vtoc, track_faults}
-use Rattle.pack_spec.specs.Rules.{slots_faults, vtoc_fault}
-use Rattle.pack_spec.specs.Volume.{volume_of, volume_on, volume_within, volume_with, unless}
+use Rattle.pack_spec.specs.Rules.{slots_faults}
+use Rattle.pack_spec.specs.Owned.{volume_faults}
+use Rattle.pack_spec.specs.Volume.{volume_by, volume_of, volume_on, volume_within, unless, vtoc_fault}
 use Rattle.vtoc_index.specs.Index.{IsReason, serial_on}
 use Rattle.vtoc_index.specs.Reading.{Refuses, IsLabel, Says}
 use Rattle.vtoc_index.specs.declared.label.Label.{Label}
@@ -48,6 +49,9 @@ reason image (UnsupportedExtent slot) refused = refused.why (λ is. cc) (λ is. 
 reason image (BadExtent slot) refused = refused.why (λ is. cc) (λ is. cc)
 reason image (BadChain slot) refused = refused.why (λ is. cc) (λ is. cc)
 reason image (DuplicateName slot other) refused = refused.why (λ is. cc) (λ is. cc)
+reason image (Overlap track) refused = refused.why (λ is. cc) (λ is. cc)
+reason image (VtocFull slots) refused = refused.why (λ is. cc) (λ is. cc)
+reason image (SameSerial unit other) refused = refused.why (λ is. cc) (λ is. cc)
 reason image Memory refused = tt
 reason image Device refused = tt
 
@@ -104,16 +108,20 @@ serial_read image g x is =
 pub extent_refused : (image : List ℕ) (g : Geometry) (vtoc : Result Run MountErr) (e : MountErr) → vtoc ≡ Err e → volume_within image g vtoc ≡ Err e
 extent_refused image g vtoc e is = ap (volume_within image g) is
 
-fault_of_slots : (image : List ℕ) (g : Geometry) (v : Run) → track_faults image g v ≡ [] → vtoc_fault image g v ≡ slice_get (slots_faults g (slots_of_vtoc image g v)) 0
+-- what slots and the volume break, where the tracks break nothing
+fault_of_slots : (image : List ℕ) (g : Geometry) (v : Run) → track_faults image g v ≡ [] → vtoc_fault image g v ≡ slice_get (slots_faults g (slots_of_vtoc image g v) ++ volume_faults (volume_by image g v)) 0
 unfolding vtoc_fault
-fault_of_slots image g v good = ap (λ l. slice_get (l ++ slots_faults g (slots_of_vtoc image g v)) 0) good
+fault_of_slots image g v good =
+    ap (λ (l : List MountErr). slice_get (l ++ (slots_faults g (slots_of_vtoc image g v) ++ volume_faults (volume_by image g v))) 0) good
 
--- a slot is refused
-pub slot_refused : (image : List ℕ) (g : Geometry) (v : Run) (e : MountErr) → track_faults image g v ≡ [] → slice_get (slots_faults g (slots_of_vtoc image g v)) 0 ≡ Some e → volume_within image g (Ok v) ≡ Err e
-slot_refused image g v e good is =
-    ap (λ o. unless o (volume_with g (unwrap_or (label_of image g) []) v (slots_of_vtoc image g v))) (fault_of_slots image g v good ∙ is)
+-- a slot is refused, or the volume as a whole
+pub slot_refused : (image : List ℕ) (g : Geometry) (v : Run) (e : MountErr) → track_faults image g v ≡ [] → slice_get (slots_faults g (slots_of_vtoc image g v) ++ volume_faults (volume_by image g v)) 0 ≡ Some e → volume_within image g (Ok v) ≡ Err e
+slot_refused image g v e good is = ap (λ o. unless o (volume_by image g v)) (fault_of_slots image g v good ∙ is)
 
 -- nothing is refused
-pub volume_there : (image : List ℕ) (g : Geometry) (v : Run) → track_faults image g v ≡ [] → slots_faults g (slots_of_vtoc image g v) ≡ [] → volume_within image g (Ok v) ≡ Ok (volume_with g (unwrap_or (label_of image g) []) v (slots_of_vtoc image g v))
-volume_there image g v good lawful =
-    ap (λ o. unless o (volume_with g (unwrap_or (label_of image g) []) v (slots_of_vtoc image g v))) (fault_of_slots image g v good ∙ ap (λ l. slice_get l 0) lawful)
+pub volume_there : (image : List ℕ) (g : Geometry) (v : Run) → track_faults image g v ≡ [] → slots_faults g (slots_of_vtoc image g v) ≡ [] → volume_faults (volume_by image g v) ≡ [] → volume_within image g (Ok v) ≡ Ok (volume_by image g v)
+volume_there image g v good lawful whole =
+    ap (λ o. unless o (volume_by image g v))
+    (fault_of_slots image g v good
+    ∙ ap (λ (l : List MountErr). slice_get (l ++ volume_faults (volume_by image g v)) 0) lawful
+    ∙ ap (λ (l : List MountErr). slice_get l 0) whole)

@@ -2,9 +2,9 @@
 use Rattle.std.proofs.Common.{◌≡◌, ℕ, zero, suc, ◌+◌, ◌-◌, ◌<◌, ◌≤◌, List, [], ◌∷◌, ◌++◌, length, Option, Some, None, refl, sym, ap, subst, ◌∙◌, arith, length-append}
 use Rattle.std.specs.Prelude.{Ok, Err, option_and_then, unwrap_or}
 use Rattle.pack_spec.specs.declared.MountErr.{MountErr}
-use Rattle.pack_spec.specs.Rules.{slots_faults, vtoc_fault}
-use Rattle.pack_spec.specs.Label.{label_of}
-use Rattle.pack_spec.specs.Volume.{unless, volume_with}
+use Rattle.pack_spec.specs.Rules.{slots_faults}
+use Rattle.pack_spec.specs.Owned.{volume_faults}
+use Rattle.pack_spec.specs.Volume.{unless, volume_by, vtoc_fault}
 use Rattle.pack_spec.proofs.FirstFaults.{first_append-some}
 use Rattle.std.proofs.lemmas.List.{append-nil}
 use Rattle.std.proofs.lemmas.List.FromFn.{map-range_with_len_more}
@@ -106,8 +106,8 @@ first_read image g start records none new no_slots no_firsts read firsts adds =
 within_track : (image : List ℕ) (g : Geometry) (vtoc : Run) (e : MountErr) → slice_get (track_faults image g vtoc) 0 ≡ Some e → volume_within image g (Ok vtoc) ≡ Err e
 unfolding vtoc_fault
 within_track image g vtoc e is =
-    ap (λ (o : Option MountErr). unless o (volume_with g (unwrap_or (label_of image g) []) vtoc (slots_of_vtoc image g vtoc)))
-    (sym (first_append-some (track_faults image g vtoc) (slots_faults g (slots_of_vtoc image g vtoc)) e (sym is)))
+    ap (λ (o : Option MountErr). unless o (volume_by image g vtoc))
+    (sym (first_append-some (track_faults image g vtoc) (slots_faults g (slots_of_vtoc image g vtoc) ++ volume_faults (volume_by image g vtoc)) e (sym is)))
 
 -- a track breaks the rules, and those before it don't
 pub track_refused : (image : List ℕ) (g : Geometry) (start len all track : ℕ) → track ≡ start + len → len < all → track_faults image g (run start len) ≡ [] → slots_on image g track ≡ None → volume_within image g (Ok (run start all)) ≡ Err (VtocTrack track)

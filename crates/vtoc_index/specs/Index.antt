@@ -1,5 +1,5 @@
 -- What the index of a VTOC holds of an image, and what a write of one slot does to that (System Control Blocks GC28-6628).
-use Rattle.std.specs.Prelude.{◌≡◌, ◌≢◌, ◌⊎◌, ℕ, ◌+◌, ◌-◌, ◌*◌, ◌≤◌, ◌<◌, nat_le, List, [], ◌∷◌, length, map, filter, take, Option, Some, Ok, Err, unwrap_or, slice_index_or, slice_range, position}
+use Rattle.std.specs.Prelude.{◌≡◌, ◌≢◌, ◌⊎◌, ℕ, ◌+◌, ◌-◌, ◌*◌, ◌≤◌, ◌<◌, nat_le, List, [], ◌∷◌, length, map, filter, take, Option, Some, Ok, Err, slice_index_or, slice_range, position}
 use Rattle.std.proofs.Common.{zero, suc}
 use Rattle.std.specs.Option.{option_map}
 use Rattle.std.specs.List.{range_with_len}
@@ -9,13 +9,15 @@ use Rattle.hall_core.specs.Facts.{Attached, unit_of}
 use Rattle.dscb_codec.specs.declared.Dscb.{Dscb}
 use Rattle.pack_spec.specs.Label.{label_of, track_bytes, tracks_of}
 use Rattle.pack_spec.specs.Vtoc.{vtoc_of}
-use Rattle.pack_spec.specs.Slots.{slots_of_vtoc, track_faults}
+use Rattle.pack_spec.specs.Slots.{record_address, slots_of_vtoc, track_faults}
 use Rattle.pack_spec.specs.Rules.{is_named, slots_faults}
-use Rattle.pack_spec.specs.Volume.{volume_of, volume_with}
+use Rattle.pack_spec.specs.Owned.{volume_faults}
+use Rattle.pack_spec.specs.Volume.{volume_by, volume_of}
 use Rattle.pack_spec.specs.declared.MountErr.{MountErr}
 use Rattle.pack_spec.specs.declared.MountErr.TheVariants.{Memory, Device}
 use Rattle.pack_spec.specs.declared.slot.VtocSlot.{VtocSlot}
 use Rattle.vol_model.specs.declared.contents.Run.{Run}
+use Rattle.vol_model.specs.Space.{AreMaximal, EndBy, free_runs}
 use Rattle.track_records.specs.Written.{StandsOn}
 use Rattle.vtoc_index.specs.declared.vol.Vol.{Vol}
 
@@ -52,7 +54,7 @@ AreFirsts number [] end = number ≡ end
 AreFirsts number (first ∷ firsts) end = (first ≡ number)
     × ((count : ℕ) × (count ≤ 255) × AreFirsts (number + count) firsts end)
 
--- The index is one of an attached unit: its VTOC lies on the unit, and its slots are numbered over the tracks of that.
+-- The index is one of an attached unit: its VTOC and its free runs lie on the unit, and its slots are numbered over the tracks of that.
 pub record IsOfUnit (units : List Attached) (v : Vol) : Type 0 where
   pub attached : v.unit < length units
   pub whole : HasGeometry (unit_of units v.unit).size v.geometry
@@ -61,6 +63,7 @@ pub record IsOfUnit (units : List Attached) (v : Vol) : Type 0 where
   pub few : v.vtoc.len ≤ 257
   pub most : length v.slots.items ≤ 65535
   pub firsts : AreFirsts 0 v.firsts.items (length v.slots.items)
+  pub free : AreMaximal v.free.items × EndBy (tracks_of v.geometry) v.free.items
   pub buffer : (v.buf.geometry ≡ v.geometry) × (v.buf.unit ≡ v.unit)
 
 -- The index holds what stands on the image: its geometry, its serial, and the slots of the VTOC; and so does the buffer.
@@ -72,13 +75,14 @@ pub record IsIndexOf (image : List ℕ) (v : Vol) : Type 0 where
   pub firsts : v.firsts.items ≡ firsts_of image v.geometry v.vtoc
   pub buffer : (v.buf.records ≡ []) ⊎ StandsOn image v.buf
 
--- The image stands for a volume, and this is the index of its VTOC.
+-- The image stands for a volume, and this is the index of its VTOC, with the volume's free runs.
 pub record IsMounted (image : List ℕ) (v : Vol) : Type 0 where
   pub index : IsIndexOf image v
   pub vtoc : vtoc_of image v.geometry ≡ Ok v.vtoc
   pub lawful : slots_faults v.geometry (slots_of_vtoc image v.geometry v.vtoc) ≡ []
-  pub volume : volume_of image ≡ Ok (volume_with v.geometry
-      (unwrap_or (label_of image v.geometry) []) v.vtoc (slots_of_vtoc image v.geometry v.vtoc))
+  pub whole : volume_faults (volume_by image v.geometry v.vtoc) ≡ []
+  pub free : v.free.items ≡ free_runs (volume_by image v.geometry v.vtoc)
+  pub volume : volume_of image ≡ Ok (volume_by image v.geometry v.vtoc)
 
 -- why there is no index: the first rule that the image breaks; want of memory and a fault of the device say nothing of it
 abbrev pub IsReason : List ℕ → MountErr → Type 0
@@ -93,6 +97,11 @@ track_index firsts slot = length (filter (λ first. nat_le first slot) firsts) -
 -- how many slots stand before a slot on its track
 abbrev pub slots_in_front : List ℕ → ℕ → ℕ
 slots_in_front firsts slot = slot - slice_index_or firsts (track_index firsts slot) 0
+
+-- the address CCHHR of a slot, by the tracks of the VTOC and the numbers of their first slots
+abbrev pub address_in : Vol → ℕ → List ℕ
+address_in v slot = record_address v.geometry (v.vtoc.start + track_index v.firsts.items slot)
+    (slots_in_front v.firsts.items slot + 1)
 
 -- where the 140 bytes of a slot stand in the image: behind the header, the tracks before it, the home address
 -- and R0, the slots before it of 148 bytes each, and its count

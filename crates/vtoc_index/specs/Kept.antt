@@ -10,6 +10,9 @@ use Rattle.pack_spec.specs.Label.{records_on}
 use Rattle.pack_spec.specs.Vtoc.{vtoc_of}
 use Rattle.pack_spec.specs.Slots.{slots_of_vtoc, track_faults}
 use Rattle.pack_spec.specs.Rules.{slots_faults}
+use Rattle.pack_spec.specs.Owned.{volume_faults}
+use Rattle.pack_spec.specs.Volume.{volume_by}
+use Rattle.vol_model.specs.Space.{free_runs}
 use Rattle.vtoc_index.specs.Index.{AreDscbs, AreFirsts, firsts_of, serial_on}
 
 -- The index is that of the VTOC of an image that breaks no rule.
@@ -20,6 +23,8 @@ pub record IsKept (image : List ℕ) (v : Vol) : Type 0 where
   pub vtoc : vtoc_of image v.geometry ≡ Ok v.vtoc
   pub tracks : track_faults image v.geometry v.vtoc ≡ []
   pub lawful : slots_faults v.geometry (slots_of_vtoc image v.geometry v.vtoc) ≡ []
+  pub whole : volume_faults (volume_by image v.geometry v.vtoc) ≡ []
+  pub free : v.free.items ≡ free_runs (volume_by image v.geometry v.vtoc)
   pub slots : AreDscbs v.slots.items (slots_of_vtoc image v.geometry v.vtoc)
   pub firsts : v.firsts.items ≡ firsts_of image v.geometry v.vtoc
   pub buffer : v.buf.records ≢ [] → records_on image v.buf.geometry

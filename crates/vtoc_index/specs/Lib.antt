@@ -1,5 +1,9 @@
+pub mod Bits
 pub mod Calls
+pub mod Free
 pub mod Index
 pub mod Kept
+pub mod Names
+pub mod Owned
 pub mod Puts
 pub mod Reading

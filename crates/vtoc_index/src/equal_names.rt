@@ -1,10 +1,11 @@
 //! Data sets of equal names.
-ghost use Rattle.std.specs.Prelude.{◌≡◌, ◌≢◌, ℕ, ◌≤◌, List, Some, None, Ok, length, option_and_then, slice_get, IfOk, if◌then◌else◌};
-ghost use Rattle.std.specs.BTreeMap.{get};
+ghost use Rattle.std.specs.Prelude.{◌≡◌, ◌⊎◌, ℕ, ◌≤◌, List, [], Some, None, Ok, length, option_and_then, position, slice_get, IfErr, IfOk, IsErrOf, OnOk, if◌then◌else◌};
+ghost use Rattle.std.specs.BTreeMap.{IsOrdered, get, values};
 ghost use Rattle.std.specs.Cmp.Lexicographic.{slice_cmp};
 ghost use Rattle.std.specs.Ordering.{nat_cmp};
 ghost use Rattle.std.specs.Option.{option_map};
 ghost use Rattle.pack_spec.specs.Rules.{is_named, name_faults, set_in};
+ghost use Rattle.vtoc_index.specs.Names.{AreByName, name_in};
 
 use crate::MountErr;
 use dscb_codec::Dscb;
@@ -12,25 +13,53 @@ use pack_spec::VtocSlot;
 use std::alloc::{AllocError, Global};
 use std::collections::BTreeMap;
 
-// The first data set whose name stands in an earlier slot.
-#[tactic(auto, unfolding(pack_spec::specs::Rules::name_faults))]
-pub(crate) fn name_fault(alloc: Global, slots: &[VtocSlot]) -> Result<Option<MountErr>, AllocError>
+// The slots of the data sets in the order of their names, where no name stands twice; else the first data set
+// whose name stands in an earlier slot.
+pub(crate) fn slots_by_name(alloc: Global, slots: &[VtocSlot]) -> Result<Vec<u32>, MountErr>
     requires { length slots.now ≤ 65535 }
-    ensures first { IfOk result (λ fault. fault ≡ slice_get (name_faults slots.now) 0) }
-    ensures device { IfOk result (λ fault. fault ≢ Some MountErr.Device) }
-    ensures file { IfOk result (λ fault. fault ≢ Some MountErr.NoFile) }
+    ensures order { IfOk result (λ by_name. AreByName (name_in slots.now) by_name.items) }
+    ensures apart { OnOk result (name_faults slots.now ≡ []) }
+    ensures refused { IfErr result (λ e. (e ≡ MountErr.Memory)
+        ⊎ (slice_get (name_faults slots.now) 0 ≡ Some e)) }
+    ensures device { IsErrOf result MountErr.Device → ⊥ }
+    ensures file { IsErrOf result MountErr.NoFile → ⊥ }
+{
+    let lowest = slots_of_names(alloc, slots)?;
+    Ok(slots_in(alloc, &lowest)?)
+}
+
+// The slot of each name, where none stands twice; else the first data set whose name stands in an earlier slot.
+#[tactic(auto, unfolding(pack_spec::specs::Rules::name_faults))]
+fn slots_of_names(alloc: Global, slots: &[VtocSlot]) -> Result<BTreeMap<[u8; 44], u32>, MountErr>
+    requires { length slots.now ≤ 65535 }
+    ensures lowest { IfOk result (λ lowest. (name : List ℕ)
+        → get (slice_cmp nat_cmp) lowest name
+        ≡ position (λ s. is_named name s.content) slots.now) }
+    ensures apart { OnOk result (slice_get (name_faults slots.now) 0 ≡ None) }
+    ensures refused { IfErr result (λ e. (e ≡ MountErr.Memory)
+        ⊎ (slice_get (name_faults slots.now) 0 ≡ Some e)) }
+    ensures device { IsErrOf result MountErr.Device → ⊥ }
+    ensures file { IsErrOf result MountErr.NoFile → ⊥ }
 {
     let mut lowest = BTreeMap::new(alloc);
     for (index, slot) in slots.iter().enumerate() {
         let number = index as u32;
         if let Some(other) = note_name(&mut lowest, slot, number)? {
-            return Ok(Some(MountErr::DuplicateName {
+            return Err(MountErr::DuplicateName {
                 slot: number,
                 other,
-            }));
+            });
         }
     }
-    Ok(None)
+    Ok(lowest)
+}
+
+// The slots of names in the order of these.
+fn slots_in(alloc: Global, lowest: &BTreeMap<[u8; 44], u32>) -> Result<Vec<u32>, AllocError>
+    ensures items { IfOk result (λ slots. slots.items ≡ values lowest.now) }
+    ensures ordered { OnOk result (IsOrdered (slice_cmp nat_cmp) lowest.now) }
+{
+    lowest.values().copied().collect(alloc)
 }
 
 // Notes the slot of this number for the name in it; gives the slot that was noted for that name before.

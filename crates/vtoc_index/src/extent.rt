@@ -1,13 +1,14 @@
 //! Extents, as the DSCBs of data sets and of the VTOC have them.
-ghost use Rattle.std.specs.Prelude.{◌≡◌, ℕ};
+ghost use Rattle.std.specs.Prelude.{◌≡◌, ℕ, IsTrue};
 ghost use Rattle.ckd_image.specs.Header.{HasGeometry};
-ghost use Rattle.pack_spec.specs.Vtoc.{is_counted_type, is_extent, is_field_type, lower_of, type_of, upper_of};
+ghost use Rattle.pack_spec.specs.Vtoc.{is_counted_type, is_extent, is_field_type, lower_of, run_of_extent, type_of, upper_of};
 
 use ckd_image::Geometry;
 use pack_spec::Address;
 use pack_spec::layout::{
     self, CYLINDER_EXTENT, DATA_EXTENT, LOWER_AT, NO_EXTENT, TYPE_AT, UPPER_AT,
 };
+use vol_model::Run;
 
 // The bytes of an extent in a DSCB.
 pub(crate) type Row = layout::Extent;
@@ -63,4 +64,18 @@ pub(crate) fn is_extent(geometry: Geometry, row: &Row) -> bool
     extent.lower.is_inside(geometry)
         && extent.upper.is_inside(geometry)
         && extent.lower.track(geometry) <= extent.upper.track(geometry)
+}
+
+// The tracks of an extent, which is one of the image.
+pub(crate) fn run_of(geometry: Geometry, row: &Row) -> Run
+    requires geometry { (len : ℕ) × HasGeometry len geometry }
+    requires extent { IsTrue (is_extent geometry row.now) }
+    ensures { result ≡ run_of_extent geometry row.now }
+{
+    let extent = Extent::read(row);
+    let start = extent.lower.track(geometry);
+    Run {
+        start,
+        len: extent.upper.track(geometry) - start + 1,
+    }
 }

@@ -1,18 +1,19 @@
 //! One slot of a VTOC, written over.
-ghost use Rattle.std.specs.Prelude.{◌≡◌, ◌⊎◌, ◌<◌, ◌≤◌, ◌+◌, ◌-◌, [], length, filter, nat_le, slice_index, IsOk, IsTrue, OnOk};
-ghost use Rattle.hall_core.specs.Facts.{DeviceCall, unit_of};
+ghost use Rattle.std.specs.Prelude.{◌≡◌, ◌⊎◌, ◌<◌, ◌≤◌, ◌+◌, ◌-◌, [], length, filter, nat_le, slice_index, List, IsOk, IsTrue, OnOk};
+ghost use Rattle.hall_core.specs.Facts.{Attached, DeviceCall, unit_of};
 ghost use Rattle.hall_core.specs.Images.{image_in};
 ghost use Rattle.stop_model.specs.Moments.{Same};
 ghost use Rattle.track_records.specs.Calls.{HasTrack};
 ghost use Rattle.track_records.specs.Updates.{HasLengths};
 ghost use Rattle.track_records.specs.Written.{StandsOn};
-ghost use Rattle.vtoc_index.specs.Index.{AreFirsts, IsIndexOf, IsOfUnit, slots_in_front, track_index};
+ghost use Rattle.vtoc_index.specs.Index.{AreFirsts, IsIndexOf, address_in, IsOfUnit, slots_in_front, track_index};
 ghost use Rattle.vtoc_index.specs.Puts.{AfterPut, HasSlot, IsHeld, IsWith};
 
 use crate::vol::Vol;
 use dscb_codec::{Dscb, encode};
 use hall_core::{Device, Hall};
 use pack_spec::layout::{DATA_LEN, KEY_LEN};
+use pack_spec::record_address;
 use track_records::{TrackBuf, TrackErr, read_records, update};
 
 // Where a slot stands.
@@ -52,6 +53,17 @@ pub fn put_slot<H: Hall>(hall: &mut H, vol: &mut Vol, slot: u32, dscb: &Dscb) ->
     update(hall, &mut vol.buf, place.number, key, payload)?;
     vol.slots[slot as usize] = *dscb;
     Ok(())
+}
+
+/// The address CCHHR of a slot of the VTOC: cylinder and head, two bytes each with the high one first, and
+/// record (System Control Blocks GC28-6628).
+pub fn slot_address(vol: &Vol, slot: u32) -> [u8; 5]
+    requires unit { (units : List Attached) × IsOfUnit units vol.now }
+    requires slot { slot < length vol.now.slots.items }
+    ensures { result ≡ address_in vol.now slot }
+{
+    let place = place_of(vol, slot);
+    record_address(vol.geometry, place.track, place.number)
 }
 
 // Where a slot stands.

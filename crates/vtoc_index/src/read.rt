@@ -12,11 +12,12 @@ ghost use Rattle.track_records.specs.Calls.{HasTrack};
 ghost use Rattle.track_records.specs.Written.{StandsOn};
 ghost use Rattle.vtoc_index.specs.Calls.{MountCall};
 ghost use Rattle.vtoc_index.specs.Index.{IsMounted, IsOfUnit, IsReason};
+ghost use Rattle.vtoc_index.specs.Names.{AreByName, name_at};
 ghost use Rattle.vtoc_index.specs.Reading.{AreNumbered, AreTracksRead, IsExtent, Refuses};
 
 use crate::header::read_geometry;
 use crate::label::read_label;
-use crate::rules::dscbs_in;
+use crate::rules::judge;
 use crate::tracks::ReadSlots;
 use crate::vol::Vol;
 use crate::vtoc_extent::extent_held;
@@ -34,8 +35,8 @@ const FIRST_SLOT: u8 = 1;
 ///
 /// It is answered where the pack mounts, else the first rule of mounting that is broken: by the header,
 /// the label, the extent of the VTOC, its tracks in order, the formats of slots 0 and 1, then each slot
-/// by itself, the lowest first, and then the names. `NoFile` never comes: a missing file is found where it is
-/// attached. `Memory` and `Device` say nothing of the pack, and `Device` comes only where the count of device
+/// by itself, the lowest first, then the names, the tracks that are owned twice, and the slots that are
+/// needed. `NoFile` never comes: a missing file is found where it is attached. `Memory` and `Device` say nothing of the pack, and `Device` comes only where the count of device
 /// faults rose.
 ///
 /// On a pack that mounts, the header, the label's track and each track of the VTOC, which are counted
@@ -53,6 +54,7 @@ pub fn read_vtoc<H: Hall>(alloc: Global, hall: &mut H, unit: u8) -> Result<Vol, 
     ensures refused { let image = image_in (H.meaning hall.old) (H.facts hall.old) unit in
         IsTrue H.tells → IfErr result (IsReason image) }
     ensures unit { IfOk result (λ vol. (vol.unit ≡ unit) × IsOfUnit (H.facts hall.old).units vol) }
+    ensures names { IfOk result (λ vol. AreByName (name_at vol.slots.items) vol.by_name.items) }
     ensures files { IsTrue H.tells → Same (H.meaning hall.old) (H.meaning hall.new) }
     ensures faults { MountCall (H.facts hall.old) (H.facts hall.new) result }
     ensures file { IsErrOf result MountErr.NoFile → ⊥ }
@@ -64,14 +66,16 @@ pub fn read_vtoc<H: Hall>(alloc: Global, hall: &mut H, unit: u8) -> Result<Vol, 
         return Err(MountErr::BadVtoc);
     }
     let (vtoc, found) = read_slots(alloc, hall, unit, geometry, label.vtoc, &mut buf)?;
-    let slots = dscbs_in(alloc, geometry, &found.slots)?;
+    let judged = judge(alloc, geometry, vtoc, &found.slots)?;
     Ok(Vol {
         unit,
         serial: label.serial,
         geometry,
         vtoc,
-        slots,
+        slots: judged.dscbs,
         firsts: found.firsts,
+        free: judged.free,
+        by_name: judged.by_name,
         buf,
     })
 }

@@ -1,5 +1,5 @@
 //! The rules of mounting that the slots of a VTOC break.
-ghost use Rattle.std.specs.Prelude.{◌≡◌, ◌≢◌, ℕ, ◌≤◌, ◌<◌, ◌⊎◌, List, [], Err, Ok, Some, length, slice_get, IfErr, IfOk, IsErrOf, false};
+ghost use Rattle.std.specs.Prelude.{◌≡◌, ◌≢◌, ℕ, ◌≤◌, ◌<◌, ◌⊎◌, ◌++◌, List, [], Err, Ok, Some, length, slice_get, IfErr, IfOk, IsErrOf, false};
 ghost use Rattle.std.specs.List.{filter_map};
 ghost use Rattle.std.specs.Option.{option_map_or};
 ghost use Rattle.std.specs.Result.{result_ok};
@@ -7,29 +7,82 @@ ghost use Rattle.ckd_image.specs.Header.{HasGeometry};
 ghost use Rattle.ckd_image.specs.declared.header.Geometry.{Geometry};
 ghost use Rattle.pack_spec.specs.declared.slot.VtocSlot.{VtocSlot};
 ghost use Rattle.pack_spec.specs.Rules.{content_fault, front_faults, is_f4, is_f5_or_f0, slot_fault, slot_faults, slots_faults};
+ghost use Rattle.pack_spec.specs.Label.{tracks_of};
+ghost use Rattle.pack_spec.specs.Owned.{volume_faults};
+ghost use Rattle.pack_spec.specs.Volume.{volume_with};
+ghost use Rattle.vol_model.specs.Lawful.{IsOnPack};
+ghost use Rattle.vol_model.specs.Space.{AreMaximal, EndBy, free_runs};
 ghost use Rattle.vtoc_index.specs.Index.{AreDscbs};
+ghost use Rattle.vtoc_index.specs.Names.{AreByName, name_at};
 
 use crate::MountErr;
-use crate::equal_names::name_fault;
+use crate::equal_names::slots_by_name;
+use crate::owned::free_runs_in;
 use crate::set_extents::extents_fault;
 use ckd_image::Geometry;
 use dscb_codec::{Dscb, DscbErr, FORMAT_4};
 use pack_spec::VtocSlot;
 use std::alloc::{AllocError, Global};
+use vol_model::Run;
 
-/// The DSCBs in slots that break no rule.
-///
-/// Otherwise it is the first rule that is broken: first come the formats of slots 0 and 1, then the
-/// rules on single slots in the order of these, then the names.
-pub(crate) fn dscbs_in(
+// What slots that break no rule tell an index.
+#[derive(Drop)]
+pub(crate) struct Judged {
+    // The DSCB in each slot.
+    pub dscbs: Vec<Dscb>,
+    // The slots of the data sets, in the order of their names.
+    pub by_name: Vec<u32>,
+    // The maximal runs of free tracks, in ascending order.
+    pub free: Vec<Run>,
+}
+
+// What an index has of the slots of a VTOC on these tracks, where they break no rule.
+//
+// Otherwise it is the first rule that is broken: first come the formats of slots 0 and 1, then the rules on single
+// slots in the order of these, then the names, and then the rules on the volume as a whole.
+pub(crate) fn judge(
+    alloc: Global,
+    geometry: Geometry,
+    vtoc: Run,
+    slots: &[VtocSlot],
+) -> Result<Judged, MountErr>
+    requires whole { (len : ℕ) × HasGeometry len geometry }
+    requires vtoc { IsOnPack geometry vtoc }
+    requires few { length slots.now ≤ 65535 }
+    ensures dscbs { IfOk result (λ found. AreDscbs found.dscbs.items slots.now
+        × (slots_faults geometry slots.now ≡ [])) }
+    ensures names { IfOk result (λ found. AreByName (name_at found.dscbs.items) found.by_name.items) }
+    ensures free { (label : List ℕ) → let volume = volume_with geometry label vtoc slots.now in
+        IfOk result (λ found. (volume_faults volume ≡ []) × (found.free.items ≡ free_runs volume)) }
+    ensures runs { IfOk result (λ found. AreMaximal found.free.items
+        × EndBy (tracks_of geometry) found.free.items) }
+    ensures refused { (label : List ℕ) → let volume = volume_with geometry label vtoc slots.now in
+        IfErr result (λ e. (e ≡ MountErr.Memory)
+        ⊎ (slice_get (slots_faults geometry slots.now ++ volume_faults volume) 0 ≡ Some e)) }
+    ensures device { IsErrOf result MountErr.Device → ⊥ }
+    ensures file { IsErrOf result MountErr.NoFile → ⊥ }
+{
+    let (dscbs, by_name) = dscbs_in(alloc, geometry, slots)?;
+    let free = free_runs_in(alloc, geometry, vtoc, slots)?;
+    Ok(Judged {
+        dscbs,
+        by_name,
+        free,
+    })
+}
+
+// The DSCBs in slots that break no rule, and the slots of the data sets in the order of their names; else the first
+// rule that the slots break.
+fn dscbs_in(
     alloc: Global,
     geometry: Geometry,
     slots: &[VtocSlot],
-) -> Result<Vec<Dscb>, MountErr>
+) -> Result<(Vec<Dscb>, Vec<u32>), MountErr>
     requires whole { (len : ℕ) × HasGeometry len geometry }
     requires few { length slots.now ≤ 65535 }
-    ensures dscbs { IfOk result (λ found. AreDscbs found.items slots.now
+    ensures dscbs { IfOk result (λ found. AreDscbs found.0.items slots.now
         × (slots_faults geometry slots.now ≡ [])) }
+    ensures names { IfOk result (λ found. AreByName (name_at found.0.items) found.1.items) }
     ensures refused { IfErr result (λ e. (e ≡ MountErr.Memory)
         ⊎ (slice_get (slots_faults geometry slots.now) 0 ≡ Some e)) }
     ensures device { IsErrOf result MountErr.Device → ⊥ }
@@ -38,10 +91,11 @@ pub(crate) fn dscbs_in(
     if let Some(fault) = first_fault(alloc, geometry, slots)? {
         return Err(fault);
     }
-    Ok(dscbs(alloc, slots)?)
+    let by_name = slots_by_name(alloc, slots)?;
+    Ok((dscbs(alloc, slots)?, by_name))
 }
 
-// The first rule that the slots break.
+// The first rule on formats and extents that the slots break.
 fn first_fault(
     alloc: Global,
     geometry: Geometry,
@@ -49,17 +103,15 @@ fn first_fault(
 ) -> Result<Option<MountErr>, AllocError>
     requires whole { (len : ℕ) × HasGeometry len geometry }
     requires few { length slots.now ≤ 65535 }
-    ensures first { IfOk result (λ fault. fault ≡ slice_get (slots_faults geometry slots.now) 0) }
+    ensures first { IfOk result (λ fault. fault
+        ≡ slice_get (front_faults slots.now ++ slot_faults geometry slots.now) 0) }
     ensures device { IfOk result (λ fault. fault ≢ Some MountErr.Device) }
     ensures file { IfOk result (λ fault. fault ≢ Some MountErr.NoFile) }
 {
     if let Some(fault) = front_fault(slots) {
         return Ok(Some(fault));
     }
-    if let Some(fault) = first_slot_fault(alloc, geometry, slots)? {
-        return Ok(Some(fault));
-    }
-    name_fault(alloc, slots)
+    first_slot_fault(alloc, geometry, slots)
 }
 
 // What is wrong with the first two slots.

@@ -46,7 +46,11 @@ pub(crate) fn extents_fault(
 
 // The extents that a format 1 counts: first its own, then those of its format 3.
 #[tactic(auto, unfolding(pack_spec::specs::Rules::counted_extents))]
-fn counted_extents(alloc: Global, slots: &[VtocSlot], set: &F1) -> Result<Vec<Row>, AllocError>
+pub(crate) fn counted_extents(
+    alloc: Global,
+    slots: &[VtocSlot],
+    set: &F1,
+) -> Result<Vec<Row>, AllocError>
     ensures { IfOk result (λ rows. rows.items ≡ counted_extents slots.now set.now) }
 {
     let mut rows = Vec::new(alloc);

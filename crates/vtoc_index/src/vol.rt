@@ -24,6 +24,10 @@ pub struct Vol {
     /// The number of the first slot on each track of the VTOC; on a track without slots, that of the
     /// next slot.
     pub firsts: Vec<u32>,
+    /// The maximal runs of free tracks, in ascending order, counted from 0 over the volume.
+    pub free: Vec<Run>,
+    /// The slots of the data sets, in the order of the 44 bytes of their names.
+    pub by_name: Vec<u32>,
     /// The track that was read or written last.
     pub buf: TrackBuf,
 }

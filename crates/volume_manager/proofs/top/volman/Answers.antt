@@ -1,18 +1,16 @@
-use Rattle.std.proofs.Common.{◌≡◌, ◌∙◌, ⊎_elim, inl, inr, sym, ap, subst, Err, Some, None, option_map, refl, arith}
+use Rattle.std.proofs.Common.{◌≡◌, ◌∙◌, ◌≤◌, ⊎_elim, inl, inr, ℕ, List, Bor, length, map, sym, ap, subst, Some, option_map, refl, arith}
+use Rattle.std.proofs.lemmas.List.{length-map}
 use Rattle.std.specs.Prelude.{Option}
+use Rattle.command_words.specs.Requests.{Request, Run, request_in}
+use Rattle.shelf_machine.specs.Opening.{AreApart}
 use Rattle.stop_model.proofs.MomentLemmas.{same_none}
-use Rattle.stop_model.specs.Files.{file_of}
-use Rattle.stop_model.specs.Moments.{IsDurable}
-use Rattle.volume_manager.specs.Lines.{deck_line, words_line}
-use Rattle.volume_manager.specs.Run.{IsFinal}
-use Rattle.volume_manager.specs.Words.{IsRun, Request, Run, request_in}
+use Rattle.volume_manager.specs.Lines.{words_line}
+use Rattle.volume_manager.specs.Run.{Headline}
+use Rattle.volume_manager.proofs.FileTasks.{answered_check, answered_init, answered_names, answered_nothing, answered_words}
 use Rattle.volume_manager.proofs.Tasks.{durable_left, files_printed, files_same, text_said}
-use Rattle.volume_manager.proofs.Works.{answered_deck, answered_form, answered_init, answered_names, answered_nothing, answered_words, not_final, stated_durable}
+use Rattle.volume_manager.proofs.Words.{asked_run}
+use Rattle.volume_manager.proofs.Works.{not_final}
 use Rattle.volume_manager.proofs.top.volman.Goals as goal
-
--- a run was asked for
-run_asked : {A : Type 0} (request : Option Request) (file : _) → request ≡ Some (Run file) → ¬ IsRun request → A
-run_asked request file asked other = absurd (other (subst IsRun (sym asked) tt))
 
 pub returns-in-Err-clause-headline : goal.returns-in-Err-clause-headline
 returns-in-Err-clause-headline g c told =
@@ -62,43 +60,39 @@ returns-in-Ok-Some-Init-clause-headline g c told =
       durable = ⊎_elim (λ final. durable (inl final)) (⊎_elim (λ (read : c.init.result ≡ 23). absurd (omega (arith, read, which))) (λ short. durable (inr short)));
     }
 
-pub returns-in-Ok-clause-headline : goal.returns-in-Ok-clause-headline
-returns-in-Ok-clause-headline g c told =
+pub returns-in-Ok-Some-Check-clause-headline : goal.returns-in-Ok-Some-Check-clause-headline
+returns-in-Ok-Some-Check-clause-headline g c told =
     let hall = c.args.hall.now in
-    let asked = sym c.in-Ok-Some-Run.ensures.request ∙ ap (option_map request_in) (c.in-Ok-Some-Run.field-0-is ∙ ap Some c.in-Ok-Some-Run.field-0-0-is) in
-    let which = c.run.ensures.facts.which in
-    let final : IsFinal c.run.result → IsDurable (g.H.Hall.meaning c.run.new.hall) =
-    stated_durable c.in-Ok-Some-Run.file.now c.in-Ok.statement (file_of (g.H.Hall.meaning hall).state c.in-Ok-Some-Run.file.now) c.run.result (g.met.H.Hall.none_pending hall told c.requires) (c.run.ensures.task told) in
+    let asked = sym c.in-Ok-Some-Check.ensures.request ∙ ap (option_map request_in) (c.in-Ok-Some-Check.field-0-is ∙ ap Some c.in-Ok-Some-Check.field-0-0-is) in
     record {
-      does = answered_deck _ c.in-Ok-Some-Run.file.now c.in-Ok.statement g.C.Cards.tells (g.C.Cards.left c.args.cards.now) c.run.result asked (λ tells. (c.in-Ok.ensures.deck tells).0) (c.run.ensures.task told);
-      unbegun = λ unbegun. c.run.ensures.refused told (omega (arith, unbegun, which));
-      silent = run_asked _ c.in-Ok-Some-Run.file.now asked;
-      durable = ⊎_elim final (⊎_elim (λ (read : c.run.result ≡ 23). absurd (omega (arith, read, which))) (c.run.ensures.durable told));
+      does = answered_check _ c.in-Ok-Some-Check.file.now g.C.Cards.tells (g.C.Cards.left c.args.cards.now) c.check.result asked (c.check.ensures.task told);
+      unbegun = λ unbegun. c.check.ensures.files told;
+      silent = λ other which. c.check.ensures.silent told which;
+      durable = λ which. durable_left (g.H.Hall.meaning hall) (g.H.Hall.meaning c.check.new.hall) (c.check.ensures.files told) (g.met.H.Hall.none_pending hall told c.requires);
     }
 
-pub returns-in-Err-Form-clause-headline : goal.returns-in-Err-Form-clause-headline
-unfolding deck_line
-returns-in-Err-Form-clause-headline g c told =
-    let hall = c.args.hall.now in
+pub run_deck-requires-clause-date : goal.run_deck-requires-clause-date
+run_deck-requires-clause-date g c =
     let asked = sym c.in-Ok-Some-Run.ensures.request ∙ ap (option_map request_in) (c.in-Ok-Some-Run.field-0-is ∙ ap Some c.in-Ok-Some-Run.field-0-0-is) in
-    let prints = c.end-in-Err-Form.ensures.text told in
-    record {
-      does = answered_form _ c.in-Ok-Some-Run.file.now g.C.Cards.tells (g.C.Cards.left c.args.cards.now) c.end-in-Err-Form.result asked (λ tells. c.read_deck.ensures.form tells (c.in-Err-Form.is ∙ ap Err c.in-Err-Form.field-0-is))
-          (text_said 26 c.end-in-Err-Form.result (λ is. cc) (same_none _ (g.met.H.Hall.counts_now hall)) prints c.end-in-Err-Form.ensures.status);
-      unbegun = λ unbegun. files_printed prints;
-      silent = run_asked _ c.in-Ok-Some-Run.file.now asked;
-      durable = λ which. durable_left (g.H.Hall.meaning hall) (g.H.Hall.meaning c.end-in-Err-Form.new.hall) (files_printed prints) (g.met.H.Hall.none_pending hall told c.requires);
-    }
+    (asked_run _ c.in-Ok-Some-Run.date (map (λ f. f.now) c.in-Ok-Some-Run.files.items) asked).proper
 
-pub returns-in-Err-Read-clause-headline : goal.returns-in-Err-Read-clause-headline
-returns-in-Err-Read-clause-headline g c told =
-    let hall = c.args.hall.now in
+pub run_deck-requires-clause-few : goal.run_deck-requires-clause-few
+run_deck-requires-clause-few g c =
+    let files : List (Bor (List ℕ)) = c.in-Ok-Some-Run.files.items in
     let asked = sym c.in-Ok-Some-Run.ensures.request ∙ ap (option_map request_in) (c.in-Ok-Some-Run.field-0-is ∙ ap Some c.in-Ok-Some-Run.field-0-0-is) in
-    let same = same_none _ (g.met.H.Hall.counts_now hall) in
-    record {
-      does = answered_nothing _ g.C.Cards.tells (g.C.Cards.left c.args.cards.now) c.code-in-Err-Read.result (g.met.H.Hall.none_pending hall told c.requires) (g.met.H.Hall.only_now hall) same
-          (not_final c.code-in-Err-Read.result 23 c.code-in-Err-Read.ensures (omega arith) (omega arith));
-      unbegun = λ unbegun. files_same same;
-      silent = run_asked _ c.in-Ok-Some-Run.file.now asked;
-      durable = λ which. g.met.H.Hall.none_pending hall told c.requires;
-    }
+    let few = (asked_run _ c.in-Ok-Some-Run.date (map (λ f. f.now) files) asked).few in
+    subst (λ (fs : List (Bor (List ℕ))). length fs ≤ 8) (sym c.deref.ensures.value) (subst (λ (n : ℕ). n ≤ 8) (length-map files (λ f. f.now)) few)
+
+pub run_deck-requires-clause-apart : goal.run_deck-requires-clause-apart
+run_deck-requires-clause-apart g c =
+    let files : List (Bor (List ℕ)) = c.in-Ok-Some-Run.files.items in
+    let asked = sym c.in-Ok-Some-Run.ensures.request ∙ ap (option_map request_in) (c.in-Ok-Some-Run.field-0-is ∙ ap Some c.in-Ok-Some-Run.field-0-0-is) in
+    subst (λ (fs : List (Bor (List ℕ))). AreApart (map (λ f. f.now) fs)) (sym c.deref.ensures.value) (asked_run _ c.in-Ok-Some-Run.date (map (λ f. f.now) files) asked).apart
+
+pub returns-in-Ok-Some-Run-clause-headline : goal.returns-in-Ok-Some-Run-clause-headline
+returns-in-Ok-Some-Run-clause-headline g c told =
+    let M = g.H.Hall.meaning in
+    let asked = sym c.in-Ok-Some-Run.ensures.request ∙ ap (option_map request_in) (c.in-Ok-Some-Run.field-0-is ∙ ap Some c.in-Ok-Some-Run.field-0-0-is) in
+    let ran = subst (λ (fs : List (Bor (List ℕ))). Headline (Some (Run c.in-Ok-Some-Run.date (map (λ f. f.now) fs))) g.C.Cards.tells (g.C.Cards.left c.args.cards.now) (M c.args.hall.now) (M c.run_deck.new.hall) c.run_deck.result)
+    c.deref.ensures.value (c.run_deck.ensures.headline told) in
+    subst (λ (r : Option Request). Headline r g.C.Cards.tells (g.C.Cards.left c.args.cards.now) (M c.args.hall.now) (M c.run_deck.new.hall) c.run_deck.result) (sym asked) ran

@@ -1,0 +1,16 @@
+use Rattle.std.proofs.Common.{List, ℕ}
+use Rattle.hall_core.specs.Facts.{unit_of}
+use Rattle.free_rebuild.proofs.DurableLemmas.{stays_not, stays_synced}
+use Rattle.free_rebuild.proofs.durable.clear_durably.Goals as goal
+
+pub returns-in_err-clear_unused-clause-files : goal.returns-in_err-clear_unused-clause-files
+returns-in_err-clear_unused-clause-files g c told =
+    let v = c.args.vol.now in
+    let name : List ℕ = (unit_of (g.H.Hall.facts c.args.hall.now).units v.unit).name in
+    stays_not name v (g.H.Hall.meaning c.args.hall.now) (g.H.Hall.meaning c.clear_unused.new.hall) c.clear_unused.result c.from_residual.result (c.requires.durable told) c.from_residual.ensures.0 (c.clear_unused.ensures.files told)
+
+pub returns-clause-files : goal.returns-clause-files
+returns-clause-files g c told =
+    let v = c.args.vol.now in
+    let name : List ℕ = (unit_of (g.H.Hall.facts c.args.hall.now).units v.unit).name in
+    stays_synced name v (g.H.Hall.meaning c.args.hall.now) (g.H.Hall.meaning c.clear_unused.new.hall) (g.H.Hall.meaning c.make_durable.new.hall) _ c.make_durable.result (c.requires.durable told) (g.met.H.Hall.leaves_state c.clear_unused.new.hall) (c.in_ok-clear_unused.ensures.files told) (c.make_durable.ensures.files told)

@@ -1,0 +1,26 @@
+use Rattle.std.proofs.Common.{List, ◌∷◌, map, sym, subst}
+use Rattle.std.specs.Prelude.{Some, Ok}
+use Rattle.util_steps.specs.Items.{DoesNext, items_along}
+use Rattle.util_steps.proofs.Reporting.{next_item, next_stopped}
+use Rattle.util_syntax.specs.declared.items.Item.{Item}
+use Rattle.util_syntax.specs.Items.{item_view}
+use Rattle.iehlist_util.specs.Items.{statement_item}
+use Rattle.iehlist_util.proofs.program.StatementsItems.next.Goals as goal
+
+pub returns-in_err-code-in-Some-clause-item : goal.returns-in_err-code-in-Some-clause-item
+returns-in_err-code-in-Some-clause-item g c told =
+    let m = g.M.Machine.meaning in
+    let s = g.M.Machine.status in
+    let after = items_along statement_item (m c.do_statement.new.machine).state (map item_view c.args.self.now.rest.now) in
+    subst (λ (l : List Item). DoesNext g.M.Machine.tells_prints (items_along statement_item (m c.args.machine.now).state (map item_view l)) after (m c.args.machine.now) (m c.do_statement.new.machine) (s c.args.machine.now).done (s c.do_statement.new.machine).done c.from_residual.result)
+    (sym c.in-Some.ensures.cases.0)
+    (next_stopped statement_item (item_view c.in-Some.first.now) (map item_view c.in-Some.behind.now) after c.from_residual.result c.from_residual.ensures.0 (c.do_statement.ensures.item told))
+
+pub returns-in_ok-code-in-Some-clause-item : goal.returns-in_ok-code-in-Some-clause-item
+returns-in_ok-code-in-Some-clause-item g c told =
+    let m = g.M.Machine.meaning in
+    let s = g.M.Machine.status in
+    let after = items_along statement_item (m c.do_statement.new.machine).state (map item_view c.in-Some.behind.now) in
+    subst (λ (l : List Item). DoesNext g.M.Machine.tells_prints (items_along statement_item (m c.args.machine.now).state (map item_view l)) after (m c.args.machine.now) (m c.do_statement.new.machine) (s c.args.machine.now).done (s c.do_statement.new.machine).done (Ok (Some c.in_ok-code-in-Some.code)))
+    (sym c.in-Some.ensures.cases.0)
+    (next_item statement_item (item_view c.in-Some.first.now) (map item_view c.in-Some.behind.now) c.in_ok-code-in-Some.code (c.in_ok-code-in-Some.ensures.item told))

@@ -1,0 +1,122 @@
+-- What IEHLIST prints in a step, statement by statement (Utilities GC28-6586, in this project's profile).
+use Rattle.std.specs.Prelude.{◌≡◌, ℕ, ◌+◌, Bool, if◌then◌else◌, List, [], ◌∷◌, ◌++◌, codes, replicate, slice_get, Option, Some, None, option_and_then}
+use Rattle.std.specs.List.{flat_map}
+use Rattle.std.specs.Map.{lookup}
+use Rattle.ebcdic_names.specs.declared.names.Dsn.{Dsn}
+use Rattle.ebcdic_names.specs.declared.names.Serial.{Serial}
+use Rattle.vol_model.specs.declared.answers.VolumeInfo.{VolumeInfo}
+use Rattle.vol_model.specs.declared.contents.DataSet.{DataSet}
+use Rattle.vol_model.specs.declared.contents.Run.{Run}
+use Rattle.vol_model.specs.declared.contents.Shelf.{Shelf}
+use Rattle.vol_model.specs.declared.contents.Volume.{Volume}
+use Rattle.vol_model.specs.declared.refusals.Refusal.TheVariants.{NoSet, NoVolume}
+use Rattle.vol_model.specs.Events.{Item}
+use Rattle.vol_model.specs.Reading.{set_info, volume_info}
+use Rattle.vol_model.specs.Shelf.{number_of, set_of}
+use Rattle.util_steps.specs.Items.{items_along}
+use Rattle.util_syntax.specs.declared.listing.Object.TheVariants as object
+use Rattle.util_syntax.specs.declared.listing.Outcome.{Outcome}
+use Rattle.util_syntax.specs.declared.listing.Outcome.TheVariants.{Done, Refused}
+use Rattle.util_syntax.specs.declared.operands.SynErr.TheVariants.{BadOperand}
+use Rattle.util_syntax.specs.declared.step.StepIn.{StepIn}
+use Rattle.util_syntax.specs.Items.{ItemView, fault, statement}
+use Rattle.util_syntax.specs.Listing.{item_line}
+use Rattle.util_syntax.specs.Program.{no_dd_item, outcome_code, statements_in, syntax_item, sysin}
+use Rattle.util_syntax.specs.Step.{same_name}
+use Rattle.iehlist_util.specs.declared.requests.ListVtoc.{ListVtoc}
+use Rattle.iehlist_util.specs.Lines.{extent_line, set_line, volume_line}
+use Rattle.iehlist_util.specs.Requests.{request_of}
+
+-- the lines of extents, numbered from this one on
+abbrev pub extent_lines : ℕ → List Run → List (List ℕ)
+extent_lines number [] = []
+extent_lines number (run ∷ runs) = extent_line number run ∷ extent_lines (number + 1) runs
+
+-- the lines of a data set; with FORMAT its extents, numbered from 1, have lines of their own
+unfoldable pub set_lines : Bool → DataSet → List (List ℕ)
+set_lines format x = set_line x.name.bytes (set_info x) ∷ (if format then extent_lines 1 x.extents else [])
+
+-- the lines of a data set, if there is one
+abbrev pub lines_of_set : Bool → Option DataSet → List (List ℕ)
+lines_of_set format None = []
+lines_of_set format (Some x) = set_lines format x
+
+-- What is listed, and what became of it.
+pub record Listing : Type 0 where
+  pub lines : List (List ℕ)
+  pub outcome : Outcome
+
+-- lines in front of a listing
+abbrev pub listed_behind : List (List ℕ) → Listing → Listing
+listed_behind lines l = record { lines = lines ++ l.lines; outcome = l.outcome }
+
+-- a data set in front of others, unless it isn't there
+abbrev pub listed_if : Bool → Option DataSet → Listing → Listing
+listed_if format None others = record { lines = []; outcome = Refused NoSet }
+listed_if format (Some x) others = listed_behind (set_lines format x) others
+
+-- data sets by their names, up to the first that the volume hasn't
+unfoldable pub listed_sets : Bool → Volume → List Dsn → Listing
+listed_sets format volume [] = record { lines = []; outcome = Done }
+listed_sets format volume (dsn ∷ dsns) = listed_if format (set_of dsn.bytes volume) (listed_sets format volume dsns)
+
+-- the data sets that are named, or all of the volume in their order
+abbrev pub listed_on : Bool → Volume → Option (List Dsn) → Listing
+listed_on format volume None = record { lines = flat_map (set_lines format) volume.sets; outcome = Done }
+listed_on format volume (Some dsns) = listed_sets format volume dsns
+
+-- a volume, and its data sets that are asked for
+abbrev pub volume_listing : ListVtoc → Volume → Listing
+volume_listing request volume = listed_behind (volume_line (volume_info volume) ∷ []) (listed_on request.format volume request.names)
+
+-- the number of the volume that is named, or of the first
+abbrev pub volume_number : Shelf → Option Serial → Option ℕ
+volume_number shelf None = Some 0
+volume_number shelf (Some serial) = number_of shelf serial.bytes
+
+-- the serial that is named; none, which is six blanks, where none is
+abbrev pub named_serial : Option Serial → Serial
+named_serial None = record { bytes = replicate 6 0x40 }
+named_serial (Some serial) = serial
+
+-- the item of a listing, and the line that answers it
+abbrev pub listing_item : ℕ → Serial → Listing → Item
+listing_item card serial l = record {
+  operations = [];
+  lines = l.lines ++ item_line card (codes "LISTVTOC") (object.Volume serial) l.outcome ∷ [];
+  code = outcome_code l.outcome;
+}
+
+-- the item of LISTVTOC on a volume, if the shelf has that
+abbrev pub vtoc_item : ℕ → ListVtoc → Option Volume → Item
+vtoc_item card request None = listing_item card (named_serial request.volume) (record { lines = []; outcome = Refused NoVolume })
+vtoc_item card request (Some volume) = listing_item card volume.serial (volume_listing request volume)
+
+-- the volume that LISTVTOC lists
+abbrev pub volume_for : Shelf → ListVtoc → Option Volume
+volume_for shelf request = option_and_then (λ v. slice_get shelf.volumes v) (volume_number shelf request.volume)
+
+-- the volume that is listed is found, with its number and what is told of it in short, or there is none
+abbrev pub FindsVolume : Shelf → ListVtoc → Option (ℕ × VolumeInfo) → Type 0
+FindsVolume shelf request None = volume_for shelf request ≡ None
+FindsVolume shelf request (Some found) =
+    (volume : Volume) × (volume_for shelf request ≡ Some volume) × (slice_get shelf.volumes found.0 ≡ Some volume) × (found.1 ≡ volume_info volume)
+
+-- the item of a statement, by what it asks for; one that asks for nothing that is done here is a fault
+abbrev pub requested_item : Shelf → ℕ → Option ListVtoc → Item
+requested_item shelf card None = syntax_item card BadOperand
+requested_item shelf card (Some request) = vtoc_item card request (volume_for shelf request)
+
+-- the item of a statement, or of the fault of one
+abbrev pub statement_item : Shelf → ItemView → Item
+statement_item shelf (fault card column kind) = syntax_item card kind
+statement_item shelf (statement s) = requested_item shelf s.card (request_of s)
+
+-- the items of statements, one after another, or that SYSIN isn't there
+abbrev pub items_if : ℕ → Shelf → Option (List ItemView) → List Item
+items_if card shelf None = no_dd_item card sysin ∷ []
+items_if card shelf (Some statements) = items_along statement_item shelf statements
+
+-- the items of a step
+unfoldable pub iehlist_items : StepIn → Shelf → List Item
+iehlist_items step shelf = items_if step.card shelf (statements_in (lookup (same_name sysin) step.dds))

@@ -1,0 +1,256 @@
+//! IEHLIST in a step.
+ghost use Rattle.std.specs.Prelude.{◌≡◌, ◌≤◌, [], false, length, map, slice_get, IsTrue, IsFalse, IfOk};
+ghost use Rattle.vol_model.specs.declared.contents.Volume.{Volume};
+ghost use Rattle.vol_model.specs.Calls.{Keeps};
+ghost use Rattle.vol_model.specs.Events.{code_of, events_of};
+ghost use Rattle.vol_model.specs.Reading.{volume_info};
+ghost use Rattle.vol_model.specs.Runs.{Counts, RunCall, Runs};
+ghost use Rattle.util_steps.specs.Items.{DoesItem, items_along};
+ghost use Rattle.util_syntax.specs.Items.{item_view};
+ghost use Rattle.util_syntax.specs.Program.{no_dd_item, syntax_item, sysin};
+ghost use Rattle.iehlist_util.specs.Items.{FindsVolume, iehlist_items, listing_item, named_serial, statement_item, volume_for, volume_listing, vtoc_item};
+
+use crate::listing::say_volume;
+use crate::requests::{ListVtoc, request_of};
+use ebcdic_names::Serial;
+use std::alloc::{AllocError, Global};
+use util_steps::{Items, find_volume, report, run_items};
+use util_syntax::{
+    Item, Object, Outcome, SYSIN, StepIn, SynErr, item_line, no_dd_line, syntax_line,
+    sysin_statements,
+};
+use vol_model::{Machine, Refusal, Stop, VolumeInfo};
+
+// The serial of a volume that isn't named: blanks in EBCDIC.
+const NO_SERIAL: Serial = Serial { bytes: [0x40; 6] };
+
+/// Runs IEHLIST in a step (Utilities GC28-6586, in this project's profile), and gives the step's code, the highest of
+/// its statements.
+///
+/// SYSIN has the statements; it is cards or DUMMY, else the step ends with `NO-DD` and 16. SYSPRINT isn't needed. A
+/// statement `LISTVTOC [VOL=dev=serial][,FORMAT][,DSNAME=(dsn,..)]` prints a line for the volume, or unit 0 without VOL,
+/// one for each of its data sets, or for those that are named, with FORMAT one for each extent, and a line with `OK`. A
+/// named set that isn't there ends the list with `NO-SET` and 8; where the volume isn't there, `NO-VOLUME` is the only
+/// line. Where the shelf has no volume at all and VOL is missing, that line names no serial.
+///
+/// Any other statement, and one without these operands, is `SYNTAX BAD-OPERAND` with 12, and the next statement is done
+/// all the same.
+pub fn run<M: Machine>(alloc: Global, machine: &mut M, step: &StepIn) -> Result<u8, Stop>
+    requires sound { IsTrue (M.status machine.old).is_sound }
+    requires closed { IsFalse (M.status machine.old).is_open }
+    ensures runs { IsTrue M.tells → Runs M.tells_prints (events_of (iehlist_items step.now (M.meaning machine.old).state)) (M.meaning machine.old) (M.meaning machine.new) result }
+    ensures code { IsTrue M.tells → IfOk result (λ code. code ≡ code_of (iehlist_items step.now (M.meaning machine.old).state)) }
+    ensures count { IsTrue M.tells → Counts (events_of (iehlist_items step.now (M.meaning machine.old).state)) (M.status machine.old).done (M.status machine.new).done result }
+    ensures small { IfOk result (λ code. code ≤ 16) }
+    ensures promise { IsTrue M.tells → Keeps (M.meaning machine.old).clock (M.promise machine.old) (M.promise machine.new) }
+    ensures faults { RunCall false (M.status machine.old) (M.status machine.new) result }
+{
+    match sysin_statements(alloc, step) {
+        Ok(Some(items)) => run_statements(alloc, machine, &items),
+        Ok(None) => report_no_sysin(alloc, machine, step.card),
+        Err(AllocError) => Err(Stop::Memory),
+    }
+}
+
+// What is left of the statements of a step.
+#[derive(Drop)]
+struct Statements<'a> {
+    alloc: Global,
+    rest: &'a [Item],
+}
+
+impl<M: Machine> Items<M> for Statements<'_> {
+    ghost items = { λ work shelf. items_along statement_item shelf (map item_view work.rest.now) };
+
+    ghost most = { λ work. length work.rest.now };
+
+    fn next(&mut self, machine: &mut M) -> Result<Option<u8>, Stop> {
+        match self.rest.split_first() {
+            Some((first, behind)) => {
+                let code = do_statement(self.alloc, machine, first)?;
+                self.rest = behind;
+                Ok(Some(code))
+            }
+            None => Ok(None),
+        }
+    }
+}
+
+// Does statements one after another.
+fn run_statements<M: Machine>(alloc: Global, machine: &mut M, items: &[Item]) -> Result<u8, Stop>
+    requires sound { IsTrue (M.status machine.old).is_sound }
+    requires closed { IsFalse (M.status machine.old).is_open }
+    ensures runs { IsTrue M.tells → Runs M.tells_prints (events_of (items_along statement_item (M.meaning machine.old).state (map item_view items.now))) (M.meaning machine.old) (M.meaning machine.new) result }
+    ensures code { IsTrue M.tells → IfOk result (λ code. code ≡ code_of (items_along statement_item (M.meaning machine.old).state (map item_view items.now))) }
+    ensures count { IsTrue M.tells → Counts (events_of (items_along statement_item (M.meaning machine.old).state (map item_view items.now))) (M.status machine.old).done (M.status machine.new).done result }
+    ensures small { IfOk result (λ code. code ≤ 16) }
+    ensures promise { IsTrue M.tells → Keeps (M.meaning machine.old).clock (M.promise machine.old) (M.promise machine.new) }
+    ensures faults { RunCall false (M.status machine.old) (M.status machine.new) result }
+{
+    let mut work = Statements { alloc, rest: items };
+    run_items(machine, &mut work)
+}
+
+// Does a statement, or answers its fault.
+fn do_statement<M: Machine>(alloc: Global, machine: &mut M, item: &Item) -> Result<u8, Stop>
+    requires sound { IsTrue (M.status machine.old).is_sound }
+    requires closed { IsFalse (M.status machine.old).is_open }
+    ensures item { IsTrue M.tells → DoesItem M.tells_prints (statement_item (M.meaning machine.old).state (item_view item.now)) (M.meaning machine.old) (M.meaning machine.new) (M.status machine.old).done (M.status machine.new).done result }
+    ensures small { IfOk result (λ code. code ≤ 16) }
+    ensures promise { IsTrue M.tells → Keeps (M.meaning machine.old).clock (M.promise machine.old) (M.promise machine.new) }
+    ensures faults { RunCall false (M.status machine.old) (M.status machine.new) result }
+{
+    match item {
+        Item::Stmt(statement) => match request_of(alloc, statement) {
+            Ok(Some(request)) => answer(alloc, machine, statement.card, &request),
+            Ok(None) => report_fault(alloc, machine, statement.card, SynErr::BadOperand),
+            Err(AllocError) => Err(Stop::Memory),
+        },
+        Item::Fault { card, kind, .. } => report_fault(alloc, machine, *card, *kind),
+    }
+}
+
+// The volume that is listed, with its number on the shelf.
+fn volume_for<M: Machine>(machine: &M, request: &ListVtoc) -> Option<(u8, VolumeInfo)>
+    requires { IsTrue (M.status machine.now).is_sound }
+    ensures { IsTrue M.tells → FindsVolume (M.meaning machine.now).state request.now result }
+{
+    let v = match &request.volume {
+        Some(serial) => find_volume(machine, serial)?,
+        None => 0,
+    };
+    match machine.volume(v) {
+        Some(info) => Some((v, info)),
+        None => None,
+    }
+}
+
+// Lists what a statement asks for, and answers it.
+fn answer<M: Machine>(
+    alloc: Global,
+    machine: &mut M,
+    card: u32,
+    request: &ListVtoc,
+) -> Result<u8, Stop>
+    requires sound { IsTrue (M.status machine.old).is_sound }
+    requires closed { IsFalse (M.status machine.old).is_open }
+    ensures item { IsTrue M.tells → DoesItem M.tells_prints (vtoc_item card request.now (volume_for (M.meaning machine.old).state request.now)) (M.meaning machine.old) (M.meaning machine.new) (M.status machine.old).done (M.status machine.new).done result }
+    ensures small { IfOk result (λ code. code ≤ 16) }
+    ensures promise { IsTrue M.tells → Keeps (M.meaning machine.old).clock (M.promise machine.old) (M.promise machine.new) }
+    ensures faults { RunCall false (M.status machine.old) (M.status machine.new) result }
+{
+    match volume_for(machine, request) {
+        Some((v, info)) => list_volume(alloc, machine, card, v, &info, request),
+        None => report_no_volume(alloc, machine, card, &named_serial(request)),
+    }
+}
+
+// The serial that a statement names; six blanks where it names none.
+fn named_serial(request: &ListVtoc) -> Serial
+    ensures { result ≡ named_serial request.now.volume }
+{
+    match &request.volume {
+        Some(serial) => *serial,
+        None => NO_SERIAL,
+    }
+}
+
+// Lists a volume, and answers the statement.
+fn list_volume<M: Machine>(
+    alloc: Global,
+    machine: &mut M,
+    card: u32,
+    v: u8,
+    info: &VolumeInfo,
+    request: &ListVtoc,
+) -> Result<u8, Stop>
+    requires sound { IsTrue (M.status machine.old).is_sound }
+    requires closed { IsFalse (M.status machine.old).is_open }
+    ensures item { IsTrue M.tells → (volume : Volume) → slice_get (M.meaning machine.old).state.volumes v ≡ Some volume → info.now ≡ volume_info volume → DoesItem M.tells_prints (listing_item card info.now.serial (volume_listing request.now volume)) (M.meaning machine.old) (M.meaning machine.new) (M.status machine.old).done (M.status machine.new).done result }
+    ensures small { IfOk result (λ code. code ≤ 16) }
+    ensures promise { IsTrue M.tells → Keeps (M.meaning machine.old).clock (M.promise machine.old) (M.promise machine.new) }
+    ensures faults { RunCall false (M.status machine.old) (M.status machine.new) result }
+{
+    let outcome = say_volume(alloc, machine, v, info, request)?;
+    report_outcome(alloc, machine, card, &info.serial, outcome)
+}
+
+// Answers a statement.
+fn report_outcome<M: Machine>(
+    alloc: Global,
+    machine: &mut M,
+    card: u32,
+    serial: &Serial,
+    outcome: Outcome,
+) -> Result<u8, Stop>
+    requires sound { IsTrue (M.status machine.old).is_sound }
+    requires closed { IsFalse (M.status machine.old).is_open }
+    ensures item { IsTrue M.tells → DoesItem M.tells_prints (listing_item card serial.now (record { lines = []; outcome = outcome })) (M.meaning machine.old) (M.meaning machine.new) (M.status machine.old).done (M.status machine.new).done result }
+    ensures small { IfOk result (λ code. code ≤ 16) }
+    ensures promise { IsTrue M.tells → Keeps (M.meaning machine.old).clock (M.promise machine.old) (M.promise machine.new) }
+    ensures faults { RunCall false (M.status machine.old) (M.status machine.new) result }
+{
+    let object = Object::Volume(*serial);
+    match item_line(alloc, card, "LISTVTOC", &object, outcome) {
+        Ok(line) => report(machine, &line, outcome.code()),
+        Err(AllocError) => Err(Stop::Memory),
+    }
+}
+
+// Answers a statement whose volume isn't there.
+fn report_no_volume<M: Machine>(
+    alloc: Global,
+    machine: &mut M,
+    card: u32,
+    serial: &Serial,
+) -> Result<u8, Stop>
+    requires sound { IsTrue (M.status machine.old).is_sound }
+    requires closed { IsFalse (M.status machine.old).is_open }
+    ensures item { IsTrue M.tells → DoesItem M.tells_prints (listing_item card serial.now (record { lines = []; outcome = Outcome.Refused Refusal.NoVolume })) (M.meaning machine.old) (M.meaning machine.new) (M.status machine.old).done (M.status machine.new).done result }
+    ensures small { IfOk result (λ code. code ≤ 16) }
+    ensures promise { IsTrue M.tells → Keeps (M.meaning machine.old).clock (M.promise machine.old) (M.promise machine.new) }
+    ensures faults { RunCall false (M.status machine.old) (M.status machine.new) result }
+{
+    report_outcome(
+        alloc,
+        machine,
+        card,
+        serial,
+        Outcome::Refused(Refusal::NoVolume),
+    )
+}
+
+// Answers the fault of a statement.
+fn report_fault<M: Machine>(
+    alloc: Global,
+    machine: &mut M,
+    card: u32,
+    kind: SynErr,
+) -> Result<u8, Stop>
+    requires sound { IsTrue (M.status machine.old).is_sound }
+    requires closed { IsFalse (M.status machine.old).is_open }
+    ensures item { IsTrue M.tells → DoesItem M.tells_prints (syntax_item card kind) (M.meaning machine.old) (M.meaning machine.new) (M.status machine.old).done (M.status machine.new).done result }
+    ensures small { IfOk result (λ code. code ≤ 16) }
+    ensures promise { IsTrue M.tells → Keeps (M.meaning machine.old).clock (M.promise machine.old) (M.promise machine.new) }
+    ensures faults { RunCall false (M.status machine.old) (M.status machine.new) result }
+{
+    match syntax_line(alloc, card, kind) {
+        Ok(line) => report(machine, &line, 12),
+        Err(AllocError) => Err(Stop::Memory),
+    }
+}
+
+// Says that a step has no SYSIN.
+fn report_no_sysin<M: Machine>(alloc: Global, machine: &mut M, card: u32) -> Result<u8, Stop>
+    requires sound { IsTrue (M.status machine.old).is_sound }
+    requires closed { IsFalse (M.status machine.old).is_open }
+    ensures item { IsTrue M.tells → DoesItem M.tells_prints (no_dd_item card sysin) (M.meaning machine.old) (M.meaning machine.new) (M.status machine.old).done (M.status machine.new).done result }
+    ensures small { IfOk result (λ code. code ≤ 16) }
+    ensures promise { IsTrue M.tells → Keeps (M.meaning machine.old).clock (M.promise machine.old) (M.promise machine.new) }
+    ensures faults { RunCall false (M.status machine.old) (M.status machine.new) result }
+{
+    match no_dd_line(alloc, card, &SYSIN) {
+        Ok(line) => report(machine, &line, 16),
+        Err(AllocError) => Err(Stop::Memory),
+    }
+}

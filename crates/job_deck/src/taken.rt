@@ -1,0 +1,134 @@
+//! What a DD takes so far: whole data sets that are there, which the step keeps or scratches.
+ghost use Rattle.std.specs.Prelude.{◌≡◌, ◌++◌, [], ◌∷◌, find, option_map, IfOk, OnOk};
+ghost use Rattle.std.specs.List.{list_any};
+ghost use Rattle.std.specs.Option.{option_map_or};
+ghost use Rattle.card_text.specs.Operands.{keyed};
+ghost use Rattle.job_deck.specs.Faults.{fault_at};
+ghost use Rattle.job_deck.specs.Taken.{is_whole, whole_set_of, leaves_catalog, plain_disposition_of, has_no_directory, plain_space_of, is_set_name, names_set, is_old, is_old_disposition, asks_for_old, new_set_faults};
+ghost use Rattle.job_deck.specs.declared.faults.JclKind.TheVariants.{BadOperand};
+
+use crate::faults::{JclErr, JclKind, fault_at};
+use crate::operands::Piece;
+use crate::statements::is_either;
+use card_text::{CardColumn, keyed, text_of};
+use ebcdic_names::Dsn;
+use jcl_forms::{DdAfter, DdPart, DdStatus, Space, data_set_of, disposition_of, space_of};
+use std::alloc::{AllocError, Global};
+
+fn is_whole(part: DdPart) -> bool
+    ensures { result ≡ is_whole part }
+{
+    matches!(part, DdPart::Whole)
+}
+
+// The value of a DSN, which names no member and no generation.
+#[tactic(auto, unfolding(crate::specs::Taken::whole_set_of))]
+pub fn whole_set_of(text: &[u8]) -> Option<(Dsn, DdPart)>
+    ensures { result ≡ whole_set_of text.now }
+{
+    let named = data_set_of(text)?;
+    if is_whole(named.1) { Some(named) } else { None }
+}
+
+fn leaves_catalog(after: DdAfter) -> bool
+    ensures { result ≡ leaves_catalog after }
+{
+    matches!(after, DdAfter::Delete | DdAfter::Keep)
+}
+
+// The value of a DISP, by which nothing is done in the catalog.
+#[tactic(auto, unfolding(crate::specs::Taken::plain_disposition_of))]
+pub fn plain_disposition_of(text: &[u8]) -> Option<(DdStatus, DdAfter)>
+    ensures { result ≡ plain_disposition_of text.now }
+{
+    let disposition = disposition_of(text)?;
+    if leaves_catalog(disposition.1) {
+        Some(disposition)
+    } else {
+        None
+    }
+}
+
+// The value of a SPACE, which asks for no directory.
+#[tactic(auto, unfolding(crate::specs::Taken::plain_space_of))]
+pub fn plain_space_of(text: &[u8]) -> Option<Space>
+    ensures { result ≡ plain_space_of text.now }
+{
+    let space = space_of(text)?;
+    if space.dir == 0 { Some(space) } else { None }
+}
+
+// Whether an operand has the key DSN.
+fn names_set(alloc: Global, piece: &Piece) -> Result<bool, AllocError>
+    ensures { IfOk result (λ b. b ≡ names_set piece.now) }
+{
+    let Some((key, _)) = keyed(piece.text.as_slice()) else {
+        return Ok(false);
+    };
+    let key = text_of(alloc, key)?;
+    Ok(is_either(b"DSN".as_slice(), b"DSNAME".as_slice(), key.as_slice()))
+}
+
+// Whether a disposition is that of a set that is there already.
+fn is_old(disposition: Option<(DdStatus, DdAfter)>) -> bool
+    ensures { result ≡ is_old disposition }
+{
+    match disposition {
+        Some((status, _)) => matches!(status, DdStatus::Old | DdStatus::Shr),
+        None => false,
+    }
+}
+
+// Whether an operand is DISP with OLD or SHR.
+fn asks_for_old(alloc: Global, piece: &Piece) -> Result<bool, AllocError>
+    ensures { IfOk result (λ b. b ≡ asks_for_old piece.now) }
+{
+    let Some((key, value)) = keyed(piece.text.as_slice()) else {
+        return Ok(false);
+    };
+    let key = text_of(alloc, key)?;
+    let value = text_of(alloc, value)?;
+    Ok(key.as_slice() == b"DISP".as_slice() && is_old(disposition_of(value.as_slice())))
+}
+
+// Whether one of the operands is DISP with OLD or SHR.
+fn has_old(alloc: Global, pieces: &[Piece]) -> Result<bool, AllocError>
+    ensures { IfOk result (λ b. b ≡ list_any asks_for_old pieces.now) }
+{
+    for piece in pieces {
+        if asks_for_old(alloc, piece)? {
+            return Ok(true);
+        }
+    }
+    Ok(false)
+}
+
+// Where the first operand begins that has the key DSN.
+fn set_place(alloc: Global, pieces: &[Piece]) -> Result<Option<CardColumn>, AllocError>
+    ensures { IfOk result (λ place. place ≡ option_map (λ piece. piece.place) (find names_set pieces.now)) }
+{
+    for piece in pieces {
+        if names_set(alloc, piece)? {
+            return Ok(Some(piece.place));
+        }
+    }
+    Ok(None)
+}
+
+// Adds the fault of operands that may make a data set, at its name.
+#[tactic(auto, unfolding(crate::specs::Taken::new_set_faults))]
+pub fn add_new_set_fault(
+    alloc: Global,
+    faults: &mut Vec<JclErr>,
+    pieces: &[Piece],
+) -> Result<(), AllocError>
+    ensures { OnOk result (faults.new.items ≡ faults.old.items ++ new_set_faults pieces.now) }
+{
+    if has_old(alloc, pieces)? {
+        return Ok(());
+    }
+    if let Some(place) = set_place(alloc, pieces)? {
+        faults.push(fault_at(place, JclKind::BadOperand))?;
+    }
+    Ok(())
+}

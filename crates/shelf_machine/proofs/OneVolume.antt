@@ -1,0 +1,70 @@
+-- One of several packs whose index an operation changed, or left as it was.
+use Rattle.std.proofs.Common.{◌≡◌, ◌≢◌, ◌∙◌, true, refl, sym, subst}
+use Rattle.std.specs.Prelude.{ℕ, List, Result, Ok, Err, IsErrOf, OnOk}
+use Rattle.vol_model.specs.Calls.{sound_after}
+use Rattle.vol_model.specs.declared.answers.StoreErr.{StoreErr}
+use Rattle.vol_model.specs.declared.answers.StoreErr.TheVariants as store
+use Rattle.vol_model.specs.declared.refusals.Refusal.{Refusal}
+use Rattle.vtoc_index.specs.declared.vol.Vol.{Vol}
+use Rattle.vtoc_index.specs.Kept.{IsKept}
+use Rattle.vtoc_index.specs.Names.{AreByName, name_at}
+use Rattle.hall_core.specs.Facts.{Attached}
+use Rattle.pack_spec.specs.Label.{tracks_of}
+use Rattle.vol_model.specs.Space.{AreMaximal, EndBy}
+use Rattle.vol_model.specs.declared.contents.Run.{Run}
+use Rattle.vtoc_index.specs.Index.{IsOfUnit}
+use Rattle.shelf_machine.specs.Operating.{IsRoomed}
+use Rattle.shelf_machine.specs.Reporting.{reported}
+
+-- an index with more room is that of the same image
+module _ (v v' : Vol) (roomed : IsRoomed v v') where
+  wide : Vol
+  wide = record v { free = v'.free }
+
+  pub roomed_kept : (image : List ℕ) → IsKept image v → IsKept image v'
+  roomed_kept image kept = subst (IsKept image) (sym roomed.others) (record {
+    header = kept.header;
+    serial = kept.serial;
+    vtoc = kept.vtoc;
+    tracks = kept.tracks;
+    lawful = kept.lawful;
+    whole = kept.whole;
+    free = roomed.free ∙ kept.free;
+    slots = kept.slots;
+    firsts = kept.firsts;
+    buffer = kept.buffer;
+  })
+
+  pub roomed_unit : (units : List Attached) → IsOfUnit units v → IsOfUnit units v'
+  roomed_unit units unit = subst (IsOfUnit units) (sym roomed.others) (record {
+    attached = unit.attached;
+    whole = unit.whole;
+    inside = unit.inside;
+    tracks = unit.tracks;
+    few = unit.few;
+    most = unit.most;
+    firsts = unit.firsts;
+    free = subst (λ (runs : List Run). AreMaximal runs × EndBy (tracks_of v.geometry) runs) (sym roomed.free) unit.free;
+    buffer = unit.buffer;
+  })
+
+-- the data sets of an index stand in the order of their names
+abbrev IsInOrder : Vol → Type 0
+IsInOrder v = AreByName (name_at v.slots.items) v.by_name.items
+
+-- where an operation is refused, or memory ran out, the index is as before
+module _ {T : Type 0} (v v' : Vol) (r : Result T StoreErr) (refused : (why : Refusal) → IsErrOf r (store.Refused why) → v' ≡ v) (memory : IsErrOf r store.Memory → IsRoomed v v') where
+  is_error : (e : StoreErr) → r ≡ Err e → IsErrOf r e
+  is_error e is = subst (λ (s : Result T StoreErr). IsErrOf s e) (sym is) refl
+
+  pub kept_idle : (image : List ℕ) → IsKept image v → (e : StoreErr) → r ≡ Err e → e ≢ store.Device → IsKept image v'
+  kept_idle image kept (store.Refused why) is differs = subst (IsKept image) (sym (refused why (is_error (store.Refused why) is))) kept
+  kept_idle image kept store.Memory is differs = roomed_kept v v' (memory (is_error store.Memory is)) image kept
+  kept_idle image kept store.Device is differs = absurd (differs refl)
+
+pub order_kept : {T : Type 0} (v v' : Vol) (r : Result T StoreErr) → ((why : Refusal) → IsErrOf r (store.Refused why) → v' ≡ v) → (IsErrOf r store.Memory → IsRoomed v v') → OnOk r (IsInOrder v') → IsInOrder v
+    → sound_after (reported r) ≡ true → IsInOrder v'
+order_kept v v' (Ok x) refused memory done order sound = done
+order_kept v v' (Err (store.Refused why)) refused memory done order sound = subst IsInOrder (sym (refused why refl)) order
+order_kept v v' (Err store.Memory) refused memory done order sound = subst IsInOrder (sym (memory refl).others) order
+order_kept v v' (Err store.Device) refused memory done order sound = absurd cc

@@ -1,0 +1,219 @@
+-- The packs of several units, read one behind another, and their serials compared.
+use Rattle.std.proofs.Common.{◌≡◌, ◌≢◌, ◌<◌, ◌≤◌, ◌+◌, ⊎_elim, inl, inr, ℕ, zero, suc, Bool, true, false, List, [], ◌∷◌, ◌++◌, length, map, take, Some, None, refl, sym, ap, subst, ◌∙◌, arith}
+use Rattle.std.specs.Prelude.{◌⊎◌, Contains, IsTrue, Err, position, slice_get}
+use Rattle.std.specs.List.{enumerate_from, range_with_len}
+use Rattle.std.specs.Option.{option_map}
+use Rattle.std.specs.Str.{bytes_eq}
+use Rattle.std.proofs.lemmas.List.{length-map, take-map}
+use Rattle.std.proofs.lemmas.Option.{slice_get-get_or}
+use Rattle.std.proofs.lemmas.Slice.Eq.{bytes_eq-Decides}
+use Rattle.free_rebuild.specs.Repairs.{image_named}
+use Rattle.hall_core.specs.Facts.{Attached, Facts, unit_of}
+use Rattle.hall_core.specs.Images.{image_of}
+use Rattle.stop_model.specs.Files.{File}
+use Rattle.stop_model.specs.Moments.{Meaning, Same}
+use Rattle.stop_model.proofs.MomentLemmas.{same_then}
+use Rattle.pack_spec.specs.declared.MountErr.{MountErr}
+use Rattle.pack_spec.specs.declared.MountErr.TheVariants.{Device, Memory, SameSerial}
+use Rattle.pack_spec.specs.Shelf.{serial_fault, serial_faults, shelf_of}
+use Rattle.pack_spec.specs.Volume.{volume_of}
+use Rattle.vol_model.specs.declared.contents.Volume.{Volume}
+use Rattle.vtoc_index.specs.Index.{IsMounted, IsOfUnit}
+use Rattle.vtoc_index.specs.Names.{AreByName, name_at}
+use Rattle.vtoc_index.specs.declared.vol.Vol.{Vol}
+use Rattle.shelf_machine.specs.Machine.{serials_of, units_of}
+use Rattle.shelf_machine.specs.Opening.{AreApart, AreUnits, images_named, names_of}
+use Rattle.shelf_machine.specs.Packs.{AreMounted, AreRead, IsFirstTwice, RefusesImages}
+use Rattle.shelf_machine.specs.declared.stopped.Stopped.{Stopped}
+use Rattle.shelf_machine.proofs.Holding.{held_serials, held_stand, volumes_held}
+use Rattle.shelf_machine.proofs.ListPlaces.{first_kept, get_map, in_take, none_passes, number_of, numbered, of_map, within}
+use Rattle.shelf_machine.proofs.Repairing.{Unreported, reported_none}
+use Rattle.shelf_machine.proofs.ShelfLemmas.{AllStand, fault_by, fault_in, first_refused, place_alike, serials_in, shelf_refused, shelf_twice}
+
+-- How far the reading has come: the packs on the first units, and nothing else changed but the time.
+pub record ReadSoFar (tells : Bool) (units : List ℕ) (old now : Facts) (m m' : Meaning (List File)) (vols : List Vol) (k : ℕ) : Type 0 where
+  pub facts : Unreported old now
+  pub same : IsTrue tells → Same m m'
+  pub read : AreRead old.units (take k units) vols
+  pub mounted : IsTrue tells → AreMounted m.state old.units vols
+
+-- an element of a list to which one was put
+pub of_push : {X : Type 0} (xs : List X) (x : X) (k : ℕ) (y : X) → slice_get (xs ++ x ∷ []) k ≡ Some y → (slice_get xs k ≡ Some y) ⊎ (x ≡ y)
+of_push [] x zero y at = inr cc
+of_push [] x (suc k) y at = absurd cc
+of_push (z ∷ xs) x zero y at = inl at
+of_push (z ∷ xs) x (suc k) y at = of_push xs x k y at
+
+take_push : {X : Type 0} (xs : List X) (k : ℕ) (x : X) → slice_get xs k ≡ Some x → take (k + 1) xs ≡ take k xs ++ x ∷ []
+take_push [] k x at = absurd cc
+take_push (y ∷ xs) zero x at = let same : y ≡ x = cc in ap (λ z. z ∷ []) same
+take_push (y ∷ xs) (suc k) x at =
+    let next : suc k + 1 ≡ suc (k + 1) = omega arith in
+    ap (λ (n : ℕ). take n (y ∷ xs)) next ∙ ap (λ zs. y ∷ zs) (take_push xs k x at)
+
+map_push : {X Y : Type 0} (f : X → Y) (xs : List X) (x : X) → map f (xs ++ x ∷ []) ≡ map f xs ++ f x ∷ []
+map_push f [] x = refl
+map_push f (y ∷ xs) x = ap (λ zs. f y ∷ zs) (map_push f xs x)
+
+range_at : (a n k u : ℕ) → slice_get (range_with_len a n) k ≡ Some u → u ≡ a + k
+range_at a zero k u at = absurd cc
+range_at a (suc n) zero u at = let same : a ≡ u = cc in omega (arith, same)
+range_at a (suc n) (suc k) u at = let rest : u ≡ a + 1 + k = range_at (a + 1) n k u at in omega (arith, rest)
+
+-- the unit at a place is that of its number
+pub unit_number : (units : List ℕ) (k u : ℕ) → units ≡ range_with_len 0 (length units) → slice_get units k ≡ Some u → u ≡ k
+unit_number units k u numbered at =
+    let far : u ≡ 0 + k = range_at 0 (length units) k u (ap (λ (us : List ℕ). slice_get us k) (sym numbered) ∙ at) in
+    omega (arith, far)
+
+-- so it is low
+pub number_at : (units : List ℕ) (k u : ℕ) → units ≡ range_with_len 0 (length units) → slice_get units k ≡ Some u → u < length units
+number_at units k u numbered at = omega (arith, unit_number units k u numbered at, within units k u at)
+
+pub number_low : (units : List ℕ) (u : ℕ) → units ≡ range_with_len 0 (length units) → Contains units u → u < length units
+number_low units u numbered held = number_at units held.0 u numbered (slice_get-get_or units held.0 u held.1 ∙ ap (λ (n : ℕ). Some n) held.2)
+
+-- one pack more
+pub read_more : (attached : List Attached) (units : List ℕ) (vols : List Vol) (k unit : ℕ) (v : Vol) → slice_get units k ≡ Some unit → AreRead attached (take k units) vols → v.unit ≡ unit → IsOfUnit attached v
+    → AreByName (name_at v.slots.items) v.by_name.items → AreRead attached (take (k + 1) units) (vols ++ v ∷ [])
+read_more attached units vols k unit v at read is of_unit order = record {
+  numbers = map_push (λ (w : Vol). w.unit) vols v ∙ ap (λ (us : List ℕ). us ++ v.unit ∷ []) read.numbers ∙ ap (λ (u : ℕ). take k units ++ u ∷ []) is ∙ sym (take_push units k unit at);
+  each = λ j w here. ⊎_elim (λ before. read.each j w before) (λ same. subst (IsOfUnit attached) same of_unit) (of_push vols v j w here);
+  order = λ j w here. ⊎_elim (λ before. read.order j w before) (λ same. subst (λ (x : Vol). AreByName (name_at x.slots.items) x.by_name.items) same order) (of_push vols v j w here);
+}
+
+pub mounted_more : (files : List File) (attached : List Attached) (vols : List Vol) (v : Vol) → AreMounted files attached vols → IsMounted (image_named files (unit_of attached v.unit).name) v → AreMounted files attached (vols ++ v ∷ [])
+mounted_more files attached vols v mounted here j w at = ⊎_elim
+    (λ before. mounted j w before)
+    (λ same. subst (λ (x : Vol). IsMounted (image_named files (unit_of attached x.unit).name) x) same here)
+    (of_push vols v j w at)
+
+-- the image of a unit, where nothing changed but the time
+pub image_before : (files files' : List File) (old now : Facts) (unit : ℕ) → files' ≡ files → now.units ≡ old.units → image_of files' now unit ≡ image_named files (unit_of old.units unit).name
+image_before files files' old now unit same units =
+    ap (λ (fs : List File). image_named fs (unit_of now.units unit).name) same ∙ ap (λ (us : List Attached). image_named files (unit_of us unit).name) units
+
+-- the first pack that is refused refuses the shelf
+pub pack_refused : (files : List File) (attached : List Attached) (units : List ℕ) (vols : List Vol) (k unit : ℕ) (e : MountErr) → units ≡ range_with_len 0 (length units) → slice_get units k ≡ Some unit
+    → units_of vols ≡ take k units → AreMounted files attached vols → volume_of (image_named files (unit_of attached unit).name) ≡ Err e
+    → shelf_of (images_named files (names_of attached units)) ≡ Err (record { unit = unit; why = e })
+pack_refused files attached units vols k unit e numbered at read mounted is =
+    let images : List (List ℕ) = images_named files (names_of attached units) in
+    let front : images_named files (names_of attached (units_of vols)) ≡ take k images =
+    ap (λ (us : List ℕ). images_named files (names_of attached us)) read
+    ∙ ap (images_named files) (sym (take-map (λ (u : ℕ). (unit_of attached u).name) k units))
+    ∙ sym (take-map (image_named files) k (names_of attached units)) in
+    let stand : AllStand (take k images) (volumes_held files attached vols) = subst (λ (is : List (List ℕ)). AllStand is (volumes_held files attached vols)) front (held_stand files attached vols mounted) in
+    let here : slice_get images k ≡ Some (image_named files (unit_of attached unit).name) =
+    get_map (image_named files) (names_of attached units) k (unit_of attached unit).name (get_map (λ (u : ℕ). (unit_of attached u).name) units k unit at) in
+    let place : 0 + k ≡ unit = omega (arith, unit_number units k unit numbered at) in
+    shelf_refused images (record { unit = unit; why = e })
+    (first_refused 0 images (volumes_held files attached vols) k (image_named files (unit_of attached unit).name) e stand here is
+    ∙ ap (λ (n : ℕ). Err (record { unit = n; why = e })) place)
+
+-- ---- the loop over units
+
+-- a unit that is asked for is attached
+pub unit_attached : (attached : List Attached) (units : List ℕ) (k unit : ℕ) → AreUnits attached units → slice_get units k ≡ Some unit → unit < length attached
+unit_attached attached units k unit are at = omega (arith, unit_number units k unit are.numbered at, within units k unit at, are.attached)
+
+module _ (tells : Bool) (units : List ℕ) (old now : Facts) (m m' : Meaning (List File)) (vols : List Vol) (k unit : ℕ) (at : slice_get units k ≡ Some unit) (so_far : ReadSoFar tells units old now m m' vols k) where
+  -- the pack on the next unit is refused
+  pub refuses_pack : (s : Stopped) → AreUnits old.units units → IsTrue tells → s.unit ≡ unit → (s.why ≢ Memory → s.why ≢ Device → volume_of (image_of m'.state now unit) ≡ Err s.why) → RefusesImages (names_of old.units units) m.state s
+  refuses_pack s are told place refused memory device =
+      let image = image_before m.state m'.state old now unit (so_far.same told).state so_far.facts.units in
+      pack_refused m.state old.units units vols k unit s.why are.numbered at so_far.read.numbers (so_far.mounted told) (ap volume_of (sym image) ∙ refused memory device)
+      ∙ ap (λ (n : ℕ). Err (record { unit = n; why = s.why })) (sym place)
+
+  -- or it is read
+  pub read_next : (next : Facts) (m'' : Meaning (List File)) (vols' : List Vol) (v : Vol) → v.unit ≡ unit → IsOfUnit now.units v → AreByName (name_at v.slots.items) v.by_name.items → (IsTrue tells → IsMounted (image_of m'.state now unit) v)
+      → (IsTrue tells → Same m' m'') → Unreported now next → vols' ≡ vols ++ v ∷ [] → ReadSoFar tells units old next m m'' vols' (k + 1)
+  read_next next m'' vols' v is of_unit order mounted same call pushed = record {
+    facts = reported_none old now next so_far.facts call (λ never. never);
+    same = λ told. same_then (so_far.same told) (same told);
+    read = subst (AreRead old.units (take (k + 1) units)) (sym pushed) (read_more old.units units vols k unit v at so_far.read is (subst (λ (us : List Attached). IsOfUnit us v) so_far.facts.units of_unit) order);
+    mounted = λ told.
+        let image : image_of m'.state now unit ≡ image_named m.state (unit_of old.units v.unit).name =
+        image_before m.state m'.state old now unit (so_far.same told).state so_far.facts.units ∙ ap (λ (u : ℕ). image_named m.state (unit_of old.units u).name) (sym is) in
+        subst (AreMounted m.state old.units) (sym pushed) (mounted_more m.state old.units vols v (so_far.mounted told) (subst (λ (i : List ℕ). IsMounted i v) image (mounted told)));
+  }
+
+-- ---- serials
+
+-- none of the first serials stands before its place
+abbrev pub NoneTwice : List (List ℕ) → ℕ → Type 0
+NoneTwice serials n = (k : ℕ) (s : List ℕ) → k < n → slice_get serials k ≡ Some s → position (λ t. bytes_eq t s) (take k serials) ≡ None
+
+lower_or_last : (j k : ℕ) → j < k + 1 → (j < k) ⊎ (j ≡ k)
+lower_or_last zero zero low = inr refl
+lower_or_last zero (suc k) low = inl (omega arith)
+lower_or_last (suc j) zero low = absurd (omega (arith, low))
+lower_or_last (suc j) (suc k) low = ⊎_elim (λ less. inl (omega (arith, less))) (λ same. inr (ap suc same)) (lower_or_last j k (omega (arith, low)))
+
+pub apart_of : (serials : List (List ℕ)) → NoneTwice serials (length serials) → AreApart serials
+apart_of serials none j k text first second = ⊎_elim (λ less. absurd (before j k text first second less)) (λ more. ⊎_elim (λ less. absurd (before k j text second first less)) (λ same. same) more) (three_ways j k)
+  where
+    before : (j k : ℕ) (text : List ℕ) → slice_get serials j ≡ Some text → slice_get serials k ≡ Some text → j < k → ⊥
+    before j k text first second less =
+        let never : bytes_eq text text ≡ false = none_passes (λ (t : List ℕ). bytes_eq t text) (take k serials) j text (none k text (within serials k text second) second) (in_take k serials j text less first) in
+        let found : bytes_eq text text ≡ true = (bytes_eq-Decides text text).1 refl in
+        cc (never, found)
+
+    three_ways : (j k : ℕ) → (j < k) ⊎ ((k < j) ⊎ (j ≡ k))
+    three_ways zero zero = inr (inr refl)
+    three_ways zero (suc k) = inl (omega arith)
+    three_ways (suc j) zero = inr (inl (omega arith))
+    three_ways (suc j) (suc k) = ⊎_elim (λ less. inl (omega (arith, less))) (λ more. inr (⊎_elim (λ less. inl (omega (arith, less))) (λ same. inr (ap suc same)) more)) (three_ways j k)
+
+-- the first serial that stands twice, among indexes
+pub place_by_serial : (vols : List Vol) (k : ℕ) (serial : List ℕ) → position (λ (v : Vol). bytes_eq v.serial.bytes serial) (take k vols) ≡ position (λ (t : List ℕ). bytes_eq t serial) (take k (serials_of vols))
+place_by_serial vols k serial =
+    let test : List ℕ → Bool = λ t. bytes_eq t serial in
+    place_alike (λ (v : Vol). bytes_eq v.serial.bytes serial) test (λ (v : Vol). v.serial.bytes) (take k vols) (λ v. refl) ∙ ap (position test) (sym (take-map (λ (v : Vol). v.serial.bytes) k vols))
+
+-- one serial more that doesn't stand before its place
+pub none_more : (vols : List Vol) (k : ℕ) (v : Vol) → slice_get vols k ≡ Some v → position (λ (w : Vol). bytes_eq w.serial.bytes v.serial.bytes) (take k vols) ≡ None → NoneTwice (serials_of vols) k → NoneTwice (serials_of vols) (k + 1)
+none_more vols k v at none before j s low here = ⊎_elim (λ less. before j s less here) (λ same. this same) (lower_or_last j k low)
+  where
+    some_same : {a b : List ℕ} → Some a ≡ Some b → a ≡ b
+    some_same is = cc
+
+    this : j ≡ k → position (λ t. bytes_eq t s) (take j (serials_of vols)) ≡ None
+    this same =
+        let serial : v.serial.bytes ≡ s = some_same (sym (get_map (λ (w : Vol). w.serial.bytes) vols k v at) ∙ ap (slice_get (serials_of vols)) (sym same) ∙ here) in
+        ap (λ (n : ℕ). position (λ t. bytes_eq t s) (take n (serials_of vols))) same
+        ∙ ap (λ (x : List ℕ). position (λ t. bytes_eq t x) (take k (serials_of vols))) (sym serial)
+        ∙ sym (place_by_serial vols k v.serial.bytes) ∙ none
+
+-- the first serial that stands before its place
+pub first_twice : (vols : List Vol) (k other : ℕ) (v : Vol) → slice_get vols k ≡ Some v → position (λ (w : Vol). bytes_eq w.serial.bytes v.serial.bytes) (take k vols) ≡ Some other → NoneTwice (serials_of vols) k → IsFirstTwice (serials_of vols) k other
+first_twice vols k other v at found before = record {
+  serial = v.serial.bytes;
+  at = get_map (λ (w : Vol). w.serial.bytes) vols k v at;
+  first = sym (place_by_serial vols k v.serial.bytes) ∙ found;
+  before = before;
+}
+
+-- all serials are looked at
+pub apart_upto : (vols : List Vol) (k : ℕ) → length vols ≤ k → NoneTwice (serials_of vols) k → AreApart (serials_of vols)
+apart_upto vols k all none = apart_of (serials_of vols) (λ j s low at. none j s (omega (arith, low, all, length-map vols (λ (w : Vol). w.serial.bytes))) at)
+
+-- refuses the shelf
+pub twice_refused : (files : List File) (attached : List Attached) (vols : List Vol) (unit other : ℕ) → AreMounted files attached vols → IsFirstTwice (serials_of vols) unit other
+    → shelf_of (images_named files (names_of attached (units_of vols))) ≡ Err (record { unit = unit; why = SameSerial unit other })
+unfolding serial_faults
+twice_refused files attached vols unit other mounted twice =
+    let volumes : List Volume = volumes_held files attached vols in
+    let same : serials_in volumes ≡ serials_of vols = held_serials files attached vols mounted in
+    let there = of_map (λ (w : Volume). w.serial.bytes) volumes unit twice.serial (ap (λ (ss : List (List ℕ)). slice_get ss unit) same ∙ twice.at) in
+    shelf_twice (images_named files (names_of attached (units_of vols))) volumes (record { unit = unit; why = SameSerial unit other }) (held_stand files attached vols mounted)
+    (first_kept (λ (p : ℕ × Volume). serial_fault volumes p.0 p.1) (enumerate_from 0 volumes) unit (unit, there.0) (record { unit = unit; why = SameSerial unit other })
+    (number_of volumes unit there.0 there.1)
+    (fault_by volumes unit there.0 ∙ ap (λ (s : List ℕ). fault_in (serials_in volumes) unit s) there.2 ∙ ap (λ (ss : List (List ℕ)). fault_in ss unit twice.serial) same
+    ∙ ap (option_map (λ (o : ℕ). record { unit = unit; why = SameSerial unit o })) twice.first)
+    (λ k p low at.
+    let here = numbered 0 volumes k p at in
+    let place : p.0 ≡ k = omega (arith, here.0) in
+    let serial : slice_get (serials_of vols) k ≡ Some p.1.serial.bytes = ap (λ (ss : List (List ℕ)). slice_get ss k) (sym same) ∙ get_map (λ (w : Volume). w.serial.bytes) volumes k p.1 here.1 in
+    fault_by volumes p.0 p.1 ∙ ap (λ (n : ℕ). fault_in (serials_in volumes) n p.1.serial.bytes) place ∙ ap (λ (ss : List (List ℕ)). fault_in ss k p.1.serial.bytes) same
+    ∙ ap (option_map (λ (o : ℕ). record { unit = k; why = SameSerial k o })) (twice.before k p.1.serial.bytes low serial)))

@@ -1,0 +1,29 @@
+use Rattle.std.proofs.Common.{◌≡◌, List, ℕ, sym, ap, subst, ◌∙◌}
+use Rattle.hall_core.specs.Facts.{Attached}
+use Rattle.shelf_machine.specs.Machine.{KeepsSafe, shelf_or_none, shelf_under, units_of}
+use Rattle.shelf_machine.specs.Opening.{AreSettledVtocs, names_of}
+use Rattle.shelf_machine.proofs.HallShelves.{kept_settled}
+use Rattle.shelf_machine.proofs.Openings.{opened_safe}
+use Rattle.shelf_machine.proofs.machine.HallShelf.open.Goals as goal
+
+pub returns-in-Ok-clause-shelf : goal.returns-in-Ok-clause-shelf
+returns-in-Ok-clause-shelf g c told =
+    let attached = (g.H.Hall.facts c.args.hall).units in
+    let now = (g.H.Hall.facts c.open_packs.new.hall).units in
+    let m = g.H.Hall.meaning c.args.hall in
+    let m' = g.H.Hall.meaning c.open_packs.new.hall in
+    let vols = c.in-Ok.vols.items in
+    let opened = c.in-Ok.ensures.opened in
+    let run = c.in-Ok.ensures.files told in
+    let numbers : names_of attached (units_of vols) ≡ names_of attached c.args.units.now = ap (names_of attached) opened.numbers in
+    let names : names_of now (units_of vols) ≡ names_of attached c.args.units.now = ap (λ (us : List Attached). names_of us (units_of vols)) c.in-Ok.ensures.faults.units ∙ numbers in
+    record {
+      shelf = run.shelf;
+      before = run.before;
+      after = run.after;
+      state = ap (λ (ns : List (List ℕ)). shelf_under ns m'.state) names ∙ ap shelf_or_none run.after;
+      settled = subst (λ (ns : List (List ℕ)). AreSettledVtocs ns m'.state) numbers (kept_settled m'.state attached vols run.kept);
+      durable = run.durable;
+      promise = λ t early just. subst (λ (ns : List (List ℕ)). KeepsSafe ns vols m' t m.state) (sym names)
+          (opened_safe attached vols (names_of attached c.args.units.now) m m' run.shelf numbers opened.indexes run.kept run.before run.after run.safe t early just);
+    }

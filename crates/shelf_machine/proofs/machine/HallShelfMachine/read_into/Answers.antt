@@ -1,0 +1,20 @@
+use Rattle.shelf_machine.specs.Machine.{AreInOrder}
+use Rattle.shelf_machine.proofs.HallShelves.{machine_volumes}
+use Rattle.std.proofs.Common.{[], refl, sym, subst}
+use Rattle.shelf_machine.proofs.Machines.{idles}
+use Rattle.shelf_machine.proofs.machine.HallShelfMachine.read_into.Goals as goal
+
+pub returns-in-Some-clause-block : goal.returns-in-Some-clause-block
+returns-in-Some-clause-block g c told = (c.in-Some.ensures _ (machine_volumes c.args.self.now c.deref.result.now c.deref.ensures.value c.requires.sound told)).0
+
+pub returns-in-Some-clause-idle : goal.returns-in-Some-clause-idle
+returns-in-Some-clause-idle g c told = idles _ _ (g.met.H.Hall.counts_now c.args.self.now.hall)
+
+pub returns-in-None-clause-block : goal.returns-in-None-clause-block
+returns-in-None-clause-block g c told = ([], (c.in-None.ensures _ (machine_volumes c.args.self.now c.deref.result.now c.deref.ensures.value c.requires.sound told)).0, refl)
+
+pub returns-in-None-clause-idle : goal.returns-in-None-clause-idle
+returns-in-None-clause-idle g c told = idles _ _ (g.met.H.Hall.counts_now c.args.self.now.hall)
+
+pub unread_on-requires-clause-order : goal.unread_on-requires-clause-order
+unread_on-requires-clause-order g c = subst AreInOrder (sym c.deref.ensures.value) (c.args.self.now.order c.requires.sound)

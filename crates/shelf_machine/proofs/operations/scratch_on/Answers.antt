@@ -1,0 +1,67 @@
+use Rattle.std.proofs.Common.{◌≡◌, ℕ, ◌<◌, ◌≤◌, Some, None, refl, sym, ap, subst, ◌∙◌, arith}
+use Rattle.std.specs.Prelude.{slice_get}
+use Rattle.std.proofs.lemmas.Option.{slice_get-get_or}
+use Rattle.vol_model.specs.Shelf.{step_on}
+use Rattle.vol_model.specs.declared.requests.Op.TheVariants.{Scratch}
+use Rattle.vtoc_index.proofs.KeptLemmas.{mounted_of}
+use Rattle.vtoc_index.specs.declared.vol.Vol.{Vol}
+use Rattle.shelf_machine.proofs.ListPlaces.{not_there}
+use Rattle.shelf_machine.proofs.OneVolume.{kept_idle, order_kept}
+use Rattle.shelf_machine.specs.Operating.{IsSamePack}
+use Rattle.shelf_machine.proofs.Operating.{base_same, indexes_after, operates, operates_nowhere, order_after, scratch_keeps}
+use Rattle.shelf_machine.proofs.operations.scratch_on.Given.{Over}
+use Rattle.shelf_machine.proofs.operations.scratch_on.Goals as goal
+
+pub returns-then-k-len-clause-shelf : goal.returns-then-k-len-clause-shelf
+returns-then-k-len-clause-shelf g c told =
+    let none : slice_get c.args.vols.now.items c.args.v ≡ None = not_there c.args.vols.now.items c.args.v (omega (arith, c.if-k-len.true, c.len.ensures, c.from-k.ensures)) in
+    operates_nowhere (Scratch c.args.v c.args.dsn.now) (g.H.Hall.facts c.args.hall.now).units c.args.vols.now.items (g.H.Hall.meaning c.args.hall.now)
+    c.requires.indexes (g.met.H.Hall.counts_now c.args.hall.now) (c.requires.kept told) (c.requires.durable told) none
+
+-- the index of the pack of this number
+here : (g : Over) (c : goal.After-index_mut g) → slice_get c.args.vols.now.items c.from-k.result ≡ Some c.index_mut.result.now
+here g c =
+    slice_get-get_or c.args.vols.now.items c.from-k.result _ (omega (arith, c.if-k-len.false, c.len.ensures)) ∙ ap (λ (w : Vol). Some w) (sym c.index_mut.ensures.value)
+
+pub scratch_set-requires-clause-unit : goal.scratch_set-requires-clause-unit
+scratch_set-requires-clause-unit g c = c.requires.indexes.each c.from-k.result c.index_mut.result.now (here g c)
+
+pub scratch_set-requires-clause-names : goal.scratch_set-requires-clause-names
+scratch_set-requires-clause-names g c = c.requires.order c.from-k.result c.index_mut.result.now (here g c)
+
+pub scratch_set-requires-clause-mounted : goal.scratch_set-requires-clause-mounted
+scratch_set-requires-clause-mounted g c told = mounted_of _ _ (c.requires.kept told c.from-k.result c.index_mut.result.now (here g c)).kept
+
+there : (g : Over) (c : goal.After-vols-1 g) → slice_get c.args.vols.now.items c.from-k.result ≡ Some c.index_mut.result.now
+there g c =
+    slice_get-get_or c.args.vols.now.items c.from-k.result _ (omega (arith, c.if-k-len.false, c.len.ensures)) ∙ ap (λ (w : Vol). Some w) (sym c.index_mut.ensures.value)
+
+alike : (g : Over) (c : goal.After-vols-1 g) → IsSamePack c.index_mut.result.now c.scratch_set.new.vol
+alike g c = c.scratch_set.ensures.index
+
+pub returns-clause-shelf : goal.returns-clause-shelf
+unfolding step_on
+returns-clause-shelf g c told =
+    operates (Scratch c.args.v c.args.dsn.now) (scratch_keeps c.args.v c.args.dsn.now)
+    (g.H.Hall.facts c.args.hall.now) (g.H.Hall.facts c.scratch_set.new.hall) c.args.vols.now.items c.from-k.result (sym c.from-k.ensures)
+    c.index_mut.result.now c.scratch_set.new.vol (there g c) (alike g c) c.scratch_set.ensures.faults.units c.requires.indexes
+    (g.H.Hall.meaning c.args.hall.now) (g.H.Hall.meaning c.scratch_set.new.hall) c.scratch_set.result
+    (g.met.H.Hall.counts_now c.args.hall.now) (g.met.H.Hall.leaves_state c.args.hall.now) (c.requires.kept told) (c.requires.durable told) (c.scratch_set.ensures.files told)
+    (kept_idle c.index_mut.result.now c.scratch_set.new.vol c.scratch_set.result (λ why is. c.scratch_set.ensures.refused why is) c.scratch_set.ensures.memory)
+
+pub returns-clause-indexes : goal.returns-clause-indexes
+returns-clause-indexes g c =
+    indexes_after (g.H.Hall.facts c.args.hall.now) (g.H.Hall.facts c.scratch_set.new.hall) c.args.vols.now.items c.from-k.result
+    c.index_mut.result.now c.scratch_set.new.vol (there g c) (alike g c) c.scratch_set.ensures.faults.units c.requires.indexes c.scratch_set.ensures.unit
+
+pub returns-clause-order : goal.returns-clause-order
+returns-clause-order g c sound =
+    order_after (g.H.Hall.facts c.args.hall.now) (g.H.Hall.facts c.scratch_set.new.hall) c.args.vols.now.items c.from-k.result
+    c.index_mut.result.now c.scratch_set.new.vol (there g c) (alike g c) c.scratch_set.ensures.faults.units c.requires.order
+    (order_kept c.index_mut.result.now c.scratch_set.new.vol c.scratch_set.result (λ why is. c.scratch_set.ensures.refused why is) c.scratch_set.ensures.memory
+    c.scratch_set.ensures.names (c.requires.order c.from-k.result c.index_mut.result.now (there g c)) sound)
+
+pub returns-clause-base : goal.returns-clause-base
+returns-clause-base g c =
+    base_same (g.H.Hall.facts c.args.hall.now) (g.H.Hall.facts c.scratch_set.new.hall) c.args.vols.now.items c.from-k.result
+    c.index_mut.result.now c.scratch_set.new.vol (there g c) (alike g c) c.scratch_set.ensures.faults.units c.scratch_set.ensures.faults.references

@@ -1,0 +1,75 @@
+-- The packs of several units, as they are read, compared and repaired.
+use Rattle.std.specs.Prelude.{◌≡◌, ◌≢◌, ◌<◌, ℕ, List, length, position, slice_get, take, Some, None, Result, Ok, Err, OnOk}
+use Rattle.std.specs.Str.{bytes_eq}
+use Rattle.hall_core.specs.Facts.{Attached, Facts, ReportedCall, unit_of}
+use Rattle.stop_model.specs.Files.{File}
+use Rattle.stop_model.specs.Moments.{Meaning, Elapses, IsDurable, Same}
+use Rattle.pack_spec.specs.Shelf.{UnitRefusal, shelf_of}
+use Rattle.pack_spec.specs.declared.MountErr.{MountErr}
+use Rattle.pack_spec.specs.declared.MountErr.TheVariants.{Memory, Device, SameSerial}
+use Rattle.vol_model.specs.declared.contents.Shelf.{Shelf}
+use Rattle.free_rebuild.specs.Repairs.{image_named}
+use Rattle.vtoc_index.specs.Index.{IsMounted, IsOfUnit}
+use Rattle.vtoc_index.specs.declared.vol.Vol.{Vol}
+use Rattle.shelf_machine.specs.Machine.{AreIndexes, AreInOrder, AreKept, serials_of, units_of}
+use Rattle.shelf_machine.specs.Opening.{OpensSafely, images_named, names_of}
+use Rattle.shelf_machine.specs.declared.stopped.Stopped.{Stopped}
+
+-- Indexes of the packs on units, in order, and their data sets in the order of their names.
+pub record AreRead (attached : List Attached) (units : List ℕ) (vols : List Vol) : Type 0 where
+  pub numbers : units_of vols ≡ units
+  pub each : (k : ℕ) (v : Vol) → slice_get vols k ≡ Some v → IsOfUnit attached v
+  pub order : AreInOrder vols
+
+-- each index is that of its unit's image, which stands for a volume
+abbrev pub AreMounted : List File → List Attached → List Vol → Type 0
+AreMounted files attached vols = (k : ℕ) (v : Vol) → slice_get vols k ≡ Some v
+    → IsMounted (image_named files (unit_of attached v.unit).name) v
+
+-- Of serials this is the first that stands twice, and that is the first place of it.
+pub record IsFirstTwice (serials : List (List ℕ)) (unit other : ℕ) : Type 0 where
+  pub serial : List ℕ
+  pub at : slice_get serials unit ≡ Some serial
+  pub first : position (λ s. bytes_eq s serial) (take unit serials) ≡ Some other
+  pub before : (k : ℕ) (s : List ℕ) → k < unit → slice_get serials k ≡ Some s
+      → position (λ t. bytes_eq t s) (take k serials) ≡ None
+
+-- the opening stopped at such a serial
+abbrev pub StopsAtTwice : List (List ℕ) → Stopped → Type 0
+StopsAtTwice serials s = (other : ℕ) × (s.why ≡ SameSerial s.unit other)
+    × IsFirstTwice serials s.unit other
+
+-- the images under names stand for no shelf, for this reason; `Memory` and `Device` say nothing of them
+abbrev pub RefusesImages : List (List ℕ) → List File → Stopped → Type 0
+RefusesImages names files s = s.why ≢ Memory → s.why ≢ Device
+    → shelf_of (images_named files names) ≡ Err (record { unit = s.unit; why = s.why })
+
+-- an opening stopped for this reason
+abbrev pub IsStoppedBy : {T : Type 0} → MountErr → Result T Stopped → Type 0
+IsStoppedBy why (Ok x) = ⊥
+IsStoppedBy why (Err s) = s.why ≡ why
+
+-- calls of a device in an opening, which answers a fault of it as one
+abbrev pub StopCall : {T : Type 0} → Facts → Facts → Result T Stopped → Type 0
+StopCall old new result = ReportedCall (IsStoppedBy Device result) old new
+
+-- What a repair of packs leaves, done or failed: at each stop the images stand for the same shelf and are safe. Once it is done they are settled, durably, and the indexes are theirs.
+pub record RepairsAll {T E : Type 0} (names : List (List ℕ)) (attached : List Attached)
+    (vols : List Vol) (old new : Meaning (List File)) (result : Result T E) : Type 0 where
+  pub shelf : Shelf
+  pub before : shelf_of (images_named old.state names) ≡ Ok shelf
+  pub after : OnOk result (shelf_of (images_named new.state names) ≡ Ok shelf)
+  pub kept : OnOk result (AreKept new.state attached vols)
+  pub durable : OnOk result (IsDurable new)
+  pub safe : OpensSafely names shelf old new
+
+-- the indexes are those of the same packs as before
+pub record AreOfSamePacks (old new : List Vol) : Type 0 where
+  pub units : units_of new ≡ units_of old
+  pub serials : serials_of new ≡ serials_of old
+
+-- Indexes of the packs on units, in order, whose serials differ.
+pub record AreOpened (attached : List Attached) (units : List ℕ) (vols : List Vol) : Type 0 where
+  pub numbers : units_of vols ≡ units
+  pub indexes : AreIndexes attached vols
+  pub order : AreInOrder vols

@@ -1,0 +1,39 @@
+-- What reads of the shelf of several packs find, in this project's profile.
+use Rattle.std.specs.Prelude.{◌≡◌, ℕ, List, [], slice_get, Option, Some, None, Ok, Err}
+use Rattle.dscb_codec.specs.declared.F1.{F1}
+use Rattle.pack_spec.specs.Slots.{slots_of_vtoc}
+use Rattle.pack_spec.specs.Volume.{data_set_of}
+use Rattle.vol_model.specs.declared.catalogs.CatBody.{CatBody}
+use Rattle.vol_model.specs.declared.contents.Body.{Body}
+use Rattle.vol_model.specs.declared.contents.DataSet.{DataSet}
+use Rattle.vol_model.specs.declared.contents.Shelf.{Shelf}
+use Rattle.vol_model.specs.Reading.{entries_in, nodes_in, readable}
+use Rattle.vtoc_index.specs.Index.{IsMounted}
+use Rattle.vtoc_index.specs.declared.vol.Vol.{Vol}
+use Rattle.vtoc_sets.specs.Sets.{HasSet, volume_in}
+
+-- An index is that of an image, and the shelf has the image's volume under this number.
+pub record HasVolume (shelf : Shelf) (n : ℕ) (v : Vol) : Type 0 where
+  pub image : List ℕ
+  pub mounted : IsMounted image v
+  pub there : slice_get shelf.volumes n ≡ Some (volume_in image v)
+
+-- The shelf has the volumes of these indexes, in order, and no others.
+pub record HasVolumes (shelf : Shelf) (vols : List Vol) : Type 0 where
+  pub each : (n : ℕ) (v : Vol) → slice_get vols n ≡ Some v → HasVolume shelf n v
+  pub none : (n : ℕ) → slice_get vols n ≡ None → slice_get shelf.volumes n ≡ None
+
+-- a data set of an image is that of a format 1, or there is none
+abbrev pub IsSetOn : List ℕ → Vol → Option DataSet → Option F1 → Type 0
+IsSetOn image v set None = set ≡ None
+IsSetOn image v set (Some f) = HasSet image v f × (set ≡ Some (data_set_of v.geometry (slots_of_vtoc image v.geometry v.vtoc) f))
+
+-- a body can't be read from this track on, or has no block and no entry
+abbrev pub IsUnread : Option ℕ → Body → Type 0
+IsUnread (Some track) body = (readable body ≡ Err track) × (entries_in body ≡ Err track)
+IsUnread None body = (readable body ≡ Ok []) × (entries_in body ≡ Ok [])
+
+-- a catalog can't be read from this track on, or isn't there
+abbrev pub IsUnreadCatalog : Option ℕ → Option CatBody → Type 0
+IsUnreadCatalog (Some track) catalog = nodes_in catalog ≡ Err track
+IsUnreadCatalog None catalog = nodes_in catalog ≡ Ok []

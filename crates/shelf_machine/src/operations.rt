@@ -1,0 +1,130 @@
+//! Operations on the packs of a shelf.
+ghost use Rattle.std.specs.Prelude.{◌≡◌, true, IsErrOf, IsTrue, OnOk};
+ghost use Rattle.hall_core.specs.Facts.{unit_of};
+ghost use Rattle.hall_core.specs.Images.{image_in};
+ghost use Rattle.vol_model.specs.Shelf.{scratch_on};
+ghost use Rattle.vol_model.specs.declared.refusals.Refusal.{Refusal};
+ghost use Rattle.vtoc_index.specs.Index.{IsMounted, IsOfUnit};
+ghost use Rattle.vtoc_index.specs.Names.{AreByName, name_at};
+ghost use Rattle.stop_model.specs.Moments.{IsDurable};
+ghost use Rattle.vol_model.specs.Calls.{sound_after};
+ghost use Rattle.dadsm_ops.specs.Operations.{Operates, StoreCall};
+ghost use Rattle.shelf_machine.specs.Machine.{AreIndexes, AreInOrder, AreKept, base_of, units_of};
+ghost use Rattle.shelf_machine.specs.Opening.{names_of};
+ghost use Rattle.shelf_machine.specs.Operating.{IsRoomed, IsSamePack, OperatesOnShelf};
+ghost use Rattle.shelf_machine.specs.Reporting.{reported};
+
+use dadsm_ops::{rename, scratch};
+use ebcdic_names::Dsn;
+use hall_core::{Device, Hall};
+use pack_spec::layout::MOST_EXTENTS;
+use vol_model::{Op, Refusal, StoreErr};
+use vtoc_index::{Vol, find};
+
+// Does an operation on one of the packs. Each that isn't done yet wants memory, before anything is called.
+pub(crate) fn operate<H: Hall>(hall: &mut H, vols: &mut Vec<Vol>, op: &Op) -> Result<(), StoreErr>
+    requires indexes { AreIndexes (H.facts hall.old).units vols.old.items }
+    requires order { AreInOrder vols.old.items }
+    requires kept { IsTrue H.tells
+        → AreKept (H.meaning hall.old).state (H.facts hall.old).units vols.old.items }
+    requires durable { IsTrue H.tells → IsDurable (H.meaning hall.old) }
+    ensures shelf { let names = names_of (H.facts hall.old).units (units_of vols.old.items) in
+        let names' = names_of (H.facts hall.new).units (units_of vols.new.items) in
+        IsTrue H.tells → OperatesOnShelf op.now names names' (H.facts hall.new).units
+        vols.old.items vols.new.items (H.meaning hall.old) (H.meaning hall.new) result }
+    ensures indexes { AreIndexes (H.facts hall.new).units vols.new.items }
+    ensures order { sound_after (reported result) ≡ true → AreInOrder vols.new.items }
+    ensures base { base_of (H.facts hall.new) vols.new.items
+        ≡ base_of (H.facts hall.old) vols.old.items }
+    ensures faults { StoreCall (H.facts hall.old) (H.facts hall.new) result }
+{
+    match op {
+        Op::Rename { v, old, new } => rename_on(hall, vols, *v, old, new),
+        Op::Scratch { v, dsn } => scratch_on(hall, vols, *v, dsn),
+        _ => Err(StoreErr::Memory),
+    }
+}
+
+// Gives a data set of the pack of this number another name.
+fn rename_on<H: Hall>(
+    hall: &mut H,
+    vols: &mut Vec<Vol>,
+    v: u8,
+    old: &Dsn,
+    new: &Dsn,
+) -> Result<(), StoreErr>
+    requires indexes { AreIndexes (H.facts hall.old).units vols.old.items }
+    requires order { AreInOrder vols.old.items }
+    requires kept { IsTrue H.tells
+        → AreKept (H.meaning hall.old).state (H.facts hall.old).units vols.old.items }
+    requires durable { IsTrue H.tells → IsDurable (H.meaning hall.old) }
+    ensures shelf { let names = names_of (H.facts hall.old).units (units_of vols.old.items) in
+        let names' = names_of (H.facts hall.new).units (units_of vols.new.items) in
+        IsTrue H.tells → OperatesOnShelf (Op.Rename v old.now new.now) names names'
+        (H.facts hall.new).units vols.old.items vols.new.items (H.meaning hall.old)
+        (H.meaning hall.new) result }
+    ensures indexes { AreIndexes (H.facts hall.new).units vols.new.items }
+    ensures order { sound_after (reported result) ≡ true → AreInOrder vols.new.items }
+    ensures base { base_of (H.facts hall.new) vols.new.items
+        ≡ base_of (H.facts hall.old) vols.old.items }
+    ensures faults { StoreCall (H.facts hall.old) (H.facts hall.new) result }
+{
+    let k = usize::from(v);
+    if k >= vols.len() {
+        return Err(StoreErr::Refused(Refusal::NoVolume));
+    }
+    rename(hall, &mut vols[k], old, new)
+}
+
+// Removes a data set of the pack of this number.
+fn scratch_on<H: Hall>(hall: &mut H, vols: &mut Vec<Vol>, v: u8, dsn: &Dsn) -> Result<(), StoreErr>
+    requires indexes { AreIndexes (H.facts hall.old).units vols.old.items }
+    requires order { AreInOrder vols.old.items }
+    requires kept { IsTrue H.tells
+        → AreKept (H.meaning hall.old).state (H.facts hall.old).units vols.old.items }
+    requires durable { IsTrue H.tells → IsDurable (H.meaning hall.old) }
+    ensures shelf { let names = names_of (H.facts hall.old).units (units_of vols.old.items) in
+        let names' = names_of (H.facts hall.new).units (units_of vols.new.items) in
+        IsTrue H.tells → OperatesOnShelf (Op.Scratch v dsn.now) names names'
+        (H.facts hall.new).units vols.old.items vols.new.items (H.meaning hall.old)
+        (H.meaning hall.new) result }
+    ensures indexes { AreIndexes (H.facts hall.new).units vols.new.items }
+    ensures order { sound_after (reported result) ≡ true → AreInOrder vols.new.items }
+    ensures base { base_of (H.facts hall.new) vols.new.items
+        ≡ base_of (H.facts hall.old) vols.old.items }
+    ensures faults { StoreCall (H.facts hall.old) (H.facts hall.new) result }
+{
+    let k = usize::from(v);
+    if k >= vols.len() {
+        return Err(StoreErr::Refused(Refusal::NoVolume));
+    }
+    scratch_set(hall, &mut vols[k], dsn)
+}
+
+// Removes a data set of a volume. Memory is taken before anything is called: for each of its extents a free run may come.
+fn scratch_set<H: Hall>(hall: &mut H, vol: &mut Vol, dsn: &Dsn) -> Result<(), StoreErr>
+    requires unit { IsOfUnit (H.facts hall.old).units vol.old }
+    requires names { AreByName (name_at vol.old.slots.items) vol.old.by_name.items }
+    requires mounted { let image = image_in (H.meaning hall.old) (H.facts hall.old) vol.old.unit in
+        IsTrue H.tells → IsMounted image vol.old }
+    requires durable { IsTrue H.tells → IsDurable (H.meaning hall.old) }
+    ensures files { IsTrue H.tells → Operates (unit_of (H.facts hall.old).units vol.old.unit).name
+        (scratch_on dsn.now) vol.new (H.meaning hall.old) (H.meaning hall.new) result }
+    ensures unit { IsOfUnit (H.facts hall.new).units vol.new }
+    ensures names { OnOk result (AreByName (name_at vol.new.slots.items) vol.new.by_name.items) }
+    ensures index { IsSamePack vol.old vol.new }
+    ensures refused { (r : Refusal) → IsErrOf result (StoreErr.Refused r) → vol.new ≡ vol.old }
+    ensures memory { IsErrOf result StoreErr.Memory → IsRoomed vol.old vol.new }
+    ensures faults { StoreCall (H.facts hall.old) (H.facts hall.new) result }
+{
+    let Some(slot) = find(vol, dsn) else {
+        return Err(StoreErr::Refused(Refusal::NoSet));
+    };
+    if vol.free.reserve(usize::from(MOST_EXTENTS)).is_err() {
+        return Err(StoreErr::Memory);
+    }
+    match scratch(hall, vol, slot) {
+        Ok(()) => Ok(()),
+        Err(Device) => Err(StoreErr::Device),
+    }
+}

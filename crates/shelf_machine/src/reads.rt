@@ -1,0 +1,197 @@
+//! What the shelf of several mounted packs tells, read by read.
+ghost use Rattle.std.specs.Prelude.{◌≡◌, ◌^◌, ◌<◌, ℕ, List, Ok, IfSome, option_map, slice_get};
+ghost use Rattle.std.specs.List.{list_any};
+ghost use Rattle.std.specs.Option.{option_copied};
+ghost use Rattle.hall_core.specs.Facts.{Attached};
+ghost use Rattle.pack_spec.specs.Rules.{is_named};
+ghost use Rattle.vol_model.specs.Shelf.{catalog_name};
+ghost use Rattle.vol_model.specs.Reading.{catalog_on, extent_on, name_on, set_info, volume_info};
+ghost use Rattle.vol_model.specs.Writing.{begin_refusal, body_on, set_on};
+ghost use Rattle.vtoc_index.specs.Index.{IsOfUnit};
+ghost use Rattle.vtoc_index.specs.Names.{AreByName, name_at};
+ghost use Rattle.vol_model.specs.declared.contents.Shelf.{Shelf};
+ghost use Rattle.shelf_machine.specs.Machine.{AreIndexes, AreInOrder};
+ghost use Rattle.shelf_machine.specs.Reads.{HasVolume, HasVolumes, IsSetOn, IsUnread, IsUnreadCatalog};
+
+use crate::space::volume_info;
+use dscb_codec::{Dscb, F1};
+use ebcdic_names::Dsn;
+use vol_model::{Kind, Mode, Refusal, Run, SetInfo, VolumeInfo, is_catalog};
+use vtoc_index::{Vol, find, name_at};
+use vtoc_sets::{attr_of, fits_mode, kind_of, run_at, space_of};
+
+// The index of the volume of this number.
+fn volume_at(vols: &[Vol], v: u8) -> Option<&Vol>
+    ensures { option_copied result ≡ slice_get vols.now v }
+{
+    vols.get(usize::from(v))
+}
+
+// The volume of this number in short.
+pub(crate) fn volume_on(vols: &[Vol], v: u8) -> Option<VolumeInfo>
+    requires units { (attached : List Attached) × AreIndexes attached vols.now }
+    ensures { (shelf : Shelf) → HasVolumes shelf vols.now
+        → result ≡ option_map volume_info (slice_get shelf.volumes v) }
+{
+    let vol = volume_at(vols, v)?;
+    Some(volume_info(vol))
+}
+
+// The name of the k-th data set of a volume.
+pub(crate) fn name_on(vols: &[Vol], v: u8, k: u32) -> Option<Dsn>
+    requires order { AreInOrder vols.now }
+    ensures { (shelf : Shelf) → HasVolumes shelf vols.now → result ≡ name_on shelf v k }
+{
+    let vol = volume_at(vols, v)?;
+    name_at(vol, k)
+}
+
+// The format 1 of the data set of this name.
+fn set_in<'a>(vol: &'a Vol, dsn: &Dsn) -> Option<&'a F1>
+    requires unit { (units : List Attached) × IsOfUnit units vol.now }
+    requires names { AreByName (name_at vol.now.slots.items) vol.now.by_name.items }
+    ensures { (shelf : Shelf) (n : ℕ) (has : HasVolume shelf n vol.now) → IsSetOn has.image vol.now
+        (set_on shelf n dsn.now.bytes) (option_copied result) }
+{
+    let slot = find(vol, dsn)?;
+    match &vol.slots[slot as usize] {
+        Dscb::F1(set) => Some(set),
+        _ => None,
+    }
+}
+
+// A data set of a volume in short.
+#[tactic(auto, unfolding(vol_model::specs::Reading::set_info))]
+fn info_in(vol: &Vol, dsn: &Dsn) -> Option<SetInfo>
+    requires unit { (units : List Attached) × IsOfUnit units vol.now }
+    requires names { AreByName (name_at vol.now.slots.items) vol.now.by_name.items }
+    ensures info { (shelf : Shelf) (n : ℕ) → HasVolume shelf n vol.now
+        → result ≡ option_map set_info (set_on shelf n dsn.now.bytes) }
+    ensures lawful { IfSome result (λ info. info.attr.secondary < 2 ^ 24) }
+{
+    let set = set_in(vol, dsn)?;
+    let space = space_of(vol, set);
+    Some(SetInfo {
+        attr: attr_of(set),
+        kind: kind_of(set),
+        extents: space.extents,
+        tracks: space.tracks,
+        dir: 0,
+    })
+}
+
+// A data set in short.
+pub(crate) fn info_on(vols: &[Vol], v: u8, dsn: &Dsn) -> Option<SetInfo>
+    requires units { (attached : List Attached) × AreIndexes attached vols.now }
+    requires order { AreInOrder vols.now }
+    ensures info { (shelf : Shelf) → HasVolumes shelf vols.now
+        → result ≡ option_map set_info (set_on shelf v dsn.now.bytes) }
+    ensures lawful { IfSome result (λ info. info.attr.secondary < 2 ^ 24) }
+{
+    let vol = volume_at(vols, v)?;
+    info_in(vol, dsn)
+}
+
+// The k-th extent of a data set of a volume.
+fn extent_in(vol: &Vol, dsn: &Dsn, k: u8) -> Option<Run>
+    requires unit { (units : List Attached) × IsOfUnit units vol.now }
+    requires names { AreByName (name_at vol.now.slots.items) vol.now.by_name.items }
+    ensures { (shelf : Shelf) (n : ℕ) → HasVolume shelf n vol.now
+        → result ≡ extent_on shelf n dsn.now.bytes k }
+{
+    run_at(vol, set_in(vol, dsn)?, k)
+}
+
+// The k-th extent of a data set.
+pub(crate) fn extent_on(vols: &[Vol], v: u8, dsn: &Dsn, k: u8) -> Option<Run>
+    requires units { (attached : List Attached) × AreIndexes attached vols.now }
+    requires order { AreInOrder vols.now }
+    ensures { (shelf : Shelf) → HasVolumes shelf vols.now
+        → result ≡ extent_on shelf v dsn.now.bytes k }
+{
+    let vol = volume_at(vols, v)?;
+    extent_in(vol, dsn, k)
+}
+
+// The track at which the content of a data set of a volume can't be read; `None` where it has no block and no entry.
+fn unread_in(vol: &Vol, dsn: &Dsn) -> Option<u16>
+    requires unit { (units : List Attached) × IsOfUnit units vol.now }
+    requires names { AreByName (name_at vol.now.slots.items) vol.now.by_name.items }
+    ensures { (shelf : Shelf) (n : ℕ) → HasVolume shelf n vol.now
+        → IsUnread result (body_on shelf n dsn.now.bytes) }
+{
+    let set = set_in(vol, dsn)?;
+    match kind_of(set) {
+        Kind::Unreadable(track) => Some(track),
+        _ => None,
+    }
+}
+
+// The track at which the content of a data set can't be read.
+pub(crate) fn unread_on(vols: &[Vol], v: u8, dsn: &Dsn) -> Option<u16>
+    requires units { (attached : List Attached) × AreIndexes attached vols.now }
+    requires order { AreInOrder vols.now }
+    ensures { (shelf : Shelf) → HasVolumes shelf vols.now
+        → IsUnread result (body_on shelf v dsn.now.bytes) }
+{
+    let vol = volume_at(vols, v)?;
+    unread_in(vol, dsn)
+}
+
+// Why blocks can't be written to a data set of a volume, if there is a reason.
+fn write_refusal_in(vol: &Vol, dsn: &Dsn, mode: Mode) -> Option<Refusal>
+    requires unit { (units : List Attached) × IsOfUnit units vol.now }
+    requires names { AreByName (name_at vol.now.slots.items) vol.now.by_name.items }
+    ensures { (shelf : Shelf) (n : ℕ) → HasVolume shelf n vol.now → result
+        ≡ begin_refusal shelf (record { v = n; dsn = dsn.now; mode = mode }) }
+{
+    let Some(set) = set_in(vol, dsn) else {
+        return Some(Refusal::NoSet);
+    };
+    if !fits_mode(set, mode) {
+        return Some(Refusal::WrongKind);
+    }
+    match kind_of(set) {
+        Kind::Unreadable(track) => Some(Refusal::Unreadable(track)),
+        _ => None,
+    }
+}
+
+// Why blocks can't be written to a data set, if there is a reason.
+pub(crate) fn write_refusal(vols: &[Vol], v: u8, dsn: &Dsn, mode: Mode) -> Option<Refusal>
+    requires units { (attached : List Attached) × AreIndexes attached vols.now }
+    requires order { AreInOrder vols.now }
+    ensures { (shelf : Shelf) → HasVolumes shelf vols.now → result
+        ≡ begin_refusal shelf (record { v = v; dsn = dsn.now; mode = mode }) }
+{
+    match volume_at(vols, v) {
+        Some(vol) => write_refusal_in(vol, dsn, mode),
+        None => Some(Refusal::NoVolume),
+    }
+}
+
+// The track at which the catalog of a volume can't be read; `None` where there is no catalog.
+pub(crate) fn unread_catalog(vols: &[Vol], v: u8) -> Option<u16>
+    ensures { (shelf : Shelf) → HasVolumes shelf vols.now
+        → IsUnreadCatalog result (catalog_on shelf v) }
+{
+    let vol = volume_at(vols, v)?;
+    if has_catalog(vol) { Some(0) } else { None }
+}
+
+// Whether one of its data sets holds the catalog.
+fn has_catalog(vol: &Vol) -> bool
+    ensures { result ≡ list_any (λ d. is_named catalog_name (Ok d)) vol.now.slots.items }
+{
+    vol.slots.iter().any(is_named_catalog)
+}
+
+// Whether a DSCB is the format 1 of the set that holds the catalog.
+fn is_named_catalog(dscb: &Dscb) -> bool
+    ensures { result ≡ is_named catalog_name (Ok dscb.now) }
+{
+    match dscb {
+        Dscb::F1(set) => is_catalog(&Dsn { bytes: set.name }),
+        _ => false,
+    }
+}

@@ -1,0 +1,33 @@
+//! What a machine makes of the answer of an operation.
+ghost use Rattle.std.specs.Prelude.{◌≡◌, false};
+ghost use Rattle.shelf_machine.specs.Reporting.{Reports};
+
+use vol_model::{MachErr, StoreErr};
+
+// Ends the soundness of a machine, and gives the error that it answers.
+pub(crate) fn fault(is_sound: &mut bool, error: MachErr) -> MachErr
+    ensures error { result ≡ error }
+    ensures sound { is_sound.new ≡ false }
+{
+    *is_sound = false;
+    error
+}
+
+// The answer of an operation: one that is done is counted, and a fault of the device ends the soundness of the machine.
+pub(crate) fn report(
+    is_sound: &mut bool,
+    done: &mut u64,
+    ran: Result<(), StoreErr>,
+) -> Result<(), MachErr>
+    ensures { Reports ran is_sound.old is_sound.new done.old done.new result }
+{
+    match ran {
+        Ok(()) => {
+            *done = done.saturating_add(1);
+            Ok(())
+        }
+        Err(StoreErr::Refused(refusal)) => Err(MachErr::Refused(refusal)),
+        Err(StoreErr::Memory) => Err(MachErr::Memory),
+        Err(StoreErr::Device) => Err(fault(is_sound, MachErr::Device)),
+    }
+}

@@ -1,0 +1,6 @@
+mod EventCases
+mod ShelfCases
+mod RowCases
+mod WriteCases
+mod CatalogCases
+mod DeviceCases

@@ -1,0 +1,3 @@
+pub mod Copying
+pub mod Items
+pub mod Steps

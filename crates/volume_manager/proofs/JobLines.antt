@@ -1,0 +1,356 @@
+-- No line of the listing of jobs is empty.
+use Rattle.std.proofs.Common.{ℕ, ◌<◌, ◌+◌, ◌++◌, Bool, true, false, List, [], ◌∷◌, length, arith, length-append}
+use Rattle.std.specs.Prelude.{codes, Option, Some, None, Result, Ok, Err, if◌then◌else◌, is_some}
+use Rattle.std.specs.Fmt.{decimal}
+use Rattle.std.specs.List.{AllByRecursion, flat_map, filter_map}
+use Rattle.std.specs.Map.{lookup}
+use Rattle.std.specs.Option.{option_map_or}
+use Rattle.ckd_image.specs.Device.{row_of}
+use Rattle.ebcdic_names.specs.Names.{shown}
+use Rattle.ebcdic_names.specs.declared.names.Dsn.{Dsn}
+use Rattle.ebcdic_names.specs.declared.names.Name8.{Name8}
+use Rattle.ebcdic_names.specs.declared.names.Serial.{Serial}
+use Rattle.jcl_forms.specs.declared.disposition.DdStatus.{DdStatus}
+use Rattle.jcl_forms.specs.declared.disposition.DdStatus.TheVariants as status
+use Rattle.job_deck.specs.declared.faults.JclErr.{JclErr}
+use Rattle.job_deck.specs.declared.job.Dd.{Dd}
+use Rattle.job_deck.specs.declared.job.DdSet.{DdSet}
+use Rattle.job_deck.specs.declared.job.DdWhat.{DdWhat}
+use Rattle.job_deck.specs.declared.job.DdWhat.TheVariants as what
+use Rattle.job_deck.specs.declared.job.Job.{Job}
+use Rattle.job_deck.specs.declared.job.Step.{Step}
+use Rattle.iehlist_util.specs.Items as lists
+use Rattle.iehlist_util.specs.Items.{Listing, extent_lines, iehlist_items, listed_sets, listed_on, set_lines, volume_listing}
+use Rattle.iehlist_util.specs.Lines.{attribute_words, extent_line, left_in, right_in, set_line, space_words, volume_line, word_and_number}
+use Rattle.iehlist_util.specs.Requests as list_requests
+use Rattle.iehlist_util.specs.declared.requests.ListVtoc.{ListVtoc}
+use Rattle.iehprogm_util.specs.Items as programs
+use Rattle.iehprogm_util.specs.Items.{iehprogm_items, data_set, is_unexpired, operation_word, request_item}
+use Rattle.iehprogm_util.specs.Requests as program_requests
+use Rattle.iehprogm_util.specs.declared.requests.Request.{Request}
+use Rattle.job_runner.specs.declared.dispositions.Deletion.{Deletion}
+use Rattle.job_runner.specs.declared.new_sets.NewSet.{NewSet}
+use Rattle.job_runner.specs.declared.programs.Program.{Program}
+use Rattle.job_runner.specs.declared.programs.Program.TheVariants as program
+use Rattle.job_runner.specs.DataSets.{Definitions, allocation, definitions, found_on, gives, is_mod, looked_for, new_set, new_with, not_there, old_set, operation_item, outcome_for, refuses, resolved, resolved_as, set_given, set_by, wanted, with_first}
+use Rattle.job_runner.specs.Dispositions.{deleted, deletion_for, dispositions}
+use Rattle.job_runner.specs.Jobs.{behind_definitions, body_work, ends_job, job_work, jobs_work, no_work, program_step, program_unless, step_body, step_body_of, step_in, step_items, steps_work}
+use Rattle.job_runner.specs.Lines.{code_digits, code_line, job_line, kind_words, name_text, step_line}
+use Rattle.job_runner.specs.Parts.{behind_items, framed, says}
+use Rattle.job_runner.specs.Programs.{program_items, program_named}
+use Rattle.util_steps.specs.Items.{items_along}
+use Rattle.util_syntax.specs.Items.{ItemView, fault, statement}
+use Rattle.util_syntax.specs.Lines.{card_number, next_word}
+use Rattle.util_syntax.specs.Listing.{item_line, jcl_line, named_line, object_text, outcome_text, syntax_line, syntax_words}
+use Rattle.util_syntax.specs.Program.{statements_in, sysin}
+use Rattle.util_syntax.specs.Step.{same_name}
+use Rattle.util_syntax.specs.declared.listing.Object.{Object}
+use Rattle.util_syntax.specs.declared.listing.Object.TheVariants as object
+use Rattle.util_syntax.specs.declared.listing.Outcome.{Outcome}
+use Rattle.util_syntax.specs.declared.listing.Outcome.TheVariants.{Expires, Refused}
+use Rattle.util_syntax.specs.declared.operands.SynErr.{SynErr}
+use Rattle.util_syntax.specs.declared.step.DdIn.{DdIn}
+use Rattle.util_syntax.specs.declared.step.StepIn.{StepIn}
+use Rattle.vol_model.specs.Did.{Did, answered}
+use Rattle.vol_model.specs.Events.{Item, after_operations, code_of, events_of}
+use Rattle.vol_model.specs.Reading.{set_info, volume_info}
+use Rattle.vol_model.specs.Shelf.{set_of}
+use Rattle.vol_model.specs.Writing.{did_apply, set_on}
+use Rattle.vol_model.specs.declared.answers.SetInfo.{SetInfo}
+use Rattle.vol_model.specs.declared.answers.VolumeInfo.{VolumeInfo}
+use Rattle.vol_model.specs.declared.contents.DataSet.{DataSet}
+use Rattle.vol_model.specs.declared.contents.Run.{Run}
+use Rattle.vol_model.specs.declared.contents.Shelf.{Shelf}
+use Rattle.vol_model.specs.declared.contents.Volume.{Volume}
+use Rattle.vol_model.specs.declared.refusals.Refusal.{Refusal}
+use Rattle.vol_model.specs.declared.refusals.Refusal.TheVariants.{NoSet, NoVolume}
+use Rattle.vol_model.specs.declared.requests.Op.TheVariants.{Scratch}
+use Rattle.vol_model.proofs.Stops.{HaveLines, have_items}
+
+-- a line has a byte
+abbrev IsSome : List ℕ → Type 0
+IsSome line = 0 < length line
+
+-- each line has one
+abbrev AreSome : List (List ℕ) → Type 0
+AreSome lines = AllByRecursion IsSome lines
+
+-- each line of each item has one
+abbrev AreLined : List Item → Type 0
+AreLined items = AllByRecursion (λ (item : Item). AreSome item.lines) items
+
+ended : (text : List ℕ) → IsSome (text ++ codes "\n")
+ended text = omega (arith, length-append text (codes "\n"))
+
+all_append : {X : Type 0} (P : X → Type 0) (xs ys : List X) → AllByRecursion P xs → AllByRecursion P ys → AllByRecursion P (xs ++ ys)
+all_append P [] ys first second = second
+all_append P (x ∷ xs) ys first second = (first.0, all_append P xs ys first.1 second)
+
+-- more lines
+more_lines : (xs ys : List (List ℕ)) → AreSome xs → AreSome ys → AreSome (xs ++ ys)
+more_lines xs ys first second = all_append IsSome xs ys first second
+
+-- more items
+more_items : (xs ys : List Item) → AreLined xs → AreLined ys → AreLined (xs ++ ys)
+more_items xs ys first second = all_append (λ (item : Item). AreSome item.lines) xs ys first second
+
+-- ---- lines
+
+item_some : (card : ℕ) (operation : List ℕ) (o : Object) (outcome : Outcome) → IsSome (item_line card operation o outcome)
+unfolding item_line
+item_some card operation o outcome = ended (card_number card ++ next_word operation ++ next_word (object_text o) ++ next_word (outcome_text outcome))
+
+syntax_some : (card : ℕ) (kind : SynErr) → IsSome (syntax_line card kind)
+unfolding syntax_line
+syntax_some card kind = ended (card_number card ++ next_word (codes "SYNTAX") ++ next_word (syntax_words kind))
+
+named_some : (card : ℕ) (word : List ℕ) (name : Name8) → IsSome (named_line card word name)
+unfolding named_line
+named_some card word name = ended (card_number card ++ next_word word ++ next_word (shown name.bytes))
+
+jcl_some : (card column : ℕ) (kind : List ℕ) → IsSome (jcl_line card column kind)
+unfolding jcl_line
+jcl_some card column kind = ended (card_number card ++ next_word (decimal column) ++ next_word (codes "JCL") ++ next_word kind)
+
+job_some : (name : Name8) → IsSome (job_line name)
+unfolding job_line
+job_some name = ended (codes "JOB " ++ name_text (Some name))
+
+step_some : (name : Option Name8) (pgm : Name8) → IsSome (step_line name pgm)
+unfolding step_line
+step_some name pgm = ended (codes "STEP " ++ name_text name ++ codes " " ++ shown pgm.bytes)
+
+code_some : (word : List ℕ) (name : Option Name8) (code : ℕ) → IsSome (code_line word name code)
+unfolding code_line
+code_some word name code = ended (word ++ codes " " ++ name_text name ++ codes " CODE " ++ code_digits code)
+
+volume_some : (info : VolumeInfo) → IsSome (volume_line info)
+unfolding volume_line
+volume_some info = ended (codes "VTOC" ++ next_word (shown info.serial.bytes) ++ next_word (row_of info.geometry.device).device_word
+    ++ word_and_number (codes "CYLS") info.geometry.cylinders ++ word_and_number (codes "FREE") info.free_tracks
+    ++ word_and_number (codes "RUNS") info.free_runs ++ word_and_number (codes "SLOTS") info.free_slots)
+
+set_some : (name : List ℕ) (info : SetInfo) → IsSome (set_line name info)
+unfolding set_line
+set_some name info = ended (left_in 44 (shown name) ++ attribute_words info ++ space_words info)
+
+extent_some : (number : ℕ) (run : Run) → IsSome (extent_line number run)
+unfolding extent_line
+extent_some number run = ended (codes "  EXTENT" ++ next_word (right_in 2 number) ++ codes " START" ++ next_word (right_in 5 run.start) ++ codes " LENGTH" ++ next_word (right_in 5 run.len))
+
+-- ---- utilities
+
+along : {X : Type 0} (item_of : Shelf → X → Item) → ((shelf : Shelf) (x : X) → AreSome (item_of shelf x).lines) → (shelf : Shelf) (xs : List X) → AreLined (items_along item_of shelf xs)
+along item_of each shelf [] = tt
+along item_of each shelf (x ∷ xs) = (each shelf x, along item_of each (after_operations shelf (item_of shelf x).operations) xs)
+
+request_lined : (date : List ℕ) (shelf : Shelf) (card : ℕ) (request : Request) → AreSome (request_item date shelf card request).lines
+unfolding request_item
+request_lined date shelf card request = (item_some card (operation_word request) (object.Name (data_set request)) _, tt)
+
+requested_lined : (date : List ℕ) (shelf : Shelf) (card : ℕ) (request : Option Request) → AreSome (programs.requested_item date shelf card request).lines
+requested_lined date shelf card None = (syntax_some card _, tt)
+requested_lined date shelf card (Some request) = request_lined date shelf card request
+
+program_statement : (date : List ℕ) (shelf : Shelf) (x : ItemView) → AreSome (programs.statement_item date shelf x).lines
+program_statement date shelf (fault card column kind) = (syntax_some card kind, tt)
+program_statement date shelf (statement s) = requested_lined date shelf s.card (program_requests.request_of s)
+
+programs_if : (date : List ℕ) (card : ℕ) (shelf : Shelf) (statements : Option (List ItemView)) → AreLined (programs.items_if date card shelf statements)
+programs_if date card shelf None = ((named_some card (codes "NO-DD") sysin, tt), tt)
+programs_if date card shelf (Some statements) = along (programs.statement_item date) (program_statement date) shelf statements
+
+iehprogm_lined : (step : StepIn) (shelf : Shelf) → AreLined (iehprogm_items step shelf)
+unfolding iehprogm_items
+iehprogm_lined step shelf = programs_if step.date step.card shelf (statements_in (lookup (same_name sysin) step.dds))
+
+extents_some : (number : ℕ) (runs : List Run) → AreSome (extent_lines number runs)
+extents_some number [] = tt
+extents_some number (run ∷ runs) = (extent_some number run, extents_some (number + 1) runs)
+
+set_lines_some : (format : Bool) (x : DataSet) → AreSome (set_lines format x)
+unfolding set_lines
+set_lines_some true x = (set_some x.name.bytes (set_info x), extents_some 1 x.extents)
+set_lines_some false x = (set_some x.name.bytes (set_info x), tt)
+
+sets_some : (format : Bool) (xs : List DataSet) → AreSome (flat_map (set_lines format) xs)
+sets_some format [] = tt
+sets_some format (x ∷ xs) = more_lines (set_lines format x) (flat_map (set_lines format) xs) (set_lines_some format x) (sets_some format xs)
+
+listed_if_some : (format : Bool) (found : Option DataSet) (others : Listing) → AreSome others.lines → AreSome (lists.listed_if format found others).lines
+listed_if_some format None others some = tt
+listed_if_some format (Some x) others some = more_lines (set_lines format x) others.lines (set_lines_some format x) some
+
+listed_some : (format : Bool) (volume : Volume) (dsns : List Dsn) → AreSome (listed_sets format volume dsns).lines
+unfolding listed_sets
+listed_some format volume [] = tt
+listed_some format volume (dsn ∷ dsns) = listed_if_some format (set_of dsn.bytes volume) (listed_sets format volume dsns) (listed_some format volume dsns)
+
+listed_on_some : (format : Bool) (volume : Volume) (names : Option (List Dsn)) → AreSome (listed_on format volume names).lines
+listed_on_some format volume None = sets_some format volume.sets
+listed_on_some format volume (Some dsns) = listed_some format volume dsns
+
+listing_lined : (card : ℕ) (serial : Serial) (l : Listing) → AreSome l.lines → AreSome (lists.listing_item card serial l).lines
+listing_lined card serial l some = more_lines l.lines (item_line card (codes "LISTVTOC") (object.Volume serial) l.outcome ∷ []) some (item_some card (codes "LISTVTOC") (object.Volume serial) l.outcome, tt)
+
+vtoc_lined : (card : ℕ) (request : ListVtoc) (found : Option Volume) → AreSome (lists.vtoc_item card request found).lines
+vtoc_lined card request None = listing_lined card (lists.named_serial request.volume) (record { lines = []; outcome = Refused NoVolume }) tt
+vtoc_lined card request (Some volume) = listing_lined card volume.serial (volume_listing request volume) (volume_some (volume_info volume), listed_on_some request.format volume request.names)
+
+list_requested : (shelf : Shelf) (card : ℕ) (request : Option ListVtoc) → AreSome (lists.requested_item shelf card request).lines
+list_requested shelf card None = (syntax_some card _, tt)
+list_requested shelf card (Some request) = vtoc_lined card request (lists.volume_for shelf request)
+
+list_statement : (shelf : Shelf) (x : ItemView) → AreSome (lists.statement_item shelf x).lines
+list_statement shelf (fault card column kind) = (syntax_some card kind, tt)
+list_statement shelf (statement s) = list_requested shelf s.card (list_requests.request_of s)
+
+lists_if : (card : ℕ) (shelf : Shelf) (statements : Option (List ItemView)) → AreLined (lists.items_if card shelf statements)
+lists_if card shelf None = ((named_some card (codes "NO-DD") sysin, tt), tt)
+lists_if card shelf (Some statements) = along lists.statement_item list_statement shelf statements
+
+iehlist_lined : (step : StepIn) (shelf : Shelf) → AreLined (iehlist_items step shelf)
+unfolding iehlist_items
+iehlist_lined step shelf = lists_if step.card shelf (statements_in (lookup (same_name sysin) step.dds))
+
+program_lined : (p : Program) (step : StepIn) (shelf : Shelf) → AreLined (program_items p step shelf)
+program_lined program.Iefbr14 step shelf = tt
+program_lined program.Iehprogm step shelf = iehprogm_lined step shelf
+program_lined program.Iehlist step shelf = iehlist_lined step shelf
+
+-- ---- DDs
+
+operation_lined : (card : ℕ) (word : List ℕ) (dsn : Dsn) (refused : ℕ) (did : Did (Unit {0}) Refusal) → AreSome (operation_item card word dsn refused did).lines
+operation_lined card word dsn refused did = (item_some card word (object.Name dsn) (outcome_for did.answer), tt)
+
+new_with_lined : (date : List ℕ) (card : ℕ) (set : DdSet) (shelf : Shelf) (w : Result NewSet Refusal) → AreLined (new_with date card set shelf w).items
+new_with_lined date card set shelf (Err refusal) = (operation_lined card (codes "ALLOCATE") set.dsn 12 (answered (Err refusal)), tt)
+new_with_lined date card set shelf (Ok w) = (operation_lined card (codes "ALLOCATE") set.dsn 12 (did_apply shelf (allocation date set w)), tt)
+
+new_lined : (date : List ℕ) (card : ℕ) (set : DdSet) (shelf : Shelf) → AreLined (new_set date card set shelf).items
+unfolding new_set
+new_lined date card set shelf = new_with_lined date card set shelf (wanted set shelf)
+
+absent_lined : (date : List ℕ) (card : ℕ) (set : DdSet) (shelf : Shelf) → AreLined (not_there date card set shelf).items
+absent_lined date card set shelf = by_mod (is_mod set.status)
+  where
+    by_mod : (made : Bool) → AreLined (if made then new_set date card set shelf else refuses (codes "FIND") card set.dsn NoSet).items
+    by_mod true = new_lined date card set shelf
+    by_mod false = (operation_lined card (codes "FIND") set.dsn 12 (answered (Err NoSet)), tt)
+
+found_lined : (date : List ℕ) (card : ℕ) (set : DdSet) (shelf : Shelf) (v : Result ℕ Refusal) → AreLined (found_on date card set shelf v).items
+found_lined date card set shelf (Err refusal) = (operation_lined card (codes "FIND") set.dsn 12 (answered (Err refusal)), tt)
+found_lined date card set shelf (Ok v) = by_set (is_some (set_on shelf v set.dsn.bytes))
+  where
+    by_set : (there : Bool) → AreLined (if there then gives (set_given set v) else not_there date card set shelf).items
+    by_set true = tt
+    by_set false = absent_lined date card set shelf
+
+old_lined : (date : List ℕ) (card : ℕ) (set : DdSet) (shelf : Shelf) → AreLined (old_set date card set shelf).items
+unfolding old_set
+old_lined date card set shelf = found_lined date card set shelf (looked_for set shelf)
+
+set_lined : (date : List ℕ) (card : ℕ) (set : DdSet) (shelf : Shelf) (s : DdStatus) → AreLined (set_by date card set shelf s).items
+set_lined date card set shelf status.New = new_lined date card set shelf
+set_lined date card set shelf status.Old = old_lined date card set shelf
+set_lined date card set shelf status.Shr = old_lined date card set shelf
+set_lined date card set shelf status.Mod = old_lined date card set shelf
+
+as_lined : (date : List ℕ) (card : ℕ) (shelf : Shelf) (w : DdWhat) → AreLined (resolved_as date card shelf w).items
+as_lined date card shelf what.Dummy = tt
+as_lined date card shelf what.Sysout = tt
+as_lined date card shelf (what.Cards cards) = tt
+as_lined date card shelf (what.Set set) = set_lined date card set shelf set.status
+
+dd_lined : (date : List ℕ) (dd : Dd) (shelf : Shelf) → AreLined (resolved date dd shelf).items
+unfolding resolved
+dd_lined date dd shelf = as_lined date dd.card shelf dd.what
+
+first_lined : (dd : Dd) (items : List Item) (found : Option DdIn) (rest : Definitions) → AreLined items → AreLined rest.items → AreLined (with_first dd items found rest).items
+first_lined dd items None rest first others = first
+first_lined dd items (Some given) rest first others = more_items items rest.items first others
+
+dds_lined : (date : List ℕ) (dds : List Dd) (shelf : Shelf) → AreLined (definitions date dds shelf).items
+unfolding definitions
+dds_lined date [] shelf = tt
+dds_lined date (dd ∷ dds) shelf =
+    let first = resolved date dd shelf in
+    let behind = behind_items shelf first.items in
+    first_lined dd first.items first.dd (definitions date dds behind) (dd_lined date dd shelf) (dds_lined date dds behind)
+
+-- ---- dispositions
+
+deleted_lined : (date : List ℕ) (shelf : Shelf) (d : Deletion) → AreSome (deleted date shelf d).lines
+unfolding deleted
+deleted_lined date shelf d = by_date (option_map_or (is_unexpired date) (set_on shelf d.v d.dsn.bytes) false)
+  where
+    by_date : (kept : Bool) → AreSome (if kept then says 8 (item_line d.card (codes "DELETE") (object.Name d.dsn) Expires) else operation_item d.card (codes "DELETE") d.dsn 8 (did_apply shelf (Scratch d.v d.dsn))).lines
+    by_date true = (item_some d.card (codes "DELETE") (object.Name d.dsn) Expires, tt)
+    by_date false = operation_lined d.card (codes "DELETE") d.dsn 8 (did_apply shelf (Scratch d.v d.dsn))
+
+dispositions_lined : (date : List ℕ) (dds : List (Dd × DdIn)) (shelf : Shelf) → AreLined (dispositions date dds shelf)
+unfolding dispositions
+dispositions_lined date dds shelf = along (deleted date) (deleted_lined date) shelf (filter_map deletion_for dds)
+
+-- ---- steps and jobs
+
+framed_lined : (first : List ℕ) (last : ℕ → List ℕ) (items : List Item) → IsSome first → ((code : ℕ) → IsSome (last code)) → AreLined items → AreLined (framed first last items)
+framed_lined first last items begins ends between = ((begins, tt), more_items items (says 0 (last (code_of items)) ∷ []) between ((ends (code_of items), tt), tt))
+
+unless_lined : (refused : Bool) (p : Program) (step : StepIn) (shelf : Shelf) → AreLined (program_unless refused p step shelf)
+unless_lined true p step shelf = tt
+unless_lined false p step shelf = program_lined p step shelf
+
+behind_lined : (date : List ℕ) (p : Program) (step : Step) (defs : Definitions) (shelf : Shelf) → AreLined (behind_definitions date p step defs shelf)
+unfolding behind_definitions
+behind_lined date p step defs shelf =
+    let items = program_unless defs.is_refused p (step_in date step defs.dds) shelf in
+    more_items items (dispositions date defs.dds (behind_items shelf items)) (unless_lined defs.is_refused p (step_in date step defs.dds) shelf) (dispositions_lined date defs.dds (behind_items shelf items))
+
+program_step_lined : (date : List ℕ) (p : Program) (step : Step) (shelf : Shelf) → AreLined (program_step date p step shelf)
+unfolding program_step
+program_step_lined date p step shelf =
+    let defs = definitions date step.dds shelf in
+    more_items defs.items (behind_definitions date p step defs (behind_items shelf defs.items)) (dds_lined date step.dds shelf) (behind_lined date p step defs (behind_items shelf defs.items))
+
+body_of_lined : (date : List ℕ) (step : Step) (shelf : Shelf) (p : Option Program) → AreLined (step_body_of date step shelf p)
+body_of_lined date step shelf None = ((named_some step.card (codes "NO-PROGRAM") step.pgm, tt), tt)
+body_of_lined date step shelf (Some p) = program_step_lined date p step shelf
+
+step_body_lined : (date : List ℕ) (step : Step) (shelf : Shelf) → AreLined (step_body date step shelf)
+unfolding step_body
+step_body_lined date step shelf = body_of_lined date step shelf (program_named step.pgm)
+
+step_lined : (date : List ℕ) (step : Step) (shelf : Shelf) → AreLined (step_items date step shelf)
+unfolding step_items
+step_lined date step shelf = framed_lined (step_line step.name step.pgm) (code_line (codes "STEP") step.name) (step_body date step shelf) (step_some step.name step.pgm) (code_some (codes "STEP") step.name) (step_body_lined date step shelf)
+
+steps_lined : (date : List ℕ) (steps : List Step) (shelf : Shelf) → AreLined (steps_work date steps shelf).items
+unfolding steps_work
+steps_lined date [] shelf = tt
+steps_lined date (step ∷ steps) shelf =
+    let first = step_items date step shelf in
+    let behind = behind_items shelf first in
+    let rest : (last : Bool) → AreLined (if last then no_work else steps_work date steps behind).items = λ last.
+    elim last as (λ b. AreLined (if b then no_work else steps_work date steps behind).items) [ true ↦ tt | false ↦ steps_lined date steps behind ] in
+    more_items first _ (step_lined date step shelf) (rest (ends_job date step shelf))
+
+body_lined : (date : List ℕ) (steps : Result (List Step) JclErr) (shelf : Shelf) → AreLined (body_work date steps shelf).items
+body_lined date (Ok steps) shelf = steps_lined date steps shelf
+body_lined date (Err e) shelf = ((jcl_some e.card e.column (kind_words e.kind), tt), tt)
+
+job_lined : (date : List ℕ) (job : Job) (shelf : Shelf) → AreLined (job_work date job shelf).items
+unfolding job_work
+job_lined date job shelf = framed_lined (job_line job.name) (code_line (codes "JOB") (Some job.name)) (body_work date job.steps shelf).items (job_some job.name) (code_some (codes "JOB") (Some job.name)) (body_lined date job.steps shelf)
+
+jobs_lined : (date : List ℕ) (jobs : List Job) (shelf : Shelf) → AreLined (jobs_work date jobs shelf).items
+unfolding jobs_work
+jobs_lined date [] shelf = tt
+jobs_lined date (job ∷ jobs) shelf =
+    let first = (job_work date job shelf).items in
+    let behind = behind_items shelf first in
+    more_items first (jobs_work date jobs behind).items (job_lined date job shelf) (jobs_lined date jobs behind)
+
+-- no line of jobs is empty
+pub jobs_have_lines : (date : List ℕ) (jobs : List Job) (shelf : Shelf) → HaveLines (events_of (jobs_work date jobs shelf).items)
+jobs_have_lines date jobs shelf = have_items (jobs_work date jobs shelf).items (jobs_lined date jobs shelf)

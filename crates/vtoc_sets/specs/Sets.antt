@@ -1,0 +1,47 @@
+-- The data sets in an index of a VTOC, and the extents in their DSCBs (System Control Blocks GC28-6628).
+use Rattle.std.specs.Prelude.{◌≡◌, ℕ, ◌&&◌, Bool, true, List, [], ◌++◌, length, map, nat_lt, sum_by, if◌then◌else◌, Option, Some, None, Ok}
+use Rattle.std.specs.Str.{bytes_eq}
+use Rattle.dscb_codec.specs.declared.Dscb.{Dscb}
+use Rattle.dscb_codec.specs.declared.Dscb.TheVariants as formats
+use Rattle.dscb_codec.specs.declared.F1.{F1}
+use Rattle.dscb_codec.specs.declared.F3.{F3}
+use Rattle.pack_spec.specs.Rules.{counted_extents, has_extents, is_f3}
+use Rattle.pack_spec.specs.Slots.{slots_of_vtoc}
+use Rattle.pack_spec.specs.Volume.{volume_by}
+use Rattle.pack_spec.specs.Vtoc.{run_of_extent}
+use Rattle.vol_model.specs.declared.contents.DataSet.{DataSet}
+use Rattle.vol_model.specs.declared.contents.Run.{Run}
+use Rattle.vol_model.specs.declared.contents.Volume.{Volume}
+use Rattle.vtoc_index.specs.Index.{IsMounted, address_in}
+use Rattle.vtoc_index.specs.declared.vol.Vol.{Vol}
+
+-- a slot is the format 3 to which the pointer of a format 1 leads
+abbrev pub leads_to : Vol → F1 → ℕ → Dscb → Bool
+leads_to v f slot d = bytes_eq (address_in v slot) f.pointer && is_f3 (Ok d)
+
+-- the thirteen extents of a format 3, if there is one
+abbrev pub rows_of : Option F3 → List (List ℕ)
+rows_of None = []
+rows_of (Some f) = f.front ++ f.back
+
+-- the runs that a data set counts, in an image by its index
+abbrev pub extents_in : List ℕ → Vol → F1 → List Run
+extents_in image v f = map (run_of_extent v.geometry) (counted_extents (slots_of_vtoc image v.geometry v.vtoc) f)
+
+-- A format 1 of a mounted image, whose extents are runs of its tracks.
+pub record HasSet (image : List ℕ) (v : Vol) (f : F1) : Type 0 where
+  pub mounted : IsMounted image v
+  pub extents : has_extents v.geometry (slots_of_vtoc image v.geometry v.vtoc) f ≡ true
+
+-- the volume of an image, by its index
+abbrev pub volume_in : List ℕ → Vol → Volume
+volume_in image v = volume_by image v.geometry v.vtoc
+
+-- the slots that these data sets take: one each, and one more for more than three extents
+abbrev pub slots_taken : List DataSet → ℕ
+slots_taken sets = sum_by (λ (x : DataSet). if nat_lt 3 (length x.extents) then 2 else 1) sets
+
+-- the slots that a data set takes with its format 1; another DSCB takes none for itself
+abbrev pub TakesSlots : List ℕ → Vol → Dscb → ℕ → Type 0
+TakesSlots image v (formats.F1 f) n = HasSet image v f → n ≡ (if nat_lt 3 (length (extents_in image v f)) then 2 else 1)
+TakesSlots image v d n = n ≡ 0
