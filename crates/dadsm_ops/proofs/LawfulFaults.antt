@@ -1,5 +1,5 @@
 -- A lawful volume breaks no rule as a whole, and neither does the one after a Scratch.
-use Rattle.std.proofs.Common.{◌≡◌, ℕ, ◌≤◌, Bool, true, false, cond, List, [], ◌∷◌, ◌++◌, filter, map, nat_le, nat_lt, refl, sym, ap, ap₂, ◌∙◌, arith}
+use Rattle.std.proofs.Common.{◌≡◌, ℕ, ◌≤◌, Bool, false, cond, List, [], ◌∷◌, ◌++◌, filter, map, nat_le, nat_lt, refl, ap, ap₂, ◌∙◌, arith}
 use Rattle.std.specs.Prelude.{Result, Ok}
 use Rattle.std.specs.List.{count_by, range_with_len}
 use Rattle.std.proofs.lemmas.Bool.Decides.{nat_tests}
@@ -11,7 +11,6 @@ use Rattle.pack_spec.specs.Owned.{is_owned_twice, overlap_faults, room_faults, v
 use Rattle.vol_model.specs.declared.contents.Shelf.{Shelf}
 use Rattle.vol_model.specs.declared.contents.Volume.{Volume}
 use Rattle.vol_model.specs.declared.refusals.Refusal.{Refusal}
-use Rattle.vol_model.specs.declared.requests.Op.TheVariants.{Scratch}
 use Rattle.vol_model.specs.Lawful.{IsLawful, IsLawfulVolume, OwnsOnce, owned_runs}
 use Rattle.vol_model.specs.Shelf.{scratch_on, step, step_on, with_volume}
 use Rattle.vol_model.specs.Slots.{slots_needed}

@@ -14,7 +14,7 @@ use Rattle.vol_model.specs.declared.contents.Volume.{Volume}
 use Rattle.vol_model.specs.declared.refusals.Refusal.{Refusal}
 use Rattle.vtoc_index.specs.Index.{IsMounted}
 use Rattle.vtoc_index.specs.declared.vol.Vol.{Vol}
-use Rattle.dadsm_ops.specs.Operations.{ChangesVtoc, DoesOperation, IsLeftInOperation, Operates, image_named}
+use Rattle.dadsm_ops.specs.Operations.{ChangesVtoc, IsLeftInOperation, Operates, image_named}
 
 -- the files as before
 pub unchanged : (name : List ℕ) (g : Geometry) (vtoc : Run) (before after : List File) → after ≡ before → ChangesVtoc name g vtoc before after

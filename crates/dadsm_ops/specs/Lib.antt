@@ -1,3 +1,4 @@
+pub mod Allocating
 pub mod Naming
 pub mod Operations
 pub mod Scratching

@@ -1,9 +1,13 @@
 //! The operations on the data sets of a volume, each in the order of writes that a stop leaves undone or done.
 #![tactic(auto)]
 
+mod allocating;
 mod naming;
+mod new_set;
+mod planning;
 mod scratching;
 mod through;
 
+pub use allocating::allocate;
 pub use naming::rename;
 pub use scratching::scratch;

@@ -80,7 +80,7 @@ part_alike y z k s t alike is_s is_t none = ⊎_elim
     (alike.each k s t is_s is_t)
 
 -- where a format 3 is used, its address is pointed at
-used_pointed : (at : ℕ → List ℕ) (z : List VtocSlot) (ds : List Dscb) (t : VtocSlot) → AreHeld at z ds → is_f3 t.content ≡ true → is_used z t ≡ is_pointed ds t.address
+pub used_pointed : (at : ℕ → List ℕ) (z : List VtocSlot) (ds : List Dscb) (t : VtocSlot) → AreHeld at z ds → is_f3 t.content ≡ true → is_used z t ≡ is_pointed ds t.address
 used_pointed at z ds t held third =
     let leads : Result Dscb DscbErr → Bool = λ c. leads_to c t in
     by_map z ds (held_tests at leads z ds held)

@@ -117,7 +117,7 @@ found_at {X = X} p (y ∷ xs) x is = by_test (p y) refl is (λ more. found_at p 
     by_test false test found more = let rest = more found in (suc rest.0, rest.1, rest.2)
 
 -- a data set that counts its pointer has more than three extents
-many_extents : (image : List ℕ) (v : Vol) → IsMounted image v → (f : F1) → IsSetOf (slots_by image v) f → is_chained f ≡ true → nat_lt 3 (length (counted_extents (slots_by image v) f)) ≡ true
+pub many_extents : (image : List ℕ) (v : Vol) → IsMounted image v → (f : F1) → IsSetOf (slots_by image v) f → is_chained f ≡ true → nat_lt 3 (length (counted_extents (slots_by image v) f)) ≡ true
 unfolding counted_extents
 many_extents image v mounted f set chained = by_third (format_3_of slots f) refl (chain_found v.geometry slots mounted.lawful f set chained)
   where
@@ -154,7 +154,7 @@ none_here h n (y ∷ xs) (suc i) x none is =
     let next : n + suc i ≡ n + 1 + i = omega arith in
     ap (λ k. h (k, x)) next ∙ none_here h (n + 1) xs i x (cons_option-none (h (n, y)) (filter_map h (enumerate_from (n + 1) xs)) none).1 is
 
-four_alone : (g : Geometry) (slots : List VtocSlot) (k : ℕ) (s : VtocSlot) → slots_faults g slots ≡ [] → slice_get slots (suc k) ≡ Some s → is_f4 s.content ≡ false
+pub four_alone : (g : Geometry) (slots : List VtocSlot) (k : ℕ) (s : VtocSlot) → slots_faults g slots ≡ [] → slice_get slots (suc k) ≡ Some s → is_f4 s.content ≡ false
 unfolding slot_faults slot_fault
 four_alone g slots k s none is =
     let e : 0 + suc k ≡ suc k = omega arith in
@@ -174,7 +174,7 @@ four_alone g slots k s none is =
     by_content (Err x) e = refl
 
 -- the data sets of slots are those of the DSCBs that these hold
-sets_held : (slots : List VtocSlot) (ds : List Dscb) → AreDscbs ds slots → filter_map (λ (s : VtocSlot). set_in s.content) slots ≡ sets_in ds
+pub sets_held : (slots : List VtocSlot) (ds : List Dscb) → AreDscbs ds slots → filter_map (λ (s : VtocSlot). set_in s.content) slots ≡ sets_in ds
 sets_held [] [] are = refl
 sets_held [] (d ∷ ds) are = absurd cc
 sets_held (s ∷ slots) [] are = absurd cc
@@ -185,7 +185,7 @@ sets_held (s ∷ slots) (d ∷ ds) are =
     ∙ ap (cons_option (set_in (Ok d))) (sets_held slots ds rest)
 
 -- a set that stands in the list of sets stands in a slot
-set_stands : (slots : List VtocSlot) (i : ℕ) (f : F1) → slice_get (filter_map (λ (s : VtocSlot). set_in s.content) slots) i ≡ Some f → IsSetOf slots f
+pub set_stands : (slots : List VtocSlot) (i : ℕ) (f : F1) → slice_get (filter_map (λ (s : VtocSlot). set_in s.content) slots) i ≡ Some f → IsSetOf slots f
 set_stands [] i f is = cc
 set_stands (s ∷ slots) i f is = by_content s.content refl i is (λ j more. set_stands slots j f more)
   where
@@ -202,7 +202,7 @@ set_stands (s ∷ slots) i f is = by_content s.content refl i is (λ j more. set
     by_content (Err e) held i there more = later (more i there)
 
 -- more pass a test that each item passes which passes another
-count_weaker : {X Y : Type 0} (p : X → Bool) (q : Y → Bool) (f : X → Y) (xs : List X) → ((i : ℕ) (x : X) → slice_get xs i ≡ Some x → p x ≡ true → q (f x) ≡ true) → count_by p xs ≤ count_by q (map f xs)
+pub count_weaker : {X Y : Type 0} (p : X → Bool) (q : Y → Bool) (f : X → Y) (xs : List X) → ((i : ℕ) (x : X) → slice_get xs i ≡ Some x → p x ≡ true → q (f x) ≡ true) → count_by p xs ≤ count_by q (map f xs)
 count_weaker p q f [] each = omega arith
 count_weaker p q f (x ∷ xs) each =
     let rest = count_weaker p q f xs (λ i y is. each (suc i) y is) in

@@ -12,7 +12,7 @@ use Rattle.job_deck.specs.Statements.{statement, name_on, blank_name, name_or_bl
 use Rattle.job_deck.specs.Pieces.{balance_fault, pieces, continuation_faults}
 use Rattle.job_deck.specs.ExecOperands.{program_of}
 use Rattle.job_deck.specs.DdOperands.{dd_form_of, set_of}
-use Rattle.job_deck.specs.Taken.{new_set_faults}
+use Rattle.job_deck.specs.Taken.{new_catalog_faults}
 use Rattle.job_deck.specs.declared.deck.DeckCard.{DeckCard}
 use Rattle.job_deck.specs.declared.deck.Role.{Role}
 use Rattle.job_deck.specs.declared.deck.Role.TheVariants as role
@@ -115,7 +115,7 @@ unfoldable pub dd_of : List ℕ → List Dd → DeckCard → List DeckCard → R
 dd_of date earlier first others =
     let s = statement_on first others in
     dd_with s (cards_behind others)
-    (with_first_fault (earliest None (duplicate_faults earlier s (name_of s.name) ++ name_faults true s ++ new_set_faults (pieces s.operands))) (dd_form_of date s.operands))
+    (with_first_fault (earliest None (duplicate_faults earlier s (name_of s.name) ++ name_faults true s ++ new_catalog_faults (pieces s.operands))) (dd_form_of date s.operands))
 
 -- the DDs of a step with what a further statement adds
 abbrev pub with_statement : List ℕ → List Dd → DeckCard → List DeckCard → Role → Result (List Dd) JclErr

@@ -1,4 +1,4 @@
--- What a DD takes so far: whole data sets that are there, which the step keeps or scratches.
+-- What a DD takes so far: whole data sets without a directory, which the step keeps or scratches, and no new catalog.
 use Rattle.std.specs.Prelude.{ℕ, ◌==◌, Bool, false, true, ◌&&◌, if◌then◌else◌, List, [], ◌∷◌, codes, find, Option, Some, None, option_and_then}
 use Rattle.std.specs.List.{list_any}
 use Rattle.std.specs.Option.{option_map_or}
@@ -54,13 +54,14 @@ has_no_directory space = space.dir == 0
 unfoldable pub plain_space_of : List ℕ → Option Space
 plain_space_of text = taken has_no_directory (space_of text)
 
--- the key is DSN
-abbrev pub is_set_name : Option (List Mark × List Mark) → Bool
-is_set_name None = false
-is_set_name (Some parts) = is_either (codes "DSN") (codes "DSNAME") (text_of parts.0)
+-- DSN=SYSCTLG
+abbrev pub is_catalog_name : Option (List Mark × List Mark) → Bool
+is_catalog_name None = false
+is_catalog_name (Some parts) =
+    is_either (codes "DSN") (codes "DSNAME") (text_of parts.0) && is_text (codes "SYSCTLG") (text_of parts.1)
 
-abbrev pub names_set : Piece → Bool
-names_set piece = is_set_name (keyed piece.text)
+abbrev pub names_catalog : Piece → Bool
+names_catalog piece = is_catalog_name (keyed piece.text)
 
 -- of a set that is there already
 abbrev pub is_old : Option (DdStatus × DdAfter) → Bool
@@ -78,8 +79,8 @@ is_old_disposition (Some parts) = is_text (codes "DISP") (text_of parts.0) && is
 abbrev pub asks_for_old : Piece → Bool
 asks_for_old piece = is_old_disposition (keyed piece.text)
 
--- the fault of operands that may make a data set stands at its name
-unfoldable pub new_set_faults : List Piece → List JclErr
-new_set_faults pieces =
+-- the fault of operands that may make a catalog stands at its name
+unfoldable pub new_catalog_faults : List Piece → List JclErr
+new_catalog_faults pieces =
     if list_any asks_for_old pieces then []
-    else option_map_or (λ piece. fault_at piece.place BadOperand ∷ []) (find names_set pieces) []
+    else option_map_or (λ piece. fault_at piece.place BadOperand ∷ []) (find names_catalog pieces) []

@@ -20,7 +20,7 @@ use crate::statements::{
     Operation, Statement, add_name_fault, blank_name, column_of, name_on, name_or_blank,
     operation_fault, statement_of,
 };
-use crate::taken::add_new_set_fault;
+use crate::taken::add_new_catalog_fault;
 use card_text::{Card, Numbered, name_of};
 use ebcdic_names::Name8;
 use std::alloc::{AllocError, Global};
@@ -272,7 +272,7 @@ fn dd_of(
         name_of(statement.name.as_slice()),
     )?;
     add_name_fault(&mut faults, true, &statement)?;
-    add_new_set_fault(alloc, &mut faults, &pieces(alloc, &statement.operands)?)?;
+    add_new_catalog_fault(alloc, &mut faults, &pieces(alloc, &statement.operands)?)?;
     let form = with_first_fault(&faults, dd_form_of(alloc, date, &statement.operands)?);
     dd_with(alloc, &statement, behind, form)
 }

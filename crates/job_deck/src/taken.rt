@@ -1,10 +1,10 @@
-//! What a DD takes so far: whole data sets that are there, which the step keeps or scratches.
+//! What a DD takes so far: whole data sets without a directory, which the step keeps or scratches, and no new catalog.
 ghost use Rattle.std.specs.Prelude.{◌≡◌, ◌++◌, [], ◌∷◌, find, option_map, IfOk, OnOk};
 ghost use Rattle.std.specs.List.{list_any};
 ghost use Rattle.std.specs.Option.{option_map_or};
 ghost use Rattle.card_text.specs.Operands.{keyed};
 ghost use Rattle.job_deck.specs.Faults.{fault_at};
-ghost use Rattle.job_deck.specs.Taken.{is_whole, whole_set_of, leaves_catalog, plain_disposition_of, has_no_directory, plain_space_of, is_set_name, names_set, is_old, is_old_disposition, asks_for_old, new_set_faults};
+ghost use Rattle.job_deck.specs.Taken.{is_whole, whole_set_of, leaves_catalog, plain_disposition_of, has_no_directory, plain_space_of, is_catalog_name, names_catalog, is_old, is_old_disposition, asks_for_old, new_catalog_faults};
 ghost use Rattle.job_deck.specs.declared.faults.JclKind.TheVariants.{BadOperand};
 
 use crate::faults::{JclErr, JclKind, fault_at};
@@ -58,15 +58,19 @@ pub fn plain_space_of(text: &[u8]) -> Option<Space>
     if space.dir == 0 { Some(space) } else { None }
 }
 
-// Whether an operand has the key DSN.
-fn names_set(alloc: Global, piece: &Piece) -> Result<bool, AllocError>
-    ensures { IfOk result (λ b. b ≡ names_set piece.now) }
+// Whether an operand is DSN=SYSCTLG.
+fn names_catalog(alloc: Global, piece: &Piece) -> Result<bool, AllocError>
+    ensures { IfOk result (λ b. b ≡ names_catalog piece.now) }
 {
-    let Some((key, _)) = keyed(piece.text.as_slice()) else {
+    let Some((key, value)) = keyed(piece.text.as_slice()) else {
         return Ok(false);
     };
     let key = text_of(alloc, key)?;
-    Ok(is_either(b"DSN".as_slice(), b"DSNAME".as_slice(), key.as_slice()))
+    let value = text_of(alloc, value)?;
+    Ok(
+        is_either(b"DSN".as_slice(), b"DSNAME".as_slice(), key.as_slice())
+            && value.as_slice() == b"SYSCTLG".as_slice(),
+    )
 }
 
 // Whether a disposition is that of a set that is there already.
@@ -103,31 +107,31 @@ fn has_old(alloc: Global, pieces: &[Piece]) -> Result<bool, AllocError>
     Ok(false)
 }
 
-// Where the first operand begins that has the key DSN.
-fn set_place(alloc: Global, pieces: &[Piece]) -> Result<Option<CardColumn>, AllocError>
-    ensures { IfOk result (λ place. place ≡ option_map (λ piece. piece.place) (find names_set pieces.now)) }
+// Where the first operand begins that is DSN=SYSCTLG.
+fn catalog_place(alloc: Global, pieces: &[Piece]) -> Result<Option<CardColumn>, AllocError>
+    ensures { IfOk result (λ place. place ≡ option_map (λ piece. piece.place) (find names_catalog pieces.now)) }
 {
     for piece in pieces {
-        if names_set(alloc, piece)? {
+        if names_catalog(alloc, piece)? {
             return Ok(Some(piece.place));
         }
     }
     Ok(None)
 }
 
-// Adds the fault of operands that may make a data set, at its name.
-#[tactic(auto, unfolding(crate::specs::Taken::new_set_faults))]
-pub fn add_new_set_fault(
+// Adds the fault of operands that may make a catalog, at the name.
+#[tactic(auto, unfolding(crate::specs::Taken::new_catalog_faults))]
+pub fn add_new_catalog_fault(
     alloc: Global,
     faults: &mut Vec<JclErr>,
     pieces: &[Piece],
 ) -> Result<(), AllocError>
-    ensures { OnOk result (faults.new.items ≡ faults.old.items ++ new_set_faults pieces.now) }
+    ensures { OnOk result (faults.new.items ≡ faults.old.items ++ new_catalog_faults pieces.now) }
 {
     if has_old(alloc, pieces)? {
         return Ok(());
     }
-    if let Some(place) = set_place(alloc, pieces)? {
+    if let Some(place) = catalog_place(alloc, pieces)? {
         faults.push(fault_at(place, JclKind::BadOperand))?;
     }
     Ok(())

@@ -125,13 +125,13 @@ fn faults_stand_at_their_columns(rt: HostRuntime) -> Result<(), Fail> {
             JclKind::BadOperand,
         ),
         (
-            "//J1 JOB\n//S1 EXEC PGM=A\n//D1 DD DSN=A,UNIT=(",
+            "//J1 JOB\n//S1 EXEC PGM=A\n//D1 DD DSN=SYSCTLG,UNIT=(",
             3,
             9,
             JclKind::BadOperand,
         ),
         (
-            "//J1 JOB\n//S1 EXEC PGM=A\n//D1 DD DISP=MOD,DSNAME=A",
+            "//J1 JOB\n//S1 EXEC PGM=A\n//D1 DD DISP=MOD,DSNAME=SYSCTLG",
             3,
             18,
             JclKind::BadOperand,
@@ -144,11 +144,11 @@ fn faults_stand_at_their_columns(rt: HostRuntime) -> Result<(), Fail> {
     Ok(())
 }
 
-const LISTED_SET: &str = "//J1 JOB
+const GENERATED_SET: &str = "//J1 JOB
 //S1 EXEC PGM=IEBGENER
 //SYSPRINT DD SYSOUT=A
 //SYSIN DD DUMMY
-//SYSUT2 DD DSN=TEST.CARDS,DISP=(OLD,KEEP),VOL=SER=WORK01,
+//SYSUT2 DD DSN=TEST.CARDS,DISP=(NEW,KEEP),VOL=SER=WORK01,
 //             UNIT=2314,SPACE=(TRK,(2,1)),
 //             DCB=(RECFM=FB,LRECL=80,BLKSIZE=800)
 //SYSUT1 DD *
@@ -166,7 +166,7 @@ const TWO_JOBS: &str = "//J1 JOB
 //S2 EXEC PGM=A
 //J2 JOB
 //S1 EXEC PGM=IEFBR14,PARM='A''B'
-//D1 DD DSNAME=PAY.LOG,DISP=(OLD,DELETE),VOLUME=SER=V,
+//D1 DD DSNAME=PAY.LOG,DISP=(MOD,DELETE),VOLUME=SER=V,
 //  LABEL=RETPD=30,SPACE=(CYL,(1,,0),,CONTIG)
 //D2 DD DSN=SYSCTLG,DISP=SHR";
 
@@ -212,7 +212,7 @@ fn data_at(step: &Step, dd: usize) -> Option<(u32, usize)> {
     }
 }
 
-// The set of the first step of the first text.
+// The set that the first step of the first text makes.
 fn is_generated(set: &DdSet) -> bool {
     let space = Space {
         ask: SpaceAsk::Tracks,
@@ -229,7 +229,7 @@ fn is_generated(set: &DdSet) -> bool {
         dsorg: None,
     };
     Some(set.dsn) == Dsn::read("TEST.CARDS").ok()
-        && set.status == DdStatus::Old
+        && set.status == DdStatus::New
         && set.after == DdAfter::Keep
         && set.serial == Serial::read("WORK01").ok()
         && set.space == Some(space)
@@ -237,7 +237,7 @@ fn is_generated(set: &DdSet) -> bool {
         && set.expires == [0, 0, 0]
 }
 
-// The set that the second text scratches.
+// The set that the second text makes where it isn't there.
 fn is_log(set: &DdSet) -> bool {
     let space = Space {
         ask: SpaceAsk::Cylinders,
@@ -247,7 +247,7 @@ fn is_log(set: &DdSet) -> bool {
         contig: true,
     };
     set.part == DdPart::Whole
-        && set.status == DdStatus::Old
+        && set.status == DdStatus::Mod
         && set.after == DdAfter::Delete
         && set.space == Some(space)
         && set.expires == [75, 0, 15]
@@ -262,7 +262,7 @@ fn is_old_catalog(set: &DdSet) -> bool {
 
 #[test]
 fn jobs_have_the_fields_of_their_cards(rt: HostRuntime) -> Result<(), Fail> {
-    let jobs = read(rt.alloc(), LISTED_SET)?;
+    let jobs = read(rt.alloc(), GENERATED_SET)?;
     let step = step_at(&jobs, 0, 0).ok_or("no step")?;
     assert!(rt; is_generated(set_at(step, 2).ok_or("no set")?));
     assert_eq!(rt; data_at(step, 3), Some((9, 2)));

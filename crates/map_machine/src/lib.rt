@@ -9,3 +9,6 @@ mod rooms;
 mod space;
 
 pub use machine::MapMachine;
+
+#[cfg(test)]
+mod tests;

@@ -1,12 +1,13 @@
 -- What a `Joiner` makes of the segments that are still to come.
-use Rattle.std.specs.Prelude.{◌≡◌, ℕ, Bool, if◌then◌else◌, List, [], ◌∷◌, Option, Some, None, Result, Err}
+use Rattle.std.specs.Prelude.{◌≡◌, ℕ, Bool, true, if◌then◌else◌, List, [], ◌∷◌, Option, Some, None, Result, Ok, Err}
 use Rattle.record_blocks.specs.declared.joiner.Joiner.{Joiner}
 use Rattle.record_blocks.specs.declared.joiner.JoinErr.{JoinErr}
 use Rattle.record_blocks.specs.declared.joiner.JoinErr.TheVariants.{BadSegment, TooLong, Memory}
 use Rattle.record_blocks.specs.Blocks.{Segment}
 use Rattle.record_blocks.specs.declared.formats.Format.{Format}
 use Rattle.record_blocks.specs.Packing.{longest}
-use Rattle.record_blocks.specs.Joining.{joined_records, records_given}
+use Rattle.record_blocks.specs.Joining.{bytes_taken, joined_records, records_given}
+use Rattle.record_blocks.specs.Segments.{ends}
 
 -- the bytes of the record that is open
 abbrev pub open_of : Joiner → Option (List ℕ)
@@ -27,6 +28,15 @@ IsFresh format joiner = (segments : List Segment) → records_with joiner segmen
 -- the record that is whole, if one is, and those of further segments are those that it made of this segment and them
 abbrev pub RecordsFollow : Segment → Bool → Joiner → Joiner → Type 0
 RecordsFollow s whole old new = (segments : List Segment) → records_with old (s ∷ segments) ≡ records_given whole (whole_of new) (records_with new segments)
+
+-- A segment is taken: the record up to it is whole, or is left open, and the format stays.
+pub record Takes (s : Segment) (whole : Bool) (old new : Joiner) : Type 0 where
+  pub bytes : List ℕ
+  pub taken : bytes_taken (longest old.format) (open_of old) s ≡ Ok bytes
+  pub ended : whole ≡ ends s.code
+  pub given : whole ≡ true → whole_of new ≡ bytes
+  pub left : open_of new ≡ (if whole then None else Some bytes)
+  pub format : new.format ≡ old.format
 
 -- the same is open, and the same is whole
 pub record IsUnchanged (old new : Joiner) : Type 0 where

@@ -86,13 +86,15 @@ impl Joiner {
     ghost use Rattle.record_blocks.specs.Blocks.{Segment, piece};
     ghost use Rattle.record_blocks.specs.Packing.{is_spanned};
     ghost use Rattle.record_blocks.specs.Joining.{joined_records, bytes_taken};
-    ghost use Rattle.record_blocks.specs.Joiner.{open_of, whole_of, records_with, IsFresh, RecordsFollow, HasCause, IsUnchanged};
+    ghost use Rattle.record_blocks.specs.Joiner.{open_of, whole_of, records_with, IsFresh, RecordsFollow, HasCause, IsUnchanged, Takes};
 
     /// Begins with no record. The format is VS or VBS, and `Format::check` accepts it.
     pub fn new(alloc: Global, format: Format) -> Result<Joiner, AllocError>
         requires lawful { first_fault format ≡ None }
         requires spanned { is_spanned format ≡ true }
         ensures records { IfOk result (λ j. IsFresh format j) }
+        ensures none { IfOk result (λ j. open_of j ≡ None) }
+        ensures format { IfOk result (λ j. j.format ≡ format) }
         ensures whole { IfOk result (λ j. whole_of j ≡ []) }
     {
         let body = Vec::new(alloc);
@@ -116,6 +118,7 @@ impl Joiner {
         requires { code ≤ 3 }
         ensures records { IfOk result (λ whole. RecordsFollow (piece code bytes.now) whole self.old self.new) }
         ensures part { IfOk result (λ whole. whole ≡ false → whole_of self.new ≡ []) }
+        ensures takes { IfOk result (λ whole. Takes (piece code bytes.now) whole self.old self.new) }
         ensures err { IfErr result (λ e. HasCause e (piece code bytes.now) self.old) }
         ensures unchanged { OnErr result (IsUnchanged self.old self.new) }
     {

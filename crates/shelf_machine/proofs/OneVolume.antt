@@ -1,5 +1,5 @@
 -- One of several packs whose index an operation changed, or left as it was.
-use Rattle.std.proofs.Common.{◌≡◌, ◌≢◌, ◌∙◌, true, refl, sym, subst}
+use Rattle.std.proofs.Common.{◌≡◌, ◌≢◌, ◌∙◌, true, refl, sym, ap, subst}
 use Rattle.std.specs.Prelude.{ℕ, List, Result, Ok, Err, IsErrOf, OnOk}
 use Rattle.vol_model.specs.Calls.{sound_after}
 use Rattle.vol_model.specs.declared.answers.StoreErr.{StoreErr}
@@ -19,7 +19,7 @@ use Rattle.shelf_machine.specs.Reporting.{reported}
 -- an index with more room is that of the same image
 module _ (v v' : Vol) (roomed : IsRoomed v v') where
   wide : Vol
-  wide = record v { free = v'.free }
+  wide = record v { free = v'.free; by_name = v'.by_name }
 
   pub roomed_kept : (image : List ℕ) → IsKept image v → IsKept image v'
   roomed_kept image kept = subst (IsKept image) (sym roomed.others) (record {
@@ -48,6 +48,14 @@ module _ (v v' : Vol) (roomed : IsRoomed v v') where
     buffer = unit.buffer;
   })
 
+-- an index with room for more names alone
+pub name_roomed : (v v' : Vol) → v' ≡ record v { by_name = v'.by_name } → v'.by_name.items ≡ v.by_name.items → IsRoomed v v'
+name_roomed v v' others names = record {
+  others = others ∙ sym (ap (λ (w : Vol). record v { free = w.free; by_name = v'.by_name }) others);
+  free = ap (λ (w : Vol). w.free.items) others;
+  names = names;
+}
+
 -- the data sets of an index stand in the order of their names
 abbrev IsInOrder : Vol → Type 0
 IsInOrder v = AreByName (name_at v.slots.items) v.by_name.items
@@ -66,5 +74,7 @@ pub order_kept : {T : Type 0} (v v' : Vol) (r : Result T StoreErr) → ((why : R
     → sound_after (reported r) ≡ true → IsInOrder v'
 order_kept v v' (Ok x) refused memory done order sound = done
 order_kept v v' (Err (store.Refused why)) refused memory done order sound = subst IsInOrder (sym (refused why refl)) order
-order_kept v v' (Err store.Memory) refused memory done order sound = subst IsInOrder (sym (memory refl).others) order
+order_kept v v' (Err store.Memory) refused memory done order sound =
+    let roomed = memory refl in
+    subst IsInOrder (sym roomed.others) (subst (AreByName (name_at v.slots.items)) (sym roomed.names) order)
 order_kept v v' (Err store.Device) refused memory done order sound = absurd cc

@@ -1,6 +1,6 @@
 -- An operation on one of several packs, by their shelf.
 use Rattle.std.proofs.Common.{◌≡◌, ◌≢◌, ◌≤◌, ⊎_elim, inl, inr, ℕ, zero, suc, Bool, true, false, List, [], ◌∷◌, ◌++◌, length, map, set, Option, Some, None, refl, sym, ap, subst, ◌∙◌, arith}
-use Rattle.std.specs.Prelude.{◌⊎◌, Result, Ok, Err, IsErrOf, OnOk, filter, if◌then◌else◌, not, slice_get, unwrap_or}
+use Rattle.std.specs.Prelude.{◌⊎◌, ◌==◌, nat_lt, Result, Ok, Err, IsErrOf, OnOk, filter, if◌then◌else◌, not, slice_get, unwrap_or}
 use Rattle.std.proofs.lemmas.Bool.{cases_eq}
 use Rattle.dadsm_ops.specs.Operations.{Operates}
 use Rattle.free_rebuild.specs.Repairs.{image_named}
@@ -12,17 +12,23 @@ use Rattle.stop_model.specs.Moments.{IsDurable, Meaning, Same}
 use Rattle.stop_model.proofs.MomentLemmas.{CountsNow, durable_same, same_none}
 use Rattle.vol_model.specs.Calls.{Keeps, sound_after}
 use Rattle.ebcdic_names.specs.declared.names.Dsn.{Dsn}
-use Rattle.vol_model.specs.Shelf.{has_name, is_catalog, on_found, rename_on, rename_refusal, renamed, scratch_on, set_of, step_on, unless_refused, volume_number}
+use Rattle.vol_model.specs.Places.{tracks_in}
+use Rattle.vol_model.specs.Shelf.{allocate_on, has_name, has_set, if_room, is_catalog, is_partitioned, lacks_room, on_choice, on_found, refuse, rename_on, rename_refusal, renamed, scratch_on, set_of, step_on, unless_refused, volume_number, with_new}
+use Rattle.vol_model.specs.Slots.{slots_needed}
+use Rattle.vol_model.specs.Space.{choice}
+use Rattle.vol_model.specs.declared.contents.Attr.{Attr}
 use Rattle.vol_model.specs.declared.contents.DataSet.{DataSet}
+use Rattle.vol_model.specs.declared.contents.Run.{Run}
 use Rattle.vol_model.specs.declared.answers.MachErr.{MachErr}
 use Rattle.vol_model.specs.declared.answers.MachErr.TheVariants as mach
 use Rattle.vol_model.specs.declared.answers.StoreErr.{StoreErr}
 use Rattle.vol_model.specs.declared.answers.StoreErr.TheVariants as store
 use Rattle.vol_model.specs.declared.contents.Volume.{Volume}
 use Rattle.vol_model.specs.declared.refusals.Refusal.{Refusal}
-use Rattle.vol_model.specs.declared.refusals.Refusal.TheVariants.{NoVolume}
+use Rattle.vol_model.specs.declared.refusals.Refusal.TheVariants.{NoRoom, NoVolume, SetExists, VtocFull, WrongKind}
 use Rattle.vol_model.specs.declared.requests.Op.{Op}
-use Rattle.vol_model.specs.declared.requests.Op.TheVariants.{Rename, Scratch}
+use Rattle.vol_model.specs.declared.requests.Op.TheVariants.{Allocate, Rename, Scratch}
+use Rattle.vol_model.specs.declared.requests.Request.{Request}
 use Rattle.vtoc_index.specs.Index.{IsMounted, IsOfUnit}
 use Rattle.vtoc_index.specs.Kept.{IsKept}
 use Rattle.vtoc_index.specs.Names.{AreByName, name_at}
@@ -200,3 +206,24 @@ scratch_keeps n dsn w after is = by_set (set_of dsn.bytes w) is
     by_set : (o : Option DataSet) → on_found o without ≡ Ok after → after.serial.bytes ≡ w.serial.bytes
     by_set None done = absurd cc
     by_set (Some x) done = ap (λ (y : Volume). y.serial.bytes) (sym (ok_volume done))
+
+unrefused : (b : Bool) (r : Refusal) (rest : Result Volume Refusal) (after : Volume) → refuse b r rest ≡ Ok after → rest ≡ Ok after
+unrefused true r rest after is = absurd cc
+unrefused false r rest after is = is
+
+pub allocate_keeps : (n : ℕ) (dsn : Dsn) (attr : Attr) (q : Request) (dir : ℕ) (w after : Volume) → step_on (Allocate n dsn attr q dir) w ≡ Ok after → after.serial.bytes ≡ w.serial.bytes
+unfolding step_on allocate_on
+allocate_keeps n dsn attr q dir w after is =
+    let wants_dir = is_partitioned dsn.bytes attr in
+    by_choice (choice w q.unit q.contig q.primary) (unrefused (if dir == 0 then wants_dir else not wants_dir) WrongKind _ after (unrefused (has_set w dsn.bytes) SetExists _ after is))
+  where
+    with_runs : List Run → Result Volume Refusal
+    with_runs runs = if_room (lacks_room w.geometry.device dsn.bytes dir (tracks_in runs)) (with_new dsn attr q dir w runs)
+
+    by_choice : (o : Option (List Run)) → on_choice q.primary o with_runs ≡ Ok after → after.serial.bytes ≡ w.serial.bytes
+    by_choice None done = absurd cc
+    by_choice (Some runs) done =
+        let new : Volume = with_new dsn attr q dir w runs in
+        let room : Bool = lacks_room w.geometry.device dsn.bytes dir (tracks_in runs) in
+        let free = unrefused (nat_lt new.slots (slots_needed new)) (VtocFull (slots_needed new)) (refuse room NoRoom (Ok new)) after done in
+        ap (λ (y : Volume). y.serial.bytes) (sym (ok_volume (unrefused room NoRoom (Ok new) after free)))

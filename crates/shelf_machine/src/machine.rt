@@ -22,8 +22,9 @@ use vtoc_index::Vol;
 
 /// The machine over the images of packs on 1 to 255 units; its volumes have the order of the units, from number 0.
 ///
-/// It is sound as long as no call of its hall failed. Of the operations it does `Rename` and `Scratch`; for every other,
-/// and for a writer, it wants memory.
+/// It is sound as long as no call of its hall failed. Of the operations it does `Rename` and `Scratch`, and `Allocate`
+/// without a directory, of any name but SYSCTLG, where the secondary quantity is below 2^24; for every other, and for a
+/// writer, it wants memory.
 #[derive(Drop)]
 pub struct HallShelf<H: Hall> {
     hall: H,
@@ -31,6 +32,7 @@ pub struct HallShelf<H: Hall> {
     is_sound: bool,
     done: u64,
     writer: Option<Writer>,
+    alloc: Global,
     pub ghost indexes: { AreIndexes (H.facts hall).units vols.items } by { Prim.hlevel shelf_props },
     pub ghost order: { is_sound ≡ true → AreInOrder vols.items } by { Prim.hlevel shelf_props },
     pub ghost kept: { is_sound ≡ true → IsTrue H.tells
@@ -73,6 +75,7 @@ impl<H: Hall> HallShelf<H> {
                 is_sound: true,
                 done: 0,
                 writer: None,
+                alloc,
             }),
             Err(stopped) => Err(OpenErr {
                 hall,
@@ -196,7 +199,7 @@ impl<H: Hall> Machine for HallShelf<H> {
     }
 
     fn apply(&mut self, op: &Op) -> Result<(), MachErr> {
-        let ran = operate(&mut self.hall, &mut self.vols, op);
+        let ran = operate(self.alloc, &mut self.hall, &mut self.vols, op);
         report(&mut self.is_sound, &mut self.done, ran)
     }
 

@@ -11,18 +11,27 @@ ghost use Rattle.vol_model.specs.Calls.{sound_after};
 ghost use Rattle.dadsm_ops.specs.Operations.{Operates, StoreCall};
 ghost use Rattle.shelf_machine.specs.Machine.{AreIndexes, AreInOrder, AreKept, base_of, units_of};
 ghost use Rattle.shelf_machine.specs.Opening.{names_of};
-ghost use Rattle.shelf_machine.specs.Operating.{IsRoomed, IsSamePack, OperatesOnShelf};
+ghost use Rattle.shelf_machine.specs.Operating.{CanBeMade, IsRoomed, IsSamePack, OperatesOnShelf};
 ghost use Rattle.shelf_machine.specs.Reporting.{reported};
 
-use dadsm_ops::{rename, scratch};
+use dadsm_ops::{allocate, rename, scratch};
 use ebcdic_names::Dsn;
 use hall_core::{Device, Hall};
 use pack_spec::layout::MOST_EXTENTS;
-use vol_model::{Op, Refusal, StoreErr};
+use std::alloc::Global;
+use vol_model::{Attr, Op, Refusal, Request, StoreErr, is_catalog};
 use vtoc_index::{Vol, find};
 
+// A secondary quantity is below this, since its field has 3 bytes.
+const QUANTITIES: u32 = 0x0100_0000;
+
 // Does an operation on one of the packs. Each that isn't done yet wants memory, before anything is called.
-pub(crate) fn operate<H: Hall>(hall: &mut H, vols: &mut Vec<Vol>, op: &Op) -> Result<(), StoreErr>
+pub(crate) fn operate<H: Hall>(
+    alloc: Global,
+    hall: &mut H,
+    vols: &mut Vec<Vol>,
+    op: &Op,
+) -> Result<(), StoreErr>
     requires indexes { AreIndexes (H.facts hall.old).units vols.old.items }
     requires order { AreInOrder vols.old.items }
     requires kept { IsTrue H.tells
@@ -39,10 +48,61 @@ pub(crate) fn operate<H: Hall>(hall: &mut H, vols: &mut Vec<Vol>, op: &Op) -> Re
     ensures faults { StoreCall (H.facts hall.old) (H.facts hall.new) result }
 {
     match op {
+        Op::Allocate {
+            v,
+            dsn,
+            attr,
+            request,
+            dir,
+        } => allocate_on(alloc, hall, vols, *v, dsn, attr, request, *dir),
         Op::Rename { v, old, new } => rename_on(hall, vols, *v, old, new),
         Op::Scratch { v, dsn } => scratch_on(hall, vols, *v, dsn),
         _ => Err(StoreErr::Memory),
     }
+}
+
+// Makes a data set on the pack of this number.
+fn allocate_on<H: Hall>(
+    alloc: Global,
+    hall: &mut H,
+    vols: &mut Vec<Vol>,
+    v: u8,
+    dsn: &Dsn,
+    attr: &Attr,
+    request: &Request,
+    dir: u32,
+) -> Result<(), StoreErr>
+    requires indexes { AreIndexes (H.facts hall.old).units vols.old.items }
+    requires order { AreInOrder vols.old.items }
+    requires kept { IsTrue H.tells
+        → AreKept (H.meaning hall.old).state (H.facts hall.old).units vols.old.items }
+    requires durable { IsTrue H.tells → IsDurable (H.meaning hall.old) }
+    ensures shelf { let names = names_of (H.facts hall.old).units (units_of vols.old.items) in
+        let names' = names_of (H.facts hall.new).units (units_of vols.new.items) in
+        IsTrue H.tells → OperatesOnShelf (Op.Allocate v dsn.now attr.now request.now dir) names names'
+        (H.facts hall.new).units vols.old.items vols.new.items (H.meaning hall.old)
+        (H.meaning hall.new) result }
+    ensures indexes { AreIndexes (H.facts hall.new).units vols.new.items }
+    ensures order { sound_after (reported result) ≡ true → AreInOrder vols.new.items }
+    ensures base { base_of (H.facts hall.new) vols.new.items
+        ≡ base_of (H.facts hall.old) vols.old.items }
+    ensures faults { StoreCall (H.facts hall.old) (H.facts hall.new) result }
+{
+    let k = usize::from(v);
+    if k >= vols.len() {
+        return Err(StoreErr::Refused(Refusal::NoVolume));
+    }
+    if !is_served(dsn, request, dir) {
+        return Err(StoreErr::Memory);
+    }
+    allocate(alloc, hall, &mut vols[k], dsn, attr, request, dir)
+}
+
+// Whether such a data set can be made yet: it has no directory and isn't the catalog, and its secondary quantity fits its field.
+fn is_served(dsn: &Dsn, request: &Request, dir: u32) -> bool
+    ensures { IsTrue result → CanBeMade dsn.now request.now dir }
+{
+    dir == 0 && !is_catalog(dsn) && request.secondary < QUANTITIES
 }
 
 // Gives a data set of the pack of this number another name.

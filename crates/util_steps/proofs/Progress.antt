@@ -50,7 +50,7 @@ put_keeps s w c from =
     let body = target_body s t in
     ap readable ((making_keeps t (next_up t.mode body w.puts (c ∷ [])) (so_far t.mode body w.puts) s).bodies from.v from.dsn.bytes)
 
-block_keeps : (s : Shelf) (w : OpenWriter) (b : Block) (from : SetRef) → source (after_operations s (did_block s w b).operations) from ≡ source s from
+pub block_keeps : (s : Shelf) (w : OpenWriter) (b : Block) (from : SetRef) → source (after_operations s (did_block s w b).operations) from ≡ source s from
 unfolding did_block with_reason
 block_keeps s w b from = by_data (has_data b)
   where
@@ -94,7 +94,7 @@ some_first s w b bs is = by_answer (did_block s w b).operations (did_block s w b
 
 -- ---- places
 
-first_passes : (p : Place) (bs : List Block) (b : Block) (more : List Block) → blocks_from p bs ≡ b ∷ more → is_before b.place p ≡ false
+pub first_passes : (p : Place) (bs : List Block) (b : Block) (more : List Block) → blocks_from p bs ≡ b ∷ more → is_before b.place p ≡ false
 first_passes p [] b more h = cc
 first_passes p (x ∷ bs) b more h = by_test p x bs b more (is_before x.place p) refl h (first_passes p bs b more)
   where
@@ -102,11 +102,11 @@ first_passes p (x ∷ bs) b more h = by_test p x bs b more (is_before x.place p)
     by_test p x bs b more true e h rest = rest h
     by_test p x bs b more false e h rest = let same : x ≡ b = cc in subst (λ (y : Block). is_before y.place p ≡ false) same e
 
-all_from_start : (bs : List Block) → blocks_from (record { tt = 0; r = 0 }) bs ≡ bs
+pub all_from_start : (bs : List Block) → blocks_from (record { tt = 0; r = 0 }) bs ≡ bs
 all_from_start [] = refl
 all_from_start (b ∷ bs) = ap (λ (t : Bool). cond (not t) (b ∷ blocks_from (record { tt = 0; r = 0 }) bs) (blocks_from (record { tt = 0; r = 0 }) bs)) (not_before_start b.place) ∙ ap (λ (l : List Block). b ∷ l) (all_from_start bs)
 
-low_blocks : (bs : List Block) → AllByRecursion IsLawfulBlock bs → AreLow bs
+pub low_blocks : (bs : List Block) → AllByRecursion IsLawfulBlock bs → AreLow bs
 low_blocks [] all = tt
 low_blocks (b ∷ bs) all = (all.0.place, low_blocks bs all.1)
 

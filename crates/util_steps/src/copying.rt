@@ -79,8 +79,12 @@ fn fill<M: Machine>(
     write_all(machine, buf, from)
 }
 
-// Empties a set.
-fn empty<M: Machine>(machine: &mut M, to: &SetRef, attr: &Attr) -> Result<Result<(), Fault>, Stop>
+/// Empties a set: its blocks go, and it takes the record format, the option codes and the lengths of these attributes.
+pub fn empty<M: Machine>(
+    machine: &mut M,
+    to: &SetRef,
+    attr: &Attr,
+) -> Result<Result<(), Fault>, Stop>
     requires sound { IsTrue (M.status machine.old).is_sound }
     requires closed { IsFalse (M.status machine.old).is_open }
     ensures works { IsTrue M.tells → Works M.tells_prints (refusing (did_apply (M.meaning machine.old).state (Empty to.now.v to.now.dsn attr.now))) (M.meaning machine.old) (M.meaning machine.new) (M.status machine.old).done (M.status machine.new).done result }
@@ -186,8 +190,8 @@ fn put_block<M: Machine>(machine: &mut M, buf: &BlockBuf) -> Result<Result<Place
     put_bytes(machine, buf.key(), buf.payload())
 }
 
-// The place behind a block's.
-fn place_behind(place: Place) -> Place
+/// The place behind a block's.
+pub fn place_behind(place: Place) -> Place
     requires track { place.tt < 65535 }
     requires record_number { place.r ≤ 255 }
     ensures behind { result ≡ behind_place place }
@@ -206,8 +210,8 @@ fn place_behind(place: Place) -> Place
     }
 }
 
-// Reads the first block of a set at or after a place; false where there is none.
-fn next_block<M: Machine>(
+/// Reads the first block of a set at or after a place; false where there is none.
+pub fn next_block<M: Machine>(
     machine: &mut M,
     from: &SetRef,
     place: Place,

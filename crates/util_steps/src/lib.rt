@@ -10,7 +10,7 @@ mod volumes;
 mod writing;
 
 pub use calls::{Fault, SetRef, apply, begin, commit, print_line, put_bytes};
-pub use copying::copy_blocks;
+pub use copying::{copy_blocks, empty, next_block, place_behind};
 pub use items::{Items, run_items};
 pub use reports::{report, say};
 pub use volumes::find_volume;

@@ -1,13 +1,12 @@
 -- Counts and searches of what a list is seen as, and the pair of a list.
-use Rattle.std.proofs.Common.{◌≡◌, ℕ, ◌+◌, Bool, true, false, cond, List, [], ◌∷◌, length, map, refl, sym, ◌∙◌, ap, arith}
-use Rattle.std.proofs.lemmas.Bool.Decides.{nat_tests}
+use Rattle.std.proofs.Common.{◌≡◌, ℕ, ◌+◌, Bool, true, false, cond, List, [], ◌∷◌, length, map, refl, sym, ◌∙◌, ap}
 use Rattle.std.proofs.lemmas.List.Sums.{sum_by-cons}
 use Rattle.std.specs.Prelude.{◌==◌, Option, Some, None, option_map}
 use Rattle.std.specs.Borrow.{Bor}
 use Rattle.std.specs.List.{count_by, find}
 use Rattle.std.specs.Option.{option_copied}
 use Rattle.card_text.specs.declared.values.Value.{Value}
-use Rattle.card_text.specs.Tree.{Tree, trees, value_view}
+use Rattle.card_text.specs.Tree.{trees, value_view}
 use Rattle.util_syntax.specs.Forms.{pair_of}
 
 module _ {X Y : Type 0} (p : Y → Bool) (view : X → Y) where

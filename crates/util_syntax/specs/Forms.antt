@@ -1,14 +1,16 @@
 -- The operands of statements by their keywords, and the forms of their values (Utilities GC28-6586, in this project's profile).
 use Rattle.std.specs.Prelude.{ℕ, ◌==◌, nat_le, Bool, false, ◌&&◌, if◌then◌else◌, List, [], ◌∷◌, find, count_by, is_none, Option, Some, None, option_map, option_and_then}
 use Rattle.std.specs.Option.{option_map_or}
+use Rattle.std.specs.List.{list_any}
 use Rattle.std.specs.Str.{bytes_eq}
+use Rattle.ckd_image.specs.Device.{row_of}
+use Rattle.ckd_image.specs.declared.device.DiskType.TheVariants.{D2311, D2314, D3330, D3350}
 use Rattle.ebcdic_names.specs.declared.names.Dsn.{Dsn}
 use Rattle.ebcdic_names.specs.declared.names.Name8.{Name8}
 use Rattle.ebcdic_names.specs.declared.names.Serial.{Serial}
 use Rattle.card_text.specs.Names.{data_set_name_of, name_of, volume_serial_of}
 use Rattle.card_text.specs.Operands.{OperandView}
 use Rattle.card_text.specs.Tree.{Tree, Trees, more, none, as_list, as_word}
-use Rattle.util_syntax.specs.Statement.{is_device_word}
 
 -- the name is this word
 unfoldable pub is_named : List ℕ → Name8 → Bool
@@ -46,6 +48,10 @@ pair_of none = None
 pair_of (more a none) = None
 pair_of (more a (more b none)) = Some (a, b)
 pair_of (more a (more b (more c rest))) = None
+
+-- whether a word names a device
+abbrev pub is_device_word : List ℕ → Bool
+is_device_word word = list_any (λ device. bytes_eq word (row_of device).device_word) (D2311 ∷ D2314 ∷ D3330 ∷ D3350 ∷ [])
 
 -- the serial of a volume behind its device
 abbrev pub serial_behind : Option (List ℕ) → Option (List ℕ) → Option Serial

@@ -4,5 +4,4 @@ pub mod Lines
 pub mod Listing
 pub mod Operands
 pub mod Program
-pub mod Statement
 pub mod Step

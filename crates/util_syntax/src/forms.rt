@@ -4,8 +4,7 @@ ghost use Rattle.std.specs.Option.{option_copied};
 ghost use Rattle.card_text.specs.declared.operands.Operand.{Operand};
 ghost use Rattle.card_text.specs.Operands.{operand_view};
 ghost use Rattle.card_text.specs.Tree.{as_list, as_word, trees, value_view};
-ghost use Rattle.util_syntax.specs.Statement.{is_device_word};
-ghost use Rattle.util_syntax.specs.Forms.{is_named, has_keyword, is_flag, value_of, flag_of, if_given, data_set_in, pair_of, serial_behind, volume_in, data_set_of, volume_of, data_sets_among, data_sets_in};
+ghost use Rattle.util_syntax.specs.Forms.{is_named, has_keyword, is_flag, value_of, flag_of, if_given, data_set_in, pair_of, is_device_word, serial_behind, volume_in, data_set_of, volume_of, data_sets_among, data_sets_in};
 
 use card_text::{Operand, Value, data_set_name_of, name_of, volume_serial_of};
 use ckd_image::DiskType;

@@ -7,7 +7,6 @@ mod lines;
 mod listing;
 mod operands;
 mod program;
-mod statement;
 mod step;
 
 pub use card_text::{Card, Operand, Value};
@@ -17,11 +16,9 @@ pub use forms::{
 };
 pub use items::{Item, Statement, statements};
 pub use jcl_forms::Dcb;
-pub use lines::result_line;
 pub use listing::{Object, Outcome, item_line, jcl_line, no_dd_line, no_program_line, syntax_line};
 pub use operands::SynErr;
 pub use program::{SYSIN, sysin_statements};
-pub use statement::{Rename, rename_law, rename_of};
 pub use step::{DataCards, DdIn, DdTable, StepIn};
 
 #[cfg(test)]

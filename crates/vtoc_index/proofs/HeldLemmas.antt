@@ -3,12 +3,12 @@ use Rattle.std.proofs.Common.{◌≡◌, ◌⊎◌, inl, inr, ⊎_elim, ◌<◌,
 use Rattle.std.specs.Prelude.{nat_le, ◌&&◌, ◌==◌, slice_get, slice_index, Err}
 use Rattle.std.specs.Option.{option_map}
 use Rattle.std.specs.Bool.{IsFalse}
-use Rattle.std.proofs.lemmas.Bool.{and_parts, leb-true, le-leb}
+use Rattle.std.proofs.lemmas.Bool.{and_parts, leb-true}
 use Rattle.std.proofs.lemmas.List.{length-take}
 use Rattle.std.proofs.lemmas.Slice.Eq.{bytes_eq-Decides}
 use Rattle.ckd_image.specs.declared.header.Geometry.{Geometry}
 use Rattle.ckd_image.specs.Track.{Record, end_marker}
-use Rattle.ckd_image.specs.Reading.{records_of, records_behind, records_up_to, records_to_end, is_front, is_at_end, is_record_at, front_record, record_length}
+use Rattle.ckd_image.specs.Reading.{records_to_end, is_at_end, is_record_at}
 use Rattle.hall_core.specs.Facts.{Facts, DeviceCall, NotedCall}
 use Rattle.stop_model.specs.Counts.{Rose}
 use Rattle.pack_spec.specs.Label.{heads_of, records_on, track_bytes}
@@ -54,70 +54,30 @@ at_marker : (b : Bool) (xs : List Record) → cond b (Some []) None ≡ Some xs 
 at_marker true xs is = (refl, cc)
 at_marker false xs is = cc
 
-mapped : (x : Record) (m : Option (List Record)) (y : Record) (ys : List Record) → option_map (λ (l : List Record). x ∷ l) m ≡ Some (y ∷ ys) → m ≡ Some ys
-mapped x None y ys is = cc
-mapped x (Some l) y ys is = cc
-
 pub room : (left r : ℕ) (bytes : List ℕ) (xs : List Record) → records_to_end left r bytes ≡ Some xs → 8 ≤ length bytes
 unfolding records_to_end
 room zero r bytes xs is = marker_room bytes (at_marker (is_at_end bytes) xs is).0
 room (suc left) r bytes xs is = ⊎_elim (λ at_end. marker_room bytes at_end.0) (λ at. record_room r bytes at.1) (way (is_at_end bytes) (is_record_at r bytes) _ xs is)
 
--- a track that is read to its end is read up to each of its records
-
-up_to : (left m r : ℕ) (bytes : List ℕ) (xs : List Record) → records_to_end left r bytes ≡ Some xs → m ≤ length xs → (ys : List Record) × ((records_up_to m r bytes ≡ Some ys) × (length ys ≡ m))
-unfolding records_to_end records_up_to
-up_to left zero r bytes xs is low = ([], (ap (λ (b : Bool). cond b (Some []) None) (le-leb 8 (length bytes) (room left r bytes xs is)), refl))
-up_to left (suc m) r bytes [] is low = absurd (omega (arith, low))
-up_to zero (suc m) r bytes (x ∷ xs) is low = absurd (none (at_marker (is_at_end bytes) (x ∷ xs) is).1)
-  where
-    none : x ∷ xs ≡ [] → ⊥
-    none same = cc
-up_to (suc left) (suc m) r bytes (x ∷ xs) is low = ⊎_elim (λ at_end. absurd (none at_end.1)) (λ at. later (λ more. up_to left m (suc r) (drop (record_length bytes) bytes) xs more (omega (arith, low))) at.0 at.1 at.2) (way (is_at_end bytes) (is_record_at r bytes) _ (x ∷ xs) is)
-  where
-    none : x ∷ xs ≡ [] → ⊥
-    none same = cc
-
-    later : (records_to_end left (suc r) (drop (record_length bytes) bytes) ≡ Some xs → (ys : List Record) × ((records_up_to m (suc r) (drop (record_length bytes) bytes) ≡ Some ys) × (length ys ≡ m))) → is_at_end bytes ≡ false → is_record_at r bytes ≡ true → option_map (λ (l : List Record). front_record bytes ∷ l) (records_to_end left (suc r) (drop (record_length bytes) bytes)) ≡ Some (x ∷ xs) → (ys : List Record) × ((records_up_to (suc m) r bytes ≡ Some ys) × (length ys ≡ suc m))
-    later others behind at more =
-        let rest = others (mapped (front_record bytes) _ x xs more) in (
-          front_record bytes ∷ rest.0,
-          (
-            ap (λ (b : Bool). cond b None (cond (is_record_at r bytes) (option_map (λ (l : List Record). front_record bytes ∷ l) (records_up_to m (suc r) (drop (record_length bytes) bytes))) None)) behind
-                ∙ ap (λ (b : Bool). cond b (option_map (λ (l : List Record). front_record bytes ∷ l) (records_up_to m (suc r) (drop (record_length bytes) bytes))) None) at
-                ∙ ap (option_map (λ (l : List Record). front_record bytes ∷ l)) rest.1.0,
-            ap suc rest.1.1,
-          ),
-        )
-
 pub front_taken : (b : Bool) (m : Option (List Record)) (xs : List Record) → cond b m None ≡ Some xs → (b ≡ true) × (m ≡ Some xs)
 front_taken true m xs is = (refl, is)
 front_taken false m xs is = cc
 
-track_up_to : (c h m : ℕ) (bytes : List ℕ) (xs : List Record) → records_of c h None bytes ≡ Some xs → m ≤ length xs → (ys : List Record) × ((records_of c h (Some m) bytes ≡ Some ys) × (length ys ≡ m))
-unfolding records_of
-track_up_to c h m bytes xs is low =
-    let taken = front_taken (is_front c h bytes) (records_behind None (drop 21 bytes)) xs is in
-    let read = up_to 255 m 1 (drop 21 bytes) xs taken.1 low in
-    (read.0, (ap (λ (b : Bool). cond b (records_up_to m 1 (drop 21 bytes)) None) taken.0 ∙ read.1.0, read.1.1))
-
--- a track of slots is read up to each of them
-pub slot_read : (image : List ℕ) (g : Geometry) (track r : ℕ) → HasSlot image g track r → (ys : List Record) × ((records_on image g (Some r) track ≡ Some ys) × (length ys ≡ r))
+-- a track of slots isn't broken
+pub slot_unbroken : (image : List ℕ) (g : Geometry) (track r : ℕ) → HasSlot image g track r → records_on image g None track ≡ None → ⊥
 unfolding records_on
-slot_read image g track r has =
-    let of = slot_records image g track has.found has.slots in
-    track_up_to (track / heads_of g) (track % heads_of g) r (track_bytes image g track) of.records of.read (omega (arith, has.there, ap length of.is, length-slots_from g track 1 of.records))
+slot_unbroken image g track r has broken = let of = slot_records image g track has.found has.slots in clash of.read broken
+  where
+    clash : {o : Option (List Record)} {xs : List Record} → o ≡ Some xs → o ≡ None → ⊥
+    clash is none = cc
 
--- and such a track isn't broken
-pub slot_unbroken : (image : List ℕ) (g : Geometry) (track r : ℕ) → HasSlot image g track r → records_on image g (Some r) track ≡ None → ⊥
-slot_unbroken image g track r has broken = let read = slot_read image g track r has in cc
-
--- a buffer that was read up to a slot holds it
-pub slot_held : (image : List ℕ) (g : Geometry) (track r : ℕ) (xs : List Record) → HasSlot image g track r → records_on image g (Some r) track ≡ Some xs → r ≤ length xs
+-- a buffer into which such a track was read holds its slots
+pub slot_held : (image : List ℕ) (g : Geometry) (track r : ℕ) (xs : List Record) → HasSlot image g track r → records_on image g None track ≡ Some xs → r ≤ length xs
+unfolding records_on
 slot_held image g track r xs has read =
-    let other = slot_read image g track r has in
-    let same : length xs ≡ length other.0 = ap length (some_same (sym read ∙ other.1.0)) in
-    omega (arith, same, other.1.1)
+    let of = slot_records image g track has.found has.slots in
+    let same : length xs ≡ length of.records = ap length (some_same (sym read ∙ of.read)) in
+    omega (arith, same, has.there, ap length of.is, length-slots_from g track 1 of.records)
   where
     some_same : {a b : List Record} → Some a ≡ Some b → a ≡ b
     some_same is = cc

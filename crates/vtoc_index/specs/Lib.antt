@@ -3,6 +3,7 @@ pub mod Calls
 pub mod Free
 pub mod Index
 pub mod Kept
+pub mod Last
 pub mod Names
 pub mod Owned
 pub mod Puts

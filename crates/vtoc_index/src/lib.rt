@@ -7,6 +7,7 @@ mod extent;
 mod free;
 mod header;
 mod label;
+mod last;
 mod named;
 mod ordered;
 mod owned;
@@ -20,6 +21,7 @@ mod vtoc_extent;
 
 pub use bits::set_bit;
 pub use free::free_slot;
+pub use last::set_last;
 pub use named::{find, name_at};
 pub use ordered::{enter_name, forget_name, reorder};
 pub use pack_spec::MountErr;

@@ -130,7 +130,7 @@ fn hold<H: Hall>(hall: &mut H, unit: u8, place: Place, buf: &mut TrackBuf) -> Re
 }
 
 // Makes the buffer hold a record of its unit, where there is one; reads the track where it doesn't, and only
-// there.
+// there. All of the track is read, since a later slot of it may be put next.
 fn fetch<H: Hall>(hall: &mut H, unit: u8, place: Place, buf: &mut TrackBuf) -> Result<(), Device>
     requires unit { buf.old.unit ≡ unit }
     requires track { HasTrack (H.facts hall.old).units unit buf.old.geometry place.track }
@@ -151,7 +151,7 @@ fn fetch<H: Hall>(hall: &mut H, unit: u8, place: Place, buf: &mut TrackBuf) -> R
     if buf.track() == place.track && usize::from(place.number) <= buf.len() {
         return Ok(());
     }
-    match read_records(hall, unit, place.track, Some(place.number), buf) {
+    match read_records(hall, unit, place.track, None, buf) {
         Ok(_count) => Ok(()),
         Err(TrackErr::BadCount { .. }) => {
             hall.differs(unit, place.track);

@@ -1,0 +1,62 @@
+"""What the benchmarks share: the built program, its times, and its calls as the system's trace counts them."""
+import re
+import shutil
+import subprocess
+import sys
+import time
+from collections import Counter
+from pathlib import Path
+
+ROOT = Path(__file__).resolve().parent.parent
+sys.path.insert(0, str(ROOT / "examples"))
+sys.dont_write_bytecode = True
+
+READS = {"read", "pread64", "readv", "preadv"}
+WRITES = {"write", "pwrite64", "writev", "pwritev"}
+SYNCS = {"fsync", "fdatasync"}
+
+
+def built_program():
+    """The program, which the root script builds where that is due."""
+    refused = subprocess.run([ROOT / "volman"], stdout=subprocess.DEVNULL)
+    if refused.returncode != 20:
+        sys.exit("bench: the program isn't built")
+    return ROOT / "crates" / "volman" / "out" / "volman"
+
+
+def milliseconds(command, deck=None):
+    """The time of one run, whose standard input is the deck."""
+    begin = time.perf_counter()
+    subprocess.run(
+        command,
+        input=deck,
+        stdout=subprocess.DEVNULL,
+        stderr=subprocess.DEVNULL,
+        check=True,
+    )
+    return (time.perf_counter() - begin) * 1000
+
+
+def device_calls(command, image, deck=None):
+    """How many reads, writes and syncs of the image one run makes, if `strace` is installed."""
+    strace = shutil.which("strace")
+    if strace is None:
+        return None
+    kinds = ",".join(sorted(READS | WRITES | SYNCS))
+    traced = subprocess.run(
+        [strace, "-f", "-y", "-e", f"trace={kinds}", *command],
+        input=deck,
+        stdout=subprocess.DEVNULL,
+        stderr=subprocess.PIPE,
+        text=True,
+        check=True,
+    )
+    counts = Counter()
+    for line in traced.stderr.splitlines():
+        call = re.match(r"(?:\[pid +\d+\] )?(\w+)\(\d+<([^>]*)>", line)
+        if call and Path(call[2]) == Path(image).resolve():
+            counts[call[1]] += 1
+    return {
+        kind: sum(counts[name] for name in names)
+        for kind, names in (("reads", READS), ("writes", WRITES), ("syncs", SYNCS))
+    }

@@ -1,0 +1,68 @@
+-- The slots that a volume with a new data set needs, by the index, and why there are too few.
+use Rattle.std.proofs.Common.{◌≡◌, ◌+◌, ◌/◌, ◌*◌, ◌≤◌, ◌<◌, ℕ, max, cond, List, length, Some, refl, sym, ap, subst, ◌∙◌, arith}
+use Rattle.std.specs.Prelude.{Ok, Err, nat_lt}
+use Rattle.std.specs.List.{sum_by}
+use Rattle.ckd_image.specs.declared.header.Geometry.{Geometry}
+use Rattle.ebcdic_names.specs.declared.names.Dsn.{Dsn}
+use Rattle.hall_core.specs.Facts.{Attached}
+use Rattle.pack_spec.specs.Label.{tracks_of}
+use Rattle.pack_spec.specs.Slots.{slots_of_vtoc}
+use Rattle.pack_spec.specs.Volume.{volume_by, volume_of, volume_with}
+use Rattle.space_alloc.specs.Edits.{AreWithout}
+use Rattle.vol_model.specs.declared.contents.Attr.{Attr}
+use Rattle.vol_model.specs.declared.contents.Run.{Run}
+use Rattle.vol_model.specs.declared.contents.Volume.{Volume}
+use Rattle.vol_model.specs.declared.refusals.Refusal.TheVariants.{VtocFull}
+use Rattle.vol_model.specs.declared.requests.Request.{Request}
+use Rattle.vol_model.specs.Shelf.{allocate_on, with_new}
+use Rattle.vol_model.specs.Slots.{slots_needed}
+use Rattle.vol_model.specs.Space.{EndBy, free_runs}
+use Rattle.vol_model.proofs.FreeRuns.{EndBy-higher}
+use Rattle.vtoc_index.specs.declared.vol.Vol.{Vol}
+use Rattle.vtoc_index.specs.Index.{IsMounted, IsOfUnit}
+use Rattle.vtoc_index.proofs.HeldDscbs.{dscbs_many}
+use Rattle.vtoc_index.proofs.OwnedVolumes.{few_tracks}
+use Rattle.vtoc_sets.specs.Sets.{slots_taken, volume_in}
+use Rattle.vtoc_sets.proofs.FewRuns.{free_few}
+use Rattle.dadsm_ops.specs.Allocating.{HasChoice, HasPlan, own_slots}
+use Rattle.dadsm_ops.proofs.NewChoices.{volume_is}
+use Rattle.dadsm_ops.proofs.NewIndex.{unit_with}
+use Rattle.dadsm_ops.proofs.NewVolumes.{allocate_full, free_runs_new, needed_new}
+use Rattle.dadsm_ops.proofs.StandingPuts.{slots_by}
+
+-- no free run reaches past track 65,534
+pub free_within : (v : Vol) → (units : List Attached) × IsOfUnit units v → EndBy 65535 v.free.items
+free_within v unit = EndBy-higher (tracks_of v.geometry) 65535 v.free.items (few_tracks v.geometry (_, unit.1.whole)) unit.1.free.1
+
+module _ (image : List ℕ) (v : Vol) (volume : Volume) (mounted : IsMounted image v) (stands : volume_of image ≡ Ok volume) (dsn : Dsn) (attr : Attr) (q : Request) (runs free : List Run) (without : AreWithout v.free.items runs free)
+    (taken total : ℕ) (sets : taken ≡ slots_taken (volume_in image v).sets) (all : total ≡ 1 + max 1 ((length free + 25) / 26) + (taken + own_slots runs)) where
+  slots_many : volume.slots ≡ length v.slots.items
+  unfolding volume_with
+  slots_many = ap (λ (x : Volume). x.slots) (volume_is image v volume mounted stands) ∙ sym (dscbs_many v.slots.items (slots_by image v) mounted.index.slots)
+
+  needed : slots_needed (with_new dsn attr q 0 volume runs) ≡ total
+  needed =
+      let is = volume_is image v volume mounted stands in
+      let before : v.free.items ≡ free_runs volume = mounted.free ∙ ap free_runs (sym is) in
+      let same : free ≡ free_runs (with_new dsn attr q 0 volume runs) = free_runs_new dsn attr q volume runs v.free.items free before without in
+      let count : taken ≡ slots_taken volume.sets = sets ∙ ap (λ (x : Volume). slots_taken x.sets) (sym is) in
+      let need = needed_new dsn attr q volume runs in
+      let half : (length (free_runs (with_new dsn attr q 0 volume runs)) + 25) / 26 ≡ (length free + 25) / 26 = ap (λ (rs : List Run). (length rs + 25) / 26) (sym same) in
+      need ∙ ap (λ (n : ℕ). 1 + max 1 n + (own_slots runs + slots_taken volume.sets)) half ∙ swapped (1 + max 1 ((length free + 25) / 26)) (own_slots runs) (slots_taken volume.sets) taken total count all
+    where
+      swapped : (a own sum taken total : ℕ) → taken ≡ sum → total ≡ a + (taken + own) → a + (own + sum) ≡ total
+      swapped a own sum taken total e f = omega (arith, e, f)
+
+  -- there are too few slots
+  pub plan_full : HasChoice dsn attr q volume runs → length v.slots.items < total → allocate_on dsn attr q 0 volume ≡ Err (VtocFull total)
+  plan_full has more =
+      let over : volume.slots < slots_needed (with_new dsn attr q 0 volume runs) = omega (arith, more, slots_many, needed) in
+      allocate_full dsn attr q volume has.absent has.flat runs has.chosen over ∙ ap (λ (n : ℕ). Err (VtocFull n)) needed
+
+  -- or enough
+  pub plan_fits : HasChoice dsn attr q volume runs → total ≤ length v.slots.items → HasPlan image dsn attr q runs
+  plan_fits has enough = record { volume = volume; stands = stands; has = has; fits = omega (arith, enough, slots_many, needed) }
+
+-- the free runs without the tracks of a set are few
+pub without_few : (units : List Attached) (v w : Vol) (runs : List Run) → w ≡ record v { free = w.free; by_name = w.by_name } → IsOfUnit units v → AreWithout v.free.items runs w.free.items → length w.free.items ≤ 65535
+without_few units v w runs others unit without = free_few units w (unit_with v w others units runs unit without)

@@ -1,0 +1,127 @@
+use Rattle.std.proofs.Common.{◌≡◌, ◌∙◌, ℕ, List, ap, subst, sym}
+use Rattle.std.specs.Prelude.{Err, Ok, Result}
+use Rattle.std.proofs.lemmas.Result.{err_from_is_err_and}
+use Rattle.hall_core.specs.Facts.{unit_of}
+use Rattle.hall_core.specs.declared.steps.Device.{Device}
+use Rattle.stop_model.proofs.MomentLemmas.{same_none}
+use Rattle.pack_spec.specs.Settled.{IsSettledVtoc}
+use Rattle.space_alloc.specs.Edits.{AreWithout}
+use Rattle.space_alloc.specs.Units.{listed}
+use Rattle.vol_model.specs.declared.answers.StoreErr.{StoreErr}
+use Rattle.vol_model.specs.Shelf.{allocate_on}
+use Rattle.vtoc_index.specs.Index.{IsMounted}
+use Rattle.vtoc_index.specs.Names.{AreByName, name_at}
+use Rattle.vtoc_index.specs.declared.vol.Vol.{Vol}
+use Rattle.dadsm_ops.specs.Allocating.{HasPlan, IsAbsent}
+use Rattle.dadsm_ops.specs.Operations.{DoesOperation, Operates, image_named}
+use Rattle.dadsm_ops.proofs.NewIndex.{order_changed}
+use Rattle.dadsm_ops.proofs.PlannedOperates.{operates_failed, operates_idle, operates_memory, operates_planned}
+use Rattle.dadsm_ops.proofs.Reordering.{mounted_reordered, unit_reordered}
+use Rattle.dadsm_ops.proofs.allocating.allocate.Goals as goal
+
+pub returns-in_err-plan-clause-files : goal.returns-in_err-plan-clause-files
+returns-in_err-plan-clause-files g c told =
+    let hall = c.args.hall.now in
+    let v = c.args.vol.now in
+    let m = g.H.Hall.meaning hall in
+    let name : List ℕ = (unit_of (g.H.Hall.facts hall).units v.unit).name in
+    let operation = allocate_on c.args.dsn.now c.args.attr.now c.args.request.now c.args.dir in
+    let mounted = c.requires.mounted told in
+    let p = err_from_is_err_and c.from_residual.result c.from_residual.ensures.1 in
+    let given : c.from_residual.result ≡ Err c.in_err-plan.field-0.0 = p.1 ∙ ap (λ (e : StoreErr). Err e) p.2 in
+    subst (λ (r : Result (Unit {0}) StoreErr). Operates name operation v m m r) (sym given)
+    (operates_idle name operation v m _ c.in_err-plan.field-0.0 mounted.volume (λ r is. c.in_err-plan.ensures.refused r (ap (λ (e : StoreErr). Err e) is) _ _ mounted mounted.volume)
+    (λ is. c.in_err-plan.ensures.device (ap (λ (e : StoreErr). Err e) is)) (same_none m (g.met.H.Hall.counts_now hall)))
+
+pub returns-in_default-clause-files : goal.returns-in_default-clause-files
+returns-in_default-clause-files g c told =
+    let hall = c.args.hall.now in
+    let v = c.args.vol.now in
+    let m = g.H.Hall.meaning hall in
+    let name : List ℕ = (unit_of (g.H.Hall.facts hall).units v.unit).name in
+    operates_memory name (allocate_on c.args.dsn.now c.args.attr.now c.args.request.now c.args.dir) c.reserve_name.new.vol m _ (c.requires.mounted told).volume (same_none m (g.met.H.Hall.counts_now hall))
+
+pub returns-in_default-clause-unit : goal.returns-in_default-clause-unit
+returns-in_default-clause-unit g c = unit_reordered (g.H.Hall.facts c.args.hall.now).units c.args.vol.now c.reserve_name.new.vol c.reserve_name.ensures.others c.requires.unit
+
+pub returns-in_default-clause-index : goal.returns-in_default-clause-index
+returns-in_default-clause-index g c = order_changed c.args.vol.now c.reserve_name.new.vol c.reserve_name.ensures.others
+
+pub carry_out-requires-clause-unit : goal.carry_out-requires-clause-unit
+carry_out-requires-clause-unit g c = unit_reordered (g.H.Hall.facts c.args.hall.now).units c.args.vol.now c.reserve_name.new.vol c.reserve_name.ensures.others c.requires.unit
+
+pub carry_out-requires-clause-names : goal.carry_out-requires-clause-names
+carry_out-requires-clause-names g c =
+    let v0 = c.args.vol.now in
+    let v1 = c.reserve_name.new.vol in
+    subst (λ (x : Vol). AreByName (name_at x.slots.items) v1.by_name.items) (sym c.reserve_name.ensures.others)
+    (subst (AreByName (name_at v0.slots.items)) (sym c.reserve_name.ensures.items) c.requires.names)
+
+pub carry_out-requires-clause-absent : goal.carry_out-requires-clause-absent
+carry_out-requires-clause-absent g c = subst (λ (x : Vol). IsAbsent c.args.dsn.now.bytes x.slots.items) (sym c.reserve_name.ensures.others) c.in_ok-plan.ensures.absent
+
+pub carry_out-requires-clause-free : goal.carry_out-requires-clause-free
+carry_out-requires-clause-free g c = subst (λ (x : Vol). AreWithout x.free.items (listed c.in_ok-plan.plan.extents) c.in_ok-plan.plan.free.items) (sym c.reserve_name.ensures.others) c.in_ok-plan.ensures.free
+
+pub carry_out-requires-clause-plan : goal.carry_out-requires-clause-plan
+carry_out-requires-clause-plan g c told =
+    let m = g.H.Hall.meaning c.args.hall.now in
+    let units = (g.H.Hall.facts c.args.hall.now).units in
+    subst (λ (x : Vol). HasPlan (image_named m.state (unit_of units x.unit).name) c.args.dsn.now c.args.attr.now c.args.request.now (listed c.in_ok-plan.plan.extents)) (sym c.reserve_name.ensures.others)
+    (c.in_ok-plan.ensures.plan _ (c.requires.mounted told))
+
+pub carry_out-requires-clause-mounted : goal.carry_out-requires-clause-mounted
+carry_out-requires-clause-mounted g c told =
+    let m = g.H.Hall.meaning c.args.hall.now in
+    let units = (g.H.Hall.facts c.args.hall.now).units in
+    let v1 = c.reserve_name.new.vol in
+    subst (λ (x : Vol). IsMounted (image_named m.state (unit_of units x.unit).name) v1) (sym c.reserve_name.ensures.others)
+    (mounted_reordered _ c.args.vol.now v1 c.reserve_name.ensures.others (c.requires.mounted told))
+
+pub carry_out-requires-clause-settled : goal.carry_out-requires-clause-settled
+carry_out-requires-clause-settled g c told =
+    let m = g.H.Hall.meaning c.args.hall.now in
+    let units = (g.H.Hall.facts c.args.hall.now).units in
+    subst (λ (x : Vol). IsSettledVtoc (image_named m.state (unit_of units x.unit).name)) (sym c.reserve_name.ensures.others) (c.requires.settled told)
+
+pub returns-in-Ok-carry_out-clause-files : goal.returns-in-Ok-carry_out-clause-files
+returns-in-Ok-carry_out-clause-files g c told =
+    let hall = c.args.hall.now in
+    let v = c.args.vol.now in
+    let units = (g.H.Hall.facts hall).units in
+    let m = g.H.Hall.meaning hall in
+    let n = g.H.Hall.meaning c.carry_out.new.hall in
+    let w = c.carry_out.new.vol in
+    let dsn = c.args.dsn.now in
+    let attr = c.args.attr.now in
+    let q = c.args.request.now in
+    let name : List ℕ = (unit_of units v.unit).name in
+    let by : (unit_of units c.reserve_name.new.vol.unit).name ≡ name = ap (λ (x : Vol). (unit_of units x.unit).name) c.reserve_name.ensures.others in
+    let does = subst (λ (s : List ℕ). DoesOperation {T = Unit {0}} {E = Device} s (allocate_on dsn attr q 0) w m n (Ok tt)) by (c.in-Ok-carry_out.ensures.files told) in
+    operates_planned name dsn attr q c.args.dir c.requires.dir w m n (listed c.in_ok-plan.plan.extents) (c.in_ok-plan.ensures.plan _ (c.requires.mounted told)) c.requires.catalog tt does
+
+pub returns-in-Err-clause-files : goal.returns-in-Err-clause-files
+returns-in-Err-clause-files g c told =
+    let hall = c.args.hall.now in
+    let v = c.args.vol.now in
+    let units = (g.H.Hall.facts hall).units in
+    let m = g.H.Hall.meaning hall in
+    let n = g.H.Hall.meaning c.carry_out.new.hall in
+    let w = c.carry_out.new.vol in
+    let dsn = c.args.dsn.now in
+    let attr = c.args.attr.now in
+    let q = c.args.request.now in
+    let name : List ℕ = (unit_of units v.unit).name in
+    let by : (unit_of units c.reserve_name.new.vol.unit).name ≡ name = ap (λ (x : Vol). (unit_of units x.unit).name) c.reserve_name.ensures.others in
+    let does = subst (λ (s : List ℕ). DoesOperation {T = Unit {0}} {E = Device} s (allocate_on dsn attr q 0) w m n c.carry_out.result) by (c.carry_out.ensures.files told) in
+    operates_failed name dsn attr q c.args.dir c.requires.dir w m n (listed c.in_ok-plan.plan.extents) (c.in_ok-plan.ensures.plan _ (c.requires.mounted told)) c.requires.catalog does
+
+pub returns-in-Ok-carry_out-clause-index : goal.returns-in-Ok-carry_out-clause-index
+returns-in-Ok-carry_out-clause-index g c =
+    let w = c.carry_out.new.vol in
+    c.carry_out.ensures.index ∙ ap (λ (x : Vol). record x { slots = w.slots; free = w.free; by_name = w.by_name; buf = w.buf }) c.reserve_name.ensures.others
+
+pub returns-in-Err-clause-index : goal.returns-in-Err-clause-index
+returns-in-Err-clause-index g c =
+    let w = c.carry_out.new.vol in
+    c.carry_out.ensures.index ∙ ap (λ (x : Vol). record x { slots = w.slots; free = w.free; by_name = w.by_name; buf = w.buf }) c.reserve_name.ensures.others

@@ -1,0 +1,158 @@
+-- The DSCBs of a new data set (System Control Blocks GC28-6628).
+use Rattle.std.specs.Prelude.{◌≡◌, ◌≢◌, ◌⊎◌, ℕ, ◌+◌, ◌-◌, ◌*◌, ◌^◌, ◌≤◌, ◌<◌, nat_lt, false, List, ◌∷◌, ◌++◌, count_by, drop, length, map, replicate, slice_get, Some, Result, Ok, OnOk, if◌then◌else◌}
+use Rattle.std.specs.List.{range_with_len}
+use Rattle.std.specs.Option.{option_map_or}
+use Rattle.ckd_image.specs.declared.header.Geometry.{Geometry}
+use Rattle.dscb_codec.specs.declared.Dscb.{Dscb}
+use Rattle.dscb_codec.specs.declared.Dscb.TheVariants as formats
+use Rattle.dscb_codec.specs.declared.F1.{F1}
+use Rattle.dscb_codec.specs.declared.F3.{F3}
+use Rattle.pack_spec.specs.New.{track_address}
+use Rattle.stop_model.specs.Files.{File}
+use Rattle.stop_model.specs.Moments.{Meaning, IsDurable, Elapses}
+use Rattle.ebcdic_names.specs.declared.names.Dsn.{Dsn}
+use Rattle.free_rebuild.specs.Chain.{is_open}
+use Rattle.free_rebuild.specs.Repairs.{image_named}
+use Rattle.pack_spec.specs.declared.slot.VtocSlot.{VtocSlot}
+use Rattle.pack_spec.specs.Settled.{is_used}
+use Rattle.vol_model.specs.declared.requests.Request.{Request}
+use Rattle.vol_model.specs.Shelf.{has_set, is_partitioned, with_new}
+use Rattle.vol_model.specs.Slots.{slots_needed}
+use Rattle.vol_model.specs.Space.{choice}
+use Rattle.free_rebuild.specs.Updates.{IsMarkedFor}
+use Rattle.pack_spec.specs.Volume.{volume_of}
+use Rattle.vtoc_index.specs.Index.{IsMounted}
+use Rattle.vtoc_index.specs.Names.{name_at}
+use Rattle.vtoc_index.specs.declared.vol.Vol.{Vol}
+use Rattle.vol_model.specs.declared.contents.Attr.{Attr}
+use Rattle.vol_model.specs.declared.contents.Volume.{Volume}
+use Rattle.vol_model.specs.declared.refusals.Refusal.{Refusal}
+use Rattle.vol_model.specs.declared.contents.Run.{Run}
+use Rattle.vol_model.specs.declared.requests.SpaceUnit.{SpaceUnit}
+use Rattle.vol_model.specs.declared.requests.SpaceUnit.TheVariants.{Track, Cylinder}
+
+-- Runs that can be written as extents: each has a track, and none past track 65,534.
+pub record AreExtents (runs : List Run) : Type 0 where
+  pub each : (k : ℕ) (r : Run) → slice_get runs k ≡ Some r
+      → (1 ≤ r.len) × (r.start + r.len ≤ 65535)
+
+-- the type of an extent: data, on cylinder boundaries where cylinders were asked for
+abbrev pub extent_type : SpaceUnit → ℕ
+extent_type Track = 0x01
+extent_type Cylinder = 0x81
+
+-- an extent: its type, its number in the set, and CCHH of its first track and of its last
+abbrev pub extent_bytes : Geometry → ℕ → ℕ → Run → List ℕ
+extent_bytes g kind number run =
+    kind ∷ number ∷ (track_address g run.start ++ track_address g (run.start + run.len - 1))
+
+-- a field without an extent
+abbrev pub no_extent : List ℕ
+no_extent = replicate 10 0
+
+-- the field for the extent of a number, if there is one
+abbrev pub extent_field : Geometry → ℕ → List Run → ℕ → List ℕ
+extent_field g kind runs k = option_map_or (extent_bytes g kind k) (slice_get runs k) no_extent
+
+-- so many fields for extents, from that of a number on
+abbrev pub extent_fields : Geometry → ℕ → List Run → ℕ → ℕ → List (List ℕ)
+extent_fields g kind runs first count = map (extent_field g kind runs) (range_with_len first count)
+
+-- the format 1 of a data set without a block: its name, the serial of its volume, its attributes, its first three extents, and the address of its format 3
+unfoldable pub new_f1 : List ℕ → List ℕ → Attr → Geometry → ℕ → List Run → List ℕ → F1
+new_f1 name serial attr g kind runs pointer = record {
+  name = name;
+  serial = serial;
+  volseq = attr.volseq;
+  created = attr.created;
+  expires = attr.expires;
+  extents = length runs;
+  dir_used = 0;
+  res61 = replicate 1 0;
+  system = attr.system;
+  res75 = replicate 7 0;
+  dsorg = attr.dsorg;
+  recfm = attr.recfm;
+  optcd = attr.optcd;
+  blksize = attr.blksize;
+  lrecl = attr.lrecl;
+  keylen = attr.keylen;
+  rkp = attr.rkp;
+  indicators = attr.indicators;
+  scalo = attr.scalo * 2 ^ 24 + attr.secondary;
+  lstar = replicate 3 0;
+  balance = 0;
+  res103 = replicate 2 0;
+  runs = extent_fields g kind runs 0 3;
+  pointer = pointer;
+}
+
+-- the format 3 of a data set: its extents behind the first three
+unfoldable pub new_f3 : Geometry → ℕ → List Run → F3
+new_f3 g kind runs = record {
+  id = 0x03030303;
+  front = extent_fields g kind runs 3 4;
+  back = extent_fields g kind runs 7 9;
+  pointer = replicate 5 0;
+}
+
+-- The write that decides an operation on the volume of a marked image, made durable: a stop leaves the files as before, or an image that is marked and stands for the volume after it, with the VTOC alone changed.
+pub record Decides {T E : Type 0} (name : List ℕ) (operation : Volume → Result Volume Refusal)
+    (v : Vol) (old new : Meaning (List File)) (result : Result T E) : Type 0 where
+  pub volume : Volume
+  pub before : volume_of (image_named old.state name) ≡ Ok volume
+  pub after : Volume
+  pub step : operation volume ≡ Ok after
+  pub geometry : after.geometry ≡ volume.geometry
+  pub vtoc : after.vtoc ≡ volume.vtoc
+  pub decided : OnOk result (IsMarkedFor name after old.state new.state)
+  pub index : OnOk result (IsMounted (image_named new.state name) v)
+  pub durable : OnOk result (IsDurable new)
+  pub printed : new.printed ≡ old.printed
+  pub moments : Elapses old new (λ files p. ((files ≡ old.state)
+      ⊎ IsMarkedFor name after old.state files) × (p ≡ old.printed))
+
+-- A slot of this address holds the format 3 of a new set, and no format 1 leads to it.
+pub record HasFurther (slots : List VtocSlot) (g : Geometry) (kind : ℕ) (runs : List Run)
+    (pointer : List ℕ) : Type 0 where
+  pub number : ℕ
+  pub slot : VtocSlot
+  pub there : slice_get slots number ≡ Some slot
+  pub address : slot.address ≡ pointer
+  pub content : slot.content ≡ Ok (formats.F3 (new_f3 g kind runs))
+  pub unused : is_used slots slot ≡ false
+
+-- where a new set has more than three extents, there is such a slot
+abbrev pub HasFurtherIfMany : List VtocSlot → Geometry → ℕ → List Run → List ℕ → Type 0
+HasFurtherIfMany slots g kind runs pointer = 3 < length runs → HasFurther slots g kind runs pointer
+
+-- A new set may have these tracks: no set of the volume has its name, it needs no directory, and they are the choice for its request.
+pub record HasChoice (dsn : Dsn) (attr : Attr) (q : Request) (volume : Volume) (runs : List Run)
+    : Type 0 where
+  pub absent : has_set volume dsn.bytes ≡ false
+  pub flat : is_partitioned dsn.bytes attr ≡ false
+  pub chosen : choice volume q.unit q.contig q.primary ≡ Some runs
+
+-- the slots that a new set takes
+abbrev pub own_slots : List Run → ℕ
+own_slots runs = if nat_lt 3 (length runs) then 2 else 1
+
+-- how many slots may take a DSCB while an update is under way
+abbrev pub open_slots : List Dscb → ℕ
+open_slots dscbs = count_by is_open (drop 2 dscbs)
+
+-- A new set may have these tracks on the volume of an image, and the volume has the slots that it needs then.
+pub record HasPlan (image : List ℕ) (dsn : Dsn) (attr : Attr) (q : Request) (runs : List Run)
+    : Type 0 where
+  pub volume : Volume
+  pub stands : volume_of image ≡ Ok volume
+  pub has : HasChoice dsn attr q volume runs
+  pub fits : slots_needed (with_new dsn attr q 0 volume runs) ≤ volume.slots
+
+-- no slot holds a data set of this name
+abbrev pub IsAbsent : List ℕ → List Dscb → Type 0
+IsAbsent name dscbs = (slot : ℕ) → name_at dscbs slot ≢ Some name
+
+-- slots hold data sets of the same names
+abbrev pub HaveSameNames : List Dscb → List Dscb → Type 0
+HaveSameNames before after = (slot : ℕ) → name_at after slot ≡ name_at before slot

@@ -1,0 +1,257 @@
+//! A new data set.
+ghost use Rattle.std.specs.Prelude.{◌≡◌, ◌≤◌, ◌<◌, ◌+◌, ◌^◌, ◌≢◌, IsOk, ℕ, List, false, length, vec_len, IfOk, IsErrOf, IsTrue, OnOk, Some};
+ghost use Rattle.std.specs.Vec.{vec_capacity};
+ghost use Rattle.hall_core.specs.Facts.{DeviceCall, unit_of};
+ghost use Rattle.hall_core.specs.Images.{image_in};
+ghost use Rattle.stop_model.specs.Moments.{IsDurable};
+ghost use Rattle.pack_spec.specs.Settled.{IsMarked, IsSettledVtoc};
+ghost use Rattle.pack_spec.specs.Slots.{slots_of_vtoc};
+ghost use Rattle.free_rebuild.specs.Updates.{Marks};
+ghost use Rattle.space_alloc.specs.Edits.{AreWithout};
+ghost use Rattle.space_alloc.specs.Units.{listed};
+ghost use Rattle.vol_model.specs.Shelf.{allocate_on, is_catalog, new_attr};
+ghost use Rattle.vol_model.specs.declared.refusals.Refusal.{Refusal};
+ghost use Rattle.vtoc_index.specs.Free.{open_slot};
+ghost use Rattle.vtoc_index.specs.Index.{IsMounted, IsOfUnit};
+ghost use Rattle.vtoc_index.specs.Names.{AreByName, name_at};
+ghost use Rattle.dadsm_ops.specs.Allocating.{AreExtents, Decides, HasPlan, HasFurtherIfMany, HaveSameNames, IsAbsent, extent_type, open_slots, own_slots};
+ghost use Rattle.dadsm_ops.specs.Operations.{DoesOperation, Operates, StoreCall};
+
+use crate::new_set::{extent_type, new_attr, new_f1, new_f3};
+use crate::planning::{SetPlan, own_slots, plan};
+use crate::through::put_through;
+use dscb_codec::Dscb;
+use ebcdic_names::Dsn;
+use free_rebuild::{conclude, mark};
+use hall_core::{Device, Hall};
+use space_alloc::Extents;
+use std::alloc::{AllocError, Global};
+use vol_model::{Attr, Request, StoreErr};
+use vtoc_index::{Vol, enter_name, free_slot, slot_address};
+
+/// A new data set on the volume, without a directory, of any name but SYSCTLG.
+///
+/// The index is that of the image of its unit, which is settled as far as the VTOC goes; no write is pending.
+/// In this order, each made durable before the next: format 4 with the bit of an interrupted update; a format 3
+/// where there are more than three extents; the format 1, which decides the operation; the chain of free space;
+/// format 4 with the right counts and the bit off (System Control Blocks GC28-6628).
+///
+/// It is refused, in this order, where the volume has a set of the name (`SetExists`), where the organization
+/// is that of a partitioned set, which needs a directory (`WrongKind`), where the free tracks don't serve the
+/// request (`NoSpace`), and where the VTOC has fewer slots than are needed then (`VtocFull`). All memory is
+/// taken before the first write. `Device` comes only where the count of its faults rose. The index is that
+/// of the new image after `Ok`, and may be that of no image after `Device`.
+pub fn allocate<H: Hall>(
+    alloc: Global,
+    hall: &mut H,
+    vol: &mut Vol,
+    dsn: &Dsn,
+    attr: &Attr,
+    request: &Request,
+    dir: u32,
+) -> Result<(), StoreErr>
+    requires unit { IsOfUnit (H.facts hall.old).units vol.old }
+    requires names { AreByName (name_at vol.old.slots.items) vol.old.by_name.items }
+    requires catalog { is_catalog dsn.now.bytes ≡ false }
+    requires dir { dir ≡ 0 }
+    requires quantities { request.now.secondary < 2 ^ 24 }
+    requires mounted { let image = image_in (H.meaning hall.old) (H.facts hall.old) vol.old.unit in
+        IsTrue H.tells → IsMounted image vol.old }
+    requires settled { let image = image_in (H.meaning hall.old) (H.facts hall.old) vol.old.unit in
+        IsTrue H.tells → IsSettledVtoc image }
+    requires durable { IsTrue H.tells → IsDurable (H.meaning hall.old) }
+    ensures files { IsTrue H.tells → Operates (unit_of (H.facts hall.old).units vol.old.unit).name
+        (allocate_on dsn.now attr.now request.now dir) vol.new (H.meaning hall.old)
+        (H.meaning hall.new) result }
+    ensures unit { IsOfUnit (H.facts hall.new).units vol.new }
+    ensures names { OnOk result (AreByName (name_at vol.new.slots.items) vol.new.by_name.items) }
+    ensures index { vol.new ≡ record vol.old {
+      slots = vol.new.slots;
+      free = vol.new.free;
+      by_name = vol.new.by_name;
+      buf = vol.new.buf;
+    } }
+    ensures refused { (r : Refusal) → IsErrOf result (StoreErr.Refused r)
+        → (hall.new ≡ hall.old) × (vol.new ≡ vol.old) }
+    ensures memory { IsErrOf result StoreErr.Memory → (hall.new ≡ hall.old)
+        × (vol.new ≡ record vol.old { by_name = vol.new.by_name })
+        × (vol.new.by_name.items ≡ vol.old.by_name.items) }
+    ensures faults { StoreCall (H.facts hall.old) (H.facts hall.new) result }
+{
+    let plan = plan(alloc, vol, dsn, attr, request, dir)?;
+    let Ok(()) = reserve_name(vol) else {
+        return Err(StoreErr::Memory);
+    };
+    match carry_out(hall, vol, dsn, attr, request, plan) {
+        Ok(()) => Ok(()),
+        Err(Device) => Err(StoreErr::Device),
+    }
+}
+
+// Takes memory for one more slot in the order of names.
+fn reserve_name(vol: &mut Vol) -> Result<(), AllocError>
+    ensures others { vol.new ≡ record vol.old { by_name = vol.new.by_name } }
+    ensures items { vol.new.by_name.items ≡ vol.old.by_name.items }
+    ensures room { OnOk result (vec_len vol.new.by_name < vec_capacity vol.new.by_name) }
+{
+    vol.by_name.reserve(1)
+}
+
+// Writes what is planned, each step durable before the next: else a stop could leave a new set whose tracks the
+// chain shows as free, with no bit on.
+fn carry_out<H: Hall>(
+    hall: &mut H,
+    vol: &mut Vol,
+    dsn: &Dsn,
+    attr: &Attr,
+    request: &Request,
+    plan: SetPlan,
+) -> Result<(), Device>
+    requires unit { IsOfUnit (H.facts hall.old).units vol.old }
+    requires names { AreByName (name_at vol.old.slots.items) vol.old.by_name.items }
+    requires absent { IsAbsent dsn.now.bytes vol.old.slots.items }
+    requires room { vec_len vol.old.by_name < vec_capacity vol.old.by_name }
+    requires catalog { is_catalog dsn.now.bytes ≡ false }
+    requires quantities { request.now.secondary < 2 ^ 24 }
+    requires few { plan.extents.n ≤ 5 }
+    requires written { AreExtents (listed plan.extents) }
+    requires free { AreWithout vol.old.free.items (listed plan.extents) plan.free.items }
+    requires plan { let image = image_in (H.meaning hall.old) (H.facts hall.old) vol.old.unit in
+        IsTrue H.tells → HasPlan image dsn.now attr.now request.now (listed plan.extents) }
+    requires mounted { let image = image_in (H.meaning hall.old) (H.facts hall.old) vol.old.unit in
+        IsTrue H.tells → IsMounted image vol.old }
+    requires settled { let image = image_in (H.meaning hall.old) (H.facts hall.old) vol.old.unit in
+        IsTrue H.tells → IsSettledVtoc image }
+    requires durable { IsTrue H.tells → IsDurable (H.meaning hall.old) }
+    ensures files { IsTrue H.tells → DoesOperation (unit_of (H.facts hall.old).units vol.old.unit).name
+        (allocate_on dsn.now attr.now request.now 0) vol.new (H.meaning hall.old)
+        (H.meaning hall.new) result }
+    ensures unit { IsOfUnit (H.facts hall.new).units vol.new }
+    ensures names { OnOk result (AreByName (name_at vol.new.slots.items) vol.new.by_name.items) }
+    ensures index { vol.new ≡ record vol.old {
+      slots = vol.new.slots;
+      free = vol.new.free;
+      by_name = vol.new.by_name;
+      buf = vol.new.buf;
+    } }
+    ensures faults { DeviceCall (H.facts hall.old) (H.facts hall.new) result }
+{
+    mark(hall, vol)?;
+    let pointer = put_further(hall, vol, request, &plan.extents)?;
+    put_set(hall, vol, dsn, attr, request, plan, pointer)?;
+    conclude(hall, vol)
+}
+
+// The lowest slot that may take a DSCB while an update is under way, which is there on each hall that tells its
+// content.
+fn open_slot<H: Hall>(hall: &mut H, vol: &Vol) -> Result<u32, Device>
+    requires unit { IsOfUnit (H.facts hall.old).units vol.now }
+    requires some { IsTrue H.tells → 1 ≤ open_slots vol.now.slots.items }
+    ensures found { IfOk result (λ slot. open_slot vol.now.slots.items ≡ Some slot) }
+    ensures hall { OnOk result (hall.new ≡ hall.old) }
+    ensures told { IsTrue H.tells → IsOk result }
+    ensures faults { DeviceCall (H.facts hall.old) (H.facts hall.new) result }
+{
+    match free_slot(vol) {
+        Some(slot) => Ok(slot),
+        None => {
+            hall.differs(vol.unit, vol.vtoc.start);
+            Err(Device)
+        }
+    }
+}
+
+// Puts a format 3 where there are more than three extents, and gives its address, or zeros.
+fn put_further<H: Hall>(
+    hall: &mut H,
+    vol: &mut Vol,
+    request: &Request,
+    extents: &Extents,
+) -> Result<[u8; 5], Device>
+    requires unit { IsOfUnit (H.facts hall.old).units vol.old }
+    requires few { extents.now.n ≤ 5 }
+    requires written { AreExtents (listed extents.now) }
+    requires slots { IsTrue H.tells → own_slots (listed extents.now) ≤ open_slots vol.old.slots.items }
+    requires mounted { let image = image_in (H.meaning hall.old) (H.facts hall.old) vol.old.unit in
+        IsTrue H.tells → IsMounted image vol.old }
+    requires marked { let image = image_in (H.meaning hall.old) (H.facts hall.old) vol.old.unit in
+        IsTrue H.tells → IsMarked (slots_of_vtoc image vol.old.geometry vol.old.vtoc) }
+    requires durable { IsTrue H.tells → IsDurable (H.meaning hall.old) }
+    ensures files { IsTrue H.tells → Marks (unit_of (H.facts hall.old).units vol.old.unit).name
+        vol.new (H.meaning hall.old) (H.meaning hall.new) result }
+    ensures third { let image = image_in (H.meaning hall.new) (H.facts hall.new) vol.old.unit in
+        IsTrue H.tells → IfOk result (HasFurtherIfMany (slots_of_vtoc image vol.old.geometry vol.old.vtoc)
+        vol.old.geometry (extent_type request.now.unit) (listed extents.now)) }
+    ensures slots { IsTrue H.tells → OnOk result (1 ≤ open_slots vol.new.slots.items) }
+    ensures names { OnOk result (HaveSameNames vol.old.slots.items vol.new.slots.items) }
+    ensures others { vol.new ≡ record vol.old { slots = vol.new.slots; buf = vol.new.buf } }
+    ensures unit { IsOfUnit (H.facts hall.new).units vol.new }
+    ensures faults { DeviceCall (H.facts hall.old) (H.facts hall.new) result }
+{
+    if own_slots(extents) == 1 {
+        return Ok([0; 5]);
+    }
+    let slot = open_slot(hall, vol)?;
+    let further = new_f3(&vol.geometry, extent_type(request.unit), extents);
+    put_through(hall, vol, slot, &Dscb::F3(further))?;
+    Ok(slot_address(vol, slot))
+}
+
+// Puts the format 1, which decides the operation; the index has the free runs without its tracks then, and its name.
+fn put_set<H: Hall>(
+    hall: &mut H,
+    vol: &mut Vol,
+    dsn: &Dsn,
+    attr: &Attr,
+    request: &Request,
+    plan: SetPlan,
+    pointer: [u8; 5],
+) -> Result<(), Device>
+    requires unit { IsOfUnit (H.facts hall.old).units vol.old }
+    requires names { AreByName (name_at vol.old.slots.items) vol.old.by_name.items }
+    requires absent { IsAbsent dsn.now.bytes vol.old.slots.items }
+    requires room { vec_len vol.old.by_name < vec_capacity vol.old.by_name }
+    requires catalog { is_catalog dsn.now.bytes ≡ false }
+    requires quantities { request.now.secondary < 2 ^ 24 }
+    requires few { plan.extents.n ≤ 5 }
+    requires written { AreExtents (listed plan.extents) }
+    requires free { AreWithout vol.old.free.items (listed plan.extents) plan.free.items }
+    requires slots { IsTrue H.tells → 1 ≤ open_slots vol.old.slots.items }
+    requires plan { let image = image_in (H.meaning hall.old) (H.facts hall.old) vol.old.unit in
+        IsTrue H.tells → HasPlan image dsn.now attr.now request.now (listed plan.extents) }
+    requires third { let image = image_in (H.meaning hall.old) (H.facts hall.old) vol.old.unit in
+        IsTrue H.tells → HasFurtherIfMany (slots_of_vtoc image vol.old.geometry vol.old.vtoc) vol.old.geometry
+        (extent_type request.now.unit) (listed plan.extents) pointer }
+    requires mounted { let image = image_in (H.meaning hall.old) (H.facts hall.old) vol.old.unit in
+        IsTrue H.tells → IsMounted image vol.old }
+    requires marked { let image = image_in (H.meaning hall.old) (H.facts hall.old) vol.old.unit in
+        IsTrue H.tells → IsMarked (slots_of_vtoc image vol.old.geometry vol.old.vtoc) }
+    requires durable { IsTrue H.tells → IsDurable (H.meaning hall.old) }
+    ensures files { IsTrue H.tells → Decides (unit_of (H.facts hall.old).units vol.old.unit).name
+        (allocate_on dsn.now attr.now request.now 0) vol.new (H.meaning hall.old)
+        (H.meaning hall.new) result }
+    ensures unit { IsOfUnit (H.facts hall.new).units vol.new }
+    ensures names { OnOk result (AreByName (name_at vol.new.slots.items) vol.new.by_name.items) }
+    ensures index { vol.new ≡ record vol.old {
+      slots = vol.new.slots;
+      free = vol.new.free;
+      by_name = vol.new.by_name;
+      buf = vol.new.buf;
+    } }
+    ensures faults { DeviceCall (H.facts hall.old) (H.facts hall.new) result }
+{
+    let slot = open_slot(hall, vol)?;
+    let set = new_f1(
+        dsn,
+        &vol.serial,
+        &new_attr(attr, request),
+        &vol.geometry,
+        extent_type(request.unit),
+        &plan.extents,
+        pointer,
+    );
+    put_through(hall, vol, slot, &Dscb::F1(set))?;
+    vol.free = plan.free;
+    enter_name(vol, slot);
+    Ok(())
+}

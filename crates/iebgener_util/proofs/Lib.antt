@@ -1,0 +1,15 @@
+mod AdvanceLemmas
+mod BeginLemmas
+mod Cases
+mod CopyLemmas
+mod EditLemmas
+mod EditorLemmas
+mod FoundLemmas
+mod HeldLemmas
+mod NextLemmas
+mod PutLemmas
+mod ReadLemmas
+mod RecordLemmas
+mod RequestLemmas
+mod StepLemmas
+mod WrittenLemmas

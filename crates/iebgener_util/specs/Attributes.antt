@@ -1,0 +1,112 @@
+-- The attributes of the records that are read and written, and the refusals that are found before the first operation.
+use Rattle.std.specs.Prelude.{◌≡◌, ℕ, ◌==◌, nat_le, bit_and, not, Bool, ◌&&◌, ◌||◌, if◌then◌else◌, is_some, unwrap_or, List, slice_get, Option, Some, None, Result, Ok, Err}
+use Rattle.ebcdic_names.specs.declared.names.Dsn.{Dsn}
+use Rattle.jcl_forms.specs.declared.attributes.Dcb.{Dcb}
+use Rattle.record_blocks.specs.declared.formats.Format.{Format}
+use Rattle.record_blocks.specs.Formats.{first_fault}
+use Rattle.vol_model.specs.declared.answers.Kind.{Kind}
+use Rattle.vol_model.specs.declared.answers.Kind.TheVariants as kinds
+use Rattle.vol_model.specs.declared.answers.SetInfo.{SetInfo}
+use Rattle.vol_model.specs.declared.contents.Attr.{Attr}
+use Rattle.vol_model.specs.Reading.{set_info}
+use Rattle.vol_model.specs.declared.contents.DataSet.{DataSet}
+use Rattle.vol_model.specs.declared.contents.Shelf.{Shelf}
+use Rattle.vol_model.specs.declared.contents.Volume.{Volume}
+use Rattle.vol_model.specs.declared.refusals.Refusal.{Refusal}
+use Rattle.vol_model.specs.declared.refusals.Refusal.TheVariants.{NoSet, NoVolume, Unreadable, WrongKind}
+use Rattle.vol_model.specs.Shelf.{is_catalog, is_sequential, set_of, unreadable}
+use Rattle.util_steps.specs.declared.calls.SetRef.{SetRef}
+
+-- ---- formats
+
+abbrev pub format_in : Attr → Format
+format_in a = record { recfm = a.recfm; lrecl = a.lrecl; blksize = a.blksize }
+
+-- the format of a data set with these attributes, or of cards: F, 80, 80
+abbrev pub format_with : Option Attr → Format
+format_with None = record { recfm = 0x80; lrecl = 80; blksize = 80 }
+format_with (Some a) = format_in a
+
+-- attributes with the record format and lengths of others
+abbrev pub with_format_of : Attr → Attr → Attr
+with_format_of other own = record own { recfm = other.recfm; optcd = other.optcd; blksize = other.blksize; lrecl = other.lrecl; keylen = other.keylen; rkp = other.rkp }
+
+-- attributes with those of cards: F, 80, 80
+abbrev pub with_card_format : Attr → Attr
+with_card_format own = record own { recfm = 0x80; optcd = 0; blksize = 80; lrecl = 80; keylen = 0; rkp = 0 }
+
+-- attributes with those that a DD gives
+abbrev pub with_dcb : Dcb → Attr → Attr
+with_dcb dcb a = record a { recfm = unwrap_or dcb.recfm a.recfm; lrecl = unwrap_or dcb.lrecl a.lrecl; blksize = unwrap_or dcb.blksize a.blksize; keylen = unwrap_or dcb.keylen a.keylen }
+
+-- the attributes of an input: those of its data set, or of cards where it is none
+abbrev pub input_attr : Option Attr → Attr → Attr
+input_attr None own = with_card_format own
+input_attr (Some input) own = input
+
+-- the attributes of the output: the DD's, else the data set's own where its record format isn't 0, else the input's
+unfoldable pub output_attr : Dcb → Attr → Option Attr → Attr
+output_attr dcb own input = with_dcb dcb (if own.recfm == 0 then with_format_of (input_attr input own) own else own)
+
+-- records of one length
+abbrev pub is_fixed : Format → Bool
+is_fixed format = bit_and format.recfm 0xC0 == 0x80
+
+-- the formats don't serve: one of them breaks a rule, or records are edited and the output has no records of one length
+unfoldable pub misfits : Bool → Format → Format → Bool
+misfits edits input output = is_some (first_fault input) || (is_some (first_fault output) || (edits && not (is_fixed output)))
+
+-- ---- refusals
+
+-- a data set that has records: a sequential one, or where it is emptied before one without an organization
+abbrev pub holds_records : Bool → List ℕ → Attr → Bool
+holds_records empties name attr = is_sequential name attr || (empties && (attr.dsorg == 0 && not (is_catalog name)))
+
+abbrev pub unless_refused : DataSet → Option Refusal → Result DataSet Refusal
+unless_refused x None = Ok x
+unless_refused x (Some r) = Err r
+
+abbrev pub set_if_there : Bool → List ℕ → Option DataSet → Result DataSet Refusal
+set_if_there empties name None = Err NoSet
+set_if_there empties name (Some x) = if holds_records empties name x.attr then unless_refused x (unreadable x.body) else Err WrongKind
+
+abbrev pub set_if_mounted : Bool → Dsn → Option Volume → Result DataSet Refusal
+set_if_mounted empties dsn None = Err NoVolume
+set_if_mounted empties dsn (Some volume) = set_if_there empties dsn.bytes (set_of dsn.bytes volume)
+
+-- a data set whose records are read, or written where it is emptied before or not, or why they can't be
+unfoldable pub usable_set : Shelf → Bool → SetRef → Result DataSet Refusal
+usable_set shelf empties s = set_if_mounted empties s.dsn (slice_get shelf.volumes s.v)
+
+-- the number of a refusal of those that are met here
+abbrev pub rank : Refusal → ℕ
+rank NoVolume = 1
+rank NoSet = 2
+rank WrongKind = 4
+rank _ = 5
+
+abbrev pub lower : Refusal → Refusal → Refusal
+lower a b = if nat_le (rank a) (rank b) then a else b
+
+-- both, or of their refusals the one of the lower number
+abbrev pub both : {X Y : Type 0} → Result X Refusal → Result Y Refusal → Result (X × Y) Refusal
+both (Ok x) (Ok y) = Ok (x, y)
+both (Ok x) (Err r) = Err r
+both (Err r) (Ok y) = Err r
+both (Err r) (Err q) = Err (lower r q)
+
+-- ---- what a machine tells of a set in short
+
+-- a set in short, unless its body can't be read
+abbrev pub info_unless : SetInfo → Kind → Result SetInfo Refusal
+info_unless info (kinds.Unreadable track) = Err (Unreadable track)
+info_unless info kind = Ok info
+
+-- what is told of a set, if its records can be read or written
+abbrev pub info_if : Bool → List ℕ → SetInfo → Result SetInfo Refusal
+info_if empties name info = if holds_records empties name info.attr then info_unless info info.kind else Err WrongKind
+
+-- a set is found, with what is told of it in short, or refused
+abbrev pub FindsSet : Result SetInfo Refusal → Result DataSet Refusal → Type 0
+FindsSet (Ok info) found = (x : DataSet) × (found ≡ Ok x) × (info ≡ set_info x)
+FindsSet (Err r) found = found ≡ Err r

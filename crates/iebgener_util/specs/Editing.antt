@@ -1,0 +1,86 @@
+-- Records that IEBGENER edits, group by group (Utilities GC28-6586, in this project's profile).
+use Rattle.std.specs.Prelude.{ℕ, ◌+◌, ◌-◌, nat_eq, nat_le, nat_lt, Bool, true, false, if◌then◌else◌, List, [], ◌∷◌, ◌++◌, length, take, drop, replicate, Option, Some, None, option_and_then}
+use Rattle.std.specs.List.{starts_with}
+use Rattle.iebgener_util.specs.declared.requests.Edit.{Edit}
+use Rattle.iebgener_util.specs.declared.requests.Field.{Field}
+use Rattle.iebgener_util.specs.declared.requests.Ident.{Ident}
+use Rattle.iebgener_util.specs.declared.requests.Origin.{Origin}
+use Rattle.iebgener_util.specs.declared.requests.Origin.TheVariants.{Column, Text}
+
+-- Records one after another, and whether a fault ends them.
+pub record Stream : Type 0 where
+  pub records : List (List ℕ)
+  pub broken : Bool
+
+-- a record in front of others
+abbrev pub with_record : List ℕ → Stream → Stream
+with_record rec others = record { records = rec ∷ others.records; broken = others.broken }
+
+-- a fault in the place of a record
+abbrev pub at_fault : Stream
+at_fault = record { records = []; broken = true }
+
+-- no more records
+abbrev pub at_end : Stream
+at_end = record { records = []; broken = false }
+
+-- a text of so many bytes: it is cut, or filled with blanks
+abbrev pub sized : ℕ → List ℕ → List ℕ
+sized n text = take n text ++ replicate (n - length text) 0x40
+
+-- so many bytes of a record from a column on, if it has them
+abbrev pub bytes_at : ℕ → ℕ → List ℕ → Option (List ℕ)
+bytes_at n column rec = if nat_le (column - 1 + n) (length rec) then Some (take n (drop (column - 1) rec)) else None
+
+-- so many bytes of a field's origin, if the record has them
+unfoldable pub field_bytes : ℕ → Origin → List ℕ → Option (List ℕ)
+field_bytes n (Column column) rec = bytes_at n column rec
+field_bytes n (Text text) rec = Some (sized n text)
+
+-- bytes laid over a record from a column on, if it reaches as far
+unfoldable pub laid : ℕ → List ℕ → List ℕ → Option (List ℕ)
+laid column bytes rec =
+    if nat_le (column - 1 + length bytes) (length rec) then Some (take (column - 1) rec ++ bytes ++ drop (column - 1 + length bytes) rec) else None
+
+-- a record with a field of another laid over it
+unfoldable pub with_field_laid : Field → List ℕ → List ℕ → Option (List ℕ)
+with_field_laid f rec new = option_and_then (λ (bytes : List ℕ). laid f.to bytes new) (field_bytes f.length f.from rec)
+
+-- with these fields, in order
+abbrev pub with_fields : List Field → List ℕ → List ℕ → Option (List ℕ)
+with_fields [] rec new = Some new
+with_fields (f ∷ fs) rec new = option_and_then (λ (further : List ℕ). with_fields fs rec further) (with_field_laid f rec new)
+
+-- a record of so many bytes: blanks with the fields laid over them, unless one passes the end of either record
+unfoldable pub edited_record : ℕ → Edit → List ℕ → Option (List ℕ)
+edited_record lrecl edit rec = with_fields edit.fields rec (replicate lrecl 0x40)
+
+-- the record has the text at its column
+unfoldable pub ends_group : Option Ident → List ℕ → Bool
+ends_group None rec = false
+ends_group (Some i) rec = starts_with nat_eq (drop (i.column - 1) rec) (sized i.length i.text)
+
+-- an edited record in front of others, or a fault
+abbrev pub edited_then : Option (List ℕ) → Stream → Stream
+edited_then None others = at_fault
+edited_then (Some rec) others = with_record rec others
+
+-- the groups behind a record
+abbrev pub groups_behind : Edit → List Edit → List ℕ → List Edit
+groups_behind edit edits rec = if ends_group edit.ident rec then edits else edit ∷ edits
+
+-- records edited by groups, one group after another; those behind the last group are dropped
+abbrev pub edited : ℕ → Bool → List Edit → List (List ℕ) → Stream
+edited lrecl broken [] recs = record { records = []; broken = broken }
+edited lrecl broken (e ∷ es) [] = record { records = []; broken = broken }
+edited lrecl broken (e ∷ es) (rec ∷ recs) = edited_then (edited_record lrecl e rec) (edited lrecl broken (groups_behind e es rec) recs)
+
+-- records as they are, or edited by the groups that are left
+unfoldable pub edited_by : ℕ → Option (List Edit) → Stream → Stream
+edited_by lrecl None st = st
+edited_by lrecl (Some edits) st = edited lrecl st.broken edits st.records
+
+-- records in front of the first that is longer than this
+abbrev pub fitting : ℕ → Bool → List (List ℕ) → Stream
+fitting longest broken [] = record { records = []; broken = broken }
+fitting longest broken (rec ∷ recs) = if nat_lt longest (length rec) then at_fault else with_record rec (fitting longest broken recs)

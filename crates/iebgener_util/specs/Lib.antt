@@ -1,0 +1,9 @@
+pub mod Requests
+pub mod Editing
+pub mod Reading
+pub mod Attributes
+pub mod Writing
+pub mod RecordWriter
+pub mod Advancing
+pub mod Editor
+pub mod Items

@@ -1,0 +1,160 @@
+//! The attributes of the records that are read and written, and the data sets that hold them.
+ghost use Rattle.std.specs.Prelude.{◌≡◌, false, is_some, option_map, IsTrue, IsFalse, IfOk, Ok, Err};
+ghost use Rattle.stop_model.specs.Moments.{Same};
+ghost use Rattle.vol_model.specs.Calls.{Keeps};
+ghost use Rattle.vol_model.specs.Runs.{RunCall};
+ghost use Rattle.iebgener_util.specs.Attributes.{FindsSet, format_in, holds_records, info_if, is_fixed, lower, misfits, output_attr, rank, usable_set, with_card_format, with_dcb, with_format_of};
+
+use ebcdic_names::Dsn;
+use jcl_forms::Dcb;
+use record_blocks::Format;
+use util_steps::SetRef;
+use vol_model::{Attr, Kind, Machine, Refusal, SetInfo, Stop, WorkErr, is_catalog};
+
+/// The format that these attributes give.
+pub fn format_in(attr: &Attr) -> Format
+    ensures { result ≡ format_in attr.now }
+{
+    Format {
+        recfm: attr.recfm,
+        lrecl: attr.lrecl,
+        blksize: attr.blksize,
+    }
+}
+
+// Attributes with the record format and lengths of others.
+fn with_format_of(other: &Attr, own: &Attr) -> Attr
+    ensures { result ≡ with_format_of other.now own.now }
+{
+    Attr {
+        recfm: other.recfm,
+        optcd: other.optcd,
+        blksize: other.blksize,
+        lrecl: other.lrecl,
+        keylen: other.keylen,
+        rkp: other.rkp,
+        ..*own
+    }
+}
+
+// Attributes with those of cards.
+fn with_card_format(own: &Attr) -> Attr
+    ensures { result ≡ with_card_format own.now }
+{
+    Attr {
+        recfm: 0x80,
+        optcd: 0,
+        blksize: 80,
+        lrecl: 80,
+        keylen: 0,
+        rkp: 0,
+        ..*own
+    }
+}
+
+// Attributes with those that a DD gives.
+fn with_dcb(dcb: &Dcb, attr: &Attr) -> Attr
+    ensures { result ≡ with_dcb dcb.now attr.now }
+{
+    Attr {
+        recfm: dcb.recfm.unwrap_or(attr.recfm),
+        lrecl: dcb.lrecl.unwrap_or(attr.lrecl),
+        blksize: dcb.blksize.unwrap_or(attr.blksize),
+        keylen: dcb.keylen.unwrap_or(attr.keylen),
+        ..*attr
+    }
+}
+
+/// The attributes of the output: field by field those that its DD gives, else its own where its record format isn't 0,
+/// else those of the input, which are F, 80, 80 where it is no data set.
+#[tactic(auto, unfolding(crate::specs::Attributes::output_attr))]
+pub fn output_attr(dcb: &Dcb, own: &Attr, input: &Option<Attr>) -> Attr
+    ensures { result ≡ output_attr dcb.now own.now input.now }
+{
+    if own.recfm != 0 {
+        return with_dcb(dcb, own);
+    }
+    match input {
+        Some(input) => with_dcb(dcb, &with_format_of(input, own)),
+        None => with_dcb(dcb, &with_format_of(&with_card_format(own), own)),
+    }
+}
+
+// Whether records have one length.
+fn is_fixed(format: &Format) -> bool
+    ensures { result ≡ is_fixed format.now }
+{
+    format.recfm & 0xC0 == 0x80
+}
+
+/// Whether formats don't serve: one breaks a rule, or records are edited and those of the output don't have one length.
+#[tactic(auto, unfolding(crate::specs::Attributes::misfits))]
+pub fn misfits(edits: bool, input: &Format, output: &Format) -> bool
+    ensures { result ≡ misfits edits input.now output.now }
+{
+    input.check().is_err() || output.check().is_err() || (edits && !is_fixed(output))
+}
+
+// Whether a data set has records: it is sequential, or is emptied before and has no organization.
+fn holds_records(empties: bool, name: &Dsn, attr: &Attr) -> bool
+    ensures { result ≡ holds_records empties name.now.bytes attr.now }
+{
+    (!is_catalog(name) && attr.dsorg / 512 == 32)
+        || (empties && attr.dsorg == 0 && !is_catalog(name))
+}
+
+// What is told of a data set, if its records can be read or written.
+fn unless_refused(empties: bool, name: &Dsn, info: SetInfo) -> Result<SetInfo, Refusal>
+    ensures { result ≡ info_if empties name.now.bytes info }
+{
+    if !holds_records(empties, name, &info.attr) {
+        return Err(Refusal::WrongKind);
+    }
+    match info.kind {
+        Kind::Unreadable(track) => Err(Refusal::Unreadable(track)),
+        _ => Ok(info),
+    }
+}
+
+/// What is told of a data set whose records are read, or written where it is emptied before or not; or why they can't be.
+pub fn find_set<M: Machine>(
+    machine: &mut M,
+    empties: bool,
+    set: &SetRef,
+) -> Result<Result<SetInfo, Refusal>, Stop>
+    requires sound { IsTrue (M.status machine.old).is_sound }
+    requires closed { IsFalse (M.status machine.old).is_open }
+    ensures found { IsTrue M.tells → IfOk result (λ answer. FindsSet answer (usable_set (M.meaning machine.old).state empties set.now)) }
+    ensures same { IsTrue M.tells → Same (M.meaning machine.old) (M.meaning machine.new) }
+    ensures promise { IsTrue M.tells → Keeps (M.meaning machine.old).clock (M.promise machine.old) (M.promise machine.new) }
+    ensures count { (M.status machine.new).done ≡ (M.status machine.old).done }
+    ensures faults { RunCall false (M.status machine.old) (M.status machine.new) result }
+{
+    let mounted = machine.volume(set.v).is_some();
+    match machine.attr(set.v, &set.dsn) {
+        Ok(Some(info)) => Ok(unless_refused(empties, &set.dsn, info)),
+        Ok(None) if mounted => Ok(Err(Refusal::NoSet)),
+        Ok(None) => Ok(Err(Refusal::NoVolume)),
+        Err(WorkErr::Memory) => Err(Stop::Memory),
+        Err(WorkErr::Device) => Err(Stop::Device),
+    }
+}
+
+// The number of a refusal of those that are met here.
+fn rank(refusal: Refusal) -> u8
+    ensures { result ≡ rank refusal }
+{
+    match refusal {
+        Refusal::NoVolume => 1,
+        Refusal::NoSet => 2,
+        Refusal::WrongKind => 4,
+        _ => 5,
+    }
+}
+
+/// Of two refusals the one of the lower number.
+pub fn lower(a: Refusal, b: Refusal) -> Refusal
+    ensures { result ≡ lower a b }
+{
+    if rank(a) <= rank(b) { a } else { b }
+}

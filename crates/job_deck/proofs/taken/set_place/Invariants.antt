@@ -1,6 +1,0 @@
-use Rattle.std.proofs.Common.{◌≡◌, drop, find, option_map}
-use Rattle.job_deck.specs.Taken.{names_set}
-use Rattle.job_deck.proofs.taken.set_place.Given as goal
-
-abbrev pub invariant-loop-piece : goal.invariant-loop-piece
-invariant-loop-piece l = find names_set (drop l.piece-index l.pieces) ≡ find names_set l.pieces
