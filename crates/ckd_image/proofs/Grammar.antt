@@ -187,7 +187,7 @@ pub marker_ends : (rest : List ℕ) → is_at_end (end_marker ++ rest) ≡ true
 marker_ends rest = (bytes_eq-Decides end_marker end_marker).1 refl
 
 -- records that may stand are read
-read_to_end : (rs : List Record) (n r : ℕ) (rest : List ℕ) → AreRecords r rs → length rs ≤ n → records_to_end n r (records_bytes r rs ++ (end_marker ++ rest)) ≡ Some rs
+pub read_to_end : (rs : List Record) (n r : ℕ) (rest : List ℕ) → AreRecords r rs → length rs ≤ n → records_to_end n r (records_bytes r rs ++ (end_marker ++ rest)) ≡ Some rs
 read_to_end [] n r rest s l = to_end_ended n r (end_marker ++ rest) (marker_ends rest)
 read_to_end (x ∷ xs) zero r rest s l = absurd (omega arith)
 read_to_end (x ∷ xs) (suc n) r rest s l =

@@ -12,4 +12,5 @@ pub mod GrammarBegin
 pub mod GrammarFirstBreak
 pub mod WrittenHeaders
 pub mod WrittenTracks
+pub mod FitBytes
 pub mod GeometryLemmas

@@ -23,3 +23,7 @@ fits device earlier kl dl =
 -- so many records of this KL and DL fit a track, and one more doesn't
 abbrev pub IsMost : DiskType → ℕ → ℕ → ℕ → Type 0
 IsMost device kl dl n = (fits device (replicate (n - 1) (kl, dl)) kl dl ≡ true) × (fits device (replicate n (kl, dl)) kl dl ≡ false)
+
+-- the balance of a track with these records: its capacity less what they cost with others behind them, and at least 0
+abbrev pub balance : DiskType → List (ℕ × ℕ) → ℕ
+balance device records = (row_of device).track_capacity - sum_by (λ lengths. record_cost device lengths.0 lengths.1) records

@@ -1,7 +1,7 @@
 //! What records cost on a track, and whether they fit it.
 ghost use Rattle.std.specs.Prelude.{◌≡◌, ◌≤◌};
 ghost use Rattle.ckd_image.specs.Device.{row_of};
-ghost use Rattle.ckd_image.specs.Fit.{fits, record_cost, last_record_cost, saved};
+ghost use Rattle.ckd_image.specs.Fit.{balance, fits, record_cost, last_record_cost, saved};
 
 use crate::device::DiskType;
 
@@ -28,6 +28,18 @@ pub fn fits(device: DiskType, earlier: &[(u8, u16)], kl: u8, dl: u16) -> bool
         room -= cost;
     }
     last_record_cost(device, kl, dl) <= room
+}
+
+/// The balance of a track of the device with these records: its capacity less what each of them costs as one that isn't
+/// the last, and at least 0 (the track balance of a format 1 DSCB; the use of the formula is this project's profile).
+pub fn balance(device: DiskType, records: &[(u8, u16)]) -> u16
+    ensures { result ≡ balance device records.now }
+{
+    let mut room = u32::from(device.track_capacity());
+    for lengths in records {
+        room = room.saturating_sub(record_cost(device, lengths.0, lengths.1));
+    }
+    room as u16
 }
 
 // The bytes that a record costs which isn't the last of its track.

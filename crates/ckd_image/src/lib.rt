@@ -9,7 +9,7 @@ mod track;
 mod writing;
 
 pub use device::DiskType;
-pub use fit::fits;
+pub use fit::{balance, fits};
 pub use header::{Geometry, HEADER_LEN, Header, ImageErr};
 pub use record::{COUNT_LEN, RecordParts, record_at};
 pub use track::{BadCount, FRONT_LEN, track_of};

@@ -34,19 +34,19 @@ sums p q a b c n m one other = omega arith
 freed_track : (n m b : ℕ) → n ≡ m + b → n ≤ 1 → not (nat_lt 0 m) ≡ (not (nat_lt 0 n) || nat_lt 0 b)
 freed_track n m b split once = grind (arith, nat_tests)
 
-module _ (g : Geometry) (label : List ℕ) (vtoc : Run) (slots without : List VtocSlot) (x : DataSet) (among : IsAmong g slots without x) where
+module _ (g : Geometry) (tracks : List (List ℕ)) (label : List ℕ) (vtoc : Run) (slots without : List VtocSlot) (x : DataSet) (among : IsAmong g tracks slots without x) where
   abbrev volume : Volume
-  volume = volume_with g label vtoc slots
+  volume = volume_with g tracks label vtoc slots
 
   abbrev after : Volume
-  after = volume_with g label vtoc without
+  after = volume_with g tracks label vtoc without
 
   -- the runs that have a track, before and after
   split : (t : ℕ) → owners t (owned_runs volume) ≡ owners t (owned_runs after) + owners t x.extents
   unfolding volume_with
   split t =
-      let sets : List DataSet = data_sets_in g slots in
-      let left : List DataSet = data_sets_in g without in
+      let sets : List DataSet = data_sets_in g tracks slots in
+      let left : List DataSet = data_sets_in g tracks without in
       let before = owners_permuted t vtoc sets (in_order sets) (in_order-permutation sets) ∙ ap (λ (l : List DataSet). owners t (runs_owned vtoc l)) among.all in
       let later = owners_permuted t vtoc left (in_order left) (in_order-permutation left) ∙ ap (λ (l : List DataSet). owners t (runs_owned vtoc l)) among.left in
       let front : ℕ = owners t (extents_of among.front) in

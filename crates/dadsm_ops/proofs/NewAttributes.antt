@@ -4,6 +4,7 @@ use Rattle.std.specs.Prelude.{◌==◌, bit_and}
 use Rattle.ckd_image.specs.declared.device.DiskType.{DiskType}
 use Rattle.ckd_image.specs.declared.header.Geometry.{Geometry}
 use Rattle.dscb_codec.specs.declared.F1.{F1}
+use Rattle.pack_spec.specs.Blocks.{seq_body}
 use Rattle.pack_spec.specs.Bodies.{body_of}
 use Rattle.pack_spec.specs.Volume.{attr_of, secondary_of, space_flags}
 use Rattle.vol_model.specs.declared.contents.Attr.{Attr}
@@ -61,11 +62,11 @@ module _ (name serial : List ℕ) (attr : Attr) (q : Request) (g : Geometry) (ki
   attr_read = ap₂ (λ (flags n : ℕ). record attr { scalo = flags; secondary = n }) flags_read secondary_read
 
   -- a set without a directory has no block
-  pub body_read : (device : DiskType) → is_catalog name ≡ false → is_partitioned name attr ≡ false → body_of name (asked attr q) f.lstar ≡ new_body device name attr 0
-  unfolding body_of new_f1
-  body_read device other flat = by_tests (is_catalog name) (is_sequential name attr) (is_partitioned name attr) other flat
+  pub body_read : (device : DiskType) (tracks : List (List ℕ)) (extents : List Run) → is_catalog name ≡ false → is_partitioned name attr ≡ false → body_of g tracks name (asked attr q) extents f.lstar ≡ new_body device name attr 0
+  unfolding body_of seq_body new_f1
+  body_read device tracks extents other flat = by_tests (is_catalog name) (is_sequential name attr) (is_partitioned name attr) other flat
     where
-      by_tests : (c s p : Bool) → c ≡ false → p ≡ false → cond (s && true) (bodies.Seq []) (cond (c || (s || p)) (bodies.Unreadable 0) bodies.Other)
+      by_tests : (c s p : Bool) → c ≡ false → p ≡ false → cond s (bodies.Seq []) (cond (c || p) (bodies.Unreadable 0) bodies.Other)
           ≡ cond c bodies.Catalog (cond s (bodies.Seq []) (cond p (bodies.Part 0 (directory_end device 0) [] []) bodies.Other))
       by_tests true s p is none = cc
       by_tests false true p is none = refl

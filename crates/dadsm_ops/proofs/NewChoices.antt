@@ -6,6 +6,7 @@ use Rattle.ckd_image.specs.declared.device.DiskType.TheVariants.{D2311, D2314, D
 use Rattle.ckd_image.specs.declared.header.Geometry.{Geometry}
 use Rattle.ckd_image.specs.Device.{row_of}
 use Rattle.hall_core.specs.Facts.{Attached}
+use Rattle.pack_spec.specs.Blocks.{data_tracks}
 use Rattle.pack_spec.specs.Volume.{volume_by, volume_of, volume_with}
 use Rattle.space_alloc.specs.declared.extents.Extents.{Extents}
 use Rattle.space_alloc.specs.declared.extents.NoSpace.{NoSpace}
@@ -76,5 +77,5 @@ module _ (image : List ℕ) (v : Vol) (volume : Volume) (mounted : IsMounted ima
   pub has_named_set : (name : List ℕ) → has_set volume name ≡ is_some (first_named name v.slots.items)
   has_named_set name =
       ap (λ (x : Volume). has_set x name) volume_is
-      ∙ has_set_found v.geometry (label_by image v) v.vtoc (slots_by image v) name
+      ∙ has_set_found v.geometry (data_tracks image v.geometry v.vtoc) (label_by image v) v.vtoc (slots_by image v) name
       ∙ ap (λ (o : Option ℕ). is_some o) (named_alike name v.slots.items (slots_by image v) mounted.index.slots)

@@ -108,7 +108,7 @@ found_there p (y ∷ xs) is = by_test (p y) refl (λ found. found_there p xs fou
 
 -- no format 1 of slots that break no rule counts a pointer to an open slot
 module _ (g : Geometry) (slots : List VtocSlot) (lawful : slots_faults g slots ≡ []) (apart : AreApart slots) (k : ℕ) (s : VtocSlot) (there : slice_get slots k ≡ Some s) (opened : is_f5_or_f0 s.content ≡ true) where
-  not_pointed : (h : F1) → IsSetOf slots h → is_chained h ≡ true → bytes_eq s.address h.pointer ≡ false
+  pub not_pointed : (h : F1) → IsSetOf slots h → is_chained h ≡ true → bytes_eq s.address h.pointer ≡ false
   not_pointed h set chained = by_address (bytes_eq s.address h.pointer) refl
     where
       by_address : (t : Bool) → bytes_eq s.address h.pointer ≡ t → t ≡ false
@@ -250,12 +250,12 @@ module _ (g : Geometry) (few : tracks_of g ≤ 65536) (slots : List VtocSlot) (l
   }
 
   -- and is read as the new set
-  pub set_read : data_set_of g slots f ≡ record { name = dsn; attr = new_attr dsn.bytes attr q; extents = runs; body = new_body g.device dsn.bytes attr 0 }
+  pub set_read : (tracks : List (List ℕ)) → data_set_of g tracks slots f ≡ record { name = dsn; attr = new_attr dsn.bytes attr q; extents = runs; body = new_body g.device dsn.bytes attr 0 }
   unfolding data_set_of new_f1
-  set_read =
+  set_read tracks =
       let attrs = attr_read dsn.bytes serial attr q g kind runs pointer secondary in
-      let body : body_of f.name (attr_of f) f.lstar ≡ new_body g.device dsn.bytes attr 0 =
-      ap (λ (a : Attr). body_of f.name a f.lstar) attrs ∙ body_read dsn.bytes serial attr q g kind runs pointer secondary g.device other flat in
+      let body : body_of g tracks f.name (attr_of f) (map (run_of_extent g) (counted_extents slots f)) f.lstar ≡ new_body g.device dsn.bytes attr 0 =
+      ap (λ (a : Attr). body_of g tracks f.name a (map (run_of_extent g) (counted_extents slots f)) f.lstar) attrs ∙ body_read dsn.bytes serial attr q g kind runs pointer secondary g.device tracks (map (run_of_extent g) (counted_extents slots f)) other flat in
       let rows : map (run_of_extent g) (counted_extents slots f) ≡ runs = ap (map (run_of_extent g)) counted ∙ numbered_read g kind 0 runs few on_pack in
       let whole : attr_of f ≡ new_attr dsn.bytes attr q = attrs ∙ sym (attr_asked dsn.bytes attr q other) in
       λ i. record { name = dsn; attr = whole i; extents = rows i; body = body i }

@@ -16,6 +16,7 @@ use Rattle.pack_spec.specs.Label.{tracks_of}
 use Rattle.pack_spec.specs.Owned.{volume_faults}
 use Rattle.pack_spec.specs.Rules.{is_named, slots_faults}
 use Rattle.pack_spec.specs.Settled.{IsMarked}
+use Rattle.pack_spec.specs.Blocks.{data_tracks}
 use Rattle.pack_spec.specs.Volume.{volume_by, volume_with}
 use Rattle.pack_spec.proofs.AddressesApart.{AreApart, slots_apart}
 use Rattle.pack_spec.proofs.AlikeVolumes.{alike_faults, alike_volume}
@@ -83,10 +84,10 @@ module _ (name : List ℕ) (v v' : Vol) (slot : ℕ) (m n : Meaning (List File))
     third_lawful : slots_faults v.geometry (with_dscb slot (formats.F3 h) slots) ≡ []
     third_lawful = alike_faults v.geometry slots mounted.lawful apart (with_dscb slot (formats.F3 h) slots) (third_alike slots slot here h at.behind there at.opened)
 
-    third_same : volume_with v.geometry (label_by image v) v.vtoc (with_dscb slot (formats.F3 h) slots) ≡ volume
-    third_same = alike_volume v.geometry slots mounted.lawful apart (with_dscb slot (formats.F3 h) slots) (third_alike slots slot here h at.behind there at.opened) (label_by image v) v.vtoc
+    third_same : volume_with v.geometry (data_tracks image v.geometry v.vtoc) (label_by image v) v.vtoc (with_dscb slot (formats.F3 h) slots) ≡ volume
+    third_same = alike_volume v.geometry slots mounted.lawful apart (with_dscb slot (formats.F3 h) slots) (third_alike slots slot here h at.behind there at.opened) (data_tracks image v.geometry v.vtoc) (label_by image v) v.vtoc
 
-    third_whole : volume_faults (volume_with v.geometry (label_by image v) v.vtoc (with_dscb slot (formats.F3 h) slots)) ≡ []
+    third_whole : volume_faults (volume_with v.geometry (data_tracks image v.geometry v.vtoc) (label_by image v) v.vtoc (with_dscb slot (formats.F3 h) slots)) ≡ []
     third_whole = ap volume_faults third_same ∙ mounted.whole
 
     third_marked : IsMarkedFor name volume m.state put.after
@@ -150,7 +151,7 @@ module _ (name : List ℕ) (v v' : Vol) (slot : ℕ) (m n : Meaning (List File))
     after = with_new dsn attr q 0 volume runs
 
     absent : list_any (λ (t : VtocSlot). is_named dsn.bytes t.content) slots ≡ false
-    absent = any_first (λ (t : VtocSlot). is_named dsn.bytes t.content) slots ∙ sym (has_set_found v.geometry (label_by image v) v.vtoc slots dsn.bytes) ∙ has.absent
+    absent = any_first (λ (t : VtocSlot). is_named dsn.bytes t.content) slots ∙ sym (has_set_found v.geometry (data_tracks image v.geometry v.vtoc) (label_by image v) v.vtoc slots dsn.bytes) ∙ has.absent
 
     can : CanPut v.geometry slots slot f
     can = can_put v.geometry low slots mounted.lawful apart dsn serial attr q runs pointer other has.flat secondary five on_pack third slot here at.behind there at.opened absent
@@ -158,15 +159,15 @@ module _ (name : List ℕ) (v v' : Vol) (slot : ℕ) (m n : Meaning (List File))
     set_lawful : slots_faults v.geometry (with_dscb slot (formats.F1 f) slots) ≡ []
     set_lawful = faults_put v.geometry slots slot f can
 
-    set_after : volume_with v.geometry (label_by image v) v.vtoc (with_dscb slot (formats.F1 f) slots) ≡ after
+    set_after : volume_with v.geometry (data_tracks image v.geometry v.vtoc) (label_by image v) v.vtoc (with_dscb slot (formats.F1 f) slots) ≡ after
     unfolding new_f1
-    set_after = volume_with_new v.geometry slots slot f can (label_by image v) v.vtoc dsn attr q runs other refl
-        (set_read v.geometry low slots mounted.lawful apart dsn serial attr q runs pointer other has.flat secondary five on_pack third)
+    set_after = volume_with_new v.geometry (data_tracks image v.geometry v.vtoc) slots slot f can (label_by image v) v.vtoc dsn attr q runs other refl
+        (set_read v.geometry low slots mounted.lawful apart dsn serial attr q runs pointer other has.flat secondary five on_pack third (data_tracks image v.geometry v.vtoc))
 
     stepped : allocate_on dsn attr q 0 volume ≡ Ok after
     stepped = allocate_ok dsn attr q volume has.absent has.flat runs has.chosen other fits
 
-    set_whole : volume_faults (volume_with v.geometry (label_by image v) v.vtoc (with_dscb slot (formats.F1 f) slots)) ≡ []
+    set_whole : volume_faults (volume_with v.geometry (data_tracks image v.geometry v.vtoc) (label_by image v) v.vtoc (with_dscb slot (formats.F1 f) slots)) ≡ []
     set_whole = ap volume_faults set_after ∙ lawful_faults after (allocate_keeps dsn attr q volume secondary after (lawful_volume image volume mounted.volume) stepped)
 
     module _ {T E : Type 0} {result : Result T E} (put : PutsThrough name v slot (formats.F1 f) v' m n result) where

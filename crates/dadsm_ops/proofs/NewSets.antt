@@ -60,51 +60,51 @@ none_named x (y ∷ sets) e =
     parts true b e = absurd cc
     parts false b e = (refl, e)
 
-module _ (g : Geometry) (y : List VtocSlot) (k : ℕ) (f : F1) (can : CanPut g y k f) where
+module _ (g : Geometry) (tracks : List (List ℕ)) (y : List VtocSlot) (k : ℕ) (f : F1) (can : CanPut g y k f) where
   abbrev z : List VtocSlot
   z = with_dscb k (formats.F1 f) y
 
   -- the data sets that were there, and the new one
   abbrev old : List DataSet
-  old = data_sets_in g y
+  old = data_sets_in g tracks y
 
   abbrev x : DataSet
-  x = data_set_of g y f
+  x = data_set_of g tracks y f
 
-  same_set : data_set_of g z ≡ data_set_of g y
+  same_set : data_set_of g tracks z ≡ data_set_of g tracks y
   unfolding data_set_of
   same_set = λ i h. record {
     name = record { bytes = h.name };
     attr = attr_of h;
     extents = map (run_of_extent g) (counted_put g y k f can h i);
-    body = body_of h.name (attr_of h) h.lstar;
+    body = body_of g tracks h.name (attr_of h) (map (run_of_extent g) (counted_put g y k f can h i)) h.lstar;
   }
 
-  sets_moved : IsPermutation (x ∷ old) (data_sets_in g z)
+  sets_moved : IsPermutation (x ∷ old) (data_sets_in g tracks z)
   unfolding data_sets_in
   sets_moved =
       subst (λ (d : F1 → DataSet). IsPermutation (x ∷ old) (map d (sets_among z))) (sym same_set)
-      (IsPermutation-map (data_set_of g y) (f ∷ sets_among y) (sets_among z) (sets_put f k y can.slot can.there (free_set can.slot.content can.free)))
+      (IsPermutation-map (data_set_of g tracks y) (f ∷ sets_among y) (sets_among z) (sets_put f k y can.slot can.there (free_set can.slot.content can.free)))
 
   old_ascend : IsDistinct same_names (in_order old)
   unfolding data_sets_in name_faults
-  old_ascend = ascending-distinct (in_order old) (in_order-ascending old (distinct_sets g y (sets_among y) (names_apart y (groups_hold g y can.lawful).2)))
+  old_ascend = ascending-distinct (in_order old) (in_order-ascending old (distinct_sets g tracks y (sets_among y) (names_apart y (groups_hold g y can.lawful).2)))
 
   -- no set has the name
   pub none_has : list_any (has_name f.name) (in_order old) ≡ false
-  none_has = any_in_order (has_name f.name) old ∙ named_in g y f.name ∙ can.absent
+  none_has = any_in_order (has_name f.name) old ∙ named_in g tracks y f.name ∙ can.absent
 
   distinct : IsDistinct same_names (x ∷ in_order old)
   unfolding IsDistinct data_set_of
   distinct = (none_named x (in_order old) none_has, old_ascend)
 
   -- the sets are those, in the order of their names
-  pub sets_with : in_order (data_sets_in g z) ≡ in_order (x ∷ in_order old)
-  sets_with = sorted_in_order (x ∷ in_order old) (in_order (data_sets_in g z)) distinct
-      (IsPermutation-trans _ _ _ (IsPermutation-cons x _ _ (IsPermutation-sym _ _ (in_order-permutation old))) (IsPermutation-trans _ _ _ sets_moved (in_order-permutation (data_sets_in g z))))
-      (in_order-sorted (data_sets_in g z))
+  pub sets_with : in_order (data_sets_in g tracks z) ≡ in_order (x ∷ in_order old)
+  sets_with = sorted_in_order (x ∷ in_order old) (in_order (data_sets_in g tracks z)) distinct
+      (IsPermutation-trans _ _ _ (IsPermutation-cons x _ _ (IsPermutation-sym _ _ (in_order-permutation old))) (IsPermutation-trans _ _ _ sets_moved (in_order-permutation (data_sets_in g tracks z))))
+      (in_order-sorted (data_sets_in g tracks z))
 
-  catalog_with : is_catalog f.name ≡ false → catalog_of (in_order (data_sets_in g z)) ≡ catalog_of (in_order old)
+  catalog_with : is_catalog f.name ≡ false → catalog_of (in_order (data_sets_in g tracks z)) ≡ catalog_of (in_order old)
   unfolding catalog_of data_set_of
   catalog_with other =
       ap (λ (b : Bool). cond b (Some (catalogs.Unreadable 0)) None)
@@ -113,14 +113,14 @@ module _ (g : Geometry) (y : List VtocSlot) (k : ℕ) (f : F1) (can : CanPut g y
   -- The volume has the new set and is else the same.
   pub volume_with_new : (label : List ℕ) (vtoc : Run) (dsn : Dsn) (attr : Attr) (q : Request) (runs : List Run) → is_catalog f.name ≡ false → f.name ≡ dsn.bytes
       → x ≡ record { name = dsn; attr = new_attr dsn.bytes attr q; extents = runs; body = new_body g.device dsn.bytes attr 0 }
-      → volume_with g label vtoc z ≡ with_new dsn attr q 0 (volume_with g label vtoc y) runs
+      → volume_with g tracks label vtoc z ≡ with_new dsn attr q 0 (volume_with g tracks label vtoc y) runs
   unfolding volume_with
   volume_with_new label vtoc dsn attr q runs other named is =
-      let sets : in_order (data_sets_in g z) ≡ in_order (record { name = dsn; attr = new_attr dsn.bytes attr q; extents = runs; body = new_body g.device dsn.bytes attr 0 } ∷ in_order old) =
+      let sets : in_order (data_sets_in g tracks z) ≡ in_order (record { name = dsn; attr = new_attr dsn.bytes attr q; extents = runs; body = new_body g.device dsn.bytes attr 0 } ∷ in_order old) =
       sets_with ∙ ap (λ (w : DataSet). in_order (w ∷ in_order old)) is in
       let tree : CatBody = catalogs.Tree (tracks_in runs * (row_of g.device).directory_blocks_per_track) [] in
       let flat : is_catalog dsn.bytes ≡ false = ap is_catalog (sym named) ∙ other in
-      let catalog : catalog_of (in_order (data_sets_in g z)) ≡ cond (is_catalog dsn.bytes) (Some tree) (catalog_of (in_order old)) =
+      let catalog : catalog_of (in_order (data_sets_in g tracks z)) ≡ cond (is_catalog dsn.bytes) (Some tree) (catalog_of (in_order old)) =
       catalog_with other ∙ sym (ap (λ (b : Bool). cond b (Some tree) (catalog_of (in_order old))) flat) in
       λ i. record {
         serial = record { bytes = slice_range label 4 10 };

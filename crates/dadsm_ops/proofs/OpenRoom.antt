@@ -12,6 +12,7 @@ use Rattle.ebcdic_names.specs.declared.names.Dsn.{Dsn}
 use Rattle.pack_spec.specs.declared.slot.VtocSlot.{VtocSlot}
 use Rattle.pack_spec.specs.Rules.{counted_extents, is_chained, is_f3, set_in}
 use Rattle.pack_spec.specs.Settled.{AreSettled, is_used}
+use Rattle.pack_spec.specs.Blocks.{data_tracks}
 use Rattle.pack_spec.specs.Volume.{data_set_of, data_sets_in, volume_by, volume_with}
 use Rattle.pack_spec.specs.Vtoc.{run_of_extent}
 use Rattle.pack_spec.proofs.AddressesApart.{slots_apart}
@@ -36,7 +37,7 @@ use Rattle.free_rebuild.proofs.NeededSlots.{AreNamedApart, fours_few, kinds, ope
 use Rattle.free_rebuild.proofs.RoomThere.{count_weaker, four_alone, many_extents, set_stands, sets_held}
 use Rattle.free_rebuild.proofs.StandLemmas.{has_front}
 use Rattle.dadsm_ops.specs.Allocating.{open_slots, own_slots}
-use Rattle.dadsm_ops.proofs.NewVolumes.{has_third, needed_new, taken_sum}
+use Rattle.dadsm_ops.proofs.NewVolumes.{has_third, needed_new, taken_sum, takes}
 use Rattle.dadsm_ops.proofs.StandingPuts.{slots_by}
 
 all_at : (p : VtocSlot → Bool) (xs : List VtocSlot) (k : ℕ) (s : VtocSlot) → list_all p xs ≡ true → slice_get xs k ≡ Some s → p s ≡ true
@@ -79,15 +80,15 @@ module _ (image : List ℕ) (v : Vol) (mounted : IsMounted image v) (few : v.vto
   unfolding volume_with data_sets_in
   sets_many =
       let fs : List F1 = filter_map (λ (s : VtocSlot). set_in s.content) slots in
-      let sets : List DataSet = data_sets_in v.geometry slots in
-      length_permutation sets (in_order sets) (in_order-permutation sets) ∙ length-map fs (data_set_of v.geometry slots) ∙ ap length (sets_held slots items mounted.index.slots)
+      let sets : List DataSet = data_sets_in v.geometry (data_tracks image v.geometry v.vtoc) slots in
+      length_permutation sets (in_order sets) (in_order-permutation sets) ∙ length-map fs (data_set_of v.geometry (data_tracks image v.geometry v.vtoc) slots) ∙ ap length (sets_held slots items mounted.index.slots)
 
   chained_many : count_by is_chained (sets_in items) ≤ sum_by has_third volume.sets
   unfolding volume_with data_sets_in data_set_of
   chained_many =
       let fs : List F1 = filter_map (λ (s : VtocSlot). set_in s.content) slots in
-      let sets : List DataSet = data_sets_in v.geometry slots in
-      let more : count_by is_chained fs ≤ count_by (λ (x : DataSet). nat_lt 3 (length x.extents)) sets = count_weaker is_chained (λ (x : DataSet). nat_lt 3 (length x.extents)) (data_set_of v.geometry slots) fs (λ i f is chained.
+      let sets : List DataSet = data_sets_in v.geometry (data_tracks image v.geometry v.vtoc) slots in
+      let more : count_by is_chained fs ≤ count_by (λ (x : DataSet). nat_lt 3 (length x.extents)) sets = count_weaker is_chained (λ (x : DataSet). nat_lt 3 (length x.extents)) (data_set_of v.geometry (data_tracks image v.geometry v.vtoc) slots) fs (λ i f is chained.
       ap (nat_lt 3) (length-map (counted_extents slots f) (run_of_extent v.geometry)) ∙ many_extents image v mounted f (set_stands slots i f is) chained) in
       let ordered : sum_by has_third volume.sets ≡ sum_by has_third sets = sum_by-IsPermutation has_third sets (in_order sets) (in_order-permutation sets) in
       omega (arith, more, ordered, ap (count_by is_chained) (sets_held slots items mounted.index.slots))
@@ -119,3 +120,15 @@ module _ (image : List ℕ) (v : Vol) (mounted : IsMounted image v) (few : v.vto
       where
         some : (n : ℕ) → 1 ≤ max 1 n
         some n = omega arith
+
+    -- The same of any slots that are needed besides those that the sets take.
+    pub more_room : (q extra needed : ℕ) → needed ≡ 1 + max 1 q + (sum_by takes volume.sets + extra) → needed ≤ volume.slots → extra ≤ open_slots items
+    more_room q extra needed need fits =
+        let front = has_front image v mounted in
+        let chained = thirds_led at items apart led in
+        let one = fours_few items (λ k d there. four_alone v.geometry slots k (record { address = at (suc k); content = Ok d }) mounted.lawful (held (suc k) d there)) in
+        let opens = opens_behind items (formats.F4 front.head) front.one front.four refl front.second front.opened in
+        let sum = taken_sum volume.sets in
+        let all = kinds items in
+        let chain : 1 ≤ max 1 q = omega arith in
+        omega (arith, chained, one, opens, need, sum, all, chain, fits, sets_many, chained_many, slots_many)

@@ -19,6 +19,7 @@ use Rattle.pack_spec.specs.FreeChain.{entries_of, free_entries}
 use Rattle.pack_spec.specs.Settled.{AreGuarded, AreSettled, IsGuarded, IsSettledVtoc, slots_for}
 use Rattle.pack_spec.specs.Slots.{slots_of_vtoc}
 use Rattle.pack_spec.specs.Rules.{front_faults, slots_faults, is_f4}
+use Rattle.pack_spec.specs.Blocks.{data_tracks}
 use Rattle.pack_spec.specs.Volume.{volume_of, volume_with}
 use Rattle.vol_model.specs.declared.contents.Run.{Run}
 use Rattle.vol_model.specs.declared.contents.Volume.{Volume}
@@ -30,7 +31,7 @@ use Rattle.vol_model.specs.Shelf.{has_set, is_catalog, rename_on, rename_refusal
 use Rattle.vtoc_index.specs.declared.vol.Vol.{Vol}
 use Rattle.vtoc_index.specs.Index.{IsIndexOf, IsMounted, IsPut, with_dscb, place_of_slot}
 use Rattle.vtoc_index.specs.Puts.{IsHeld, IsReplaced}
-use Rattle.vtoc_index.proofs.ExtentLaw.{KeepsExtent, keeps_other, mounted_put}
+use Rattle.vtoc_index.proofs.ExtentLaw.{KeepsExtent, keeps_other, mounted_put, volume_put}
 use Rattle.vtoc_index.proofs.PutLaw.{slot_found}
 use Rattle.dscb_codec.specs.declared.Dscb.TheVariants as formats
 use Rattle.stop_model.specs.Files.{patched}
@@ -51,7 +52,7 @@ slots_on_image image v = slots_of_vtoc image v.geometry v.vtoc
 
 -- the volume of an image, by an index
 abbrev pub volume_on_image : List ℕ → Vol → Volume
-volume_on_image image v = volume_with v.geometry (unwrap_or (label_of image v.geometry) []) v.vtoc (slots_on_image image v)
+volume_on_image image v = volume_with v.geometry (data_tracks image v.geometry v.vtoc) (unwrap_or (label_of image v.geometry) []) v.vtoc (slots_on_image image v)
 
 -- A data set of the old name stands in a slot, and none of the new name anywhere; neither name is the catalog's.
 pub record CanRename (image : List ℕ) (v : Vol) (old new : Dsn) (slot : ℕ) (f : F1) : Type 0 where
@@ -104,9 +105,9 @@ record IsRenaming (image : List ℕ) (v : Vol) (old new : List ℕ) (slot : ℕ)
   low : slot < length v.slots.items
   slots : with_dscb slot d (slots_on_image image v) ≡ map (renamed_slot old new) (slots_on_image image v)
   lawful : slots_faults v.geometry (with_dscb slot d (slots_on_image image v)) ≡ []
-  volume : volume_with v.geometry (unwrap_or (label_of image v.geometry) []) v.vtoc (with_dscb slot d (slots_on_image image v)) ≡ renamed (volume_on_image image v) old (record { bytes = new })
-  whole : volume_faults (volume_with v.geometry (unwrap_or (label_of image v.geometry) []) v.vtoc (with_dscb slot d (slots_on_image image v))) ≡ []
-  free : v.free.items ≡ free_runs (volume_with v.geometry (unwrap_or (label_of image v.geometry) []) v.vtoc (with_dscb slot d (slots_on_image image v)))
+  volume : volume_with v.geometry (data_tracks image v.geometry v.vtoc) (unwrap_or (label_of image v.geometry) []) v.vtoc (with_dscb slot d (slots_on_image image v)) ≡ renamed (volume_on_image image v) old (record { bytes = new })
+  whole : volume_faults (volume_with v.geometry (data_tracks image v.geometry v.vtoc) (unwrap_or (label_of image v.geometry) []) v.vtoc (with_dscb slot d (slots_on_image image v))) ≡ []
+  free : v.free.items ≡ free_runs (volume_with v.geometry (data_tracks image v.geometry v.vtoc) (unwrap_or (label_of image v.geometry) []) v.vtoc (with_dscb slot d (slots_on_image image v)))
   keeps : KeepsExtent slot d (slots_on_image image v)
   apart : list_any (has_named new) (slots_on_image image v) ≡ false
 
@@ -122,8 +123,8 @@ is_renaming image v old new slot f can =
     let apart : list_any (has_named new.bytes) slots ≡ false = any_first (has_named new.bytes) slots ∙ ap is_some can.absent in
     let kinds = or_parts (is_catalog old.bytes) (is_catalog new.bytes) can.not_catalog in
     let label : List ℕ = unwrap_or (label_of image v.geometry) [] in
-    let volume : volume_with v.geometry label v.vtoc (with_dscb slot d slots) ≡ renamed (volume_on_image image v) old.bytes new =
-    ap (volume_with v.geometry label v.vtoc) is ∙ volume_renamed v.geometry label v.vtoc slots old.bytes new kinds.0 kinds.1 apart in
+    let volume : volume_with v.geometry (data_tracks image v.geometry v.vtoc) label v.vtoc (with_dscb slot d slots) ≡ renamed (volume_on_image image v) old.bytes new =
+    ap (volume_with v.geometry (data_tracks image v.geometry v.vtoc) label v.vtoc) is ∙ volume_renamed v.geometry (data_tracks image v.geometry v.vtoc) label v.vtoc slots old.bytes new kinds.0 kinds.1 apart in
     record {
       low = omega (arith, at.0, dscbs_many v.slots.items slots can.mounted.index.slots);
       slots = is;
@@ -172,7 +173,7 @@ unfolding rename_on rename_refusal outcome
 renamed_by image v old new volume is =
     let g : Geometry = v.geometry in
     let label : List ℕ = unwrap_or (label_of image g) [] in
-    let has : (name : List ℕ) → has_set volume name ≡ is_some (position (has_named name) (slots_on_image image v)) = λ name. ap (λ (x : Volume). has_set x name) is ∙ has_set_found g label v.vtoc (slots_on_image image v) name in
+    let has : (name : List ℕ) → has_set volume name ≡ is_some (position (has_named name) (slots_on_image image v)) = λ name. ap (λ (x : Volume). has_set x name) is ∙ has_set_found g (data_tracks image v.geometry v.vtoc) label v.vtoc (slots_on_image image v) name in
     let kept : Bool = is_catalog old.bytes || is_catalog new.bytes in
     let after : Volume = renamed volume old.bytes new in
     ap (λ (b : Bool). outcome b (has_set volume new.bytes) kept after) (has old.bytes)
@@ -211,9 +212,7 @@ rename_stands image put v old new slot f bytes volume can stands size dscb writt
     let read = rename_put image put v (index_then v slot d) old new slot f bytes can size dscb written is (is_replaced v slot d) (inl refl) in
     let before : volume ≡ volume_on_image image v = volume_is image v volume can.mounted stands in
     let made : volume_on_image put v ≡ renamed (volume_on_image image v) old.bytes new =
-    ap (λ (o : Option (List ℕ)). volume_with g (unwrap_or o []) v.vtoc (slots_on_image put v)) is.label
-    ∙ ap (volume_with g (unwrap_or (label_of image g) []) v.vtoc) is.slots
-    ∙ of.volume in
+    volume_put image put v slot d is ∙ of.volume in
     let after : volume_on_image put v ≡ renamed volume old.bytes new = made ∙ ap (λ (x : Volume). renamed x old.bytes new) (sym before) in
     let slots : slots_on_image put v ≡ map (renamed_slot old.bytes new.bytes) (slots_on_image image v) = is.slots ∙ of.slots in
     let stands_made : volume_of put ≡ Ok (renamed (volume_on_image image v) old.bytes new) = read.volume ∙ ap Ok made in

@@ -17,6 +17,7 @@ use Rattle.pack_spec.specs.Label.{label_of}
 use Rattle.pack_spec.specs.Owned.{volume_faults}
 use Rattle.pack_spec.specs.Rules.{counted_extents, has_extents, set_in, slots_faults}
 use Rattle.pack_spec.specs.Settled.{head_in, head_of}
+use Rattle.pack_spec.specs.Blocks.{data_tracks}
 use Rattle.pack_spec.specs.Volume.{data_set_of, volume_by, volume_of, volume_with}
 use Rattle.pack_spec.specs.Vtoc.{run_of_extent, vtoc_of}
 use Rattle.pack_spec.proofs.Lawful.{good_sets, lawful_volume}
@@ -50,7 +51,7 @@ low_of (y ∷ xs) (suc k) x is = omega (arith, low_of xs k x is)
 
 -- the volume of an image by its index, with one slot cleared
 abbrev pub volume_after : List ℕ → Vol → ℕ → Volume
-volume_after image v slot = volume_with v.geometry (unwrap_or (label_of image v.geometry) []) v.vtoc (with_dscb slot formats.F0 (slots_on_image image v))
+volume_after image v slot = volume_with v.geometry (data_tracks image v.geometry v.vtoc) (unwrap_or (label_of image v.geometry) []) v.vtoc (with_dscb slot formats.F0 (slots_on_image image v))
 
 -- An image with the slot cleared: it breaks no rule, stands for the volume after the Scratch, and has the format 4 that it had.
 pub record IsScratched (image put : List ℕ) (v : Vol) (slot : ℕ) (f : F1) : Type 0 where
@@ -79,7 +80,7 @@ is_scratched image put v slot f bytes mounted set size dscb written is =
     ap (λ (bs : List ℕ). geometry_of bs (length put)) is.header ∙ ap (geometry_of (take 512 image)) is.size ∙ mounted.index.header in
     let made : volume_by put g v.vtoc ≡ volume_after image v slot = volume_put image put v slot formats.F0 is in
     let step : (dsn : Dsn) → dsn.bytes ≡ f.name → scratch_on dsn (volume_on_image image v) ≡ Ok (volume_after image v slot) =
-    λ dsn named. volume_left g slots slot at.0 f at.1.0 at.1.1 mounted.lawful label v.vtoc dsn named in
+    λ dsn named. volume_left g (data_tracks image v.geometry v.vtoc) slots slot at.0 f at.1.0 at.1.1 mounted.lawful label v.vtoc dsn named in
     let law : IsLawfulVolume (volume_on_image image v) = lawful_volume image (volume_by image g v.vtoc) mounted.volume in
     let lawful : slots_faults g (slots_on_image put v) ≡ [] = ap (slots_faults g) is.slots ∙ cleared_faults g slots slot at.0 f at.1.0 at.1.1 mounted.lawful in
     let whole : volume_faults (volume_by put g v.vtoc) ≡ [] =
@@ -93,7 +94,7 @@ is_scratched image put v slot f bytes mounted set size dscb written is =
       step = step;
       head = ap head_of is.slots ∙ ap (option_and_then (λ (s : VtocSlot). head_in s.content)) (changed_elsewhere slot 0 formats.F0 slots (λ none. behind (sym none)));
       changes = differs_in_vtoc image put v slot formats.F0 mounted.index low is;
-      free = λ runs new same are. freed_runs g label v.vtoc slots (with_dscb slot formats.F0 slots) (data_set_of g slots f) (among g slots slot at.0 f at.1.0 at.1.1 mounted.lawful) law.owned v.free.items runs new mounted.free same are ∙ ap free_runs (sym made);
+      free = λ runs new same are. freed_runs g (data_tracks image v.geometry v.vtoc) label v.vtoc slots (with_dscb slot formats.F0 slots) (data_set_of g (data_tracks image v.geometry v.vtoc) slots f) (among g (data_tracks image v.geometry v.vtoc) slots slot at.0 f at.1.0 at.1.1 mounted.lawful) law.owned v.free.items runs new mounted.free same are ∙ ap free_runs (sym made);
     }
 
 -- where the index is the image's and its free runs are those of the volume then, it is mounted

@@ -65,7 +65,7 @@ abbrev pub others : List ℕ → List DataSet → List DataSet
 others name sets = filter (λ (y : DataSet). not (has_name name y)) sets
 
 -- where no two have one name, no other has that of this one
-apart_before : (name : List ℕ) (x : DataSet) (xs ys : List DataSet) → x.name.bytes ≡ name → IsDistinct same_names (xs ++ x ∷ ys) → AllByRecursion (λ y. not (has_name name y) ≡ true) xs
+pub apart_before : (name : List ℕ) (x : DataSet) (xs ys : List DataSet) → x.name.bytes ≡ name → IsDistinct same_names (xs ++ x ∷ ys) → AllByRecursion (λ y. not (has_name name y) ≡ true) xs
 unfolding IsDistinct
 apart_before name x [] ys is apart = tt
 apart_before name x (z ∷ xs) ys is apart = (here xs apart.0, apart_before name x xs ys is apart.1)
@@ -74,7 +74,7 @@ apart_before name x (z ∷ xs) ys is apart = (here xs apart.0, apart_before name
     here [] all = ap (λ (n : List ℕ). not (bytes_eq z.name.bytes n)) (sym is) ∙ ap not all.0
     here (y ∷ l) all = here l all.1
 
-apart_behind : (name : List ℕ) (x : DataSet) (xs ys : List DataSet) → x.name.bytes ≡ name → IsDistinct same_names (xs ++ x ∷ ys) → AllByRecursion (λ y. not (has_name name y) ≡ true) ys
+pub apart_behind : (name : List ℕ) (x : DataSet) (xs ys : List DataSet) → x.name.bytes ≡ name → IsDistinct same_names (xs ++ x ∷ ys) → AllByRecursion (λ y. not (has_name name y) ≡ true) ys
 unfolding IsDistinct
 apart_behind name x [] ys is apart = all ys apart.0
   where
@@ -141,21 +141,21 @@ catalog_without name sets = by_test (is_catalog name) refl
 -- ---- the data sets in the slots
 
 -- The data sets in slots: those before one of them, it, and those behind it.
-pub record IsAmong (g : Geometry) (slots without : List VtocSlot) (x : DataSet) : Type 0 where
+pub record IsAmong (g : Geometry) (tracks : List (List ℕ)) (slots without : List VtocSlot) (x : DataSet) : Type 0 where
   pub front : List DataSet
   pub back : List DataSet
-  pub all : data_sets_in g slots ≡ front ++ x ∷ back
-  pub left : data_sets_in g without ≡ front ++ back
+  pub all : data_sets_in g tracks slots ≡ front ++ x ∷ back
+  pub left : data_sets_in g tracks without ≡ front ++ back
   pub apart : IsDistinct same_names (front ++ x ∷ back)
 
-module _ (g : Geometry) (slots : List VtocSlot) (k : ℕ) (s : VtocSlot) (f : F1) (at : slice_get slots k ≡ Some s) (set : s.content ≡ Ok (formats.F1 f)) (none : slots_faults g slots ≡ []) where
+module _ (g : Geometry) (tracks : List (List ℕ)) (slots : List VtocSlot) (k : ℕ) (s : VtocSlot) (f : F1) (at : slice_get slots k ≡ Some s) (set : s.content ≡ Ok (formats.F1 f)) (none : slots_faults g slots ≡ []) where
   abbrev cleared : List VtocSlot
   cleared = with_dscb k formats.F0 slots
 
   -- a data set is as before
-  pub set_same : (h : F1) → data_set_of g cleared h ≡ data_set_of g slots h
+  pub set_same : (h : F1) → data_set_of g tracks cleared h ≡ data_set_of g tracks slots h
   unfolding data_set_of
-  set_same h = ap (λ (es : List (List ℕ)). record { name = record { bytes = h.name }; attr = attr_of h; extents = map (run_of_extent g) es; body = body_of h.name (attr_of h) h.lstar }) (counted_same g slots k s f at set h)
+  set_same h = ap (λ (es : List (List ℕ)). record { name = record { bytes = h.name }; attr = attr_of h; extents = map (run_of_extent g) es; body = body_of g tracks h.name (attr_of h) (map (run_of_extent g) es) h.lstar }) (counted_same g slots k s f at set h)
 
   abbrev sets_among : List VtocSlot → List F1
   sets_among ss = filter_map (λ (t : VtocSlot). set_in t.content) ss
@@ -175,38 +175,38 @@ module _ (g : Geometry) (slots : List VtocSlot) (k : ℕ) (s : VtocSlot) (f : F1
   formats_after : sets_among cleared ≡ sets_among ahead ++ sets_among behind
   formats_after = ap sets_among (split_changed k formats.F0 slots s at) ∙ filter_map-append (λ (t : VtocSlot). set_in t.content) ahead (holding formats.F0 s ∷ behind)
 
-  pub among : IsAmong g slots cleared (data_set_of g slots f)
+  pub among : IsAmong g tracks slots cleared (data_set_of g tracks slots f)
   unfolding data_sets_in name_faults
   among =
-      let D : F1 → DataSet = data_set_of g slots in
-      let all : data_sets_in g slots ≡ map D (sets_among ahead) ++ D f ∷ map D (sets_among behind) = ap (map D) formats_before ∙ map-append D (sets_among ahead) (f ∷ sets_among behind) in
+      let D : F1 → DataSet = data_set_of g tracks slots in
+      let all : data_sets_in g tracks slots ≡ map D (sets_among ahead) ++ D f ∷ map D (sets_among behind) = ap (map D) formats_before ∙ map-append D (sets_among ahead) (f ∷ sets_among behind) in
       record {
         front = map D (sets_among ahead);
         back = map D (sets_among behind);
         all = all;
         left = (λ i. map (λ h. set_same h i) (sets_among cleared)) ∙ ap (map D) formats_after ∙ map-append D (sets_among ahead) (sets_among behind);
-        apart = subst (IsDistinct same_names) all (distinct_sets g slots (sets_among slots) (names_apart slots (groups_hold g slots none).2));
+        apart = subst (IsDistinct same_names) all (distinct_sets g tracks slots (sets_among slots) (names_apart slots (groups_hold g slots none).2));
       }
 
   abbrev name : List ℕ
   name = f.name
 
-  named : (data_set_of g slots f).name.bytes ≡ f.name
+  named : (data_set_of g tracks slots f).name.bytes ≡ f.name
   unfolding data_set_of
   named = refl
 
   -- the data sets of the volume after it
-  pub sets_left : in_order (data_sets_in g cleared) ≡ others f.name (in_order (data_sets_in g slots))
+  pub sets_left : in_order (data_sets_in g tracks cleared) ≡ others f.name (in_order (data_sets_in g tracks slots))
   sets_left =
-      let x : DataSet = data_set_of g slots f in
+      let x : DataSet = data_set_of g tracks slots f in
       ap in_order (among.left ∙ sym (others_of f.name x among.front among.back named among.apart) ∙ ap (others f.name) (sym among.all))
-      ∙ sym (filter_in_order (λ (y : DataSet). not (has_name f.name y)) (data_sets_in g slots))
+      ∙ sym (filter_in_order (λ (y : DataSet). not (has_name f.name y)) (data_sets_in g tracks slots))
 
   -- the set is one of the volume's
-  there : list_any (has_name f.name) (in_order (data_sets_in g slots)) ≡ true
+  there : list_any (has_name f.name) (in_order (data_sets_in g tracks slots)) ≡ true
   there =
-      let x : DataSet = data_set_of g slots f in
-      any_in_order (has_name f.name) (data_sets_in g slots)
+      let x : DataSet = data_set_of g tracks slots f in
+      any_in_order (has_name f.name) (data_sets_in g tracks slots)
       ∙ ap (list_any (has_name f.name)) among.all
       ∙ list_any-append (has_name f.name) among.front (x ∷ among.back)
       ∙ ap (λ (b : Bool). list_any (has_name f.name) among.front || (b || list_any (has_name f.name) among.back)) ((bytes_eq-Decides x.name.bytes f.name).1 named)
@@ -217,12 +217,12 @@ module _ (g : Geometry) (slots : List VtocSlot) (k : ℕ) (s : VtocSlot) (f : F1
       or_true false = refl
 
   -- The volume of the slots without the set is the one after its Scratch.
-  pub volume_left : (label : List ℕ) (vtoc : Run) (dsn : Dsn) → dsn.bytes ≡ f.name → scratch_on dsn (volume_with g label vtoc slots) ≡ Ok (volume_with g label vtoc cleared)
+  pub volume_left : (label : List ℕ) (vtoc : Run) (dsn : Dsn) → dsn.bytes ≡ f.name → scratch_on dsn (volume_with g tracks label vtoc slots) ≡ Ok (volume_with g tracks label vtoc cleared)
   unfolding scratch_on volume_with
   volume_left label vtoc dsn is =
-      let volume : Volume = volume_with g label vtoc slots in
+      let volume : Volume = volume_with g tracks label vtoc slots in
       let after : List ℕ → Volume = λ n. record volume { sets = others n volume.sets; catalog = cond (is_catalog n) None volume.catalog } in
-      let sets = in_order (data_sets_in g slots) in
+      let sets = in_order (data_sets_in g tracks slots) in
       let found = found_some (has_name f.name) sets there in
       let step : List ℕ → Option DataSet → Result Volume Refusal = λ n o. on_found o (λ x. Ok (after n)) in
       ap (λ (n : List ℕ). step n (find (has_name n) sets)) is

@@ -12,6 +12,7 @@ use Rattle.pack_spec.specs.Owned.{volume_faults}
 use Rattle.pack_spec.specs.Rules.{slots_faults}
 use Rattle.pack_spec.specs.Settled.{IsMarked, head_in}
 use Rattle.pack_spec.specs.Slots.{slots_of_vtoc}
+use Rattle.pack_spec.specs.Blocks.{data_tracks}
 use Rattle.pack_spec.specs.Volume.{volume_by, volume_of, volume_with}
 use Rattle.pack_spec.specs.Vtoc.{vtoc_of}
 use Rattle.pack_spec.proofs.AlikeVolumes.{volume_is}
@@ -42,7 +43,7 @@ module _ (image put : List ℕ) (v : Vol) (slot : ℕ) (d : Dscb) (bytes : List 
   slots_put = with_dscb slot d (slots_by image v)
 
   abbrev pub volume_after : Volume
-  volume_after = volume_with v.geometry (label_by image v) v.vtoc slots_put
+  volume_after = volume_with v.geometry (data_tracks image v.geometry v.vtoc) (label_by image v) v.vtoc slots_put
 
   extent : vtoc_of put v.geometry ≡ Ok v.vtoc
   extent = extent_put image put v slot d bytes mounted.index low size dscb written is mounted.vtoc (keeps_other slot d (slots_by image v) other)

@@ -144,7 +144,7 @@ fn carry_out<H: Hall>(
 
 // The lowest slot that may take a DSCB while an update is under way, which is there on each hall that tells its
 // content.
-fn open_slot<H: Hall>(hall: &mut H, vol: &Vol) -> Result<u32, Device>
+pub(crate) fn open_slot<H: Hall>(hall: &mut H, vol: &Vol) -> Result<u32, Device>
     requires unit { IsOfUnit (H.facts hall.old).units vol.now }
     requires some { IsTrue H.tells → 1 ≤ open_slots vol.now.slots.items }
     ensures found { IfOk result (λ slot. open_slot vol.now.slots.items ≡ Some slot) }

@@ -48,7 +48,7 @@ pub(crate) fn extent_type(unit: SpaceUnit) -> u8
 }
 
 // An extent as a DSCB has it.
-fn extent_bytes(geometry: &Geometry, kind: u8, number: u8, run: Run) -> Extent
+pub(crate) fn extent_bytes(geometry: &Geometry, kind: u8, number: u8, run: Run) -> Extent
     requires some { 1 ≤ run.len }
     requires within { run.start + run.len ≤ 65535 }
     ensures { result ≡ extent_bytes geometry.now kind number run }

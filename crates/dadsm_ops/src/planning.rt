@@ -69,7 +69,11 @@ fn chosen(
 }
 
 // The free runs without these tracks.
-fn free_without(alloc: Global, vol: &Vol, extents: &Extents) -> Result<Vec<Run>, AllocError>
+pub(crate) fn free_without(
+    alloc: Global,
+    vol: &Vol,
+    extents: &Extents,
+) -> Result<Vec<Run>, AllocError>
     requires unit { (units : List Attached) × IsOfUnit units vol.now }
     requires few { extents.now.n ≤ 5 }
     requires within { EndBy 65535 (listed extents.now) }

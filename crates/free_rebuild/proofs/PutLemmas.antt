@@ -25,7 +25,7 @@ use Rattle.free_rebuild.proofs.ChainLemmas.{same_or_not}
 same_put : (v w : Vol) (slot : ℕ) (d : Dscb) (image put : List ℕ) → w ≡ record v { slots = w.slots; buf = w.buf } → IsPut w slot d image put → IsPut v slot d image put
 same_put v w slot d image put same p =
     let q : IsPut (record v { slots = w.slots; buf = w.buf }) slot d image put = subst (λ (x : Vol). IsPut x slot d image put) same p in
-    record { size = q.size; header = q.header; label = q.label; slots = q.slots; tracks = q.tracks; firsts = q.firsts; others = q.others }
+    record { size = q.size; header = q.header; label = q.label; slots = q.slots; tracks = q.tracks; firsts = q.firsts; contents = q.contents; others = q.others }
 
 pub put_anywhere : (image : List ℕ) (v : Vol) (ds : List Dscb) (slot : ℕ) (d : Dscb) (bytes : List ℕ) → HoldsSlots image v ds → slot < length ds → decoded bytes ≡ Ok d → length bytes ≡ 140
     → HoldsSlots (patched image (place_of_slot v slot) bytes) v (slice_set ds slot d) × IsPut v slot d image (patched image (place_of_slot v slot) bytes)
@@ -94,7 +94,7 @@ put_alike y image v ds slot d bytes holds found alike other low is size none bla
     let w : Vol = record v { slots = holds.index.slots; buf = holds.index.buf } in
     let index : IsIndexOf image w = subst (IsIndexOf image) holds.others holds.is in
     let inside : slot < length w.slots.items = omega (arith, low, ap length holds.items) in
-    let q : IsPut w slot d image put = record { size = p.size; header = p.header; label = p.label; slots = p.slots; tracks = p.tracks; firsts = p.firsts; others = p.others } in
+    let q : IsPut w slot d image put = record { size = p.size; header = p.header; label = p.label; slots = p.slots; tracks = p.tracks; firsts = p.firsts; contents = p.contents; others = p.others } in
     record {
       others = record {
         size = p.size ∙ alike.others.size;

@@ -33,6 +33,7 @@ use Rattle.pack_spec.specs.Owned.{overlap_faults, room_faults, volume_faults}
 use Rattle.pack_spec.specs.Rules.{content_fault, counted_extents, format_3_of, further_extents, is_chained, is_f3, is_f4, is_led_to, set_in, slot_fault, slot_faults, slots_faults}
 use Rattle.pack_spec.specs.Settled.{is_f5}
 use Rattle.pack_spec.specs.Slots.{record_address, slots_from, slots_in, slots_of_vtoc, slots_on}
+use Rattle.pack_spec.specs.Blocks.{data_tracks}
 use Rattle.pack_spec.specs.Volume.{data_set_of, data_sets_in, volume_with}
 use Rattle.pack_spec.specs.Vtoc.{is_slot, run_of_extent, slot_bytes}
 use Rattle.pack_spec.proofs.AddressesApart.{slots_apart}
@@ -221,11 +222,11 @@ sets_need image v mounted =
     let volume : Volume = volume_on image v in
     let slots : List VtocSlot = slots_by image v in
     let fs : List F1 = filter_map (λ (s : VtocSlot). set_in s.content) slots in
-    let sets : List DataSet = data_sets_in v.geometry slots in
+    let sets : List DataSet = data_sets_in v.geometry (data_tracks image v.geometry v.vtoc) slots in
     let room = has_room volume (no_more (overlap_faults volume) (room_faults volume) mounted.whole) in
     let same : fs ≡ sets_in v.slots.items = sets_held slots v.slots.items mounted.index.slots in
-    let size : length volume.sets ≡ length (sets_in v.slots.items) = length_permutation sets (in_order sets) (in_order-permutation sets) ∙ length-map fs (data_set_of v.geometry slots) ∙ ap length same in
-    let more : count_by is_chained fs ≤ count_by (λ (x : DataSet). nat_lt 3 (length x.extents)) sets = count_weaker is_chained (λ (x : DataSet). nat_lt 3 (length x.extents)) (data_set_of v.geometry slots) fs (λ i f is chained.
+    let size : length volume.sets ≡ length (sets_in v.slots.items) = length_permutation sets (in_order sets) (in_order-permutation sets) ∙ length-map fs (data_set_of v.geometry (data_tracks image v.geometry v.vtoc) slots) ∙ ap length same in
+    let more : count_by is_chained fs ≤ count_by (λ (x : DataSet). nat_lt 3 (length x.extents)) sets = count_weaker is_chained (λ (x : DataSet). nat_lt 3 (length x.extents)) (data_set_of v.geometry (data_tracks image v.geometry v.vtoc) slots) fs (λ i f is chained.
     ap (nat_lt 3) (length-map (counted_extents slots f) (run_of_extent v.geometry)) ∙ many_extents image v mounted f (set_stands slots i f is) chained) in
     let ordered : count_by (λ (x : DataSet). nat_lt 3 (length x.extents)) volume.sets ≡ count_by (λ (x : DataSet). nat_lt 3 (length x.extents)) sets = sum_by-IsPermutation (λ (x : DataSet). cond (nat_lt 3 (length x.extents)) 1 0) sets (in_order sets) (in_order-permutation sets) in
     let many : length v.slots.items ≡ volume.slots = dscbs_many v.slots.items slots mounted.index.slots in

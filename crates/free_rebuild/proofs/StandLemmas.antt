@@ -1,5 +1,5 @@
 -- An image that is alike to a mounted one is mounted, and one is alike in which format 4 is put.
-use Rattle.std.proofs.Common.{◌≡◌, ◌+◌, ◌≤◌, ◌<◌, ℕ, Bool, true, false, cond, not, ◌&&◌, List, [], ◌∷◌, ◌++◌, length, map, Option, Some, None, Result, Ok, refl, sym, ap, subst, ◌∙◌, inl, arith}
+use Rattle.std.proofs.Common.{◌≡◌, ◌+◌, ◌≤◌, ◌<◌, ℕ, Bool, true, false, cond, not, ◌&&◌, List, [], ◌∷◌, ◌++◌, length, map, Option, Some, None, Result, Ok, refl, sym, ap, ap₂, subst, ◌∙◌, inl, arith}
 use Rattle.std.specs.Prelude.{slice_get, unwrap_or}
 use Rattle.dscb_codec.specs.declared.Dscb.{Dscb}
 use Rattle.dscb_codec.specs.declared.Dscb.TheVariants as formats
@@ -18,11 +18,13 @@ use Rattle.pack_spec.specs.Owned.{volume_faults}
 use Rattle.pack_spec.specs.Rules.{front_faults, is_f3, is_f4, is_f5_or_f0, slots_faults}
 use Rattle.pack_spec.specs.Settled.{is_used}
 use Rattle.pack_spec.specs.Slots.{slots_of_vtoc}
+use Rattle.pack_spec.specs.Blocks.{data_tracks}
 use Rattle.pack_spec.specs.Volume.{volume_by, volume_with}
 use Rattle.pack_spec.specs.Vtoc.{vtoc_of}
 use Rattle.pack_spec.proofs.AddressesApart.{slots_apart}
 use Rattle.pack_spec.proofs.AlikeVolumes.{alike_faults, alike_volume}
 use Rattle.pack_spec.proofs.Lawful.{groups_hold}
+use Rattle.pack_spec.proofs.BlockBodies.{vtoc_tracks}
 use Rattle.vtoc_index.specs.declared.vol.Vol.{Vol}
 use Rattle.vtoc_index.specs.Index.{IsIndexOf, IsMounted, IsPut, place_of_slot}
 use Rattle.vtoc_index.proofs.ExtentLaw.{extent_put, volume_is}
@@ -61,8 +63,8 @@ alike_mounted volume image other v stands low alike w index others = by_record (
 
     volumes : volume_on other v ≡ volume_on image v
     volumes =
-        ap (λ (o : Option (List ℕ)). volume_with v.geometry (unwrap_or o []) v.vtoc z) alike.label
-        ∙ alike_volume v.geometry y stands.mounted.lawful (slots_apart image v.geometry v.vtoc low) z alike.slots (unwrap_or (label_of image v.geometry) []) v.vtoc
+        ap₂ (λ (tracks : List (List ℕ)) (o : Option (List ℕ)). volume_with v.geometry tracks (unwrap_or o []) v.vtoc z) (vtoc_tracks v.geometry v.vtoc image other alike.others) alike.label
+        ∙ alike_volume v.geometry y stands.mounted.lawful (slots_apart image v.geometry v.vtoc low) z alike.slots (data_tracks image v.geometry v.vtoc) (unwrap_or (label_of image v.geometry) []) v.vtoc
 
     vtoc : vtoc_of other v.geometry ≡ Ok v.vtoc
     vtoc = alike.extent ∙ stands.mounted.vtoc

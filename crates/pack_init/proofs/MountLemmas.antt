@@ -31,6 +31,7 @@ use Rattle.pack_spec.specs.New.{IsNewImage, IsNewPack, IsSlotOf, address_of, fre
 use Rattle.pack_spec.specs.Owned.{volume_faults}
 use Rattle.pack_spec.specs.Rules.{set_in, slots_faults}
 use Rattle.pack_spec.specs.Slots.{record_address, slots_from, slots_in, slots_of_vtoc, slots_on, track_fault, track_faults}
+use Rattle.pack_spec.specs.Blocks.{data_tracks}
 use Rattle.pack_spec.specs.Bodies.{catalog_of}
 use Rattle.pack_spec.specs.Volume.{data_set_of, data_sets_in, unless, volume_by, volume_of, volume_on, volume_with, volume_within, vtoc_fault}
 use Rattle.pack_spec.specs.Vtoc.{first_slot, is_extent, is_vtoc_extent, lower_of, run_of_extent, upper_of, vtoc_at, vtoc_by, vtoc_of, vtoc_on}
@@ -241,9 +242,10 @@ module _ (g : Geometry) (serial : List ℕ) (n : ℕ) (a b : List ℕ) (pack : I
   volume_is =
       let ss = slot_4 ∷ slot_5 ∷ (frees ++ later) in
       let count : length ss ≡ n * d = ap length (sym slots_are) ∙ slots_count in
-      ap₂ (λ (o : Option (List ℕ)) (s : List VtocSlot). volume_with g (unwrap_or o []) (new_vtoc n) s) label_is slots_are
-      ∙ ap₂ (λ (s : List ℕ) (c : ℕ). let w : Volume = record { serial = record { bytes = s }; geometry = g; vtoc = new_vtoc n; slots = c; sets = in_order (map (data_set_of g ss) (filter_map (λ x. set_in x.content) ss)); catalog = catalog_of (in_order (map (data_set_of g ss) (filter_map (λ x. set_in x.content) ss))) } in w) l.serial_is count
-      ∙ ap (λ (fs : List F1). let w : Volume = record { serial = record { bytes = serial }; geometry = g; vtoc = new_vtoc n; slots = n * d; sets = in_order (map (data_set_of g ss) fs); catalog = catalog_of (in_order (map (data_set_of g ss) fs)) } in w) unset
+      let tracks : List (List ℕ) = data_tracks image g (new_vtoc n) in
+      ap₂ (λ (o : Option (List ℕ)) (s : List VtocSlot). volume_with g tracks (unwrap_or o []) (new_vtoc n) s) label_is slots_are
+      ∙ ap₂ (λ (s : List ℕ) (c : ℕ). let w : Volume = record { serial = record { bytes = s }; geometry = g; vtoc = new_vtoc n; slots = c; sets = in_order (map (data_set_of g tracks ss) (filter_map (λ x. set_in x.content) ss)); catalog = catalog_of (in_order (map (data_set_of g tracks ss) (filter_map (λ x. set_in x.content) ss))) } in w) l.serial_is count
+      ∙ ap (λ (fs : List F1). let w : Volume = record { serial = record { bytes = serial }; geometry = g; vtoc = new_vtoc n; slots = n * d; sets = in_order (map (data_set_of g tracks ss) fs); catalog = catalog_of (in_order (map (data_set_of g tracks ss) fs)) } in w) unset
 
   fault_none : vtoc_fault image g (new_vtoc n) ≡ None
   unfolding vtoc_fault

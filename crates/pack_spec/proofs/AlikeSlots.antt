@@ -276,13 +276,13 @@ module _ (y z : List VtocSlot) (all : Pairs y 0 y z) where
       ∙ ap (λ (l : List MountErr). front_faults y ++ (slot_faults g y ++ l)) name
 
   -- a data set
-  set_same : (g : Geometry) (f : F1) → IsSetOf y f → data_set_of g z f ≡ data_set_of g y f
+  set_same : (g : Geometry) (tracks : List (List ℕ)) (f : F1) → IsSetOf y f → data_set_of g tracks z f ≡ data_set_of g tracks y f
   unfolding data_set_of
-  set_same g f set = rw (counted_same f set) refl
+  set_same g tracks f set = rw (counted_same f set) refl
 
-  kept_same : (g : Geometry) (o : Option F1) (fz fy : List F1) → ((f : F1) → o ≡ Some f → IsSetOf y f) → map (data_set_of g z) fz ≡ map (data_set_of g y) fy → map (data_set_of g z) (cons_option o fz) ≡ map (data_set_of g y) (cons_option o fy)
-  kept_same g None fz fy set rest = rest
-  kept_same g (Some f) fz fy set rest = ap (λ (d : DataSet). d ∷ map (data_set_of g z) fz) (set_same g f (set f refl)) ∙ ap (λ (ds : List DataSet). data_set_of g y f ∷ ds) rest
+  kept_same : (g : Geometry) (tracks : List (List ℕ)) (o : Option F1) (fz fy : List F1) → ((f : F1) → o ≡ Some f → IsSetOf y f) → map (data_set_of g tracks z) fz ≡ map (data_set_of g tracks y) fy → map (data_set_of g tracks z) (cons_option o fz) ≡ map (data_set_of g tracks y) (cons_option o fy)
+  kept_same g tracks None fz fy set rest = rest
+  kept_same g tracks (Some f) fz fy set rest = ap (λ (d : DataSet). d ∷ map (data_set_of g tracks z) fz) (set_same g tracks f (set f refl)) ∙ ap (λ (ds : List DataSet). data_set_of g tracks y f ∷ ds) rest
 
   set_there : (n : ℕ) (a : VtocSlot) (c : Content) (f : F1) → slice_get y n ≡ Some a → a.content ≡ c → set_in c ≡ Some f → IsSetOf y f
   set_there n a (Ok formats.F0) f there is held = cc
@@ -292,15 +292,15 @@ module _ (y z : List VtocSlot) (all : Pairs y 0 y z) where
   set_there n a (Ok (formats.F5 h)) f there is held = cc
   set_there n a (Err e) f there is held = cc
 
-  sets_from : (g : Geometry) (n : ℕ) (ys zs : List VtocSlot) → Pairs y n ys zs → map (data_set_of g z) (filter_map (λ (s : VtocSlot). set_in s.content) zs) ≡ map (data_set_of g y) (filter_map (λ (s : VtocSlot). set_in s.content) ys)
-  sets_from g n [] [] pairs = refl
-  sets_from g n [] (b ∷ zs) pairs = absurd pairs
-  sets_from g n (a ∷ ys) [] pairs = absurd pairs
-  sets_from g n (a ∷ ys) (b ∷ zs) pairs =
-      ap (λ (o : Option F1). map (data_set_of g z) (cons_option o (filter_map (λ (s : VtocSlot). set_in s.content) zs))) (pair_set pairs.0)
-      ∙ kept_same g (set_in a.content) _ _ (λ f is. set_there n a a.content f pairs.0.there refl is) (sets_from g (n + 1) ys zs pairs.1)
+  sets_from : (g : Geometry) (tracks : List (List ℕ)) (n : ℕ) (ys zs : List VtocSlot) → Pairs y n ys zs → map (data_set_of g tracks z) (filter_map (λ (s : VtocSlot). set_in s.content) zs) ≡ map (data_set_of g tracks y) (filter_map (λ (s : VtocSlot). set_in s.content) ys)
+  sets_from g tracks n [] [] pairs = refl
+  sets_from g tracks n [] (b ∷ zs) pairs = absurd pairs
+  sets_from g tracks n (a ∷ ys) [] pairs = absurd pairs
+  sets_from g tracks n (a ∷ ys) (b ∷ zs) pairs =
+      ap (λ (o : Option F1). map (data_set_of g tracks z) (cons_option o (filter_map (λ (s : VtocSlot). set_in s.content) zs))) (pair_set pairs.0)
+      ∙ kept_same g tracks (set_in a.content) _ _ (λ f is. set_there n a a.content f pairs.0.there refl is) (sets_from g tracks (n + 1) ys zs pairs.1)
 
   -- the data sets
-  pub pairs_sets : (g : Geometry) → data_sets_in g z ≡ data_sets_in g y
+  pub pairs_sets : (g : Geometry) (tracks : List (List ℕ)) → data_sets_in g tracks z ≡ data_sets_in g tracks y
   unfolding data_sets_in
-  pairs_sets g = sets_from g 0 y z all
+  pairs_sets g tracks = sets_from g tracks 0 y z all

@@ -1,5 +1,5 @@
 -- Slots and images that differ in what has no part in the volume stand for one volume.
-use Rattle.std.proofs.Common.{◌≡◌, ◌+◌, ◌≤◌, ℕ, zero, suc, Bool, true, false, cond, not, ◌||◌, ◌&&◌, List, [], ◌∷◌, ◌++◌, length, take, map, Option, Some, None, Ok, ◌⊎◌, inl, inr, ⊎_elim, refl, sym, ap, subst, ◌∙◌, arith}
+use Rattle.std.proofs.Common.{◌≡◌, ◌+◌, ◌≤◌, ℕ, zero, suc, Bool, true, false, cond, not, ◌||◌, ◌&&◌, List, [], ◌∷◌, ◌++◌, length, take, map, Option, Some, None, Ok, ◌⊎◌, inl, inr, ⊎_elim, refl, sym, ap, ap₂, subst, ◌∙◌, arith}
 use Rattle.std.specs.Prelude.{find, is_some, slice_get, unwrap_or}
 use Rattle.std.specs.List.{enumerate_from, filter_map, list_any}
 use Rattle.std.specs.Str.{bytes_eq}
@@ -18,6 +18,7 @@ use Rattle.pack_spec.specs.declared.slot.VtocSlot.{VtocSlot}
 use Rattle.pack_spec.specs.Vtoc.{vtoc_of}
 use Rattle.pack_spec.specs.Slots.{slots_of_vtoc, track_faults}
 use Rattle.pack_spec.specs.Rules.{content_fault, extents_fault, format_3_of, front_faults, has_chain, has_extents, has_types, is_chained, is_f3, is_f4, is_led_to, shares_chain, slot_fault, slot_faults, slots_faults}
+use Rattle.pack_spec.specs.Blocks.{data_tracks}
 use Rattle.pack_spec.specs.Owned.{volume_faults}
 use Rattle.pack_spec.specs.Volume.{unless, volume_by, volume_of, volume_on, volume_with, volume_within, vtoc_fault}
 use Rattle.pack_spec.specs.Settled.{is_used, leads_to}
@@ -25,6 +26,7 @@ use Rattle.pack_spec.specs.Alike.{AreAlike, StandAlike, is_blank}
 use Rattle.pack_spec.proofs.FirstFaults.{cons_option-none}
 use Rattle.pack_spec.proofs.Lawful.{groups_hold, has_volume}
 use Rattle.pack_spec.proofs.AddressesApart.{AreApart, slots_apart}
+use Rattle.pack_spec.proofs.BlockBodies.{vtoc_tracks}
 use Rattle.pack_spec.proofs.AlikeSlots.{Beside, Content, IsSetOf, Pairs, pairs_faults, pairs_length, pairs_sets}
 
 -- where no rule is broken, none is by one slot
@@ -180,11 +182,11 @@ module _ (g : Geometry) (y : List VtocSlot) (none : slots_faults g y ≡ []) whe
       alike_faults = pairs_faults y z alike_pairs g ∙ none
 
       -- and stand for one volume
-      pub alike_volume : (label : List ℕ) (vtoc : Run) → volume_with g label vtoc z ≡ volume_with g label vtoc y
+      pub alike_volume : (tracks : List (List ℕ)) (label : List ℕ) (vtoc : Run) → volume_with g tracks label vtoc z ≡ volume_with g tracks label vtoc y
       unfolding volume_with
-      alike_volume label vtoc =
+      alike_volume tracks label vtoc =
           let size = pairs_length y 0 y z alike_pairs in
-          let sets = pairs_sets y z alike_pairs g in
+          let sets = pairs_sets y z alike_pairs g tracks in
           rw (size, sets) refl
 
 -- an image whose header, VTOC and slots break no rule stands for the volume of these
@@ -220,6 +222,7 @@ alike_stands image other volume is few alike =
     let header : geometry_of (take 512 other) (length other) ≡ Ok g =
     ap (λ (bytes : List ℕ). geometry_of bytes (length other)) all.others.header ∙ ap (geometry_of (take 512 image)) all.others.size ∙ has.header in
     let same : volume_by other g vtoc ≡ volume_by image g vtoc =
-    ap (λ (o : Option (List ℕ)). volume_with g (unwrap_or o []) vtoc z) all.label ∙ alike_volume g y has.slots apart z all.slots _ vtoc in
+    ap₂ (λ (tracks : List (List ℕ)) (o : Option (List ℕ)). volume_with g tracks (unwrap_or o []) vtoc z) (vtoc_tracks g vtoc image other all.others) all.label
+    ∙ alike_volume g y has.slots apart z all.slots (data_tracks image g vtoc) _ vtoc in
     volume_is other g vtoc header (all.extent ∙ has.found) all.tracks (alike_faults g y has.slots apart z all.slots) (ap volume_faults same ∙ has.whole)
     ∙ ap (λ (v : Volume). Ok v) (same ∙ has.is)

@@ -1,25 +1,29 @@
 -- The volume that an image stands for is lawful.
 use Rattle.std.proofs.Common.{◌≡◌, ◌+◌, ◌^◌, ◌<◌, ◌≤◌, ℕ, zero, suc, Bool, true, false, cond, not, eqb, ◌&&◌, ◌||◌, List, [], ◌∷◌, ◌++◌, length, take, map, Option, Some, None, Result, Ok, Err, refl, ap, ◌∙◌, subst, arith, length-take}
 use Rattle.std.specs.Prelude.{is_some, nat_le, nat_lt, slice_get, slice_range}
-use Rattle.std.specs.List.{AllByRecursion, enumerate_from, filter_map, list_all, list_any}
+use Rattle.std.specs.List.{AllByRecursion, count_by, enumerate_from, filter_map, flat_map, list_all, list_any}
 use Rattle.std.proofs.Math.Dec.{eqb, eqb-suc-zero}
 use Rattle.std.proofs.Math.Nat.{mul-le-mul_right}
 use Rattle.std.proofs.lemmas.Bool.{and_parts, leb-true, ltb-true}
 use Rattle.std.proofs.lemmas.List.{length-map}
 use Rattle.std.proofs.lemmas.List.Elements.{All-from_recursion, recursion_from_All}
 use Rattle.std.proofs.lemmas.List.Sorted.{All-permutation}
+use Rattle.std.proofs.lemmas.List.Sums.{sum_by-append, sum_by-cons}
 use Rattle.ckd_image.specs.declared.header.Geometry.{Geometry}
 use Rattle.ckd_image.specs.declared.header.ImageErr.{ImageErr}
+use Rattle.ckd_image.specs.Device.{row_of}
 use Rattle.ckd_image.specs.Header.{HasGeometry, geometry_of}
 use Rattle.ckd_image.proofs.GeometryLemmas.{has_geometry}
 use Rattle.vol_model.specs.declared.contents.Volume.{Volume}
 use Rattle.vol_model.specs.Order.{IsAscending, in_order}
-use Rattle.vol_model.specs.Lawful.{IsLawfulBody, IsLawfulCatalog, IsLawfulSet, IsLawfulVolume, IsOnPack, OwnsOnce, is_of_kind}
+use Rattle.vol_model.specs.Lawful.{IsLawfulBody, IsLawfulCatalog, IsLawfulSet, IsLawfulVolume, IsOnPack, is_of_kind}
 use Rattle.vol_model.specs.Shelf.{catalog_name, has_name, is_catalog, is_partitioned, is_sequential}
 use Rattle.vol_model.specs.declared.catalogs.CatBody.TheVariants as catalogs
 use Rattle.vol_model.specs.declared.contents.Attr.{Attr}
-use Rattle.vol_model.specs.declared.contents.Body.TheVariants.{Seq, Other, Unreadable}
+use Rattle.vol_model.specs.declared.contents.Body.TheVariants.{Other, Unreadable}
 use Rattle.vol_model.specs.declared.contents.DataSet.{DataSet}
+use Rattle.vol_model.specs.Places.{tracks_in}
+use Rattle.vol_model.specs.Space.{is_in}
 use Rattle.vol_model.proofs.InOrder.{in_order-permutation}
 use Rattle.vol_model.proofs.Steps.{in_order-ascending}
 use Rattle.std.proofs.Math.Nat.{mod-lt}
@@ -37,40 +41,40 @@ use Rattle.pack_spec.specs.Vtoc.{is_extent, is_vtoc_extent, lower_of, run_of_ext
 use Rattle.pack_spec.specs.Slots.{slots_of_vtoc, track_faults}
 use Rattle.pack_spec.specs.Rules.{content_fault, counted_extents, extents_fault, front_faults, has_chain, has_extents, has_types, is_f4, name_faults, set_in, slot_fault, slot_faults, slots_faults}
 use Rattle.pack_spec.specs.Owned.{overlap_faults, room_faults, volume_faults}
-use Rattle.pack_spec.specs.Bodies.{body_of, catalog_of, has_no_block}
-use Rattle.pack_spec.specs.Volume.{attr_of, data_set_of, data_sets_in, secondary_of, unless, volume_by, volume_of, volume_on, volume_with, volume_within, vtoc_fault}
+use Rattle.pack_spec.specs.Blocks.{data_tracks, seq_body}
+use Rattle.pack_spec.specs.Bodies.{body_of, catalog_of}
+use Rattle.pack_spec.specs.Volume.{attr_of, counted_runs, data_set_of, data_sets_in, secondary_of, unless, volume_by, volume_of, volume_on, volume_with, volume_within, vtoc_fault}
 use Rattle.pack_spec.proofs.FirstFaults.{cons_option-none, first_append-both}
 use Rattle.pack_spec.proofs.SetNames.{all_sets, distinct_sets, names_apart}
+use Rattle.pack_spec.proofs.SeqBodies.{lawful_seq, seq_or_unread}
 use Rattle.pack_spec.proofs.SlotCounts.{few_slots}
+use Rattle.pack_spec.proofs.OwnedAmounts.{few_owned}
+use Rattle.pack_spec.proofs.OwnedRuns.{runs_owned}
 use Rattle.pack_spec.proofs.OwnedTracks.{has_room, owned_end, owns_once}
 
 -- a set's body is of the kind that its name and organization give, and lawful
-kind_of_body : (name : List ℕ) (attr : Attr) (lstar : List ℕ) → is_of_kind name attr (body_of name attr lstar) ≡ true
-unfolding body_of
-kind_of_body name attr lstar = by_tests (is_catalog name) (is_sequential name attr) (is_partitioned name attr) (has_no_block lstar) refl refl refl
-  where
-    by_tests : (c s p z : Bool) → is_catalog name ≡ c → is_sequential name attr ≡ s → is_partitioned name attr ≡ p → is_of_kind name attr (cond (s && z) (Seq []) (cond (c || (s || p)) (Unreadable 0) Other)) ≡ true
-    by_tests c true p true catalog sequential partitioned = sequential
-    by_tests c true p false catalog sequential partitioned = unread c
-      where
-        unread : (b : Bool) → is_of_kind name attr (cond (b || true) (Unreadable 0) Other) ≡ true
-        unread true = refl
-        unread false = refl
-    by_tests true false p z catalog sequential partitioned = refl
-    by_tests false false true z catalog sequential partitioned = refl
-    by_tests false false false z catalog sequential partitioned =
-        ap (λ (b : Bool). not (b || (is_sequential name attr || is_partitioned name attr))) catalog
-        ∙ ap (λ (b : Bool). not (b || is_partitioned name attr)) sequential
-        ∙ ap not partitioned
+module _ (g : Geometry) (tracks : List (List ℕ)) (name : List ℕ) (attr : Attr) (extents : List Run) (lstar : List ℕ) where
+  kind_of_body : is_of_kind name attr (body_of g tracks name attr extents lstar) ≡ true
+  unfolding body_of
+  kind_of_body = by_tests (is_catalog name) (is_sequential name attr) (is_partitioned name attr) refl refl refl
+    where
+      by_tests : (c s p : Bool) → is_catalog name ≡ c → is_sequential name attr ≡ s → is_partitioned name attr ≡ p → is_of_kind name attr (cond s (seq_body g tracks extents lstar) (cond (c || p) (Unreadable 0) Other)) ≡ true
+      by_tests c true p catalog sequential partitioned = seq_or_unread g tracks extents lstar (λ b. is_of_kind name attr b ≡ true) (λ bs. sequential) (λ k. refl)
+      by_tests true false p catalog sequential partitioned = refl
+      by_tests false false true catalog sequential partitioned = refl
+      by_tests false false false catalog sequential partitioned =
+          ap (λ (b : Bool). not (b || (is_sequential name attr || is_partitioned name attr))) catalog
+          ∙ ap (λ (b : Bool). not (b || is_partitioned name attr)) sequential
+          ∙ ap not partitioned
 
-lawful_body : (tracks : ℕ) (name : List ℕ) (attr : Attr) (lstar : List ℕ) → IsLawfulBody tracks (body_of name attr lstar)
-unfolding body_of
-lawful_body tracks name attr lstar = by_tests (is_sequential name attr && has_no_block lstar) (is_catalog name || (is_sequential name attr || is_partitioned name attr))
-  where
-    by_tests : (a b : Bool) → IsLawfulBody tracks (cond a (Seq []) (cond b (Unreadable 0) Other))
-    by_tests true b = (tt, tt)
-    by_tests false true = tt
-    by_tests false false = tt
+  lawful_body : tracks_in extents < 65535 → IsLawfulBody (tracks_in extents) (body_of g tracks name attr extents lstar)
+  unfolding body_of
+  lawful_body few = by_tests (is_sequential name attr) (is_catalog name || is_partitioned name attr)
+    where
+      by_tests : (a b : Bool) → IsLawfulBody (tracks_in extents) (cond a (seq_body g tracks extents lstar) (cond b (Unreadable 0) Other))
+      by_tests true b = lawful_seq g tracks extents lstar few
+      by_tests false true = tt
+      by_tests false false = tt
 
 -- there is a catalog where there is a SYSCTLG, and it isn't read
 catalog_is : (sets : List DataSet) → list_any (has_name catalog_name) sets ≡ is_some (catalog_of sets)
@@ -123,18 +127,37 @@ short f = by_unit _ (mod-lt f.scalo (omega arith))
     by_unit true less = less
     by_unit false less = omega arith
 
+-- A data set has what a lawful one has, if a TTR can say each of its tracks.
+record IsGoodSet (g : Geometry) (x : DataSet) : Type 0 where
+  few : length x.extents ≤ 16
+  extents : AllByRecursion (IsOnPack g) x.extents
+  secondary : x.attr.secondary < 2 ^ 24
+  kind : is_of_kind x.name.bytes x.attr x.body ≡ true
+  body : tracks_in x.extents < 65535 → IsLawfulBody (tracks_in x.extents) x.body
+
 -- a data set whose extents are good
-lawful_set : (g : Geometry) (slots : List VtocSlot) (f : F1) → has_extents g slots f ≡ true → IsLawfulSet g (data_set_of g slots f)
+good_set : (g : Geometry) (tracks : List (List ℕ)) (slots : List VtocSlot) (f : F1) → has_extents g slots f ≡ true → IsGoodSet g (data_set_of g tracks slots f)
 unfolding data_set_of attr_of has_extents
-lawful_set g slots f has =
+good_set g tracks slots f has =
     let parts = and_parts (nat_le f.extents 16) (list_all (is_extent g) (counted_extents slots f)) has in
     record {
       few = omega (arith, length-map (counted_extents slots f) (run_of_extent g), few_counted slots f, leb-true f.extents 16 parts.0);
       extents = all_on_pack g (counted_extents slots f) parts.1;
       secondary = short f;
-      kind = kind_of_body f.name (attr_of f) f.lstar;
-      body = lawful_body _ f.name (attr_of f) f.lstar;
+      kind = kind_of_body g tracks f.name (attr_of f) (counted_runs g slots f) f.lstar;
+      body = lawful_body g tracks f.name (attr_of f) (counted_runs g slots f) f.lstar;
     }
+
+-- sets of which none owns a track twice, nor two the same
+lawful_all : (g : Geometry) → g.cylinders ≤ (row_of g.device).most_cylinders → (xs : List DataSet) → AllByRecursion (IsGoodSet g) xs → ((t : ℕ) → count_by (is_in t) (flat_map (λ (x : DataSet). x.extents) xs) ≤ 1) → AllByRecursion (IsLawfulSet g) xs
+lawful_all g most [] all once = tt
+lawful_all g most (x ∷ xs) all once =
+    let others = flat_map (λ (y : DataSet). y.extents) xs in
+    let split : (t : ℕ) → count_by (is_in t) (x.extents ++ others) ≡ count_by (is_in t) x.extents + count_by (is_in t) others = λ t. sum_by-append (λ (r : Run). cond (is_in t r) 1 0) x.extents others in
+    let few : tracks_in x.extents < 65535 = few_owned g x.extents most all.0.extents (λ t. let both = split t in let one = once t in omega (arith, both, one)) in (
+      record { few = all.0.few; extents = all.0.extents; secondary = all.0.secondary; kind = all.0.kind; body = all.0.body few },
+      lawful_all g most xs all.1 (λ t. let both = split t in let one = once t in omega (arith, both, one)),
+    )
 
 -- the extents of a data set are good, where no rule on them is broken
 middle_holds : (a b c : Bool) (k : ℕ) → cond (not a) (Some (UnsupportedExtent k)) (cond (not b) (Some (BadExtent k)) (cond (not c) (Some (BadChain k)) None)) ≡ None → b ≡ true
@@ -197,9 +220,9 @@ all_good g (s ∷ rest) front none =
     let parts = cons_option-none (slot_fault g (s ∷ rest) 0 s) (filter_map (λ p. slot_fault g (s ∷ rest) p.0 p.1) (enumerate_from 1 rest)) none in
     (λ f is. absurd (f4_no_set s.content f (first_is_f4 s rest front) is), good_behind g (s ∷ rest) 1 rest (omega arith) parts.1)
 
-all_mapped : (g : Geometry) (slots : List VtocSlot) (fs : List F1) → AllByRecursion (λ f. IsLawfulSet g (data_set_of g slots f)) fs → AllByRecursion (IsLawfulSet g) (map (data_set_of g slots) fs)
-all_mapped g slots [] all = tt
-all_mapped g slots (f ∷ fs) all = (all.0, all_mapped g slots fs all.1)
+all_mapped : (g : Geometry) (tracks : List (List ℕ)) (slots : List VtocSlot) (fs : List F1) → AllByRecursion (λ f. IsGoodSet g (data_set_of g tracks slots f)) fs → AllByRecursion (IsGoodSet g) (map (data_set_of g tracks slots) fs)
+all_mapped g tracks slots [] all = tt
+all_mapped g tracks slots (f ∷ fs) all = (all.0, all_mapped g tracks slots fs all.1)
 
 -- no rule of the three groups is broken
 pub groups_hold : (g : Geometry) (slots : List VtocSlot) → slots_faults g slots ≡ [] → (slice_get (front_faults slots) 0 ≡ None) × (slice_get (slot_faults g slots) 0 ≡ None) × (slice_get (name_faults slots) 0 ≡ None)
@@ -223,20 +246,20 @@ good_sets g slots none =
     at (x ∷ xs) all (suc k) s f there is = at xs all.1 k s f there is
 
 -- the data sets in slots that break no rule, in their order
-lawful_sets : (g : Geometry) (slots : List VtocSlot) → slots_faults g slots ≡ [] → AllByRecursion (IsLawfulSet g) (in_order (data_sets_in g slots))
+good_in_order : (g : Geometry) (tracks : List (List ℕ)) (slots : List VtocSlot) → slots_faults g slots ≡ [] → AllByRecursion (IsGoodSet g) (in_order (data_sets_in g tracks slots))
 unfolding data_sets_in
-lawful_sets g slots none =
+good_in_order g tracks slots none =
     let groups = groups_hold g slots none in
-    let held : AllByRecursion (IsLawfulSet g) (data_sets_in g slots) =
-    all_mapped g slots _ (all_sets (λ f. IsLawfulSet g (data_set_of g slots f)) (HasGoodExtents g slots) (λ s f is good. lawful_set g slots f (good f is)) slots (all_good g slots groups.0 groups.1)) in
-    recursion_from_All (IsLawfulSet g) (in_order (data_sets_in g slots))
-    (All-permutation (IsLawfulSet g) (data_sets_in g slots) (in_order (data_sets_in g slots)) (in_order-permutation (data_sets_in g slots)) (All-from_recursion (IsLawfulSet g) (data_sets_in g slots) held))
+    let held : AllByRecursion (IsGoodSet g) (data_sets_in g tracks slots) =
+    all_mapped g tracks slots _ (all_sets (λ f. IsGoodSet g (data_set_of g tracks slots f)) (HasGoodExtents g slots) (λ s f is good. good_set g tracks slots f (good f is)) slots (all_good g slots groups.0 groups.1)) in
+    recursion_from_All (IsGoodSet g) (in_order (data_sets_in g tracks slots))
+    (All-permutation (IsGoodSet g) (data_sets_in g tracks slots) (in_order (data_sets_in g tracks slots)) (in_order-permutation (data_sets_in g tracks slots)) (All-from_recursion (IsGoodSet g) (data_sets_in g tracks slots) held))
 
 -- no name stands twice
-ascending_sets : (g : Geometry) (slots : List VtocSlot) → slots_faults g slots ≡ [] → IsAscending (in_order (data_sets_in g slots))
+ascending_sets : (g : Geometry) (tracks : List (List ℕ)) (slots : List VtocSlot) → slots_faults g slots ≡ [] → IsAscending (in_order (data_sets_in g tracks slots))
 unfolding name_faults data_sets_in
-ascending_sets g slots none =
-    in_order-ascending (data_sets_in g slots) (distinct_sets g slots _ (names_apart slots (groups_hold g slots none).2))
+ascending_sets g tracks slots none =
+    in_order-ascending (data_sets_in g tracks slots) (distinct_sets g tracks slots _ (names_apart slots (groups_hold g slots none).2))
 
 -- a VTOC that is found has at most 257 tracks
 chosen_run : (b : Bool) (r vtoc : Run) (e : MountErr) → cond b (Ok r) (Err e) ≡ Ok vtoc → (b ≡ true) × (r ≡ vtoc)
@@ -280,9 +303,19 @@ no_faults volume none = both_empty (overlap_faults volume) (room_faults volume) 
     both_empty [] ys e = (refl, e)
     both_empty (x ∷ xs) ys e = absurd (cc)
 
-only_extents : (g : Geometry) (xs : List DataSet) → AllByRecursion (IsLawfulSet g) xs → AllByRecursion (λ (x : DataSet). AllByRecursion (IsOnPack g) x.extents) xs
+only_extents : (g : Geometry) (xs : List DataSet) → AllByRecursion (IsGoodSet g) xs → AllByRecursion (λ (x : DataSet). AllByRecursion (IsOnPack g) x.extents) xs
 only_extents g [] all = tt
 only_extents g (x ∷ xs) all = (all.0.extents, only_extents g xs all.1)
+
+-- no two data sets own a track, where track 0, the VTOC and they own it once
+later_once : (vtoc : Run) (xs : List DataSet) (t : ℕ) → count_by (is_in t) (runs_owned vtoc xs) ≤ 1 → count_by (is_in t) (flat_map (λ (x : DataSet). x.extents) xs) ≤ 1
+later_once vtoc xs t once =
+    let test : Run → ℕ = λ r. cond (is_in t r) 1 0 in
+    let others = flat_map (λ (x : DataSet). x.extents) xs in
+    let first : Run = record { start = 0; len = 1 } in
+    let one = sum_by-cons test first (vtoc ∷ others) in
+    let two = sum_by-cons test vtoc others in
+    omega (arith, once, one, two)
 
 -- The volume of a label and a VTOC that break no rule is lawful.
 pub lawful_with : (len : ℕ) (image : List ℕ) (g : Geometry) (vtoc : Run) → HasGeometry len g → vtoc_of image g ≡ Ok vtoc → slots_faults g (slots_of_vtoc image g vtoc) ≡ []
@@ -290,17 +323,19 @@ pub lawful_with : (len : ℕ) (image : List ℕ) (g : Geometry) (vtoc : Run) →
 unfolding volume_with
 lawful_with len image g vtoc has found none whole =
     let volume : Volume = volume_by image g vtoc in
+    let tracks = data_tracks image g vtoc in
     let short = short_vtoc image g vtoc found in
-    let sets = lawful_sets g (slots_of_vtoc image g vtoc) none in
+    let good = good_in_order g tracks (slots_of_vtoc image g vtoc) none in
     let faults = no_faults volume whole in
+    let once = owns_once volume (owned_end volume short.0 (only_extents g _ good)) faults.0 in
     record {
       some = has.cylinders;
       most = has.most;
       slots = few_slots image g vtoc short.1;
       room = has_room volume faults.1;
-      order = ascending_sets g (slots_of_vtoc image g vtoc) none;
-      sets = sets;
-      owned = owns_once volume (owned_end volume short.0 (only_extents g _ sets)) faults.0;
+      order = ascending_sets g tracks (slots_of_vtoc image g vtoc) none;
+      sets = lawful_all g has.most volume.sets good (λ t. later_once vtoc volume.sets t (once t));
+      owned = once;
       has_catalog = catalog_is volume.sets;
       catalog = lawful_catalog volume.sets;
     }

@@ -1,10 +1,13 @@
 pub mod FirstFaults
 pub mod Lawful
 pub mod SetNames
+pub mod BlockBodies
+pub mod SeqBodies
 pub mod SlotCounts
 pub mod WrittenTracks
 pub mod OwnedTracks
 pub mod OwnedRuns
+pub mod OwnedAmounts
 pub mod AlikeSlots
 pub mod AddressesApart
 pub mod AlikeVolumes

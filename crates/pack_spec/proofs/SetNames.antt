@@ -36,14 +36,14 @@ module _ {X : Type 0} where
   none_passes p [] h = refl
   none_passes p (x ∷ xs) h = none_passes_more (p x) (list_any p xs) (position_or_len p xs) (length xs) h (none_passes p xs)
 
-  nowhere : (p : X → Bool) (xs : List X) → position p xs ≡ None → list_any p xs ≡ false
+  pub nowhere : (p : X → Bool) (xs : List X) → position p xs ≡ None → list_any p xs ≡ false
   nowhere p xs e = none_passes p xs (ltb-false (position_or_len p xs) (length xs) (missing (nat_lt (position_or_len p xs) (length xs)) e))
     where
       missing : (b : Bool) → cond b (Some (position_or_len p xs)) None ≡ None → b ≡ false
       missing true is = cc
       missing false is = refl
 
-neither : (b c : Bool) → (b || c) ≡ false → (b ≡ false) × (c ≡ false)
+pub neither : (b c : Bool) → (b || c) ≡ false → (b ≡ false) × (c ≡ false)
 neither true c e = absurd cc
 neither false c e = (refl, e)
 
@@ -130,11 +130,11 @@ module _ (slots : List VtocSlot) where
   names_apart none = (names_behind [] slots refl none).1
 
 -- and so have the data sets of these
-pub distinct_sets : (g : Geometry) (slots : List VtocSlot) (fs : List F1) → IsDistinct same_name fs → IsDistinct same_names (map (data_set_of g slots) fs)
+pub distinct_sets : (g : Geometry) (tracks : List (List ℕ)) (slots : List VtocSlot) (fs : List F1) → IsDistinct same_name fs → IsDistinct same_names (map (data_set_of g tracks slots) fs)
 unfolding IsDistinct data_set_of
-distinct_sets g slots [] apart = tt
-distinct_sets g slots (f ∷ fs) apart = (all fs apart.0, distinct_sets g slots fs apart.1)
+distinct_sets g tracks slots [] apart = tt
+distinct_sets g tracks slots (f ∷ fs) apart = (all fs apart.0, distinct_sets g tracks slots fs apart.1)
   where
-    all : (hs : List F1) → AllByRecursion (λ h. same_name f h ≡ false) hs → AllByRecursion (λ y. same_names (data_set_of g slots f) y ≡ false) (map (data_set_of g slots) hs)
+    all : (hs : List F1) → AllByRecursion (λ h. same_name f h ≡ false) hs → AllByRecursion (λ y. same_names (data_set_of g tracks slots f) y ≡ false) (map (data_set_of g tracks slots) hs)
     all [] apart = tt
     all (h ∷ hs) apart = (apart.0, all hs apart.1)

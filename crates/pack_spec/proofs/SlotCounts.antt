@@ -24,7 +24,7 @@ length-slots_from g track r [] = refl
 length-slots_from g track r (x ∷ xs) = ap suc (length-slots_from g track (r + 1) xs)
 
 -- at most so many records stand on a track
-more-records : (left : ℕ) (x : Record) (xs : List Record) (ends stands : Bool) (o : Option (List Record)) → ((ys : List Record) → o ≡ Some ys → length ys ≤ left) → cond ends (Some []) (cond stands (option_map (λ ys. x ∷ ys) o) None) ≡ Some xs → length xs ≤ suc left
+pub more-records : (left : ℕ) (x : Record) (xs : List Record) (ends stands : Bool) (o : Option (List Record)) → ((ys : List Record) → o ≡ Some ys → length ys ≤ left) → cond ends (Some []) (cond stands (option_map (λ ys. x ∷ ys) o) None) ≡ Some xs → length xs ≤ suc left
 more-records left x xs true stands o h e = let same : [] ≡ xs = cc in rw (sym same) (omega arith)
 more-records left x xs false true None h e = cc
 more-records left x xs false true (Some ys) h e =
@@ -33,7 +33,7 @@ more-records left x xs false true (Some ys) h e =
     rw (sym same) (omega arith)
 more-records left x xs false false o h e = cc
 
-length-records_to_end : (left r : ℕ) (bytes : List ℕ) (xs : List Record) → records_to_end left r bytes ≡ Some xs → length xs ≤ left
+pub length-records_to_end : (left r : ℕ) (bytes : List ℕ) (xs : List Record) → records_to_end left r bytes ≡ Some xs → length xs ≤ left
 unfolding records_to_end
 length-records_to_end zero r bytes xs e =
     let same : [] ≡ xs = (cond_some (is_at_end bytes) [] xs e).1 in

@@ -1,25 +1,22 @@
--- The bodies of data sets and the catalog of a volume as far as its VTOC alone gives them, in this project's profile: of a set that has blocks, no content is read.
-use Rattle.std.specs.Prelude.{ℕ, ◌&&◌, ◌||◌, Bool, List, [], ◌∷◌, Option, Some, None, if◌then◌else◌}
+-- The bodies of data sets and the catalog of a volume, in this project's profile: of sequential data sets the blocks, and of partitioned ones and SYSCTLG nothing is read.
+use Rattle.std.specs.Prelude.{ℕ, ◌||◌, List, Option, Some, None, if◌then◌else◌}
 use Rattle.std.specs.List.{list_any}
-use Rattle.std.specs.Str.{bytes_eq}
+use Rattle.ckd_image.specs.declared.header.Geometry.{Geometry}
 use Rattle.vol_model.specs.declared.catalogs.CatBody.{CatBody}
 use Rattle.vol_model.specs.declared.catalogs.CatBody.TheVariants as catalogs
 use Rattle.vol_model.specs.declared.contents.Attr.{Attr}
 use Rattle.vol_model.specs.declared.contents.Body.{Body}
-use Rattle.vol_model.specs.declared.contents.Body.TheVariants.{Seq, Other, Unreadable}
+use Rattle.vol_model.specs.declared.contents.Body.TheVariants.{Other, Unreadable}
 use Rattle.vol_model.specs.declared.contents.DataSet.{DataSet}
+use Rattle.vol_model.specs.declared.contents.Run.{Run}
 use Rattle.vol_model.specs.Shelf.{catalog_name, has_name, is_catalog, is_partitioned, is_sequential}
+use Rattle.pack_spec.specs.Blocks.{seq_body}
 
--- LSTAR is zeros: no block stands in the set
-abbrev pub has_no_block : List ℕ → Bool
-has_no_block lstar = bytes_eq lstar (0 ∷ 0 ∷ 0 ∷ [])
-
--- the body of a set of this name, these attributes and this LSTAR
-unfoldable pub body_of : List ℕ → Attr → List ℕ → Body
-body_of name attr lstar =
-    if is_sequential name attr && has_no_block lstar then Seq []
-    else (if is_catalog name || (is_sequential name attr || is_partitioned name attr)
-    then Unreadable 0 else Other)
+-- the body of a set of this name, these attributes, these extents and this LSTAR, where the data tracks are these
+unfoldable pub body_of : Geometry → List (List ℕ) → List ℕ → Attr → List Run → List ℕ → Body
+body_of g tracks name attr extents lstar =
+    if is_sequential name attr then seq_body g tracks extents lstar
+    else (if is_catalog name || is_partitioned name attr then Unreadable 0 else Other)
 
 -- the catalog, where one of these sets is SYSCTLG
 unfoldable pub catalog_of : List DataSet → Option CatBody

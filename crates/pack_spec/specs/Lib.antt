@@ -3,6 +3,7 @@ pub mod Vtoc
 pub mod Slots
 pub mod Rules
 pub mod Owned
+pub mod Blocks
 pub mod Bodies
 pub mod Volume
 pub mod Written

@@ -17,6 +17,7 @@ use Rattle.pack_spec.specs.Label.{label_of}
 use Rattle.pack_spec.specs.Vtoc.{run_of_extent, vtoc_of}
 use Rattle.pack_spec.specs.Slots.{slots_of_vtoc, track_faults}
 use Rattle.pack_spec.specs.Rules.{counted_extents, set_in, slots_faults}
+use Rattle.pack_spec.specs.Blocks.{data_tracks}
 use Rattle.pack_spec.specs.Bodies.{body_of, catalog_of}
 use Rattle.pack_spec.specs.Owned.{volume_faults}
 
@@ -49,34 +50,39 @@ attr_of f = record {
   secondary = secondary_of f;
 }
 
--- the data set of a format 1
-unfoldable pub data_set_of : Geometry → List VtocSlot → F1 → DataSet
-data_set_of g slots f = record {
+-- the runs that a format 1 counts
+abbrev pub counted_runs : Geometry → List VtocSlot → F1 → List Run
+counted_runs g slots f = map (run_of_extent g) (counted_extents slots f)
+
+-- the data set of a format 1, where the data tracks are these
+unfoldable pub data_set_of : Geometry → List (List ℕ) → List VtocSlot → F1 → DataSet
+data_set_of g tracks slots f = record {
   name = record { bytes = f.name };
   attr = attr_of f;
-  extents = map (run_of_extent g) (counted_extents slots f);
-  body = body_of f.name (attr_of f) f.lstar;
+  extents = counted_runs g slots f;
+  body = body_of g tracks f.name (attr_of f) (counted_runs g slots f) f.lstar;
 }
 
 -- the data sets in slots, in the order of these
-unfoldable pub data_sets_in : Geometry → List VtocSlot → List DataSet
-data_sets_in g slots = map (data_set_of g slots) (filter_map (λ s. set_in s.content) slots)
+unfoldable pub data_sets_in : Geometry → List (List ℕ) → List VtocSlot → List DataSet
+data_sets_in g tracks slots = map (data_set_of g tracks slots)
+    (filter_map (λ s. set_in s.content) slots)
 
--- the volume with this label and these slots of its VTOC; the serial stands at byte 4 of the label's data
-unfoldable pub volume_with : Geometry → List ℕ → Run → List VtocSlot → Volume
-volume_with g label vtoc slots = record {
+-- the volume with these data tracks, this label and these slots of its VTOC; the serial stands at byte 4 of the label's data
+unfoldable pub volume_with : Geometry → List (List ℕ) → List ℕ → Run → List VtocSlot → Volume
+volume_with g tracks label vtoc slots = record {
   serial = record { bytes = slice_range label 4 10 };
   geometry = g;
   vtoc = vtoc;
   slots = length slots;
-  sets = in_order (data_sets_in g slots);
-  catalog = catalog_of (in_order (data_sets_in g slots));
+  sets = in_order (data_sets_in g tracks slots);
+  catalog = catalog_of (in_order (data_sets_in g tracks slots));
 }
 
 -- the volume of an image with this VTOC, whatever rules the image breaks
 abbrev pub volume_by : List ℕ → Geometry → Run → Volume
-volume_by image g vtoc = volume_with g (unwrap_or (label_of image g) []) vtoc
-    (slots_of_vtoc image g vtoc)
+volume_by image g vtoc = volume_with g (data_tracks image g vtoc)
+    (unwrap_or (label_of image g) []) vtoc (slots_of_vtoc image g vtoc)
 
 -- the first rule that a VTOC breaks: its tracks go before its slots, and these before the volume
 unfoldable pub vtoc_fault : List ℕ → Geometry → Run → Option MountErr

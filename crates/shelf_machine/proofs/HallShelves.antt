@@ -1,6 +1,6 @@
 -- A sound machine over several packs: its shelf has the volumes of its indexes, and its packs are settled.
-use Rattle.std.proofs.Common.{◌≡◌, ◌∙◌, ℕ, List, Some, true, sym, ap, subst}
-use Rattle.std.specs.Prelude.{IsTrue, slice_get}
+use Rattle.std.proofs.Common.{◌≡◌, ◌∙◌, ℕ, List, sym, ap, subst}
+use Rattle.std.specs.Prelude.{IsTrue}
 use Rattle.free_rebuild.specs.Repairs.{image_named}
 use Rattle.free_rebuild.proofs.SettledBool.{settled_vtoc}
 use Rattle.hall_core.specs.Facts.{unit_of}
@@ -11,7 +11,7 @@ use Rattle.hall_core.specs.Facts.{Attached}
 use Rattle.vtoc_index.specs.declared.vol.Vol.{Vol}
 use Rattle.shelf_machine.specs.Machine.{AreKept, units_of}
 use Rattle.shelf_machine.specs.Opening.{AreSettledVtocs, names_of}
-use Rattle.shelf_machine.specs.Parts.{meaning_of, pack_names}
+use Rattle.shelf_machine.specs.Parts.{meaning_of}
 use Rattle.shelf_machine.specs.Reads.{HasVolumes}
 use Rattle.shelf_machine.specs.declared.machine.HallShelf.{HallShelf}
 use Rattle.shelf_machine.proofs.Holding.{has_volumes, kept_mounted}

@@ -1,6 +1,6 @@
 -- The shelf of the images of several indexes.
-use Rattle.std.proofs.Common.{◌≡◌, ◌<◌, ◌≤◌, ◌+◌, ℕ, zero, suc, List, [], ◌∷◌, length, map, Option, Some, None, refl, sym, ap, subst, ◌∙◌, arith}
-use Rattle.std.specs.Prelude.{Result, Ok, Err, slice_get}
+use Rattle.std.proofs.Common.{◌≡◌, ℕ, suc, List, [], ◌∷◌, map, Some, refl, sym, ap, subst, ◌∙◌}
+use Rattle.std.specs.Prelude.{Ok, slice_get}
 use Rattle.std.specs.Option.{option_map}
 use Rattle.std.proofs.lemmas.Option.{slice_get-map}
 use Rattle.free_rebuild.specs.Repairs.{image_named}
@@ -11,7 +11,6 @@ use Rattle.pack_spec.specs.Shelf.{shelf_of}
 use Rattle.pack_spec.specs.Volume.{volume_with}
 use Rattle.vol_model.specs.declared.contents.Shelf.{Shelf}
 use Rattle.vol_model.specs.declared.contents.Volume.{Volume}
-use Rattle.vtoc_index.specs.Index.{IsMounted}
 use Rattle.vtoc_index.specs.declared.vol.Vol.{Vol}
 use Rattle.vtoc_index.proofs.KeptLemmas.{mounted_of}
 use Rattle.shelf_machine.specs.Machine.{AreKept, shelf_or_none, shelf_under, serials_of, units_of}
@@ -57,12 +56,16 @@ module _ (files : List File) (attached : List Attached) (vols : List Vol) (mount
   pub shelf_is : shelf_under (names_of attached (units_of vols)) files ≡ record { volumes = volumes_held files attached vols }
   shelf_is = ap shelf_or_none shelf_held
 
+  -- the volume of the image of an index
+  pub volume_there : (n : ℕ) (v : Vol) → slice_get vols n ≡ Some v → slice_get (shelf_under (names_of attached (units_of vols)) files).volumes n ≡ Some (volume_held files attached v)
+  volume_there n v at = ap (λ (s : Shelf). slice_get s.volumes n) shelf_is ∙ get_map (volume_held files attached) vols n v at
+
   pub has_volumes : HasVolumes (shelf_under (names_of attached (units_of vols)) files) vols
   has_volumes = record {
     each = λ n v at. record {
       image = image_named files (unit_of attached v.unit).name;
       mounted = mounted n v at;
-      there = ap (λ (s : Shelf). slice_get s.volumes n) shelf_is ∙ get_map (volume_held files attached) vols n v at;
+      there = volume_there n v at;
     };
     none = λ n none. ap (λ (s : Shelf). slice_get s.volumes n) shelf_is ∙ slice_get-map (volume_held files attached) vols n ∙ ap (option_map (volume_held files attached)) none;
   }

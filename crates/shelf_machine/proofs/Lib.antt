@@ -1,7 +1,13 @@
 pub mod FreeCounts
+pub mod FoundByKey
+pub mod Following
+pub mod KnownLemmas
+pub mod CheckLoops
+pub mod CheckSets
 pub mod HallShelves
 pub mod Holding
 pub mod ListPlaces
+pub mod ListedSets
 pub mod Machines
 pub mod OrderedSets
 pub mod Openings
@@ -15,4 +21,6 @@ pub mod RepairLoops
 pub mod ReportLemmas
 pub mod ShelfLemmas
 pub mod ShelfReads
+pub mod ReadBlocks
+pub mod ReadMachines
 pub mod ShelfSteps

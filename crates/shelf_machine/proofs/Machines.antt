@@ -1,6 +1,6 @@
 -- What a machine over several images keeps, and what it stands on.
-use Rattle.std.proofs.Common.{◌≡◌, ◌≢◌, ⊎_elim, inl, inr, ℕ, zero, suc, List, [], ◌∷◌, ◌++◌, refl, sym, ◌∙◌, ap, subst, arith}
-use Rattle.std.specs.Prelude.{Bool, Option, Some, None, IsErrOf, IsTrue, Result, Ok, Err, slice_get}
+use Rattle.std.proofs.Common.{◌≡◌, ⊎_elim, ℕ, List, [], ◌∷◌, ◌++◌, refl, sym, ◌∙◌, ap, subst, arith}
+use Rattle.std.specs.Prelude.{Bool, None, IsErrOf, IsTrue, Result, Ok, Err, slice_get}
 use Rattle.hall_core.specs.Facts.{Attached, Facts}
 use Rattle.stop_model.specs.Files.{AfterPrint, File, IsPrefixOf}
 use Rattle.stop_model.specs.Moments.{Elapses, IsDurable, Meaning, Same}

@@ -1,10 +1,11 @@
 -- What the opening of a machine leaves, by what the reading and the repair of its packs left.
-use Rattle.std.proofs.Common.{◌≡◌, ◌≤◌, ⊎_elim, ℕ, List, length, Some, sym, ap, subst, ◌∙◌, arith}
+use Rattle.std.proofs.Common.{◌≡◌, ◌≤◌, ⊎_elim, ℕ, List, length, Some, refl, sym, ap, subst, ◌∙◌, arith}
 use Rattle.std.specs.Prelude.{Result, Ok, Err}
 use Rattle.std.proofs.lemmas.List.{length-map}
 use Rattle.hall_core.specs.Facts.{Attached}
 use Rattle.stop_model.specs.Files.{File}
-use Rattle.stop_model.specs.Moments.{Meaning}
+use Rattle.stop_model.specs.Moments.{IsDurable, Meaning, Same}
+use Rattle.stop_model.proofs.MomentLemmas.{durable_leaves, elapses_none, elapses_same, elapses_then, elapses_weaker}
 use Rattle.pack_spec.specs.Shelf.{UnitRefusal, shelf_of}
 use Rattle.pack_spec.specs.Volume.{volume_with}
 use Rattle.pack_spec.specs.declared.MountErr.{MountErr}
@@ -12,8 +13,8 @@ use Rattle.vol_model.specs.declared.contents.Shelf.{Shelf}
 use Rattle.vol_model.specs.declared.contents.Volume.{Volume}
 use Rattle.vtoc_index.specs.declared.vol.Vol.{Vol}
 use Rattle.shelf_machine.specs.Machine.{AreIndexes, AreKept, HavePlans, KeepsSafe, LeavesJust, serials_of, units_of}
-use Rattle.shelf_machine.specs.Opening.{AreApart, AreSafe, AreUnits, OpensSafely, images_named, names_of}
-use Rattle.shelf_machine.specs.Packs.{AreMounted, AreRead, RefusesImages, StopsAtTwice}
+use Rattle.shelf_machine.specs.Opening.{AreApart, AreSafe, AreUnits, LeavesSafe, OpensSafely, images_named, names_of}
+use Rattle.shelf_machine.specs.Packs.{AreMounted, AreRead, RefusesImages, RepairsAll, StopsAtTwice}
 use Rattle.shelf_machine.specs.declared.stopped.Stopped.{Stopped}
 use Rattle.shelf_machine.proofs.Holding.{kept_mounted, shelf_held, volume_held, volumes_held}
 use Rattle.shelf_machine.proofs.ListPlaces.{get_map}
@@ -66,3 +67,47 @@ refuses_twice files attached units vols s numbers mounted twice memory device =
     ap (λ (us : List ℕ). shelf_of (images_named files (names_of attached us))) (sym numbers)
     ∙ twice_refused files attached vols s.unit twice.0 mounted twice.2
     ∙ ap (λ (w : MountErr). Err (record { unit = s.unit; why = w })) (sym twice.1)
+
+-- ---- calls that change nothing, before the repair
+
+module _ (names : List (List ℕ)) (old mid : Meaning (List File)) (durable : IsDurable old) (same : Same old mid) where
+  opens_after : (shelf : Shelf) (new : Meaning (List File)) → shelf_of (images_named old.state names) ≡ Ok shelf → OpensSafely names shelf mid new → OpensSafely names shelf old new
+  opens_after shelf new before safe = record {
+    printed = safe.printed ∙ same.printed;
+    moments = elapses_then
+        (elapses_same same (durable_leaves old (λ (files : List File). (shelf_of (images_named files names) ≡ Ok shelf) × (AreSafe names shelf.volumes old.state files × (old.printed ≡ old.printed))) durable
+        (before, (safe_same names shelf.volumes old.state, refl))))
+        (elapses_weaker safe.moments (λ files p stop. (stop.0, (subst (λ (fs : List File). AreSafe names shelf.volumes fs files) same.state stop.1.0, stop.1.1 ∙ same.printed))));
+  }
+
+  pub leaves_same : LeavesSafe names old mid
+  leaves_same = record {
+    none = λ r is. same;
+    some = λ shelf is. opens_after shelf mid is (record { printed = refl; moments = elapses_none mid _ });
+  }
+
+  shelf_before : (shelf : Shelf) → shelf_of (images_named mid.state names) ≡ Ok shelf → shelf_of (images_named old.state names) ≡ Ok shelf
+  shelf_before shelf is = ap (λ (fs : List File). shelf_of (images_named fs names)) (sym same.state) ∙ is
+
+  pub leaves_run : {T E : Type 0} (attached : List Attached) (vols : List Vol) (new : Meaning (List File)) (r : Result T E) → RepairsAll names attached vols mid new r → LeavesSafe names old new
+  leaves_run attached vols new r run =
+      let before = shelf_before run.shelf run.before in record {
+        none = λ refusal is. absurd (cc (is, before));
+        some = λ shelf is. subst (λ (s : Shelf). OpensSafely names s old new) (one_shelf (sym before ∙ is)) (opens_after run.shelf new before run.safe);
+      }
+
+  pub repairs_after : {T E U F : Type 0} (attached : List Attached) (vols : List Vol) (new : Meaning (List File)) (x : T) (y : U) → RepairsAll {E = E} names attached vols mid new (Ok x) → RepairsAll {E = F} names attached vols old new (Ok y)
+  repairs_after attached vols new x y run = record {
+    shelf = run.shelf;
+    before = shelf_before run.shelf run.before;
+    after = run.after;
+    kept = run.kept;
+    durable = run.durable;
+    safe = opens_after run.shelf new (shelf_before run.shelf run.before) run.safe;
+  }
+
+-- a repair of packs, by other names for their units
+pub repairs_named : {T E : Type 0} (attached attached' : List Attached) (units units' : List ℕ) (vols : List Vol) (m m' : Meaning (List File)) (r : Result T E) → attached' ≡ attached → units' ≡ units
+    → RepairsAll (names_of attached' units') attached' vols m m' r → RepairsAll (names_of attached units) attached vols m m' r
+repairs_named attached attached' units units' vols m m' r same_files same_units run =
+    subst (λ (us : List Attached). RepairsAll (names_of us units) us vols m m' r) same_files (subst (λ (ns : List ℕ). RepairsAll (names_of attached' ns) attached' vols m m' r) same_units run)

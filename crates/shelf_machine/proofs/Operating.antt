@@ -1,16 +1,15 @@
 -- An operation on one of several packs, by their shelf.
-use Rattle.std.proofs.Common.{◌≡◌, ◌≢◌, ◌≤◌, ⊎_elim, inl, inr, ℕ, zero, suc, Bool, true, false, List, [], ◌∷◌, ◌++◌, length, map, set, Option, Some, None, refl, sym, ap, subst, ◌∙◌, arith}
-use Rattle.std.specs.Prelude.{◌⊎◌, ◌==◌, nat_lt, Result, Ok, Err, IsErrOf, OnOk, filter, if◌then◌else◌, not, slice_get, unwrap_or}
+use Rattle.std.proofs.Common.{◌≡◌, ◌≢◌, ⊎_elim, ℕ, zero, suc, Bool, true, false, List, [], ◌∷◌, ◌++◌, set, Option, Some, None, refl, sym, ap, subst, ◌∙◌, arith}
+use Rattle.std.specs.Prelude.{◌==◌, nat_lt, Result, Ok, Err, filter, if◌then◌else◌, not, slice_get, unwrap_or}
 use Rattle.std.proofs.lemmas.Bool.{cases_eq}
 use Rattle.dadsm_ops.specs.Operations.{Operates}
 use Rattle.free_rebuild.specs.Repairs.{image_named}
-use Rattle.free_rebuild.specs.Settled.{is_settled_vtoc}
 use Rattle.free_rebuild.proofs.SettledBool.{settled_true, settled_vtoc}
 use Rattle.hall_core.specs.Facts.{Attached, Facts, unit_of}
 use Rattle.stop_model.specs.Files.{File, file_of}
 use Rattle.stop_model.specs.Moments.{IsDurable, Meaning, Same}
-use Rattle.stop_model.proofs.MomentLemmas.{CountsNow, durable_same, same_none}
-use Rattle.vol_model.specs.Calls.{Keeps, sound_after}
+use Rattle.stop_model.proofs.MomentLemmas.{CountsNow, durable_same}
+use Rattle.vol_model.specs.Calls.{sound_after}
 use Rattle.ebcdic_names.specs.declared.names.Dsn.{Dsn}
 use Rattle.vol_model.specs.Places.{tracks_in}
 use Rattle.vol_model.specs.Shelf.{allocate_on, has_name, has_set, if_room, is_catalog, is_partitioned, lacks_room, on_choice, on_found, refuse, rename_on, rename_refusal, renamed, scratch_on, set_of, step_on, unless_refused, volume_number, with_new}
@@ -19,8 +18,6 @@ use Rattle.vol_model.specs.Space.{choice}
 use Rattle.vol_model.specs.declared.contents.Attr.{Attr}
 use Rattle.vol_model.specs.declared.contents.DataSet.{DataSet}
 use Rattle.vol_model.specs.declared.contents.Run.{Run}
-use Rattle.vol_model.specs.declared.answers.MachErr.{MachErr}
-use Rattle.vol_model.specs.declared.answers.MachErr.TheVariants as mach
 use Rattle.vol_model.specs.declared.answers.StoreErr.{StoreErr}
 use Rattle.vol_model.specs.declared.answers.StoreErr.TheVariants as store
 use Rattle.vol_model.specs.declared.contents.Volume.{Volume}
@@ -29,16 +26,16 @@ use Rattle.vol_model.specs.declared.refusals.Refusal.TheVariants.{NoRoom, NoVolu
 use Rattle.vol_model.specs.declared.requests.Op.{Op}
 use Rattle.vol_model.specs.declared.requests.Op.TheVariants.{Allocate, Rename, Scratch}
 use Rattle.vol_model.specs.declared.requests.Request.{Request}
-use Rattle.vtoc_index.specs.Index.{IsMounted, IsOfUnit}
+use Rattle.vtoc_index.specs.Index.{IsOfUnit}
 use Rattle.vtoc_index.specs.Kept.{IsKept}
 use Rattle.vtoc_index.specs.Names.{AreByName, name_at}
 use Rattle.vtoc_index.specs.declared.vol.Vol.{Vol}
 use Rattle.vtoc_index.proofs.KeptLemmas.{kept_of}
-use Rattle.shelf_machine.specs.Machine.{AreIndexes, AreInOrder, AreKept, IsKeptSettled, LeavesJust, base_of, numbers_of, plans_of, serials_of, texts_of, units_of}
+use Rattle.shelf_machine.specs.Machine.{AreIndexes, AreInOrder, AreKept, IsKeptSettled, base_of, numbers_of, plans_of, texts_of, units_of}
 use Rattle.shelf_machine.specs.Opening.{AreApart, names_of}
 use Rattle.shelf_machine.specs.Operating.{IsSamePack, OperatesOnShelf}
 use Rattle.shelf_machine.specs.Reporting.{reported}
-use Rattle.shelf_machine.proofs.Holding.{has_volumes, held_stand, kept_mounted, serials_apart, shelf_is, volumes_held}
+use Rattle.shelf_machine.proofs.Holding.{has_volumes, held_stand, kept_mounted, serials_apart, volumes_held}
 use Rattle.shelf_machine.proofs.ListPlaces.{get_map, get_other, get_set, map_set_same, set_size}
 use Rattle.shelf_machine.proofs.Machines.{applies_memory, applies_nowhere, just_same, keeps_all}
 use Rattle.shelf_machine.proofs.Promises.{keeps_safe}
@@ -185,7 +182,7 @@ operates_memory op attached vols m counts kept durable = record {
 }
 
 -- the operations keep the serial of a volume
-ok_volume : {a b : Volume} → ◌≡◌ {A = Result Volume Refusal} (Ok a) (Ok b) → a ≡ b
+pub ok_volume : {a b : Volume} → ◌≡◌ {A = Result Volume Refusal} (Ok a) (Ok b) → a ≡ b
 ok_volume same = cc
 
 pub rename_keeps : (n : ℕ) (old new : Dsn) (w after : Volume) → step_on (Rename n old new) w ≡ Ok after → after.serial.bytes ≡ w.serial.bytes
@@ -207,7 +204,7 @@ scratch_keeps n dsn w after is = by_set (set_of dsn.bytes w) is
     by_set None done = absurd cc
     by_set (Some x) done = ap (λ (y : Volume). y.serial.bytes) (sym (ok_volume done))
 
-unrefused : (b : Bool) (r : Refusal) (rest : Result Volume Refusal) (after : Volume) → refuse b r rest ≡ Ok after → rest ≡ Ok after
+pub unrefused : (b : Bool) (r : Refusal) (rest : Result Volume Refusal) (after : Volume) → refuse b r rest ≡ Ok after → rest ≡ Ok after
 unrefused true r rest after is = absurd cc
 unrefused false r rest after is = is
 

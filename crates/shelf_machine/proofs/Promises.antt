@@ -1,13 +1,13 @@
 -- What a machine over several images promised of stops, after an operation on one of them.
-use Rattle.std.proofs.Common.{◌≡◌, ◌≢◌, ◌≤◌, ⊎_elim, inl, inr, ℕ, zero, suc, Bool, true, false, List, [], ◌∷◌, set, Option, Some, None, refl, sym, ap, subst, ◌∙◌, arith}
-use Rattle.std.specs.Prelude.{◌⊎◌, Result, Ok, Err, position, slice_get, unwrap_or}
+use Rattle.std.proofs.Common.{◌≡◌, ◌≢◌, ⊎_elim, inl, inr, ℕ, true, false, List, [], set, Option, Some, None, sym, ap, subst, ◌∙◌}
+use Rattle.std.specs.Prelude.{Result, position, slice_get, unwrap_or}
 use Rattle.std.specs.Str.{bytes_eq}
 use Rattle.std.proofs.lemmas.Bool.{cases_eq}
 use Rattle.std.proofs.lemmas.Slice.Eq.{bytes_eq-Decides}
 use Rattle.ckd_image.specs.declared.header.Geometry.{Geometry}
-use Rattle.dadsm_ops.specs.Operations.{ChangesVtoc, IsLeftInOperation, Operates}
+use Rattle.dadsm_ops.specs.Operations.{IsLeftInOperation, Operates}
 use Rattle.free_rebuild.specs.Repairs.{image_named}
-use Rattle.stop_model.specs.Files.{File, file_of}
+use Rattle.stop_model.specs.Files.{File}
 use Rattle.stop_model.specs.Moments.{Meaning}
 use Rattle.stop_model.proofs.MomentLemmas.{CountsNow}
 use Rattle.pack_spec.specs.Alike.{DifferInVtoc}
@@ -18,7 +18,7 @@ use Rattle.vol_model.specs.declared.contents.Run.{Run}
 use Rattle.vol_model.specs.declared.contents.Volume.{Volume}
 use Rattle.vol_model.specs.declared.refusals.Refusal.{Refusal}
 use Rattle.vtoc_index.specs.declared.vol.Vol.{Vol}
-use Rattle.shelf_machine.specs.Machine.{HavePlans, KeepsSafe, StaysSafe}
+use Rattle.shelf_machine.specs.Machine.{HavePlans, KeepsSafe}
 use Rattle.shelf_machine.specs.Opening.{AreApart, AreSafe, IsSafeImage}
 use Rattle.shelf_machine.proofs.ListPlaces.{get_other, get_set, none_passes}
 

@@ -1,6 +1,6 @@
 -- How far the repair of the packs of several indexes has come.
 use Rattle.std.proofs.Common.{◌≡◌, ◌≢◌, ◌<◌, ◌≤◌, ◌+◌, ⊎_elim, ℕ, zero, suc, Bool, true, List, [], length, set, Option, Some, sym, ap, subst, ◌∙◌, refl, arith}
-use Rattle.std.specs.Prelude.{◌⊎◌, Contains, IsTrue, Result, Ok, Err, slice_get, unwrap_or}
+use Rattle.std.specs.Prelude.{Contains, IsTrue, Result, Ok, Err, slice_get, unwrap_or}
 use Rattle.std.proofs.lemmas.Bool.{cases_eq}
 use Rattle.std.proofs.lemmas.List.{length-map}
 use Rattle.free_rebuild.specs.Repairs.{Repairs, image_named}
@@ -85,6 +85,7 @@ pub packs_after : (before vols : List Vol) (k : ℕ) (v v' : Vol) → slice_get 
 packs_after before vols k v v' there same packs = record {
   units = map_set_same (λ (w : Vol). w.unit) vols k v v' there same.unit ∙ packs.units;
   serials = map_set_same (λ (w : Vol). w.serial.bytes) vols k v v' there same.serial ∙ packs.serials;
+  geometries = map_set_same (λ (w : Vol). w.geometry) vols k v v' there same.geometry ∙ packs.geometries;
 }
 
 -- the unit of an index is one of the packs'

@@ -1,6 +1,6 @@
 -- The repair of several packs, one behind another.
 use Rattle.std.proofs.Common.{◌≡◌, ◌≢◌, ◌≤◌, ◌+◌, ⊎_elim, inr, ℕ, true, List, [], Option, Some, refl, sym, ap, subst, ◌∙◌, arith}
-use Rattle.std.specs.Prelude.{◌⊎◌, Result, Ok, Err, slice_get, unwrap_or}
+use Rattle.std.specs.Prelude.{Result, Ok, Err, slice_get, unwrap_or}
 use Rattle.std.proofs.lemmas.Bool.{cases_eq}
 use Rattle.free_rebuild.specs.Repairs.{IsSafe, Repairs, image_named}
 use Rattle.free_rebuild.specs.Settled.{is_settled_vtoc}

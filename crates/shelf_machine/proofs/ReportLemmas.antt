@@ -1,6 +1,6 @@
 -- What a machine answers, by what an operation on a pack answered.
 use Rattle.std.proofs.Common.{◌≡◌, ℕ, Bool, true, false, List, Option, refl, sym, ap, subst, ◌∙◌, arith}
-use Rattle.std.specs.Prelude.{◌&&◌, IsErrOf, IsFalse, IsTrue, Result, Ok, Err, is_some}
+use Rattle.std.specs.Prelude.{◌&&◌, IsErrOf, Result, Ok, Err, is_some}
 use Rattle.dadsm_ops.specs.Operations.{StoreCall}
 use Rattle.hall_core.specs.Facts.{Facts}
 use Rattle.stop_model.specs.Moments.{Meaning}

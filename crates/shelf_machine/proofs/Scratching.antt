@@ -1,19 +1,18 @@
 -- A data set removed from one of several packs.
-use Rattle.std.proofs.Common.{◌≡◌, ◌∙◌, ℕ, List, [], ◌∷◌, Option, Some, None, refl, sym, ap, true}
-use Rattle.std.specs.Prelude.{Result, Ok, Err, IsErrOf, filter, if◌then◌else◌, is_some, not, option_and_then, slice_get}
+use Rattle.std.proofs.Common.{◌≡◌, ◌∙◌, ℕ, List, [], ◌∷◌, Option, Some, None, refl, sym, ap}
+use Rattle.std.specs.Prelude.{Result, Ok, Err, filter, if◌then◌else◌, not, option_and_then}
 use Rattle.std.specs.Option.{option_map}
 use Rattle.dscb_codec.specs.declared.Dscb.{Dscb}
 use Rattle.dadsm_ops.specs.Operations.{DoesOperation, Operates}
-use Rattle.dadsm_ops.proofs.FoundSets.{FoundSet, set_found}
+use Rattle.dadsm_ops.proofs.FoundSets.{set_found}
 use Rattle.ebcdic_names.specs.declared.names.Dsn.{Dsn}
 use Rattle.free_rebuild.specs.Repairs.{image_named}
 use Rattle.pack_spec.specs.Rules.{set_in}
-use Rattle.pack_spec.specs.Slots.{slots_of_vtoc}
-use Rattle.pack_spec.specs.Volume.{data_set_of, volume_of}
+use Rattle.pack_spec.specs.Volume.{volume_of}
 use Rattle.stop_model.specs.Files.{File}
-use Rattle.stop_model.specs.Moments.{Meaning, Same}
+use Rattle.stop_model.specs.Moments.{Meaning}
 use Rattle.stop_model.proofs.MomentLemmas.{CountsNow, elapses_none, same_none}
-use Rattle.vol_model.specs.Shelf.{has_name, is_catalog, on_found, scratch_on, set_of}
+use Rattle.vol_model.specs.Shelf.{has_name, is_catalog, on_found, scratch_on}
 use Rattle.vol_model.specs.declared.answers.StoreErr.{StoreErr}
 use Rattle.vol_model.specs.declared.answers.StoreErr.TheVariants as store
 use Rattle.vol_model.specs.declared.contents.DataSet.{DataSet}
@@ -26,7 +25,7 @@ use Rattle.vtoc_index.specs.Index.{IsMounted, first_named}
 use Rattle.vtoc_index.specs.Names.{name_at}
 use Rattle.vtoc_index.specs.declared.vol.Vol.{Vol}
 use Rattle.vtoc_sets.specs.Sets.{volume_in}
-use Rattle.shelf_machine.specs.Reads.{HasVolume, IsSetOn}
+use Rattle.shelf_machine.specs.Reads.{HasVolume}
 use Rattle.shelf_machine.proofs.ShelfReads.{is_set, no_set}
 
 -- the name in a slot that was found

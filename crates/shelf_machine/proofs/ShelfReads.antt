@@ -1,7 +1,7 @@
 -- What the shelf of a mounted image has, by the index of the image.
-use Rattle.std.proofs.Common.{◌≡◌, ◌≢◌, ◌<◌, ℕ, zero, suc, Bool, true, false, cond, List, [], ◌∷◌, length, get_or, map, Option, Some, None, refl, sym, ap, subst, ◌∙◌, arith}
-use Rattle.std.specs.Prelude.{◌||◌, ◌&&◌, is_some, Result, Ok, Err, option_and_then, position, slice_get}
-use Rattle.std.specs.List.{AllByRecursion, cons_option, filter_map, find, list_any}
+use Rattle.std.proofs.Common.{◌≡◌, ◌≢◌, ◌<◌, ◌+◌, not, ℕ, zero, suc, Bool, true, false, cond, List, [], ◌∷◌, length, get_or, map, Option, Some, None, refl, sym, ap, subst, ◌∙◌, arith}
+use Rattle.std.specs.Prelude.{◌||◌, ◌&&◌, ◌==◌, is_none, is_some, unwrap_or, Result, Ok, Err, option_and_then, position, slice_get}
+use Rattle.std.specs.List.{cons_option, filter_map, find, flat_map, list_any, range_with_len}
 use Rattle.std.specs.Option.{option_map, option_map_or}
 use Rattle.std.specs.Str.{bytes_eq}
 use Rattle.std.proofs.lemmas.Bool.{or_parts}
@@ -15,7 +15,10 @@ use Rattle.dscb_codec.specs.declared.Dscb.TheVariants as formats
 use Rattle.dscb_codec.specs.declared.DscbErr.{DscbErr}
 use Rattle.dscb_codec.specs.declared.F1.{F1}
 use Rattle.pack_spec.specs.declared.slot.VtocSlot.{VtocSlot}
-use Rattle.pack_spec.specs.Bodies.{body_of, catalog_of, has_no_block}
+use Rattle.pack_spec.specs.Blocks.{blocks_at, has_no_block, last_of, owned_tracks, seq_body, seq_of, seq_unless}
+use Rattle.pack_spec.specs.Bodies.{body_of, catalog_of}
+use Rattle.seq_access.specs.Bodies.{body_in, data_in}
+use Rattle.vtoc_sets.specs.declared.sets.BodyKind.TheVariants as set_kinds
 use Rattle.pack_spec.specs.Rules.{has_extents, is_named, set_in}
 use Rattle.dadsm_ops.proofs.ChangedLists.{any_first}
 use Rattle.dadsm_ops.proofs.FoundSets.{content_at, set_found}
@@ -25,6 +28,7 @@ use Rattle.pack_spec.proofs.Lawful.{good_sets}
 use Rattle.vol_model.specs.declared.answers.Kind.TheVariants as kinds
 use Rattle.vol_model.specs.declared.catalogs.CatBody.TheVariants as catalogs
 use Rattle.vol_model.specs.declared.contents.Attr.{Attr}
+use Rattle.vol_model.specs.declared.contents.Block.{Block}
 use Rattle.vol_model.specs.declared.contents.Body.{Body}
 use Rattle.vol_model.specs.declared.contents.Body.TheVariants.{Catalog, Other, Part, Seq, Unreadable}
 use Rattle.vol_model.specs.declared.contents.DataSet.{DataSet}
@@ -38,41 +42,45 @@ use Rattle.vol_model.specs.declared.catalogs.CatPath.{CatPath}
 use Rattle.vol_model.specs.declared.contents.Run.{Run}
 use Rattle.vol_model.specs.Places.{tracks_in}
 use Rattle.vol_model.specs.Trees.{child_at, nodes_below}
-use Rattle.vol_model.specs.Reading.{Picks, catalog_on, directory_size, extent_on, kind_of, name_on, nodes_in, set_info, volume_info}
-use Rattle.vol_model.specs.Shelf.{catalog_name, fits_mode, has_name, is_catalog, is_partitioned, is_sequential, set_of, unreadable, write_refusal, write_refusal_for}
+use Rattle.vol_model.specs.Reading.{Picks, catalog_on, directory_size, entries_in, extent_on, kind_of, name_on, nodes_in, readable, set_info, volume_info}
+use Rattle.vol_model.specs.Shelf.{catalog_name, fits_mode, has_name, is_catalog, is_partitioned, is_sequential, organization, set_of, unreadable, write_refusal, write_refusal_for}
 use Rattle.vol_model.specs.declared.answers.Mode.{Mode}
 use Rattle.vol_model.specs.declared.refusals.Refusal.TheVariants as refusals
 use Rattle.vol_model.specs.Writing.{begin_refusal, body_on, set_on, target_refusal}
 use Rattle.vol_model.proofs.Steps.{any_in_order}
-use Rattle.vtoc_index.specs.Index.{AreDscbs, IsMounted, first_named}
+use Rattle.vtoc_index.specs.Index.{AreDscbs, first_named}
 use Rattle.vtoc_index.specs.declared.vol.Vol.{Vol}
-use Rattle.shelf_machine.specs.Reads.{HasVolume, IsSetOn, IsUnread, IsUnreadCatalog}
-use Rattle.vtoc_sets.specs.Sets.{HasSet, extents_in, volume_in}
+use Rattle.shelf_machine.specs.Reads.{HasVolume, IsSequentialOn, IsSetOn, IsUnread}
+use Rattle.vtoc_sets.specs.Sets.{extents_in, kind_by, volume_in}
+use Rattle.shelf_machine.specs.Known.{ListsUnread}
+use Rattle.shelf_machine.specs.Unread.{broken_at, broken_by, broken_in, track_in}
+use Rattle.shelf_machine.specs.declared.unread.Unread.{Unread}
+use Rattle.shelf_machine.proofs.FoundByKey.{find_passes}
 use Rattle.shelf_machine.proofs.OrderedSets.{find_in_order}
 
 -- the data sets in some slots of a VTOC
-abbrev sets_by : Geometry → List VtocSlot → List VtocSlot → List DataSet
-sets_by g slots some = map (data_set_of g slots) (filter_map (λ s. set_in s.content) some)
+abbrev sets_by : Geometry → List (List ℕ) → List VtocSlot → List VtocSlot → List DataSet
+sets_by g tracks slots some = map (data_set_of g tracks slots) (filter_map (λ s. set_in s.content) some)
 
-module _ (g : Geometry) (slots : List VtocSlot) (name : List ℕ) where
+module _ (g : Geometry) (tracks : List (List ℕ)) (slots : List VtocSlot) (name : List ℕ) where
   -- a slot that is no data set of the name is passed over
-  passed : (c : Result Dscb DscbErr) (rest : List F1) → is_named name c ≡ false → find (has_name name) (map (data_set_of g slots) (cons_option (set_in c) rest)) ≡ find (has_name name) (map (data_set_of g slots) rest)
+  passed : (c : Result Dscb DscbErr) (rest : List F1) → is_named name c ≡ false → find (has_name name) (map (data_set_of g tracks slots) (cons_option (set_in c) rest)) ≡ find (has_name name) (map (data_set_of g tracks slots) rest)
   unfolding data_set_of
   passed (Ok formats.F0) rest not = refl
-  passed (Ok (formats.F1 f)) rest not = ap (λ (b : Bool). cond b (Some (data_set_of g slots f)) (find (has_name name) (map (data_set_of g slots) rest))) not
+  passed (Ok (formats.F1 f)) rest not = ap (λ (b : Bool). cond b (Some (data_set_of g tracks slots f)) (find (has_name name) (map (data_set_of g tracks slots) rest))) not
   passed (Ok (formats.F3 f)) rest not = refl
   passed (Ok (formats.F4 f)) rest not = refl
   passed (Ok (formats.F5 f)) rest not = refl
   passed (Err e) rest not = refl
 
-  taken : (c : Result Dscb DscbErr) (f : F1) (rest : List F1) → c ≡ Ok (formats.F1 f) → is_named name c ≡ true → find (has_name name) (map (data_set_of g slots) (cons_option (set_in c) rest)) ≡ Some (data_set_of g slots f)
+  taken : (c : Result Dscb DscbErr) (f : F1) (rest : List F1) → c ≡ Ok (formats.F1 f) → is_named name c ≡ true → find (has_name name) (map (data_set_of g tracks slots) (cons_option (set_in c) rest)) ≡ Some (data_set_of g tracks slots f)
   unfolding data_set_of
   taken c f rest is named =
-      ap (λ (x : Result Dscb DscbErr). find (has_name name) (map (data_set_of g slots) (cons_option (set_in x) rest))) is
-      ∙ ap (λ (b : Bool). cond b (Some (data_set_of g slots f)) (find (has_name name) (map (data_set_of g slots) rest))) (ap (is_named name) (sym is) ∙ named)
+      ap (λ (x : Result Dscb DscbErr). find (has_name name) (map (data_set_of g tracks slots) (cons_option (set_in x) rest))) is
+      ∙ ap (λ (b : Bool). cond b (Some (data_set_of g tracks slots f)) (find (has_name name) (map (data_set_of g tracks slots) rest))) (ap (is_named name) (sym is) ∙ named)
 
   found : (items : List Dscb) (some : List VtocSlot) (k : ℕ) (f : F1) → AreDscbs items some → slice_get items k ≡ Some (formats.F1 f) → is_named name (Ok (formats.F1 f)) ≡ true → ((j : ℕ) (d : Dscb) → j < k → is_named name (Ok (get_or items j d)) ≡ false)
-      → find (has_name name) (sets_by g slots some) ≡ Some (data_set_of g slots f)
+      → find (has_name name) (sets_by g tracks slots some) ≡ Some (data_set_of g tracks slots f)
   found [] some k f are is named earlier = cc
   found (d ∷ items) [] k f are is named earlier = cc
   found (d ∷ items) (s ∷ some) zero f are is named earlier =
@@ -86,7 +94,7 @@ module _ (g : Geometry) (slots : List VtocSlot) (name : List ℕ) where
       passed s.content (filter_map (λ t. set_in t.content) some) (ap (is_named name) content ∙ earlier 0 d (omega arith))
       ∙ found items some k f rest is named (λ j e low. earlier (suc j) e (omega (arith, low)))
 
-  found_not : (items : List Dscb) (some : List VtocSlot) → AreDscbs items some → list_any (λ d. is_named name (Ok d)) items ≡ false → find (has_name name) (sets_by g slots some) ≡ None
+  found_not : (items : List Dscb) (some : List VtocSlot) → AreDscbs items some → list_any (λ d. is_named name (Ok d)) items ≡ false → find (has_name name) (sets_by g tracks slots some) ≡ None
   found_not [] [] are none = refl
   found_not [] (s ∷ some) are none = cc
   found_not (d ∷ items) [] are none = cc
@@ -97,7 +105,7 @@ module _ (g : Geometry) (slots : List VtocSlot) (name : List ℕ) where
       passed s.content (filter_map (λ t. set_in t.content) some) (ap (is_named name) content ∙ parts.0) ∙ found_not items some rest parts.1
 
   -- whether a data set has the name
-  named_alike : (items : List Dscb) (some : List VtocSlot) → AreDscbs items some → list_any (has_name name) (sets_by g slots some) ≡ list_any (λ d. is_named name (Ok d)) items
+  named_alike : (items : List Dscb) (some : List VtocSlot) → AreDscbs items some → list_any (has_name name) (sets_by g tracks slots some) ≡ list_any (λ d. is_named name (Ok d)) items
   unfolding data_set_of
   named_alike [] [] are = refl
   named_alike [] (s ∷ some) are = cc
@@ -105,64 +113,155 @@ module _ (g : Geometry) (slots : List VtocSlot) (name : List ℕ) where
   named_alike (d ∷ items) (s ∷ some) are =
       let content : s.content ≡ Ok d = cc in
       let rest : AreDscbs items some = cc in
-      ap (λ (c : Result Dscb DscbErr). list_any (has_name name) (map (data_set_of g slots) (cons_option (set_in c) (filter_map (λ t. set_in t.content) some)))) content
+      ap (λ (c : Result Dscb DscbErr). list_any (has_name name) (map (data_set_of g tracks slots) (cons_option (set_in c) (filter_map (λ t. set_in t.content) some)))) content
       ∙ one d (filter_map (λ t. set_in t.content) some) (named_alike items some rest)
     where
-      one : (d : Dscb) (rest : List F1) → list_any (has_name name) (map (data_set_of g slots) rest) ≡ list_any (λ x. is_named name (Ok x)) items → list_any (has_name name) (map (data_set_of g slots) (cons_option (set_in (Ok d)) rest)) ≡ (is_named name (Ok d) || list_any (λ x. is_named name (Ok x)) items)
+      one : (d : Dscb) (rest : List F1) → list_any (has_name name) (map (data_set_of g tracks slots) rest) ≡ list_any (λ x. is_named name (Ok x)) items → list_any (has_name name) (map (data_set_of g tracks slots) (cons_option (set_in (Ok d)) rest)) ≡ (is_named name (Ok d) || list_any (λ x. is_named name (Ok x)) items)
       one formats.F0 rest same = same
       one (formats.F1 f) rest same = ap (λ (b : Bool). bytes_eq f.name name || b) same
       one (formats.F3 f) rest same = same
       one (formats.F4 f) rest same = same
       one (formats.F5 f) rest same = same
 
--- a body that the VTOC tells can't be read, or has nothing in it
-pub unread_by : (name : List ℕ) (attr : Attr) (lstar : List ℕ) (t : ℕ) → kinds.Unreadable t ≡ kind_of (body_of name attr lstar) → IsUnread (Some t) (body_of name attr lstar)
-unfolding body_of
-unread_by name attr lstar t is = by_tests (is_sequential name attr && has_no_block lstar) (is_catalog name || (is_sequential name attr || is_partitioned name attr)) is
-  where
-    by_tests : (a b : Bool) → kinds.Unreadable t ≡ kind_of (cond a (Seq []) (cond b (Unreadable 0) Other)) → IsUnread (Some t) (cond a (Seq []) (cond b (Unreadable 0) Other))
-    by_tests true b is = cc
-    by_tests false true is = let same : 0 ≡ t = cc in (ap (λ (n : ℕ). Err n) same, ap (λ (n : ℕ). Err n) same)
-    by_tests false false is = cc
+-- the body of a format 1 of an image
+abbrev pub body_here : List ℕ → Vol → F1 → Body
+body_here image v f = body_of v.geometry (data_in image v) f.name (attr_of f) (extents_in image v f) f.lstar
 
-pub read_by : (name : List ℕ) (attr : Attr) (lstar : List ℕ) → ((t : ℕ) → kind_of (body_of name attr lstar) ≢ kinds.Unreadable t) → IsUnread None (body_of name attr lstar)
-unfolding body_of
-read_by name attr lstar not = by_tests (is_sequential name attr && has_no_block lstar) (is_catalog name || (is_sequential name attr || is_partitioned name attr)) not
-  where
-    by_tests : (a b : Bool) → ((t : ℕ) → kind_of (cond a (Seq []) (cond b (Unreadable 0) Other)) ≢ kinds.Unreadable t) → IsUnread None (cond a (Seq []) (cond b (Unreadable 0) Other))
-    by_tests true b not = (refl, refl)
-    by_tests false true not = absurd (not 0 refl)
-    by_tests false false not = (refl, refl)
+-- the kind of a body that can't be read, and of one of a sequential set that can
+pub kind_broken : (b : Body) (t : ℕ) → broken_at b ≡ Some t → kind_of b ≡ kinds.Unreadable t
+kind_broken (Seq blocks) t is = absurd cc
+kind_broken (Part dir end entries blocks) t is = absurd cc
+kind_broken Catalog t is = absurd cc
+kind_broken Other t is = absurd cc
+kind_broken (Unreadable track) t is = let same : track ≡ t = cc in ap (λ (k : ℕ). kinds.Unreadable k) same
 
-no_directory : (name : List ℕ) (attr : Attr) (lstar : List ℕ) → directory_size (body_of name attr lstar) ≡ 0
-unfolding body_of
-no_directory name attr lstar = by_tests (is_sequential name attr && has_no_block lstar) (is_catalog name || (is_sequential name attr || is_partitioned name attr))
+-- what is true of each body of a sequential set
+seq_cases : (P : Body → Type 0) → ((bs : List Block) → P (Seq bs)) → ((t : ℕ) → P (Unreadable t)) → (g : Geometry) (tracks : List (List ℕ)) (extents : List Run) (lstar : List ℕ) → P (seq_body g tracks extents lstar)
+unfolding seq_body
+seq_cases P good bad g tracks extents lstar = by (has_no_block lstar)
   where
-    by_tests : (a b : Bool) → directory_size (cond a (Seq []) (cond b (Unreadable 0) Other)) ≡ 0
-    by_tests true b = refl
-    by_tests false true = refl
-    by_tests false false = refl
+    each : List (Option (List Block))
+    each = map (blocks_at g tracks (owned_tracks extents) (last_of lstar)) (range_with_len 0 ((last_of lstar).tt + 1))
+
+    by_first : (o : Option ℕ) (bs : List Block) → P (seq_unless o bs)
+    by_first None bs = good bs
+    by_first (Some k) bs = bad k
+
+    by : (b : Bool) → P (cond b (Seq []) (seq_of each))
+    by true = good []
+    by false = by_first (position (λ o. is_none o) each) (flat_map (λ o. unwrap_or o []) each)
+
+pub kind_whole : (g : Geometry) (tracks : List (List ℕ)) (extents : List Run) (lstar : List ℕ) → broken_at (seq_body g tracks extents lstar) ≡ None → kind_of (seq_body g tracks extents lstar) ≡ kinds.Seq
+kind_whole = seq_cases (λ b. broken_at b ≡ None → kind_of b ≡ kinds.Seq) (λ bs is. refl) (λ t is. absurd cc)
+
+-- which sets are sequential
+pub sequential_by : (name : List ℕ) (attr : Attr) → kind_by name attr ≡ set_kinds.Seq → is_sequential name attr ≡ true
+sequential_by name attr = by (is_catalog name) (is_sequential name attr) (is_partitioned name attr)
+  where
+    by : (a b c : Bool) → cond a set_kinds.Catalog (cond b set_kinds.Seq (cond c set_kinds.Part set_kinds.Other)) ≡ set_kinds.Seq → b ≡ true
+    by true b c is = absurd cc
+    by false true c is = refl
+    by false false true is = absurd cc
+    by false false false is = absurd cc
+
+pub not_sequential : (name : List ℕ) (attr : Attr) → (kind_by name attr ≡ set_kinds.Seq → ⊥) → is_sequential name attr ≡ false
+not_sequential name attr differs = by (is_catalog name) refl (organization attr == 32) refl
+  where
+    by : (a : Bool) → is_catalog name ≡ a → (b : Bool) → (organization attr == 32) ≡ b → (not (is_catalog name) && organization attr == 32) ≡ false
+    by true catalog b is = ap (λ (t : Bool). not t && organization attr == 32) catalog
+    by false catalog false is = ap (λ (t : Bool). not t && organization attr == 32) catalog ∙ is
+    by false catalog true is = absurd (differs (
+        ap (λ (t : Bool). cond t set_kinds.Catalog (cond (not t && organization attr == 32) set_kinds.Seq (cond (not t && organization attr == 1) set_kinds.Part set_kinds.Other))) catalog
+        ∙ ap (λ (t : Bool). cond t set_kinds.Seq (cond (organization attr == 1) set_kinds.Part set_kinds.Other)) is))
+
+-- the kind of a sequential set, by the list of those that can't be read
+module _ (name : List ℕ) (attr : Attr) (body : Body) (unread : List Unread) (seq : set_kinds.Seq ≡ kind_by name attr) (listed : track_in unread name ≡ broken_by name attr body) where
+  listed_at : track_in unread name ≡ broken_at body
+  listed_at = listed ∙ ap (λ (b : Bool). cond b (broken_at body) None) (sequential_by name attr (sym seq))
+
+  pub kind_listed : (t : ℕ) → Some t ≡ track_in unread name → kinds.Unreadable t ≡ kind_of body
+  kind_listed t is = sym (kind_broken body t (sym listed_at ∙ sym is))
+
+  pub kind_unlisted : (g : Geometry) (tracks : List (List ℕ)) (extents : List Run) (lstar : List ℕ) → body ≡ seq_body g tracks extents lstar → None ≡ track_in unread name → kinds.Seq ≡ kind_of body
+  kind_unlisted g tracks extents lstar whole is = sym (ap kind_of whole ∙ kind_whole g tracks extents lstar (ap broken_at (sym whole) ∙ sym listed_at ∙ sym is))
+
+-- a body that can't be read has no entry, and no block
+pub unread_by : (b : Body) (t : ℕ) → kinds.Unreadable t ≡ kind_of b → (entries_in b ≡ Err t) × (readable b ≡ Err t)
+unread_by (Seq blocks) t is = absurd cc
+unread_by (Part dir end entries blocks) t is = absurd cc
+unread_by Catalog t is = absurd cc
+unread_by Other t is = absurd cc
+unread_by (Unreadable track) t is = let same : track ≡ t = cc in (ap (λ (k : ℕ). Err k) same, ap (λ (k : ℕ). Err k) same)
+
+-- what is true of each body of a set
+set_cases : (P : Body → Type 0) → ((bs : List Block) → P (Seq bs)) → ((t : ℕ) → P (Unreadable t)) → P Other → (g : Geometry) (tracks : List (List ℕ)) (name : List ℕ) (attr : Attr) (extents : List Run) (lstar : List ℕ)
+    → P (body_of g tracks name attr extents lstar)
+unfolding body_of
+set_cases P good bad other g tracks name attr extents lstar = by (is_sequential name attr) (is_catalog name || is_partitioned name attr)
+  where
+    by : (a b : Bool) → P (cond a (seq_body g tracks extents lstar) (cond b (Unreadable 0) Other))
+    by true b = seq_cases P good bad g tracks extents lstar
+    by false true = bad 0
+    by false false = other
+
+pub read_by : (g : Geometry) (tracks : List (List ℕ)) (name : List ℕ) (attr : Attr) (extents : List Run) (lstar : List ℕ) → ((t : ℕ) → kind_of (body_of g tracks name attr extents lstar) ≢ kinds.Unreadable t)
+    → entries_in (body_of g tracks name attr extents lstar) ≡ Ok []
+read_by = set_cases (λ b. ((t : ℕ) → kind_of b ≢ kinds.Unreadable t) → entries_in b ≡ Ok []) (λ bs not. refl) (λ t not. absurd (not t refl)) (λ not. refl)
+
+-- one of another kind has no block
+pub no_block : (g : Geometry) (tracks : List (List ℕ)) (name : List ℕ) (attr : Attr) (extents : List Run) (lstar : List ℕ) → kind_of (body_of g tracks name attr extents lstar) ≢ kinds.Seq
+    → ((t : ℕ) → kind_of (body_of g tracks name attr extents lstar) ≢ kinds.Unreadable t) → readable (body_of g tracks name attr extents lstar) ≡ Ok []
+no_block = set_cases (λ b. kind_of b ≢ kinds.Seq → ((t : ℕ) → kind_of b ≢ kinds.Unreadable t) → readable b ≡ Ok []) (λ bs not_seq not. absurd (not_seq refl)) (λ t not_seq not. absurd (not t refl)) (λ not_seq not. refl)
+
+-- a readable sequential body
+pub whole_body : (b : Body) → kinds.Seq ≡ kind_of b → (bs : List Block) × (b ≡ Seq bs)
+whole_body (Seq blocks) is = (blocks, refl)
+whole_body (Part dir end entries blocks) is = absurd cc
+whole_body Catalog is = absurd cc
+whole_body Other is = absurd cc
+whole_body (Unreadable track) is = absurd cc
+
+-- the body of a set with blocks is that of a sequential one
+pub body_sequential : (g : Geometry) (tracks : List (List ℕ)) (name : List ℕ) (attr : Attr) (extents : List Run) (lstar : List ℕ) → kinds.Seq ≡ kind_of (body_of g tracks name attr extents lstar)
+    → body_of g tracks name attr extents lstar ≡ seq_body g tracks extents lstar
+unfolding body_of
+body_sequential g tracks name attr extents lstar = by (is_sequential name attr) (is_catalog name || is_partitioned name attr)
+  where
+    by : (a b : Bool) → kinds.Seq ≡ kind_of (cond a (seq_body g tracks extents lstar) (cond b (Unreadable 0) Other)) → cond a (seq_body g tracks extents lstar) (cond b (Unreadable 0) Other) ≡ seq_body g tracks extents lstar
+    by true b is = refl
+    by false true is = absurd cc
+    by false false is = absurd cc
+
+no_directory : (g : Geometry) (tracks : List (List ℕ)) (name : List ℕ) (attr : Attr) (extents : List Run) (lstar : List ℕ) → directory_size (body_of g tracks name attr extents lstar) ≡ 0
+no_directory = set_cases (λ b. directory_size b ≡ 0) (λ bs. refl) (λ t. refl) refl
 
 module _ (shelf : Shelf) (n : ℕ) (v : Vol) (has : HasVolume shelf n v) where
   abbrev slots : List VtocSlot
   slots = slots_of_vtoc has.image v.geometry v.vtoc
 
+  abbrev tracks : List (List ℕ)
+  tracks = data_in has.image v
+
   -- its data set of a name
-  set_here : (name : List ℕ) → set_on shelf n name ≡ find (has_name name) (sets_by v.geometry slots slots)
+  set_here : (name : List ℕ) → set_on shelf n name ≡ find (has_name name) (sets_by v.geometry tracks slots slots)
   unfolding set_on volume_with data_sets_in
-  set_here name = ap (option_and_then (set_of name)) has.there ∙ find_in_order name (data_sets_in v.geometry slots)
+  set_here name = ap (option_and_then (set_of name)) has.there ∙ find_in_order name (data_sets_in v.geometry tracks slots)
 
   pub no_set : (name : List ℕ) → first_named name v.slots.items ≡ None → IsSetOn has.image v (set_on shelf n name) None
   no_set name none =
-      set_here name ∙ found_not v.geometry slots name v.slots.items slots has.mounted.index.slots (any_first (λ d. is_named name (Ok d)) v.slots.items ∙ ap is_some none)
+      set_here name ∙ found_not v.geometry tracks slots name v.slots.items slots has.mounted.index.slots (any_first (λ d. is_named name (Ok d)) v.slots.items ∙ ap is_some none)
 
   pub is_set : (name : List ℕ) (k : ℕ) (f : F1) → first_named name v.slots.items ≡ Some k → slice_get v.slots.items k ≡ Some (formats.F1 f) → IsSetOn has.image v (set_on shelf n name) (Some f)
   is_set name k f first is =
       let items : List Dscb = v.slots.items in
       let at = position-Some (λ d. is_named name (Ok d)) items k (formats.F1 f) first in
       let this : get_or items k (formats.F1 f) ≡ formats.F1 f = get_or_from_slice_get items k (formats.F1 f) (formats.F1 f) is in (
-        record { mounted = has.mounted; extents = good (slice_get slots k) refl (content_at items slots k (formats.F1 f) has.mounted.index.slots is) },
-        set_here name ∙ found v.geometry slots name items slots k f has.mounted.index.slots is (ap (λ (x : Dscb). is_named name (Ok x)) (sym this) ∙ at.1)
+        record {
+          set = record { mounted = has.mounted; extents = good (slice_get slots k) refl (content_at items slots k (formats.F1 f) has.mounted.index.slots is) };
+          slot = k;
+          dscb = is;
+        },
+        set_here name ∙ found v.geometry tracks slots name items slots k f has.mounted.index.slots is (ap (λ (x : Dscb). is_named name (Ok x)) (sym this) ∙ at.1)
             (λ j d low. ap (λ (x : Dscb). is_named name (Ok x)) (get_or_default items j d (formats.F1 f) (omega (arith, low, at.0))) ∙ at.2 j low),
       )
     where
@@ -173,20 +272,49 @@ module _ (shelf : Shelf) (n : ℕ) (v : Vol) (has : HasVolume shelf n v) where
           good_sets v.geometry slots has.mounted.lawful k s f there (ap set_in here)
 
   -- a body, by the data set
-  pub body_found : (name : List ℕ) (f : F1) → IsSetOn has.image v (set_on shelf n name) (Some f) → body_of f.name (attr_of f) f.lstar ≡ body_on shelf n name
+  pub body_found : (name : List ℕ) (f : F1) → IsSetOn has.image v (set_on shelf n name) (Some f) → body_here has.image v f ≡ body_on shelf n name
   unfolding body_on data_set_of
   body_found name f set = sym (ap (λ (o : Option DataSet). option_map_or (λ (x : DataSet). x.body) o Other) set.1)
 
   pub body_none : (name : List ℕ) → IsSetOn has.image v (set_on shelf n name) None → IsUnread None (body_on shelf n name)
   unfolding body_on
-  body_none name set = subst (IsUnread None) (sym (ap (λ (o : Option DataSet). option_map_or (λ (x : DataSet). x.body) o Other) set)) (refl, refl)
+  body_none name set = subst (IsUnread None) (sym (ap (λ (o : Option DataSet). option_map_or (λ (x : DataSet). x.body) o Other) set)) refl
+
+  pub blocks_none : (name : List ℕ) → IsSetOn has.image v (set_on shelf n name) None → readable (body_on shelf n name) ≡ Ok []
+  unfolding body_on
+  blocks_none name set = ap (λ (o : Option DataSet). readable (option_map_or (λ (x : DataSet). x.body) o Other)) set
+
+  -- the data set that is found has the name
+  pub named : (name : List ℕ) (f : F1) → IsSetOn has.image v (set_on shelf n name) (Some f) → f.name ≡ name
+  unfolding data_set_of
+  named name f set =
+      let found = sym (set_here name) ∙ set.1 in
+      (bytes_eq-Decides f.name name).0 (find_passes (has_name name) _ _ found)
+
+  -- and the list tells whether it can't be read
+  pub known_set : (name : List ℕ) (f : F1) (unread : List Unread) → IsSetOn has.image v (set_on shelf n name) (Some f) → ListsUnread shelf n unread
+      → track_in unread f.name ≡ broken_by f.name (attr_of f) (body_here has.image v f)
+  unfolding data_set_of
+  known_set name f unread set lists = ap (track_in unread) (named name f set) ∙ lists name ∙ ap (option_and_then broken_in) set.1
+
+  -- it is a sequential one, or can't be broken
+  pub sequential_found : (name : List ℕ) (f : F1) → IsSetOn has.image v (set_on shelf n name) (Some f) → kind_by f.name (attr_of f) ≡ set_kinds.Seq
+      → body_here has.image v f ≡ body_in has.image v f → IsSequentialOn has.image v (set_on shelf n name) (Some f)
+  unfolding data_set_of
+  sequential_found name f set kind body = (set.0, sequential_by f.name (attr_of f) kind, set.1, body)
+
+  pub sequential_not : (name : List ℕ) (f : F1) → IsSetOn has.image v (set_on shelf n name) (Some f) → (kind_by f.name (attr_of f) ≡ set_kinds.Seq → ⊥) → IsSequentialOn has.image v (set_on shelf n name) None
+  unfolding data_set_of
+  sequential_not name f set differs =
+      ap (option_and_then broken_in) set.1
+      ∙ ap (λ (b : Bool). cond b (broken_at (body_here has.image v f)) None) (not_sequential f.name (attr_of f) differs)
 
   -- the catalog
   pub catalog_here : (b : Bool) → b ≡ list_any (λ d. is_named catalog_name (Ok d)) v.slots.items → nodes_in (catalog_on shelf n) ≡ cond b (Err 0) (Ok [])
   unfolding catalog_on volume_with catalog_of data_sets_in
   catalog_here b is =
-      let any : list_any (has_name catalog_name) (in_order (sets_by v.geometry slots slots)) ≡ b =
-      any_in_order (has_name catalog_name) (sets_by v.geometry slots slots) ∙ named_alike v.geometry slots catalog_name v.slots.items slots has.mounted.index.slots ∙ sym is in
+      let any : list_any (has_name catalog_name) (in_order (sets_by v.geometry tracks slots slots)) ≡ b =
+      any_in_order (has_name catalog_name) (sets_by v.geometry tracks slots slots) ∙ named_alike v.geometry tracks slots catalog_name v.slots.items slots has.mounted.index.slots ∙ sym is in
       ap (λ (o : Option Volume). nodes_in (option_and_then (λ (w : Volume). w.catalog) o)) has.there
       ∙ ap (λ (t : Bool). nodes_in (cond t (Some (catalogs.Unreadable 0)) None)) any
       ∙ by_test b
@@ -213,12 +341,12 @@ module _ (shelf : Shelf) (n : ℕ) (v : Vol) (has : HasVolume shelf n v) where
   unfolding extent_on
   extent_none k name set = sym (ap (option_and_then (λ (x : DataSet). slice_get x.extents k)) set)
 
-  pub info_found : (name : List ℕ) (f : F1) (info : SetInfo) → IsSetOn has.image v (set_on shelf n name) (Some f) → info.attr ≡ attr_of f → info.kind ≡ kind_of (body_of f.name (attr_of f) f.lstar)
+  pub info_found : (name : List ℕ) (f : F1) (info : SetInfo) → IsSetOn has.image v (set_on shelf n name) (Some f) → info.attr ≡ attr_of f → info.kind ≡ kind_of (body_here has.image v f)
       → info.extents ≡ length (extents_in has.image v f) → info.tracks ≡ tracks_in (extents_in has.image v f) → info.dir ≡ 0 → Some info ≡ option_map set_info (set_on shelf n name)
   unfolding set_info data_set_of
-  info_found name f info set attr kind extents tracks dir =
-      let none = dir ∙ sym (no_directory f.name (attr_of f) f.lstar) in
-      (λ i. Some (record { attr = attr i; kind = kind i; extents = extents i; tracks = tracks i; dir = none i })) ∙ sym (ap (option_map set_info) set.1)
+  info_found name f info set attr kind extents many dir =
+      let none = dir ∙ sym (no_directory v.geometry tracks f.name (attr_of f) (extents_in has.image v f) f.lstar) in
+      (λ i. Some (record { attr = attr i; kind = kind i; extents = extents i; tracks = many i; dir = none i })) ∙ sym (ap (option_map set_info) set.1)
 
   pub info_none : (name : List ℕ) → IsSetOn has.image v (set_on shelf n name) None → None ≡ option_map set_info (set_on shelf n name)
   info_none name set = sym (ap (option_map set_info) set)
@@ -245,7 +373,11 @@ module _ (shelf : Shelf) (n : ℕ) (none : slice_get shelf.volumes n ≡ None) w
 
   pub body_missing : (name : List ℕ) → IsUnread None (body_on shelf n name)
   unfolding body_on
-  body_missing name = subst (IsUnread None) (sym (ap (λ (o : Option DataSet). option_map_or (λ (x : DataSet). x.body) o Other) (no_set_there name))) (refl, refl)
+  body_missing name = subst (IsUnread None) (sym (ap (λ (o : Option DataSet). option_map_or (λ (x : DataSet). x.body) o Other) (no_set_there name))) refl
+
+  pub blocks_missing : (name : List ℕ) → readable (body_on shelf n name) ≡ Ok []
+  unfolding body_on
+  blocks_missing name = ap (λ (o : Option DataSet). readable (option_map_or (λ (x : DataSet). x.body) o Other)) (no_set_there name)
 
   pub catalog_missing : nodes_in (catalog_on shelf n) ≡ Ok []
   unfolding catalog_on
@@ -254,15 +386,6 @@ module _ (shelf : Shelf) (n : ℕ) (none : slice_get shelf.volumes n ≡ None) w
   pub begin_missing : (dsn : Dsn) (mode : Mode) → Some refusals.NoVolume ≡ begin_refusal shelf (record { v = n; dsn = dsn; mode = mode })
   unfolding begin_refusal
   begin_missing dsn mode = sym (ap (target_refusal (record { v = n; dsn = dsn; mode = mode })) none)
-
--- what is found passes
-find_passes : {X : Type 0} (p : X → Bool) (xs : List X) (x : X) → find p xs ≡ Some x → p x ≡ true
-find_passes p [] x is = cc
-find_passes p (y ∷ xs) x is = by_test (p y) refl (find_passes p xs x) is
-  where
-    by_test : (b : Bool) → p y ≡ b → (find p xs ≡ Some x → p x ≡ true) → cond b (Some y) (find p xs) ≡ Some x → p x ≡ true
-    by_test true test rest same = let this : y ≡ x = cc in ap p (sym this) ∙ test
-    by_test false test rest same = rest same
 
 -- a body that can't be read is refused
 refused_by : (b : Body) (t : ℕ) → kinds.Unreadable t ≡ kind_of b → Some (refusals.Unreadable t) ≡ unreadable b
@@ -290,27 +413,21 @@ module _ (shelf : Shelf) (n : ℕ) (v : Vol) (has : HasVolume shelf n v) (dsn : 
   begin_none set = sym (begin_by None set)
 
   module _ (f : F1) (set : IsSetOn has.image v (set_on shelf n dsn.bytes) (Some f)) where
-    named : f.name ≡ dsn.bytes
+    begin_set : begin_refusal shelf (record { v = n; dsn = dsn; mode = mode }) ≡ cond (fits_mode mode f.name (attr_of f)) (unreadable (body_here has.image v f)) (Some refusals.WrongKind)
     unfolding data_set_of
-    named =
-        let found = sym (set_here shelf n v has dsn.bytes) ∙ set.1 in
-        (bytes_eq-Decides f.name dsn.bytes).0 (find_passes (has_name dsn.bytes) _ _ found)
+    begin_set = begin_by _ set.1 ∙ ap (λ (name : List ℕ). cond (fits_mode mode name (attr_of f)) (unreadable (body_here has.image v f)) (Some refusals.WrongKind)) (sym (named shelf n v has dsn.bytes f set))
 
-    begin_set : begin_refusal shelf (record { v = n; dsn = dsn; mode = mode }) ≡ cond (fits_mode mode f.name (attr_of f)) (unreadable (body_of f.name (attr_of f) f.lstar)) (Some refusals.WrongKind)
-    unfolding data_set_of
-    begin_set = begin_by _ set.1 ∙ ap (λ (name : List ℕ). cond (fits_mode mode name (attr_of f)) (unreadable (body_of f.name (attr_of f) f.lstar)) (Some refusals.WrongKind)) (sym named)
-
-    begin_tested : (b : Bool) → b ≡ fits_mode mode f.name (attr_of f) → begin_refusal shelf (record { v = n; dsn = dsn; mode = mode }) ≡ cond b (unreadable (body_of f.name (attr_of f) f.lstar)) (Some refusals.WrongKind)
-    begin_tested b is = begin_set ∙ ap (λ (c : Bool). cond c (unreadable (body_of f.name (attr_of f) f.lstar)) (Some refusals.WrongKind)) (sym is)
+    begin_tested : (b : Bool) → b ≡ fits_mode mode f.name (attr_of f) → begin_refusal shelf (record { v = n; dsn = dsn; mode = mode }) ≡ cond b (unreadable (body_here has.image v f)) (Some refusals.WrongKind)
+    begin_tested b is = begin_set ∙ ap (λ (c : Bool). cond c (unreadable (body_here has.image v f)) (Some refusals.WrongKind)) (sym is)
 
     pub begin_wrong : false ≡ fits_mode mode f.name (attr_of f) → Some refusals.WrongKind ≡ begin_refusal shelf (record { v = n; dsn = dsn; mode = mode })
     begin_wrong is = sym (begin_tested false is)
 
-    pub begin_unread : (t : ℕ) → true ≡ fits_mode mode f.name (attr_of f) → kinds.Unreadable t ≡ kind_of (body_of f.name (attr_of f) f.lstar) → Some (refusals.Unreadable t) ≡ begin_refusal shelf (record { v = n; dsn = dsn; mode = mode })
-    begin_unread t is kind = refused_by (body_of f.name (attr_of f) f.lstar) t kind ∙ sym (begin_tested true is)
+    pub begin_unread : (t : ℕ) → true ≡ fits_mode mode f.name (attr_of f) → kinds.Unreadable t ≡ kind_of (body_here has.image v f) → Some (refusals.Unreadable t) ≡ begin_refusal shelf (record { v = n; dsn = dsn; mode = mode })
+    begin_unread t is kind = refused_by (body_here has.image v f) t kind ∙ sym (begin_tested true is)
 
-    pub begin_well : true ≡ fits_mode mode f.name (attr_of f) → ((t : ℕ) → kind_of (body_of f.name (attr_of f) f.lstar) ≢ kinds.Unreadable t) → None ≡ begin_refusal shelf (record { v = n; dsn = dsn; mode = mode })
-    begin_well is not = refused_not (body_of f.name (attr_of f) f.lstar) not ∙ sym (begin_tested true is)
+    pub begin_well : true ≡ fits_mode mode f.name (attr_of f) → ((t : ℕ) → kind_of (body_here has.image v f) ≢ kinds.Unreadable t) → None ≡ begin_refusal shelf (record { v = n; dsn = dsn; mode = mode })
+    begin_well is not = refused_not (body_here has.image v f) not ∙ sym (begin_tested true is)
 
 -- what stands in the slot that is found: a format 1
 pub item_is : (name : List ℕ) (items : List Dscb) (slot : ℕ) (x : Dscb) (f : F1) → first_named name items ≡ Some slot → x ≡ get_or items slot x → x ≡ formats.F1 f → slice_get items slot ≡ Some (formats.F1 f)

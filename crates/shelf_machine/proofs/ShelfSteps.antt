@@ -1,6 +1,6 @@
 -- An operation on the volume of one image, as one of the shelf of several.
-use Rattle.std.proofs.Common.{◌≡◌, ◌≢◌, ⊎_elim, inl, inr, ℕ, zero, suc, List, [], ◌∷◌, map, set, Option, Some, None, refl, sym, ap, subst, ◌∙◌, arith}
-use Rattle.std.specs.Prelude.{◌⊎◌, Result, Ok, Err, IsErrOf, slice_get, unwrap_or}
+use Rattle.std.proofs.Common.{◌≡◌, ◌≢◌, ⊎_elim, inl, inr, ℕ, List, [], set, Option, Some, refl, sym, ap, subst, ◌∙◌}
+use Rattle.std.specs.Prelude.{◌⊎◌, Result, Ok, Err, slice_get, unwrap_or}
 use Rattle.dadsm_ops.specs.Operations.{ChangesVtoc, IsBeforeOrAfter, Operates}
 use Rattle.free_rebuild.specs.Repairs.{image_named}
 use Rattle.stop_model.specs.Files.{File, file_of}
@@ -12,8 +12,6 @@ use Rattle.pack_spec.specs.Shelf.{shelf_of}
 use Rattle.pack_spec.specs.Volume.{volume_of}
 use Rattle.vol_model.specs.Calls.{Applies, IsIdle}
 use Rattle.vol_model.specs.Shelf.{on_volume, step, step_on, volume_number, with_volume}
-use Rattle.vol_model.specs.declared.answers.MachErr.{MachErr}
-use Rattle.vol_model.specs.declared.answers.MachErr.TheVariants as mach
 use Rattle.vol_model.specs.declared.answers.StoreErr.{StoreErr}
 use Rattle.vol_model.specs.declared.answers.StoreErr.TheVariants as store
 use Rattle.vol_model.specs.declared.contents.Shelf.{Shelf}

@@ -1,7 +1,7 @@
 -- The shelf of several images is lawful, whatever they hold.
-use Rattle.std.specs.Prelude.{◌≡◌, ℕ, ◌+◌, ◌≤◌, List, [], ◌∷◌, length, map, slice_get, Option, Some, None, Result, Ok, Err}
+use Rattle.std.specs.Prelude.{◌≡◌, ℕ, ◌+◌, ◌≤◌, List, [], ◌∷◌, length, slice_get, Option, Some, None, Result, Ok, Err}
 use Rattle.std.specs.List.{AllByRecursion}
-use Rattle.std.proofs.Common.{refl, sym, ap, subst, ◌∙◌, arith}
+use Rattle.std.proofs.Common.{refl, subst, ◌∙◌, arith}
 use Rattle.std.proofs.lemmas.List.{length-map}
 use Rattle.free_rebuild.specs.Repairs.{image_named}
 use Rattle.hall_core.specs.Facts.{Attached, unit_of}
@@ -11,7 +11,6 @@ use Rattle.pack_spec.specs.Shelf.{UnitRefusal, serial_faults, shelf_of, shelf_un
 use Rattle.pack_spec.specs.Volume.{volume_of}
 use Rattle.pack_spec.proofs.Lawful.{lawful_volume}
 use Rattle.vol_model.specs.Lawful.{IsLawful, IsLawfulVolume}
-use Rattle.vol_model.specs.declared.contents.Shelf.{Shelf}
 use Rattle.vol_model.specs.declared.contents.Volume.{Volume}
 use Rattle.vtoc_index.specs.declared.vol.Vol.{Vol}
 use Rattle.shelf_machine.specs.Machine.{shelf_or_none, shelf_under, units_of}

@@ -8,3 +8,7 @@ pub mod Reporting
 pub mod Operating
 pub mod Parts
 pub mod Opened
+pub mod Unread
+pub mod Known
+pub mod Checking
+pub mod Blocks

@@ -1,5 +1,5 @@
 -- What the opening of a machine over several packs answers, and what its closing leaves.
-use Rattle.std.specs.Prelude.{◌≡◌, ◌≢◌, ℕ, ◌≤◌, Bool, true, false, List, slice_get, Some, Result, Ok, Err, IsErrOf, IsTrue}
+use Rattle.std.specs.Prelude.{◌≡◌, ◌≢◌, ℕ, ◌≤◌, true, false, List, Result, Ok, Err}
 use Rattle.hall_core.specs.Facts.{Facts}
 use Rattle.hall_core.specs.declared.hall.Hall.{Ghosts}
 use Rattle.stop_model.specs.Counts.{Rose}

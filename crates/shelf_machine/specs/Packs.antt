@@ -1,18 +1,19 @@
 -- The packs of several units, as they are read, compared and repaired.
-use Rattle.std.specs.Prelude.{◌≡◌, ◌≢◌, ◌<◌, ℕ, List, length, position, slice_get, take, Some, None, Result, Ok, Err, OnOk}
+use Rattle.std.specs.Prelude.{◌≡◌, ◌≢◌, ◌<◌, ℕ, List, position, slice_get, take, Some, None, Result, Ok, Err, OnOk}
 use Rattle.std.specs.Str.{bytes_eq}
 use Rattle.hall_core.specs.Facts.{Attached, Facts, ReportedCall, unit_of}
 use Rattle.stop_model.specs.Files.{File}
-use Rattle.stop_model.specs.Moments.{Meaning, Elapses, IsDurable, Same}
-use Rattle.pack_spec.specs.Shelf.{UnitRefusal, shelf_of}
+use Rattle.stop_model.specs.Moments.{Meaning, IsDurable}
+use Rattle.pack_spec.specs.Shelf.{shelf_of}
 use Rattle.pack_spec.specs.declared.MountErr.{MountErr}
 use Rattle.pack_spec.specs.declared.MountErr.TheVariants.{Memory, Device, SameSerial}
 use Rattle.vol_model.specs.declared.contents.Shelf.{Shelf}
 use Rattle.free_rebuild.specs.Repairs.{image_named}
 use Rattle.vtoc_index.specs.Index.{IsMounted, IsOfUnit}
 use Rattle.vtoc_index.specs.declared.vol.Vol.{Vol}
+use Rattle.shelf_machine.specs.Known.{geometries_of}
 use Rattle.shelf_machine.specs.Machine.{AreIndexes, AreInOrder, AreKept, serials_of, units_of}
-use Rattle.shelf_machine.specs.Opening.{OpensSafely, images_named, names_of}
+use Rattle.shelf_machine.specs.Opening.{OpensSafely, images_named}
 use Rattle.shelf_machine.specs.declared.stopped.Stopped.{Stopped}
 
 -- Indexes of the packs on units, in order, and their data sets in the order of their names.
@@ -67,6 +68,7 @@ pub record RepairsAll {T E : Type 0} (names : List (List ℕ)) (attached : List 
 pub record AreOfSamePacks (old new : List Vol) : Type 0 where
   pub units : units_of new ≡ units_of old
   pub serials : serials_of new ≡ serials_of old
+  pub geometries : geometries_of new ≡ geometries_of old
 
 -- Indexes of the packs on units, in order, whose serials differ.
 pub record AreOpened (attached : List Attached) (units : List ℕ) (vols : List Vol) : Type 0 where

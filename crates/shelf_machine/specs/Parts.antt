@@ -1,6 +1,5 @@
 -- What a machine over several packs is made of, and what it means, tells and promises by that.
 use Rattle.std.specs.Prelude.{Bool, ℕ, List, is_some}
-use Rattle.hall_core.specs.Facts.{Facts}
 use Rattle.hall_core.specs.declared.hall.Hall.{Ghosts}
 use Rattle.stop_model.specs.Files.{File}
 use Rattle.stop_model.specs.Moments.{Meaning}

@@ -1,6 +1,9 @@
 //! The shelf of a machine over pack images: the packs that are mounted on the units of a hall.
 #![tactic(auto)]
 
+mod blocks;
+mod checking;
+mod known;
 mod machine;
 mod open_err;
 mod opening;
@@ -9,7 +12,10 @@ mod reads;
 mod reporting;
 mod space;
 mod stopped;
+mod unread;
 mod writer;
 
+pub use checking::unread_sets;
 pub use machine::HallShelf;
 pub use open_err::OpenErr;
+pub use unread::Unread;

@@ -3,14 +3,17 @@ ghost use Rattle.std.specs.Prelude.{◌≡◌, true, false, IsTrue, refl};
 ghost use Rattle.stop_model.specs.Moments.{IsDurable};
 ghost use Rattle.stop_model.proofs.MomentLemmas.{durable_seen, counts_now_seen, only_now_seen};
 ghost use Rattle.shelf_machine.specs.Props.{shelf_props};
-ghost use Rattle.shelf_machine.specs.Machine.{AreInOrder, AreIndexes, AreKept, shelf_under};
+ghost use Rattle.shelf_machine.specs.Known.{AreHeld, HaveBuffers, KnowsBodies};
+ghost use Rattle.shelf_machine.specs.Machine.{AreInOrder, AreIndexes, AreKept, shelf_under, units_of};
+ghost use Rattle.shelf_machine.specs.Opening.{names_of};
 
+use crate::known::{Known, follow};
 use crate::open_err::OpenErr;
 use crate::opening::open_packs;
 use crate::operations::operate;
-use crate::reads;
-use crate::reporting::{fault, report};
+use crate::reporting::{fault, is_sound_block, is_sound_into, report};
 use crate::writer::Writer;
+use crate::{blocks, reads};
 use ebcdic_names::{Dsn, Name8};
 use hall_core::Hall;
 use std::alloc::Global;
@@ -29,6 +32,7 @@ use vtoc_index::Vol;
 pub struct HallShelf<H: Hall> {
     hall: H,
     vols: Vec<Vol>,
+    known: Vec<Known>,
     is_sound: bool,
     done: u64,
     writer: Option<Writer>,
@@ -38,16 +42,22 @@ pub struct HallShelf<H: Hall> {
     pub ghost kept: { is_sound ≡ true → IsTrue H.tells
         → AreKept (H.meaning hall).state (H.facts hall).units vols.items } by { Prim.hlevel shelf_props },
     pub ghost durable: { is_sound ≡ true → IsTrue H.tells → IsDurable (H.meaning hall) },
+    pub ghost buffers: { HaveBuffers vols.items known.items } by { Prim.hlevel shelf_props },
+    pub ghost bodies: { is_sound ≡ true → IsTrue H.tells → KnowsBodies
+        (shelf_under (names_of (H.facts hall).units (units_of vols.items)) (H.meaning hall).state)
+        known.items } by { Prim.hlevel shelf_props },
+    pub ghost held: { is_sound ≡ true → IsTrue H.tells
+        → AreHeld (H.meaning hall).state (H.facts hall).units vols.items known.items } by { Prim.hlevel shelf_props },
 }
 
 impl<H: Hall> HallShelf<H> {
     ghost use Rattle.std.specs.Prelude.{◌<◌, IfOk, IfErr, length};
-    ghost use Rattle.shelf_machine.specs.Opening.{AreUnits, LeavesSafe, names_of};
+    ghost use Rattle.shelf_machine.specs.Opening.{AreUnits, LeavesSafe};
     ghost use Rattle.shelf_machine.specs.Opened.{IsOpened, LeavesSettled, OpenCall, OpensShelf, RefusesShelf, hall_left};
     ghost use Rattle.shelf_machine.specs.Parts.{hall_of, is_sound, pack_names};
 
-    /// Opens the machine over the packs on these units: reads all, compares their serials, and then repairs each whose
-    /// VTOC isn't settled.
+    /// Opens the machine over the packs on these units: reads all, compares their serials, walks the records of each
+    /// sequential data set, and then repairs each pack whose VTOC isn't settled.
     ///
     /// The error names the unit at which it stopped: the first whose pack breaks a rule of mounting, with the first rule
     /// that it breaks, or else the lowest whose serial an earlier one has (`SameSerial`). `Device` comes only where the
@@ -69,9 +79,10 @@ impl<H: Hall> HallShelf<H> {
     {
         let mut hall = hall;
         match open_packs(alloc, &mut hall, units) {
-            Ok(vols) => Ok(HallShelf {
+            Ok(packs) => Ok(HallShelf {
                 hall,
-                vols,
+                vols: packs.vols,
+                known: packs.known,
                 is_sound: true,
                 done: 0,
                 writer: None,
@@ -142,7 +153,7 @@ impl<H: Hall> Machine for HallShelf<H> {
     }
 
     fn attr(&mut self, v: u8, dsn: &Dsn) -> Result<Option<SetInfo>, WorkErr> {
-        Ok(reads::info_on(&self.vols, v, dsn))
+        Ok(reads::info_on(&self.vols, &self.known, v, dsn))
     }
 
     fn extent(&mut self, v: u8, dsn: &Dsn, k: u8) -> Result<Option<Run>, WorkErr> {
@@ -150,24 +161,24 @@ impl<H: Hall> Machine for HallShelf<H> {
     }
 
     fn entry(&mut self, v: u8, dsn: &Dsn, _name: &Name8) -> Result<Option<Entry>, ReadErr> {
-        match reads::unread_on(&self.vols, v, dsn) {
+        match reads::unread_on(&self.vols, &self.known, v, dsn) {
             Some(track) => Err(ReadErr::Unreadable(track)),
             None => Ok(None),
         }
     }
 
     fn entry_at(&mut self, v: u8, dsn: &Dsn, _k: u32) -> Result<Option<Entry>, ReadErr> {
-        match reads::unread_on(&self.vols, v, dsn) {
+        match reads::unread_on(&self.vols, &self.known, v, dsn) {
             Some(track) => Err(ReadErr::Unreadable(track)),
             None => Ok(None),
         }
     }
 
-    fn read_block(&mut self, v: u8, dsn: &Dsn, _from: Place) -> Result<Option<Block>, ReadErr> {
-        match reads::unread_on(&self.vols, v, dsn) {
-            Some(track) => Err(ReadErr::Unreadable(track)),
-            None => Ok(None),
-        }
+    fn read_block(&mut self, v: u8, dsn: &Dsn, from: Place) -> Result<Option<Block>, ReadErr> {
+        let hall = &mut self.hall;
+        let read = blocks::read_block(self.alloc, hall, &self.vols, &mut self.known, v, dsn, from);
+        self.is_sound = is_sound_block(&read);
+        read
     }
 
     fn cat_node(&mut self, v: u8, _path: &CatPath) -> Result<Option<CatNode>, ReadErr> {
@@ -188,23 +199,23 @@ impl<H: Hall> Machine for HallShelf<H> {
         &mut self,
         v: u8,
         dsn: &Dsn,
-        _from: Place,
+        from: Place,
         block: &mut BlockBuf,
     ) -> Result<bool, CheckErr> {
-        block.clear();
-        match reads::unread_on(&self.vols, v, dsn) {
-            Some(track) => Err(CheckErr::Unreadable(track)),
-            None => Ok(false),
-        }
+        let hall = &mut self.hall;
+        let read = blocks::read_into(hall, &self.vols, &mut self.known, v, dsn, from, block);
+        self.is_sound = is_sound_into(&read);
+        read
     }
 
     fn apply(&mut self, op: &Op) -> Result<(), MachErr> {
         let ran = operate(self.alloc, &mut self.hall, &mut self.vols, op);
+        follow(&mut self.known, op, ran.is_ok());
         report(&mut self.is_sound, &mut self.done, ran)
     }
 
     fn begin(&mut self, v: u8, dsn: &Dsn, mode: Mode) -> Result<(), MachErr> {
-        match reads::write_refusal(&self.vols, v, dsn, mode) {
+        match reads::write_refusal(&self.vols, &self.known, v, dsn, mode) {
             Some(refusal) => Err(MachErr::Refused(refusal)),
             None => Err(MachErr::Memory),
         }

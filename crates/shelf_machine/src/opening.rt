@@ -1,4 +1,4 @@
-//! The packs of several units, read, compared and repaired.
+//! The packs of several units, read, compared, checked and repaired.
 ghost use Rattle.std.specs.Prelude.{◌≡◌, ◌≢◌, ◌<◌, ◌≤◌, ℕ, ◌++◌, ◌∷◌, [], length, position, Contains, Some, None, Ok, Err, IsTrue, IsErrOf, IfOk, IfErr, IfNone, IfSome, OnOk, OnErr};
 ghost use Rattle.std.specs.Str.{bytes_eq};
 ghost use Rattle.hall_core.specs.Facts.{unit_of};
@@ -9,10 +9,13 @@ ghost use Rattle.pack_spec.specs.Volume.{volume_of};
 ghost use Rattle.vtoc_index.specs.Index.{IsMounted, IsOfUnit};
 ghost use Rattle.vtoc_index.specs.Names.{AreByName, name_at};
 ghost use Rattle.vtoc_index.specs.declared.vol.Vol.{Vol};
-ghost use Rattle.shelf_machine.specs.Machine.{AreIndexes, AreInOrder, serials_of, units_of};
+ghost use Rattle.shelf_machine.specs.Known.{AreFresh, HaveBuffers, KnowsBodies};
+ghost use Rattle.shelf_machine.specs.Machine.{AreIndexes, AreInOrder, serials_of, shelf_under, units_of};
 ghost use Rattle.shelf_machine.specs.Opening.{AreApart, AreUnits, LeavesSafe, names_of};
 ghost use Rattle.shelf_machine.specs.Packs.{AreMounted, AreOfSamePacks, AreOpened, AreRead, RefusesImages, RepairsAll, StopCall, StopsAtTwice};
 
+use crate::checking::check_all;
+use crate::known::Packs;
 use crate::stopped::Stopped;
 use ebcdic_names::Serial;
 use free_rebuild::{is_settled, rebuild};
@@ -20,19 +23,25 @@ use hall_core::Hall;
 use std::alloc::Global;
 use vtoc_index::{MountErr, Vol, read_vtoc};
 
-// The indexes of the packs on units: all are read, then their serials compared, then each that isn't settled is
-// repaired. Behind an error nothing was written, unless the device failed.
+// The packs on units: all are read, then their serials compared, then the bodies checked, then each that isn't settled
+// is repaired. Behind an error nothing was written, unless the device failed.
 pub(crate) fn open_packs<H: Hall>(
     alloc: Global,
     hall: &mut H,
     units: &[u8],
-) -> Result<Vec<Vol>, Stopped>
+) -> Result<Packs, Stopped>
     requires units { AreUnits (H.facts hall.old).units units.now }
     requires durable { IsTrue H.tells → IsDurable (H.meaning hall.old) }
-    ensures opened { IfOk result (λ vols. AreOpened (H.facts hall.old).units units.now vols.items) }
-    ensures files { IsTrue H.tells → IfOk result (λ vols. RepairsAll
-        (names_of (H.facts hall.old).units units.now) (H.facts hall.old).units vols.items
+    ensures opened { IfOk result (λ packs. AreOpened (H.facts hall.old).units units.now
+        packs.vols.items) }
+    ensures files { IsTrue H.tells → IfOk result (λ packs. RepairsAll
+        (names_of (H.facts hall.old).units units.now) (H.facts hall.old).units packs.vols.items
         (H.meaning hall.old) (H.meaning hall.new) result) }
+    ensures known { IsTrue H.tells → IfOk result (λ packs. KnowsBodies (shelf_under
+        (names_of (H.facts hall.new).units (units_of packs.vols.items)) (H.meaning hall.new).state)
+        packs.known.items) }
+    ensures buffers { IfOk result (λ packs. HaveBuffers packs.vols.items packs.known.items) }
+    ensures fresh { IfOk result (λ packs. AreFresh packs.known.items) }
     ensures refused { IsTrue H.tells → IfErr result (RefusesImages
         (names_of (H.facts hall.old).units units.now) (H.meaning hall.old).state) }
     ensures same { IsTrue H.tells → IfErr result (λ s. s.why ≢ MountErr.Device
@@ -46,8 +55,9 @@ pub(crate) fn open_packs<H: Hall>(
     if let Some(stopped) = same_serial(&vols) {
         return Err(stopped);
     }
+    let known = check_all(alloc, hall, &mut vols)?;
     repair_all(hall, &mut vols)?;
-    Ok(vols)
+    Ok(Packs { vols, known })
 }
 
 // The indexes of the packs on units, in order.

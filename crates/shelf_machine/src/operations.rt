@@ -9,6 +9,7 @@ ghost use Rattle.vtoc_index.specs.Names.{AreByName, name_at};
 ghost use Rattle.stop_model.specs.Moments.{IsDurable};
 ghost use Rattle.vol_model.specs.Calls.{sound_after};
 ghost use Rattle.dadsm_ops.specs.Operations.{Operates, StoreCall};
+ghost use Rattle.shelf_machine.specs.Known.{IsServed, geometries_of};
 ghost use Rattle.shelf_machine.specs.Machine.{AreIndexes, AreInOrder, AreKept, base_of, units_of};
 ghost use Rattle.shelf_machine.specs.Opening.{names_of};
 ghost use Rattle.shelf_machine.specs.Operating.{CanBeMade, IsRoomed, IsSamePack, OperatesOnShelf};
@@ -45,6 +46,8 @@ pub(crate) fn operate<H: Hall>(
     ensures order { sound_after (reported result) ≡ true → AreInOrder vols.new.items }
     ensures base { base_of (H.facts hall.new) vols.new.items
         ≡ base_of (H.facts hall.old) vols.old.items }
+    ensures geometries { geometries_of vols.new.items ≡ geometries_of vols.old.items }
+    ensures served { OnOk result (IsServed op.now) }
     ensures faults { StoreCall (H.facts hall.old) (H.facts hall.new) result }
 {
     match op {
@@ -86,6 +89,7 @@ fn allocate_on<H: Hall>(
     ensures order { sound_after (reported result) ≡ true → AreInOrder vols.new.items }
     ensures base { base_of (H.facts hall.new) vols.new.items
         ≡ base_of (H.facts hall.old) vols.old.items }
+    ensures geometries { geometries_of vols.new.items ≡ geometries_of vols.old.items }
     ensures faults { StoreCall (H.facts hall.old) (H.facts hall.new) result }
 {
     let k = usize::from(v);
@@ -127,6 +131,7 @@ fn rename_on<H: Hall>(
     ensures order { sound_after (reported result) ≡ true → AreInOrder vols.new.items }
     ensures base { base_of (H.facts hall.new) vols.new.items
         ≡ base_of (H.facts hall.old) vols.old.items }
+    ensures geometries { geometries_of vols.new.items ≡ geometries_of vols.old.items }
     ensures faults { StoreCall (H.facts hall.old) (H.facts hall.new) result }
 {
     let k = usize::from(v);
@@ -152,6 +157,7 @@ fn scratch_on<H: Hall>(hall: &mut H, vols: &mut Vec<Vol>, v: u8, dsn: &Dsn) -> R
     ensures order { sound_after (reported result) ≡ true → AreInOrder vols.new.items }
     ensures base { base_of (H.facts hall.new) vols.new.items
         ≡ base_of (H.facts hall.old) vols.old.items }
+    ensures geometries { geometries_of vols.new.items ≡ geometries_of vols.old.items }
     ensures faults { StoreCall (H.facts hall.old) (H.facts hall.new) result }
 {
     let k = usize::from(v);

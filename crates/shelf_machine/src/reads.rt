@@ -3,22 +3,30 @@ ghost use Rattle.std.specs.Prelude.{◌≡◌, ◌^◌, ◌<◌, ℕ, List, Ok, 
 ghost use Rattle.std.specs.List.{list_any};
 ghost use Rattle.std.specs.Option.{option_copied};
 ghost use Rattle.hall_core.specs.Facts.{Attached};
+ghost use Rattle.ckd_image.specs.declared.header.Geometry.{Geometry};
+ghost use Rattle.pack_spec.specs.Bodies.{body_of};
 ghost use Rattle.pack_spec.specs.Rules.{is_named};
+ghost use Rattle.pack_spec.specs.Volume.{attr_of};
 ghost use Rattle.vol_model.specs.Shelf.{catalog_name};
-ghost use Rattle.vol_model.specs.Reading.{catalog_on, extent_on, name_on, set_info, volume_info};
+ghost use Rattle.vol_model.specs.Reading.{catalog_on, extent_on, kind_of, name_on, set_info, volume_info};
+ghost use Rattle.vol_model.specs.declared.contents.Run.{Run};
 ghost use Rattle.vol_model.specs.Writing.{begin_refusal, body_on, set_on};
 ghost use Rattle.vtoc_index.specs.Index.{IsOfUnit};
 ghost use Rattle.vtoc_index.specs.Names.{AreByName, name_at};
 ghost use Rattle.vol_model.specs.declared.contents.Shelf.{Shelf};
 ghost use Rattle.shelf_machine.specs.Machine.{AreIndexes, AreInOrder};
-ghost use Rattle.shelf_machine.specs.Reads.{HasVolume, HasVolumes, IsSetOn, IsUnread, IsUnreadCatalog};
+ghost use Rattle.shelf_machine.specs.Known.{HaveBuffers, KnowsBodies, ListsUnread};
+ghost use Rattle.shelf_machine.specs.Reads.{HasVolume, HasVolumes, IsSequentialOn, IsSetOn, IsUnread, IsUnreadCatalog};
+ghost use Rattle.shelf_machine.specs.Unread.{broken_by, track_in};
 
+use crate::known::Known;
 use crate::space::volume_info;
+use crate::unread::track_of;
 use dscb_codec::{Dscb, F1};
 use ebcdic_names::Dsn;
 use vol_model::{Kind, Mode, Refusal, Run, SetInfo, VolumeInfo, is_catalog};
 use vtoc_index::{Vol, find, name_at};
-use vtoc_sets::{attr_of, fits_mode, kind_of, run_at, space_of};
+use vtoc_sets::{BodyKind, attr_of, body_kind, fits_mode, run_at, space_of};
 
 // The index of the volume of this number.
 fn volume_at(vols: &[Vol], v: u8) -> Option<&Vol>
@@ -47,7 +55,7 @@ pub(crate) fn name_on(vols: &[Vol], v: u8, k: u32) -> Option<Dsn>
 }
 
 // The format 1 of the data set of this name.
-fn set_in<'a>(vol: &'a Vol, dsn: &Dsn) -> Option<&'a F1>
+pub(crate) fn set_in<'a>(vol: &'a Vol, dsn: &Dsn) -> Option<&'a F1>
     requires unit { (units : List Attached) × IsOfUnit units vol.now }
     requires names { AreByName (name_at vol.now.slots.items) vol.now.by_name.items }
     ensures { (shelf : Shelf) (n : ℕ) (has : HasVolume shelf n vol.now) → IsSetOn has.image vol.now
@@ -60,20 +68,52 @@ fn set_in<'a>(vol: &'a Vol, dsn: &Dsn) -> Option<&'a F1>
     }
 }
 
+// The format 1 of the sequential data set of this name.
+pub(crate) fn sequential_in(vol: &Vol, dsn: &Dsn) -> Option<F1>
+    requires unit { (units : List Attached) × IsOfUnit units vol.now }
+    requires names { AreByName (name_at vol.now.slots.items) vol.now.by_name.items }
+    ensures { (shelf : Shelf) (n : ℕ) (has : HasVolume shelf n vol.now)
+        → IsSequentialOn has.image vol.now (set_on shelf n dsn.now.bytes) result }
+{
+    let set = set_in(vol, dsn)?;
+    match body_kind(set) {
+        BodyKind::Seq => Some(*set),
+        _ => None,
+    }
+}
+
+// The kind of a data set, by its format 1 and by those that can't be read.
+pub(crate) fn kind_in(known: &Known, set: &F1) -> Kind
+    ensures { (g : Geometry) (tracks : List (List ℕ)) (extents : List Run) →
+        let body = body_of g tracks set.now.name (attr_of set.now) extents set.now.lstar in
+        track_in known.now.unread.items set.now.name ≡ broken_by set.now.name (attr_of set.now) body
+        → result ≡ kind_of body }
+{
+    match body_kind(set) {
+        BodyKind::Seq => match track_of(&known.unread, &Dsn { bytes: set.name }) {
+            Some(track) => Kind::Unreadable(track),
+            None => Kind::Seq,
+        },
+        BodyKind::Part => Kind::Unreadable(0),
+        BodyKind::Catalog => Kind::Unreadable(0),
+        BodyKind::Other => Kind::Other,
+    }
+}
+
 // A data set of a volume in short.
 #[tactic(auto, unfolding(vol_model::specs::Reading::set_info))]
-fn info_in(vol: &Vol, dsn: &Dsn) -> Option<SetInfo>
+fn info_in(vol: &Vol, known: &Known, dsn: &Dsn) -> Option<SetInfo>
     requires unit { (units : List Attached) × IsOfUnit units vol.now }
     requires names { AreByName (name_at vol.now.slots.items) vol.now.by_name.items }
     ensures info { (shelf : Shelf) (n : ℕ) → HasVolume shelf n vol.now
-        → result ≡ option_map set_info (set_on shelf n dsn.now.bytes) }
+        → ListsUnread shelf n known.now.unread.items → result ≡ option_map set_info (set_on shelf n dsn.now.bytes) }
     ensures lawful { IfSome result (λ info. info.attr.secondary < 2 ^ 24) }
 {
     let set = set_in(vol, dsn)?;
     let space = space_of(vol, set);
     Some(SetInfo {
         attr: attr_of(set),
-        kind: kind_of(set),
+        kind: kind_in(known, set),
         extents: space.extents,
         tracks: space.tracks,
         dir: 0,
@@ -81,15 +121,16 @@ fn info_in(vol: &Vol, dsn: &Dsn) -> Option<SetInfo>
 }
 
 // A data set in short.
-pub(crate) fn info_on(vols: &[Vol], v: u8, dsn: &Dsn) -> Option<SetInfo>
+pub(crate) fn info_on(vols: &[Vol], known: &Vec<Known>, v: u8, dsn: &Dsn) -> Option<SetInfo>
     requires units { (attached : List Attached) × AreIndexes attached vols.now }
     requires order { AreInOrder vols.now }
-    ensures info { (shelf : Shelf) → HasVolumes shelf vols.now
+    requires buffers { HaveBuffers vols.now known.now.items }
+    ensures info { (shelf : Shelf) → HasVolumes shelf vols.now → KnowsBodies shelf known.now.items
         → result ≡ option_map set_info (set_on shelf v dsn.now.bytes) }
     ensures lawful { IfSome result (λ info. info.attr.secondary < 2 ^ 24) }
 {
     let vol = volume_at(vols, v)?;
-    info_in(vol, dsn)
+    info_in(vol, &known[usize::from(v)], dsn)
 }
 
 // The k-th extent of a data set of a volume.
@@ -113,36 +154,38 @@ pub(crate) fn extent_on(vols: &[Vol], v: u8, dsn: &Dsn, k: u8) -> Option<Run>
     extent_in(vol, dsn, k)
 }
 
-// The track at which the content of a data set of a volume can't be read; `None` where it has no block and no entry.
-fn unread_in(vol: &Vol, dsn: &Dsn) -> Option<u16>
+// The track at which the content of a data set of a volume can't be read; `None` where it has no entry.
+fn unread_in(vol: &Vol, known: &Known, dsn: &Dsn) -> Option<u16>
     requires unit { (units : List Attached) × IsOfUnit units vol.now }
     requires names { AreByName (name_at vol.now.slots.items) vol.now.by_name.items }
     ensures { (shelf : Shelf) (n : ℕ) → HasVolume shelf n vol.now
-        → IsUnread result (body_on shelf n dsn.now.bytes) }
+        → ListsUnread shelf n known.now.unread.items → IsUnread result (body_on shelf n dsn.now.bytes) }
 {
     let set = set_in(vol, dsn)?;
-    match kind_of(set) {
+    match kind_in(known, set) {
         Kind::Unreadable(track) => Some(track),
         _ => None,
     }
 }
 
 // The track at which the content of a data set can't be read.
-pub(crate) fn unread_on(vols: &[Vol], v: u8, dsn: &Dsn) -> Option<u16>
+pub(crate) fn unread_on(vols: &[Vol], known: &Vec<Known>, v: u8, dsn: &Dsn) -> Option<u16>
     requires units { (attached : List Attached) × AreIndexes attached vols.now }
     requires order { AreInOrder vols.now }
-    ensures { (shelf : Shelf) → HasVolumes shelf vols.now
+    requires buffers { HaveBuffers vols.now known.now.items }
+    ensures { (shelf : Shelf) → HasVolumes shelf vols.now → KnowsBodies shelf known.now.items
         → IsUnread result (body_on shelf v dsn.now.bytes) }
 {
     let vol = volume_at(vols, v)?;
-    unread_in(vol, dsn)
+    unread_in(vol, &known[usize::from(v)], dsn)
 }
 
 // Why blocks can't be written to a data set of a volume, if there is a reason.
-fn write_refusal_in(vol: &Vol, dsn: &Dsn, mode: Mode) -> Option<Refusal>
+fn write_refusal_in(vol: &Vol, known: &Known, dsn: &Dsn, mode: Mode) -> Option<Refusal>
     requires unit { (units : List Attached) × IsOfUnit units vol.now }
     requires names { AreByName (name_at vol.now.slots.items) vol.now.by_name.items }
-    ensures { (shelf : Shelf) (n : ℕ) → HasVolume shelf n vol.now → result
+    ensures { (shelf : Shelf) (n : ℕ) → HasVolume shelf n vol.now
+        → ListsUnread shelf n known.now.unread.items → result
         ≡ begin_refusal shelf (record { v = n; dsn = dsn.now; mode = mode }) }
 {
     let Some(set) = set_in(vol, dsn) else {
@@ -151,21 +194,28 @@ fn write_refusal_in(vol: &Vol, dsn: &Dsn, mode: Mode) -> Option<Refusal>
     if !fits_mode(set, mode) {
         return Some(Refusal::WrongKind);
     }
-    match kind_of(set) {
+    match kind_in(known, set) {
         Kind::Unreadable(track) => Some(Refusal::Unreadable(track)),
         _ => None,
     }
 }
 
 // Why blocks can't be written to a data set, if there is a reason.
-pub(crate) fn write_refusal(vols: &[Vol], v: u8, dsn: &Dsn, mode: Mode) -> Option<Refusal>
+pub(crate) fn write_refusal(
+    vols: &[Vol],
+    known: &Vec<Known>,
+    v: u8,
+    dsn: &Dsn,
+    mode: Mode,
+) -> Option<Refusal>
     requires units { (attached : List Attached) × AreIndexes attached vols.now }
     requires order { AreInOrder vols.now }
-    ensures { (shelf : Shelf) → HasVolumes shelf vols.now → result
+    requires buffers { HaveBuffers vols.now known.now.items }
+    ensures { (shelf : Shelf) → HasVolumes shelf vols.now → KnowsBodies shelf known.now.items → result
         ≡ begin_refusal shelf (record { v = v; dsn = dsn.now; mode = mode }) }
 {
     match volume_at(vols, v) {
-        Some(vol) => write_refusal_in(vol, dsn, mode),
+        Some(vol) => write_refusal_in(vol, &known[usize::from(v)], dsn, mode),
         None => Some(Refusal::NoVolume),
     }
 }

@@ -1,8 +1,8 @@
 //! What a machine makes of the answer of an operation.
-ghost use Rattle.std.specs.Prelude.{◌≡◌, false};
+ghost use Rattle.std.specs.Prelude.{◌≡◌, false, true, IsErrOf};
 ghost use Rattle.shelf_machine.specs.Reporting.{Reports};
 
-use vol_model::{MachErr, StoreErr};
+use vol_model::{Block, CheckErr, MachErr, ReadErr, StoreErr};
 
 // Ends the soundness of a machine, and gives the error that it answers.
 pub(crate) fn fault(is_sound: &mut bool, error: MachErr) -> MachErr
@@ -30,4 +30,20 @@ pub(crate) fn report(
         Err(StoreErr::Memory) => Err(MachErr::Memory),
         Err(StoreErr::Device) => Err(fault(is_sound, MachErr::Device)),
     }
+}
+
+// Whether a machine is sound behind a read into a block.
+pub(crate) fn is_sound_into(read: &Result<bool, CheckErr>) -> bool
+    ensures failed { IsErrOf read.now CheckErr.Device → result ≡ false }
+    ensures others { ¬ IsErrOf read.now CheckErr.Device → result ≡ true }
+{
+    !matches!(read, Err(CheckErr::Device))
+}
+
+// Whether it is sound behind a read that gives a block.
+pub(crate) fn is_sound_block(read: &Result<Option<Block>, ReadErr>) -> bool
+    ensures failed { IsErrOf read.now ReadErr.Device → result ≡ false }
+    ensures others { ¬ IsErrOf read.now ReadErr.Device → result ≡ true }
+{
+    !matches!(read, Err(ReadErr::Device))
 }

@@ -15,14 +15,14 @@ use Rattle.track_records.specs.Updates.{length_of, offset_of, with_parts, HasLen
 use Rattle.track_records.proofs.PatchLemmas.{take-patched, drop-patched, drop-patched_behind, length-patched, range-patched, range_alike, index_alike, take_alike}
 
 -- bytes that begin with the same eight begin with the same count
-record SameCount (xs ys : List ℕ) : Type 0 where
-  key_lengths : key_length xs ≡ key_length ys
-  data_lengths : data_length xs ≡ data_length ys
-  lengths : record_length xs ≡ record_length ys
-  ends : is_at_end xs ≡ is_at_end ys
-  addresses : take 4 xs ≡ take 4 ys
+pub record SameCount (xs ys : List ℕ) : Type 0 where
+  pub key_lengths : key_length xs ≡ key_length ys
+  pub data_lengths : data_length xs ≡ data_length ys
+  pub lengths : record_length xs ≡ record_length ys
+  pub ends : is_at_end xs ≡ is_at_end ys
+  pub addresses : take 4 xs ≡ take 4 ys
 
-same_count : (xs ys : List ℕ) → take 8 xs ≡ take 8 ys → SameCount xs ys
+pub same_count : (xs ys : List ℕ) → take 8 xs ≡ take 8 ys → SameCount xs ys
 same_count xs ys alike =
     let keys : key_length xs ≡ key_length ys = index_alike 8 5 xs ys (omega arith) alike in
     let ranges : slice_range xs 6 8 ≡ slice_range ys 6 8 = range_alike 8 6 8 xs ys (omega arith) alike in
@@ -35,7 +35,7 @@ same_count xs ys alike =
     }
 
 -- and, where they are as many, the same record stands there or none
-same_stand : (r : ℕ) (xs ys : List ℕ) → take 8 xs ≡ take 8 ys → length xs ≡ length ys → is_record_at r xs ≡ is_record_at r ys
+pub same_stand : (r : ℕ) (xs ys : List ℕ) → take 8 xs ≡ take 8 ys → length xs ≡ length ys → is_record_at r xs ≡ is_record_at r ys
 same_stand r xs ys alike sizes =
     let numbers : slice_index xs 4 ≡ slice_index ys 4 = index_alike 8 4 xs ys (omega arith) alike in
     rw ((same_count xs ys alike).lengths, numbers, sizes) refl
@@ -45,23 +45,23 @@ both_true true c is = (refl, is)
 both_true false c is = cc
 
 -- a record that stands there lies within the bytes
-record_fits : (r : ℕ) (bytes : List ℕ) → is_record_at r bytes ≡ true → record_length bytes ≤ length bytes
+pub record_fits : (r : ℕ) (bytes : List ℕ) → is_record_at r bytes ≡ true → record_length bytes ≤ length bytes
 record_fits r bytes stands = leb-true (record_length bytes) (length bytes) (both_true (nat_le 8 (length bytes) && (slice_index bytes 4 == r)) _ stands).1
 
 -- and its parts have the lengths of its count
-record PartLengths (bytes : List ℕ) : Type 0 where
-  key : length (front_record bytes).key ≡ key_length bytes
-  content : length (front_record bytes).data ≡ data_length bytes
-  whole : length_of (front_record bytes) ≡ record_length bytes
+pub record PartLengths (bytes : List ℕ) : Type 0 where
+  pub key : length (front_record bytes).key ≡ key_length bytes
+  pub content : length (front_record bytes).data ≡ data_length bytes
+  pub whole : length_of (front_record bytes) ≡ record_length bytes
 
-part_lengths : (bytes : List ℕ) → record_length bytes ≤ length bytes → PartLengths bytes
+pub part_lengths : (bytes : List ℕ) → record_length bytes ≤ length bytes → PartLengths bytes
 part_lengths bytes fits =
     let keys : length (front_record bytes).key ≡ key_length bytes = length-take-le (8 + key_length bytes - 8) (drop 8 bytes) (omega (arith, length-drop 8 bytes)) ∙ omega arith in
     let contents : length (front_record bytes).data ≡ data_length bytes = length-take-le (record_length bytes - (8 + key_length bytes)) (drop (8 + key_length bytes) bytes) (omega (arith, length-drop (8 + key_length bytes) bytes)) ∙ omega arith in
     record { key = keys; content = contents; whole = omega arith }
 
 -- bytes that begin with the same record
-same_front : (xs ys : List ℕ) → take (record_length ys) xs ≡ take (record_length ys) ys → front_record xs ≡ front_record ys
+pub same_front : (xs ys : List ℕ) → take (record_length ys) xs ≡ take (record_length ys) ys → front_record xs ≡ front_record ys
 same_front xs ys alike =
     let count = same_count xs ys (take_alike (record_length ys) 8 xs ys (omega arith) alike) in
     let keys : slice_range xs 8 (8 + key_length ys) ≡ slice_range ys 8 (8 + key_length ys) = range_alike (record_length ys) 8 (8 + key_length ys) xs ys (omega arith) alike in
@@ -266,11 +266,11 @@ stand_written r (suc k) bytes key content (x ∷ xs) stand has =
     )
 
 -- the places of records of these lengths, the first of which has this one
-abbrev places_by : ℕ → List Record → List ℕ
+abbrev pub places_by : ℕ → List Record → List ℕ
 places_by at [] = []
 places_by at (x ∷ xs) = at ∷ places_by (at + length_of x) xs
 
-places_stand : (r at : ℕ) (bytes : List ℕ) (xs : List Record) → StandFrom r (drop at bytes) xs → places_from at (length xs) bytes ≡ places_by at xs
+pub places_stand : (r at : ℕ) (bytes : List ℕ) (xs : List Record) → StandFrom r (drop at bytes) xs → places_from at (length xs) bytes ≡ places_by at xs
 places_stand r at bytes [] stand = refl
 places_stand r at bytes (x ∷ xs) stand =
     let first : length_of x ≡ record_length (drop at bytes) = ap length_of stand.1.0 ∙ (part_lengths (drop at bytes) (record_fits r (drop at bytes) stand.0)).whole in
@@ -293,7 +293,7 @@ place_there k at [] low = absurd (omega arith)
 place_there zero at (x ∷ xs) low = omega arith
 place_there (suc k) at (x ∷ xs) low = place_there k (at + length_of x) xs (omega arith) ∙ omega arith
 
-places_are : (r at : ℕ) (bytes ps : List ℕ) → IsTrue (are_places r at bytes ps) → StandFrom r (drop at bytes) (records_at bytes ps) × (ps ≡ places_by at (records_at bytes ps))
+pub places_are : (r at : ℕ) (bytes ps : List ℕ) → IsTrue (are_places r at bytes ps) → StandFrom r (drop at bytes) (records_at bytes ps) × (ps ≡ places_by at (records_at bytes ps))
 places_are r at bytes [] are = (tt, refl)
 places_are r at bytes (p ∷ ps) are =
     let first = first_place r at bytes p ps are in

@@ -24,7 +24,7 @@ use Rattle.track_records.proofs.StandLemmas.{stand}
 use Rattle.track_records.proofs.UpdateLemmas.{track_written, written_inside}
 
 -- a front part that holds what was written is the front part, written over
-take-patched_within : (image bytes : List ℕ) (n at : ℕ) → at + length bytes ≤ n → n ≤ length image → take n (patched image at bytes) ≡ patched (take n image) at bytes
+pub take-patched_within : (image bytes : List ℕ) (n at : ℕ) → at + length bytes ≤ n → n ≤ length image → take n (patched image at bytes) ≡ patched (take n image) at bytes
 unfolding patched
 take-patched_within image bytes n at within inside =
     let m : ℕ = at + length bytes in
@@ -39,7 +39,7 @@ take-patched_within image bytes n at within inside =
     )
 
 -- the bytes behind what was written are as they were
-behind : (image bytes : List ℕ) (n at : ℕ) → at + length bytes ≤ n → at ≤ length image → drop n (patched image at bytes) ≡ drop n image
+pub behind : (image bytes : List ℕ) (n at : ℕ) → at + length bytes ≤ n → at ≤ length image → drop n (patched image at bytes) ≡ drop n image
 behind image bytes n at past inside =
     let m : ℕ = at + length bytes in
     let parts : n ≡ m + (n - m) = omega (arith, past) in
@@ -50,15 +50,15 @@ behind image bytes n at past inside =
     ∙ ap (λ (k : ℕ). drop k image) (sym parts)
 
 -- and so are those before it
-before : (image bytes : List ℕ) (n m at : ℕ) → n + m ≤ at → at ≤ length image → take m (drop n (patched image at bytes)) ≡ take m (drop n image)
+pub before : (image bytes : List ℕ) (n m at : ℕ) → n + m ≤ at → at ≤ length image → take m (drop n (patched image at bytes)) ≡ take m (drop n image)
 before image bytes n m at low inside =
     sym (drop-take n m (patched image at bytes)) ∙ ap (drop n) (take-patched image bytes (n + m) at low inside) ∙ drop-take n m image
 
 -- where tracks stand
-track_behind : (size t u : ℕ) → t < u → 512 + t * size + size ≤ 512 + u * size
+pub track_behind : (size t u : ℕ) → t < u → 512 + t * size + size ≤ 512 + u * size
 track_behind size t u low = let m : (t + 1) * size ≤ u * size = mul-le-mul_right size (omega (arith, low)) in omega (arith, m)
 
-track_inside : (g : Geometry) (len track : ℕ) → HasGeometry len g → track < tracks_of g → 512 + track * g.track_size + g.track_size ≤ len
+pub track_inside : (g : Geometry) (len track : ℕ) → HasGeometry len g → track < tracks_of g → 512 + track * g.track_size + g.track_size ≤ len
 track_inside g len track has low =
     let heads : ℕ = (row_of g.device).heads in
     let whole : g.track_size * (track + 1) ≤ g.track_size * (g.cylinders * heads) = mul-le-mul_left g.track_size (omega (arith, low)) in

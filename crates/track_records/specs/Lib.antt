@@ -1,3 +1,4 @@
+pub mod Appends
 pub mod Buffers
 pub mod Calls
 pub mod Reads

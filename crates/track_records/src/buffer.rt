@@ -28,11 +28,11 @@ const MOST_RECORDS: usize = 255;
 /// are counted by their R, from 1 to 255.
 #[derive(Debug, Drop)]
 pub struct TrackBuf {
-    geometry: Geometry,
-    unit: u8,
-    track: u16,
-    bytes: Vec<u8>,
-    places: Vec<usize>,
+    pub(crate) geometry: Geometry,
+    pub(crate) unit: u8,
+    pub(crate) track: u16,
+    pub(crate) bytes: Vec<u8>,
+    pub(crate) places: Vec<usize>,
 }
 
 impl Model for TrackBuf {
@@ -61,6 +61,15 @@ impl TrackBuf {
             bytes,
             places,
         })
+    }
+
+    /// Makes it the empty buffer of a track, which is counted from 0 over the unit.
+    pub fn clear(&mut self, unit: u8, track: u16)
+        ensures { self.new ≡ record self.old { unit = unit; track = track; records = [] } }
+    {
+        self.unit = unit;
+        self.track = track;
+        self.places.clear();
     }
 
     /// The number of records behind R0 that the buffer holds.
@@ -239,7 +248,7 @@ pub fn update<H: Hall>(
 }
 
 // Puts a key and data one behind the other at an offset of the bytes.
-fn put_parts(bytes: &mut [u8], at: usize, key: &[u8], payload: &[u8])
+pub(crate) fn put_parts(bytes: &mut [u8], at: usize, key: &[u8], payload: &[u8])
     requires { at + length (key.now ++ payload.now) ≤ length bytes.old }
     ensures { bytes.new ≡ patched bytes.old at (key.now ++ payload.now) }
 {

@@ -9,6 +9,7 @@ use Rattle.deck_cards.specs.declared.reader.DeckErr.{DeckErr}
 use Rattle.deck_cards.specs.declared.reader.DeckErr.TheVariants as deck
 use Rattle.pack_spec.specs.declared.MountErr.{MountErr}
 use Rattle.pack_spec.specs.declared.MountErr.TheVariants as mount
+use Rattle.shelf_machine.specs.declared.unread.Unread.{Unread}
 
 -- a line of text
 abbrev pub line : List ℕ → List ℕ
@@ -84,6 +85,18 @@ settled_word settled = if settled then codes " SETTLED" else codes " UNSETTLED"
 -- whether the pack of this serial is settled
 unfoldable pub check_line : List ℕ → Bool → List ℕ
 check_line serial settled = line (codes "CHECK " ++ shown serial ++ settled_word settled)
+
+-- the name of a data set, and the first relative track that breaks its body
+unfoldable pub broken_place : Unread → List ℕ
+broken_place u = shown u.dsn.bytes ++ number_text u.track
+
+-- a data set whose body can't be read
+unfoldable pub unread_line : Unread → List ℕ
+unread_line u = line (codes "UNREADABLE " ++ broken_place u)
+
+-- what is said of a pack of this serial: whether it is settled, and then which bodies can't be read
+unfoldable pub check_text : List ℕ → Bool → List Unread → List ℕ
+check_text serial settled unread = check_line serial settled ++ flat_map unread_line unread
 
 -- where a new pack was made
 unfoldable pub init_line : List ℕ → List ℕ

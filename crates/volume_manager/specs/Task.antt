@@ -1,5 +1,5 @@
 -- What the program is to do, by its words, the deck and the files.
-use Rattle.std.specs.Prelude.{◌≡◌, ℕ, List, [], find, is_none, slice_index_or, Option, Some, None, Result, Ok, Err, if◌then◌else◌}
+use Rattle.std.specs.Prelude.{◌≡◌, ℕ, Bool, true, List, [], find, is_none, slice_index_or, Option, Some, None, Result, Ok, Err}
 use Rattle.card_text.specs.declared.cards.Card.{Card}
 use Rattle.command_words.specs.declared.action.NewPack.{NewPack}
 use Rattle.command_words.specs.Requests.{Request, Run, Init, Names, Check}
@@ -16,8 +16,10 @@ use Rattle.pack_spec.specs.Volume.{volume_of}
 use Rattle.vol_model.specs.declared.contents.Shelf.{Shelf}
 use Rattle.vol_model.specs.declared.contents.Volume.{Volume}
 use Rattle.vol_model.specs.Events.{Item}
+use Rattle.shelf_machine.specs.Checking.{all_unread}
 use Rattle.shelf_machine.specs.Opening.{images_named}
-use Rattle.volume_manager.specs.Lines.{check_line, deck_line, exists_line, names_listing, unit_line, words_line}
+use Rattle.shelf_machine.specs.declared.unread.Unread.{Unread}
+use Rattle.volume_manager.specs.Lines.{check_text, deck_line, exists_line, names_listing, unit_line, words_line}
 use Rattle.volume_manager.specs.Names.{names_of}
 
 -- A text to print, and the status to end with; or files, the shelf that their images stand for, and what is to be done on that; or a new pack to make in a file that isn't there.
@@ -40,11 +42,17 @@ task_on file task (Some image) = task_for file (task image) (volume_of image)
 abbrev pub names_task : List ℕ → Volume → Task
 names_task image volume = Says 0 (names_listing (names_of volume.sets))
 
--- whether the image that stands for a volume is settled
+-- the status of a pack that is settled or not, of which these bodies can't be read
+abbrev pub check_code : Bool → List Unread → ℕ
+check_code true [] = 0
+check_code settled unread = 4
+
+-- whether the image that stands for a volume is settled, and which bodies of that can't be read
 abbrev pub check_task : List ℕ → Volume → Task
 check_task image volume =
     let settled = is_settled_vtoc image in
-    Says (if settled then 0 else 4) (check_line volume.serial.bytes settled)
+    let unread = all_unread volume in
+    Says (check_code settled unread) (check_text volume.serial.bytes settled unread)
 
 -- the items of the jobs that cards ask for, on the date of a run
 abbrev pub items_of : List ℕ → List Card → Shelf → List Item

@@ -113,8 +113,8 @@ fn push_words(text: &mut Vec<u8>, word: &str, numbers: &[u64]) -> Result<(), All
     Ok(())
 }
 
-// Adds a number in decimal, behind a blank.
-fn push_number(text: &mut Vec<u8>, number: u64) -> Result<(), AllocError>
+/// Adds a number in decimal, behind a blank.
+pub fn push_number(text: &mut Vec<u8>, number: u64) -> Result<(), AllocError>
     ensures { OnOk result (text.new.items ≡ text.old.items ++ number_text number) }
 {
     text.push(b' ')?;

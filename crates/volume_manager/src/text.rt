@@ -1,10 +1,11 @@
 //! The texts that the program prints.
 ghost use Rattle.std.specs.Prelude.{◌≡◌, ◌++◌, List, ℕ, IfOk, OnOk};
-ghost use Rattle.volume_manager.specs.Lines.{check_line, deck_line, exists_line, init_line, settled_word, words_line, unit_line, name_line, names_listing};
+ghost use Rattle.volume_manager.specs.Lines.{broken_place, check_line, check_text, deck_line, exists_line, init_line, settled_word, unread_line, words_line, unit_line, name_line, names_listing};
 
-use crate::reason::{push_deck_reason, push_reason};
+use crate::reason::{push_deck_reason, push_number, push_reason};
 use ebcdic_names::{Serial, push_name_in_ascii};
 use job_deck::DeckErr;
+use shelf_machine::Unread;
 use std::alloc::{AllocError, Global};
 use vtoc_index::MountErr;
 
@@ -42,9 +43,46 @@ fn settled_word(settled: bool) -> &'static str
     if settled { " SETTLED" } else { " UNSETTLED" }
 }
 
-/// The line that says whether the pack of this serial is settled.
+/// The line that says whether the pack of this serial is settled, and then one for each data set whose body can't be read.
+#[tactic(auto, unfolding(crate::specs::Lines::check_text))]
+pub fn check_text(
+    alloc: Global,
+    serial: &Serial,
+    settled: bool,
+    unread: &[Unread],
+) -> Result<Vec<u8>, AllocError>
+    ensures { IfOk result (λ text. text.items ≡ check_text serial.now.bytes settled unread.now) }
+{
+    let mut text = check_line(alloc, serial, settled)?;
+    for set in unread {
+        push_unread(&mut text, set)?;
+    }
+    Ok(text)
+}
+
+// Adds the line of a data set whose body can't be read.
+#[tactic(auto, unfolding(crate::specs::Lines::unread_line))]
+fn push_unread(text: &mut Vec<u8>, set: &Unread) -> Result<(), AllocError>
+    ensures { OnOk result (text.new.items ≡ text.old.items ++ unread_line set.now) }
+{
+    text.extend_from_slice(b"UNREADABLE ")?;
+    push_broken_place(text, set)?;
+    text.push(b'\n')?;
+    Ok(())
+}
+
+// Adds the name of a data set, and the first relative track that breaks its body.
+#[tactic(auto, unfolding(crate::specs::Lines::broken_place))]
+fn push_broken_place(text: &mut Vec<u8>, set: &Unread) -> Result<(), AllocError>
+    ensures { OnOk result (text.new.items ≡ text.old.items ++ broken_place set.now) }
+{
+    push_name_in_ascii(text, &set.dsn.bytes)?;
+    push_number(text, u64::from(set.track))
+}
+
+// The line that says whether the pack of this serial is settled.
 #[tactic(auto, unfolding(crate::specs::Lines::check_line))]
-pub fn check_line(alloc: Global, serial: &Serial, settled: bool) -> Result<Vec<u8>, AllocError>
+fn check_line(alloc: Global, serial: &Serial, settled: bool) -> Result<Vec<u8>, AllocError>
     ensures { IfOk result (λ line. line.items ≡ check_line serial.now.bytes settled) }
 {
     let mut line = Vec::from_slice(alloc, b"CHECK ")?;

@@ -1,5 +1,5 @@
 -- The VTOC's extent and the volume after a put slot.
-use Rattle.std.proofs.Common.{◌≡◌, ◌≢◌, ⊎_elim, ◌<◌, ◌+◌, ◌*◌, ◌/◌, ◌%◌, ℕ, zero, suc, Bool, true, false, cond, List, [], ◌∷◌, ◌++◌, length, take, drop, Option, Some, None, refl, sym, ◌∙◌, ap, subst, arith, length-drop}
+use Rattle.std.proofs.Common.{◌≡◌, ◌≢◌, ⊎_elim, ◌<◌, ◌+◌, ◌*◌, ◌/◌, ◌%◌, ℕ, zero, suc, Bool, true, false, cond, List, [], ◌∷◌, ◌++◌, length, take, drop, Option, Some, None, refl, sym, ◌∙◌, ap, ap₂, subst, arith, length-drop}
 use Rattle.std.specs.Prelude.{Result, Ok, Err, option_and_then, slice_get, slice_range, unwrap_or, ◌&&◌, ◌==◌}
 use Rattle.std.specs.List.{flat_map, list_all, range_with_len}
 use Rattle.std.specs.Option.{option_map}
@@ -23,6 +23,7 @@ use Rattle.pack_spec.specs.Vtoc.{first_slot, is_slot, is_vtoc_extent, slot_bytes
 use Rattle.pack_spec.specs.Slots.{slots_of_vtoc, track_faults, slot_at, slots_from}
 use Rattle.pack_spec.specs.Rules.{slots_faults}
 use Rattle.pack_spec.specs.Owned.{volume_faults}
+use Rattle.pack_spec.specs.Blocks.{data_tracks}
 use Rattle.pack_spec.specs.Volume.{volume_by, volume_of, volume_with, volume_within}
 use Rattle.vol_model.specs.Space.{free_runs}
 use Rattle.vtoc_index.proofs.Reasons.{volume_read, volume_there}
@@ -230,16 +231,16 @@ volume_is image g vtoc header extent tracks slots whole =
     volume_read image g header ∙ ap (volume_within image g) extent ∙ volume_there image g vtoc tracks slots whole
 
 -- the volume of an image in which a slot is put
-pub volume_put : (image put : List ℕ) (v : Vol) (slot : ℕ) (d : Dscb) → IsPut v slot d image put → volume_by put v.geometry v.vtoc ≡ volume_with v.geometry (unwrap_or (label_of image v.geometry) []) v.vtoc (with_dscb slot d (slots_of_vtoc image v.geometry v.vtoc))
+pub volume_put : (image put : List ℕ) (v : Vol) (slot : ℕ) (d : Dscb) → IsPut v slot d image put → volume_by put v.geometry v.vtoc ≡ volume_with v.geometry (data_tracks image v.geometry v.vtoc) (unwrap_or (label_of image v.geometry) []) v.vtoc (with_dscb slot d (slots_of_vtoc image v.geometry v.vtoc))
 volume_put image put v slot d is =
-    ap (λ (o : Option (List ℕ)). volume_with v.geometry (unwrap_or o []) v.vtoc (slots_of_vtoc put v.geometry v.vtoc)) is.label
-    ∙ ap (volume_with v.geometry (unwrap_or (label_of image v.geometry) []) v.vtoc) is.slots
+    ap₂ (λ (tracks : List (List ℕ)) (o : Option (List ℕ)). volume_with v.geometry tracks (unwrap_or o []) v.vtoc (slots_of_vtoc put v.geometry v.vtoc)) is.contents is.label
+    ∙ ap (volume_with v.geometry (data_tracks image v.geometry v.vtoc) (unwrap_or (label_of image v.geometry) []) v.vtoc) is.slots
 
 -- An image that stands for a volume still stands for one, where the slots that it then has break no rule; and this is its index, where the free runs stay.
 pub mounted_put : (image put : List ℕ) (v v' : Vol) (slot : ℕ) (d : Dscb) (bytes : List ℕ) → IsMounted image v → slot < length v.slots.items → length bytes ≡ 140 → decoded bytes ≡ Ok d → put ≡ patched image (place_of_slot v slot) bytes → IsPut v slot d image put → IsReplaced slot d v v' → IsHeld put v'.buf
     → KeepsExtent slot d (slots_of_vtoc image v.geometry v.vtoc) → slots_faults v.geometry (with_dscb slot d (slots_of_vtoc image v.geometry v.vtoc)) ≡ []
-    → volume_faults (volume_with v.geometry (unwrap_or (label_of image v.geometry) []) v.vtoc (with_dscb slot d (slots_of_vtoc image v.geometry v.vtoc))) ≡ []
-    → v.free.items ≡ free_runs (volume_with v.geometry (unwrap_or (label_of image v.geometry) []) v.vtoc (with_dscb slot d (slots_of_vtoc image v.geometry v.vtoc))) → IsMounted put v'
+    → volume_faults (volume_with v.geometry (data_tracks image v.geometry v.vtoc) (unwrap_or (label_of image v.geometry) []) v.vtoc (with_dscb slot d (slots_of_vtoc image v.geometry v.vtoc))) ≡ []
+    → v.free.items ≡ free_runs (volume_with v.geometry (data_tracks image v.geometry v.vtoc) (unwrap_or (label_of image v.geometry) []) v.vtoc (with_dscb slot d (slots_of_vtoc image v.geometry v.vtoc))) → IsMounted put v'
 mounted_put image put v v' slot d bytes mounted low size dscb written is replaced held keeps lawful whole free =
     let g : Geometry = v.geometry in
     let w : Vol = record v { slots = v'.slots; buf = v'.buf } in

@@ -22,6 +22,7 @@ use Rattle.dscb_codec.specs.declared.F1.{F1}
 use Rattle.ebcdic_names.specs.declared.names.Dsn.{Dsn}
 use Rattle.pack_spec.specs.declared.slot.VtocSlot.{VtocSlot}
 use Rattle.pack_spec.specs.Rules.{set_in}
+use Rattle.pack_spec.specs.Blocks.{data_tracks}
 use Rattle.pack_spec.specs.Volume.{data_set_of, data_sets_in, volume_by, volume_of, volume_with}
 use Rattle.pack_spec.proofs.SetNames.{sets_among}
 use Rattle.vol_model.specs.declared.contents.DataSet.{DataSet}
@@ -91,27 +92,27 @@ both_ways false true to from = from refl
 both_ways false false to from = refl
 
 -- the names of the data sets in slots
-set_at : (g : Geometry) (ss some : List VtocSlot) (k : ℕ) (n : List ℕ) → name_in some k ≡ Some n → (i : ℕ) × (slice_get (map bytes_of (map (data_set_of g ss) (sets_among some))) i ≡ Some n)
+set_at : (g : Geometry) (tracks : List (List ℕ)) (ss some : List VtocSlot) (k : ℕ) (n : List ℕ) → name_in some k ≡ Some n → (i : ℕ) × (slice_get (map bytes_of (map (data_set_of g tracks ss) (sets_among some))) i ≡ Some n)
 unfolding data_set_of
-set_at g ss [] k n is = cc
-set_at g ss (s ∷ some) zero n is = by_set (set_in s.content) is
+set_at g tracks ss [] k n is = cc
+set_at g tracks ss (s ∷ some) zero n is = by_set (set_in s.content) is
   where
-    by_set : (o : Option F1) → option_map (λ f. f.name) o ≡ Some n → (i : ℕ) × (slice_get (map bytes_of (map (data_set_of g ss) (cons_option o (sets_among some)))) i ≡ Some n)
+    by_set : (o : Option F1) → option_map (λ f. f.name) o ≡ Some n → (i : ℕ) × (slice_get (map bytes_of (map (data_set_of g tracks ss) (cons_option o (sets_among some)))) i ≡ Some n)
     by_set None is = cc
     by_set (Some f) is = (0, is)
-set_at g ss (s ∷ some) (suc k) n is = by_set (set_in s.content) (set_at g ss some k n is)
+set_at g tracks ss (s ∷ some) (suc k) n is = by_set (set_in s.content) (set_at g tracks ss some k n is)
   where
-    by_set : (o : Option F1) → (i : ℕ) × (slice_get (map bytes_of (map (data_set_of g ss) (sets_among some))) i ≡ Some n) → (i : ℕ) × (slice_get (map bytes_of (map (data_set_of g ss) (cons_option o (sets_among some)))) i ≡ Some n)
+    by_set : (o : Option F1) → (i : ℕ) × (slice_get (map bytes_of (map (data_set_of g tracks ss) (sets_among some))) i ≡ Some n) → (i : ℕ) × (slice_get (map bytes_of (map (data_set_of g tracks ss) (cons_option o (sets_among some)))) i ≡ Some n)
     by_set None more = more
     by_set (Some f) more = (suc more.0, more.1)
 
-at_set : (g : Geometry) (ss some : List VtocSlot) (i : ℕ) (n : List ℕ) → slice_get (map bytes_of (map (data_set_of g ss) (sets_among some))) i ≡ Some n → (k : ℕ) × (name_in some k ≡ Some n)
+at_set : (g : Geometry) (tracks : List (List ℕ)) (ss some : List VtocSlot) (i : ℕ) (n : List ℕ) → slice_get (map bytes_of (map (data_set_of g tracks ss) (sets_among some))) i ≡ Some n → (k : ℕ) × (name_in some k ≡ Some n)
 unfolding data_set_of
-at_set g ss [] i n is = cc
-at_set g ss (s ∷ some) i n is = by_set (set_in s.content) refl i (λ j more. at_set g ss some j n more) is
+at_set g tracks ss [] i n is = cc
+at_set g tracks ss (s ∷ some) i n is = by_set (set_in s.content) refl i (λ j more. at_set g tracks ss some j n more) is
   where
-    by_set : (o : Option F1) → set_in s.content ≡ o → (j : ℕ) → ((l : ℕ) → slice_get (map bytes_of (map (data_set_of g ss) (sets_among some))) l ≡ Some n → (k : ℕ) × (name_in some k ≡ Some n))
-        → slice_get (map bytes_of (map (data_set_of g ss) (cons_option o (sets_among some)))) j ≡ Some n → (k : ℕ) × (name_in (s ∷ some) k ≡ Some n)
+    by_set : (o : Option F1) → set_in s.content ≡ o → (j : ℕ) → ((l : ℕ) → slice_get (map bytes_of (map (data_set_of g tracks ss) (sets_among some))) l ≡ Some n → (k : ℕ) × (name_in some k ≡ Some n))
+        → slice_get (map bytes_of (map (data_set_of g tracks ss) (cons_option o (sets_among some)))) j ≡ Some n → (k : ℕ) × (name_in (s ∷ some) k ≡ Some n)
     by_set None here j more given = let found = more j given in (suc found.0, found.1)
     by_set (Some f) here zero more given = (0, ap (option_map (λ h. h.name)) here ∙ given)
     by_set (Some f) here (suc j) more given = let found = more j given in (suc found.0, found.1)
@@ -120,12 +121,12 @@ any_map : (n : List ℕ) (xs : List DataSet) → is_among n (map bytes_of xs) �
 any_map n [] = refl
 any_map n (x ∷ xs) = ap (λ (b : Bool). is_eq (slice_cmp nat_cmp n (bytes_of x)) || b) (any_map n xs)
 
-module _ (g : Geometry) (ds : List Dscb) (ss : List VtocSlot) (by_name : List ℕ) (are : AreDscbs ds ss) (order : AreByName (name_at ds) by_name) (up : IsAscending (in_order (data_sets_in g ss))) where
+module _ (g : Geometry) (tracks : List (List ℕ)) (ds : List Dscb) (ss : List VtocSlot) (by_name : List ℕ) (are : AreDscbs ds ss) (order : AreByName (name_at ds) by_name) (up : IsAscending (in_order (data_sets_in g tracks ss))) where
   abbrev held : List (List ℕ)
   held = names_of (name_at ds) by_name
 
   abbrev meant : List (List ℕ)
-  meant = map bytes_of (in_order (data_sets_in g ss))
+  meant = map bytes_of (in_order (data_sets_in g tracks ss))
 
   to_slot : (n : List ℕ) → is_among n held ≡ true → (k : ℕ) × (name_in ss k ≡ Some n)
   to_slot n is =
@@ -149,21 +150,21 @@ module _ (g : Geometry) (ds : List Dscb) (ss : List VtocSlot) (by_name : List �
   same_members : (n : List ℕ) → is_among n held ≡ is_among n meant
   unfolding data_sets_in
   same_members n =
-      let any : is_among n meant ≡ is_among n (map bytes_of (data_sets_in g ss)) =
-      any_map n (in_order (data_sets_in g ss)) ∙ any_in_order (λ x. is_eq (slice_cmp nat_cmp n (bytes_of x))) (data_sets_in g ss) ∙ sym (any_map n (data_sets_in g ss)) in
-      both_ways (is_among n held) (is_among n (map bytes_of (data_sets_in g ss)))
-      (λ is. let slot = to_slot n is in let at = set_at g ss ss slot.0 n slot.1 in among_at _ at.0 n at.1)
-      (λ is. let at = at_among _ n is in let slot = at_set g ss ss at.0 n at.1 in from_slot n slot.0 slot.1)
+      let any : is_among n meant ≡ is_among n (map bytes_of (data_sets_in g tracks ss)) =
+      any_map n (in_order (data_sets_in g tracks ss)) ∙ any_in_order (λ x. is_eq (slice_cmp nat_cmp n (bytes_of x))) (data_sets_in g tracks ss) ∙ sym (any_map n (data_sets_in g tracks ss)) in
+      both_ways (is_among n held) (is_among n (map bytes_of (data_sets_in g tracks ss)))
+      (λ is. let slot = to_slot n is in let at = set_at g tracks ss ss slot.0 n slot.1 in among_at _ at.0 n at.1)
+      (λ is. let at = at_among _ n is in let slot = at_set g tracks ss ss at.0 n at.1 in from_slot n slot.0 slot.1)
       ∙ sym any
 
   -- in the same order
   same_names : held ≡ meant
   same_names =
-      btree_set_from_contains nat_list_cmp_total (record { keys = held }) (record { keys = meant }) order.rise (ordered (in_order (data_sets_in g ss)) up) (λ n. same_members n) exact_bytes
+      btree_set_from_contains nat_list_cmp_total (record { keys = held }) (record { keys = meant }) order.rise (ordered (in_order (data_sets_in g tracks ss)) up) (λ n. same_members n) exact_bytes
 
   -- the k-th of them
-  pub kth_name : (k : ℕ) → option_map (λ s. or_zeros (name_at ds s)) (slice_get by_name k) ≡ option_map bytes_of (slice_get (in_order (data_sets_in g ss)) k)
-  kth_name k = sym (slice_get-map (λ s. or_zeros (name_at ds s)) by_name k) ∙ ap (λ (l : List (List ℕ)). slice_get l k) same_names ∙ slice_get-map bytes_of (in_order (data_sets_in g ss)) k
+  pub kth_name : (k : ℕ) → option_map (λ s. or_zeros (name_at ds s)) (slice_get by_name k) ≡ option_map bytes_of (slice_get (in_order (data_sets_in g tracks ss)) k)
+  kth_name k = sym (slice_get-map (λ s. or_zeros (name_at ds s)) by_name k) ∙ ap (λ (l : List (List ℕ)). slice_get l k) same_names ∙ slice_get-map bytes_of (in_order (data_sets_in g tracks ss)) k
 
 -- the name of the k-th data set of a mounted volume
 pub name_of_kth : (image : List ℕ) (v : Vol) (volume : Volume) (k : ℕ) → IsMounted image v → volume_of image ≡ Ok volume → AreByName (name_at v.slots.items) v.by_name.items
@@ -174,8 +175,8 @@ name_of_kth image v volume k mounted is order =
     let ss = slots_of_vtoc image g v.vtoc in
     let same : volume_by image g v.vtoc ≡ volume = cc (mounted.volume, is) in
     let up = (lawful_with (length image) image g v.vtoc (has_geometry (take 512 image) (length image) g mounted.index.header) mounted.vtoc mounted.lawful mounted.whole).order in
-    let kth = kth_name g v.slots.items ss v.by_name.items mounted.index.slots order up k in
-    as_names (slice_get v.by_name.items k) ∙ ap (option_map dsn) kth ∙ to_names (slice_get (in_order (data_sets_in g ss)) k)
+    let kth = kth_name g (data_tracks image g v.vtoc) v.slots.items ss v.by_name.items mounted.index.slots order up k in
+    as_names (slice_get v.by_name.items k) ∙ ap (option_map dsn) kth ∙ to_names (slice_get (in_order (data_sets_in g (data_tracks image g v.vtoc) ss)) k)
     ∙ ap (λ (w : Volume). option_map (λ (x : DataSet). x.name) (slice_get w.sets k)) same
   where
     dsn : List ℕ → Dsn

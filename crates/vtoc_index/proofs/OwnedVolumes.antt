@@ -89,12 +89,12 @@ apart_few low limit [] a e some = absurd (omega (arith, some))
 apart_few low limit (r ∷ []) a e some = omega (arith, a.0, a.1, e.0)
 apart_few low limit (r ∷ s ∷ rs) a e some = omega (arith, a.0, a.1, apart_few (r.start + r.len + 1) limit (s ∷ rs) a.2 e.1 (omega arith))
 
-module _ (g : Geometry) (label : List ℕ) (vtoc : Run) (ss : List VtocSlot) where
+module _ (g : Geometry) (tracks : List (List ℕ)) (label : List ℕ) (vtoc : Run) (ss : List VtocSlot) where
   abbrev meant : Volume
-  meant = volume_with g label vtoc ss
+  meant = volume_with g tracks label vtoc ss
 
   abbrev sets : List DataSet
-  sets = data_sets_in g ss
+  sets = data_sets_in g tracks ss
 
   abbrev runs : List Run
   runs = runs_owned vtoc sets

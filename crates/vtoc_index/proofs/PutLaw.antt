@@ -20,6 +20,7 @@ use Rattle.pack_spec.specs.Label.{are_label, heads_of, ipl1, ipl2, vol1, is_keye
 use Rattle.vol_model.specs.declared.contents.Run.{Run}
 use Rattle.pack_spec.specs.Vtoc.{is_slot}
 use Rattle.pack_spec.specs.Slots.{slots_on, slots_of_vtoc, track_fault}
+use Rattle.pack_spec.proofs.BlockBodies.{one_track}
 use Rattle.vtoc_index.specs.declared.vol.Vol.{Vol}
 use Rattle.vtoc_index.specs.Index.{AreDscbs, IsIndexOf, IsPut, place_of_slot, slots_in_front, track_index, with_dscb}
 use Rattle.vtoc_index.specs.Puts.{HasSlot, IsHeld, IsReplaced}
@@ -202,6 +203,7 @@ put_updated image put v slot key content d f index keys contents dscb u = record
   slots = vtoc_put image put g v.vtoc d (track_index v.firsts.items slot) (front_of v slot) slot f.stands wrote.slots (λ j other. same_slots image put g j (same_slots_on image put g j (u.others j other)));
   tracks = same_faults image put g v.vtoc faults ∙ index.tracks;
   firsts = same_firsts image put g v.vtoc counts;
+  contents = one_track g v.vtoc image put (track_index v.firsts.items slot) (omega (arith, f.stands.inside)) u.others;
   others = u.others;
 }
   where

@@ -12,6 +12,7 @@ use Rattle.pack_spec.specs.Vtoc.{vtoc_of}
 use Rattle.pack_spec.specs.Slots.{record_address, slots_of_vtoc, track_faults}
 use Rattle.pack_spec.specs.Rules.{is_named, slots_faults}
 use Rattle.pack_spec.specs.Owned.{volume_faults}
+use Rattle.pack_spec.specs.Blocks.{data_tracks}
 use Rattle.pack_spec.specs.Volume.{volume_by, volume_of}
 use Rattle.pack_spec.specs.declared.MountErr.{MountErr}
 use Rattle.pack_spec.specs.declared.MountErr.TheVariants.{Memory, Device}
@@ -119,5 +120,6 @@ pub record IsPut (v : Vol) (slot : ℕ) (d : Dscb) (image put : List ℕ) : Type
       ≡ with_dscb slot d (slots_of_vtoc image v.geometry v.vtoc)
   pub tracks : track_faults put v.geometry v.vtoc ≡ []
   pub firsts : firsts_of put v.geometry v.vtoc ≡ firsts_of image v.geometry v.vtoc
+  pub contents : data_tracks put v.geometry v.vtoc ≡ data_tracks image v.geometry v.vtoc
   pub others : (track : ℕ) → track ≢ v.vtoc.start + track_index v.firsts.items slot
       → track_bytes put v.geometry track ≡ track_bytes image v.geometry track

@@ -48,11 +48,13 @@ pub(crate) fn free_runs_in(
     requires vtoc { IsOnPack geometry vtoc }
     requires few { length slots.now ≤ 65535 }
     requires good { slots_faults geometry slots.now ≡ [] }
-    ensures free { (label : List ℕ) → let volume = volume_with geometry label vtoc slots.now in
+    ensures free { (tracks : List (List ℕ)) (label : List ℕ) →
+        let volume = volume_with geometry tracks label vtoc slots.now in
         IfOk result (λ free. (volume_faults volume ≡ []) × (free.items ≡ free_runs volume)) }
     ensures runs { IfOk result (λ free. AreMaximal free.items
         × EndBy (tracks_of geometry) free.items) }
-    ensures refused { (label : List ℕ) → let volume = volume_with geometry label vtoc slots.now in
+    ensures refused { (tracks : List (List ℕ)) (label : List ℕ) →
+        let volume = volume_with geometry tracks label vtoc slots.now in
         IfErr result (λ e. (e ≡ MountErr.Memory)
         ⊎ (slice_get (volume_faults volume) 0 ≡ Some e)) }
     ensures device { IsErrOf result MountErr.Device → ⊥ }
@@ -100,7 +102,8 @@ fn owned_by_sets(
     requires vtoc { IsOnPack geometry vtoc }
     requires few { length slots.now ≤ 65535 }
     requires good { slots_faults geometry slots.now ≡ [] }
-    ensures owned { IfOk result (AreOwned geometry vtoc (data_sets_in geometry slots.now)) }
+    ensures owned { (tracks : List (List ℕ)) → IfOk result
+        (AreOwned geometry vtoc (data_sets_in geometry tracks slots.now)) }
     ensures few { IfOk result (λ owned. owned.slots ≤ 2 * length slots.now) }
 {
     let mut owned = Owned {
@@ -140,8 +143,8 @@ impl Owned {
         requires whole { (len : ℕ) × HasGeometry len geometry }
         requires good { IsTrue (has_extents geometry slots.now set.now) }
         requires few { self.old.slots ≤ 131068 }
-        ensures more { OnOk result (HasMore geometry (data_set_of geometry slots.now set.now)
-            self.old self.new) }
+        ensures more { (tracks : List (List ℕ)) → OnOk result
+            (HasMore geometry (data_set_of geometry tracks slots.now set.now) self.old self.new) }
         ensures few { OnOk result (self.new.slots ≤ self.old.slots + 2) }
     {
         let rows = counted_extents(alloc, slots, set)?;

@@ -52,11 +52,13 @@ pub(crate) fn judge(
     ensures dscbs { IfOk result (λ found. AreDscbs found.dscbs.items slots.now
         × (slots_faults geometry slots.now ≡ [])) }
     ensures names { IfOk result (λ found. AreByName (name_at found.dscbs.items) found.by_name.items) }
-    ensures free { (label : List ℕ) → let volume = volume_with geometry label vtoc slots.now in
+    ensures free { (tracks : List (List ℕ)) (label : List ℕ) →
+        let volume = volume_with geometry tracks label vtoc slots.now in
         IfOk result (λ found. (volume_faults volume ≡ []) × (found.free.items ≡ free_runs volume)) }
     ensures runs { IfOk result (λ found. AreMaximal found.free.items
         × EndBy (tracks_of geometry) found.free.items) }
-    ensures refused { (label : List ℕ) → let volume = volume_with geometry label vtoc slots.now in
+    ensures refused { (tracks : List (List ℕ)) (label : List ℕ) →
+        let volume = volume_with geometry tracks label vtoc slots.now in
         IfErr result (λ e. (e ≡ MountErr.Memory)
         ⊎ (slice_get (slots_faults geometry slots.now ++ volume_faults volume) 0 ≡ Some e)) }
     ensures device { IsErrOf result MountErr.Device → ⊥ }

@@ -16,6 +16,7 @@ use Rattle.dscb_codec.specs.declared.F1.{F1}
 use Rattle.pack_spec.specs.declared.slot.VtocSlot.{VtocSlot}
 use Rattle.pack_spec.specs.Rules.{set_in}
 use Rattle.pack_spec.specs.Slots.{slots_of_vtoc}
+use Rattle.pack_spec.specs.Blocks.{data_tracks}
 use Rattle.pack_spec.specs.Volume.{data_set_of, data_sets_in, volume_with}
 use Rattle.pack_spec.proofs.Lawful.{good_sets}
 use Rattle.vol_model.specs.declared.contents.DataSet.{DataSet}
@@ -55,37 +56,37 @@ one_slot xs is = few (length xs) (past xs 3 (sym is))
     few n low = grind (arith, nat_tests)
 
 -- the data sets in some slots
-abbrev sets_by : Geometry → List VtocSlot → List VtocSlot → List DataSet
-sets_by g slots some = map (data_set_of g slots) (filter_map (λ s. set_in s.content) some)
+abbrev sets_by : Geometry → List (List ℕ) → List VtocSlot → List VtocSlot → List DataSet
+sets_by g tracks slots some = map (data_set_of g tracks slots) (filter_map (λ s. set_in s.content) some)
 
 -- The slots that the data sets in the first so many slots take; and there aren't many.
 pub record AreTaken (v : Vol) (k n : ℕ) : Type 0 where
   pub few : n ≤ 2 * k
-  pub told : (image : List ℕ) → IsMounted image v → n ≡ slots_taken (sets_by v.geometry (slots_of_vtoc image v.geometry v.vtoc) (take k (slots_of_vtoc image v.geometry v.vtoc)))
+  pub told : (image : List ℕ) → IsMounted image v → n ≡ slots_taken (sets_by v.geometry (data_tracks image v.geometry v.vtoc) (slots_of_vtoc image v.geometry v.vtoc) (take k (slots_of_vtoc image v.geometry v.vtoc)))
 
 -- one slot more
-added : (g : Geometry) (slots some : List VtocSlot) (s : VtocSlot) → slots_taken (sets_by g slots (some ++ s ∷ [])) ≡ slots_taken (sets_by g slots some) + slots_taken (sets_by g slots (s ∷ []))
-added g slots [] s = omega arith
-added g slots (x ∷ some) s = one (set_in x.content) (added g slots some s)
+added : (g : Geometry) (tracks : List (List ℕ)) (slots some : List VtocSlot) (s : VtocSlot) → slots_taken (sets_by g tracks slots (some ++ s ∷ [])) ≡ slots_taken (sets_by g tracks slots some) + slots_taken (sets_by g tracks slots (s ∷ []))
+added g tracks slots [] s = omega arith
+added g tracks slots (x ∷ some) s = one (set_in x.content) (added g tracks slots some s)
   where
-    one : (o : Option F1) → slots_taken (sets_by g slots (some ++ s ∷ [])) ≡ slots_taken (sets_by g slots some) + slots_taken (sets_by g slots (s ∷ []))
-        → slots_taken (map (data_set_of g slots) (cons_option o (filter_map (λ t. set_in t.content) (some ++ s ∷ [])))) ≡ slots_taken (map (data_set_of g slots) (cons_option o (filter_map (λ t. set_in t.content) some))) + slots_taken (sets_by g slots (s ∷ []))
+    one : (o : Option F1) → slots_taken (sets_by g tracks slots (some ++ s ∷ [])) ≡ slots_taken (sets_by g tracks slots some) + slots_taken (sets_by g tracks slots (s ∷ []))
+        → slots_taken (map (data_set_of g tracks slots) (cons_option o (filter_map (λ t. set_in t.content) (some ++ s ∷ [])))) ≡ slots_taken (map (data_set_of g tracks slots) (cons_option o (filter_map (λ t. set_in t.content) some))) + slots_taken (sets_by g tracks slots (s ∷ []))
     one None rest = rest
     one (Some f) rest =
-        sum_by-cons taken (data_set_of g slots f) (sets_by g slots (some ++ s ∷ []))
-        ∙ (let here = sum_by-cons taken (data_set_of g slots f) (sets_by g slots some) in omega (arith, rest, here))
+        sum_by-cons taken (data_set_of g tracks slots f) (sets_by g tracks slots (some ++ s ∷ []))
+        ∙ (let here = sum_by-cons taken (data_set_of g tracks slots f) (sets_by g tracks slots some) in omega (arith, rest, here))
 
 -- what one slot takes
-alone : (image : List ℕ) (v : Vol) (k n : ℕ) (d : Dscb) (s : VtocSlot) → IsMounted image v → slice_get (slots_of_vtoc image v.geometry v.vtoc) k ≡ Some s → s.content ≡ Ok d → TakesSlots image v d n → n ≡ slots_taken (sets_by v.geometry (slots_of_vtoc image v.geometry v.vtoc) (s ∷ []))
+alone : (image : List ℕ) (v : Vol) (k n : ℕ) (d : Dscb) (s : VtocSlot) → IsMounted image v → slice_get (slots_of_vtoc image v.geometry v.vtoc) k ≡ Some s → s.content ≡ Ok d → TakesSlots image v d n → n ≡ slots_taken (sets_by v.geometry (data_tracks image v.geometry v.vtoc) (slots_of_vtoc image v.geometry v.vtoc) (s ∷ []))
 unfolding data_set_of
 alone image v k n d s mounted there content takes =
-    by d content takes ∙ sym (ap (λ (c : Result Dscb DscbErr). slots_taken (map (data_set_of v.geometry (slots_of_vtoc image v.geometry v.vtoc)) (cons_option (set_in c) []))) content)
+    by d content takes ∙ sym (ap (λ (c : Result Dscb DscbErr). slots_taken (map (data_set_of v.geometry (data_tracks image v.geometry v.vtoc) (slots_of_vtoc image v.geometry v.vtoc)) (cons_option (set_in c) []))) content)
   where
-    by : (d : Dscb) → s.content ≡ Ok d → TakesSlots image v d n → n ≡ slots_taken (map (data_set_of v.geometry (slots_of_vtoc image v.geometry v.vtoc)) (cons_option (set_in (Ok d)) []))
+    by : (d : Dscb) → s.content ≡ Ok d → TakesSlots image v d n → n ≡ slots_taken (map (data_set_of v.geometry (data_tracks image v.geometry v.vtoc) (slots_of_vtoc image v.geometry v.vtoc)) (cons_option (set_in (Ok d)) []))
     by formats.F0 content takes = takes
     by (formats.F1 f) content takes =
         takes (record { mounted = mounted; extents = good_sets v.geometry (slots_of_vtoc image v.geometry v.vtoc) mounted.lawful k s f there (ap set_in content) })
-        ∙ sym (sum_by-cons taken (data_set_of v.geometry (slots_of_vtoc image v.geometry v.vtoc) f) [] ∙ omega arith)
+        ∙ sym (sum_by-cons taken (data_set_of v.geometry (data_tracks image v.geometry v.vtoc) (slots_of_vtoc image v.geometry v.vtoc) f) [] ∙ omega arith)
     by (formats.F3 f) content takes = takes
     by (formats.F4 f) content takes = takes
     by (formats.F5 f) content takes = takes
@@ -101,11 +102,11 @@ taken_more v k n m xs e same so_far low few takes = record {
       let s : VtocSlot = get_or slots k s0 in
       let there : slice_get slots k ≡ Some s = slice_get-get_or slots k s0 (omega (arith, many, below)) in
       let content : s.content ≡ Ok (get_or xs k e) = slot_content v.slots.items slots k e s mounted.index.slots below there ∙ ap (λ (l : List Dscb). Ok (get_or l k e)) (sym same) in
-      let one : m ≡ slots_taken (sets_by v.geometry slots (s ∷ [])) = alone image v k m (get_or xs k e) s mounted there content (takes image) in
+      let one : m ≡ slots_taken (sets_by v.geometry (data_tracks image v.geometry v.vtoc) slots (s ∷ [])) = alone image v k m (get_or xs k e) s mounted there content (takes image) in
       let before = so_far.told image mounted in
       let next : take (k + 1) slots ≡ take k slots ++ s ∷ [] = take_more slots k s0 (omega (arith, many, below)) in
-      let all : slots_taken (sets_by v.geometry slots (take (k + 1) slots)) ≡ slots_taken (sets_by v.geometry slots (take k slots)) + slots_taken (sets_by v.geometry slots (s ∷ [])) =
-      ap (λ (l : List VtocSlot). slots_taken (sets_by v.geometry slots l)) next ∙ added v.geometry slots (take k slots) s in
+      let all : slots_taken (sets_by v.geometry (data_tracks image v.geometry v.vtoc) slots (take (k + 1) slots)) ≡ slots_taken (sets_by v.geometry (data_tracks image v.geometry v.vtoc) slots (take k slots)) + slots_taken (sets_by v.geometry (data_tracks image v.geometry v.vtoc) slots (s ∷ [])) =
+      ap (λ (l : List VtocSlot). slots_taken (sets_by v.geometry (data_tracks image v.geometry v.vtoc) slots l)) next ∙ added v.geometry (data_tracks image v.geometry v.vtoc) slots (take k slots) s in
       omega (arith, one, before, all);
 }
 
@@ -115,8 +116,8 @@ taken_all v k n past so_far image mounted =
     let slots : List VtocSlot = slots_of_vtoc image v.geometry v.vtoc in
     let many : length v.slots.items ≡ length slots = dscbs_many v.slots.items slots mounted.index.slots in
     so_far.told image mounted
-    ∙ ap (λ (l : List VtocSlot). slots_taken (sets_by v.geometry slots l)) (take_all k slots (omega (arith, many, past)))
-    ∙ sym (sum_by-IsPermutation taken (data_sets_in v.geometry slots) (in_order (data_sets_in v.geometry slots)) (in_order-permutation (data_sets_in v.geometry slots)))
+    ∙ ap (λ (l : List VtocSlot). slots_taken (sets_by v.geometry (data_tracks image v.geometry v.vtoc) slots l)) (take_all k slots (omega (arith, many, past)))
+    ∙ sym (sum_by-IsPermutation taken (data_sets_in v.geometry (data_tracks image v.geometry v.vtoc) slots) (in_order (data_sets_in v.geometry (data_tracks image v.geometry v.vtoc) slots)) (in_order-permutation (data_sets_in v.geometry (data_tracks image v.geometry v.vtoc) slots)))
 
 -- one for each, and one more for each with more extents
 pub taken_apart : (xs : List DataSet) → slots_taken xs ≡ length xs + count_by (λ (x : DataSet). nat_lt 3 (length x.extents)) xs

@@ -7,5 +7,5 @@ mod sets;
 mod space;
 
 pub use extents::{Space, run_at, space_of};
-pub use sets::{attr_of, fits_mode, kind_of};
+pub use sets::{BodyKind, attr_of, body_kind, fits_mode, has_no_block};
 pub use space::{slots_for, slots_needed, slots_of_sets, tracks_in};

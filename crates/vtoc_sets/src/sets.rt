@@ -1,13 +1,16 @@
 //! What the format 1 DSCB of a data set says of it, by System Control Blocks, GC28-6628.
-ghost use Rattle.std.specs.Prelude.{◌≡◌, ◌^◌, ◌<◌};
-ghost use Rattle.pack_spec.specs.Bodies.{body_of, has_no_block};
+ghost use Rattle.std.specs.Prelude.{◌≡◌, ℕ, ◌^◌, ◌<◌, List};
+ghost use Rattle.ckd_image.specs.declared.header.Geometry.{Geometry};
+ghost use Rattle.pack_spec.specs.Blocks.{has_no_block};
+ghost use Rattle.pack_spec.specs.Bodies.{body_of};
 ghost use Rattle.pack_spec.specs.Volume.{attr_of, secondary_of, space_flags};
-ghost use Rattle.vol_model.specs.Reading.{kind_of};
+ghost use Rattle.vol_model.specs.declared.contents.Run.{Run};
 ghost use Rattle.vol_model.specs.Shelf.{fits_mode, is_catalog, is_partitioned, is_sequential};
+ghost use Rattle.vtoc_sets.specs.Sets.{body_by, kind_by};
 
 use dscb_codec::F1;
 use ebcdic_names::Dsn;
-use vol_model::{Attr, Kind, Mode, is_catalog};
+use vol_model::{Attr, Mode, is_catalog};
 
 // One more than the greatest secondary quantity, which has the lower three bytes of SCALO; its flags stand above.
 const QUANTITIES: u32 = 0x0100_0000;
@@ -68,19 +71,37 @@ fn secondary_of(set: &F1) -> u32
     }
 }
 
-/// The kind of the body of a data set, by its format 1.
+/// What the body of a data set is, which its name and the first byte of its DSORG without X'01' tell.
+#[derive(Clone, Copy, Debug, PartialEq, Eq)]
+pub enum BodyKind {
+    /// The blocks of a sequential set.
+    Seq,
+    /// The directory and the blocks of a partitioned set.
+    Part,
+    /// The catalog, in the set named SYSCTLG.
+    Catalog,
+    /// That of a set of another organization, which isn't read.
+    Other,
+}
+
+/// What the body of a data set is, by its format 1.
 ///
-/// A body that isn't read is one that can't be, from its first track on.
-#[tactic(auto, unfolding(pack_spec::specs::Bodies::body_of, pack_spec::specs::Volume::attr_of))]
-pub fn kind_of(set: &F1) -> Kind
-    ensures { result ≡ kind_of (body_of set.now.name (attr_of set.now) set.now.lstar) }
+/// A directory and a catalog aren't read yet, so their bodies can't be read from their first track on.
+#[tactic(auto, unfolding(pack_spec::specs::Bodies::body_of))]
+pub fn body_kind(set: &F1) -> BodyKind
+    ensures kind { result ≡ kind_by set.now.name (attr_of set.now) }
+    ensures body { (g : Geometry) (tracks : List (List ℕ)) (extents : List Run) →
+        body_of g tracks set.now.name (attr_of set.now) extents set.now.lstar
+        ≡ body_by result g tracks extents set.now.lstar }
 {
-    if is_sequential(set) && has_no_block(set) {
-        Kind::Seq
-    } else if is_named_catalog(set) || is_sequential(set) || is_partitioned(set) {
-        Kind::Unreadable(0)
+    if is_named_catalog(set) {
+        BodyKind::Catalog
+    } else if is_sequential(set) {
+        BodyKind::Seq
+    } else if is_partitioned(set) {
+        BodyKind::Part
     } else {
-        Kind::Other
+        BodyKind::Other
     }
 }
 
@@ -117,8 +138,8 @@ pub fn fits_mode(set: &F1, mode: Mode) -> bool
     }
 }
 
-// Whether no block stands in it.
-fn has_no_block(set: &F1) -> bool
+/// Whether no block stands in a sequential set, by LSTAR.
+pub fn has_no_block(set: &F1) -> bool
     ensures { result ≡ has_no_block set.now.lstar }
 {
     set.lstar == [0, 0, 0]

@@ -15,7 +15,7 @@ use Rattle.shelf_machine.proofs.opening.repair_all.Goals as goal
 pub loop-k-init : goal.loop-k-init
 loop-k-init g c = record {
   facts = unreported _;
-  packs = record { units = refl; serials = refl };
+  packs = record { units = refl; serials = refl; geometries = refl };
   indexes = c.requires.indexes;
   order = c.requires.order;
   mounted = c.requires.mounted;

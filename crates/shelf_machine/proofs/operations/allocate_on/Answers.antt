@@ -7,7 +7,7 @@ use Rattle.vol_model.specs.declared.answers.StoreErr.TheVariants as store
 use Rattle.vol_model.specs.declared.requests.Op.TheVariants.{Allocate}
 use Rattle.vtoc_index.proofs.KeptLemmas.{mounted_of}
 use Rattle.vtoc_index.specs.declared.vol.Vol.{Vol}
-use Rattle.shelf_machine.proofs.ListPlaces.{not_there}
+use Rattle.shelf_machine.proofs.ListPlaces.{map_set_same, not_there}
 use Rattle.shelf_machine.proofs.OneVolume.{kept_idle, name_roomed, order_kept}
 use Rattle.shelf_machine.specs.Operating.{IsRoomed, IsSamePack}
 use Rattle.shelf_machine.proofs.Operating.{allocate_keeps, base_same, indexes_after, operates, operates_nowhere, order_after}
@@ -80,3 +80,6 @@ pub returns-clause-base : goal.returns-clause-base
 returns-clause-base g c =
     base_same (g.H.Hall.facts c.args.hall.now) (g.H.Hall.facts c.allocate.new.hall) c.args.vols.now.items c.from-k.result
     c.index_mut.result.now c.allocate.new.vol (there g c) (alike g c) c.allocate.ensures.faults.units c.allocate.ensures.faults.references
+
+pub returns-clause-geometries : goal.returns-clause-geometries
+returns-clause-geometries g c = map_set_same (λ (v : Vol). v.geometry) c.args.vols.now.items c.from-k.result c.index_mut.result.now c.allocate.new.vol (there g c) (alike g c).geometry

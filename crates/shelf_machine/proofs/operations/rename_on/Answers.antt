@@ -1,11 +1,11 @@
-use Rattle.std.proofs.Common.{◌≡◌, ℕ, ◌<◌, ◌≤◌, Some, None, refl, sym, ap, subst, ◌∙◌, arith}
+use Rattle.std.proofs.Common.{◌≡◌, Some, None, sym, ap, ◌∙◌, arith}
 use Rattle.std.specs.Prelude.{slice_get}
 use Rattle.std.proofs.lemmas.Option.{slice_get-get_or}
 use Rattle.vol_model.specs.Shelf.{step_on}
 use Rattle.vol_model.specs.declared.requests.Op.TheVariants.{Rename}
 use Rattle.vtoc_index.proofs.KeptLemmas.{mounted_of}
 use Rattle.vtoc_index.specs.declared.vol.Vol.{Vol}
-use Rattle.shelf_machine.proofs.ListPlaces.{not_there}
+use Rattle.shelf_machine.proofs.ListPlaces.{map_set_same, not_there}
 use Rattle.shelf_machine.proofs.OneVolume.{kept_idle, order_kept}
 use Rattle.shelf_machine.specs.Operating.{IsSamePack}
 use Rattle.shelf_machine.proofs.Operating.{base_same, indexes_after, operates, operates_nowhere, order_after, rename_keeps}
@@ -70,3 +70,6 @@ pub returns-clause-base : goal.returns-clause-base
 returns-clause-base g c =
     base_same (g.H.Hall.facts c.args.hall.now) (g.H.Hall.facts c.rename.new.hall) c.args.vols.now.items c.from-k.result
     c.index_mut.result.now c.rename.new.vol (there g c) (alike g c) c.rename.ensures.faults.units c.rename.ensures.faults.references
+
+pub returns-clause-geometries : goal.returns-clause-geometries
+returns-clause-geometries g c = map_set_same (λ (v : Vol). v.geometry) c.args.vols.now.items c.from-k.result c.index_mut.result.now c.rename.new.vol (there g c) (alike g c).geometry

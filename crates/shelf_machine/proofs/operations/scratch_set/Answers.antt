@@ -1,8 +1,7 @@
-use Rattle.std.proofs.Common.{◌≡◌, ◌∙◌, ap, sym}
-use Rattle.std.specs.Prelude.{Ok, Err, is_some}
+use Rattle.std.proofs.Common.{◌∙◌, ap, sym}
+use Rattle.std.specs.Prelude.{is_some}
 use Rattle.hall_core.specs.Facts.{unit_of}
 use Rattle.hall_core.specs.Images.{image_in}
-use Rattle.pack_spec.specs.Volume.{volume_of}
 use Rattle.vol_model.specs.Shelf.{scratch_on}
 use Rattle.vol_model.specs.declared.refusals.Refusal.TheVariants.{NoSet}
 use Rattle.vtoc_sets.specs.Sets.{volume_in}

@@ -8,4 +8,4 @@ returns-in_err-set_in c shelf n has = c.from_residual.ensures ∙ extent_none sh
 pub returns : goal.returns
 returns c shelf n has =
     let set = c.in_ok-set_in.ensures shelf n has in
-    extent_found shelf n c.args.vol.now has c.args.k c.args.dsn.now.bytes c.in_ok-set_in.field-0.now c.run_at.result set (c.run_at.ensures has.image set.0)
+    extent_found shelf n c.args.vol.now has c.args.k c.args.dsn.now.bytes c.in_ok-set_in.field-0.now c.run_at.result set (c.run_at.ensures has.image set.0.set)

@@ -1,4 +1,4 @@
-use Rattle.std.proofs.Common.{ℕ, None, Some, subst, sym}
+use Rattle.std.proofs.Common.{subst, sym}
 use Rattle.std.specs.Option.{option_copied}
 use Rattle.vol_model.specs.Writing.{set_on}
 use Rattle.shelf_machine.specs.Reads.{IsSetOn}

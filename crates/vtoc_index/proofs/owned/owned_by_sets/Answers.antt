@@ -14,7 +14,7 @@ use Rattle.vtoc_index.proofs.owned.owned_by_sets.Goals as goal
 
 pub loop-slot-init : goal.loop-slot-init
 loop-slot-init c = record {
-  owned =
+  owned = λ tracks.
       owned_none c.args.geometry c.args.vtoc _ c.requires.vtoc
       (c.in_ok-push-2.ensures.items ∙ ap (λ (l : List Run). l ++ c.args.vtoc ∷ []) (c.in_ok-push.ensures.items ∙ ap (λ (l : List Run). l ++ record { start = 0; len = 1 } ∷ []) c.new.ensures.items)) refl;
   few = omega arith;
@@ -28,25 +28,23 @@ loop-slot-preserved c =
     let g = c.args.geometry in
     let slots = c.args.slots.now in
     let i = c.loop-slot.slot-index in
-    let set_of = data_set_of g slots in
-    let so_far = map set_of (sets_among (take i slots)) in
     elim c.match-set_in.branch [
       | in-Some+in_ok-add w ↦ record {
-        owned =
-            subst (AreOwned g c.args.vtoc (map set_of (sets_among (take (i + 1) slots)))) (sym w.owned-is)
-            (subst (λ (l : List DataSet). AreOwned g c.args.vtoc l w.add.new.self) (set_more slots i _ c.loop-slot-test.true set_of _ (sym w.in-Some.ensures))
-            (owned_more g c.args.vtoc so_far (set_of w.in-Some.set.now) c.loop-slot.owned w.add.new.self c.loop-slot.invariant.owned w.in_ok-add.ensures.more));
+        owned = λ tracks.
+            subst (AreOwned g c.args.vtoc (map (data_set_of g tracks slots) (sets_among (take (i + 1) slots)))) (sym w.owned-is)
+            (subst (λ (l : List DataSet). AreOwned g c.args.vtoc l w.add.new.self) (set_more slots i _ c.loop-slot-test.true (data_set_of g tracks slots) _ (sym w.in-Some.ensures))
+            (owned_more g c.args.vtoc (map (data_set_of g tracks slots) (sets_among (take i slots))) (data_set_of g tracks slots w.in-Some.set.now) c.loop-slot.owned w.add.new.self (c.loop-slot.invariant.owned tracks) (w.in_ok-add.ensures.more tracks)));
         few = omega (arith, ap (λ (o : Owned). o.slots) w.owned-is, w.in_ok-add.ensures.few, c.loop-slot.invariant.few);
       }
       | in_default w ↦ record {
-        owned =
-            subst (AreOwned g c.args.vtoc (map set_of (sets_among (take (i + 1) slots)))) (sym w.owned-is)
-            (subst (λ (l : List DataSet). AreOwned g c.args.vtoc l c.loop-slot.owned) (set_same slots i _ c.loop-slot-test.true set_of (sym w.in_default.ensures)) c.loop-slot.invariant.owned);
+        owned = λ tracks.
+            subst (AreOwned g c.args.vtoc (map (data_set_of g tracks slots) (sets_among (take (i + 1) slots)))) (sym w.owned-is)
+            (subst (λ (l : List DataSet). AreOwned g c.args.vtoc l c.loop-slot.owned) (set_same slots i _ c.loop-slot-test.true (data_set_of g tracks slots) (sym w.in_default.ensures)) (c.loop-slot.invariant.owned tracks));
         few = omega (arith, ap (λ (o : Owned). o.slots) w.owned-is, c.loop-slot.invariant.few);
       }
     ]
 
 pub returns-clause-owned : goal.returns-clause-owned
 unfolding data_sets_in
-returns-clause-owned c =
-    subst (λ l. AreOwned c.args.geometry c.args.vtoc (map (data_set_of c.args.geometry c.args.slots.now) (sets_among l)) c.loop-slot.owned) (take_all c.loop-slot.slot-index c.args.slots.now (omega arith)) c.loop-slot.invariant.owned
+returns-clause-owned c tracks =
+    subst (λ l. AreOwned c.args.geometry c.args.vtoc (map (data_set_of c.args.geometry tracks c.args.slots.now) (sets_among l)) c.loop-slot.owned) (take_all c.loop-slot.slot-index c.args.slots.now (omega arith)) (c.loop-slot.invariant.owned tracks)

@@ -4,6 +4,7 @@ use Rattle.pack_spec.specs.declared.MountErr.TheVariants.{Memory}
 use Rattle.pack_spec.specs.Rules.{slots_faults}
 use Rattle.pack_spec.specs.Label.{label_of}
 use Rattle.pack_spec.specs.Owned.{volume_faults}
+use Rattle.pack_spec.specs.Blocks.{data_tracks}
 use Rattle.pack_spec.specs.Volume.{volume_with}
 use Rattle.vol_model.specs.Space.{free_runs}
 use Rattle.vtoc_index.proofs.HeldDscbs.{dscbs_many}
@@ -72,7 +73,7 @@ returns-in_err-judged-clause-refused g c told =
     let p = err_from_is_err_and c.from_residual-in_err-judged.result c.from_residual-in_err-judged.ensures.1 in
     reason_at image c.from_residual-in_err-judged.result c.in_err-judged.field-0.0 (p.1 ∙ ap Err p.2)
     (slots_reason image geometry c.in_ok-label.label vtoc c.in_ok-vtoc.found c.in_err-judged.field-0.0 (c.in_ok-geometry.ensures.read told) label (sym c.if-not-is_inside.ensures) extent read
-    (subst (λ (l : List VtocSlot). (c.in_err-judged.field-0.0 ≡ Memory) ⊎ (slice_get (slots_faults geometry l ++ volume_faults (volume_with geometry (unwrap_or (label_of image geometry) []) vtoc l)) 0 ≡ Some c.in_err-judged.field-0.0)) slots (c.in_err-judged.ensures.refused (unwrap_or (label_of image geometry) []))))
+    (subst (λ (l : List VtocSlot). (c.in_err-judged.field-0.0 ≡ Memory) ⊎ (slice_get (slots_faults geometry l ++ volume_faults (volume_with geometry (data_tracks image geometry vtoc) (unwrap_or (label_of image geometry) []) vtoc l)) 0 ≡ Some c.in_err-judged.field-0.0)) slots (c.in_err-judged.ensures.refused (data_tracks image geometry vtoc) (unwrap_or (label_of image geometry) []))))
 
 pub returns-clause-mounted : goal.returns-clause-mounted
 returns-clause-mounted g c told =
@@ -92,7 +93,7 @@ returns-clause-mounted g c told =
     mounted image c.in_ok-label.label _ c.in_ok-vtoc.found
     (record { header = c.in_ok-geometry.ensures.read told; label = label; inside = sym c.if-not-is_inside.ensures; extent = extent; read = read })
     refl refl stands (subst (λ (l : List VtocSlot). AreDscbs c.in_ok-judged.judged.dscbs.items l × (slots_faults geometry l ≡ [])) slots c.in_ok-judged.ensures.dscbs)
-    (subst (λ (l : List VtocSlot). (volume_faults (volume_with geometry (unwrap_or (label_of image geometry) []) vtoc l) ≡ []) × (c.in_ok-judged.judged.free.items ≡ free_runs (volume_with geometry (unwrap_or (label_of image geometry) []) vtoc l))) slots (c.in_ok-judged.ensures.free (unwrap_or (label_of image geometry) [])))
+    (subst (λ (l : List VtocSlot). (volume_faults (volume_with geometry (data_tracks image geometry vtoc) (unwrap_or (label_of image geometry) []) vtoc l) ≡ []) × (c.in_ok-judged.judged.free.items ≡ free_runs (volume_with geometry (data_tracks image geometry vtoc) (unwrap_or (label_of image geometry) []) vtoc l))) slots (c.in_ok-judged.ensures.free (data_tracks image geometry vtoc) (unwrap_or (label_of image geometry) [])))
 
 -- as many slots are held as were read
 pub returns-clause-unit : goal.returns-clause-unit

@@ -1,3 +1,5 @@
+use Rattle.std.proofs.Common.{sym, ◌∙◌}
+use Rattle.shelf_machine.proofs.KnownLemmas.{held_after, knows_applied}
 use Rattle.shelf_machine.proofs.Machines.{by_files}
 use Rattle.shelf_machine.proofs.ReportLemmas.{applies_reported, idle_reported, machine_call, not_print, still_sound}
 use Rattle.shelf_machine.proofs.machine.HallShelfMachine.apply.Goals as goal
@@ -8,6 +10,10 @@ invariant_of-self g c = record {
   order = λ sound. c.operate-ran.ensures.order (still_sound c.report.ensures c.requires.sound sound);
   kept = λ sound told. (c.operate-ran.ensures.shelf told).kept (still_sound c.report.ensures c.requires.sound sound);
   durable = λ sound told. (c.operate-ran.ensures.shelf told).durable (still_sound c.report.ensures c.requires.sound sound);
+  buffers = c.follow.ensures.buffers ∙ c.args.self.now.buffers ∙ sym c.operate-ran.ensures.geometries;
+  bodies = λ sound told. knows_applied c.operate-ran.result _ c.is_ok.result c.is_ok.ensures.value c.follow.ensures (c.operate-ran.ensures.shelf told).applies c.operate-ran.ensures.served
+      (still_sound c.report.ensures c.requires.sound sound) (c.args.self.now.bodies c.requires.sound told);
+  held = λ sound told. held_after (g.H.Hall.meaning c.operate-ran.new.hall).state (g.H.Hall.facts c.operate-ran.new.hall).units c.operate-ran.new.vols.items c.follow.ensures;
 }
 
 pub returns-clause-shelf : goal.returns-clause-shelf

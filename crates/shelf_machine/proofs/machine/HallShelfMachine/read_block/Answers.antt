@@ -1,21 +1,46 @@
-use Rattle.shelf_machine.specs.Machine.{AreInOrder}
-use Rattle.shelf_machine.proofs.HallShelves.{machine_volumes}
-use Rattle.std.proofs.Common.{[], refl, sym, subst}
-use Rattle.shelf_machine.proofs.ShelfReads.{picks_none}
-use Rattle.shelf_machine.proofs.Machines.{idles}
+use Rattle.std.proofs.Common.{List, sym, subst}
+use Rattle.hall_core.specs.Facts.{Attached}
+use Rattle.stop_model.specs.Files.{File}
+use Rattle.stop_model.proofs.MomentLemmas.{durable_same}
+use Rattle.shelf_machine.specs.Known.{AreHeld, KnowsBodies}
+use Rattle.shelf_machine.specs.Machine.{AreIndexes, AreKept, shelf_under, units_of}
+use Rattle.shelf_machine.specs.Opening.{names_of}
+use Rattle.shelf_machine.proofs.ReadMachines.{both_same, idles_read, read_call}
 use Rattle.shelf_machine.proofs.machine.HallShelfMachine.read_block.Goals as goal
 
-pub returns-in-Some-clause-value : goal.returns-in-Some-clause-value
-returns-in-Some-clause-value g c told = (c.in-Some.ensures _ (machine_volumes c.args.self.now c.deref.result.now c.deref.ensures.value c.requires.sound told)).0
+pub invariant_of-self : goal.invariant_of-self
+invariant_of-self g c =
+    let vols = c.args.self.now.vols.items in
+    let read = c.read_block-read.ensures in
+    record {
+      indexes = subst (λ (us : List Attached). AreIndexes us vols) (sym read.faults.units) c.args.self.now.indexes;
+      order = λ sound. c.args.self.now.order c.requires.sound;
+      kept = λ sound told. both_same (λ (fs : List File) (us : List Attached). AreKept fs us vols) (read.same told).state read.faults.units (c.args.self.now.kept c.requires.sound told);
+      durable = λ sound told. durable_same (read.same told) (c.args.self.now.durable c.requires.sound told);
+      buffers = read.buffers;
+      bodies = λ sound told. both_same (λ (fs : List File) (us : List Attached). KnowsBodies (shelf_under (names_of us (units_of vols)) fs) c.read_block-read.new.known.items) (read.same told).state read.faults.units
+          (read.known _ (c.args.self.now.bodies c.requires.sound told));
+      held = λ sound told. both_same (λ (fs : List File) (us : List Attached). AreHeld fs us vols c.read_block-read.new.known.items) (read.same told).state read.faults.units (read.held told);
+    }
 
-pub returns-in-Some-clause-idle : goal.returns-in-Some-clause-idle
-returns-in-Some-clause-idle g c told = idles _ _ (g.met.H.Hall.counts_now c.args.self.now.hall)
+pub returns-clause-idle : goal.returns-clause-idle
+returns-clause-idle g c told =
+    idles_read (g.H.Hall.facts c.args.self.now.hall).units (g.H.Hall.facts c.read_block-read.new.hall).units (units_of c.args.self.now.vols.items) c.read_block-read.ensures.faults.units c.args.self.now.vols.items
+    (g.H.Hall.meaning c.args.self.now.hall) (g.H.Hall.meaning c.read_block-read.new.hall) (g.met.H.Hall.counts_now c.args.self.now.hall) (c.read_block-read.ensures.same told)
 
-pub returns-in-None-clause-value : goal.returns-in-None-clause-value
-returns-in-None-clause-value g c told = picks_none _ _ [] ((c.in-None.ensures _ (machine_volumes c.args.self.now c.deref.result.now c.deref.ensures.value c.requires.sound told)).0) refl
+pub returns-clause-faults : goal.returns-clause-faults
+returns-clause-faults g c =
+    read_call _ c.read_block-read.result (g.H.Hall.facts c.args.self.now.hall) (g.H.Hall.facts c.read_block-read.new.hall) c.args.self.now.vols.items c.args.self.now.writer c.args.self.now.done _ c.is_sound_block-self.result
+    c.read_block-read.ensures.faults c.is_sound_block-self.ensures.failed c.is_sound_block-self.ensures.others
 
-pub returns-in-None-clause-idle : goal.returns-in-None-clause-idle
-returns-in-None-clause-idle g c told = idles _ _ (g.met.H.Hall.counts_now c.args.self.now.hall)
+pub read_block-read-requires-clause-order : goal.read_block-read-requires-clause-order
+read_block-read-requires-clause-order g c = c.args.self.now.order c.requires.sound
 
-pub unread_on-requires-clause-order : goal.unread_on-requires-clause-order
-unread_on-requires-clause-order g c = subst AreInOrder (sym c.deref.ensures.value) (c.args.self.now.order c.requires.sound)
+pub read_block-read-requires-clause-kept : goal.read_block-read-requires-clause-kept
+read_block-read-requires-clause-kept g c told = c.args.self.now.kept c.requires.sound told
+
+pub read_block-read-requires-clause-known : goal.read_block-read-requires-clause-known
+read_block-read-requires-clause-known g c told = c.args.self.now.bodies c.requires.sound told
+
+pub read_block-read-requires-clause-held : goal.read_block-read-requires-clause-held
+read_block-read-requires-clause-held g c told = c.args.self.now.held c.requires.sound told

@@ -19,7 +19,7 @@ push_runs-requires-clause-good c =
 
 pub returns-clause-more : goal.returns-clause-more
 unfolding data_set_of has_extents
-returns-clause-more c =
+returns-clause-more c tracks =
     let g = c.args.geometry in
     let old = c.args.self.now in
     let counted = counted_extents c.args.slots.now c.args.set.now in

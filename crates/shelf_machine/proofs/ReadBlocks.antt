@@ -1,0 +1,101 @@
+-- What is read of the blocks of a data set, by what is known of the bodies on its pack.
+use Rattle.std.proofs.Common.{◌≡◌, ◌≢◌, ℕ, Bool, false, List, [], ◌∷◌, Option, Some, None, refl, sym, ap, subst, ◌∙◌}
+use Rattle.std.specs.Prelude.{Result, Ok, Err}
+use Rattle.ckd_image.specs.declared.header.Geometry.{Geometry}
+use Rattle.dscb_codec.specs.declared.F1.{F1}
+use Rattle.pack_spec.specs.Bodies.{body_of}
+use Rattle.pack_spec.specs.Volume.{attr_of}
+use Rattle.seq_access.specs.Bodies.{IsReadable, body_in, data_in}
+use Rattle.seq_access.specs.Reading.{GivesFirst, ReadsBlock}
+use Rattle.vol_model.specs.declared.answers.Kind.{Kind}
+use Rattle.vol_model.specs.declared.answers.Kind.TheVariants as kinds
+use Rattle.vol_model.specs.declared.contents.Block.{Block}
+use Rattle.vol_model.specs.declared.contents.Body.{Body}
+use Rattle.vol_model.specs.declared.contents.Body.TheVariants.{Seq}
+use Rattle.vol_model.specs.declared.contents.Place.{Place}
+use Rattle.vol_model.specs.declared.contents.Run.{Run}
+use Rattle.vol_model.specs.Reading.{Picks, ReadsInto, blocks_from, first, kind_of, readable}
+use Rattle.vol_model.specs.Writing.{body_on, set_on}
+use Rattle.vtoc_index.specs.declared.vol.Vol.{Vol}
+use Rattle.vtoc_sets.specs.Sets.{extents_in}
+use Rattle.shelf_machine.specs.Blocks.{IsOnImage}
+use Rattle.shelf_machine.specs.Reads.{HasVolume, IsSetOn}
+use Rattle.shelf_machine.specs.Unread.{broken_by, track_in}
+use Rattle.shelf_machine.specs.declared.known.Known.{Known}
+use Rattle.shelf_machine.specs.declared.unread.Unread.{Unread}
+use Rattle.shelf_machine.proofs.ShelfReads.{blocks_none, body_found, body_here, body_sequential, known_set, no_block, unread_by, whole_body}
+
+-- a kind is that of each body which a format 1 may have, by a list of those that can't be read
+abbrev pub IsKind : F1 → List Unread → Kind → Type 0
+IsKind f unread k = (g : Geometry) (tracks : List (List ℕ)) (extents : List Run)
+    → track_in unread f.name ≡ broken_by f.name (attr_of f) (body_of g tracks f.name (attr_of f) extents f.lstar) → k ≡ kind_of (body_of g tracks f.name (attr_of f) extents f.lstar)
+
+-- nothing is read where there is no block, whatever the one that was to hold it is
+abbrev blank : Place → Block
+blank p = record { place = p; key = []; payload = [] }
+
+pub nothing_into : (body : Result (List Block) ℕ) (from : Place) → body ≡ Ok [] → ReadsInto (Ok false) body from (blank from)
+nothing_into body from is = ([], is, refl)
+
+pub nothing_picked : (body : Result (List Block) ℕ) (from : Place) → body ≡ Ok [] → Picks (Ok None) body (λ bs. first (blocks_from from bs))
+nothing_picked body from is = subst (λ r. Picks (Ok None) r (λ bs. first (blocks_from from bs))) (sym is) refl
+
+first_is : {X : Type 0} (xs : List X) (x : X) (rest : List X) → xs ≡ x ∷ rest → Some x ≡ first xs
+first_is xs x rest is = sym (ap first is)
+
+module _ (image : List ℕ) (v : Vol) (b : Known) (on : IsOnImage image v b) (name : List ℕ) where
+  abbrev has : HasVolume on.shelf on.number v
+  has = record { image = image; mounted = on.mounted; there = on.there }
+
+  abbrev body : Body
+  body = body_on on.shelf on.number name
+
+  pub into_none : (from : Place) → IsSetOn image v (set_on on.shelf on.number name) None → ReadsInto (Ok false) (readable body) from (blank from)
+  into_none from set = nothing_into (readable body) from (blocks_none on.shelf on.number v has name set)
+
+  pub picks_no_set : (from : Place) → IsSetOn image v (set_on on.shelf on.number name) None → Picks (Ok None) (readable body) (λ bs. first (blocks_from from bs))
+  picks_no_set from set = nothing_picked (readable body) from (blocks_none on.shelf on.number v has name set)
+
+  module _ (f : F1) (set : IsSetOn image v (set_on on.shelf on.number name) (Some f)) (unread : List Unread) (same : unread ≡ b.unread.items) where
+    here : body_here image v f ≡ body
+    here = body_found on.shelf on.number v has name f set
+
+    kind_here : (k : Kind) → IsKind f unread k → k ≡ kind_of (body_here image v f)
+    kind_here k is = is v.geometry (data_in image v) (extents_in image v f) (known_set on.shelf on.number v has name f unread set (λ n. ap (λ (us : List Unread). track_in us n) same ∙ on.lists n))
+
+    -- a set that can't be read
+    pub not_readable : (t : ℕ) → IsKind f unread (kinds.Unreadable t) → readable body ≡ Err t
+    not_readable t is = sym (ap readable here) ∙ (unread_by (body_here image v f) t (kind_here (kinds.Unreadable t) is)).1
+
+    -- one of another kind
+    without : (k : Kind) → IsKind f unread k → k ≢ kinds.Seq → ((t : ℕ) → k ≢ kinds.Unreadable t) → readable body ≡ Ok []
+    without k is not_seq not =
+        sym (ap readable here)
+        ∙ no_block v.geometry (data_in image v) f.name (attr_of f) (extents_in image v f) f.lstar (λ seq. not_seq (kind_here k is ∙ seq)) (λ t bad. not t (kind_here k is ∙ bad))
+
+    pub into_other : (k : Kind) (from : Place) → IsKind f unread k → k ≢ kinds.Seq → ((t : ℕ) → k ≢ kinds.Unreadable t) → ReadsInto (Ok false) (readable body) from (blank from)
+    into_other k from is not_seq not = nothing_into (readable body) from (without k is not_seq not)
+
+    pub picks_other : (k : Kind) (from : Place) → IsKind f unread k → k ≢ kinds.Seq → ((t : ℕ) → k ≢ kinds.Unreadable t) → Picks (Ok None) (readable body) (λ bs. first (blocks_from from bs))
+    picks_other k from is not_seq not = nothing_picked (readable body) from (without k is not_seq not)
+
+    -- a sequential one that can be read
+    module _ (is : IsKind f unread kinds.Seq) where
+      in_set : body_here image v f ≡ body_in image v f
+      in_set = body_sequential v.geometry (data_in image v) f.name (attr_of f) (extents_in image v f) f.lstar (kind_here kinds.Seq is)
+
+      pub readable_set : IsReadable (body_in image v f)
+      readable_set =
+          let whole = whole_body (body_here image v f) (kind_here kinds.Seq is) in
+          (whole.0, sym in_set ∙ whole.1)
+
+      blocks_are : (bs : List Block) → body_in image v f ≡ Seq bs → readable body ≡ Ok bs
+      blocks_are bs whole = ap readable (sym here ∙ in_set ∙ whole)
+
+      pub into_set : (more : Bool) (from : Place) (block : Block) → ReadsBlock (Ok more) (body_in image v f) from block → ReadsInto (Ok more) (readable body) from block
+      into_set more from block read = (read.0, blocks_are read.0 read.1, read.2)
+
+      pub picks_set : (found : Option Block) (from : Place) → GivesFirst (Ok found) (body_in image v f) from → Picks (Ok found) (readable body) (λ bs. first (blocks_from from bs))
+      picks_set None from read = subst (λ r. Picks (Ok None) r (λ bs. first (blocks_from from bs))) (sym (blocks_are read.0 read.1)) (sym (ap first read.2))
+      picks_set (Some block) from read =
+          subst (λ r. Picks (Ok (Some block)) r (λ bs. first (blocks_from from bs))) (sym (blocks_are read.0 read.2)) (first_is (blocks_from from read.0) block read.1 read.3)

@@ -1,0 +1,76 @@
+-- What is known of the bodies on several packs, in this project's profile.
+use Rattle.std.specs.Prelude.{◌≡◌, ℕ, ◌==◌, Bool, true, false, List, map, slice_get, Some, option_and_then, if◌then◌else◌}
+use Rattle.ckd_image.specs.declared.header.Geometry.{Geometry}
+use Rattle.free_rebuild.specs.Repairs.{image_named}
+use Rattle.hall_core.specs.Facts.{Attached, unit_of}
+use Rattle.seq_access.specs.Reading.{HoldsTrack}
+use Rattle.seq_access.specs.declared.read_buf.Reach.TheVariants.{Nothing}
+use Rattle.stop_model.specs.Files.{File}
+use Rattle.vol_model.specs.declared.contents.Shelf.{Shelf}
+use Rattle.vol_model.specs.declared.requests.Op.{Op}
+use Rattle.vol_model.specs.declared.requests.Op.TheVariants.{Allocate, Rename, Scratch}
+use Rattle.vol_model.specs.Writing.{set_on}
+use Rattle.vtoc_index.specs.declared.vol.Vol.{Vol}
+use Rattle.shelf_machine.specs.Unread.{broken_in, others_of, renamed_in, track_in}
+use Rattle.shelf_machine.specs.declared.known.Known.{Known}
+use Rattle.shelf_machine.specs.declared.unread.Unread.{Unread}
+
+-- of the volume of this number just those sequential data sets are listed whose bodies can't be read
+abbrev pub ListsUnread : Shelf → ℕ → List Unread → Type 0
+ListsUnread shelf n unread = (name : List ℕ) → track_in unread name ≡ option_and_then broken_in (set_on shelf n name)
+
+-- and so for each pack of which something is known
+abbrev pub KnowsBodies : Shelf → List Known → Type 0
+KnowsBodies shelf known = (n : ℕ) (b : Known) → slice_get known n ≡ Some b
+    → ListsUnread shelf n b.unread.items
+
+-- the geometries of packs, and those of buffers
+abbrev pub geometries_of : List Vol → List Geometry
+geometries_of vols = map (λ (v : Vol). v.geometry) vols
+
+abbrev pub buffers_of : List Known → List Geometry
+buffers_of known = map (λ (b : Known). b.buf.records.geometry) known
+
+-- there is a buffer for each pack, of its geometry
+abbrev pub HaveBuffers : List Vol → List Known → Type 0
+HaveBuffers vols known = buffers_of known ≡ geometries_of vols
+
+-- each buffer holds its track of the pack's image
+abbrev pub AreHeld : List File → List Attached → List Vol → List Known → Type 0
+AreHeld files attached vols known = (n : ℕ) (v : Vol) (b : Known) → slice_get vols n ≡ Some v
+    → slice_get known n ≡ Some b
+    → HoldsTrack (image_named files (unit_of attached v.unit).name) b.buf
+
+-- no buffer holds a track
+abbrev pub AreFresh : List Known → Type 0
+AreFresh known = (n : ℕ) (b : Known) → slice_get known n ≡ Some b → b.buf.reach ≡ Nothing
+
+-- the list of a pack behind an operation that is done
+abbrev pub followed : Op → ℕ → List Unread → List Unread
+followed (Rename v old new) n unread =
+    if v == n then map (renamed_in old.bytes new) unread else unread
+followed (Scratch v dsn) n unread = if v == n then others_of dsn.bytes unread else unread
+followed _ n unread = unread
+
+-- the same of one that is done or not
+abbrev pub followed_if : Bool → Op → ℕ → List Unread → List Unread
+followed_if true op n unread = followed op n unread
+followed_if false op n unread = unread
+
+-- What is known of the pack of this number behind an operation.
+pub record Follows (op : Op) (is_done : Bool) (n : ℕ) (old new : Known) : Type 0 where
+  pub unread : new.unread.items ≡ followed_if is_done op n old.unread.items
+  pub buffer : new.buf ≡ record old.buf { reach = Nothing }
+
+-- What is known of all packs behind an operation.
+pub record AllFollow (op : Op) (is_done : Bool) (old new : List Known) : Type 0 where
+  pub buffers : buffers_of new ≡ buffers_of old
+  pub each : (n : ℕ) (b : Known) → slice_get new n ≡ Some b
+      → (a : Known) × (slice_get old n ≡ Some a) × Follows op is_done n a b
+
+-- the operations that are done on packs yet
+abbrev pub IsServed : Op → Type 0
+IsServed (Allocate v dsn attr request dir) = Unit {0}
+IsServed (Rename v old new) = Unit {0}
+IsServed (Scratch v dsn) = Unit {0}
+IsServed _ = ⊥
