@@ -1,7 +1,7 @@
 -- Slots of which one that held a format 1 is cleared: they break no rule, and each other data set has its extents.
-use Rattle.std.proofs.Common.{◌≡◌, ◌≢◌, ⊎_elim, ℕ, zero, suc, Bool, true, false, cond, List, [], ◌∷◌, ◌++◌, take, Option, Some, None, Result, Ok, Err, refl, sym, ap, subst, ◌∙◌, arith}
+use Rattle.std.proofs.Common.{◌≡◌, ◌≢◌, ⊎_elim, ℕ, Bool, true, false, cond, List, [], ◌++◌, take, Option, Some, None, Result, Ok, Err, refl, sym, ap, ◌∙◌}
 use Rattle.std.specs.Prelude.{◌||◌, ◌&&◌, ◌==◌, nat_le, not, is_some, option_and_then, position, slice_get}
-use Rattle.std.specs.List.{find, list_all, list_any}
+use Rattle.std.specs.List.{list_all, list_any}
 use Rattle.std.specs.Option.{option_map, option_map_or}
 use Rattle.std.specs.Str.{bytes_eq}
 use Rattle.ckd_image.specs.declared.header.Geometry.{Geometry}
@@ -18,7 +18,7 @@ use Rattle.pack_spec.specs.Rules.{content_fault, counted_extents, extents_fault,
 use Rattle.vtoc_index.specs.Index.{with_dscb}
 use Rattle.vtoc_index.proofs.VtocPut.{same_or_apart}
 use Rattle.dadsm_ops.proofs.ChangedLists.{any_first}
-use Rattle.dadsm_ops.proofs.ChangedSlots.{BreakNone, any-changed, breaks_none, changed_elsewhere, changed_there, find-changed, holding, none_broken, take-changed}
+use Rattle.dadsm_ops.proofs.ChangedSlots.{any-changed, breaks_none, changed_elsewhere, changed_there, find-changed, holding, none_broken, take-changed}
 
 -- what is in a slot
 abbrev Content : Type 0

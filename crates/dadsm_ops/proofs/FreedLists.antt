@@ -1,5 +1,5 @@
 -- Lists of runs that grow one by one: the extents of a data set as they are read, and the free runs as its tracks come back.
-use Rattle.std.proofs.Common.{◌≡◌, inl, inr, ℕ, zero, suc, ◌+◌, ◌-◌, min, ◌≤◌, ◌<◌, ◌||◌, ◌&&◌, Bool, true, false, nat_le, nat_lt, List, [], ◌∷◌, ◌++◌, length, take, map, get_or, Option, Some, None, refl, sym, ap, subst, ◌∙◌, arith, length-take}
+use Rattle.std.proofs.Common.{◌≡◌, inl, inr, ℕ, zero, suc, ◌+◌, ◌-◌, min, ◌≤◌, ◌<◌, ◌||◌, ◌&&◌, Bool, true, false, nat_le, nat_lt, List, [], ◌∷◌, length, take, map, get_or, Some, None, refl, sym, ap, subst, ◌∙◌, arith, length-take}
 use Rattle.std.specs.Prelude.{replicate, slice_get, slice_set}
 use Rattle.std.proofs.lemmas.Bool.{and_parts, leb-true, lt-ltb}
 use Rattle.std.proofs.lemmas.Bool.Decides.{leb_tells, nat_tests}
@@ -9,10 +9,9 @@ use Rattle.ckd_image.specs.declared.header.Geometry.{Geometry}
 use Rattle.dscb_codec.specs.declared.F1.{F1}
 use Rattle.pack_spec.specs.declared.slot.VtocSlot.{VtocSlot}
 use Rattle.pack_spec.specs.Rules.{counted_extents, has_extents}
-use Rattle.pack_spec.specs.Vtoc.{is_extent, run_of_extent}
-use Rattle.std.specs.List.{list_all}
+use Rattle.pack_spec.specs.Vtoc.{run_of_extent}
 use Rattle.vol_model.specs.declared.contents.Run.{Run}
-use Rattle.vol_model.specs.Space.{AreMaximal, EndBy, covers, is_in}
+use Rattle.vol_model.specs.Space.{AreMaximal, covers, is_in}
 use Rattle.space_alloc.specs.Edits.{AreWith}
 use Rattle.std.proofs.Math.Nat.{mul-le-mul_right}
 use Rattle.ckd_image.specs.Device.{row_of}

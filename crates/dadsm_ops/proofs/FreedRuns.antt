@@ -1,10 +1,8 @@
 -- The free runs of a volume after one of its data sets is gone.
-use Rattle.std.proofs.Common.{◌≡◌, ℕ, ◌+◌, ◌*◌, ◌≤◌, ◌<◌, Bool, cond, not, ◌||◌, List, [], ◌∷◌, ◌++◌, nat_lt, refl, sym, ap, subst, ◌∙◌, arith}
-use Rattle.std.specs.List.{flat_map}
+use Rattle.std.proofs.Common.{◌≡◌, ℕ, ◌+◌, ◌≤◌, Bool, cond, not, ◌||◌, List, ◌∷◌, ◌++◌, nat_lt, sym, ap, subst, ◌∙◌, arith}
 use Rattle.std.proofs.lemmas.Bool.Decides.{nat_tests}
 use Rattle.std.proofs.lemmas.Grind.{flat_map-append}
 use Rattle.ckd_image.specs.declared.header.Geometry.{Geometry}
-use Rattle.ckd_image.specs.Device.{row_of}
 use Rattle.pack_spec.specs.declared.slot.VtocSlot.{VtocSlot}
 use Rattle.pack_spec.specs.Volume.{data_sets_in, volume_with}
 use Rattle.pack_spec.proofs.OwnedRuns.{covers_owners, owners_permuted, runs_owned, unowned_covers}
@@ -13,7 +11,7 @@ use Rattle.vol_model.specs.declared.contents.Run.{Run}
 use Rattle.vol_model.specs.declared.contents.Volume.{Volume}
 use Rattle.vol_model.specs.Lawful.{OwnsOnce, owned_runs}
 use Rattle.vol_model.specs.Order.{in_order}
-use Rattle.vol_model.specs.Space.{AreRunsOf, EndBy, covers, free_runs, is_in, is_unowned, usable_cylinders}
+use Rattle.vol_model.specs.Space.{EndBy, covers, free_runs, is_in, is_unowned}
 use Rattle.vol_model.proofs.FreeRuns.{AreRunsOf-runs_of, runs_of-AreRunsOf}
 use Rattle.vol_model.proofs.InOrder.{in_order-permutation}
 use Rattle.shelf_laws.proofs.Tracks.{extents_of, owners, owners-append, owners-cons}

@@ -1,13 +1,10 @@
 -- The slots that a volume with a new data set needs, by the index, and why there are too few.
-use Rattle.std.proofs.Common.{◌≡◌, ◌+◌, ◌/◌, ◌*◌, ◌≤◌, ◌<◌, ℕ, max, cond, List, length, Some, refl, sym, ap, subst, ◌∙◌, arith}
-use Rattle.std.specs.Prelude.{Ok, Err, nat_lt}
-use Rattle.std.specs.List.{sum_by}
-use Rattle.ckd_image.specs.declared.header.Geometry.{Geometry}
+use Rattle.std.proofs.Common.{◌≡◌, ◌+◌, ◌/◌, ◌≤◌, ◌<◌, ℕ, max, List, length, sym, ap, ◌∙◌, arith}
+use Rattle.std.specs.Prelude.{Ok, Err}
 use Rattle.ebcdic_names.specs.declared.names.Dsn.{Dsn}
 use Rattle.hall_core.specs.Facts.{Attached}
 use Rattle.pack_spec.specs.Label.{tracks_of}
-use Rattle.pack_spec.specs.Slots.{slots_of_vtoc}
-use Rattle.pack_spec.specs.Volume.{volume_by, volume_of, volume_with}
+use Rattle.pack_spec.specs.Volume.{volume_of, volume_with}
 use Rattle.space_alloc.specs.Edits.{AreWithout}
 use Rattle.vol_model.specs.declared.contents.Attr.{Attr}
 use Rattle.vol_model.specs.declared.contents.Run.{Run}

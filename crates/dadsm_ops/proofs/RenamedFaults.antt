@@ -1,5 +1,5 @@
 -- A volume of which a data set has another name owns the same tracks and needs the same slots, so it breaks the same rules.
-use Rattle.std.proofs.Common.{◌≡◌, ℕ, ◌+◌, ◌*◌, ◌/◌, ◌<◌, max, Bool, true, false, cond, not, List, [], ◌∷◌, ◌++◌, length, map, filter, nat_le, nat_lt, refl, sym, ap, ap₂, ◌∙◌}
+use Rattle.std.proofs.Common.{◌≡◌, ℕ, ◌+◌, ◌*◌, ◌/◌, max, Bool, true, false, cond, not, List, [], ◌∷◌, ◌++◌, length, map, filter, nat_le, nat_lt, refl, sym, ap, ap₂, ◌∙◌}
 use Rattle.std.specs.List.{count_by, flat_map, range_with_len}
 use Rattle.std.proofs.lemmas.List.{length-map}
 use Rattle.std.proofs.lemmas.List.Sorted.{length_permutation, sum_by-IsPermutation}
@@ -9,7 +9,7 @@ use Rattle.ebcdic_names.specs.declared.names.Dsn.{Dsn}
 use Rattle.pack_spec.specs.declared.MountErr.{MountErr}
 use Rattle.pack_spec.specs.declared.MountErr.TheVariants.{Overlap, VtocFull}
 use Rattle.pack_spec.specs.Label.{tracks_of}
-use Rattle.pack_spec.specs.Owned.{is_owned_twice, overlap_faults, room_faults, volume_faults}
+use Rattle.pack_spec.specs.Owned.{overlap_faults, room_faults, volume_faults}
 use Rattle.pack_spec.proofs.OwnedRuns.{covers_owners, owners_permuted, unowned_covers}
 use Rattle.vol_model.specs.declared.contents.DataSet.{DataSet}
 use Rattle.vol_model.specs.declared.contents.Run.{Run}

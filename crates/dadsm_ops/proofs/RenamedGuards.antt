@@ -1,20 +1,18 @@
 -- Slots of which the format 1 DSCBs of one name get another are guarded and settled as before: a name is in neither the chain of free space nor the counts of format 4.
-use Rattle.std.proofs.Common.{◌≡◌, inl, inr, ⊎_elim, ℕ, ◌+◌, Bool, true, cond, List, [], ◌∷◌, map, drop, Option, Some, None, Result, Ok, Err, refl, sym, ap, ap₂, subst, ◌∙◌}
-use Rattle.std.specs.Prelude.{◌||◌, ◌&&◌, not, length, nat_lt, position, replicate, slice_get, unwrap_or, option_and_then}
-use Rattle.std.specs.List.{count_by, filter, last_or, list_all, list_any}
+use Rattle.std.proofs.Common.{◌≡◌, inl, inr, ⊎_elim, ℕ, ◌+◌, Bool, cond, List, [], ◌∷◌, map, drop, Option, Some, None, Result, Ok, Err, refl, sym, ap, ap₂, subst, ◌∙◌}
+use Rattle.std.specs.Prelude.{◌||◌, ◌&&◌, not, length, position, replicate, slice_get, unwrap_or, option_and_then}
+use Rattle.std.specs.List.{count_by, filter, last_or, list_all}
 use Rattle.std.specs.Option.{option_map}
-use Rattle.std.specs.Str.{bytes_eq}
 use Rattle.std.proofs.lemmas.List.{drop-map}
 use Rattle.std.proofs.lemmas.List.Sums.{sum_by-cons}
 use Rattle.dscb_codec.specs.declared.Dscb.{Dscb}
 use Rattle.dscb_codec.specs.declared.Dscb.TheVariants as formats
 use Rattle.dscb_codec.specs.declared.DscbErr.{DscbErr}
-use Rattle.dscb_codec.specs.declared.F4.{F4}
 use Rattle.vol_model.specs.declared.contents.Volume.{Volume}
 use Rattle.pack_spec.specs.declared.slot.VtocSlot.{VtocSlot}
 use Rattle.pack_spec.specs.FreeChain.{HasSpace, IsChain, ListsFree, free_entries, next_free}
 use Rattle.pack_spec.specs.Rules.{is_f3, is_f5_or_f0}
-use Rattle.pack_spec.specs.Settled.{AreGuarded, AreSettled, IsMarked, head_in, head_of, highest_of, is_f0, is_f1, is_f5, is_used, leads_to}
+use Rattle.pack_spec.specs.Settled.{AreGuarded, AreSettled, head_in, head_of, highest_of, is_f0, is_f1, is_f5, is_used, leads_to}
 use Rattle.dadsm_ops.proofs.ChangedLists.{filter-map, list_any-map, position-map, slice_get-map}
 use Rattle.dadsm_ops.proofs.RenamedSlots.{all_units, f3-renamed, f5-renamed, renamed_content, renamed_slot, same_count, same_pointer}
 

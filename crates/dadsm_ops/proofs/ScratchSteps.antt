@@ -1,16 +1,14 @@
 -- A data set's Scratch from its three parts: format 4 is marked, the format 1 is cleared, and the update is concluded.
-use Rattle.std.proofs.Common.{◌≡◌, ◌≢◌, ℕ, List, map, Option, Some, inl, inr, ⊎_elim, refl, sym, ap, subst, ◌∙◌}
+use Rattle.std.proofs.Common.{◌≡◌, ◌≢◌, ℕ, List, map, Some, inl, inr, ⊎_elim, refl, sym, ap, subst, ◌∙◌}
 use Rattle.std.specs.Prelude.{Result, Ok, Err, IsErr, OnOk, slice_get}
 use Rattle.std.proofs.lemmas.Result.{IfOk-from_err}
 use Rattle.ckd_image.specs.declared.header.Geometry.{Geometry}
-use Rattle.dscb_codec.specs.declared.Dscb.{Dscb}
 use Rattle.dscb_codec.specs.declared.Dscb.TheVariants as formats
 use Rattle.dscb_codec.specs.declared.F1.{F1}
 use Rattle.ebcdic_names.specs.declared.names.Dsn.{Dsn}
 use Rattle.stop_model.specs.Files.{File, file_of}
 use Rattle.stop_model.specs.Moments.{Meaning, Elapses, IsDurable}
 use Rattle.stop_model.proofs.MomentLemmas.{elapses_then, elapses_weaker}
-use Rattle.pack_spec.specs.declared.slot.VtocSlot.{VtocSlot}
 use Rattle.pack_spec.specs.Alike.{DifferInVtoc}
 use Rattle.pack_spec.specs.Settled.{IsMarked, IsSettledVtoc, slots_for}
 use Rattle.pack_spec.specs.Rules.{counted_extents}
@@ -25,7 +23,7 @@ use Rattle.vol_model.specs.Space.{covers}
 use Rattle.vtoc_index.specs.declared.vol.Vol.{Vol}
 use Rattle.vtoc_index.specs.Index.{IsMounted}
 use Rattle.free_rebuild.specs.Updates.{Concludes, IsGuardedFor, IsMarkedFor, Marks}
-use Rattle.dadsm_ops.specs.Operations.{ChangesVtoc, DoesOperation, IsBeforeOrAfter, IsDone, IsLeftInOperation, image_named}
+use Rattle.dadsm_ops.specs.Operations.{ChangesVtoc, DoesOperation, IsDone, IsLeftInOperation, image_named}
 use Rattle.dadsm_ops.specs.Through.{PutsThrough}
 use Rattle.dadsm_ops.proofs.Operating.{unchanged}
 use Rattle.dadsm_ops.proofs.RenamedImages.{slots_on_image, volume_on_image}

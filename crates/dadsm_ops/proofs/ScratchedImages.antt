@@ -21,7 +21,6 @@ use Rattle.pack_spec.specs.Blocks.{data_tracks}
 use Rattle.pack_spec.specs.Volume.{data_set_of, volume_by, volume_of, volume_with}
 use Rattle.pack_spec.specs.Vtoc.{run_of_extent, vtoc_of}
 use Rattle.pack_spec.proofs.Lawful.{good_sets, lawful_volume}
-use Rattle.vol_model.specs.declared.contents.DataSet.{DataSet}
 use Rattle.vol_model.specs.declared.contents.Run.{Run}
 use Rattle.vol_model.specs.declared.contents.Volume.{Volume}
 use Rattle.vol_model.specs.Lawful.{IsLawfulVolume}
@@ -40,7 +39,7 @@ use Rattle.dadsm_ops.proofs.RenamedImages.{differs_in_vtoc, slots_on_image, volu
 use Rattle.dadsm_ops.proofs.ScratchedSets.{among, volume_left}
 
 -- the slot of an item
-slot_there : (o : Option VtocSlot) (c : Result Dscb DscbErr) → option_map (λ s. s.content) o ≡ Some c → (s : VtocSlot) × ((o ≡ Some s) × (s.content ≡ c))
+pub slot_there : (o : Option VtocSlot) (c : Result Dscb DscbErr) → option_map (λ s. s.content) o ≡ Some c → (s : VtocSlot) × ((o ≡ Some s) × (s.content ≡ c))
 slot_there None c is = cc
 slot_there (Some s) c is = (s, (refl, cc))
 

@@ -1,8 +1,8 @@
 -- The volume of slots of which one that held a format 1 is cleared: it is the one after a Scratch of its data set.
-use Rattle.std.proofs.Common.{◌≡◌, ℕ, suc, ◌+◌, Bool, true, false, cond, List, [], ◌∷◌, ◌++◌, length, take, drop, map, Option, Some, None, Ok, refl, sym, ap, subst, ◌∙◌}
-use Rattle.std.specs.Prelude.{◌||◌, not, filter, is_some, slice_get, slice_range, Result}
+use Rattle.std.proofs.Common.{◌≡◌, ℕ, suc, Bool, true, false, cond, List, [], ◌∷◌, ◌++◌, take, drop, map, Option, Some, None, Ok, refl, sym, ap, subst, ◌∙◌}
+use Rattle.std.specs.Prelude.{◌||◌, not, filter, slice_get, slice_range, Result}
 use Rattle.std.specs.List.{AllByRecursion, IsDistinct, cons_option, filter_map, find, list_any}
-use Rattle.std.specs.List.Sorted.{IsSortedBy, IsStableBy, ties}
+use Rattle.std.specs.List.Sorted.{ties}
 use Rattle.std.specs.Str.{bytes_eq}
 use Rattle.std.proofs.lemmas.List.{map-append}
 use Rattle.std.proofs.lemmas.List.Elements.{filter-append, filter_map-append}
@@ -15,19 +15,18 @@ use Rattle.dscb_codec.specs.declared.F1.{F1}
 use Rattle.ebcdic_names.specs.declared.names.Dsn.{Dsn}
 use Rattle.pack_spec.specs.declared.slot.VtocSlot.{VtocSlot}
 use Rattle.pack_spec.specs.Bodies.{body_of, catalog_of}
-use Rattle.pack_spec.specs.Rules.{counted_extents, name_faults, set_in, slots_faults}
+use Rattle.pack_spec.specs.Rules.{name_faults, set_in, slots_faults}
 use Rattle.pack_spec.specs.Volume.{attr_of, data_set_of, data_sets_in, volume_with}
 use Rattle.pack_spec.specs.Vtoc.{run_of_extent}
 use Rattle.pack_spec.proofs.Lawful.{groups_hold}
 use Rattle.pack_spec.proofs.SetNames.{distinct_sets, names_apart}
-use Rattle.vol_model.specs.declared.catalogs.CatBody.{CatBody}
 use Rattle.vol_model.specs.declared.catalogs.CatBody.TheVariants as catalogs
 use Rattle.vol_model.specs.declared.contents.DataSet.{DataSet}
 use Rattle.vol_model.specs.declared.contents.Run.{Run}
 use Rattle.vol_model.specs.declared.contents.Volume.{Volume}
 use Rattle.vol_model.specs.declared.refusals.Refusal.{Refusal}
 use Rattle.vol_model.specs.Order.{in_order, is_before}
-use Rattle.vol_model.specs.Shelf.{catalog_name, has_name, is_catalog, on_found, scratch_on, set_of}
+use Rattle.vol_model.specs.Shelf.{catalog_name, has_name, is_catalog, on_found, scratch_on}
 use Rattle.vol_model.proofs.InOrder.{in_order-sorted, in_order-stable, in_order-unique, is_before-order}
 use Rattle.vol_model.proofs.Steps.{any_in_order, same_names}
 use Rattle.vtoc_index.specs.Index.{with_dscb}

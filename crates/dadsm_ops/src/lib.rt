@@ -1,7 +1,10 @@
 //! The operations on the data sets of a volume, each in the order of writes that a stop leaves undone or done.
 #![tactic(auto)]
 
+mod added;
 mod allocating;
+mod emptying;
+mod extending;
 mod naming;
 mod new_set;
 mod planning;
@@ -9,5 +12,7 @@ mod scratching;
 mod through;
 
 pub use allocating::allocate;
+pub use emptying::empty;
+pub use extending::extend;
 pub use naming::rename;
 pub use scratching::scratch;

@@ -10,6 +10,9 @@ use std::alloc::Global;
 use util_syntax::StepIn;
 use vol_model::{Machine, Stop};
 
+// IEBGENER in EBCDIC.
+const IEBGENER: [u8; 8] = [0xC9, 0xC5, 0xC2, 0xC7, 0xC5, 0xD5, 0xC5, 0xD9];
+
 // IEFBR14 in EBCDIC.
 const IEFBR14: [u8; 8] = [0xC9, 0xC5, 0xC6, 0xC2, 0xD9, 0xF1, 0xF4, 0x40];
 
@@ -28,6 +31,8 @@ pub enum Program {
     Iehprogm,
     /// IEHLIST, which lists volumes.
     Iehlist,
+    /// IEBGENER, which copies records.
+    Iebgener,
 }
 
 /// The program of a name, if there is one.
@@ -41,6 +46,8 @@ pub fn program_named(name: &Name8) -> Option<Program>
         Some(Program::Iehprogm)
     } else if name.bytes == IEHLIST {
         Some(Program::Iehlist)
+    } else if name.bytes == IEBGENER {
+        Some(Program::Iebgener)
     } else {
         None
     }
@@ -64,5 +71,6 @@ pub fn run_program<M: Machine>(
         Program::Iefbr14 => Ok(0),
         Program::Iehprogm => iehprogm_util::run(alloc, machine, step),
         Program::Iehlist => iehlist_util::run(alloc, machine, step),
+        Program::Iebgener => iebgener_util::run(alloc, machine, step),
     }
 }

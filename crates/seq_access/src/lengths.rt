@@ -19,3 +19,6 @@ pub(crate) fn is_block(buf: &TrackBuf, r: u8) -> bool
 {
     buf.key(r).len() <= MOST_KEY && buf.data(r).len() <= MOST_DATA
 }
+
+// The lengths of the key and the data of a record.
+pub(crate) type Lengths = (u8, u16);

@@ -9,6 +9,7 @@ use Rattle.std.specs.Str.{bytes_eq}
 use Rattle.ebcdic_names.specs.declared.names.Dsn.{Dsn}
 use Rattle.ckd_image.specs.declared.device.DiskType.{DiskType}
 use Rattle.vol_model.specs.declared.contents.Attr.{Attr}
+use Rattle.vol_model.specs.declared.contents.Body.{Body}
 use Rattle.vol_model.specs.declared.contents.Body.TheVariants as bodies
 use Rattle.vol_model.specs.declared.contents.DataSet.{DataSet}
 use Rattle.vol_model.specs.declared.contents.Run.{Run}
@@ -17,20 +18,20 @@ use Rattle.vol_model.specs.declared.contents.Volume.{Volume}
 use Rattle.vol_model.specs.declared.refusals.Refusal.{Refusal}
 use Rattle.vol_model.specs.declared.refusals.Refusal.TheVariants.{NoRoom, NoSet, SetExists, VtocFull, WrongKind}
 use Rattle.vol_model.specs.declared.requests.Op.{Op}
-use Rattle.vol_model.specs.declared.requests.Op.TheVariants.{Allocate, Rename, Scratch}
+use Rattle.vol_model.specs.declared.requests.Op.TheVariants.{Allocate, Empty, Extend, Rename, Scratch}
 use Rattle.vol_model.specs.declared.requests.Request.{Request}
 use Rattle.vol_model.specs.Order.{in_order}
 use Rattle.vol_model.specs.Places.{directory_end, tracks_in}
-use Rattle.vol_model.specs.Shelf.{allocate_on, has_name, has_set, if_room, is_catalog, is_partitioned, is_sequential, lacks_room, new_attr, new_body, on_choice, on_found, on_volume, organization, refuse, rename_on, rename_refusal, renamed, scratch_on, set_of, step, step_on, unless_refused, volume_number, with_name, with_new, with_volume}
+use Rattle.vol_model.specs.Shelf.{allocate_on, emptied, empty_on, empty_set, extend_on, has_name, has_set, if_room, is_catalog, is_partitioned, is_sequential, lacks_room, may_empty, new_attr, new_body, on_choice, on_found, on_volume, organization, refuse, rename_on, rename_refusal, renamed, scratch_on, set_of, step, step_on, unless_refused, volume_number, with_extents, with_name, with_new, with_set, with_volume, without_blocks}
 use Rattle.vol_model.specs.Slots.{slots_needed}
 use Rattle.vol_model.specs.Space.{choice}
 use Rattle.vol_model.specs.Writing.{set_on}
-use Rattle.shelf_machine.specs.Known.{IsServed, ListsUnread, followed}
+use Rattle.shelf_machine.specs.Known.{IsServed, ListsBroken, ListsUnread, followed}
 use Rattle.shelf_machine.specs.Unread.{broken_at, broken_in, is_of, others_of, renamed_in, track_in}
 use Rattle.shelf_machine.specs.declared.unread.Unread.{Unread}
-use Rattle.shelf_machine.proofs.FoundByKey.{find_passes, found_new, found_old, found_other, none_found, others_none, others_same}
+use Rattle.shelf_machine.proofs.FoundByKey.{find_passes, found_changed, found_new, found_old, found_other, none_found, others_none, others_same}
 use Rattle.shelf_machine.proofs.ListPlaces.{get_other, get_set}
-use Rattle.shelf_machine.proofs.Operating.{ok_volume, unrefused}
+use Rattle.shelf_machine.proofs.Operating.{extend_is, ok_volume, read_through, unrefused}
 use Rattle.shelf_machine.proofs.OrderedSets.{find_in_order}
 
 abbrev track_of : Unread → ℕ
@@ -41,10 +42,6 @@ name_of x = x.name.bytes
 
 abbrev entry_name : Unread → List ℕ
 entry_name u = u.dsn.bytes
-
--- the sets of a volume that can't be read are those of a list
-abbrev Lists : Volume → List Unread → Type 0
-Lists w unread = (name : List ℕ) → track_in unread name ≡ option_and_then broken_in (set_of name w)
 
 -- two names are one, or they differ
 one_name : (a b : List ℕ) → (a ≡ b) ⊎ (a ≢ b)
@@ -67,7 +64,7 @@ whole_set x whole = by (is_sequential x.name.bytes x.attr)
     by true = whole
     by false = refl
 
-module _ (w : Volume) (unread : List Unread) (lists : Lists w unread) where
+module _ (w : Volume) (unread : List Unread) (lists : ListsBroken w unread) where
   -- a name that no set has is in no entry
   none_listed : (name : List ℕ) → has_set w name ≡ false → track_in unread name ≡ None
   none_listed name none = lists name ∙ ap (option_and_then broken_in) (none_found (has_name name) w.sets none)
@@ -91,6 +88,21 @@ module _ (w : Volume) (unread : List Unread) (lists : Lists w unread) where
       (ap (option_map track_of) (others_none entry_name gone unread) ∙ sym (ap (option_and_then broken_in) (others_none name_of gone w.sets))))
       (λ differs. ap (option_map track_of) (others_same entry_name gone name differs unread) ∙ lists name ∙ sym (ap (option_and_then broken_in) (others_same name_of gone name differs w.sets)))
       (one_name gone name)
+
+  -- and behind one that is changed, but not in whether it can be read
+  module _ (name : List ℕ) (f : DataSet → DataSet) (keeps : (x : DataSet) → name_of (f x) ≡ name_of x) (whole : (x : DataSet) → set_of name w ≡ Some x → broken_in (f x) ≡ broken_in x) where
+    lists_changed : ListsBroken (with_set w name f) unread
+    lists_changed m = lists m ∙ by (find (has_name m) w.sets) refl ∙ sym (ap (option_and_then broken_in) (found_changed name_of name f keeps m w.sets))
+      where
+        test : (x : DataSet) → find (has_name m) w.sets ≡ Some x → (b : Bool) → has_name name x ≡ b → broken_in x ≡ broken_in (cond b (f x) x)
+        test x there false not = refl
+        test x there true is =
+            let this : m ≡ name = sym ((bytes_eq-Decides x.name.bytes m).0 (find_passes (has_name m) w.sets x there)) ∙ (bytes_eq-Decides x.name.bytes name).0 is in
+            sym (whole x (ap (λ (n : List ℕ). find (has_name n) w.sets) (sym this) ∙ there))
+
+        by : (o : Option DataSet) → find (has_name m) w.sets ≡ o → option_and_then broken_in o ≡ option_and_then broken_in (option_map (λ (x : DataSet). cond (has_name name x) (f x) x) o)
+        by None there = refl
+        by (Some x) there = test x there (has_name name x) refl
 
   module _ (old : List ℕ) (new : Dsn) (none : has_set w new.bytes ≡ false) (apart : old ≢ new.bytes) (before : is_catalog old ≡ false) (after : is_catalog new.bytes ≡ false) where
     abbrev entry_renamed : Unread → Unread
@@ -161,36 +173,36 @@ renames w old new = by (has_set w old) refl (has_set w new) refl (is_catalog old
     by true there false none false before true after is = absurd cc
     by true there false none false before false after is = record { there = there; none = none; before = before; after = after }
 
-rename_after : (old new : Dsn) (w after : Volume) → rename_on old new w ≡ Ok after → (unread : List Unread) → Lists w unread → Lists after (map (renamed_in old.bytes new) unread)
+rename_after : (old new : Dsn) (w after : Volume) → rename_on old new w ≡ Ok after → (unread : List Unread) → ListsBroken w unread → ListsBroken after (map (renamed_in old.bytes new) unread)
 unfolding rename_on renamed
 rename_after old new w after done unread lists = by (rename_refusal w old.bytes new.bytes) refl done
   where
-    by : (o : Option Refusal) → rename_refusal w old.bytes new.bytes ≡ o → unless_refused o (renamed w old.bytes new) ≡ Ok after → Lists after (map (renamed_in old.bytes new) unread)
+    by : (o : Option Refusal) → rename_refusal w old.bytes new.bytes ≡ o → unless_refused o (renamed w old.bytes new) ≡ Ok after → ListsBroken after (map (renamed_in old.bytes new) unread)
     by (Some r) there is = absurd cc
     by None there is =
         let names = renames w old.bytes new.bytes there in
         let apart : old.bytes ≢ new.bytes = λ same. let both : true ≡ false = sym names.there ∙ ap (has_set w) same ∙ names.none in cc in
-        subst (λ (x : Volume). Lists x (map (renamed_in old.bytes new) unread)) (ok_volume is)
+        subst (λ (x : Volume). ListsBroken x (map (renamed_in old.bytes new) unread)) (ok_volume is)
         (λ name. lists_renamed w unread lists old.bytes new names.none apart names.before names.after name
         ∙ sym (ap (option_and_then broken_in) (find_in_order name (map (with_name old.bytes new) w.sets))))
 
-scratch_after : (dsn : Dsn) (w after : Volume) → scratch_on dsn w ≡ Ok after → (unread : List Unread) → Lists w unread → Lists after (others_of dsn.bytes unread)
+scratch_after : (dsn : Dsn) (w after : Volume) → scratch_on dsn w ≡ Ok after → (unread : List Unread) → ListsBroken w unread → ListsBroken after (others_of dsn.bytes unread)
 unfolding scratch_on
 scratch_after dsn w after done unread lists = by (set_of dsn.bytes w) done
   where
     without : DataSet → Result Volume Refusal
     without x = Ok (record w { sets = filter (λ (y : DataSet). not (has_name dsn.bytes y)) w.sets; catalog = if is_catalog dsn.bytes then None else w.catalog })
 
-    by : (o : Option DataSet) → on_found o without ≡ Ok after → Lists after (others_of dsn.bytes unread)
+    by : (o : Option DataSet) → on_found o without ≡ Ok after → ListsBroken after (others_of dsn.bytes unread)
     by None is = absurd cc
-    by (Some x) is = subst (λ (y : Volume). Lists y (others_of dsn.bytes unread)) (ok_volume is) (λ name. lists_gone w unread lists dsn.bytes name)
+    by (Some x) is = subst (λ (y : Volume). ListsBroken y (others_of dsn.bytes unread)) (ok_volume is) (λ name. lists_gone w unread lists dsn.bytes name)
 
 -- what isn't refused wasn't to be
 not_refused : (b : Bool) (r : Refusal) (rest : Result Volume Refusal) (after : Volume) → refuse b r rest ≡ Ok after → b ≡ false
 not_refused true r rest after is = absurd cc
 not_refused false r rest after is = refl
 
-allocate_after : (dsn : Dsn) (attr : Attr) (q : Request) (dir : ℕ) (w after : Volume) → allocate_on dsn attr q dir w ≡ Ok after → (unread : List Unread) → Lists w unread → Lists after unread
+allocate_after : (dsn : Dsn) (attr : Attr) (q : Request) (dir : ℕ) (w after : Volume) → allocate_on dsn attr q dir w ≡ Ok after → (unread : List Unread) → ListsBroken w unread → ListsBroken after unread
 unfolding allocate_on
 allocate_after dsn attr q dir w after done unread lists =
     let wants_dir = is_partitioned dsn.bytes attr in
@@ -202,21 +214,53 @@ allocate_after dsn attr q dir w after done unread lists =
     none : has_set w dsn.bytes ≡ false
     none = not_refused (has_set w dsn.bytes) SetExists _ after done
 
-    by : (o : Option (List Run)) → on_choice q.primary o with_runs ≡ Ok after → Lists after unread
+    by : (o : Option (List Run)) → on_choice q.primary o with_runs ≡ Ok after → ListsBroken after unread
     by None is = absurd cc
     by (Some runs) is =
         let x : DataSet = record { name = dsn; attr = new_attr dsn.bytes attr q; extents = runs; body = new_body w.geometry.device dsn.bytes attr dir } in
         let new : Volume = with_new dsn attr q dir w runs in
         let room : Bool = lacks_room w.geometry.device dsn.bytes dir (tracks_in runs) in
         let free = unrefused (nat_lt new.slots (slots_needed new)) (VtocFull (slots_needed new)) (refuse room NoRoom (Ok new)) after is in
-        subst (λ (y : Volume). Lists y unread) (ok_volume (unrefused room NoRoom (Ok new) after free))
+        subst (λ (y : Volume). ListsBroken y unread) (ok_volume (unrefused room NoRoom (Ok new) after free))
         (lists_new w unread lists x new.sets refl none (whole_set x (new_whole w.geometry.device dsn.bytes attr dir)))
 
-volume_after : (op : Op) → IsServed op → (w after : Volume) → step_on op w ≡ Ok after → (unread : List Unread) → Lists w unread → Lists after (changed_by op unread)
+-- a body that can be read is read as well without its blocks
+vacant_whole : (b : Body) → broken_at (without_blocks b) ≡ None
+vacant_whole (bodies.Seq blocks) = refl
+vacant_whole (bodies.Part dir end entries blocks) = refl
+vacant_whole bodies.Catalog = refl
+vacant_whole bodies.Other = refl
+vacant_whole (bodies.Unreadable track) = refl
+
+empty_after : (dsn : Dsn) (attr : Attr) (w after : Volume) → empty_on dsn attr w ≡ Ok after → (unread : List Unread) → ListsBroken w unread → ListsBroken after unread
+unfolding empty_on
+empty_after dsn attr w after done unread lists = by (set_of dsn.bytes w) refl done
+  where
+    some_set : {a b : DataSet} → Some a ≡ Some b → a ≡ b
+    some_set same = cc
+
+    by : (o : Option DataSet) → set_of dsn.bytes w ≡ o → on_found o (empty_set dsn attr w) ≡ Ok after → ListsBroken after unread
+    by None there is = absurd cc
+    by (Some x) there is =
+        let read = read_through x.body _ after (unrefused (not (may_empty dsn.bytes x.attr x.body)) WrongKind _ after is) in
+        subst (λ (y : Volume). ListsBroken y unread) (ok_volume read.0)
+        (lists_changed w unread lists dsn.bytes (emptied attr) (λ y. refl) (λ y found.
+        let this : x ≡ y = some_set (sym there ∙ found) in
+        whole_set (emptied attr y) (vacant_whole y.body) ∙ sym (whole_set y (ap (λ (z : DataSet). broken_at z.body) (sym this) ∙ read.1))))
+
+-- and so is one with more extents
+extend_after : (dsn : Dsn) (w after : Volume) → extend_on dsn w ≡ Ok after → (unread : List Unread) → ListsBroken w unread → ListsBroken after unread
+extend_after dsn w after done unread lists =
+    let is = extend_is dsn w after done in
+    subst (λ (y : Volume). ListsBroken y unread) is.1 (lists_changed w unread lists dsn.bytes (with_extents is.0) (λ y. refl) (λ y found. refl))
+
+volume_after : (op : Op) → IsServed op → (w after : Volume) → step_on op w ≡ Ok after → (unread : List Unread) → ListsBroken w unread → ListsBroken after (changed_by op unread)
 unfolding step_on
 volume_after (Allocate v dsn attr q dir) served w after done unread lists = allocate_after dsn attr q dir w after done unread lists
 volume_after (Rename v old new) served w after done unread lists = rename_after old new w after done unread lists
 volume_after (Scratch v dsn) served w after done unread lists = scratch_after dsn w after done unread lists
+volume_after (Extend v dsn) served w after done unread lists = extend_after dsn w after done unread lists
+volume_after (Empty v dsn attr) served w after done unread lists = empty_after dsn attr w after done unread lists
 volume_after _ served w after done unread lists = absurd served
 
 -- the list of the volume that an operation is on, and that of another
@@ -230,6 +274,8 @@ followed_here (Scratch v dsn) served unread = elim (eqb_tells v v) [
   | inl w ↦ ap (λ (b : Bool). cond b (others_of dsn.bytes unread) unread) w.0
   | inr w ↦ absurd (w.1 refl)
 ]
+followed_here (Extend v dsn) served unread = refl
+followed_here (Empty v dsn attr) served unread = refl
 followed_here _ served unread = absurd served
 
 followed_elsewhere : (op : Op) → IsServed op → (n : ℕ) → volume_number op ≢ n → (unread : List Unread) → followed op n unread ≡ unread
@@ -242,6 +288,8 @@ followed_elsewhere (Scratch v dsn) served n differs unread = elim (eqb_tells v n
   | inl w ↦ absurd (differs w.1)
   | inr w ↦ ap (λ (b : Bool). cond b (others_of dsn.bytes unread) unread) w.0
 ]
+followed_elsewhere (Extend v dsn) served n differs unread = refl
+followed_elsewhere (Empty v dsn attr) served n differs unread = refl
 followed_elsewhere _ served n differs unread = absurd served
 
 ok_shelf : {a b : Shelf} → ◌≡◌ {A = Result Shelf Refusal} (Ok a) (Ok b) → a ≡ b
@@ -256,7 +304,7 @@ lists_after op served shelf after done n unread lists = by (slice_get shelf.volu
     with_it w there (Err r) stepped is = absurd cc
     with_it w there (Ok changed) stepped is = subst (λ (s : Shelf). ListsUnread s n (followed op n unread)) (ok_shelf is) (λ name. elim (eqb_tells (volume_number op) n) [
       | inl e ↦
-          let here : Lists w unread = λ m. lists m ∙ ap (λ (k : ℕ). option_and_then broken_in (option_and_then (set_of m) (slice_get shelf.volumes k))) (sym e.1) ∙ ap (λ (o : Option Volume). option_and_then broken_in (option_and_then (set_of m) o)) there in
+          let here : ListsBroken w unread = λ m. lists m ∙ ap (λ (k : ℕ). option_and_then broken_in (option_and_then (set_of m) (slice_get shelf.volumes k))) (sym e.1) ∙ ap (λ (o : Option Volume). option_and_then broken_in (option_and_then (set_of m) o)) there in
           ap (λ (k : ℕ). track_in (followed op k unread) name) (sym e.1) ∙ ap (λ (us : List Unread). track_in us name) (followed_here op served unread)
           ∙ volume_after op served w changed stepped unread here name
           ∙ sym (ap (λ (k : ℕ). option_and_then broken_in (option_and_then (set_of name) (slice_get (set shelf.volumes (volume_number op) changed) k))) (sym e.1)

@@ -92,3 +92,22 @@ module _ {X : Type 0} (key : X → List ℕ) where
             ap (λ (t : Bool). cond t (Some (given x)) (find (has_key m) (map re_keyed xs))) (other_key (given x) m (λ same. not_new (sym (renames x) ∙ same)))
             ∙ rest ∙ sym (ap (λ (t : Bool). cond t (Some x) (find (has_key m) xs)) (no_other x old m is not_old))
         by false is rest = ap (λ (o : Option X). cond (has_key m x) (Some x) o) rest
+
+  -- what is changed under its key is found as before
+  module _ (n : List ℕ) (f : X → X) (keeps : (x : X) → key (f x) ≡ key x) where
+    abbrev pub changed_under : X → X
+    changed_under x = cond (has_key n x) (f x) x
+
+    pub found_changed : (m : List ℕ) (xs : List X) → find (has_key m) (map changed_under xs) ≡ option_map changed_under (find (has_key m) xs)
+    found_changed m [] = refl
+    found_changed m (x ∷ xs) = ap (λ (k : List ℕ). cond (bytes_eq k m) (Some (changed_under x)) (find (has_key m) (map changed_under xs))) (same_key (has_key n x))
+        ∙ ap (λ (o : Option X). cond (has_key m x) (Some (changed_under x)) o) (found_changed m xs)
+        ∙ by_test (has_key m x)
+      where
+        same_key : (b : Bool) → key (cond b (f x) x) ≡ key x
+        same_key true = keeps x
+        same_key false = refl
+
+        by_test : (b : Bool) → cond b (Some (changed_under x)) (option_map changed_under (find (has_key m) xs)) ≡ option_map changed_under (cond b (Some x) (find (has_key m) xs))
+        by_test true = refl
+        by_test false = refl

@@ -1,6 +1,6 @@
 -- What is known of the bodies on several packs, kept through the calls of a machine.
-use Rattle.std.proofs.Common.{◌≡◌, ◌<◌, ◌≤◌, ◌+◌, ⊎_elim, ℕ, zero, suc, Bool, true, false, List, get_or, length, set, Some, refl, sym, ap, subst, ◌∙◌, arith}
-use Rattle.std.specs.Prelude.{OnOk, Result, Ok, Err, is_ok, slice_get}
+use Rattle.std.proofs.Common.{◌≡◌, ◌<◌, ◌≤◌, ◌+◌, ⊎_elim, ℕ, zero, suc, Bool, true, false, List, get_or, length, set, Option, Some, refl, sym, ap, subst, ◌∙◌, arith}
+use Rattle.std.specs.Prelude.{OnOk, Result, Ok, Err, is_ok, option_and_then, slice_get}
 use Rattle.std.proofs.lemmas.Bool.{cases_eq}
 use Rattle.std.proofs.lemmas.List.{length-map}
 use Rattle.std.proofs.lemmas.Option.{slice_get-get_or}
@@ -16,15 +16,20 @@ use Rattle.vol_model.specs.Calls.{Applies, sound_after}
 use Rattle.vol_model.specs.declared.answers.StoreErr.{StoreErr}
 use Rattle.vol_model.specs.declared.answers.StoreErr.TheVariants as store
 use Rattle.vol_model.specs.declared.contents.Shelf.{Shelf}
+use Rattle.vol_model.specs.declared.contents.Volume.{Volume}
 use Rattle.vol_model.specs.declared.requests.Op.{Op}
+use Rattle.vol_model.specs.Shelf.{set_of}
+use Rattle.vol_model.specs.Writing.{set_on}
 use Rattle.vtoc_index.specs.declared.vol.Vol.{Vol}
+use Rattle.vtoc_sets.specs.Sets.{volume_in}
 use Rattle.shelf_machine.specs.Blocks.{IsOnImage}
 use Rattle.shelf_machine.specs.Machine.{AreIndexes, AreKept, shelf_or_none, shelf_under, units_of}
 use Rattle.shelf_machine.specs.Opening.{images_named, names_of}
 use Rattle.pack_spec.specs.Shelf.{shelf_of}
-use Rattle.shelf_machine.specs.Known.{AllFollow, AreFresh, AreHeld, Follows, HaveBuffers, IsServed, KnowsBodies, ListsUnread, buffers_of, followed_if}
+use Rattle.shelf_machine.specs.Known.{AllFollow, AreFresh, AreHeld, Follows, HaveBuffers, IsServed, KnowsBodies, ListsBroken, ListsUnread, buffers_of, followed_if}
 use Rattle.shelf_machine.specs.Reporting.{reported}
 use Rattle.shelf_machine.specs.declared.known.Known.{Known}
+use Rattle.shelf_machine.specs.Unread.{broken_in}
 use Rattle.shelf_machine.specs.declared.unread.Unread.{Unread}
 use Rattle.shelf_machine.proofs.Following.{lists_after}
 use Rattle.shelf_machine.proofs.Holding.{kept_mounted, volume_there}
@@ -159,6 +164,15 @@ on_image files attached vols known k v b indexes kept knows held at there = reco
   lists = knows k b there;
   held = held k v b at there;
 }
+
+-- the list of a pack has the sets of its image's volume that can't be read
+pub lists_held : (files : List File) (attached : List Attached) (vols : List Vol) (known : List Known) (k : ℕ) (v : Vol) (b : Known) → AreIndexes attached vols → AreKept files attached vols
+    → KnowsBodies (shelf_under (names_of attached (units_of vols)) files) known → slice_get vols k ≡ Some v → slice_get known k ≡ Some b
+    → ListsBroken (volume_in (image_named files (unit_of attached v.unit).name) v) b.unread.items
+unfolding set_on
+lists_held files attached vols known k v b indexes kept knows at there name =
+    knows k b there name
+    ∙ ap (λ (o : Option Volume). option_and_then broken_in (option_and_then (set_of name) o)) (volume_there files attached vols (kept_mounted files attached vols kept) indexes.serials k v at)
 
 -- ---- the repair
 

@@ -3,7 +3,7 @@ use Rattle.std.proofs.Common.{◌≡◌, ⊎_elim, ℕ, List, [], ◌∷◌, ◌
 use Rattle.std.specs.Prelude.{Bool, None, IsErrOf, IsTrue, Result, Ok, Err, slice_get}
 use Rattle.hall_core.specs.Facts.{Attached, Facts}
 use Rattle.stop_model.specs.Files.{AfterPrint, File, IsPrefixOf}
-use Rattle.stop_model.specs.Moments.{Elapses, IsDurable, Meaning, Same}
+use Rattle.stop_model.specs.Moments.{Elapses, Meaning, Same}
 use Rattle.stop_model.specs.Steps.{seen}
 use Rattle.stop_model.proofs.MomentLemmas.{CountsNow, counts_now_seen, elapses_none, elapses_seen, same_none}
 use Rattle.stop_model.proofs.StepLemmas.{elapses_print}
@@ -47,11 +47,11 @@ no_error other = absurd (let wrong = other in cc)
 no_memory : {A : Type 0} {P : Type 0} → IsErrOf {T = A} (Err mach.Print) mach.Memory → P
 no_memory other = absurd (let wrong = other in cc)
 
-module _ (f : List File → Shelf) {bytes : List ℕ} {m m' : Meaning (List File)} (tells : Bool) (durable : IsDurable m) where
+module _ (f : List File → Shelf) {bytes : List ℕ} {m m' : Meaning (List File)} (tells : Bool) (durable : (j : List File) → m.left j → f j ≡ f m.state) where
   -- what stops leave of a print
   print_moments : {T E : Type 0} {r : Result T E} → AfterPrint bytes m m' r
       → Elapses (seen f m) (seen f m') (λ shelf p. (shelf ≡ f m.state) × ((q : List ℕ) × IsPrefixOf q bytes × (IsTrue tells → p ≡ m.printed ++ q)))
-  print_moments print = elapses_seen f (elapses_print print (λ j q left prefix. (ap f (durable j left), (q, prefix, λ _. refl))))
+  print_moments print = elapses_seen f (elapses_print print (λ j q left prefix. (durable j left, (q, prefix, λ _. refl))))
 
   -- a print of the hall is one of the machine
   pub prints_done : {T E A : Type 0} (x : T) (y : A) → AfterPrint {E = E} bytes m m' (Ok x) → Prints tells bytes (seen f m) (seen f m') (Ok y)

@@ -56,6 +56,10 @@ name_roomed v v' others names = record {
   names = names;
 }
 
+-- and so has one that is as it was
+pub same_roomed : (v v' : Vol) → v' ≡ v → IsRoomed v v'
+same_roomed v v' same = subst (IsRoomed v) (sym same) (record { others = refl; free = refl; names = refl })
+
 -- the data sets of an index stand in the order of their names
 abbrev IsInOrder : Vol → Type 0
 IsInOrder v = AreByName (name_at v.slots.items) v.by_name.items

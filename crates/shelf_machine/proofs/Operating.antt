@@ -1,6 +1,6 @@
 -- An operation on one of several packs, by their shelf.
 use Rattle.std.proofs.Common.{◌≡◌, ◌≢◌, ⊎_elim, ℕ, zero, suc, Bool, true, false, List, [], ◌∷◌, ◌++◌, set, Option, Some, None, refl, sym, ap, subst, ◌∙◌, arith}
-use Rattle.std.specs.Prelude.{◌==◌, nat_lt, Result, Ok, Err, filter, if◌then◌else◌, not, slice_get, unwrap_or}
+use Rattle.std.specs.Prelude.{◌==◌, ◌+◌, length, nat_lt, Result, Ok, Err, filter, if◌then◌else◌, not, slice_get, unwrap_or}
 use Rattle.std.proofs.lemmas.Bool.{cases_eq}
 use Rattle.dadsm_ops.specs.Operations.{Operates}
 use Rattle.free_rebuild.specs.Repairs.{image_named}
@@ -12,19 +12,21 @@ use Rattle.stop_model.proofs.MomentLemmas.{CountsNow, durable_same}
 use Rattle.vol_model.specs.Calls.{sound_after}
 use Rattle.ebcdic_names.specs.declared.names.Dsn.{Dsn}
 use Rattle.vol_model.specs.Places.{tracks_in}
-use Rattle.vol_model.specs.Shelf.{allocate_on, has_name, has_set, if_room, is_catalog, is_partitioned, lacks_room, on_choice, on_found, refuse, rename_on, rename_refusal, renamed, scratch_on, set_of, step_on, unless_refused, volume_number, with_new}
+use Rattle.vol_model.specs.Shelf.{allocate_on, emptied, empty_on, empty_set, extend_on, extend_set, extended_by, has_name, has_set, if_readable, if_room, if_slots, is_catalog, is_partitioned, lacks_room, may_empty, on_choice, on_found, refuse, rename_on, rename_refusal, renamed, scratch_on, secondary_asked, secondary_choice, set_of, step_on, unless_refused, volume_number, with_extents, with_new, with_set}
 use Rattle.vol_model.specs.Slots.{slots_needed}
 use Rattle.vol_model.specs.Space.{choice}
 use Rattle.vol_model.specs.declared.contents.Attr.{Attr}
+use Rattle.vol_model.specs.declared.contents.Body.{Body}
+use Rattle.vol_model.specs.declared.contents.Body.TheVariants as bodies
 use Rattle.vol_model.specs.declared.contents.DataSet.{DataSet}
 use Rattle.vol_model.specs.declared.contents.Run.{Run}
 use Rattle.vol_model.specs.declared.answers.StoreErr.{StoreErr}
 use Rattle.vol_model.specs.declared.answers.StoreErr.TheVariants as store
 use Rattle.vol_model.specs.declared.contents.Volume.{Volume}
 use Rattle.vol_model.specs.declared.refusals.Refusal.{Refusal}
-use Rattle.vol_model.specs.declared.refusals.Refusal.TheVariants.{NoRoom, NoVolume, SetExists, VtocFull, WrongKind}
+use Rattle.vol_model.specs.declared.refusals.Refusal.TheVariants.{ExtentsFull, NoRoom, NoVolume, SetExists, VtocFull, WrongKind}
 use Rattle.vol_model.specs.declared.requests.Op.{Op}
-use Rattle.vol_model.specs.declared.requests.Op.TheVariants.{Allocate, Rename, Scratch}
+use Rattle.vol_model.specs.declared.requests.Op.TheVariants.{Allocate, Empty, Extend, Rename, Scratch}
 use Rattle.vol_model.specs.declared.requests.Request.{Request}
 use Rattle.vtoc_index.specs.Index.{IsOfUnit}
 use Rattle.vtoc_index.specs.Kept.{IsKept}
@@ -35,6 +37,7 @@ use Rattle.shelf_machine.specs.Machine.{AreIndexes, AreInOrder, AreKept, IsKeptS
 use Rattle.shelf_machine.specs.Opening.{AreApart, names_of}
 use Rattle.shelf_machine.specs.Operating.{IsSamePack, OperatesOnShelf}
 use Rattle.shelf_machine.specs.Reporting.{reported}
+use Rattle.shelf_machine.specs.Unread.{broken_at}
 use Rattle.shelf_machine.proofs.Holding.{has_volumes, held_stand, kept_mounted, serials_apart, volumes_held}
 use Rattle.shelf_machine.proofs.ListPlaces.{get_map, get_other, get_set, map_set_same, set_size}
 use Rattle.shelf_machine.proofs.Machines.{applies_memory, applies_nowhere, just_same, keeps_all}
@@ -224,3 +227,46 @@ allocate_keeps n dsn attr q dir w after is =
         let room : Bool = lacks_room w.geometry.device dsn.bytes dir (tracks_in runs) in
         let free = unrefused (nat_lt new.slots (slots_needed new)) (VtocFull (slots_needed new)) (refuse room NoRoom (Ok new)) after done in
         ap (λ (y : Volume). y.serial.bytes) (sym (ok_volume (unrefused room NoRoom (Ok new) after free)))
+
+-- what isn't refused for its body can be read
+pub read_through : (b : Body) (rest : Result Volume Refusal) (after : Volume) → if_readable b rest ≡ Ok after → (rest ≡ Ok after) × (broken_at b ≡ None)
+read_through (bodies.Seq blocks) rest after is = (is, refl)
+read_through (bodies.Part dir end entries blocks) rest after is = (is, refl)
+read_through bodies.Catalog rest after is = (is, refl)
+read_through bodies.Other rest after is = (is, refl)
+read_through (bodies.Unreadable track) rest after is = absurd cc
+
+pub empty_keeps : (n : ℕ) (dsn : Dsn) (attr : Attr) (w after : Volume) → step_on (Empty n dsn attr) w ≡ Ok after → after.serial.bytes ≡ w.serial.bytes
+unfolding step_on empty_on
+empty_keeps n dsn attr w after is = by_set (set_of dsn.bytes w) is
+  where
+    by_set : (o : Option DataSet) → on_found o (empty_set dsn attr w) ≡ Ok after → after.serial.bytes ≡ w.serial.bytes
+    by_set None done = absurd cc
+    by_set (Some x) done =
+        let read = unrefused (not (may_empty dsn.bytes x.attr x.body)) WrongKind (if_readable x.body (Ok (with_set w dsn.bytes (emptied attr)))) after done in
+        ap (λ (y : Volume). y.serial.bytes) (sym (ok_volume (read_through x.body (Ok (with_set w dsn.bytes (emptied attr))) after read).0))
+
+-- a volume after an extension has a set with more extents
+pub extend_is : (dsn : Dsn) (w after : Volume) → extend_on dsn w ≡ Ok after → (runs : List Run) × (with_set w dsn.bytes (with_extents runs) ≡ after)
+unfolding extend_on
+extend_is dsn w after is = by_set (set_of dsn.bytes w) is
+  where
+    by_runs : (x : DataSet) (runs : List Run) → extended_by dsn w x runs ≡ Ok after → with_set w dsn.bytes (with_extents runs) ≡ after
+    by_runs x runs done =
+        let new : Volume = with_set w dsn.bytes (with_extents runs) in
+        let few = unrefused (nat_lt 16 (length x.extents + length runs)) ExtentsFull (if_slots new) after done in
+        ok_volume (unrefused (nat_lt new.slots (slots_needed new)) (VtocFull (slots_needed new)) (Ok new) after few)
+
+    by_choice : (x : DataSet) (o : Option (List Run)) → on_choice (secondary_asked x.attr) o (extended_by dsn w x) ≡ Ok after → (runs : List Run) × (with_set w dsn.bytes (with_extents runs) ≡ after)
+    by_choice x None done = absurd cc
+    by_choice x (Some runs) done = (runs, by_runs x runs done)
+
+    by_set : (o : Option DataSet) → on_found o (extend_set dsn w) ≡ Ok after → (runs : List Run) × (with_set w dsn.bytes (with_extents runs) ≡ after)
+    by_set None done = absurd cc
+    by_set (Some x) done =
+        let step : Result Volume Refusal = on_choice (secondary_asked x.attr) (secondary_choice w x.attr) (extended_by dsn w x) in
+        by_choice x (secondary_choice w x.attr) (read_through x.body step after (unrefused (is_catalog dsn.bytes) WrongKind (if_readable x.body step) after done)).0
+
+pub extend_keeps : (n : ℕ) (dsn : Dsn) (w after : Volume) → step_on (Extend n dsn) w ≡ Ok after → after.serial.bytes ≡ w.serial.bytes
+unfolding step_on
+extend_keeps n dsn w after is = ap (λ (y : Volume). y.serial.bytes) (sym (extend_is dsn w after is).1)

@@ -4,17 +4,14 @@ use Rattle.std.specs.Prelude.{Result, position, slice_get, unwrap_or}
 use Rattle.std.specs.Str.{bytes_eq}
 use Rattle.std.proofs.lemmas.Bool.{cases_eq}
 use Rattle.std.proofs.lemmas.Slice.Eq.{bytes_eq-Decides}
-use Rattle.ckd_image.specs.declared.header.Geometry.{Geometry}
 use Rattle.dadsm_ops.specs.Operations.{IsLeftInOperation, Operates}
 use Rattle.free_rebuild.specs.Repairs.{image_named}
-use Rattle.stop_model.specs.Files.{File}
-use Rattle.stop_model.specs.Moments.{Meaning}
+use Rattle.stop_model.specs.Files.{File, file_of}
+use Rattle.stop_model.specs.Moments.{Elapses, Meaning}
 use Rattle.stop_model.proofs.MomentLemmas.{CountsNow}
-use Rattle.pack_spec.specs.Alike.{DifferInVtoc}
 use Rattle.pack_spec.specs.Settled.{IsGuarded, IsSettledVtoc}
 use Rattle.vol_model.specs.Calls.{Keeps}
 use Rattle.vol_model.specs.declared.answers.StoreErr.{StoreErr}
-use Rattle.vol_model.specs.declared.contents.Run.{Run}
 use Rattle.vol_model.specs.declared.contents.Volume.{Volume}
 use Rattle.vol_model.specs.declared.refusals.Refusal.{Refusal}
 use Rattle.vtoc_index.specs.declared.vol.Vol.{Vol}
@@ -25,14 +22,6 @@ use Rattle.shelf_machine.proofs.ListPlaces.{get_other, get_set, none_passes}
 -- a settled image is guarded
 pub settled_guarded : (image : List ℕ) → IsSettledVtoc image → IsGuarded image
 settled_guarded image settled = (settled.0, settled.1, inr settled.2.chain)
-
--- images that differ in a VTOC alone, one behind another
-pub differ_then : {g : Geometry} {vtoc : Run} {a b c : List ℕ} → DifferInVtoc g vtoc a b → DifferInVtoc g vtoc b c → DifferInVtoc g vtoc a c
-differ_then first second = record {
-  size = second.size ∙ first.size;
-  header = second.header ∙ first.header;
-  tracks = λ track out. second.tracks track out ∙ first.tracks track out;
-}
 
 -- a name that isn't found is none of these
 pub not_among : (names : List (List ℕ)) (k : ℕ) (name other : List ℕ) → slice_get names k ≡ Some name → position (bytes_eq other) names ≡ None → other ≢ name
@@ -50,29 +39,23 @@ one_text {a} {b} texts k first second = same (sym first ∙ second)
 
 module _ (names : List (List ℕ)) (vols : List Vol) (apart : AreApart names) (k : ℕ) (name : List ℕ) (at : slice_get names k ≡ Some name)
     (v v' : Vol) (there : slice_get vols k ≡ Some v) (geometry : v'.geometry ≡ v.geometry) (vtoc : v'.vtoc ≡ v.vtoc) where
-  -- an operation on a guarded image leaves safe images safe
-  pub safe_after : (volumes : List Volume) (files before after : List File) (volume : Volume) (stepped : Result Volume Refusal) → HavePlans vols volumes → AreSafe names volumes files before
-      → IsGuarded (image_named before name) → IsLeftInOperation name volume stepped v' before after → AreSafe names volumes files after
-  safe_after volumes files before after volume stepped plans safe guarded stop = record {
+  -- a call that leaves this image guarded, and the other files as they were, leaves safe images safe
+  pub safe_after : (volumes : List Volume) (files before after : List File) → AreSafe names volumes files before → IsGuarded (image_named after name) → ((other : List ℕ) → other ≢ name → file_of after other ≡ file_of before other) → AreSafe names volumes files after
+  safe_after volumes files before after safe guarded others = record {
     images = λ j other w here is. ⊎_elim (λ same. changed j other w here is same) (λ differs. stayed j other w here is differs) (cases_eq j k);
-    others = λ other none. stop.changes.others other (not_among names k name other at none) ∙ safe.others other none;
+    others = λ other none. others other (not_among names k name other at none) ∙ safe.others other none;
   }
     where
       changed : (j : ℕ) (other : List ℕ) (w : Volume) → slice_get names j ≡ Some other → slice_get volumes j ≡ Some w → j ≡ k → IsSafeImage w (image_named files other) (image_named after other)
       changed j other w here is same =
           let this : other ≡ name = one_text names k (ap (slice_get names) (sym same) ∙ here) at in
-          let plan = plans k v w there (ap (slice_get volumes) (sym same) ∙ is) in
-          let was : IsSafeImage w (image_named files name) (image_named before name) = subst (λ (n : List ℕ). IsSafeImage w (image_named files n) (image_named before n)) this (safe.images j other w here is) in
-          let differ : DifferInVtoc w.geometry w.vtoc (image_named before name) (image_named after name) =
-          subst (λ (g : Geometry). DifferInVtoc g w.vtoc (image_named before name) (image_named after name)) (geometry ∙ sym plan.0)
-          (subst (λ (r : Run). DifferInVtoc v'.geometry r (image_named before name) (image_named after name)) (vtoc ∙ sym plan.1) stop.changes.image) in
-          let now : IsSafeImage w (image_named files name) (image_named after name) = record { guarded = inl (stop.guarded guarded); tracks = differ_then was.tracks differ } in
+          let now : IsSafeImage w (image_named files name) (image_named after name) = record { guarded = inl guarded } in
           subst (λ (n : List ℕ). IsSafeImage w (image_named files n) (image_named after n)) (sym this) now
 
       stayed : (j : ℕ) (other : List ℕ) (w : Volume) → slice_get names j ≡ Some other → slice_get volumes j ≡ Some w → (j ≡ k → ⊥) → IsSafeImage w (image_named files other) (image_named after other)
       stayed j other w here is differs =
           let another : other ≢ name = λ same. differs (apart j k name (here ∙ ap (λ (n : List ℕ). Some n) same) at) in
-          let same : image_named after other ≡ image_named before other = ap (λ (o : Option (List ℕ)). unwrap_or o []) (stop.changes.others other another) in
+          let same : image_named after other ≡ image_named before other = ap (λ (o : Option (List ℕ)). unwrap_or o []) (others other another) in
           subst (λ (i : List ℕ). IsSafeImage w (image_named files other) i) (sym same) (safe.images j other w here is)
 
   -- volumes have the plans of the indexes still
@@ -88,14 +71,20 @@ module _ (names : List (List ℕ)) (vols : List Vol) (apart : AreApart names) (k
           let plan = plans k v w there (ap (slice_get volumes) (sym same) ∙ is) in
           (plan.0 ∙ sym geometry ∙ ap (λ (x : Vol). x.geometry) this, plan.1 ∙ sym vtoc ∙ ap (λ (x : Vol). x.vtoc) this)
 
-  -- so what was promised is promised after an operation
-  pub keeps_safe : {T : Type 0} {operation : Volume → Result Volume Refusal} {r : Result T StoreErr} (m m' : Meaning (List File)) → CountsNow m → m.left m.state → IsSettledVtoc (image_named m.state name)
-      → Operates name operation v' m m' r → Keeps m.clock (KeepsSafe names vols m) (KeepsSafe names (set vols k v') m')
-  keeps_safe m m' counts left settled run t files early was shelf is =
+  -- so what was promised is promised after such a call
+  pub keeps_safe_by : (P : List File → Type 0) (m m' : Meaning (List File)) → CountsNow m → m.left m.state → Elapses m m' (λ files p. P files × (p ≡ m.printed)) → ((files : List File) → P files → IsGuarded (image_named files name))
+      → ((files : List File) → P files → (other : List ℕ) → other ≢ name → file_of files other ≡ file_of m.state other) → Keeps m.clock (KeepsSafe names vols m) (KeepsSafe names (set vols k v') m')
+  keeps_safe_by P m m' counts left moments guarded others t files early was shelf is =
       let s = was shelf is in record {
         plans = plans_after shelf.volumes s.plans;
         stops = λ j p stop. ⊎_elim
             (λ before. s.stops j p before)
-            (λ now. safe_after shelf.volumes files m.state j run.does.volume _ s.plans (s.stops m.state m.printed (counts t m.state early left)) (settled_guarded (image_named m.state name) settled) now.0)
-            (run.does.moments.moments t j p early stop);
+            (λ now. safe_after shelf.volumes files m.state j (s.stops m.state m.printed (counts t m.state early left)) (guarded j now.0) (others j now.0))
+            (moments.moments t j p early stop);
       }
+
+  -- and so after an operation
+  pub keeps_safe : {T : Type 0} {operation : Volume → Result Volume Refusal} {r : Result T StoreErr} (m m' : Meaning (List File)) → CountsNow m → m.left m.state → IsSettledVtoc (image_named m.state name)
+      → Operates name operation v' m m' r → Keeps m.clock (KeepsSafe names vols m) (KeepsSafe names (set vols k v') m')
+  keeps_safe {operation = operation} m m' counts left settled run =
+      keeps_safe_by (IsLeftInOperation name run.does.volume (operation run.does.volume) v' m.state) m m' counts left run.does.moments (λ files stop. stop.guarded (settled_guarded (image_named m.state name) settled)) (λ files stop other apart. stop.changes.others other apart)

@@ -22,13 +22,13 @@ keeps_same {m = m} counts same t files early was shelf is =
       stops = λ j p stop. ⊎_elim (λ before. s.stops j p before) (λ now. s.stops j m.printed (counts t j early now.0)) ((same.time.since t j p early).0 stop);
     }
 
-pub idles_read : (attached attached' : List Attached) (numbers : List ℕ) → attached' ≡ attached → (vols : List Vol) (m m' : Meaning (List File)) → CountsNow m → Same m m' → {w : OpenWriter}
-    → Idles (seen (shelf_under (names_of attached numbers)) m) (seen (shelf_under (names_of attached' numbers)) m') w w
+pub idles_read : (attached attached' : List Attached) (numbers : List ℕ) → attached' ≡ attached → (vols : List Vol) (m m' : Meaning (List File)) → CountsNow m → Same m m' → {w w' : OpenWriter} → w' ≡ w
+    → Idles (seen (shelf_under (names_of attached numbers)) m) (seen (shelf_under (names_of attached' numbers)) m') w w'
     (ByFiles (KeepsSafe (names_of attached numbers) vols m)) (ByFiles (KeepsSafe (names_of attached' numbers) vols m')) (LeavesJust m) (LeavesJust m')
-idles_read attached attached' numbers units vols m m' counts same {w} =
-    subst (λ (us : List Attached). Idles (seen (shelf_under (names_of attached numbers)) m) (seen (shelf_under (names_of us numbers)) m') w w
+idles_read attached attached' numbers units vols m m' counts same {w} {w'} writer =
+    subst (λ (us : List Attached). Idles (seen (shelf_under (names_of attached numbers)) m) (seen (shelf_under (names_of us numbers)) m') w w'
     (ByFiles (KeepsSafe (names_of attached numbers) vols m)) (ByFiles (KeepsSafe (names_of us numbers) vols m')) (LeavesJust m) (LeavesJust m')) (sym units)
-    (record { same = same_seen _ same; writer = refl; promise_kept = by_files (keeps_same counts same); stays_kept = just_same counts same })
+    (record { same = same_seen _ same; writer = writer; promise_kept = by_files (keeps_same counts same); stays_kept = just_same counts same })
 
 pub read_call : {T E : Type 0} (device : E) (r : Result T E) (old new : Facts) (vols : List Vol) (writer : Option Writer) (done : ℕ) (sound sound' : Bool) → ReportedCall (IsErrOf r device) old new
     → (IsErrOf r device → sound' ≡ false) → (¬ IsErrOf r device → sound' ≡ true) → ReadCall device (status_with sound writer done old vols) (status_with sound' writer done new vols) r

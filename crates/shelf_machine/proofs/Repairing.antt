@@ -29,7 +29,7 @@ pub record Repaired (names : List (List ℕ)) (volumes : List Volume) (k : ℕ) 
 -- files as they are, are safe
 pub safe_same : (names : List (List ℕ)) (volumes : List Volume) (files : List File) → AreSafe names volumes files files
 safe_same names volumes files = record {
-  images = λ k name w at is. record { guarded = inr (λ track in_vtoc. refl); tracks = record { size = refl; header = refl; tracks = λ track out. refl } };
+  images = λ k name w at is. record { guarded = inr (λ track in_vtoc. refl) };
   others = λ other none. refl;
 }
 
@@ -63,7 +63,7 @@ module _ (names : List (List ℕ)) (volumes : List Volume) (apart : AreApart nam
       some_same same = cc
 
       now_safe : IsSafeImage w (image_named old.state name) (image_named files name)
-      now_safe = subst (λ (i : List ℕ). IsSafeImage w i (image_named files name)) was (record { guarded = stop.guarded; tracks = stop.tracks })
+      now_safe = subst (λ (i : List ℕ). IsSafeImage w i (image_named files name)) was (record { guarded = stop.guarded })
 
       changed : (j : ℕ) (other : List ℕ) (u : Volume) → slice_get names j ≡ Some other → slice_get volumes j ≡ Some u → j ≡ k → IsSafeImage u (image_named old.state other) (image_named files other)
       changed j other u there is same =

@@ -1,6 +1,6 @@
 -- What a machine answers, by what an operation on a pack answered.
 use Rattle.std.proofs.Common.{◌≡◌, ℕ, Bool, true, false, List, Option, refl, sym, ap, subst, ◌∙◌, arith}
-use Rattle.std.specs.Prelude.{◌&&◌, IsErrOf, Result, Ok, Err, is_some}
+use Rattle.std.specs.Prelude.{◌&&◌, IsErrOf, Result, Ok, Err}
 use Rattle.dadsm_ops.specs.Operations.{StoreCall}
 use Rattle.hall_core.specs.Facts.{Facts}
 use Rattle.stop_model.specs.Moments.{Meaning}
@@ -13,7 +13,7 @@ use Rattle.vol_model.specs.declared.contents.Shelf.{Shelf}
 use Rattle.vol_model.specs.declared.refusals.Refusal.{Refusal}
 use Rattle.vol_model.specs.declared.requests.Op.{Op}
 use Rattle.vtoc_index.specs.declared.vol.Vol.{Vol}
-use Rattle.shelf_machine.specs.Machine.{base_of, status_with}
+use Rattle.shelf_machine.specs.Machine.{base_of, is_open_in, status_with}
 use Rattle.shelf_machine.specs.Reporting.{Reports, reported}
 use Rattle.shelf_machine.specs.declared.writer.Writer.{Writer}
 
@@ -49,12 +49,12 @@ module _ {T : Type 0} {ran : Result T StoreErr} {result : Result T MachErr} {sou
   still_sound was is = ap sound_after (sym reports.answer) ∙ sym (sound_same was) ∙ is
 
   -- the calls of the operation are those of the machine
-  pub machine_call : (old new : Facts) (vols vols' : List Vol) (writer : Option Writer) → sound ≡ true → is_some writer ≡ false → base_of new vols' ≡ base_of old vols → StoreCall old new ran
-      → MachineCall false (status_with sound writer done old vols) (status_with sound' writer done' new vols') result
-  machine_call old new vols vols' writer was closed base call = record {
+  pub machine_call : (old new : Facts) (vols vols' : List Vol) (writer writer' : Option Writer) → sound ≡ true → (sound_after result ≡ true → is_open_in writer' ≡ false) → base_of new vols' ≡ base_of old vols → StoreCall old new ran
+      → MachineCall false (status_with sound writer done old vols) (status_with sound' writer' done' new vols') result
+  machine_call old new vols vols' writer writer' was closed base call = record {
     base = base;
     sound = sound_same was;
-    opened = λ _. closed;
+    opened = λ still. closed still;
     devices = call.later;
     prints = omega (arith, call.prints);
     device = λ is. call.device (device_of ran (sym reports.answer ∙ is));

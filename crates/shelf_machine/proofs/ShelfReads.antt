@@ -388,14 +388,14 @@ module _ (shelf : Shelf) (n : ℕ) (none : slice_get shelf.volumes n ≡ None) w
   begin_missing dsn mode = sym (ap (target_refusal (record { v = n; dsn = dsn; mode = mode })) none)
 
 -- a body that can't be read is refused
-refused_by : (b : Body) (t : ℕ) → kinds.Unreadable t ≡ kind_of b → Some (refusals.Unreadable t) ≡ unreadable b
+pub refused_by : (b : Body) (t : ℕ) → kinds.Unreadable t ≡ kind_of b → Some (refusals.Unreadable t) ≡ unreadable b
 refused_by (Seq blocks) t is = cc
 refused_by (Part dir end entries blocks) t is = cc
 refused_by Catalog t is = cc
 refused_by Other t is = cc
 refused_by (Unreadable track) t is = let same : t ≡ track = cc in ap (λ (n : ℕ). Some (refusals.Unreadable n)) same
 
-refused_not : (b : Body) → ((t : ℕ) → kind_of b ≢ kinds.Unreadable t) → None ≡ unreadable b
+pub refused_not : (b : Body) → ((t : ℕ) → kind_of b ≢ kinds.Unreadable t) → None ≡ unreadable b
 refused_not (Seq blocks) not = refl
 refused_not (Part dir end entries blocks) not = refl
 refused_not Catalog not = refl
@@ -413,7 +413,7 @@ module _ (shelf : Shelf) (n : ℕ) (v : Vol) (has : HasVolume shelf n v) (dsn : 
   begin_none set = sym (begin_by None set)
 
   module _ (f : F1) (set : IsSetOn has.image v (set_on shelf n dsn.bytes) (Some f)) where
-    begin_set : begin_refusal shelf (record { v = n; dsn = dsn; mode = mode }) ≡ cond (fits_mode mode f.name (attr_of f)) (unreadable (body_here has.image v f)) (Some refusals.WrongKind)
+    pub begin_set : begin_refusal shelf (record { v = n; dsn = dsn; mode = mode }) ≡ cond (fits_mode mode f.name (attr_of f)) (unreadable (body_here has.image v f)) (Some refusals.WrongKind)
     unfolding data_set_of
     begin_set = begin_by _ set.1 ∙ ap (λ (name : List ℕ). cond (fits_mode mode name (attr_of f)) (unreadable (body_here has.image v f)) (Some refusals.WrongKind)) (sym (named shelf n v has dsn.bytes f set))
 

@@ -77,23 +77,28 @@ module _ (names : List (List ℕ)) (volumes : List Volume) (m m' : Meaning (List
       ∙ ap (λ (o : Option Volume). on_volume shelf k (step_on op) o) here
       ∙ ap (with_volume shelf k) is
 
+  -- files of which this image alone may be another, which stands for the volume before the operation or after it
+  pub stands_after : (w after : Volume) → slice_get volumes k ≡ Some w → (files : List File) → ((other : List ℕ) → other ≢ name → file_of files other ≡ file_of m.state other) → step_on op w ≡ Ok after → volume_of (image_named files name) ≡ Ok after
+      → step (shelf_under names m.state) op ≡ Ok (shelf_under names files)
+  stands_after w after here files others is stands =
+      step_by w here (Ok after) is
+      ∙ ap (λ r. Ok (shelf_or_none r)) (sym (shelf_set names volumes m.state stand apart serials k name at files w after here (keeps w after is) others stands))
+
+  pub stands_before_or_after : (w : Volume) → slice_get volumes k ≡ Some w → (files : List File) → ((other : List ℕ) → other ≢ name → file_of files other ≡ file_of m.state other) → IsBeforeOrAfter w (step_on op w) (image_named files name)
+      → (shelf_under names files ≡ shelf_under names m.state) ⊎ (step (shelf_under names m.state) op ≡ Ok (shelf_under names files))
+  stands_before_or_after w here files others stands = ⊎_elim
+      (λ same. inl (ap shelf_or_none (shelf_same names volumes m.state stand apart serials k name at files w here others same) ∙ sym shelf_before))
+      (λ after. inr (stands_after w after.0 here files others after.1 after.2))
+      stands
+
   module _ {T : Type 0} (r : Result T StoreErr) (run : Operates name (step_on op) v m m' r) where
     here : slice_get volumes k ≡ Some run.does.volume
     here = volume_here names volumes m.state stand apart serials k name at run.does.volume run.does.before
 
-    -- the shelf at a stop, and behind the operation
+    -- the shelf at a stop
     shelf_at : (files : List File) → ChangesVtoc name v.geometry v.vtoc m.state files → IsBeforeOrAfter run.does.volume (step_on op run.does.volume) (image_named files name)
         → (shelf_under names files ≡ shelf_under names m.state) ⊎ (step (shelf_under names m.state) op ≡ Ok (shelf_under names files))
-    shelf_at files changes stands = ⊎_elim
-        (λ same. inl (ap shelf_or_none (shelf_same names volumes m.state stand apart serials k name at files run.does.volume here changes.others same) ∙ sym shelf_before))
-        (λ after. inr (shelf_after files after.0 changes after.1 after.2))
-        stands
-      where
-        shelf_after : (files : List File) (after : Volume) → ChangesVtoc name v.geometry v.vtoc m.state files → step_on op run.does.volume ≡ Ok after → volume_of (image_named files name) ≡ Ok after
-            → step (shelf_under names m.state) op ≡ Ok (shelf_under names files)
-        shelf_after files after changes is stands =
-            step_by run.does.volume here (Ok after) is
-            ∙ ap (λ r. Ok (shelf_or_none r)) (sym (shelf_set names volumes m.state stand apart serials k name at files run.does.volume after here (keeps run.does.volume after is) changes.others stands))
+    shelf_at files changes stands = stands_before_or_after run.does.volume here files changes.others stands
 
     -- where the step of the shelf is refused, nothing but the time changes
     idle : (why : Refusal) → step (shelf_under names m.state) op ≡ Err why → Same m m'

@@ -1,5 +1,5 @@
 -- What is known of the bodies on several packs, in this project's profile.
-use Rattle.std.specs.Prelude.{◌≡◌, ℕ, ◌==◌, Bool, true, false, List, map, slice_get, Some, option_and_then, if◌then◌else◌}
+use Rattle.std.specs.Prelude.{◌≡◌, ◌≢◌, ℕ, ◌==◌, Bool, true, false, List, map, slice_get, Some, option_and_then, if◌then◌else◌}
 use Rattle.ckd_image.specs.declared.header.Geometry.{Geometry}
 use Rattle.free_rebuild.specs.Repairs.{image_named}
 use Rattle.hall_core.specs.Facts.{Attached, unit_of}
@@ -7,13 +7,19 @@ use Rattle.seq_access.specs.Reading.{HoldsTrack}
 use Rattle.seq_access.specs.declared.read_buf.Reach.TheVariants.{Nothing}
 use Rattle.stop_model.specs.Files.{File}
 use Rattle.vol_model.specs.declared.contents.Shelf.{Shelf}
+use Rattle.vol_model.specs.declared.contents.Volume.{Volume}
 use Rattle.vol_model.specs.declared.requests.Op.{Op}
-use Rattle.vol_model.specs.declared.requests.Op.TheVariants.{Allocate, Rename, Scratch}
+use Rattle.vol_model.specs.declared.requests.Op.TheVariants.{Allocate, Empty, Extend, Rename, Scratch}
+use Rattle.vol_model.specs.Shelf.{set_of}
 use Rattle.vol_model.specs.Writing.{set_on}
 use Rattle.vtoc_index.specs.declared.vol.Vol.{Vol}
 use Rattle.shelf_machine.specs.Unread.{broken_in, others_of, renamed_in, track_in}
 use Rattle.shelf_machine.specs.declared.known.Known.{Known}
 use Rattle.shelf_machine.specs.declared.unread.Unread.{Unread}
+
+-- of a volume just those sequential data sets are listed whose bodies can't be read
+abbrev pub ListsBroken : Volume → List Unread → Type 0
+ListsBroken w unread = (name : List ℕ) → track_in unread name ≡ option_and_then broken_in (set_of name w)
 
 -- of the volume of this number just those sequential data sets are listed whose bodies can't be read
 abbrev pub ListsUnread : Shelf → ℕ → List Unread → Type 0
@@ -68,9 +74,19 @@ pub record AllFollow (op : Op) (is_done : Bool) (old new : List Known) : Type 0 
   pub each : (n : ℕ) (b : Known) → slice_get new n ≡ Some b
       → (a : Known) × (slice_get old n ≡ Some a) × Follows op is_done n a b
 
+-- No track is held any more of the pack of this number; the rest of what is known stays.
+pub record ForgetsOn (k : ℕ) (old new : List Known) : Type 0 where
+  pub buffers : buffers_of new ≡ buffers_of old
+  pub unread : (n : ℕ) (b : Known) → slice_get new n ≡ Some b
+      → (a : Known) × (slice_get old n ≡ Some a) × (b.unread.items ≡ a.unread.items)
+  pub others : (n : ℕ) → n ≢ k → slice_get new n ≡ slice_get old n
+  pub here : (b : Known) → slice_get new k ≡ Some b → b.buf.reach ≡ Nothing
+
 -- the operations that are done on packs yet
 abbrev pub IsServed : Op → Type 0
 IsServed (Allocate v dsn attr request dir) = Unit {0}
 IsServed (Rename v old new) = Unit {0}
+IsServed (Extend v dsn) = Unit {0}
 IsServed (Scratch v dsn) = Unit {0}
+IsServed (Empty v dsn attr) = Unit {0}
 IsServed _ = ⊥

@@ -1,7 +1,13 @@
 pub mod Opening
 pub mod Props
 pub mod Reads
+pub mod Pending
 pub mod Machine
+pub mod SparedShelves
+pub mod PendingShelves
+pub mod Putting
+pub mod Committing
+pub mod PutBlocks
 pub mod Lawful
 pub mod Packs
 pub mod Reporting
@@ -12,3 +18,4 @@ pub mod Unread
 pub mod Known
 pub mod Checking
 pub mod Blocks
+pub mod Refusals

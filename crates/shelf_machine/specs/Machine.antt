@@ -1,5 +1,5 @@
 -- The shelf that the machine over several images holds, and what it promises besides.
-use Rattle.std.specs.Prelude.{◌≡◌, ℕ, ◌≤◌, Bool, true, List, [], ◌∷◌, ◌++◌, length, map, replicate, slice_get, is_some, Option, Some, None, Result, Ok, Err}
+use Rattle.std.specs.Prelude.{◌≡◌, ℕ, ◌≤◌, Bool, true, false, List, [], ◌∷◌, ◌++◌, length, map, replicate, slice_get, Option, Some, None, Result, Ok, Err}
 use Rattle.ckd_image.specs.Device.{row_of}
 use Rattle.ckd_image.specs.declared.header.Geometry.{Geometry}
 use Rattle.hall_core.specs.Facts.{Attached, Facts, unit_of}
@@ -18,6 +18,7 @@ use Rattle.vtoc_index.specs.Kept.{IsKept}
 use Rattle.vtoc_index.specs.Names.{AreByName, name_at}
 use Rattle.shelf_machine.specs.Opening.{AreApart, AreSafe, images_named, names_of}
 use Rattle.free_rebuild.specs.Settled.{is_settled_vtoc}
+use Rattle.shelf_machine.specs.Pending.{puts_on}
 use Rattle.shelf_machine.specs.declared.writer.Writer.{Writer}
 
 -- the shelf, or one without volumes where there is none
@@ -55,14 +56,22 @@ texts_of (u ∷ us) = u.name ∷ (u.size ∷ []) ∷ texts_of us
 abbrev pub base_of : Facts → List Vol → List (List ℕ)
 base_of facts vols = facts.references ∷ units_of vols ∷ plans_of vols ++ texts_of facts.units
 
+-- whether a writer is there that wasn't abandoned
+abbrev pub is_open_in : Option Writer → Bool
+is_open_in (Some w) = w.is_open
+is_open_in None = false
+
 -- what a machine always tells, by whether it is sound, its writer, its count, its hall's facts and its indexes
 abbrev pub status_with : Bool → Option Writer → ℕ → Facts → List Vol → Status
-status_with is_sound writer done facts vols = record { is_sound = is_sound; is_open = is_some writer; done = done; base = base_of facts vols; dev_faults = facts.dev_faults; print_faults = facts.print_faults }
+status_with is_sound writer done facts vols = record { is_sound = is_sound; is_open = is_open_in writer; done = done; base = base_of facts vols; dev_faults = facts.dev_faults; print_faults = facts.print_faults }
 
--- the open writer, to which nothing was put; where none is open, some writer
-abbrev pub writer_in : Option Writer → OpenWriter
-writer_in (Some w) = begun (record { v = w.v; dsn = w.dsn; mode = w.mode })
-writer_in None = begun (record { v = 0; dsn = record { bytes = replicate 44 0x40 }; mode = Fill })
+-- the writer and what it put, by the image of its pack; where none is open, some writer
+abbrev pub writer_in : List File → List Attached → List Vol → Option Writer → OpenWriter
+writer_in files attached vols (Some w) = record {
+  target = record { v = w.v; dsn = w.dsn; mode = w.mode };
+  puts = puts_on files attached vols w;
+}
+writer_in files attached vols None = begun (record { v = 0; dsn = record { bytes = replicate 44 0x40 }; mode = Fill })
 
 -- The indexes are those of attached units, whose names differ, as do the serials; there are at most 255.
 pub record AreIndexes (attached : List Attached) (vols : List Vol) : Type 0 where

@@ -62,7 +62,7 @@ pub record OpenCall {X : Type 0} {g : Ghosts X} (old : Facts) (result : Result (
   pub device : IsWhy Device result → Rose old.dev_faults (g.facts (hall_left result)).dev_faults
   pub others : ¬ IsWhy Device result → (g.facts (hall_left result)).dev_faults ≡ old.dev_faults
 
--- What a sound machine leaves of its images where it is closed: they are settled as far as their VTOCs go, durably.
+-- What a sound machine leaves of its images where it is closed: they are settled as far as their VTOCs go, and every stop leaves images of the shelf that it held.
 pub record LeavesSettled {X : Type 0} {g : Ghosts X} (machine : HallShelf X g) (names : List (List ℕ)) : Type 0 where
   pub settled : AreSettledVtocs names (g.meaning (hall_of machine)).state
-  pub durable : IsDurable (g.meaning (hall_of machine))
+  pub durable : IsDurable (meaning_of machine)

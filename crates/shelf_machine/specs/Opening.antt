@@ -5,7 +5,6 @@ use Rattle.std.specs.Str.{bytes_eq}
 use Rattle.hall_core.specs.Facts.{Attached, unit_of}
 use Rattle.stop_model.specs.Files.{File, file_of}
 use Rattle.stop_model.specs.Moments.{Meaning, Elapses, Same}
-use Rattle.pack_spec.specs.Alike.{DifferInVtoc}
 use Rattle.pack_spec.specs.Settled.{IsGuarded, IsSettledVtoc}
 use Rattle.pack_spec.specs.Shelf.{UnitRefusal, shelf_of}
 use Rattle.vol_model.specs.declared.contents.Shelf.{Shelf}
@@ -32,10 +31,9 @@ pub record AreUnits (files : List Attached) (units : List ℕ) : Type 0 where
   pub few : length units ≤ 255
   pub apart : AreApart (names_of files units)
 
--- Of an image that stood for a volume: it is guarded, or its VTOC has the bytes that it had; the tracks outside the VTOC are as before.
+-- Of an image that stood for a volume: it is guarded, or its VTOC has the bytes that it had.
 pub record IsSafeImage (volume : Volume) (before after : List ℕ) : Type 0 where
   pub guarded : IsGuarded after ⊎ HaveSameVtoc volume before after
-  pub tracks : DifferInVtoc volume.geometry volume.vtoc before after
 
 -- Files in which each of these images is so, and that are otherwise as before.
 pub record AreSafe (names : List (List ℕ)) (volumes : List Volume)

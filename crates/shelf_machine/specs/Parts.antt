@@ -1,5 +1,5 @@
 -- What a machine over several packs is made of, and what it means, tells and promises by that.
-use Rattle.std.specs.Prelude.{Bool, ℕ, List, is_some}
+use Rattle.std.specs.Prelude.{Bool, ℕ, List}
 use Rattle.hall_core.specs.declared.hall.Hall.{Ghosts}
 use Rattle.stop_model.specs.Files.{File}
 use Rattle.stop_model.specs.Moments.{Meaning}
@@ -9,7 +9,7 @@ use Rattle.vol_model.specs.Writing.{OpenWriter}
 use Rattle.vol_model.specs.declared.contents.Shelf.{Shelf}
 use Rattle.vtoc_index.specs.declared.vol.Vol.{Vol}
 use Rattle.shelf_machine.specs.Opening.{names_of}
-use Rattle.shelf_machine.specs.Machine.{ByFiles, KeepsSafe, LeavesJust, shelf_under, status_with, units_of, writer_in}
+use Rattle.shelf_machine.specs.Machine.{ByFiles, KeepsSafe, LeavesJust, is_open_in, shelf_under, status_with, units_of, writer_in}
 use Rattle.shelf_machine.specs.declared.machine.HallShelf.{HallShelf}
 
 -- the hall that it is on
@@ -26,7 +26,7 @@ is_sound machine = machine.is_sound
 
 -- whether a writer is open
 abbrev pub is_open : {X : Type 0} {g : Ghosts X} → HallShelf X g → Bool
-is_open machine = is_some machine.writer
+is_open machine = is_open_in machine.writer
 
 -- the units that hold its packs
 abbrev pub units_in : {X : Type 0} {g : Ghosts X} → HallShelf X g → List ℕ
@@ -46,7 +46,7 @@ status_of {g = g} machine = status_with machine.is_sound machine.writer machine.
 
 -- its writer
 abbrev pub writer_of : {X : Type 0} {g : Ghosts X} → HallShelf X g → OpenWriter
-writer_of machine = writer_in machine.writer
+writer_of {g = g} machine = writer_in (g.meaning machine.hall).state (g.facts machine.hall).units machine.vols.items machine.writer
 
 -- since that moment every stop leaves images that are safe
 abbrev pub PromisesSafety : {X : Type 0} {g : Ghosts X} → HallShelf X g → ℕ → Known → Type 0

@@ -1,5 +1,5 @@
--- That runs lie apart and end by a track has one proof, for a ghost field.
-use Rattle.std.specs.Prelude.{ℕ, ◌+◌, List, [], ◌∷◌}
+-- That runs lie apart and end by a track has one proof, for a ghost field, and so has what is pending.
+use Rattle.std.specs.Prelude.{ℕ, ◌+◌, List, [], ◌∷◌, Option, Some, None}
 use Rattle.std.proofs.Props.{props}
 use Rattle.vol_model.specs.declared.contents.Run.{Run}
 use Rattle.vol_model.specs.Space.{AreApartFrom, EndBy}
@@ -7,7 +7,13 @@ use Rattle.vtoc_index.specs.Kept.{kept_props}
 use Rattle.seq_access.specs.Reading.{AreRead}
 use Rattle.seq_access.specs.declared.read_buf.Reach.{Reach}
 use Rattle.seq_access.specs.declared.read_buf.Reach.TheVariants as reaches
+use Rattle.hall_core.specs.Facts.{Attached}
+use Rattle.stop_model.specs.Files.{File}
+use Rattle.stop_model.specs.Moments.{Meaning}
 use Rattle.track_records.specs.Buffers.{Buffer}
+use Rattle.vtoc_index.specs.declared.vol.Vol.{Vol}
+use Rattle.shelf_machine.specs.Pending.{HasSlot, IsPendingBy}
+use Rattle.shelf_machine.specs.declared.writer.Writer.{Writer}
 
 pub AreApartFrom-prop : (low : ℕ) (rs : List Run) → IsProp (AreApartFrom low rs)
 AreApartFrom-prop low [] = Prim.hlevel props
@@ -23,4 +29,14 @@ AreRead-prop image reaches.Nothing b = Prim.hlevel props
 AreRead-prop image (reaches.UpTo r) b = Prim.hlevel props
 AreRead-prop image reaches.Whole b = Prim.hlevel props
 
-pub ruleset shelf_props = (AreApartFrom-prop, EndBy-prop, AreRead-prop, kept_props)
+-- what is pending, by the writer
+pub IsPendingBy-prop : (m : Meaning (List File)) (attached : List Attached) (vols : List Vol) (w : Option Writer)
+    → IsProp (IsPendingBy m attached vols w)
+IsPendingBy-prop m attached vols None = Prim.hlevel props
+IsPendingBy-prop m attached vols (Some w) = Prim.hlevel props
+
+pub HasSlot-prop : (vols : List Vol) (w : Option Writer) → IsProp (HasSlot vols w)
+HasSlot-prop vols None = Prim.hlevel props
+HasSlot-prop vols (Some w) = Prim.hlevel props
+
+pub ruleset shelf_props = (AreApartFrom-prop, EndBy-prop, AreRead-prop, IsPendingBy-prop, HasSlot-prop, kept_props)

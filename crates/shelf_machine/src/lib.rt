@@ -3,17 +3,21 @@
 
 mod blocks;
 mod checking;
+mod committing;
 mod known;
 mod machine;
 mod open_err;
 mod opening;
 mod operations;
+mod puts;
 mod reads;
+mod refusals;
 mod reporting;
 mod space;
 mod stopped;
 mod unread;
 mod writer;
+mod writing;
 
 pub use checking::unread_sets;
 pub use machine::HallShelf;

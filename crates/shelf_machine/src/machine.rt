@@ -1,18 +1,21 @@
 //! The machine over the images of several packs.
 ghost use Rattle.std.specs.Prelude.{◌≡◌, true, false, IsTrue, refl};
 ghost use Rattle.stop_model.specs.Moments.{IsDurable};
-ghost use Rattle.stop_model.proofs.MomentLemmas.{durable_seen, counts_now_seen, only_now_seen};
+ghost use Rattle.stop_model.proofs.MomentLemmas.{counts_now_seen, only_now_seen};
 ghost use Rattle.shelf_machine.specs.Props.{shelf_props};
 ghost use Rattle.shelf_machine.specs.Known.{AreHeld, HaveBuffers, KnowsBodies};
 ghost use Rattle.shelf_machine.specs.Machine.{AreInOrder, AreIndexes, AreKept, shelf_under, units_of};
 ghost use Rattle.shelf_machine.specs.Opening.{names_of};
+ghost use Rattle.shelf_machine.specs.Pending.{HasSlot, IsPendingBy};
 
+use crate::committing::{commit_on, from_device};
 use crate::known::{Known, follow};
 use crate::open_err::OpenErr;
 use crate::opening::open_packs;
-use crate::operations::operate;
-use crate::reporting::{fault, is_sound_block, is_sound_into, report};
+use crate::puts::put_block;
+use crate::reporting::{fault, is_sound_block, is_sound_into, is_sound_put, report};
 use crate::writer::Writer;
+use crate::writing::{abandoned, open_writer, operate_settled};
 use crate::{blocks, reads};
 use ebcdic_names::{Dsn, Name8};
 use hall_core::Hall;
@@ -25,9 +28,9 @@ use vtoc_index::Vol;
 
 /// The machine over the images of packs on 1 to 255 units; its volumes have the order of the units, from number 0.
 ///
-/// It is sound as long as no call of its hall failed. Of the operations it does `Rename` and `Scratch`, and `Allocate`
-/// without a directory, of any name but SYSCTLG, where the secondary quantity is below 2^24; for every other, and for a
-/// writer, it wants memory.
+/// It is sound as long as no call of its hall failed. Of the operations it does `Extend`, `Rename`, `Scratch` and
+/// `Empty`, and `Allocate` without a directory, of any name but SYSCTLG, where the secondary quantity is below 2^24; for
+/// every other, and for a writer of an area, it wants memory.
 #[derive(Drop)]
 pub struct HallShelf<H: Hall> {
     hall: H,
@@ -41,7 +44,9 @@ pub struct HallShelf<H: Hall> {
     pub ghost order: { is_sound ≡ true → AreInOrder vols.items } by { Prim.hlevel shelf_props },
     pub ghost kept: { is_sound ≡ true → IsTrue H.tells
         → AreKept (H.meaning hall).state (H.facts hall).units vols.items } by { Prim.hlevel shelf_props },
-    pub ghost durable: { is_sound ≡ true → IsTrue H.tells → IsDurable (H.meaning hall) },
+    pub ghost slot: { is_sound ≡ true → HasSlot vols.items writer } by { Prim.hlevel shelf_props },
+    pub ghost pending: { is_sound ≡ true → IsTrue H.tells → IsPendingBy (H.meaning hall)
+        (H.facts hall).units vols.items writer } by { Prim.hlevel shelf_props },
     pub ghost buffers: { HaveBuffers vols.items known.items } by { Prim.hlevel shelf_props },
     pub ghost bodies: { is_sound ≡ true → IsTrue H.tells → KnowsBodies
         (shelf_under (names_of (H.facts hall).units (units_of vols.items)) (H.meaning hall).state)
@@ -96,7 +101,8 @@ impl<H: Hall> HallShelf<H> {
         }
     }
 
-    /// The hall, as it is: nothing is called. Behind a sound machine its packs are settled, and no write is pending.
+    /// The hall, as it is: nothing is called. Behind a sound machine its packs are settled; no write is pending but those
+    /// of a writer that wasn't committed, and every stop leaves the shelf.
     pub fn close(self) -> H
         ensures hall { result ≡ hall_of self }
         ensures settled { IsTrue (is_sound self) → IsTrue H.tells
@@ -109,6 +115,7 @@ impl<H: Hall> HallShelf<H> {
 impl<H: Hall> Machine for HallShelf<H> {
     ghost use Rattle.shelf_machine.specs.Parts.{PromisesFiles, PromisesSafety, meaning_of, pack_names, status_of, writer_of};
     ghost use Rattle.shelf_machine.specs.Lawful.{lawful_under};
+    ghost use Rattle.shelf_machine.specs.PendingShelves.{pending_durable};
 
     ghost tells = { H.tells };
 
@@ -128,7 +135,7 @@ impl<H: Hall> Machine for HallShelf<H> {
 
     ghost lawful = { λ m told sound. lawful_under (H.meaning m.hall).state (H.facts m.hall).units m.vols.items m.indexes.few };
 
-    ghost durable = { λ m told sound. durable_seen (shelf_under (pack_names m)) (H.meaning m.hall) (m.durable sound told) };
+    ghost durable = { λ m told sound. pending_durable (H.meaning m.hall) (H.facts m.hall).units m.vols.items m.writer (m.kept sound told) (m.slot sound) (m.pending sound told) };
 
     ghost leaves_state = { λ m told. ((H.meaning m.hall).state, H.leaves_state m.hall, refl) };
 
@@ -209,28 +216,62 @@ impl<H: Hall> Machine for HallShelf<H> {
     }
 
     fn apply(&mut self, op: &Op) -> Result<(), MachErr> {
-        let ran = operate(self.alloc, &mut self.hall, &mut self.vols, op);
+        let hall = &mut self.hall;
+        let ran = operate_settled(
+            self.alloc,
+            hall,
+            &mut self.vols,
+            &self.known,
+            &mut self.writer,
+            op,
+        );
         follow(&mut self.known, op, ran.is_ok());
         report(&mut self.is_sound, &mut self.done, ran)
     }
 
     fn begin(&mut self, v: u8, dsn: &Dsn, mode: Mode) -> Result<(), MachErr> {
-        match reads::write_refusal(&self.vols, &self.known, v, dsn, mode) {
-            Some(refusal) => Err(MachErr::Refused(refusal)),
-            None => Err(MachErr::Memory),
+        if let Some(refusal) = reads::write_refusal(&self.vols, &self.known, v, dsn, mode) {
+            return Err(MachErr::Refused(refusal));
+        }
+        let Mode::Fill = mode else {
+            return Err(MachErr::Memory);
+        };
+        match open_writer(&mut self.hall, &self.vols, &mut self.writer, v, dsn) {
+            Ok(true) => Ok(()),
+            Ok(false) => Err(MachErr::Memory),
+            Err(_) => Err(fault(&mut self.is_sound, MachErr::Device)),
         }
     }
 
-    fn put(&mut self, _key: &[u8], _payload: &[u8]) -> Result<Place, MachErr> {
-        Err(MachErr::Memory)
+    fn put(&mut self, key: &[u8], payload: &[u8]) -> Result<Place, MachErr> {
+        let Some(mut writer) = self.writer else {
+            unreachable!()
+        };
+        let put = put_block(
+            &mut self.hall,
+            &mut self.vols,
+            &mut self.known,
+            &mut writer,
+            &mut self.done,
+            key,
+            payload,
+        );
+        self.writer = Some(writer);
+        self.is_sound = is_sound_put(&put);
+        put
     }
 
     fn commit(&mut self) -> Result<(), MachErr> {
-        Err(MachErr::Memory)
+        let Some(writer) = self.writer else {
+            unreachable!();
+        };
+        let ran = commit_on(&mut self.hall, &mut self.vols, &mut self.known, writer);
+        self.writer = None;
+        report(&mut self.is_sound, &mut self.done, from_device(ran))
     }
 
     fn abandon(&mut self) {
-        self.writer = None;
+        self.writer = abandoned(self.writer);
     }
 
     fn print(&mut self, bytes: &[u8]) -> Result<(), MachErr> {

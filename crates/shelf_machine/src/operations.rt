@@ -1,21 +1,25 @@
 //! Operations on the packs of a shelf.
-ghost use Rattle.std.specs.Prelude.{◌≡◌, true, IsErrOf, IsTrue, OnOk};
+ghost use Rattle.std.specs.Prelude.{◌≡◌, true, slice_get, IsErrOf, IsTrue, OnOk, Some};
 ghost use Rattle.hall_core.specs.Facts.{unit_of};
 ghost use Rattle.hall_core.specs.Images.{image_in};
-ghost use Rattle.vol_model.specs.Shelf.{scratch_on};
+ghost use Rattle.vol_model.specs.Shelf.{empty_on, extend_on, scratch_on};
 ghost use Rattle.vol_model.specs.declared.refusals.Refusal.{Refusal};
 ghost use Rattle.vtoc_index.specs.Index.{IsMounted, IsOfUnit};
 ghost use Rattle.vtoc_index.specs.Names.{AreByName, name_at};
+ghost use Rattle.pack_spec.specs.Settled.{IsSettledVtoc};
 ghost use Rattle.stop_model.specs.Moments.{IsDurable};
-ghost use Rattle.vol_model.specs.Calls.{sound_after};
+ghost use Rattle.vol_model.specs.Calls.{IsUndone, sound_after};
 ghost use Rattle.dadsm_ops.specs.Operations.{Operates, StoreCall};
-ghost use Rattle.shelf_machine.specs.Known.{IsServed, geometries_of};
-ghost use Rattle.shelf_machine.specs.Machine.{AreIndexes, AreInOrder, AreKept, base_of, units_of};
+ghost use Rattle.vtoc_sets.specs.Sets.{volume_in};
+ghost use Rattle.shelf_machine.specs.Known.{HaveBuffers, IsServed, KnowsBodies, ListsBroken, geometries_of};
+ghost use Rattle.shelf_machine.specs.Machine.{AreIndexes, AreInOrder, AreKept, base_of, shelf_under, units_of};
 ghost use Rattle.shelf_machine.specs.Opening.{names_of};
 ghost use Rattle.shelf_machine.specs.Operating.{CanBeMade, IsRoomed, IsSamePack, OperatesOnShelf};
 ghost use Rattle.shelf_machine.specs.Reporting.{reported};
 
-use dadsm_ops::{allocate, rename, scratch};
+use crate::known::Known;
+use crate::refusals::{slot_to_empty, slot_to_extend};
+use dadsm_ops::{allocate, empty, extend, rename, scratch};
 use ebcdic_names::Dsn;
 use hall_core::{Device, Hall};
 use pack_spec::layout::MOST_EXTENTS;
@@ -31,6 +35,7 @@ pub(crate) fn operate<H: Hall>(
     alloc: Global,
     hall: &mut H,
     vols: &mut Vec<Vol>,
+    known: &Vec<Known>,
     op: &Op,
 ) -> Result<(), StoreErr>
     requires indexes { AreIndexes (H.facts hall.old).units vols.old.items }
@@ -38,6 +43,10 @@ pub(crate) fn operate<H: Hall>(
     requires kept { IsTrue H.tells
         → AreKept (H.meaning hall.old).state (H.facts hall.old).units vols.old.items }
     requires durable { IsTrue H.tells → IsDurable (H.meaning hall.old) }
+    requires buffers { HaveBuffers vols.old.items known.now.items }
+    requires bodies { IsTrue H.tells → KnowsBodies
+        (shelf_under (names_of (H.facts hall.old).units (units_of vols.old.items)) (H.meaning hall.old).state)
+        known.now.items }
     ensures shelf { let names = names_of (H.facts hall.old).units (units_of vols.old.items) in
         let names' = names_of (H.facts hall.new).units (units_of vols.new.items) in
         IsTrue H.tells → OperatesOnShelf op.now names names' (H.facts hall.new).units
@@ -60,6 +69,8 @@ pub(crate) fn operate<H: Hall>(
         } => allocate_on(alloc, hall, vols, *v, dsn, attr, request, *dir),
         Op::Rename { v, old, new } => rename_on(hall, vols, *v, old, new),
         Op::Scratch { v, dsn } => scratch_on(hall, vols, *v, dsn),
+        Op::Extend { v, dsn } => extend_on(hall, vols, known, *v, dsn),
+        Op::Empty { v, dsn, attr } => empty_on(hall, vols, known, *v, dsn, attr),
         _ => Err(StoreErr::Memory),
     }
 }
@@ -192,5 +203,148 @@ fn scratch_set<H: Hall>(hall: &mut H, vol: &mut Vol, dsn: &Dsn) -> Result<(), St
     match scratch(hall, vol, slot) {
         Ok(()) => Ok(()),
         Err(Device) => Err(StoreErr::Device),
+    }
+}
+
+// Empties a data set of the pack of this number.
+fn empty_on<H: Hall>(
+    hall: &mut H,
+    vols: &mut Vec<Vol>,
+    known: &Vec<Known>,
+    v: u8,
+    dsn: &Dsn,
+    attr: &Attr,
+) -> Result<(), StoreErr>
+    requires indexes { AreIndexes (H.facts hall.old).units vols.old.items }
+    requires order { AreInOrder vols.old.items }
+    requires kept { IsTrue H.tells
+        → AreKept (H.meaning hall.old).state (H.facts hall.old).units vols.old.items }
+    requires durable { IsTrue H.tells → IsDurable (H.meaning hall.old) }
+    requires buffers { HaveBuffers vols.old.items known.now.items }
+    requires bodies { IsTrue H.tells → KnowsBodies
+        (shelf_under (names_of (H.facts hall.old).units (units_of vols.old.items)) (H.meaning hall.old).state)
+        known.now.items }
+    ensures shelf { let names = names_of (H.facts hall.old).units (units_of vols.old.items) in
+        let names' = names_of (H.facts hall.new).units (units_of vols.new.items) in
+        IsTrue H.tells → OperatesOnShelf (Op.Empty v dsn.now attr.now) names names'
+        (H.facts hall.new).units vols.old.items vols.new.items (H.meaning hall.old)
+        (H.meaning hall.new) result }
+    ensures indexes { AreIndexes (H.facts hall.new).units vols.new.items }
+    ensures order { sound_after (reported result) ≡ true → AreInOrder vols.new.items }
+    ensures base { base_of (H.facts hall.new) vols.new.items
+        ≡ base_of (H.facts hall.old) vols.old.items }
+    ensures geometries { geometries_of vols.new.items ≡ geometries_of vols.old.items }
+    ensures faults { StoreCall (H.facts hall.old) (H.facts hall.new) result }
+{
+    let k = usize::from(v);
+    if k >= vols.len() {
+        return Err(StoreErr::Refused(Refusal::NoVolume));
+    }
+    empty_set(hall, &mut vols[k], &known[k], dsn, attr)
+}
+
+// Empties a data set of a volume. An unreadable one is refused: by that which is known of the bodies.
+fn empty_set<H: Hall>(
+    hall: &mut H,
+    vol: &mut Vol,
+    known: &Known,
+    dsn: &Dsn,
+    attr: &Attr,
+) -> Result<(), StoreErr>
+    requires unit { IsOfUnit (H.facts hall.old).units vol.old }
+    requires names { AreByName (name_at vol.old.slots.items) vol.old.by_name.items }
+    requires mounted { let image = image_in (H.meaning hall.old) (H.facts hall.old) vol.old.unit in
+        IsTrue H.tells → IsMounted image vol.old }
+    requires bodies { let image = image_in (H.meaning hall.old) (H.facts hall.old) vol.old.unit in
+        IsTrue H.tells → ListsBroken (volume_in image vol.old) known.now.unread.items }
+    requires durable { IsTrue H.tells → IsDurable (H.meaning hall.old) }
+    ensures files { IsTrue H.tells → Operates (unit_of (H.facts hall.old).units vol.old.unit).name
+        (empty_on dsn.now attr.now) vol.new (H.meaning hall.old) (H.meaning hall.new) result }
+    ensures unit { IsOfUnit (H.facts hall.new).units vol.new }
+    ensures names { OnOk result (AreByName (name_at vol.new.slots.items) vol.new.by_name.items) }
+    ensures index { IsSamePack vol.old vol.new }
+    ensures refused { (r : Refusal) → IsErrOf result (StoreErr.Refused r) → vol.new ≡ vol.old }
+    ensures memory { IsErrOf result StoreErr.Memory → IsRoomed vol.old vol.new }
+    ensures faults { StoreCall (H.facts hall.old) (H.facts hall.new) result }
+{
+    let slot = match slot_to_empty(vol, known, dsn) {
+        Ok(slot) => slot,
+        Err(refusal) => return Err(StoreErr::Refused(refusal)),
+    };
+    match empty(hall, vol, slot, attr) {
+        Ok(()) => Ok(()),
+        Err(Device) => Err(StoreErr::Device),
+    }
+}
+
+// More extents for a data set of the pack of this number.
+pub(crate) fn extend_on<H: Hall>(
+    hall: &mut H,
+    vols: &mut Vec<Vol>,
+    known: &Vec<Known>,
+    v: u8,
+    dsn: &Dsn,
+) -> Result<(), StoreErr>
+    requires indexes { AreIndexes (H.facts hall.old).units vols.old.items }
+    requires order { AreInOrder vols.old.items }
+    requires kept { IsTrue H.tells
+        → AreKept (H.meaning hall.old).state (H.facts hall.old).units vols.old.items }
+    requires durable { IsTrue H.tells → IsDurable (H.meaning hall.old) }
+    requires buffers { HaveBuffers vols.old.items known.now.items }
+    requires bodies { IsTrue H.tells → KnowsBodies
+        (shelf_under (names_of (H.facts hall.old).units (units_of vols.old.items)) (H.meaning hall.old).state)
+        known.now.items }
+    ensures shelf { let names = names_of (H.facts hall.old).units (units_of vols.old.items) in
+        let names' = names_of (H.facts hall.new).units (units_of vols.new.items) in
+        IsTrue H.tells → OperatesOnShelf (Op.Extend v dsn.now) names names'
+        (H.facts hall.new).units vols.old.items vols.new.items (H.meaning hall.old)
+        (H.meaning hall.new) result }
+    ensures indexes { AreIndexes (H.facts hall.new).units vols.new.items }
+    ensures order { sound_after (reported result) ≡ true → AreInOrder vols.new.items }
+    ensures pack { (vol vol' : Vol) → slice_get vols.old.items v ≡ Some vol
+        → slice_get vols.new.items v ≡ Some vol' → IsSamePack vol vol'
+        × (IsUndone (reported result) → IsRoomed vol vol')
+        × (IsTrue H.tells → Operates (unit_of (H.facts hall.old).units vol.unit).name
+        (extend_on dsn.now) vol' (H.meaning hall.old) (H.meaning hall.new) result) }
+    ensures base { base_of (H.facts hall.new) vols.new.items
+        ≡ base_of (H.facts hall.old) vols.old.items }
+    ensures geometries { geometries_of vols.new.items ≡ geometries_of vols.old.items }
+    ensures faults { StoreCall (H.facts hall.old) (H.facts hall.new) result }
+{
+    let k = usize::from(v);
+    if k >= vols.len() {
+        return Err(StoreErr::Refused(Refusal::NoVolume));
+    }
+    extend_set(hall, &mut vols[k], &known[k], dsn)
+}
+
+// More extents for a data set of a volume. An unreadable one is refused: by that which is known of the bodies.
+fn extend_set<H: Hall>(
+    hall: &mut H,
+    vol: &mut Vol,
+    known: &Known,
+    dsn: &Dsn,
+) -> Result<(), StoreErr>
+    requires unit { IsOfUnit (H.facts hall.old).units vol.old }
+    requires names { AreByName (name_at vol.old.slots.items) vol.old.by_name.items }
+    requires mounted { let image = image_in (H.meaning hall.old) (H.facts hall.old) vol.old.unit in
+        IsTrue H.tells → IsMounted image vol.old }
+    requires bodies { let image = image_in (H.meaning hall.old) (H.facts hall.old) vol.old.unit in
+        IsTrue H.tells → ListsBroken (volume_in image vol.old) known.now.unread.items }
+    requires settled { let image = image_in (H.meaning hall.old) (H.facts hall.old) vol.old.unit in
+        IsTrue H.tells → IsSettledVtoc image }
+    requires durable { IsTrue H.tells → IsDurable (H.meaning hall.old) }
+    ensures files { IsTrue H.tells → Operates (unit_of (H.facts hall.old).units vol.old.unit).name
+        (extend_on dsn.now) vol.new (H.meaning hall.old) (H.meaning hall.new) result }
+    ensures unit { IsOfUnit (H.facts hall.new).units vol.new }
+    ensures names { OnOk result (AreByName (name_at vol.new.slots.items) vol.new.by_name.items) }
+    ensures index { IsSamePack vol.old vol.new }
+    ensures refused { (r : Refusal) → IsErrOf result (StoreErr.Refused r) → vol.new ≡ vol.old }
+    ensures memory { IsErrOf result StoreErr.Memory → IsRoomed vol.old vol.new }
+    ensures faults { StoreCall (H.facts hall.old) (H.facts hall.new) result }
+{
+    match slot_to_extend(vol, known, dsn) {
+        Ok(slot) => extend(hall, vol, slot),
+        Err(refusal) => Err(StoreErr::Refused(refusal)),
     }
 }

@@ -1,8 +1,9 @@
 //! What a machine makes of the answer of an operation.
 ghost use Rattle.std.specs.Prelude.{◌≡◌, false, true, IsErrOf};
+ghost use Rattle.vol_model.specs.Calls.{sound_after};
 ghost use Rattle.shelf_machine.specs.Reporting.{Reports};
 
-use vol_model::{Block, CheckErr, MachErr, ReadErr, StoreErr};
+use vol_model::{Block, CheckErr, MachErr, Place, ReadErr, StoreErr};
 
 // Ends the soundness of a machine, and gives the error that it answers.
 pub(crate) fn fault(is_sound: &mut bool, error: MachErr) -> MachErr
@@ -46,4 +47,11 @@ pub(crate) fn is_sound_block(read: &Result<Option<Block>, ReadErr>) -> bool
     ensures others { ¬ IsErrOf read.now ReadErr.Device → result ≡ true }
 {
     !matches!(read, Err(ReadErr::Device))
+}
+
+// Whether it is sound behind a put.
+pub(crate) fn is_sound_put(put: &Result<Place, MachErr>) -> bool
+    ensures { result ≡ sound_after put.now }
+{
+    !matches!(put, Err(MachErr::Device | MachErr::Print))
 }

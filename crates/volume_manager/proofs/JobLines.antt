@@ -19,6 +19,12 @@ use Rattle.job_deck.specs.declared.job.DdWhat.{DdWhat}
 use Rattle.job_deck.specs.declared.job.DdWhat.TheVariants as what
 use Rattle.job_deck.specs.declared.job.Job.{Job}
 use Rattle.job_deck.specs.declared.job.Step.{Step}
+use Rattle.iebgener_util.specs.Items as copies
+use Rattle.iebgener_util.specs.Items.{InputView, copy_item, iebgener_items, item_with, line_card, step_item, sysut1, sysut2}
+use Rattle.iebgener_util.specs.Requests.{edits_of}
+use Rattle.iebgener_util.specs.declared.copying.Output.{Output}
+use Rattle.iebgener_util.specs.declared.requests.Edit.{Edit}
+use Rattle.iebgener_util.specs.declared.requests.StatementFault.{StatementFault}
 use Rattle.iehlist_util.specs.Items as lists
 use Rattle.iehlist_util.specs.Items.{Listing, extent_lines, iehlist_items, listed_sets, listed_on, set_lines, volume_listing}
 use Rattle.iehlist_util.specs.Lines.{attribute_words, extent_line, left_in, right_in, set_line, space_words, volume_line, word_and_number}
@@ -213,10 +219,30 @@ iehlist_lined : (step : StepIn) (shelf : Shelf) → AreLined (iehlist_items step
 unfolding iehlist_items
 iehlist_lined step shelf = lists_if step.card shelf (statements_in (lookup (same_name sysin) step.dds))
 
+copy_lined : (shelf : Shelf) (card : ℕ) (input : InputView) (out : Output) (edits : List Edit) → AreSome (copy_item shelf card input out edits).lines
+unfolding copy_item
+copy_lined shelf card input out edits = (item_some card (codes "COPY") (object.Name out.to.dsn) _, tt)
+
+edited_lined : (shelf : Shelf) (card : ℕ) (input : InputView) (out : Output) (edits : Result (List Edit) StatementFault) → AreSome (item_with shelf card input out edits).lines
+edited_lined shelf card input out (Err f) = (syntax_some f.card f.kind, tt)
+edited_lined shelf card input out (Ok edits) = copy_lined shelf card input out edits
+
+copies_if : (shelf : Shelf) (card : ℕ) (items : Option (List ItemView)) (input : Option InputView) (out : Option Output) → AreSome (copies.item_if shelf card items input out).lines
+copies_if shelf card None input out = (named_some card (codes "NO-DD") sysin, tt)
+copies_if shelf card (Some items) None out = (named_some card (codes "NO-DD") sysut1, tt)
+copies_if shelf card (Some items) (Some input) None = (named_some card (codes "NO-DD") sysut2, tt)
+copies_if shelf card (Some items) (Some input) (Some out) = edited_lined shelf (line_card card items) input out (edits_of true items)
+
+iebgener_lined : (step : StepIn) (shelf : Shelf) → AreLined (iebgener_items step shelf)
+unfolding step_item
+iebgener_lined step shelf =
+    (copies_if shelf step.card (copies.statements_if (lookup (same_name sysin) step.dds)) (copies.input_in (lookup (same_name sysut1) step.dds)) (copies.set_in (lookup (same_name sysut2) step.dds)), tt)
+
 program_lined : (p : Program) (step : StepIn) (shelf : Shelf) → AreLined (program_items p step shelf)
 program_lined program.Iefbr14 step shelf = tt
 program_lined program.Iehprogm step shelf = iehprogm_lined step shelf
 program_lined program.Iehlist step shelf = iehlist_lined step shelf
+program_lined program.Iebgener step shelf = iebgener_lined step shelf
 
 -- ---- DDs
 

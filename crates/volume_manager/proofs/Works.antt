@@ -11,7 +11,7 @@ use Rattle.pack_spec.specs.declared.MountErr.{MountErr}
 use Rattle.pack_spec.specs.Shelf.{UnitRefusal, shelf_of, volume_then, volumes_from}
 use Rattle.pack_spec.specs.Volume.{volume_of}
 use Rattle.shelf_machine.specs.Opening.{AreSafe, AreSettledVtocs, IsSafeImage, OpensSafely, images_named}
-use Rattle.vol_model.specs.Events.{Item, StopsIn, after_operations, behind, code_of, events_of, operations_of, shelf_behind}
+use Rattle.vol_model.specs.Events.{Item, StopsIn, after_operations, behind, code_of, events_of, listing, operations_of, shelf_behind}
 use Rattle.vol_model.specs.Runs.{Runs}
 use Rattle.vol_model.specs.Shelf.{on_volume, step, step_on, volume_number, with_volume}
 use Rattle.vol_model.specs.declared.contents.Shelf.{Shelf}
@@ -70,10 +70,7 @@ pub record Shows (names : List (List ℕ)) (shown : List File → Shelf) (shelf 
 
 -- an image is safe against itself
 same_image : (volume : Volume) (image : List ℕ) → IsSafeImage volume image image
-same_image volume image = record {
-  guarded = inr (λ track inside. refl);
-  tracks = record { size = refl; header = refl; tracks = λ track outside. refl };
-}
+same_image volume image = record { guarded = inr (λ track inside. refl) }
 
 -- files as they were are safe
 pub safe_same : (names : List (List ℕ)) (volumes : List Volume) (files : List File) → AreSafe names volumes files files
@@ -137,6 +134,15 @@ opening_failed {names} {shelf} {items} {old} {new} t status have early calm stoo
 
 -- ---- items on a shelf that is open
 
+-- All items were done, and what that left may be pending still: AllItemsDone but for a last sync.
+pub record AllItemsRun (names : List (List ℕ)) (shelf : Shelf) (items : List Item) (before : List File) (printed : List ℕ) (new : Meaning (List File)) (status : ℕ) : Type 0 where
+  pub code : status ≡ code_of items
+  pub few : status ≤ 16
+  pub listed : new.printed ≡ printed ++ listing (events_of items)
+  pub stands : shelf_of (images_named new.state names) ≡ Ok (shelf_behind shelf (events_of items))
+  pub settled : AreSettledVtocs names new.state
+  pub safe : AreSafe names shelf.volumes before new.state
+
 module _ (names : List (List ℕ)) (shelf : Shelf) (items : List Item) (have : HaveLines (events_of items)) (t : ℕ) (before : List File)
     (shown : List File → Shelf) (shows : Shows names shown shelf) (mid new : Meaning (List File)) (early : t ≤ mid.clock) (begun : LeavesShelf names shelf mid t) (state : shown mid.state ≡ shelf)
     (safe : (files : List File) (printed : List ℕ) → new.left_since t files printed → AreSafe names shelf.volumes before files) where
@@ -168,9 +174,9 @@ module _ (names : List (List ℕ)) (shelf : Shelf) (items : List Item) (have : H
       (runs.moments.moments t (shown files) printed early (files, left, refl))
 
   -- all was done
-  pub has_worked : {T E : Type 0} {tells : Bool} {x : T} (code : ℕ) → IsTrue tells → CountsNow new → new.left new.state → IsDurable new → AreSettledVtocs names new.state → code ≡ code_of items → code ≤ 16
-      → Runs {E = E} tells (events_of items) (seen shown mid) (seen shown new) (Ok x) → AllItemsDone names shelf items before mid.printed new code
-  has_worked code told counts left durable settled is few runs =
+  pub has_worked : {T E : Type 0} {tells : Bool} {x : T} (code : ℕ) → IsTrue tells → CountsNow new → new.left new.state → AreSettledVtocs names new.state → code ≡ code_of items → code ≤ 16
+      → Runs {E = E} tells (events_of items) (seen shown mid) (seen shown new) (Ok x) → AllItemsRun names shelf items before mid.printed new code
+  has_worked code told counts left settled is few runs =
       let after : shown new.state ≡ shelf_behind shelf (events_of items) = runs.shelf ∙ ap (λ (s : Shelf). shelf_behind s (events_of items)) state in
       record {
         code = is;
@@ -178,7 +184,6 @@ module _ (names : List (List ℕ)) (shelf : Shelf) (items : List Item) (have : H
         listed = runs.printed told;
         stands = shows.back new.state (ap (λ (s : Shelf). length s.volumes) after ∙ volumes_stay (operations_of (events_of items)) shelf) ∙ ap Ok after;
         settled = settled;
-        durable = durable;
         safe = safe new.state new.printed (counts t new.state (omega (arith, early, runs.moments.later)) left);
       }
 
@@ -192,7 +197,7 @@ stops_synced {mid = mid} t counts early synced worked files printed left =
     (λ now. worked files printed (subst (λ (p : List ℕ). mid.left_since t files p) (sym now.1) (counts t files early now.0)))
     (synced.moments.moments t files printed early left)
 
-done_synced : {names : List (List ℕ)} {shelf : Shelf} {items : List Item} {before : List File} {start : List ℕ} {mid new : Meaning (List File)} {code status : ℕ} → OnlySynced mid new status → status ≢ 22 → AllItemsDone names shelf items before start mid code → AllItemsDone names shelf items before start new code
+done_synced : {names : List (List ℕ)} {shelf : Shelf} {items : List Item} {before : List File} {start : List ℕ} {mid new : Meaning (List File)} {code status : ℕ} → OnlySynced mid new status → status ≢ 22 → AllItemsRun names shelf items before start mid code → AllItemsDone names shelf items before start new code
 done_synced {names} {shelf} {items} {before} synced ends done = record {
   code = done.code;
   few = done.few;
@@ -214,11 +219,22 @@ works_failed status fault is low high later stops = record {
 
 -- items that came to their end, and then a sync, done or failed
 pub works_finished : {names : List (List ℕ)} {shelf : Shelf} {items : List Item} {t : ℕ} {before : List File} {start : List ℕ} {mid new : Meaning (List File)} (status code : ℕ) → (status ≡ code) ⊎ (status ≡ 22) → CountsNow mid → t ≤ mid.clock → OnlySynced mid new status
-    → AllItemsDone names shelf items before start mid code → ((files : List File) (printed : List ℕ) → mid.left_since t files printed → IsStopIn names shelf items before start files printed) → RunsItems names shelf items t before start new status
+    → AllItemsRun names shelf items before start mid code → ((files : List File) (printed : List ℕ) → mid.left_since t files printed → IsStopIn names shelf items before start files printed) → RunsItems names shelf items t before start new status
 works_finished {names} {shelf} {items} {t} {before} {start} {mid} {new} status code which counts early synced done stops = record {
   ends = λ final. ⊎_elim
       (λ (is : status ≡ code). subst (λ (n : ℕ). AllItemsDone names shelf items before start new n) (sym is) (done_synced synced (λ (failed : status ≡ 22). omega (arith, is, failed, done.few)) done))
       (λ (failed : status ≡ 22). absurd (not_final status 22 failed (omega arith) (omega arith) final)) which;
+  later = omega (arith, early, synced.moments.later);
+  stops = stops_synced t counts early synced stops;
+}
+
+-- items that want of memory ended, and then a sync, done or failed
+pub works_short : {names : List (List ℕ)} {shelf : Shelf} {items : List Item} {t : ℕ} {before : List File} {start : List ℕ} {mid new : Meaning (List File)} (status : ℕ) → (status ≡ 25) ⊎ (status ≡ 22) → CountsNow mid → t ≤ mid.clock → OnlySynced mid new status
+    → ((files : List File) (printed : List ℕ) → mid.left_since t files printed → IsStopIn names shelf items before start files printed) → RunsItems names shelf items t before start new status
+works_short {t = t} status which counts early synced stops = record {
+  ends = λ final. absurd (⊎_elim
+      (λ (short : status ≡ 25). not_final status 25 short (omega arith) (omega arith) final)
+      (λ (failed : status ≡ 22). not_final status 22 failed (omega arith) (omega arith) final) which);
   later = omega (arith, early, synced.moments.later);
   stops = stops_synced t counts early synced stops;
 }

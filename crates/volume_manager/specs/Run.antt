@@ -46,7 +46,7 @@ IsFinal n = (n ≤ 21) ⊎ (n ≡ 26)
 abbrev pub AddsPrefix : List ℕ → List ℕ → List ℕ → Type 0
 AddsPrefix text old new = (q : List ℕ) × IsPrefixOf q text × (new ≡ old ++ q)
 
--- All items were done: the status is their highest condition code, their lines were printed, and the images, each settled, stand durably for the shelf after all their operations; besides, nothing but the VTOCs was changed.
+-- All items were done: the status is their highest condition code, their lines were printed, and the images, each settled, stand durably for the shelf after all their operations; each image is guarded or has the VTOC of the begin, and other files are as before.
 pub record AllItemsDone (names : List (List ℕ)) (shelf : Shelf) (items : List Item)
     (before : List File) (printed : List ℕ) (new : Meaning (List File)) (status : ℕ) : Type 0 where
   pub code : status ≡ events.code_of items
@@ -74,7 +74,7 @@ IsTaskDone (Says code text) old new status = (status ≡ code) × (new.printed �
 IsTaskDone (Works names shelf items) old new status = AllItemsDone names shelf items old.state old.printed new status
 IsTaskDone (Makes pack file) old new status = PackMade pack file old new status
 
--- What a stop leaves of a run of items: behind what was printed a prefix of their lines; images that stand for the shelf after some of their operations, all that are reported and none that can't have begun; and each image guarded or with the VTOC of the begin, and else as it was.
+-- What a stop leaves of a run of items: behind what was printed a prefix of their lines; images that stand for the shelf after some of their operations, all that are reported and none that can't have begun; and each image guarded or with the VTOC of the begin, and other files as before.
 pub record IsStopIn (names : List (List ℕ)) (shelf : Shelf) (items : List Item)
     (before : List File) (start : List ℕ) (files : List File) (printed : List ℕ) : Type 0 where
   pub left : Shelf

@@ -22,7 +22,7 @@ use vol_model::Stop;
 /// Runs jobs on a shelf that is open, makes all writes durable, and gives the status and the hall: the highest
 /// condition code, or the status of a fault of the device, 22, of the printer, 24, or of want of memory, 25.
 ///
-/// After a fault the hall is one that a stop may leave; after want of memory a prefix of the jobs is done.
+/// After a fault the hall is one that a stop may leave; after want of memory a prefix of the jobs is done, durably.
 pub fn work<H: Hall>(alloc: Global, machine: HallShelf<H>, jobs: &[Job], date: [u8; 3]) -> (u8, H)
     requires sound { is_sound machine ≡ true }
     requires closed { is_open machine ≡ false }
@@ -50,14 +50,14 @@ pub fn work<H: Hall>(alloc: Global, machine: HallShelf<H>, jobs: &[Job], date: [
         Ok(ran) => finish(&mut hall, ran.code),
         Err(Stop::Device) => Status::Device.code(),
         Err(Stop::Print) => Status::Print.code(),
-        Err(Stop::Memory) => Status::Memory.code(),
+        Err(Stop::Memory) => finish(&mut hall, Status::Memory.code()),
     };
     (status, hall)
 }
 
 // Makes all writes durable, and gives the status: this code, or that of a device fault.
 fn finish<H: Hall>(hall: &mut H, code: u8) -> u8
-    requires { code ≤ 16 }
+    requires { (code ≤ 16) ⊎ (code ≡ 25) }
     ensures files { IsTrue H.tells → OnlySynced (H.meaning hall.old) (H.meaning hall.new) result }
     ensures status { (result ≡ code) ⊎ (result ≡ 22) }
     ensures device { result ≡ 22 → Rose (H.facts hall.old).dev_faults (H.facts hall.new).dev_faults }

@@ -1,4 +1,4 @@
-use Rattle.std.proofs.Common.{◌≡◌, ℕ, Bool, true, false, IsTrue, Option, Some, None, refl, sym, ap, ◌∙◌}
+use Rattle.std.proofs.Common.{◌≡◌, ℕ, Bool, true, false, IsTrue, Option, None, refl, sym, ◌∙◌}
 use Rattle.std.specs.Prelude.{IsFalse, is_some}
 use Rattle.vtoc_index.specs.Free.{open_slot}
 use Rattle.dadsm_ops.proofs.NewSetCalls.{open_there}

@@ -1,4 +1,4 @@
-use Rattle.std.proofs.Common.{◌≡◌, ◌≤◌, ◌<◌, ℕ, suc, List, [], ◌∷◌, length, replicate, refl, sym, ap, arith, length-take}
+use Rattle.std.proofs.Common.{◌≡◌, ◌≤◌, ℕ, List, [], ◌∷◌, length, replicate, refl, arith, length-take}
 use Rattle.ckd_image.specs.declared.header.Geometry.{Geometry}
 use Rattle.vol_model.specs.declared.contents.Run.{Run}
 use Rattle.space_alloc.specs.Units.{listed}

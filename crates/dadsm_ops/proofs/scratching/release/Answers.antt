@@ -1,6 +1,4 @@
-use Rattle.std.proofs.Common.{◌+◌, ◌≡◌, ◌≤◌, ◌<◌, ℕ, rules, arith, refl, subst, sym}
-use Rattle.ckd_image.specs.declared.header.Geometry.{Geometry}
-use Rattle.vol_model.specs.Space.{is_in}
+use Rattle.std.proofs.Common.{◌+◌, ◌≤◌, ◌<◌, ℕ, rules, arith, refl, subst, sym}
 use Rattle.vol_model.proofs.FreeRuns.{EndBy-higher}
 use Rattle.pack_spec.specs.Label.{tracks_of}
 use Rattle.vtoc_index.proofs.OwnedVolumes.{few_tracks}

@@ -1,18 +1,16 @@
 use Rattle.std.proofs.Common.{rules, ◌≡◌, ◌∙◌, ℕ, ◌+◌, ◌≤◌, List, true, arith, ap, refl, subst, sym}
 use Rattle.std.specs.Prelude.{Ok, length, is_some, slice_index_or, vec_len}
 use Rattle.std.specs.Vec.{vec_capacity}
-use Rattle.dscb_codec.specs.declared.Dscb.{Dscb}
 use Rattle.dscb_codec.specs.declared.Dscb.TheVariants as formats
 use Rattle.hall_core.specs.Facts.{Attached, unit_of}
-use Rattle.hall_core.specs.Images.{image_in}
 use Rattle.hall_core.specs.declared.steps.Device.{Device}
 use Rattle.vtoc_index.specs.Bits.{with_bit}
-use Rattle.vtoc_index.specs.Index.{IsIndexOf, IsMounted, IsOfUnit}
+use Rattle.vtoc_index.specs.Index.{IsIndexOf, IsMounted}
 use Rattle.vtoc_index.specs.Names.{AreByName, name_at}
 use Rattle.vtoc_index.specs.declared.vol.Vol.{Vol}
 use Rattle.pack_spec.specs.Settled.{IsMarked}
 use Rattle.pack_spec.specs.Slots.{slots_of_vtoc}
-use Rattle.free_rebuild.specs.Updates.{Concludes, Marks}
+use Rattle.free_rebuild.specs.Updates.{Concludes}
 use Rattle.dadsm_ops.specs.Operations.{image_named}
 use Rattle.dadsm_ops.specs.Through.{PutsThrough}
 use Rattle.dadsm_ops.proofs.ScratchSteps.{marked_by, mounted_now, scratch_concluded, scratch_unmarked, scratch_unput}

@@ -17,7 +17,7 @@ use Rattle.vol_model.specs.declared.contents.Shelf.{Shelf}
 use Rattle.volume_manager.specs.Run.{IsStopIn, OnlySynced, RunsItems}
 use Rattle.volume_manager.proofs.JobLines.{jobs_have_lines}
 use Rattle.volume_manager.proofs.Bases.{same_base, same_names, under_shows}
-use Rattle.volume_manager.proofs.Works.{has_worked, stops_worked, works_failed, works_finished}
+use Rattle.volume_manager.proofs.Works.{has_worked, stops_worked, works_failed, works_finished, works_short}
 use Rattle.volume_manager.proofs.work.work.Goals as goal
 use Rattle.volume_manager.proofs.work.work.Goals.{in-Ok, in-Err-Device, in-Err-Print, in-Err-Memory}
 
@@ -43,6 +43,10 @@ returns-clause-items g c told shelf t before stood state early begun promise =
     let stops : (files : List File) (printed : List ℕ) → new'.left_since t files printed → IsStopIn names shelf items before old'.printed files printed =
     stops_worked names shelf items have t before (shelf_under names) shows old' new' early begun state safe told runs in
     let later = runs.moments.later in
+    let counts = g.met.H.Hall.counts_now (hall_of new) in
+    let at_sync : (n : ℕ) (m : Meaning (List File)) → OnlySynced (M c.close-hall.result) m n → c.match-ran.status ≡ n → M c.match-ran.hall ≡ m → OnlySynced new' (M c.match-ran.hall) c.match-ran.status = λ n m synced status hall.
+    subst (λ (k : ℕ). OnlySynced new' (M c.match-ran.hall) k) (sym status)
+    (subst (λ (k : Meaning (List File)). OnlySynced new' k n) (sym hall) (subst (λ h. OnlySynced (M h) m n) c.close-hall.ensures.hall synced)) in
     let at_close : RunsItems names shelf items t before old'.printed new' c.match-ran.status → c.match-ran.hall ≡ c.close-hall.result → RunsItems names shelf items t before old'.printed (M c.match-ran.hall) c.match-ran.status =
     λ works is. subst (λ h. RunsItems names shelf items t before old'.printed (M h) c.match-ran.status) (sym (is ∙ c.close-hall.ensures.hall)) works in
     elim c.match-ran.branch [
@@ -54,15 +58,15 @@ returns-clause-items g c told shelf t before stood state early begun promise =
           let settled = c.close-hall.ensures.settled (search rules) told in
           let all = subst (λ (n : List (List ℕ)). AreSettledVtocs n new'.state) named settled.settled in
           let is = total.ran.code ∙ ap (λ (s : Shelf). code_of (jobs_work c.args.date c.args.jobs.now s).items) state in
-          let done = has_worked names shelf items have t before (shelf_under names) shows old' new' early begun state safe code told (g.met.H.Hall.counts_now (hall_of new)) (g.met.H.Hall.leaves_state (hall_of new))
-          settled.durable all is w.in-Ok.ensures.small ran_ok in
-          let synced : OnlySynced new' (M c.match-ran.hall) c.match-ran.status =
-          subst (λ (n : ℕ). OnlySynced new' (M c.match-ran.hall) n) (sym w.status-is)
-          (subst (λ h. OnlySynced new' (M h) w.finish-status.result) (sym w.hall-is) (subst (λ h. OnlySynced (M h) (M w.finish-status.new.hall) w.finish-status.result) c.close-hall.ensures.hall (w.finish-status.ensures.files told))) in
-          works_finished c.match-ran.status code (⊎_elim (λ same. inl (w.status-is ∙ same)) (λ same. inr (w.status-is ∙ same)) w.finish-status.ensures.status) (g.met.H.Hall.counts_now (hall_of new)) (omega (arith, early, later)) synced done stops
+          let done = has_worked names shelf items have t before (shelf_under names) shows old' new' early begun state safe code told counts (g.met.H.Hall.leaves_state (hall_of new)) all is w.in-Ok.ensures.small ran_ok in
+          let synced = at_sync w.finish-status.result (M w.finish-status.new.hall) (w.finish-status.ensures.files told) w.status-is (ap M w.hall-is) in
+          works_finished c.match-ran.status code (⊎_elim (λ same. inl (w.status-is ∙ same)) (λ same. inr (w.status-is ∙ same)) w.finish-status.ensures.status) counts (omega (arith, early, later)) synced done stops
       | in-Err-Device w ↦ at_close (works_failed c.match-ran.status 22 (w.status-is ∙ w.code-status.ensures) (omega arith) (omega arith) (omega (arith, early, later)) stops) w.hall-is
       | in-Err-Print w ↦ at_close (works_failed c.match-ran.status 24 (w.status-is ∙ w.code-status-in-Err-Print.ensures) (omega arith) (omega arith) (omega (arith, early, later)) stops) w.hall-is
-      | in-Err-Memory w ↦ at_close (works_failed c.match-ran.status 25 (w.status-is ∙ w.code-status-in-Err-Memory.ensures) (omega arith) (omega arith) (omega (arith, early, later)) stops) w.hall-is
+      | in-Err-Memory w ↦
+          let finish = w.finish-status-in-Err-Memory in
+          let synced = at_sync finish.result (M finish.new.hall) (finish.ensures.files told) w.status-is (ap M w.hall-is) in
+          works_short c.match-ran.status (⊎_elim (λ same. inl (w.status-is ∙ same ∙ w.code.ensures)) (λ same. inr (w.status-is ∙ same)) finish.ensures.status) counts (omega (arith, early, later)) synced stops
     ]
 
 pub returns-clause-durable : goal.returns-clause-durable
@@ -72,7 +76,9 @@ returns-clause-durable g c told short =
       | in-Ok w ↦ absurd (omega (arith, short, w.status-is, w.finish-status.ensures.status, w.in-Ok.ensures.small))
       | in-Err-Device w ↦ absurd (omega (arith, short, w.status-is, w.code-status.ensures))
       | in-Err-Print w ↦ absurd (omega (arith, short, w.status-is, w.code-status-in-Err-Print.ensures))
-      | in-Err-Memory w ↦ subst (λ h. IsDurable (M h)) (sym (w.hall-is ∙ c.close-hall.ensures.hall)) (c.close-hall.ensures.settled (search rules) told).durable
+      | in-Err-Memory w ↦
+          let finish = w.finish-status-in-Err-Memory in
+          subst (λ h. IsDurable (M h)) (sym w.hall-is) ((finish.ensures.files told).durable (λ (failed : finish.result ≡ 22). omega (arith, short, failed, w.status-is)))
     ]
 
 pub returns-clause-units : goal.returns-clause-units
@@ -86,5 +92,5 @@ returns-clause-units g c =
       | in-Ok w ↦ ap (λ h. (F h).units) w.hall-is ∙ w.finish-status.ensures.units ∙ closed
       | in-Err-Device w ↦ ap (λ h. (F h).units) w.hall-is ∙ closed
       | in-Err-Print w ↦ ap (λ h. (F h).units) w.hall-is ∙ closed
-      | in-Err-Memory w ↦ ap (λ h. (F h).units) w.hall-is ∙ closed
+      | in-Err-Memory w ↦ ap (λ h. (F h).units) w.hall-is ∙ w.finish-status-in-Err-Memory.ensures.units ∙ closed
     ]

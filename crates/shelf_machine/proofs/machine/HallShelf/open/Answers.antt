@@ -1,10 +1,28 @@
 use Rattle.std.proofs.Common.{◌≡◌, List, ℕ, sym, ap, subst, ◌∙◌}
 use Rattle.hall_core.specs.Facts.{Attached}
-use Rattle.shelf_machine.specs.Machine.{KeepsSafe, shelf_or_none, shelf_under, units_of}
+use Rattle.shelf_machine.specs.Machine.{AreIndexes, AreKept, KeepsSafe, shelf_or_none, shelf_under, units_of}
 use Rattle.shelf_machine.specs.Opening.{AreSettledVtocs, names_of}
 use Rattle.shelf_machine.proofs.HallShelves.{kept_settled}
+use Rattle.shelf_machine.proofs.KnownLemmas.{fresh_held}
 use Rattle.shelf_machine.proofs.Openings.{opened_safe}
 use Rattle.shelf_machine.proofs.machine.HallShelf.open.Goals as goal
+
+pub invariant_of-result : goal.invariant_of-result
+invariant_of-result g c =
+    let now = (g.H.Hall.facts c.open_packs.new.hall).units in
+    let files = (g.H.Hall.meaning c.open_packs.new.hall).state in
+    let vols = c.in-Ok.packs.vols.items in
+    let units = c.in-Ok.ensures.faults.units in
+    record {
+      indexes = subst (λ (us : List Attached). AreIndexes us vols) (sym units) c.in-Ok.ensures.opened.indexes;
+      order = λ sound. c.in-Ok.ensures.opened.order;
+      kept = λ sound told. subst (λ (us : List Attached). AreKept files us vols) (sym units) (c.in-Ok.ensures.files told).kept;
+      slot = λ sound. tt;
+      pending = λ sound told. (c.in-Ok.ensures.files told).durable;
+      buffers = c.in-Ok.ensures.buffers;
+      bodies = λ sound told. c.in-Ok.ensures.known told;
+      held = λ sound told. fresh_held files now vols c.in-Ok.packs.known.items c.in-Ok.ensures.fresh;
+    }
 
 pub returns-in-Ok-clause-shelf : goal.returns-in-Ok-clause-shelf
 returns-in-Ok-clause-shelf g c told =

@@ -1,10 +1,10 @@
 use Rattle.std.proofs.Common.{List, sym, subst}
 use Rattle.hall_core.specs.Facts.{Attached}
 use Rattle.stop_model.specs.Files.{File}
-use Rattle.stop_model.proofs.MomentLemmas.{durable_same}
 use Rattle.shelf_machine.specs.Known.{AreHeld, KnowsBodies}
 use Rattle.shelf_machine.specs.Machine.{AreIndexes, AreKept, shelf_under, units_of}
 use Rattle.shelf_machine.specs.Opening.{names_of}
+use Rattle.shelf_machine.proofs.Pendings.{pending_same, writer_same}
 use Rattle.shelf_machine.proofs.ReadMachines.{both_same, idles_read, read_call}
 use Rattle.shelf_machine.proofs.machine.HallShelfMachine.read_into.Goals as goal
 
@@ -16,7 +16,8 @@ invariant_of-self g c =
       indexes = subst (λ (us : List Attached). AreIndexes us vols) (sym read.faults.units) c.args.self.now.indexes;
       order = λ sound. c.args.self.now.order c.requires.sound;
       kept = λ sound told. both_same (λ (fs : List File) (us : List Attached). AreKept fs us vols) (read.same told).state read.faults.units (c.args.self.now.kept c.requires.sound told);
-      durable = λ sound told. durable_same (read.same told) (c.args.self.now.durable c.requires.sound told);
+      slot = λ sound. c.args.self.now.slot c.requires.sound;
+      pending = λ sound told. pending_same (g.H.Hall.meaning c.args.self.now.hall) (g.H.Hall.meaning c.read_into-read.new.hall) (g.H.Hall.facts c.args.self.now.hall).units (g.H.Hall.facts c.read_into-read.new.hall).units vols c.args.self.now.writer (read.same told).state (λ j left. ((read.same told).left j).0 left) read.faults.units (c.args.self.now.pending c.requires.sound told);
       buffers = read.buffers;
       bodies = λ sound told. both_same (λ (fs : List File) (us : List Attached). KnowsBodies (shelf_under (names_of us (units_of vols)) fs) c.read_into-read.new.known.items) (read.same told).state read.faults.units
           (read.known _ (c.args.self.now.bodies c.requires.sound told));
@@ -27,6 +28,7 @@ pub returns-clause-idle : goal.returns-clause-idle
 returns-clause-idle g c told =
     idles_read (g.H.Hall.facts c.args.self.now.hall).units (g.H.Hall.facts c.read_into-read.new.hall).units (units_of c.args.self.now.vols.items) c.read_into-read.ensures.faults.units c.args.self.now.vols.items
     (g.H.Hall.meaning c.args.self.now.hall) (g.H.Hall.meaning c.read_into-read.new.hall) (g.met.H.Hall.counts_now c.args.self.now.hall) (c.read_into-read.ensures.same told)
+    (writer_same _ _ _ _ c.args.self.now.vols.items c.args.self.now.writer (c.read_into-read.ensures.same told).state c.read_into-read.ensures.faults.units)
 
 pub returns-clause-faults : goal.returns-clause-faults
 returns-clause-faults g c =

@@ -1,0 +1,89 @@
+use Rattle.std.proofs.Common.{◌≡◌, ◌∙◌, ℕ, List, ap, refl, subst, sym}
+use Rattle.std.specs.Prelude.{Err, Ok}
+use Rattle.dscb_codec.specs.declared.Dscb.{Dscb}
+use Rattle.dscb_codec.specs.declared.Dscb.TheVariants as formats
+use Rattle.dscb_codec.specs.declared.F1.{F1}
+use Rattle.hall_core.specs.Facts.{unit_of}
+use Rattle.pack_spec.specs.Volume.{attr_of}
+use Rattle.space_alloc.specs.Edits.{AreWithout}
+use Rattle.space_alloc.specs.Units.{listed}
+use Rattle.vol_model.specs.declared.contents.Attr.{Attr}
+use Rattle.vol_model.specs.Shelf.{extend_on}
+use Rattle.vtoc_index.specs.declared.vol.Vol.{Vol}
+use Rattle.free_rebuild.proofs.ChainLemmas.{get_low}
+use Rattle.free_rebuild.proofs.NameLemmas.{names_kept}
+use Rattle.dadsm_ops.specs.Allocating.{HaveSameNames}
+use Rattle.dadsm_ops.specs.Extending.{added_type, f1_with}
+use Rattle.dadsm_ops.specs.Operations.{image_named}
+use Rattle.dadsm_ops.proofs.AddedExtents.{after_name}
+use Rattle.dadsm_ops.proofs.ExtendedIndex.{index_freed, only_slots, same_vtoc, then_free, unit_freed}
+use Rattle.dadsm_ops.proofs.ExtendedNames.{names_set}
+use Rattle.dadsm_ops.proofs.ExtensionPlans.{put_extends}
+use Rattle.dadsm_ops.proofs.NewSetCalls.{decides_not}
+use Rattle.dadsm_ops.proofs.extending.put_extended.Goals as goal
+
+pub put_through-requires-clause-slot : goal.put_through-requires-clause-slot
+put_through-requires-clause-slot g c = get_low c.args.vol.now.slots.items c.args.slot (formats.F1 c.args.set.now) c.requires.set
+
+pub returns-in_err-put_through-clause-files : goal.returns-in_err-put_through-clause-files
+returns-in_err-put_through-clause-files g c dsn is told =
+    let v = c.args.vol.now in
+    let set = c.args.set.now in
+    let runs = listed c.args.plan.extents in
+    let m = g.H.Hall.meaning c.args.hall.now in
+    let units = (g.H.Hall.facts c.args.hall.now).units in
+    let name : List ℕ = (unit_of units v.unit).name in
+    let v' = c.put_through.new.vol in
+    let n = g.H.Hall.meaning c.put_through.new.hall in
+    let e : F1 = c.f1_with-more.result in
+    let attrs : added_type c.attr_of.result ≡ added_type (attr_of set) = ap (λ (a : Attr). added_type a) c.attr_of.ensures.attr in
+    let same : e ≡ f1_with v.geometry (added_type (attr_of set)) runs c.args.pointer set = c.f1_with-more.ensures ∙ ap (λ (k : ℕ). f1_with v.geometry k runs c.args.pointer set) (c.added_type-kind.ensures ∙ attrs) in
+    decides_not name (extend_on dsn) v' m n c.from_residual.result c.from_residual.ensures.0
+    (put_extends name v v' c.args.slot m n units c.requires.unit (c.requires.mounted told) (c.requires.marked told) set c.requires.set runs c.args.pointer c.requires.catalog (c.requires.added told) (c.requires.plan told) (c.requires.body told) e same dsn is
+    (Err c.in_err-put_through.field-0.0) v' tt tt tt (c.in_err-put_through.ensures.files told))
+
+pub returns-clause-files : goal.returns-clause-files
+returns-clause-files g c dsn is told =
+    let v = c.args.vol.now in
+    let set = c.args.set.now in
+    let runs = listed c.args.plan.extents in
+    let m = g.H.Hall.meaning c.args.hall.now in
+    let units = (g.H.Hall.facts c.args.hall.now).units in
+    let name : List ℕ = (unit_of units v.unit).name in
+    let v' = c.put_through.new.vol in
+    let w : Vol = record v' { free = c.args.plan.free } in
+    let n = g.H.Hall.meaning c.put_through.new.hall in
+    let e : F1 = c.f1_with-more.result in
+    let attrs : added_type c.attr_of.result ≡ added_type (attr_of set) = ap (λ (a : Attr). added_type a) c.attr_of.ensures.attr in
+    let same : e ≡ f1_with v.geometry (added_type (attr_of set)) runs c.args.pointer set = c.f1_with-more.ensures ∙ ap (λ (k : ℕ). f1_with v.geometry k runs c.args.pointer set) (c.added_type-kind.ensures ∙ attrs) in
+    put_extends name v v' c.args.slot m n units c.requires.unit (c.requires.mounted told) (c.requires.marked told) set c.requires.set runs c.args.pointer c.requires.catalog (c.requires.added told) (c.requires.plan told) (c.requires.body told) e same dsn is
+    (Ok tt) w (same_vtoc v w (then_free v v' w c.put_through.ensures.others refl)) (index_freed v' w refl (image_named n.state name)) c.requires.free (c.in_ok-put_through.ensures.files told)
+
+pub returns-clause-unit : goal.returns-clause-unit
+returns-clause-unit g c =
+    let v = c.args.vol.now in
+    let v' = c.put_through.new.vol in
+    let w : Vol = record v' { free = c.args.plan.free } in
+    let runs = listed c.args.plan.extents in
+    let units = (g.H.Hall.facts c.put_through.new.hall).units in
+    unit_freed v' w refl units runs c.put_through.ensures.unit (subst (λ (x : Vol). AreWithout x.free.items runs w.free.items) (sym c.put_through.ensures.others) c.requires.free)
+
+pub returns-clause-index : goal.returns-clause-index
+returns-clause-index g c =
+    let v = c.args.vol.now in
+    let v' = c.put_through.new.vol in
+    let w : Vol = record v' { free = c.args.plan.free } in
+    then_free v v' w c.put_through.ensures.others refl
+
+pub returns-in_err-put_through-clause-index : goal.returns-in_err-put_through-clause-index
+returns-in_err-put_through-clause-index g c = only_slots c.args.vol.now c.put_through.new.vol c.put_through.ensures.others
+
+pub returns-clause-names : goal.returns-clause-names
+returns-clause-names g c =
+    let v = c.args.vol.now in
+    let v' = c.put_through.new.vol in
+    let set = c.args.set.now in
+    let e : F1 = c.f1_with-more.result in
+    let named : e.name ≡ set.name = ap (λ (x : F1). x.name) c.f1_with-more.ensures ∙ after_name v.geometry c.added_type-kind.result set (listed c.args.plan.extents) c.args.pointer in
+    let same : HaveSameNames v.slots.items v'.slots.items = subst (λ (l : List Dscb). HaveSameNames v.slots.items l) (sym c.in_ok-put_through.ensures.index.items) (names_set v.slots.items c.args.slot set e c.requires.set named) in
+    names_kept v v' c.put_through.ensures.others same c.requires.names

@@ -1,0 +1,55 @@
+-- A writer that was opened behind the blocks of a data set, and has put none.
+use Rattle.std.proofs.Common.{◌≡◌, ◌<◌, ℕ, false, List, [], ◌∷◌, ◌++◌, length, map, drop, Some, inr, refl, sym, ap, ap₂, ◌∙◌, arith}
+use Rattle.std.specs.Prelude.{slice_get}
+use Rattle.std.proofs.lemmas.List.{append-nil}
+use Rattle.dscb_codec.specs.declared.Dscb.TheVariants as formats
+use Rattle.dscb_codec.specs.declared.F1.{F1}
+use Rattle.pack_spec.specs.Blocks.{last_of}
+use Rattle.vol_model.specs.declared.contents.Block.{Block}
+use Rattle.vol_model.specs.declared.contents.Body.{Body}
+use Rattle.vol_model.specs.declared.contents.Body.TheVariants as bodies
+use Rattle.vol_model.specs.declared.contents.Place.{Place}
+use Rattle.vol_model.specs.Places.{Content, content, placed}
+use Rattle.vol_model.specs.Shelf.{blocks_of}
+use Rattle.vtoc_index.specs.declared.vol.Vol.{Vol}
+use Rattle.vtoc_sets.specs.Sets.{HasSet, extents_in}
+use Rattle.seq_access.specs.declared.writer.Writer.{Writer}
+use Rattle.seq_access.specs.Bodies.{HasBlocks, IsReadable, IsSequential, body_in, data_in}
+use Rattle.seq_access.specs.Writing.{IsWriting, body_so_far, puts_in}
+use Rattle.seq_access.proofs.LastPlaces.{body_said}
+
+nothing_behind : (bs : List Block) → map content (drop (length bs) bs) ≡ []
+nothing_behind [] = refl
+nothing_behind (b ∷ bs) = nothing_behind bs
+
+-- A writer that has put none stands on an image whose set ends at its last block.
+pub begun_at : (image : List ℕ) (v : Vol) (f : F1) (w : Writer) (old : List Block) → w.has_put ≡ false → slice_get v.slots.items w.slot ≡ Some (formats.F1 f) → HasSet image v f → IsSequential f → HasBlocks (body_in image v f) old → w.last ≡ last_of f.lstar → w.last.tt < 65536 → w.last.r < 256
+    → (is : IsWriting image v w) × (is.f ≡ f) × (is.old ≡ old) × (puts_in image v f w ≡ [])
+unfolding puts_in placed
+begun_at image v f w old fresh there set sequential body at low small =
+    let so_far : body_so_far image v f w ≡ bodies.Seq old = body_said v.geometry (data_in image v) (extents_in image v f) f.lstar w.last old at low small body in
+    let none : puts_in image v f w ≡ [] = ap₂ (λ (x y : Body). map content (drop (length (blocks_of x)) (blocks_of y))) body so_far ∙ nothing_behind old in
+    let all : old ++ placed v.geometry.device (bodies.Seq old) (puts_in image v f w) ≡ old = ap (λ (cs : List Content). old ++ placed v.geometry.device (bodies.Seq old) cs) none ∙ append-nil old in (
+      record {
+        f = f;
+        slot = there;
+        set = set;
+        sequential = sequential;
+        old = old;
+        body = body;
+        so_far = so_far ∙ ap bodies.Seq (sym all);
+        begun = λ not. at;
+        some = λ put. cc;
+        behind = inr (ap (λ (p : Place). p.tt) (sym at), omega (arith, ap (λ (p : Place). p.r) at));
+        ended = λ put. cc;
+      },
+      refl,
+      refl,
+      none,
+    )
+
+pub begins : (image : List ℕ) (v : Vol) (f : F1) (slot : ℕ) (last : Place) → slice_get v.slots.items slot ≡ Some (formats.F1 f) → HasSet image v f → IsSequential f → IsReadable (body_in image v f) → last ≡ last_of f.lstar → last.tt < 65536 → last.r < 256
+    → (is : IsWriting image v (record { slot = slot; last = last; has_put = false })) × (is.f ≡ f) × (puts_in image v f (record { slot = slot; last = last; has_put = false }) ≡ [])
+begins image v f slot last there set sequential readable at low small =
+    let begun = begun_at image v f (record { slot = slot; last = last; has_put = false }) readable.0 refl there set sequential readable.1 at low small in
+    (begun.0, begun.1, begun.3)

@@ -1,0 +1,163 @@
+-- The end marker is written behind the last block of a set into which none was put yet.
+use Rattle.std.proofs.Common.{◌≡◌, ◌⊎◌, ◌+◌, ◌/◌, ◌%◌, ◌≤◌, ◌<◌, ℕ, true, false, List, [], ◌∷◌, length, take, drop, None, Some, Result, inr, refl, sym, ap, ◌∙◌, subst, arith}
+use Rattle.std.specs.Prelude.{slice_get}
+use Rattle.std.specs.List.{flat_map}
+use Rattle.std.proofs.lemmas.List.{append-nil, take_all}
+use Rattle.ckd_image.specs.declared.header.Geometry.{Geometry}
+use Rattle.ckd_image.specs.Track.{Record}
+use Rattle.ckd_image.proofs.GeometryLemmas.{has_geometry}
+use Rattle.ckd_image.proofs.Grammar.{read_past, reads_front}
+use Rattle.dscb_codec.specs.declared.F1.{F1}
+use Rattle.hall_core.specs.Facts.{Attached}
+use Rattle.free_rebuild.specs.Repairs.{image_named}
+use Rattle.stop_model.specs.Files.{AfterWrite, File}
+use Rattle.stop_model.specs.Moments.{Meaning}
+use Rattle.pack_spec.specs.declared.slot.VtocSlot.{VtocSlot}
+use Rattle.pack_spec.specs.Blocks.{has_no_block, last_of, owned_tracks, seq_body}
+use Rattle.pack_spec.specs.Label.{heads_of, records_on, track_bytes, tracks_of}
+use Rattle.pack_spec.specs.Rules.{has_extents}
+use Rattle.pack_spec.specs.Slots.{slots_of_vtoc}
+use Rattle.pack_spec.specs.Volume.{data_sets_in}
+use Rattle.pack_spec.proofs.BlockBodies.{same_body}
+use Rattle.track_records.specs.Appends.{IsSealed, continuation, place_behind, start_behind}
+use Rattle.track_records.specs.Buffers.{Buffer}
+use Rattle.track_records.specs.Written.{StandsOn}
+use Rattle.track_records.proofs.ContinueLemmas.{length-end}
+use Rattle.track_records.proofs.FrontLemmas.{count_up}
+use Rattle.vol_model.specs.declared.contents.DataSet.{DataSet}
+use Rattle.vol_model.specs.declared.contents.Place.{Place}
+use Rattle.vol_model.specs.declared.contents.Run.{Run}
+use Rattle.vtoc_index.specs.declared.vol.Vol.{Vol}
+use Rattle.vtoc_sets.specs.Sets.{HasSet, extents_in}
+use Rattle.seq_access.specs.declared.writer.Writer.{Writer}
+use Rattle.seq_access.specs.Bodies.{IsSetIn, body_in, data_in, owned_in}
+use Rattle.seq_access.specs.Writing.{DifferBehind, HasSetBy, HoldsLast, IsEnded, IsRoomy, IsWriting, Spares}
+use Rattle.seq_access.proofs.Begins.{begun_at}
+use Rattle.seq_access.proofs.DataPlaces.{once, outside, own, owners, owners_more}
+use Rattle.seq_access.proofs.KeptBodies.{on_same, owned_apart}
+use Rattle.seq_access.proofs.SparedCalls.{differ_by, differ_none}
+use Rattle.seq_access.proofs.SparedFiles.{MayWrite, spared_pends}
+use Rattle.seq_access.proofs.SparedImages.{by_bytes, same_extents, slots_kept, spared_mounted, spared_write}
+use Rattle.seq_access.proofs.WritersKept.{set_by}
+
+-- so many records are read up to one of that number
+pub count_on : (image : List ℕ) (g : Geometry) (r t : ℕ) (xs : List Record) → records_on image g (Some r) t ≡ Some xs → length xs ≡ r
+unfolding records_on
+count_on image g r t xs is =
+    let c : ℕ = t / heads_of g in
+    let h : ℕ = t % heads_of g in
+    let bytes : List ℕ = track_bytes image g t in
+    count_up r 1 (drop 21 bytes) xs (sym (read_past c h (Some r) bytes (reads_front c h (Some r) xs bytes is)) ∙ is)
+
+-- images that differ behind the last block alone have the same body
+module _ (before after : List ℕ) (v : Vol) (f : F1) (set : IsSetIn before v f) (first : 1 ≤ (last_of f.lstar).r) (differ : DifferBehind v f before after) where
+  abbrev some : (has_no_block f.lstar ≡ true) ⊎ (1 ≤ (last_of f.lstar).r)
+  some = inr first
+
+  owned_once : (t : ℕ) → owners t (extents_in before v f) ≤ 1
+  owned_once t =
+      let all : List Run = flat_map (λ (x : DataSet). x.extents) (data_sets_in v.geometry (data_in before v) (slots_of_vtoc before v.geometry v.vtoc)) in
+      omega (arith, own before v f set t, once before v f set t, owners_more t (record { start = 0; len = 1 }) (v.vtoc ∷ all), owners_more t v.vtoc all)
+
+  pub body_kept : body_in after v f ≡ body_in before v f
+  body_kept =
+      ap (λ (xs : List Run). seq_body v.geometry (data_in after v) xs f.lstar) (same_extents before after v f set some differ f)
+      ∙ same_body v.geometry (data_in before v) (data_in after v) (extents_in before v f) f.lstar
+      (λ k t low there. on_same v.geometry v.vtoc before after None t (outside before v f set k t there)
+      (by_bytes v.geometry None t before after (differ.others t (λ j at past. absurd (omega (arith, past, low, owned_apart (extents_in before v f) k j t there at (owned_once t)))))))
+      (λ t there. on_same v.geometry v.vtoc before after (Some (last_of f.lstar).r) t (outside before v f set (last_of f.lstar).tt t there) (differ.kept t there first))
+
+module _ (units : List Attached) (image : List ℕ) (v : Vol) (w : Writer) (is : IsWriting image v w) (held : HoldsLast image v is.f w.last)
+    (fresh : w.has_put ≡ false) (first : 1 ≤ w.last.r) (geometry : v.buf.geometry ≡ v.geometry) (roomy : IsRoomy units v.buf) where
+  abbrev b : Buffer
+  b = v.buf
+
+  abbrev last : Place
+  last = last_of is.f.lstar
+
+  at : w.last ≡ last
+  at = is.begun fresh
+
+  first_own : 1 ≤ last.r
+  first_own = subst (λ (p : Place). 1 ≤ p.r) at first
+
+  owned_own : slice_get (owned_in image v is.f) last.tt ≡ Some b.track
+  owned_own = subst (λ (p : Place). slice_get (owned_in image v is.f) p.tt ≡ Some b.track) at held.owned
+
+  stand_own : records_on image v.geometry (Some last.r) b.track ≡ Some b.records
+  stand_own = subst (λ (p : Place). records_on image v.geometry (Some p.r) b.track ≡ Some b.records) at held.stand
+
+  count_own : length b.records ≡ last.r
+  count_own = count_on image v.geometry last.r b.track b.records stand_own
+
+  room_own : start_behind b.records + length (continuation b []) ≤ v.geometry.track_size
+  room_own = omega (arith, roomy.room, length-end (b.track / heads_of b.geometry) (b.track % heads_of b.geometry) b.records, ap (λ (g : Geometry). g.track_size) geometry)
+
+  -- it may be written
+  pub may_seal : (before : List ℕ) → HasSetBy before v is.f → DifferBehind v is.f before image → MayWrite before v is.f b []
+  may_seal before set differ =
+      let empty : Buffer = record b { records = [] } in
+      let there : IsSetIn before (record v { buf = empty }) is.f = record { set = set; slot = w.slot; dscb = is.slot } in
+      let some : (has_no_block is.f.lstar ≡ true) ⊎ (1 ≤ last.r) = inr first_own in
+      let extents : extents_in image v is.f ≡ extents_in before v is.f = same_extents before image (record v { buf = empty }) is.f there some (differ_by v empty is.f before image differ) is.f in
+      let mine : slice_get (owned_in before v is.f) last.tt ≡ Some b.track = ap (λ (xs : List Run). slice_get (owned_tracks xs) last.tt) (sym extents) ∙ owned_own in
+      let all : take last.r b.records ≡ b.records = take_all last.r b.records (omega (arith, count_own)) in
+      record {
+        geometry = geometry;
+        whole = has_geometry (take 512 before) (length before) v.geometry set.mounted.index.header;
+        inside = subst (λ (g : Geometry). b.track < tracks_of g) geometry roomy.track.inside;
+        room = room_own;
+        k = last.tt;
+        owned = mine;
+        past = omega arith;
+        first = λ same low. (omega (arith, count_own), sym (differ.kept b.track mine first_own) ∙ stand_own ∙ ap (λ (l : List Record). Some l) (sym all));
+      }
+
+  -- files in which it is written or pending
+  pub spares_sealed : {T E : Type 0} (name other : List ℕ) (old new : Meaning (List File)) (result : Result T E) → image ≡ image_named old.state name → other ≡ name → AfterWrite {T = T} {E = E} other (place_behind b) (continuation b []) old new result → Spares name v is.f old new result
+  spares_sealed {T = T} {E = E} name other old new result same alike wrote before set left here =
+      spared_pends name before v is.f b [] (may_seal (image_named before name) set (subst (DifferBehind v is.f (image_named before name)) (sym same) here.image)) old new result
+      (subst (λ (n : List ℕ). AfterWrite {T = T} {E = E} n (place_behind b) (continuation b []) old new result) alike wrote) left here
+
+  module _ (image' : List ℕ) (sealed : IsSealed b image image') (stands : StandsOn image' b) where
+    differ_own : DifferBehind v is.f image image'
+    differ_own =
+        let may = may_seal image (set_by image v (record b { records = [] }) is.f is.set refl) (differ_none v is.f image) in
+        subst (DifferBehind v is.f image) (sym sealed.bytes)
+        (spared_write image image v is.f b [] may.k may.geometry may.whole may.inside may.room may.owned may.past may.first (differ_none v is.f image))
+
+    abbrev there_own : IsSetIn image v is.f
+    there_own = record { set = is.set; slot = w.slot; dscb = is.slot }
+
+    abbrev some_own : (has_no_block is.f.lstar ≡ true) ⊎ (1 ≤ last.r)
+    some_own = inr first_own
+
+    set_own : HasSet image' v is.f
+    set_own = record {
+      mounted = spared_mounted image image' v is.f there_own some_own differ_own (inr stands);
+      extents = ap (λ (ss : List VtocSlot). has_extents v.geometry ss is.f) (slots_kept image image' v is.f there_own some_own differ_own) ∙ is.set.extents;
+    }
+
+    ended_own : (track : ℕ) → slice_get (owned_in image v is.f) w.last.tt ≡ Some track → records_on image' v.geometry None track ≡ records_on image' v.geometry (Some w.last.r) track
+    ended_own track mine =
+        let both : Some b.track ≡ Some track = sym held.owned ∙ mine in
+        let same : b.track ≡ track = cc in
+        let before : records_on image b.geometry (Some w.last.r) b.track ≡ Some b.records = ap (λ (g : Geometry). records_on image g (Some w.last.r) b.track) geometry ∙ held.stand in
+        let here : records_on image' b.geometry None b.track ≡ records_on image' b.geometry (Some w.last.r) b.track =
+        sealed.records ∙ ap (λ (l : List Record). Some l) (append-nil b.records) ∙ sym before ∙ sym (sealed.earlier w.last.r first (omega (arith, count_on image v.geometry w.last.r b.track b.records held.stand))) in
+        let there : records_on image' v.geometry None b.track ≡ records_on image' v.geometry (Some w.last.r) b.track = subst (λ (g : Geometry). records_on image' g None b.track ≡ records_on image' g (Some w.last.r) b.track) geometry here in
+        subst (λ (t : ℕ). records_on image' v.geometry None t ≡ records_on image' v.geometry (Some w.last.r) t) same there
+
+    -- and the writer stands as before
+    pub ended_sealed : w.last.tt < 65536 → w.last.r < 256 → IsEnded image v is.f is.old w image' v
+    ended_sealed low small =
+        let now = begun_at image' v is.f w is.old fresh is.slot set_own is.sequential (body_kept image image' v is.f there_own first_own differ_own ∙ is.body) at low small in
+        let was = begun_at image v is.f w is.old fresh is.slot is.set is.sequential is.body at low small in
+        record {
+          writing = now.0;
+          same = now.1;
+          old = now.2;
+          puts = now.3 ∙ sym was.3;
+          tracks = ap owned_tracks (same_extents image image' v is.f there_own some_own differ_own is.f);
+          ended = ended_own;
+        }

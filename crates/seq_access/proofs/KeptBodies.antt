@@ -1,0 +1,192 @@
+-- Images that differ on tracks of one data set behind its last block have the same data sets.
+use Rattle.std.proofs.Common.{◌≡◌, ◌≢◌, ◌⊎◌, ◌+◌, ◌≤◌, ◌<◌, ◌/◌, ◌%◌, ℕ, zero, suc, Bool, true, false, cond, ◌||◌, List, [], ◌∷◌, ◌++◌, length, map, Option, Some, None, inl, inr, refl, sym, ap, ap₂, ◌∙◌, subst, arith, ⊎_elim}
+use Rattle.std.specs.Prelude.{slice_get}
+use Rattle.std.specs.List.{count_by, filter_map, flat_map, range_with_len}
+use Rattle.std.proofs.lemmas.Bool.{cases_lt}
+use Rattle.std.proofs.lemmas.Bool.Decides.{nat_tests, eqb_tells}
+use Rattle.std.proofs.lemmas.List.{get_or_past}
+use Rattle.std.proofs.lemmas.List.FromFn.{get_or-map-range_with_len, length-map-range_with_len}
+use Rattle.std.proofs.lemmas.List.Sums.{sum_by-append, sum_by-cons}
+use Rattle.ckd_image.specs.declared.header.Geometry.{Geometry}
+use Rattle.ckd_image.specs.Reading.{records_of}
+use Rattle.dscb_codec.specs.declared.F1.{F1}
+use Rattle.vol_model.specs.declared.contents.Body.{Body}
+use Rattle.vol_model.specs.declared.contents.Body.TheVariants.{Seq, Other, Unreadable}
+use Rattle.vol_model.specs.declared.contents.Run.{Run}
+use Rattle.vol_model.specs.Shelf.{is_catalog, is_partitioned, is_sequential}
+use Rattle.vol_model.specs.Space.{is_in}
+use Rattle.pack_spec.specs.declared.slot.VtocSlot.{VtocSlot}
+use Rattle.pack_spec.specs.Blocks.{blocks_at, data_track, data_tracks, has_no_block, last_of, owned_tracks, records_in, seq_body, seq_of}
+use Rattle.pack_spec.specs.Bodies.{body_of}
+use Rattle.pack_spec.specs.Label.{heads_of, records_on, track_bytes, tracks_of}
+use Rattle.pack_spec.specs.Rules.{set_in}
+use Rattle.pack_spec.specs.Slots.{tracks_in}
+use Rattle.pack_spec.specs.Volume.{attr_of, counted_runs, data_set_of, data_sets_in}
+use Rattle.pack_spec.proofs.BlockBodies.{same_body}
+
+-- how many runs have a track
+abbrev pub owners : ℕ → List Run → ℕ
+owners t rs = count_by (is_in t) rs
+
+owners_more : (t : ℕ) (r : Run) (rs : List Run) → owners t (r ∷ rs) ≡ cond (is_in t r) 1 0 + owners t rs
+owners_more t r rs = sum_by-cons (λ (x : Run). cond (is_in t x) 1 0) r rs
+
+owners_both : (t : ℕ) (rs ss : List Run) → owners t (rs ++ ss) ≡ owners t rs + owners t ss
+owners_both t rs ss = sum_by-append (λ (x : Run). cond (is_in t x) 1 0) rs ss
+
+-- the number of a track in a run
+pub run_at : (a n k t : ℕ) → slice_get (range_with_len a n) k ≡ Some t → (t ≡ a + k) × (k < n)
+run_at a zero k t is = cc
+run_at a (suc n) zero t is = let same : a ≡ t = cc in (omega (arith, same), omega arith)
+run_at a (suc n) (suc k) t is = let rest = run_at (a + 1) n k t is in (omega (arith, rest.0), omega (arith, rest.1))
+
+is_within : (t : ℕ) (r : Run) → r.start ≤ t → t < r.start + r.len → is_in t r ≡ true
+is_within t r low high = grind (arith, nat_tests)
+
+has_track : (t : ℕ) (r : Run) (rs : List Run) (k : ℕ) → slice_get (tracks_in r) k ≡ Some t → owners t (r ∷ rs) ≡ 1 + owners t rs
+has_track t r rs k is = let at = run_at r.start r.len k t is in owners_more t r rs ∙ ap (λ (b : Bool). cond b 1 0 + owners t rs) (is_within t r (omega (arith, at.0)) (omega (arith, at.0, at.1)))
+
+-- what stands in one of two lists
+pub either : (xs ys : List ℕ) (k x : ℕ) → slice_get (xs ++ ys) k ≡ Some x → (slice_get xs k ≡ Some x) ⊎ ((j : ℕ) × (k ≡ length xs + j) × (slice_get ys j ≡ Some x))
+either [] ys k x is = inr (k, omega arith, is)
+either (y ∷ xs) ys zero x is = inl is
+either (y ∷ xs) ys (suc k) x is = elim (either xs ys k x is) [
+  | inl w ↦ inl w
+  | inr w ↦ inr (w.0, omega (arith, w.1), w.2)
+]
+
+owned_some : (xs : List Run) (k t : ℕ) → slice_get (owned_tracks xs) k ≡ Some t → 1 ≤ owners t xs
+unfolding owned_tracks
+owned_some [] k t is = cc
+owned_some (r ∷ rs) k t is = elim (either (tracks_in r) (flat_map tracks_in rs) k t is) [
+  | inl w ↦ omega (arith, has_track t r rs k w)
+  | inr w ↦ let rest = owned_some rs w.0 t w.2 in omega (arith, rest, owners_more t r rs)
+]
+
+-- A track that is owned once is one of a set's tracks once.
+pub owned_apart : (xs : List Run) (k j t : ℕ) → slice_get (owned_tracks xs) k ≡ Some t → slice_get (owned_tracks xs) j ≡ Some t → owners t xs ≤ 1 → k ≡ j
+unfolding owned_tracks
+owned_apart [] k j t first second once = cc
+owned_apart (r ∷ rs) k j t first second once =
+    let more = owners_more t r rs in
+    elim (either (tracks_in r) (flat_map tracks_in rs) k t first) [
+      | inl w ↦ elim (either (tracks_in r) (flat_map tracks_in rs) j t second) [
+        | inl u ↦ let p = run_at r.start r.len k t w in let q = run_at r.start r.len j t u in omega (arith, p.0, q.0)
+        | inr u ↦ absurd (omega (arith, once, has_track t r rs k w, owned_some rs u.0 t u.2))
+      ]
+      | inr w ↦ elim (either (tracks_in r) (flat_map tracks_in rs) j t second) [
+        | inl u ↦ absurd (omega (arith, once, has_track t r rs j u, owned_some rs w.0 t w.2))
+        | inr u ↦ let same = owned_apart rs w.0 u.0 t w.2 u.2 (omega (arith, more, once)) in omega (arith, same, w.1, u.1)
+      ]
+    ]
+
+-- two sets of a list have no track together that is owned once
+module _ (h : F1 → List Run) (t : ℕ) where
+  abbrev pub all_of : List F1 → List Run
+  all_of fs = flat_map h fs
+
+  pub one_of : (fs : List F1) (m : ℕ) (x : F1) → slice_get fs m ≡ Some x → owners t (h x) ≤ owners t (all_of fs)
+  one_of [] m x is = cc
+  one_of (f ∷ fs) zero x is =
+      let same : f ≡ x = cc in
+      let mine : owners t (h x) ≡ owners t (h f) = ap (λ (y : F1). owners t (h y)) (sym same) in
+      omega (arith, mine, owners_both t (h f) (all_of fs))
+  one_of (f ∷ fs) (suc m) x is = omega (arith, one_of fs m x is, owners_both t (h f) (all_of fs))
+
+  two_of : (fs : List F1) (m n : ℕ) (x y : F1) → slice_get fs m ≡ Some x → slice_get fs n ≡ Some y → m ≢ n → owners t (h x) + owners t (h y) ≤ owners t (all_of fs)
+  two_of [] m n x y first second apart = cc
+  two_of (f ∷ fs) zero zero x y first second apart = absurd (apart refl)
+  two_of (f ∷ fs) zero (suc n) x y first second apart =
+      let same : f ≡ x = cc in
+      let mine : owners t (h x) ≡ owners t (h f) = ap (λ (z : F1). owners t (h z)) (sym same) in
+      omega (arith, mine, one_of fs n y second, owners_both t (h f) (all_of fs))
+  two_of (f ∷ fs) (suc m) zero x y first second apart =
+      let same : f ≡ y = cc in
+      let mine : owners t (h y) ≡ owners t (h f) = ap (λ (z : F1). owners t (h z)) (sym same) in
+      omega (arith, mine, one_of fs m x first, owners_both t (h f) (all_of fs))
+  two_of (f ∷ fs) (suc m) (suc n) x y first second apart = omega (arith, two_of fs m n x y first second (λ e. apart (ap suc e)), owners_both t (h f) (all_of fs))
+
+-- what is the same at each place of a list
+map_at : {X Y : Type 0} (f h : X → Y) (xs : List X) → ((m : ℕ) (x : X) → slice_get xs m ≡ Some x → f x ≡ h x) → map f xs ≡ map h xs
+map_at f h [] same = refl
+map_at {Y = Y} f h (x ∷ xs) same = ap₂ (λ (y : Y) (ys : List Y). y ∷ ys) (same zero x refl) (map_at f h xs (λ m y is. same (suc m) y is))
+
+-- the data of a track, by its records
+pub data_read : (image : List ℕ) (g : Geometry) (vtoc : Run) (u : Option ℕ) (t : ℕ) → is_in t vtoc ≡ false → t < tracks_of g → records_in g (data_tracks image g vtoc) u t ≡ records_on image g u t
+unfolding records_in records_on data_tracks
+data_read image g vtoc u t out inside =
+    ap (records_of (t / heads_of g) (t % heads_of g) u)
+    (get_or-map-range_with_len (data_track image g vtoc) 0 (tracks_of g) t t [] inside (omega arith) ∙ ap (λ (b : Bool). cond b [] (track_bytes image g t)) out)
+
+pub data_past : (image : List ℕ) (g : Geometry) (vtoc : Run) (u : Option ℕ) (t : ℕ) → tracks_of g ≤ t → records_in g (data_tracks image g vtoc) u t ≡ records_of (t / heads_of g) (t % heads_of g) u []
+unfolding records_in data_tracks
+data_past image g vtoc u t past = ap (records_of (t / heads_of g) (t % heads_of g) u) (get_or_past (map (data_track image g vtoc) (range_with_len 0 (tracks_of g))) t [] (omega (arith, past, length-map-range_with_len (data_track image g vtoc) 0 (tracks_of g))))
+
+pub record KeptBehind (g : Geometry) (extents : List Run) (lstar : List ℕ) (before after : List ℕ) : Type 0 where
+  pub others : (track : ℕ) → ((k : ℕ) → slice_get (owned_tracks extents) k ≡ Some track → (last_of lstar).tt ≤ k → ⊥) → track_bytes after g track ≡ track_bytes before g track
+  pub kept : (track : ℕ) → slice_get (owned_tracks extents) (last_of lstar).tt ≡ Some track → 1 ≤ (last_of lstar).r → records_on after g (Some (last_of lstar).r) track ≡ records_on before g (Some (last_of lstar).r) track
+
+module _ (g : Geometry) (vtoc : Run) (before after : List ℕ) where
+  abbrev a : List (List ℕ)
+  a = data_tracks before g vtoc
+
+  abbrev b : List (List ℕ)
+  b = data_tracks after g vtoc
+
+  pub on_same : (u : Option ℕ) (t : ℕ) → is_in t vtoc ≡ false → records_on after g u t ≡ records_on before g u t → records_in g b u t ≡ records_in g a u t
+  on_same u t out same = elim (cases_lt t (tracks_of g)) [
+    | inl w ↦ data_read after g vtoc u t out w ∙ same ∙ sym (data_read before g vtoc u t out w)
+    | inr w ↦ data_past after g vtoc u t w ∙ sym (data_past before g vtoc u t w)
+  ]
+
+  by_bytes : (u : Option ℕ) (t : ℕ) → track_bytes after g t ≡ track_bytes before g t → records_on after g u t ≡ records_on before g u t
+  unfolding records_on
+  by_bytes u t same = ap (records_of (t / heads_of g) (t % heads_of g) u) same
+
+  set_same : (slots : List VtocSlot) (h : F1) → seq_body g b (counted_runs g slots h) h.lstar ≡ seq_body g a (counted_runs g slots h) h.lstar → data_set_of g b slots h ≡ data_set_of g a slots h
+  unfolding data_set_of body_of
+  set_same slots h same = ap (λ (y : Body). record {
+    name = record { bytes = h.name };
+    attr = attr_of h;
+    extents = counted_runs g slots h;
+    body = cond (is_sequential h.name (attr_of h)) y (cond (is_catalog h.name || is_partitioned h.name (attr_of h)) (Unreadable 0) Other);
+  }) same
+
+  -- the data sets of slots in which one keeps its records up to its last block, and owns all tracks that differ
+  pub sets_same : (slots : List VtocSlot) (m : ℕ) (f : F1) → slice_get (filter_map (λ (s : VtocSlot). set_in s.content) slots) m ≡ Some f → ((t : ℕ) → owners t (flat_map (counted_runs g slots) (filter_map (λ (s : VtocSlot). set_in s.content) slots)) ≤ 1)
+      → ((x : F1) (n k t : ℕ) → slice_get (filter_map (λ (s : VtocSlot). set_in s.content) slots) n ≡ Some x → slice_get (owned_tracks (counted_runs g slots x)) k ≡ Some t → is_in t vtoc ≡ false)
+      → (has_no_block f.lstar ≡ true) ⊎ (1 ≤ (last_of f.lstar).r) → KeptBehind g (counted_runs g slots f) f.lstar before after → data_sets_in g b slots ≡ data_sets_in g a slots
+  unfolding data_sets_in seq_body
+  sets_same slots m f there once out some kept = map_at (data_set_of g b slots) (data_set_of g a slots) fs (λ n x is. set_same slots x (each n x is))
+    where
+      fs : List F1
+      fs = filter_map (λ (s : VtocSlot). set_in s.content) slots
+
+      h : F1 → List Run
+      h = counted_runs g slots
+
+      other : (n : ℕ) (x : F1) → slice_get fs n ≡ Some x → n ≢ m → seq_body g b (h x) x.lstar ≡ seq_body g a (h x) x.lstar
+      other n x is apart = same_body g a b (h x) x.lstar (λ k t low own. one None k t own) (λ t own. one (Some (last_of x.lstar).r) (last_of x.lstar).tt t own)
+        where
+          one : (u : Option ℕ) (k t : ℕ) → slice_get (owned_tracks (h x)) k ≡ Some t → records_in g b u t ≡ records_in g a u t
+          one u k t own = on_same u t (out x n k t is own) (by_bytes u t (kept.others t (λ j mine past. absurd (omega (arith, once t, two_of h t fs n m x f is there apart, owned_some (h x) k t own, owned_some (h f) j t mine)))))
+
+      mine : seq_body g b (h f) f.lstar ≡ seq_body g a (h f) f.lstar
+      mine = ⊎_elim (λ none. cond_none none) (λ first. same_body g a b (h f) f.lstar (λ k t low own. on_same None t (out f m k t there own) (by_bytes None t (kept.others t (λ j at past. absurd (omega (arith, past, low, owned_apart (h f) k j t own at (omega (arith, once t, one_of h t fs m f there)))))))) (λ t own. on_same (Some (last_of f.lstar).r) t (out f m (last_of f.lstar).tt t there own) (kept.kept t own first))) some
+        where
+          cond_none : has_no_block f.lstar ≡ true → seq_body g b (h f) f.lstar ≡ seq_body g a (h f) f.lstar
+          cond_none none =
+              ap (λ (c : Bool). cond c (Seq []) (seq_of (map (blocks_at g b (owned_tracks (h f)) (last_of f.lstar)) (range_with_len 0 ((last_of f.lstar).tt + 1))))) none
+              ∙ sym (ap (λ (c : Bool). cond c (Seq []) (seq_of (map (blocks_at g a (owned_tracks (h f)) (last_of f.lstar)) (range_with_len 0 ((last_of f.lstar).tt + 1))))) none)
+
+      each : (n : ℕ) (x : F1) → slice_get fs n ≡ Some x → seq_body g b (h x) x.lstar ≡ seq_body g a (h x) x.lstar
+      each n x is = elim (eqb_tells n m) [
+        | inl w ↦ same_set n x is w.1
+        | inr w ↦ other n x is w.1
+      ]
+        where
+          same_set : (n : ℕ) (x : F1) → slice_get fs n ≡ Some x → n ≡ m → seq_body g b (h x) x.lstar ≡ seq_body g a (h x) x.lstar
+          same_set n x is e =
+              let one : slice_get fs m ≡ Some x = ap (slice_get fs) (sym e) ∙ is in
+              let same : f ≡ x = cc in
+              subst (λ (y : F1). seq_body g b (h y) y.lstar ≡ seq_body g a (h y) y.lstar) same mine

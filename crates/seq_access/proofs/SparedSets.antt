@@ -1,0 +1,140 @@
+-- A data set on an image, and on one that differs behind its last block alone.
+use Rattle.std.proofs.Common.{◌≡◌, ◌⊎◌, ◌+◌, ◌≤◌, ◌<◌, ◌/◌, ◌%◌, ℕ, zero, suc, Bool, true, cond, List, [], ◌∷◌, length, take, map, Option, Some, None, inl, inr, refl, sym, ap, ◌∙◌, arith, ⊎_elim}
+use Rattle.std.specs.Prelude.{slice_get}
+use Rattle.std.specs.List.{flat_map, range_with_len}
+use Rattle.ckd_image.specs.declared.header.Geometry.{Geometry}
+use Rattle.ckd_image.specs.Track.{Record}
+use Rattle.ckd_image.proofs.GeometryLemmas.{has_geometry}
+use Rattle.dscb_codec.specs.declared.F1.{F1}
+use Rattle.vol_model.specs.declared.contents.Body.TheVariants.{Seq}
+use Rattle.vol_model.specs.declared.contents.DataSet.{DataSet}
+use Rattle.vol_model.specs.declared.contents.Run.{Run}
+use Rattle.vol_model.specs.Lawful.{IsOnPack}
+use Rattle.pack_spec.specs.declared.slot.VtocSlot.{VtocSlot}
+use Rattle.pack_spec.specs.Blocks.{blocks_at, has_no_block, last_of, owned_tracks, seq_body, seq_of}
+use Rattle.pack_spec.specs.Label.{heads_of, records_on, track_bytes, tracks_of}
+use Rattle.pack_spec.specs.Rules.{has_extents}
+use Rattle.pack_spec.specs.Slots.{slots_of_vtoc, tracks_in}
+use Rattle.pack_spec.specs.Volume.{data_sets_in}
+use Rattle.pack_spec.proofs.BlockBodies.{same_body}
+use Rattle.track_records.specs.Appends.{MayContinue, continuation, start_behind}
+use Rattle.track_records.specs.Buffers.{Buffer}
+use Rattle.track_records.specs.Written.{StandsOn}
+use Rattle.track_records.proofs.FrontLemmas.{first_of}
+use Rattle.vtoc_index.specs.declared.vol.Vol.{Vol}
+use Rattle.vtoc_sets.specs.Sets.{HasSet, extents_in}
+use Rattle.seq_access.specs.Bodies.{IsSetIn, body_in, data_in, owned_in}
+use Rattle.seq_access.specs.Writing.{DifferBehind}
+use Rattle.seq_access.proofs.Checked.{mounted_with}
+use Rattle.seq_access.proofs.DataPlaces.{once, outside, own, owners, owners_more}
+use Rattle.seq_access.proofs.KeptBodies.{either, on_same, owned_apart, run_at}
+use Rattle.seq_access.proofs.OwnedPlaces.{extent_on_pack}
+use Rattle.seq_access.proofs.SparedCalls.{differ_by}
+use Rattle.seq_access.proofs.SparedFiles.{MayWrite}
+use Rattle.seq_access.proofs.SparedImages.{by_bytes, same_extents, slots_kept, spared_mounted}
+use Rattle.seq_access.proofs.WritersKept.{set_by}
+
+-- of records that are read the first ones are read too
+pub first_on : (image : List ℕ) (g : Geometry) (u : Option ℕ) (t n : ℕ) (xs : List Record) → records_on image g u t ≡ Some xs → n ≤ length xs → records_on image g (Some n) t ≡ Some (take n xs)
+unfolding records_on
+first_on image g u t n xs is low = first_of (t / heads_of g) (t % heads_of g) u (track_bytes image g t) xs is n low
+
+-- an index without the records in its buffer
+abbrev pub bare : Vol → Vol
+bare v = record v { buf = record (v.buf) { records = [] } }
+
+-- a data set of an image by an index is one by that
+pub bare_set : (image : List ℕ) (v : Vol) (f : F1) → IsSetIn image v f → IsSetIn image (bare v) f
+bare_set image v f set = record { set = set_by image v (record (v.buf) { records = [] }) f set.set refl; slot = set.slot; dscb = set.dscb }
+
+-- the tracks of runs on the pack are on it
+tracks_inside : (g : Geometry) (xs : List Run) → ((m : ℕ) (r : Run) → slice_get xs m ≡ Some r → IsOnPack g r) → (k t : ℕ) → slice_get (owned_tracks xs) k ≡ Some t → t < tracks_of g
+unfolding owned_tracks
+tracks_inside g [] on k t is = cc
+tracks_inside g (r ∷ rs) on k t is = elim (either (tracks_in r) (flat_map tracks_in rs) k t is) [
+  | inl w ↦ let at = run_at r.start r.len k t w in let here = on zero r refl in omega (arith, at.0, at.1, here.1)
+  | inr w ↦ tracks_inside g rs (λ m x there. on (suc m) x there) w.0 t w.2
+]
+
+module _ (image : List ℕ) (v : Vol) (f : F1) (set : IsSetIn image v f) where
+  pub own_once : (t : ℕ) → owners t (extents_in image v f) ≤ 1
+  own_once t =
+      let all : List Run = flat_map (λ (x : DataSet). x.extents) (data_sets_in v.geometry (data_in image v) (slots_of_vtoc image v.geometry v.vtoc)) in
+      omega (arith, once image v f set t, own image v f set t, owners_more t (record { start = 0; len = 1 }) (v.vtoc ∷ all), owners_more t v.vtoc all)
+
+  -- a track is one of the set's tracks once
+  pub own_apart : (k j t : ℕ) → slice_get (owned_in image v f) k ≡ Some t → slice_get (owned_in image v f) j ≡ Some t → k ≡ j
+  own_apart k j t first second = owned_apart (extents_in image v f) k j t first second (own_once t)
+
+  pub own_inside : (k t : ℕ) → slice_get (owned_in image v f) k ≡ Some t → t < tracks_of v.geometry
+  own_inside k t is = tracks_inside v.geometry (extents_in image v f) (extent_on_pack image v f set.set) k t is
+
+-- The body up to a last block is the same where the records are that it is made of.
+module _ (before after : List ℕ) (v : Vol) (f : F1) (set : IsSetIn before v f) (lstar : List ℕ)
+    (earlier : (k t : ℕ) → k < (last_of lstar).tt → slice_get (owned_in before v f) k ≡ Some t → records_on after v.geometry None t ≡ records_on before v.geometry None t)
+    (at : (t : ℕ) → slice_get (owned_in before v f) (last_of lstar).tt ≡ Some t → 1 ≤ (last_of lstar).r → records_on after v.geometry (Some (last_of lstar).r) t ≡ records_on before v.geometry (Some (last_of lstar).r) t) where
+  abbrev g : Geometry
+  g = v.geometry
+
+  abbrev extents : List Run
+  extents = extents_in before v f
+
+  pub upto_kept : (has_no_block lstar ≡ true) ⊎ (1 ≤ (last_of lstar).r) → seq_body g (data_in after v) extents lstar ≡ seq_body g (data_in before v) extents lstar
+  unfolding seq_body
+  upto_kept some = ⊎_elim none_there (λ first. same_body g (data_in before v) (data_in after v) extents lstar
+      (λ k t low own. on_same g v.vtoc before after None t (outside before v f set k t own) (earlier k t low own))
+      (λ t own. on_same g v.vtoc before after (Some (last_of lstar).r) t (outside before v f set (last_of lstar).tt t own) (at t own first))) some
+    where
+      none_there : has_no_block lstar ≡ true → seq_body g (data_in after v) extents lstar ≡ seq_body g (data_in before v) extents lstar
+      none_there none =
+          ap (λ (c : Bool). cond c (Seq []) (seq_of (map (blocks_at g (data_in after v) (owned_tracks extents) (last_of lstar)) (range_with_len 0 ((last_of lstar).tt + 1))))) none
+          ∙ sym (ap (λ (c : Bool). cond c (Seq []) (seq_of (map (blocks_at g (data_in before v) (owned_tracks extents) (last_of lstar)) (range_with_len 0 ((last_of lstar).tt + 1))))) none)
+
+module _ (before after : List ℕ) (v : Vol) (f : F1) (set : IsSetIn before (bare v) f)
+    (some : (has_no_block f.lstar ≡ true) ⊎ (1 ≤ (last_of f.lstar).r)) (differ : DifferBehind v f before after) where
+  differ_bare : DifferBehind (bare v) f before after
+  differ_bare = differ_by v (record (v.buf) { records = [] }) f before after differ
+
+  pub same_runs : extents_in after v f ≡ extents_in before v f
+  same_runs = same_extents before after (bare v) f set some differ_bare f
+
+  pub tracks_kept : owned_in after v f ≡ owned_in before v f
+  tracks_kept = ap owned_tracks same_runs
+
+  -- so its body is
+  pub body_kept : body_in after v f ≡ body_in before v f
+  body_kept =
+      ap (λ (xs : List Run). seq_body v.geometry (data_in after v) xs f.lstar) same_runs
+      ∙ upto_kept before after (bare v) f set f.lstar
+      (λ k t low own. by_bytes v.geometry None t before after (differ.others t (λ j mine past. absurd (omega (arith, low, past, own_apart before (bare v) f set k j t own mine)))))
+      differ.kept some
+
+  -- and it is one of that image, whatever the buffer holds of that
+  pub set_kept : (b : Buffer) → (b.records ≡ []) ⊎ StandsOn after b → HasSet after (record v { buf = b }) f
+  set_kept b held = record {
+    mounted = mounted_with after (bare v) b (spared_mounted before after (bare v) f set some differ_bare (inl refl)) held;
+    extents = ap (λ (ss : List VtocSlot). has_extents v.geometry ss f) (slots_kept before after (bare v) f set some differ_bare) ∙ set.set.extents;
+  }
+
+  -- A buffer of a track that isn't before the last block's, which holds the records up to that block there, may be written behind.
+  pub may_write : (b : Buffer) (new : List Record) (k : ℕ) → b.geometry ≡ v.geometry → start_behind b.records + length (continuation b new) ≤ v.geometry.track_size
+      → slice_get (owned_in after v f) k ≡ Some b.track → (last_of f.lstar).tt ≤ k → ((last_of f.lstar).tt ≡ k → (last_of f.lstar).r ≤ length b.records) → MayContinue after b → MayWrite before v f b new
+  may_write b new k same room owned past low may =
+      let there : slice_get (owned_in before v f) k ≡ Some b.track = ap (λ (ts : List ℕ). slice_get ts k) (sym tracks_kept) ∙ owned in
+      record {
+        geometry = same;
+        whole = has_geometry (take 512 before) (length before) v.geometry set.set.mounted.index.header;
+        inside = own_inside before (bare v) f set k b.track there;
+        room = room;
+        k = k;
+        owned = there;
+        past = past;
+        first = λ at one.
+            let here = low (own_apart before (bare v) f set (last_of f.lstar).tt k b.track at there) in
+            (here, sym (differ.kept b.track at one) ∙ front here one may);
+      }
+    where
+      front : (last_of f.lstar).r ≤ length b.records → 1 ≤ (last_of f.lstar).r → MayContinue after b → records_on after v.geometry (Some (last_of f.lstar).r) b.track ≡ Some (take (last_of f.lstar).r b.records)
+      front here one may = ⊎_elim (λ none. absurd (omega (arith, here, one, ap length none))) (λ stands.
+          ap (λ (x : Geometry). records_on after x (Some (last_of f.lstar).r) b.track) (sym same)
+          ∙ first_on after b.geometry stands.0 b.track (last_of f.lstar).r b.records stands.1 here) may

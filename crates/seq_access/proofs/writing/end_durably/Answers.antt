@@ -1,0 +1,125 @@
+use Rattle.std.proofs.Common.{◌≡◌, ◌∙◌, List, ℕ, ap, refl, subst, sym}
+use Rattle.std.proofs.lemmas.Result.{IfOk-from_err}
+use Rattle.hall_core.specs.Facts.{Attached, unit_of}
+use Rattle.hall_core.specs.Images.{image_in}
+use Rattle.vtoc_index.specs.Index.{IsMounted}
+use Rattle.vtoc_index.specs.declared.vol.Vol.{Vol}
+use Rattle.seq_access.specs.Writing.{body_so_far}
+use Rattle.seq_access.proofs.EndSteps.{blocks_back, leaves_all, moved_writing, no_time, spares_from, sync_time}
+use Rattle.seq_access.proofs.PutCalls.{image_as}
+use Rattle.seq_access.proofs.SparedCalls.{spares_same}
+use Rattle.seq_access.proofs.writing.end_durably.Goals as goal
+
+pub returns-in_err-balance-clause-files : goal.returns-in_err-balance-clause-files
+returns-in_err-balance-clause-files g c told is before set left here =
+    let v = c.args.vol.now in
+    let m0 = g.H.Hall.meaning c.args.hall.now in
+    let m1 = g.H.Hall.meaning c.last_balance.new.hall in
+    let name : List ℕ = (unit_of (g.H.Hall.facts c.args.hall.now).units v.unit).name in
+    leaves_all name v is.f m0 m1 m1 c.last_balance.result c.from_residual.result (spares_same name v is.f m0 m1 c.last_balance.result (c.last_balance.ensures.same told)) (IfOk-from_err c.from_residual.result _ c.from_residual.ensures.0) refl refl (no_time m1) before set left here
+
+pub put_end-requires-clause-writing : goal.put_end-requires-clause-writing
+put_end-requires-clause-writing g c told =
+    let v0 = c.args.vol.now in
+    let v1 = c.last_balance.new.vol in
+    let m0 = g.H.Hall.meaning c.args.hall.now in
+    let m1 = g.H.Hall.meaning c.last_balance.new.hall in
+    let f0 = g.H.Hall.facts c.args.hall.now in
+    let f1 = g.H.Hall.facts c.last_balance.new.hall in
+    let others = c.last_balance.ensures.others in
+    let image = image_as m0 m1 f0 f1 v0.unit v1.unit (c.last_balance.ensures.same told).state c.in_ok-balance.ensures.faults.units (ap (λ (v : Vol). v.unit) others) in
+    moved_writing (image_in m0 f0 v0.unit) (image_in m1 f1 v1.unit) v0 v1 c.args.writer image others (c.last_balance.ensures.mounted told) (c.requires.writing told)
+
+pub returns-in_err-put_end-clause-files : goal.returns-in_err-put_end-clause-files
+returns-in_err-put_end-clause-files g c told is before set left here =
+    let v0 = c.args.vol.now in
+    let v1 = c.last_balance.new.vol in
+    let m0 = g.H.Hall.meaning c.args.hall.now in
+    let m1 = g.H.Hall.meaning c.last_balance.new.hall in
+    let m2 = g.H.Hall.meaning c.put_end.new.hall in
+    let f0 = g.H.Hall.facts c.args.hall.now in
+    let f1 = g.H.Hall.facts c.last_balance.new.hall in
+    let others = c.last_balance.ensures.others in
+    let units = c.in_ok-balance.ensures.faults.units in
+    let quiet = c.last_balance.ensures.same told in
+    let image = image_as m0 m1 f0 f1 v0.unit v1.unit quiet.state units (ap (λ (v : Vol). v.unit) others) in
+    let n0 : List ℕ = (unit_of f0.units v0.unit).name in
+    let n1 : List ℕ = (unit_of f1.units v1.unit).name in
+    let names : n1 ≡ n0 = ap (λ (v : Vol). (unit_of f1.units v.unit).name) others ∙ ap (λ (us : List Attached). (unit_of us v0.unit).name) units in
+    let spares = spares_from (image_in m0 f0 v0.unit) (image_in m1 f1 v1.unit) v0 v1 c.args.writer image others (c.last_balance.ensures.mounted told) is n0 n1 m0 m1 m2 c.put_end.result names quiet (c.put_end.ensures.spares told) in
+    leaves_all n0 v0 is.f m0 m2 m2 c.put_end.result c.from_residual-in_err-put_end.result spares (IfOk-from_err c.from_residual-in_err-put_end.result _ c.from_residual-in_err-put_end.ensures.0) refl refl (no_time m2) before set left here
+
+pub returns-in_err-make_durable-clause-files : goal.returns-in_err-make_durable-clause-files
+returns-in_err-make_durable-clause-files g c told is before set left here =
+    let v0 = c.args.vol.now in
+    let v1 = c.last_balance.new.vol in
+    let m0 = g.H.Hall.meaning c.args.hall.now in
+    let m1 = g.H.Hall.meaning c.last_balance.new.hall in
+    let m2 = g.H.Hall.meaning c.put_end.new.hall in
+    let m3 = g.H.Hall.meaning c.make_durable.new.hall in
+    let f0 = g.H.Hall.facts c.args.hall.now in
+    let f1 = g.H.Hall.facts c.last_balance.new.hall in
+    let others = c.last_balance.ensures.others in
+    let units = c.in_ok-balance.ensures.faults.units in
+    let quiet = c.last_balance.ensures.same told in
+    let image = image_as m0 m1 f0 f1 v0.unit v1.unit quiet.state units (ap (λ (v : Vol). v.unit) others) in
+    let n0 : List ℕ = (unit_of f0.units v0.unit).name in
+    let n1 : List ℕ = (unit_of f1.units v1.unit).name in
+    let names : n1 ≡ n0 = ap (λ (v : Vol). (unit_of f1.units v.unit).name) others ∙ ap (λ (us : List Attached). (unit_of us v0.unit).name) units in
+    let spares = spares_from (image_in m0 f0 v0.unit) (image_in m1 f1 v1.unit) v0 v1 c.args.writer image others (c.last_balance.ensures.mounted told) is n0 n1 m0 m1 m2 c.put_end.result names quiet (c.put_end.ensures.spares told) in
+    let sync = c.make_durable.ensures.files told in
+    leaves_all n0 v0 is.f m0 m2 m3 c.put_end.result c.from_residual-in_err-make_durable.result spares (IfOk-from_err c.from_residual-in_err-make_durable.result _ c.from_residual-in_err-make_durable.ensures.0) sync.state sync.printed (sync_time m2 m3 c.make_durable.result sync) before set left here
+
+pub returns-clause-files : goal.returns-clause-files
+returns-clause-files g c told is before set left here =
+    let v0 = c.args.vol.now in
+    let v1 = c.last_balance.new.vol in
+    let m0 = g.H.Hall.meaning c.args.hall.now in
+    let m1 = g.H.Hall.meaning c.last_balance.new.hall in
+    let m2 = g.H.Hall.meaning c.put_end.new.hall in
+    let m3 = g.H.Hall.meaning c.make_durable.new.hall in
+    let f0 = g.H.Hall.facts c.args.hall.now in
+    let f1 = g.H.Hall.facts c.last_balance.new.hall in
+    let others = c.last_balance.ensures.others in
+    let units = c.in_ok-balance.ensures.faults.units in
+    let quiet = c.last_balance.ensures.same told in
+    let image = image_as m0 m1 f0 f1 v0.unit v1.unit quiet.state units (ap (λ (v : Vol). v.unit) others) in
+    let n0 : List ℕ = (unit_of f0.units v0.unit).name in
+    let n1 : List ℕ = (unit_of f1.units v1.unit).name in
+    let names : n1 ≡ n0 = ap (λ (v : Vol). (unit_of f1.units v.unit).name) others ∙ ap (λ (us : List Attached). (unit_of us v0.unit).name) units in
+    let spares = spares_from (image_in m0 f0 v0.unit) (image_in m1 f1 v1.unit) v0 v1 c.args.writer image others (c.last_balance.ensures.mounted told) is n0 n1 m0 m1 m2 c.put_end.result names quiet (c.put_end.ensures.spares told) in
+    let sync = c.make_durable.ensures.files told in
+    let done = c.in_ok-make_durable.ensures.files told in
+    leaves_all n0 v0 is.f m0 m2 m3 c.put_end.result _ spares done.done sync.state sync.printed (sync_time m2 m3 c.make_durable.result sync) before set left here
+
+pub returns-clause-blocks : goal.returns-clause-blocks
+returns-clause-blocks g c told is =
+    let v0 = c.args.vol.now in
+    let v1 = c.last_balance.new.vol in
+    let v2 = c.put_end.new.vol in
+    let m0 = g.H.Hall.meaning c.args.hall.now in
+    let m1 = g.H.Hall.meaning c.last_balance.new.hall in
+    let m2 = g.H.Hall.meaning c.put_end.new.hall in
+    let m3 = g.H.Hall.meaning c.make_durable.new.hall in
+    let f0 = g.H.Hall.facts c.args.hall.now in
+    let f1 = g.H.Hall.facts c.last_balance.new.hall in
+    let f2 = g.H.Hall.facts c.put_end.new.hall in
+    let f3 = g.H.Hall.facts c.make_durable.new.hall in
+    let others = c.last_balance.ensures.others in
+    let number : v1.unit ≡ v0.unit = ap (λ (v : Vol). v.unit) others in
+    let image = image_as m0 m1 f0 f1 v0.unit v1.unit (c.last_balance.ensures.same told).state c.in_ok-balance.ensures.faults.units number in
+    let last = image_as m2 m3 f2 f3 v1.unit v0.unit (c.make_durable.ensures.files told).state c.in_ok-make_durable.ensures.faults.units (sym number) in
+    ap (λ (i : List ℕ). body_so_far i v2 is.f c.args.writer) last
+    ∙ blocks_back (image_in m0 f0 v0.unit) (image_in m1 f1 v1.unit) v0 v1 c.args.writer image others (c.last_balance.ensures.mounted told) is (image_in m2 f2 v1.unit) v2 (c.in_ok-put_end.ensures.blocks told)
+
+pub returns-clause-mounted : goal.returns-clause-mounted
+returns-clause-mounted g c told =
+    let v0 = c.args.vol.now in
+    let v1 = c.last_balance.new.vol in
+    let m2 = g.H.Hall.meaning c.put_end.new.hall in
+    let m3 = g.H.Hall.meaning c.make_durable.new.hall in
+    let f2 = g.H.Hall.facts c.put_end.new.hall in
+    let f3 = g.H.Hall.facts c.make_durable.new.hall in
+    let number : v1.unit ≡ v0.unit = ap (λ (v : Vol). v.unit) c.last_balance.ensures.others in
+    let last = image_as m2 m3 f2 f3 v1.unit v0.unit (c.make_durable.ensures.files told).state c.in_ok-make_durable.ensures.faults.units (sym number) in
+    subst (λ (i : List ℕ). IsMounted i c.put_end.new.vol) (sym last) (c.in_ok-put_end.ensures.mounted told)

@@ -1,0 +1,97 @@
+use Rattle.std.proofs.Common.{◌≡◌, ◌∙◌, List, ℕ, length, ap, arith, refl, rules, subst, true}
+use Rattle.ckd_image.specs.Header.{is_track_size}
+use Rattle.ckd_image.specs.declared.header.Geometry.{Geometry}
+use Rattle.hall_core.specs.Facts.{unit_of}
+use Rattle.vtoc_index.specs.declared.vol.Vol.{Vol}
+use Rattle.seq_access.proofs.PutCalls.{call_mounted, call_puts, call_spares}
+use Rattle.seq_access.proofs.PutSteps.{fits_few, fits_room}
+use Rattle.seq_access.proofs.SparedCalls.{spares_as}
+use Rattle.seq_access.proofs.writing.put.Goals as goal
+
+pub returns-in_err-place-clause-spares : goal.returns-in_err-place-clause-spares
+returns-in_err-place-clause-spares g c told is =
+    let v0 = c.args.vol.now in
+    let name : List ℕ = (unit_of (g.H.Hall.facts c.args.hall.now).units v0.unit).name in
+    spares_as name v0 is.f (g.H.Hall.meaning c.args.hall.now) (g.H.Hall.meaning c.make_ready.new.hall) c.make_ready.result _ (c.make_ready.ensures.spares told is)
+
+pub returns-in_err-place-clause-mounted : goal.returns-in_err-place-clause-mounted
+returns-in_err-place-clause-mounted g c told not = c.make_ready.ensures.mounted told (λ device. not (search rules))
+
+pub append-requires-clause-few : goal.append-requires-clause-few
+append-requires-clause-few g c = fits_few c.make_ready.new.vol.buf c.args.vol.now.geometry.device (length c.args.key.now) (length c.args.payload.now) c.in_ok-place.ensures.fits
+
+pub append-requires-clause-room : goal.append-requires-clause-room
+append-requires-clause-room g c =
+    let v1 = c.make_ready.new.vol in
+    let geometry : v1.buf.geometry ≡ c.args.vol.now.geometry = c.in_ok-place.ensures.unit.buffer.0 ∙ ap (λ (v : Vol). v.geometry) c.in_ok-place.ensures.others in
+    let lawful : is_track_size c.args.vol.now.geometry.device v1.buf.geometry.track_size ≡ true = subst (λ (x : Geometry). is_track_size x.device v1.buf.geometry.track_size ≡ true) geometry c.in_ok-place.ensures.roomy.track.whole.track_size in
+    fits_room v1.buf c.args.vol.now.geometry.device (length c.args.key.now) (length c.args.payload.now) c.in_ok-place.ensures.fits lawful
+
+pub returns-in_err-append-clause-spares : goal.returns-in_err-append-clause-spares
+returns-in_err-append-clause-spares g c told is =
+    let v0 = c.args.vol.now in
+    let v1 = c.make_ready.new.vol in
+    let m0 = g.H.Hall.meaning c.args.hall.now in
+    let m1 = g.H.Hall.meaning c.make_ready.new.hall in
+    let m2 = g.H.Hall.meaning c.append.new.hall in
+    let f0 = g.H.Hall.facts c.args.hall.now in
+    let f1 = g.H.Hall.facts c.make_ready.new.hall in
+    let f2 = g.H.Hall.facts c.append.new.hall in
+    let key : List ℕ = c.args.key.now in
+    let payload : List ℕ = c.args.payload.now in
+    let units = c.in_ok-place.ensures.faults.units in
+    let ready = c.in_ok-place.ensures.ready told is in
+    let geometry : v1.buf.geometry ≡ c.args.vol.now.geometry = c.in_ok-place.ensures.unit.buffer.0 ∙ ap (λ (v : Vol). v.geometry) c.in_ok-place.ensures.others in
+    let lawful : is_track_size c.args.vol.now.geometry.device v1.buf.geometry.track_size ≡ true = subst (λ (x : Geometry). is_track_size x.device v1.buf.geometry.track_size ≡ true) geometry c.in_ok-place.ensures.roomy.track.whole.track_size in
+    call_spares m0 m1 m2 f0 f1 f2 v0 v1 c.args.writer.now is (length key) (length payload) c.in_ok-place.place c.in_ok-place.ensures.others c.in_ok-place.ensures.unit units ready c.in_ok-place.ensures.numbers.0 c.in_ok-place.ensures.numbers.1 key payload refl c.in_ok-place.place c.append.result _ (c.in_ok-place.ensures.spares told is) (fits_room v1.buf c.args.vol.now.geometry.device (length c.args.key.now) (length c.args.payload.now) c.in_ok-place.ensures.fits lawful) (c.append.ensures.files told)
+
+pub returns-clause-put : goal.returns-clause-put
+returns-clause-put g c told is =
+    let v0 = c.args.vol.now in
+    let v1 = c.make_ready.new.vol in
+    let m0 = g.H.Hall.meaning c.args.hall.now in
+    let m1 = g.H.Hall.meaning c.make_ready.new.hall in
+    let m2 = g.H.Hall.meaning c.append.new.hall in
+    let f0 = g.H.Hall.facts c.args.hall.now in
+    let f1 = g.H.Hall.facts c.make_ready.new.hall in
+    let f2 = g.H.Hall.facts c.append.new.hall in
+    let key : List ℕ = c.args.key.now in
+    let payload : List ℕ = c.args.payload.now in
+    let units = c.in_ok-place.ensures.faults.units in
+    let ready = c.in_ok-place.ensures.ready told is in
+    call_puts m0 m1 m2 f0 f1 f2 v0 v1 c.args.writer.now is (length key) (length payload) c.in_ok-place.place c.in_ok-place.ensures.others c.in_ok-place.ensures.unit units ready c.in_ok-place.ensures.numbers.0 c.in_ok-place.ensures.numbers.1 key payload refl c.append.new.buf c.append.ensures.buffer (c.in_ok-append.ensures.record told) c.requires.key c.requires.payload (omega arith) (omega arith)
+
+pub returns-clause-spares : goal.returns-clause-spares
+returns-clause-spares g c told is =
+    let v0 = c.args.vol.now in
+    let v1 = c.make_ready.new.vol in
+    let m0 = g.H.Hall.meaning c.args.hall.now in
+    let m1 = g.H.Hall.meaning c.make_ready.new.hall in
+    let m2 = g.H.Hall.meaning c.append.new.hall in
+    let f0 = g.H.Hall.facts c.args.hall.now in
+    let f1 = g.H.Hall.facts c.make_ready.new.hall in
+    let f2 = g.H.Hall.facts c.append.new.hall in
+    let key : List ℕ = c.args.key.now in
+    let payload : List ℕ = c.args.payload.now in
+    let units = c.in_ok-place.ensures.faults.units in
+    let ready = c.in_ok-place.ensures.ready told is in
+    let geometry : v1.buf.geometry ≡ c.args.vol.now.geometry = c.in_ok-place.ensures.unit.buffer.0 ∙ ap (λ (v : Vol). v.geometry) c.in_ok-place.ensures.others in
+    let lawful : is_track_size c.args.vol.now.geometry.device v1.buf.geometry.track_size ≡ true = subst (λ (x : Geometry). is_track_size x.device v1.buf.geometry.track_size ≡ true) geometry c.in_ok-place.ensures.roomy.track.whole.track_size in
+    call_spares m0 m1 m2 f0 f1 f2 v0 v1 c.args.writer.now is (length key) (length payload) c.in_ok-place.place c.in_ok-place.ensures.others c.in_ok-place.ensures.unit units ready c.in_ok-place.ensures.numbers.0 c.in_ok-place.ensures.numbers.1 key payload refl c.in_ok-place.place c.append.result _ (c.in_ok-place.ensures.spares told is) (fits_room v1.buf c.args.vol.now.geometry.device (length c.args.key.now) (length c.args.payload.now) c.in_ok-place.ensures.fits lawful) (c.append.ensures.files told)
+
+pub returns-clause-mounted : goal.returns-clause-mounted
+returns-clause-mounted g c told not =
+    let is = c.requires.writing told in
+    let v0 = c.args.vol.now in
+    let v1 = c.make_ready.new.vol in
+    let m0 = g.H.Hall.meaning c.args.hall.now in
+    let m1 = g.H.Hall.meaning c.make_ready.new.hall in
+    let m2 = g.H.Hall.meaning c.append.new.hall in
+    let f0 = g.H.Hall.facts c.args.hall.now in
+    let f1 = g.H.Hall.facts c.make_ready.new.hall in
+    let f2 = g.H.Hall.facts c.append.new.hall in
+    let key : List ℕ = c.args.key.now in
+    let payload : List ℕ = c.args.payload.now in
+    let units = c.in_ok-place.ensures.faults.units in
+    let ready = c.in_ok-place.ensures.ready told is in
+    call_mounted m0 m1 m2 f0 f1 f2 v0 v1 c.args.writer.now is (length key) (length payload) c.in_ok-place.place c.in_ok-place.ensures.others c.in_ok-place.ensures.unit units ready c.in_ok-place.ensures.numbers.0 c.in_ok-place.ensures.numbers.1 key payload refl c.append.new.buf c.append.ensures.buffer (c.in_ok-append.ensures.record told)

@@ -1,0 +1,36 @@
+//! What writes blocks behind those of a sequential data set.
+ghost use Rattle.std.specs.Prelude.{◌≡◌};
+ghost use Rattle.seq_access.specs.declared.writer.PutErr.TheVariants as put_err;
+
+use hall_core::Device as DeviceFault;
+use vol_model::Place;
+
+/// A writer that is open on a sequential data set.
+#[derive(Clone, Copy, Debug)]
+pub struct Writer {
+    /// The slot of the set's format 1.
+    pub slot: u32,
+    /// Where the last block stands, put or not; of a set without blocks, record 0 of track 0.
+    pub last: Place,
+    /// Whether a block was put.
+    pub has_put: bool,
+}
+
+/// Why a block wasn't put.
+#[derive(Clone, Copy, Debug, PartialEq, Eq)]
+pub enum PutErr {
+    /// The set owns no track for it.
+    NeedExtent,
+    /// It fits no track of the device.
+    TooLong,
+    /// A device failed.
+    Device,
+}
+
+impl From<DeviceFault> for PutErr {
+    ghost from_gives = { λ _ e. e ≡ put_err.Device };
+
+    fn from(_fault: DeviceFault) -> PutErr {
+        PutErr::Device
+    }
+}

@@ -1,0 +1,225 @@
+-- A block that is put by the writer of one of several packs, or isn't: what the call on its pack leaves and answers, by the shelf.
+use Rattle.std.proofs.Common.{◌≡◌, ◌≤◌, ℕ, true, false, List, [], ◌∷◌, length, set, Some, Result, Ok, Err, refl, sym, ap, ◌∙◌, subst}
+use Rattle.std.specs.Prelude.{IfOk, IsErrOf, OnErr, slice_get}
+use Rattle.dscb_codec.specs.declared.Dscb.TheVariants as formats
+use Rattle.dscb_codec.specs.declared.F1.{F1}
+use Rattle.free_rebuild.specs.Repairs.{image_named}
+use Rattle.hall_core.specs.Facts.{Attached, Facts, unit_of}
+use Rattle.stop_model.specs.Files.{File}
+use Rattle.stop_model.specs.Moments.{Meaning}
+use Rattle.stop_model.proofs.MomentLemmas.{CountsNow}
+use Rattle.track_records.specs.Buffers.{Buffer}
+use Rattle.vol_model.specs.declared.contents.Place.{Place}
+use Rattle.vol_model.specs.declared.contents.Shelf.{Shelf}
+use Rattle.vol_model.specs.Places.{Content, fits_a_track}
+use Rattle.vol_model.specs.Writing.{OpenWriter, did_put, room_for, set_on, with_puts}
+use Rattle.vtoc_index.specs.declared.vol.Vol.{Vol}
+use Rattle.vtoc_index.specs.Index.{IsMounted, IsOfUnit}
+use Rattle.vtoc_index.specs.Names.{AreByName, name_at}
+use Rattle.dadsm_ops.proofs.FoundSets.{FoundSet, set_found}
+use Rattle.seq_access.specs.declared.writer.PutErr.{PutErr}
+use Rattle.seq_access.specs.declared.writer.PutErr.TheVariants.{Device, NeedExtent, TooLong}
+use Rattle.seq_access.specs.declared.writer.Writer.{Writer as BlockWriter}
+use Rattle.seq_access.specs.Bodies.{owned_in}
+use Rattle.seq_access.specs.Writing.{IsPutBehind, IsWriting, Spares, place_next, puts_in}
+use Rattle.seq_access.proofs.WritersKept.{puts_with}
+use Rattle.shelf_machine.specs.Known.{AreHeld, ForgetsOn, HaveBuffers}
+use Rattle.shelf_machine.specs.Machine.{AreIndexes, AreInOrder, AreKept, base_of, shelf_under, units_of, writer_in}
+use Rattle.shelf_machine.specs.Opening.{names_of}
+use Rattle.shelf_machine.specs.Operating.{IsSamePack}
+use Rattle.shelf_machine.specs.Pending.{HasSlot, IsInSlot, IsPendingBy, IsWriterOn, IsWritingBy}
+use Rattle.shelf_machine.specs.Putting.{DidPut, PutsOn}
+use Rattle.shelf_machine.specs.Reads.{HasVolume, IsSetOn}
+use Rattle.shelf_machine.specs.declared.known.Known.{Known}
+use Rattle.shelf_machine.specs.declared.writer.Writer.{Writer}
+use Rattle.shelf_machine.proofs.Holding.{kept_mounted, volume_there}
+use Rattle.shelf_machine.proofs.ListPlaces.{get_set, map_set_same, within}
+use Rattle.shelf_machine.proofs.Operating.{base_same, indexes_after, order_after}
+use Rattle.shelf_machine.proofs.Pendings.{writing_of}
+use Rattle.shelf_machine.proofs.PutAnswers.{put_answer, put_refused, put_wants, writer_is}
+use Rattle.shelf_machine.proofs.PutOnPacks.{puts_on}
+use Rattle.shelf_machine.proofs.PutRooms.{filling}
+use Rattle.shelf_machine.proofs.Putting.{leaves_behind, stands_still, writer_stands}
+use Rattle.shelf_machine.proofs.ShelfReads.{is_set}
+
+some_vol : {a b : Vol} → Some a ≡ Some b → a ≡ b
+some_vol same = cc
+
+-- ---- what stays, whatever the call answers
+
+-- an index with another buffer is of the same pack
+pub same_pack : (v v' : Vol) → v' ≡ record v { buf = v'.buf } → IsSamePack v v'
+same_pack v v' others = record {
+  unit = ap (λ (x : Vol). x.unit) others;
+  serial = ap (λ (x : Vol). x.serial.bytes) others;
+  geometry = ap (λ (x : Vol). x.geometry) others;
+  vtoc = ap (λ (x : Vol). x.vtoc) others;
+}
+
+module _ (old new : Facts) (vols : List Vol) (k : ℕ) (v v' : Vol) (at : slice_get vols k ≡ Some v) (others : v' ≡ record v { buf = v'.buf }) (units : new.units ≡ old.units) where
+  pub indexes_put : AreIndexes old.units vols → IsOfUnit new.units v' → AreIndexes new.units (set vols k v')
+  indexes_put = indexes_after old new vols k v v' at (same_pack v v' others) units
+
+  pub order_put : AreInOrder vols → AreInOrder (set vols k v')
+  order_put order = order_after old new vols k v v' at (same_pack v v' others) units order (subst (λ (x : Vol). AreByName (name_at x.slots.items) x.by_name.items) (sym others) (order k v at))
+
+  pub base_put : new.references ≡ old.references → base_of new (set vols k v') ≡ base_of old vols
+  base_put = base_same old new vols k v v' at (same_pack v v' others) units
+
+-- the slot is the writer's still, and each pack has its buffer
+module _ (vols : List Vol) (k : ℕ) (v v' : Vol) (at : slice_get vols k ≡ Some v) (others : v' ≡ record v { buf = v'.buf }) where
+  pub slot_put : (w : Writer) (i : BlockWriter) → w.v ≡ k → i.slot ≡ w.inner.slot → HasSlot vols (Some w) → HasSlot (set vols k v') (Some (record w { inner = i }))
+  slot_put w i number slot has =
+      let put : slice_get (set vols k v') w.v ≡ Some v' = ap (slice_get (set vols k v')) number ∙ get_set vols k v v' at in
+      let was : IsInSlot v w = has.1 v (ap (slice_get vols) number ∙ at) in
+      let here : IsInSlot v (record w { inner = i }) = (was.0 ∙ ap (λ (n : ℕ). Some n) (sym slot), was.1) in (
+        within (set vols k v') w.v v' put,
+        λ u there. subst (λ (x : Vol). IsInSlot x (record w { inner = i })) (sym others ∙ some_vol (sym put ∙ there)) here,
+      )
+
+  pub buffers_put : (known known' : List Known) → ForgetsOn k known known' → HaveBuffers vols known → HaveBuffers (set vols k v') known'
+  buffers_put known known' forgot have = forgot.buffers ∙ have ∙ sym (map_set_same (λ (x : Vol). x.geometry) vols k v v' at (ap (λ (x : Vol). x.geometry) others))
+
+-- ---- what the call leaves and answers, where the hall tells
+
+-- What a call says that puts a content behind a writer's blocks, or doesn't: as its contract has it.
+pub record Puts {image : List ℕ} {v : Vol} {i : BlockWriter} (is : IsWriting image v i) (name after : List ℕ) (c : Content) (v' : Vol) (i' : BlockWriter) (m m' : Meaning (List File)) (r : Result Place PutErr) : Type 0 where
+  pub put : IfOk r (λ place. (x : IsWriting image v i) → IsPutBehind x c place (image_named m'.state after) v' i')
+  pub spares : Spares name v is.f m m' r
+  pub long : IsErrOf r TooLong → fits_a_track v.geometry.device c ≡ false
+  pub short : ¬ IsErrOf r TooLong → fits_a_track v.geometry.device c ≡ true
+  pub need : IsErrOf r NeedExtent → length (owned_in image v is.f) ≤ (place_next is c).tt
+  pub long_same : IsErrOf r TooLong → m'.state ≡ m.state
+  pub need_same : IsErrOf r NeedExtent → m'.state ≡ m.state
+  pub mounted : ¬ IsErrOf r Device → IsMounted (image_named m'.state after) v'
+  pub writer : OnErr r (i' ≡ i)
+  pub slot : i'.slot ≡ i.slot
+
+module _ (old : Facts) (vols : List Vol) (m : Meaning (List File)) (kept : AreKept m.state old.units vols) (w : Writer) (v : Vol) (at : slice_get vols w.v ≡ Some v) (slot : HasSlot vols (Some w)) (pending : IsPendingBy m old.units vols (Some w)) where
+  abbrev pub name : List ℕ
+  name = (unit_of old.units v.unit).name
+
+  abbrev pub image : List ℕ
+  image = image_named m.state name
+
+  pub found : FoundSet w.dsn.bytes v.slots.items w.inner.slot
+  found = set_found w.dsn.bytes v.slots.items w.inner.slot (slot.1 v at).0
+
+  abbrev pub f : F1
+  f = found.f
+
+  pub on : IsWriterOn image v w
+  on = (pending v at).0
+
+  abbrev pub by : IsWritingBy image v f w.inner
+  by = on.writing f found.set
+
+  -- the writer of blocks stands on the image of its pack
+  abbrev pub writing_here : IsWriting image v w.inner
+  writing_here = writing_of image v f w.inner (kept w.v v at).kept found.set by
+
+  module _ (new : Facts) (indexes : AreIndexes old.units vols) (m' : Meaning (List File)) (counts : CountsNow m) (left : m.left m.state) (units : new.units ≡ old.units) where
+    abbrev shelf : Shelf
+    shelf = shelf_under (names_of old.units (units_of vols)) m.state
+
+    abbrev has : HasVolume shelf w.v v
+    has = record {
+      image = image;
+      mounted = kept_mounted m.state old.units vols kept w.v v at;
+      there = volume_there m.state old.units vols (kept_mounted m.state old.units vols kept) indexes.serials w.v v at;
+    }
+
+    set_there : IsSetOn image v (set_on shelf w.v w.dsn.bytes) (Some f)
+    set_there = is_set shelf w.v v has w.dsn.bytes w.inner.slot f (slot.1 v at).0 found.set
+
+    -- with another buffer in the index
+    module _ (c : Content) (b : Buffer) (i : BlockWriter) where
+      abbrev v' : Vol
+      v' = record v { buf = b }
+
+      abbrev w' : Writer
+      w' = record w { inner = i }
+
+      abbrev vols' : List Vol
+      vols' = set vols w.v v'
+
+      still : m'.state ≡ m.state → IsMounted (image_named m'.state name) v' → i ≡ w.inner → IsWriterOn (image_named m'.state name) v' w'
+      still state mounted same =
+          subst (λ (x : BlockWriter). IsWriterOn (image_named m'.state name) v' (record w { inner = x })) (sym same)
+          (stands_still name m v (kept w.v v at) w on (pending v at).1 f found.set m' b state mounted)
+
+      -- the writer stands on the image, unless the device failed
+      stands : (r : Result Place PutErr) → Puts writing_here name name c v' i m m' r → ¬ IsErrOf r Device → IsWriterOn (image_named m'.state name) v' w'
+      stands (Ok place) run none = writer_stands image (image_named m'.state name) v b w w' refl on (run.put writing_here).writing
+      stands (Err TooLong) run none = still (run.long_same refl) (run.mounted none) run.writer
+      stands (Err NeedExtent) run none = still (run.need_same refl) (run.mounted none) run.writer
+      stands (Err Device) run none = absurd (none refl)
+
+      puts : (known known' : List Known) → ForgetsOn w.v known known' → AreHeld m.state old.units vols known → (r : Result Place PutErr) → Puts writing_here name name c v' i m m' r
+          → PutsOn (names_of old.units (units_of vols)) new.units vols vols' known' w' m m' r
+      puts known known' forgot held r run =
+          puts_on old new vols indexes m m' counts left kept w w' v at b units on (pending v at).1 f found.set r known known' forgot held
+          (leaves_behind name m v (kept w.v v at) w on (pending v at).1 f found.set m' r run.spares) run.mounted (stands r run) refl run.slot
+
+      abbrev was : OpenWriter
+      was = writer_in m.state old.units vols (Some w)
+
+      abbrev is_now : OpenWriter
+      is_now = writer_in m'.state new.units vols' (Some w')
+
+      fills : was ≡ filling w.v w.dsn (puts_in image v f w.inner)
+      fills = writer_is m.state old.units vols w v f at found.set on
+
+      -- the writer behind the call, by the format 1 of its set
+      fills_now : i.slot ≡ w.inner.slot → IsWriterOn (image_named m'.state name) v' w' → is_now ≡ filling w.v w.dsn (puts_in (image_named m'.state name) v' f i)
+      fills_now same stands =
+          let there : slice_get vols' w.v ≡ Some v' = get_set vols w.v v v' at in
+          let set_now : slice_get v.slots.items i.slot ≡ Some (formats.F1 f) = ap (slice_get v.slots.items) same ∙ found.set in
+          ap (λ (us : List Attached). writer_in m'.state us vols' (Some w')) units
+          ∙ writer_is m'.state old.units vols' w' v' f there set_now stands
+
+      not_put : m'.state ≡ m.state → i ≡ w.inner → IsMounted (image_named m'.state name) v' → is_now ≡ was
+      not_put state same mounted =
+          fills_now (ap (λ (x : BlockWriter). x.slot) same) (still state mounted same)
+          ∙ ap (λ (fs : List File). filling w.v w.dsn (puts_in (image_named fs name) v' f i)) state
+          ∙ ap (λ (x : BlockWriter). filling w.v w.dsn (puts_in image v' f x)) same
+          ∙ ap (filling w.v w.dsn) (puts_with image v b f w.inner)
+          ∙ sym fills
+
+      answers : (r : Result Place PutErr) → Puts writing_here name name c v' i m m' r → DidPut shelf was c is_now r
+      answers (Ok place) run = (
+        ap (λ (x : OpenWriter). did_put shelf x c) fills
+            ∙ put_answer shelf w.v v has w.dsn f set_there w by c place (run.put writing_here).next (run.put writing_here).owned (run.short (λ long. absurd (let wrong = long in cc))),
+        fills_now run.slot (stands (Ok place) run (λ device. absurd (let wrong = device in cc)))
+            ∙ ap (filling w.v w.dsn) (run.put writing_here).puts
+            ∙ ap (λ (x : OpenWriter). with_puts x (c ∷ [])) (sym fills),
+      )
+      answers (Err TooLong) run = (
+        ap (λ (x : OpenWriter). did_put shelf x c) fills ∙ put_refused shelf w.v v has w.dsn f set_there w by c (run.long refl),
+        not_put (run.long_same refl) run.writer (run.mounted (λ device. absurd (let wrong = device in cc))),
+      )
+      answers (Err NeedExtent) run = (
+        ap (λ (x : OpenWriter). room_for shelf x.target x.puts c) fills
+            ∙ put_wants shelf w.v v has w.dsn f set_there w by c (run.need refl) (run.short (λ long. absurd (let wrong = long in cc))),
+        not_put (run.need_same refl) run.writer (run.mounted (λ device. absurd (let wrong = device in cc))),
+      )
+      answers (Err Device) run = tt
+
+    abbrev after : List ℕ
+    after = (unit_of new.units v.unit).name
+
+    -- by what the call says, of the index that it leaves
+    module _ (c : Content) (u : Vol) (others : u ≡ record v { buf = u.buf }) (i : BlockWriter) (r : Result Place PutErr) (run : Puts writing_here name after c u i m m' r) where
+      run_here : Puts writing_here name name c (record v { buf = u.buf }) i m m' r
+      run_here = subst (λ (x : Vol). Puts writing_here name name c x i m m' r) others (subst (λ (us : List Attached). Puts writing_here name (unit_of us v.unit).name c u i m m' r) units run)
+
+      pub owned_puts : (known known' : List Known) → ForgetsOn w.v known known' → AreHeld m.state old.units vols known
+          → PutsOn (names_of old.units (units_of vols)) new.units vols (set vols w.v u) known' (record w { inner = i }) m m' r
+      owned_puts known known' forgot held =
+          subst (λ (x : Vol). PutsOn (names_of old.units (units_of vols)) new.units vols (set vols w.v x) known' (record w { inner = i }) m m' r) (sym others)
+          (puts c u.buf i known known' forgot held r run_here)
+
+      pub owned_did : DidPut shelf (writer_in m.state old.units vols (Some w)) c (writer_in m'.state new.units (set vols w.v u) (Some (record w { inner = i }))) r
+      owned_did =
+          subst (λ (x : Vol). DidPut shelf (writer_in m.state old.units vols (Some w)) c (writer_in m'.state new.units (set vols w.v x) (Some (record w { inner = i }))) r) (sym others)
+          (answers c u.buf i r run_here)

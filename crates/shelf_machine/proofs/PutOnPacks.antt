@@ -1,0 +1,64 @@
+-- A block that is put on one of several packs, or isn't: the shelf and what was promised stay, and the writer stands on the images.
+use Rattle.std.proofs.Common.{◌≡◌, ℕ, List, set, Some, Result, refl, sym, ap, ◌∙◌, subst}
+use Rattle.std.specs.Prelude.{IsErrOf, slice_get}
+use Rattle.dscb_codec.specs.declared.Dscb.TheVariants as formats
+use Rattle.dscb_codec.specs.declared.F1.{F1}
+use Rattle.free_rebuild.specs.Repairs.{image_named}
+use Rattle.hall_core.specs.Facts.{Attached, Facts, unit_of}
+use Rattle.stop_model.specs.Files.{File}
+use Rattle.stop_model.specs.Moments.{Meaning}
+use Rattle.stop_model.proofs.MomentLemmas.{CountsNow}
+use Rattle.track_records.specs.Buffers.{Buffer}
+use Rattle.vtoc_index.specs.declared.vol.Vol.{Vol}
+use Rattle.vtoc_index.specs.Index.{IsMounted}
+use Rattle.seq_access.specs.declared.writer.PutErr.{PutErr}
+use Rattle.seq_access.specs.declared.writer.PutErr.TheVariants.{Device}
+use Rattle.seq_access.specs.Writing.{AreSpared}
+use Rattle.shelf_machine.specs.Known.{AreHeld, ForgetsOn}
+use Rattle.shelf_machine.specs.Machine.{AreIndexes, AreKept, units_of}
+use Rattle.shelf_machine.specs.Opening.{names_of}
+use Rattle.shelf_machine.specs.Operating.{IsSamePack}
+use Rattle.shelf_machine.specs.Pending.{IsWriterOn, LeavesSpared}
+use Rattle.shelf_machine.specs.Putting.{PutsOn}
+use Rattle.shelf_machine.specs.declared.known.Known.{Known}
+use Rattle.shelf_machine.specs.declared.writer.Writer.{Writer}
+use Rattle.shelf_machine.proofs.ForgottenTracks.{held_still}
+use Rattle.shelf_machine.proofs.ListPlaces.{get_set}
+use Rattle.shelf_machine.proofs.Operating.{kept_after, name_there}
+use Rattle.shelf_machine.proofs.Promises.{keeps_safe_by}
+use Rattle.shelf_machine.proofs.Putting.{LeavesBehind, guarded_left, kept_still, shelf_moments, shelf_stays, spared_still}
+
+some_vol : {a b : Vol} → Some a ≡ Some b → a ≡ b
+some_vol same = cc
+
+module _ (old new : Facts) (vols : List Vol) (indexes : AreIndexes old.units vols) (m m' : Meaning (List File)) (counts : CountsNow m) (here : m.left m.state) (kept : AreKept m.state old.units vols)
+    (w w' : Writer) (v : Vol) (at : slice_get vols w.v ≡ Some v) (b : Buffer) (units : new.units ≡ old.units) (on : IsWriterOn (image_named m.state (unit_of old.units v.unit).name) v w)
+    (spared : LeavesSpared (unit_of old.units v.unit).name m v w) (f : F1) (there : slice_get v.slots.items w.inner.slot ≡ Some (formats.F1 f)) where
+  abbrev name : List ℕ
+  name = (unit_of old.units v.unit).name
+
+  abbrev v' : Vol
+  v' = record v { buf = b }
+
+  abbrev names : List (List ℕ)
+  names = names_of old.units (units_of vols)
+
+  same_pack : IsSamePack v v'
+  same_pack = record { unit = refl; serial = refl; geometry = refl; vtoc = refl }
+
+  pub puts_on : {T : Type 0} (r : Result T PutErr) (known known' : List Known) → ForgetsOn w.v known known' → AreHeld m.state old.units vols known → LeavesBehind name v f m m' → (¬ IsErrOf r Device → IsMounted (image_named m'.state name) v')
+      → (¬ IsErrOf r Device → IsWriterOn (image_named m'.state name) v' w') → w'.v ≡ w.v → w'.inner.slot ≡ w.inner.slot → PutsOn names new.units vols (set vols w.v v') known' w' m m' r
+  puts_on r known known' forgot held leaves mounted stands number slot = record {
+    state = shelf_stays name m v (kept w.v v at) w on spared f there m' leaves names;
+    printed = leaves.printed;
+    moments = shelf_moments name m v (kept w.v v at) w on spared f there m' leaves names;
+    safe = keeps_safe_by names vols indexes.names w.v name (name_there old.units vols w.v v at) v v' at refl refl (AreSpared name v f m.state) m m' counts here leaves.moments
+        (guarded_left name m v (kept w.v v at) w on spared f there m' leaves names) (λ files differ other apart. differ.others other apart);
+    kept = λ none. kept_after old new vols w.v v v' at same_pack units m.state m'.state indexes kept leaves.here.others (kept_still name m v (kept w.v v at) w on spared f there m' leaves names b (mounted none));
+    pending = λ none u is.
+        let same : v' ≡ u = some_vol (sym (get_set vols w.v v v' at) ∙ ap (slice_get (set vols w.v v')) (sym number) ∙ is) in
+        subst (λ (x : Vol). IsWriterOn (image_named m'.state (unit_of new.units x.unit).name) x w' × LeavesSpared (unit_of new.units x.unit).name m' x w') same
+        (subst (λ (us : List Attached). IsWriterOn (image_named m'.state (unit_of us v.unit).name) v' w' × LeavesSpared (unit_of us v.unit).name m' v' w') (sym units)
+        (stands none, spared_still name m v (kept w.v v at) w on spared f there m' leaves names b w' slot));
+    held = λ none. subst (λ (us : List Attached). AreHeld m'.state us (set vols w.v v') known') (sym units) (held_still m.state m'.state old.units vols known known' w.v v v' at indexes.names leaves.here.others forgot held);
+  }

@@ -1,0 +1,182 @@
+-- Why a data set of an image isn't emptied, or gets no extents.
+use Rattle.std.proofs.Common.{◌≡◌, ◌∙◌, not, ◌&&◌, ◌||◌, ℕ, Bool, true, false, cond, List, [], ◌∷◌, Option, Some, None, refl, sym, ap, subst}
+use Rattle.std.specs.Prelude.{◌==◌, Result, Ok, Err, slice_get}
+use Rattle.dadsm_ops.specs.Emptying.{MayEmpty}
+use Rattle.dadsm_ops.specs.Extending.{HoldsSet, IsReadable}
+use Rattle.dscb_codec.specs.declared.Dscb.{Dscb}
+use Rattle.dscb_codec.specs.declared.Dscb.TheVariants as formats
+use Rattle.dscb_codec.specs.declared.F1.{F1}
+use Rattle.ebcdic_names.specs.declared.names.Dsn.{Dsn}
+use Rattle.pack_spec.specs.Volume.{attr_of, data_set_of, volume_of}
+use Rattle.vol_model.specs.declared.contents.Attr.{Attr}
+use Rattle.vol_model.specs.declared.contents.Body.{Body}
+use Rattle.vol_model.specs.declared.contents.Body.TheVariants as bodies
+use Rattle.vol_model.specs.declared.contents.DataSet.{DataSet}
+use Rattle.vol_model.specs.declared.contents.Shelf.{Shelf}
+use Rattle.vol_model.specs.declared.contents.Volume.{Volume}
+use Rattle.vol_model.specs.declared.refusals.Refusal.{Refusal}
+use Rattle.vol_model.specs.declared.refusals.Refusal.TheVariants.{NoSet, Unreadable, WrongKind}
+use Rattle.vol_model.specs.Shelf.{emptied, empty_on, empty_set, extend_on, extend_set, if_readable, is_catalog, is_partitioned, is_vacant, may_empty, on_found, organization, refuse, set_of, unreadable, with_set}
+use Rattle.vol_model.specs.Writing.{set_on}
+use Rattle.vtoc_index.specs.Index.{IsMounted, first_named}
+use Rattle.vtoc_index.specs.Names.{name_at}
+use Rattle.vtoc_index.specs.declared.vol.Vol.{Vol}
+use Rattle.vtoc_sets.specs.Sets.{kind_by, volume_in}
+use Rattle.vtoc_sets.specs.declared.sets.BodyKind.TheVariants as kinds
+use Rattle.shelf_machine.specs.Known.{ListsBroken}
+use Rattle.shelf_machine.specs.Reads.{HasVolume, IsSetOn, set_by}
+use Rattle.shelf_machine.specs.Refusals.{empty_refusal, extend_refusal}
+use Rattle.shelf_machine.specs.Unread.{broken_by, track_in}
+use Rattle.shelf_machine.specs.declared.unread.Unread.{Unread}
+use Rattle.shelf_machine.proofs.Scratching.{name_found}
+use Rattle.shelf_machine.proofs.ShelfSteps.{one_volume}
+use Rattle.shelf_machine.proofs.ShelfReads.{body_here, is_set, known_set, named, no_set, sequential_by}
+
+-- which sets may be emptied, by the kind of their body
+module _ (name : List ℕ) (attr : Attr) (body : Body) where
+  pub may_sequential : kinds.Seq ≡ kind_by name attr → true ≡ may_empty name attr body
+  may_sequential is = sym (ap (λ (b : Bool). b || ((attr.dsorg == 0 && not (is_catalog name)) || (is_partitioned name attr && is_vacant body))) (sequential_by name attr (sym is)))
+
+  pub may_partitioned : kinds.Part ≡ kind_by name attr → body ≡ bodies.Unreadable 0 → true ≡ may_empty name attr body
+  may_partitioned is unread = by (is_catalog name) (organization attr == 32) (organization attr == 1) (attr.dsorg == 0) (is_vacant body) (ap is_vacant unread) is
+    where
+      by : (a s p z v : Bool) → v ≡ true → kinds.Part ≡ cond a kinds.Catalog (cond (not a && s) kinds.Seq (cond (not a && p) kinds.Part kinds.Other)) → true ≡ ((not a && s) || ((z && not a) || ((not a && p) && v)))
+      by true s p z v vacant same = absurd cc
+      by false true p z v vacant same = absurd cc
+      by false false false z v vacant same = absurd cc
+      by false false true true v vacant same = refl
+      by false false true false v vacant same = sym vacant
+
+  pub may_not : kinds.Catalog ≡ kind_by name attr → false ≡ may_empty name attr body
+  may_not is = by (is_catalog name) (organization attr == 32) (organization attr == 1) (attr.dsorg == 0) (is_vacant body) is
+    where
+      by : (a s p z v : Bool) → kinds.Catalog ≡ cond a kinds.Catalog (cond (not a && s) kinds.Seq (cond (not a && p) kinds.Part kinds.Other)) → false ≡ ((not a && s) || ((z && not a) || ((not a && p) && v)))
+      by true s p true v same = refl
+      by true s p false v same = refl
+      by false true p z v same = absurd cc
+      by false false true z v same = absurd cc
+      by false false false z v same = absurd cc
+
+  pub may_other : kinds.Other ≡ kind_by name attr → (attr.dsorg == 0) ≡ may_empty name attr body
+  may_other is = by (is_catalog name) (organization attr == 32) (organization attr == 1) (attr.dsorg == 0) (is_vacant body) is
+    where
+      by : (a s p z v : Bool) → kinds.Other ≡ cond a kinds.Catalog (cond (not a && s) kinds.Seq (cond (not a && p) kinds.Part kinds.Other)) → z ≡ ((not a && s) || ((z && not a) || ((not a && p) && v)))
+      by true s p z v same = absurd cc
+      by false true p z v same = absurd cc
+      by false false true z v same = absurd cc
+      by false false false true v same = refl
+      by false false false false v same = refl
+
+-- why a set isn't emptied, by the test of its kind
+pub empty_tested : (name : List ℕ) (attr : Attr) (body : Body) (b : Bool) → b ≡ may_empty name attr body → empty_refusal name attr body ≡ cond b (unreadable body) (Some WrongKind)
+empty_tested name attr body b is = ap (λ (t : Bool). cond t (unreadable body) (Some WrongKind)) (sym is)
+
+-- an operation on a set is refused for this reason, or isn't refused
+abbrev IsRefusedFor : Option Refusal → Result Volume Refusal → Type 0
+IsRefusedFor (Some r) step = step ≡ Err r
+IsRefusedFor None step = (after : Volume) × (step ≡ Ok after)
+
+empty_by : (after : Volume) (b : Bool) (body : Body) (o : Option Refusal) → o ≡ cond b (unreadable body) (Some WrongKind) → IsRefusedFor o (refuse (not b) WrongKind (if_readable body (Ok after)))
+empty_by after false body o is = subst (λ (r : Option Refusal). IsRefusedFor r (Err WrongKind)) (sym is) refl
+empty_by after true (bodies.Seq blocks) o is = subst (λ (r : Option Refusal). IsRefusedFor r (Ok after)) (sym is) (after, refl)
+empty_by after true (bodies.Part dir end entries blocks) o is = subst (λ (r : Option Refusal). IsRefusedFor r (Ok after)) (sym is) (after, refl)
+empty_by after true bodies.Catalog o is = subst (λ (r : Option Refusal). IsRefusedFor r (Ok after)) (sym is) (after, refl)
+empty_by after true bodies.Other o is = subst (λ (r : Option Refusal). IsRefusedFor r (Ok after)) (sym is) (after, refl)
+empty_by after true (bodies.Unreadable track) o is = subst (λ (r : Option Refusal). IsRefusedFor r (Err (Unreadable track))) (sym is) refl
+
+-- a set gets no extents for this reason
+extend_by : (b : Bool) (body : Body) (rest : Result Volume Refusal) (r : Refusal) → Some r ≡ cond b (Some WrongKind) (unreadable body) → refuse b WrongKind (if_readable body rest) ≡ Err r
+extend_by true body rest r is = let same : WrongKind ≡ r = cc in ap (λ (x : Refusal). Err x) same
+extend_by false (bodies.Seq blocks) rest r is = absurd cc
+extend_by false (bodies.Part dir end entries blocks) rest r is = absurd cc
+extend_by false bodies.Catalog rest r is = absurd cc
+extend_by false bodies.Other rest r is = absurd cc
+extend_by false (bodies.Unreadable track) rest r is = let same : Unreadable track ≡ r = cc in ap (λ (x : Refusal). Err x) same
+
+extend_read : (b : Bool) (body : Body) → None ≡ cond b (Some WrongKind) (unreadable body) → unreadable body ≡ None
+extend_read true body is = absurd cc
+extend_read false body is = sym is
+
+-- why a set gets no extents, by the test of its name
+pub extend_tested : (name : List ℕ) (body : Body) (b : Bool) → b ≡ is_catalog name → extend_refusal name body ≡ cond b (Some WrongKind) (unreadable body)
+extend_tested name body b is = ap (λ (t : Bool). cond t (Some WrongKind) (unreadable body)) (sym is)
+
+-- the data set of a name on the volume of an image
+module _ (image : List ℕ) (v : Vol) (dsn : Dsn) (mounted : IsMounted image v) where
+  abbrev alone : Shelf
+  alone = record { volumes = volume_in image v ∷ [] }
+
+  abbrev here : HasVolume alone 0 v
+  here = record { image = image; mounted = mounted; there = refl }
+
+  pub empty_none : (attr : Attr) → first_named dsn.bytes v.slots.items ≡ None → empty_on dsn attr (volume_in image v) ≡ Err NoSet
+  unfolding empty_on set_on
+  empty_none attr none = ap (λ (o : Option DataSet). on_found o (empty_set dsn attr (volume_in image v))) (no_set alone 0 v here dsn.bytes none)
+
+  pub extend_none : first_named dsn.bytes v.slots.items ≡ None → extend_on dsn (volume_in image v) ≡ Err NoSet
+  unfolding extend_on set_on
+  extend_none none = ap (λ (o : Option DataSet). on_found o (extend_set dsn (volume_in image v))) (no_set alone 0 v here dsn.bytes none)
+
+  module _ (unread : List Unread) (lists : ListsBroken (volume_in image v) unread) (slot : ℕ) (f : F1) (first : first_named dsn.bytes v.slots.items ≡ Some slot) (is : slice_get v.slots.items slot ≡ Some (formats.F1 f)) where
+    set_there : IsSetOn image v (set_on alone 0 dsn.bytes) (Some f)
+    set_there = is_set alone 0 v here dsn.bytes slot f first is
+
+    set_named : f.name ≡ dsn.bytes
+    set_named = named alone 0 v here dsn.bytes f set_there
+
+    -- the list tells whether it can't be read
+    pub set_listed : track_in unread f.name ≡ broken_by f.name (attr_of f) (body_here image v f)
+    unfolding set_on
+    set_listed = known_set alone 0 v here dsn.bytes f unread set_there lists
+
+    pub empty_told : (attr : Attr) (o : Option Refusal) → o ≡ empty_refusal f.name (attr_of f) (body_here image v f) → IsRefusedFor o (empty_on dsn attr (volume_in image v))
+    unfolding empty_on set_on data_set_of
+    empty_told attr o told =
+        let x : DataSet = set_by image v f in
+        subst (IsRefusedFor o) (sym (ap (λ (s : Option DataSet). on_found s (empty_set dsn attr (volume_in image v))) set_there.1))
+        (empty_by (with_set (volume_in image v) dsn.bytes (emptied attr)) (may_empty dsn.bytes x.attr x.body) x.body o (told ∙ ap (λ (n : List ℕ). empty_refusal n x.attr x.body) set_named))
+
+    pub extend_told : (r : Refusal) → Some r ≡ extend_refusal f.name (body_here image v f) → extend_on dsn (volume_in image v) ≡ Err r
+    unfolding extend_on set_on data_set_of
+    extend_told r told =
+        let x : DataSet = set_by image v f in
+        ap (λ (s : Option DataSet). on_found s (extend_set dsn (volume_in image v))) set_there.1
+        ∙ extend_by (is_catalog dsn.bytes) x.body _ r (told ∙ ap (λ (n : List ℕ). extend_refusal n x.body) set_named)
+
+    pub extend_readable : None ≡ extend_refusal f.name (body_here image v f) → IsReadable image dsn.bytes
+    unfolding set_on data_set_of
+    extend_readable none w x stands there =
+        let this : set_by image v f ≡ x = some_set (sym set_there.1 ∙ ap (set_of dsn.bytes) (one_volume image mounted.volume stands) ∙ there) in
+        ap (λ (y : DataSet). unreadable y.body) (sym this) ∙ extend_read (is_catalog f.name) (body_here image v f) none
+      where
+        some_set : {a b : DataSet} → Some a ≡ Some b → a ≡ b
+        some_set same = cc
+
+-- a slot that holds the set may be that of no other name
+same_name : {a b : List ℕ} → Some a ≡ Some b → a ≡ b
+same_name same = cc
+
+-- an operation that is done on the volume of an image isn't refused on it
+pub accepts : (image : List ℕ) (v : Vol) (operation : Volume → Result Volume Refusal) → IsMounted image v → (after : Volume) × (operation (volume_in image v) ≡ Ok after) → (r : Refusal) (w : Volume) → volume_of image ≡ Ok w → operation w ≡ Err r → ⊥
+accepts image v operation mounted done r w stands refused =
+    let same : volume_in image v ≡ w = one_volume image mounted.volume stands in
+    contradicts (sym done.1 ∙ ap operation same ∙ refused)
+  where
+    contradicts : {a : Volume} → ◌≡◌ {A = Result Volume Refusal} (Ok a) (Err r) → ⊥
+    contradicts is = cc
+
+-- the set in the slot of a name may be emptied, under whatever name it is found there
+pub may_be_emptied : (image : List ℕ) (v : Vol) (dsn other : Dsn) (attr : Attr) (slot : ℕ) → IsMounted image v → first_named dsn.bytes v.slots.items ≡ Some slot → name_at v.slots.items slot ≡ Some other.bytes
+    → (after : Volume) × (empty_on dsn attr (volume_in image v) ≡ Ok after) → MayEmpty image other attr
+may_be_emptied image v dsn other attr slot mounted first named done w stands =
+    let one : dsn ≡ other = ap (λ (n : List ℕ). record { bytes = n }) (same_name (sym (name_found dsn.bytes v.slots.items slot first) ∙ named)) in
+    (done.0, ap (λ (d : Dsn). empty_on d attr w) (sym one) ∙ ap (empty_on dsn attr) (one_volume image stands mounted.volume) ∙ done.1)
+
+-- so is the body of the set in the slot of a name, under whatever name it is found there
+pub may_be_extended : (image : List ℕ) (v : Vol) (dsn : Dsn) (name : List ℕ) (slot : ℕ) → first_named dsn.bytes v.slots.items ≡ Some slot → name_at v.slots.items slot ≡ Some name → IsReadable image dsn.bytes → IsReadable image name
+may_be_extended image v dsn name slot first named =
+    subst (λ (n : List ℕ). IsReadable image n) (same_name (sym (name_found dsn.bytes v.slots.items slot first) ∙ named))
+
+-- the slot of a set holds one that isn't the catalog
+pub holds_set : (items : List Dscb) (slot : ℕ) (f : F1) → slice_get items slot ≡ Some (formats.F1 f) → is_catalog f.name ≡ false → HoldsSet items slot
+holds_set items slot f there other = record { set = f; there = there; other = other }

@@ -1,0 +1,146 @@
+use Rattle.std.proofs.Common.{◌≡◌, IsTrue, true, Some, refl, sym, ap, subst, ◌∙◌, arith}
+use Rattle.std.specs.Prelude.{Err, Result, slice_get}
+use Rattle.std.proofs.lemmas.Result.{err_from_is_err_and}
+use Rattle.vol_model.specs.Calls.{sound_after}
+use Rattle.vol_model.specs.Shelf.{extend_on, is_catalog}
+use Rattle.vol_model.specs.declared.answers.StoreErr.{StoreErr}
+use Rattle.vtoc_index.specs.Index.{first_named}
+use Rattle.vtoc_index.specs.declared.vol.Vol.{Vol}
+use Rattle.ebcdic_names.specs.declared.names.Dsn.{Dsn}
+use Rattle.free_rebuild.specs.Repairs.{image_named}
+use Rattle.hall_core.specs.Facts.{unit_of}
+use Rattle.shelf_machine.specs.Reporting.{reported}
+use Rattle.shelf_machine.proofs.ListPlaces.{there}
+use Rattle.shelf_machine.proofs.MadeRooms.{StandsAgain, as_many, in_slot_same, index_at, named_now, pending_again, slot_again, slot_roomed, stands_done, stands_undone, state_undone, undone_by, writer_again}
+use Rattle.shelf_machine.proofs.writing.make_room_settled.Given.{Over}
+use Rattle.shelf_machine.proofs.writing.make_room_settled.Goals as goal
+
+some_vol : {a b : Vol} → Some a ≡ Some b → a ≡ b
+some_vol same = cc
+
+-- ---- the extension isn't done
+
+given : (g : Over) (c : goal.After-from_residual g) → c.from_residual.result ≡ Err c.in_err-extend_on.field-0.0
+given g c =
+    let p = err_from_is_err_and c.from_residual.result c.from_residual.ensures.1 in
+    p.1 ∙ ap (λ (e : StoreErr). Err e) p.2
+
+sound_now : (g : Over) (c : goal.After-from_residual g) → sound_after (reported c.from_residual.result) ≡ true → sound_after (reported {T = Unit {0}} (Err c.in_err-extend_on.field-0.0)) ≡ true
+sound_now g c sound = ap (λ (r : Result (Unit {0}) StoreErr). sound_after (reported r)) (sym (given g c)) ∙ sound
+
+pub returns-in_err-extend_on-clause-order : goal.returns-in_err-extend_on-clause-order
+returns-in_err-extend_on-clause-order g c sound = c.in_err-extend_on.ensures.order (sound_now g c sound)
+
+pub returns-in_err-extend_on-clause-slot : goal.returns-in_err-extend_on-clause-slot
+returns-in_err-extend_on-clause-slot g c sound =
+    let vols = c.args.vols.now.items in
+    let vols' = c.extend_on.new.vols.items in
+    let w = c.args.writer.now in
+    let undone = undone_by (Unit {0}) c.in_err-extend_on.field-0.0 (sound_now g c sound) in
+    slot_again vols vols' w w refl (as_many vols vols' c.extend_on.ensures.geometries) c.requires.slot
+    (λ v v' at at' low. slot_roomed v v' ((c.in_err-extend_on.ensures.pack v v' at at').1 undone) w low)
+
+-- the writer stands on its pack as before
+still : (g : Over) (c : goal.After-from_residual g) → IsTrue g.H.Hall.tells → sound_after (reported c.from_residual.result) ≡ true → (v v' : Vol) → slice_get c.args.vols.now.items c.args.writer.now.v ≡ Some v → slice_get c.extend_on.new.vols.items c.args.writer.now.v ≡ Some v'
+    → StandsAgain (image_named (g.H.Hall.meaning c.args.hall.now).state (unit_of (g.H.Hall.facts c.args.hall.now).units v.unit).name) (image_named (g.H.Hall.meaning c.extend_on.new.hall).state (unit_of (g.H.Hall.facts c.extend_on.new.hall).units v'.unit).name)
+    v v' c.args.writer.now c.args.writer.now
+still g c told sound v v' at at' =
+    let m = g.H.Hall.meaning c.args.hall.now in
+    let m' = g.H.Hall.meaning c.extend_on.new.hall in
+    let us = (g.H.Hall.facts c.args.hall.now).units in
+    let w = c.args.writer.now in
+    let undone = undone_by (Unit {0}) c.in_err-extend_on.field-0.0 (sound_now g c sound) in
+    let pack = c.in_err-extend_on.ensures.pack v v' at at' in
+    let state = state_undone (unit_of us v.unit).name (extend_on w.dsn) v' m m' c.in_err-extend_on.field-0.0 (pack.2 told) undone in
+    stands_undone us (g.H.Hall.facts c.extend_on.new.hall).units v v' m.state m'.state w c.extend_on.ensures.faults.units pack.0.unit state (pack.1 undone) (c.requires.pending told v at).0
+
+pub returns-in_err-extend_on-clause-pending : goal.returns-in_err-extend_on-clause-pending
+returns-in_err-extend_on-clause-pending g c told sound =
+    let vols = c.args.vols.now.items in
+    let vols' = c.extend_on.new.vols.items in
+    let w = c.args.writer.now in
+    pending_again (g.H.Hall.facts c.args.hall.now).units (g.H.Hall.facts c.extend_on.new.hall).units vols vols' (g.H.Hall.meaning c.args.hall.now) (g.H.Hall.meaning c.extend_on.new.hall) w w refl (as_many vols vols' c.extend_on.ensures.geometries)
+    c.requires.slot.0 ((c.in_err-extend_on.ensures.shelf told).durable (sound_now g c sound)) (still g c told sound)
+
+pub returns-in_err-extend_on-clause-puts : goal.returns-in_err-extend_on-clause-puts
+returns-in_err-extend_on-clause-puts g c told sound =
+    let vols = c.args.vols.now.items in
+    let vols' = c.extend_on.new.vols.items in
+    let w = c.args.writer.now in
+    writer_again (g.H.Hall.facts c.args.hall.now).units (g.H.Hall.facts c.extend_on.new.hall).units vols vols' (g.H.Hall.meaning c.args.hall.now) (g.H.Hall.meaning c.extend_on.new.hall) w w refl (as_many vols vols' c.extend_on.ensures.geometries)
+    refl refl c.requires.slot.0 (still g c told sound)
+
+-- ---- it is done
+
+pub find_slot-requires-clause-unit : goal.find_slot-requires-clause-unit
+find_slot-requires-clause-unit g c =
+    c.extend_on.ensures.indexes.each c.args.writer.now.v c.index.result.now
+    (index_at c.extend_on.new.vols.items c.from.result c.args.writer.now.v c.index.result.now c.from.ensures
+    (omega (arith, c.requires.slot.0, as_many c.args.vols.now.items c.extend_on.new.vols.items c.extend_on.ensures.geometries)) c.index.ensures)
+
+pub find_slot-requires-clause-names : goal.find_slot-requires-clause-names
+find_slot-requires-clause-names g c =
+    c.in_ok-extend_on.ensures.order refl c.args.writer.now.v c.index.result.now
+    (index_at c.extend_on.new.vols.items c.from.result c.args.writer.now.v c.index.result.now c.from.ensures
+    (omega (arith, c.requires.slot.0, as_many c.args.vols.now.items c.extend_on.new.vols.items c.extend_on.ensures.geometries)) c.index.ensures)
+
+pub find_slot-requires-clause-named : goal.find_slot-requires-clause-named
+find_slot-requires-clause-named g c told =
+    let vols = c.args.vols.now.items in
+    let vols' = c.extend_on.new.vols.items in
+    let w = c.args.writer.now in
+    let at = index_at vols' c.from.result w.v c.index.result.now c.from.ensures (omega (arith, c.requires.slot.0, as_many vols vols' c.extend_on.ensures.geometries)) c.index.ensures in
+    let v = there vols w.v c.requires.slot.0 in
+    named_now (unit_of (g.H.Hall.facts c.args.hall.now).units v.0.unit).name w.dsn v.0 c.index.result.now (g.H.Hall.meaning c.args.hall.now) (g.H.Hall.meaning c.extend_on.new.hall) c.in_ok-extend_on.field-0
+    ((c.in_ok-extend_on.ensures.pack v.0 c.index.result.now v.1 at).2 told) (c.requires.kept told w.v v.0 v.1).kept w.inner.slot (c.requires.slot.1 v.0 v.1).0
+
+pub returns-in-Ok-clause-shelf : goal.returns-in-Ok-clause-shelf
+returns-in-Ok-clause-shelf g c told = rw c.in-Ok.ensures.hall (c.in_ok-extend_on.ensures.shelf told)
+
+-- the index of the writer's pack, which has its set in the writer's slot
+moved : (g : Over) (c : goal.In-Ok g) (v' : Vol) → slice_get c.extend_on.new.vols.items c.args.writer.now.v ≡ Some v' → first_named c.args.writer.now.dsn.bytes v'.slots.items ≡ Some c.find_slot.new.writer.inner.slot
+moved g c v' at' =
+    let vols' = c.extend_on.new.vols.items in
+    let w = c.args.writer.now in
+    let at = index_at vols' c.from.result w.v c.index.result.now c.from.ensures (omega (arith, c.requires.slot.0, as_many c.args.vols.now.items vols' c.extend_on.ensures.geometries)) c.index.ensures in
+    subst (λ (u : Vol). first_named w.dsn.bytes u.slots.items ≡ Some c.find_slot.new.writer.inner.slot) (some_vol (sym at ∙ at')) c.in-Ok.ensures.slot
+
+pub returns-in-Ok-clause-slot : goal.returns-in-Ok-clause-slot
+returns-in-Ok-clause-slot g c sound =
+    let vols = c.args.vols.now.items in
+    let vols' = c.extend_on.new.vols.items in
+    let w = c.args.writer.now in
+    let w' = c.find_slot.new.writer in
+    let same = in_slot_same w w' w'.inner.slot c.in-Ok.ensures.others in
+    slot_again vols vols' w w' same.0 (as_many vols vols' c.extend_on.ensures.geometries) c.requires.slot
+    (λ v v' at at' low. (ap (λ (d : Dsn). first_named d.bytes v'.slots.items) same.1 ∙ moved g c v' at', ap (λ (d : Dsn). is_catalog d.bytes) same.1 ∙ low.1))
+
+-- it stands on its pack as before
+stands : (g : Over) (c : goal.In-Ok g) → IsTrue g.H.Hall.tells → (v v' : Vol) → slice_get c.args.vols.now.items c.args.writer.now.v ≡ Some v → slice_get c.extend_on.new.vols.items c.args.writer.now.v ≡ Some v'
+    → StandsAgain (image_named (g.H.Hall.meaning c.args.hall.now).state (unit_of (g.H.Hall.facts c.args.hall.now).units v.unit).name) (image_named (g.H.Hall.meaning c.extend_on.new.hall).state (unit_of (g.H.Hall.facts c.extend_on.new.hall).units v'.unit).name)
+    v v' c.args.writer.now c.find_slot.new.writer
+stands g c told v v' at at' =
+    let us = (g.H.Hall.facts c.args.hall.now).units in
+    let w = c.args.writer.now in
+    let pack = c.in_ok-extend_on.ensures.pack v v' at at' in
+    stands_done (unit_of us v.unit).name w.dsn v v' (g.H.Hall.meaning c.args.hall.now) (g.H.Hall.meaning c.extend_on.new.hall) c.in_ok-extend_on.field-0 (pack.2 told) (c.requires.kept told w.v v at).kept w.inner.slot (c.requires.slot.1 v at).0
+    us (g.H.Hall.facts c.extend_on.new.hall).units w c.find_slot.new.writer refl c.extend_on.ensures.faults.units pack.0 refl (c.requires.pending told v at).0 c.in-Ok.ensures.others (moved g c v' at')
+
+pub returns-in-Ok-clause-pending : goal.returns-in-Ok-clause-pending
+returns-in-Ok-clause-pending g c told sound =
+    let vols = c.args.vols.now.items in
+    let vols' = c.extend_on.new.vols.items in
+    let w = c.args.writer.now in
+    let w' = c.find_slot.new.writer in
+    rw c.in-Ok.ensures.hall (pending_again (g.H.Hall.facts c.args.hall.now).units (g.H.Hall.facts c.extend_on.new.hall).units vols vols' (g.H.Hall.meaning c.args.hall.now) (g.H.Hall.meaning c.extend_on.new.hall) w w'
+    (in_slot_same w w' w'.inner.slot c.in-Ok.ensures.others).0 (as_many vols vols' c.extend_on.ensures.geometries) c.requires.slot.0 ((c.in_ok-extend_on.ensures.shelf told).durable refl) (stands g c told))
+
+pub returns-in-Ok-clause-puts : goal.returns-in-Ok-clause-puts
+returns-in-Ok-clause-puts g c told sound =
+    let vols = c.args.vols.now.items in
+    let vols' = c.extend_on.new.vols.items in
+    let w = c.args.writer.now in
+    let w' = c.find_slot.new.writer in
+    let same = in_slot_same w w' w'.inner.slot c.in-Ok.ensures.others in
+    rw c.in-Ok.ensures.hall (writer_again (g.H.Hall.facts c.args.hall.now).units (g.H.Hall.facts c.extend_on.new.hall).units vols vols' (g.H.Hall.meaning c.args.hall.now) (g.H.Hall.meaning c.extend_on.new.hall) w w'
+    same.0 (as_many vols vols' c.extend_on.ensures.geometries) same.1 same.2 c.requires.slot.0 (stands g c told))

@@ -1,0 +1,17 @@
+use Rattle.std.proofs.Common.{Some, refl, sym, ap, ◌∙◌}
+use Rattle.std.specs.Prelude.{slice_get}
+use Rattle.shelf_machine.proofs.BegunSets.{begun_at}
+use Rattle.shelf_machine.proofs.writing.writer_at.Goals as goal
+
+pub returns-clause-begun : goal.returns-clause-begun
+returns-clause-begun c shelf n has none =
+    let items = c.args.vol.now.slots.items in
+    begun_at shelf n c.args.vol.now has c.args.dsn.now _ (sym c.find.ensures ∙ c.in-Some.is ∙ ap (λ s. Some s) (sym c.begin.ensures.slot)) refl
+    (λ image f at. c.begin.ensures.writing image f (ap (slice_get items) (sym c.begin.ensures.slot) ∙ at)) none
+
+pub returns-clause-slot : goal.returns-clause-slot
+returns-clause-slot c =
+    (sym c.find.ensures ∙ c.in-Some.is ∙ ap (λ s. Some s) (sym c.begin.ensures.slot), sym c.is_catalog.ensures ∙ c.if-is_catalog.false)
+
+pub returns-clause-target : goal.returns-clause-target
+returns-clause-target c = record { number = refl; name = refl; fills = refl; opened = refl }

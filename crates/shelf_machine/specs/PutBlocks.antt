@@ -1,0 +1,63 @@
+-- What a put on one of several packs leaves, whose set is extended where it owns no track for the block.
+use Rattle.std.specs.Prelude.{◌≡◌, true, ℕ, List, Some, Result, Ok, Err}
+use Rattle.hall_core.specs.Facts.{Attached}
+use Rattle.seq_access.specs.declared.writer.PutErr.{PutErr}
+use Rattle.seq_access.specs.declared.writer.PutErr.TheVariants as put_err
+use Rattle.stop_model.specs.Files.{File}
+use Rattle.stop_model.specs.Moments.{Meaning}
+use Rattle.stop_model.specs.Steps.{seen}
+use Rattle.vol_model.specs.declared.answers.MachErr.{MachErr}
+use Rattle.vol_model.specs.declared.answers.MachErr.TheVariants as mach
+use Rattle.vol_model.specs.declared.answers.StoreErr.{StoreErr}
+use Rattle.vol_model.specs.declared.answers.StoreErr.TheVariants as store
+use Rattle.vol_model.specs.declared.contents.Place.{Place}
+use Rattle.vol_model.specs.declared.contents.Shelf.{Shelf}
+use Rattle.vol_model.specs.declared.refusals.Refusal.TheVariants.{NoRoom}
+use Rattle.vol_model.specs.Calls.{Does, Keeps, Records, sound_after}
+use Rattle.vol_model.specs.Places.{Content}
+use Rattle.vol_model.specs.Writing.{Room, did_put, room_for}
+use Rattle.vtoc_index.specs.declared.vol.Vol.{Vol}
+use Rattle.shelf_machine.specs.Known.{AreHeld, KnowsBodies}
+use Rattle.shelf_machine.specs.Machine.{AreKept, KeepsSafe, shelf_under, units_of, writer_in}
+use Rattle.shelf_machine.specs.Opening.{names_of}
+use Rattle.shelf_machine.specs.Pending.{IsPendingBy}
+use Rattle.shelf_machine.specs.declared.known.Known.{Known}
+use Rattle.shelf_machine.specs.declared.writer.Writer.{Writer}
+
+-- the answer to a put, as one of the machine
+abbrev pub put_answer : Result Place PutErr → Result Place MachErr
+put_answer (Ok place) = Ok place
+put_answer (Err put_err.Device) = Err mach.Device
+put_answer (Err e) = Err (mach.Refused NoRoom)
+
+-- the answer where a set isn't extended for the block of a put
+abbrev pub room_answer : StoreErr → MachErr
+room_answer (store.Refused r) = mach.Refused NoRoom
+room_answer store.Memory = mach.Memory
+room_answer store.Device = mach.Device
+
+-- the shelf of the packs of these indexes
+abbrev pub shelf_on : List File → List Attached → List Vol → Shelf
+shelf_on files attached vols = shelf_under (names_of attached (units_of vols)) files
+
+-- the room for a content behind those that a writer put
+abbrev pub room_on : List File → List Attached → List Vol → Writer → Content → Room
+room_on files attached vols w c =
+    let writer = writer_in files attached vols (Some w) in
+    room_for (shelf_on files attached vols) writer.target writer.puts c
+
+-- A put does what one does on the shelf: extensions where they are wanted. The writer has the content, or stands as before; what was promised of stops is promised still; and unless the device failed the indexes and what is known of the bodies are those of the images, and nothing is pending but by the writer.
+pub record PutsBlock (c : Content) (attached attached' : List Attached) (vols vols' : List Vol)
+    (known' : List Known) (w w' : Writer) (m m' : Meaning (List File)) (n n' : ℕ)
+    (result : Result Place MachErr) : Type 0 where
+  pub does : let did = did_put (shelf_on m.state attached vols) (writer_in m.state attached vols (Some w)) c in
+      Does did.operations did (seen (shelf_under (names_of attached (units_of vols))) m)
+      (seen (shelf_under (names_of attached' (units_of vols'))) m') n n' result
+  pub records : Records result (writer_in m.state attached vols (Some w)) c
+      (writer_in m'.state attached' vols' (Some w'))
+  pub safe : Keeps m.clock (KeepsSafe (names_of attached (units_of vols)) vols m)
+      (KeepsSafe (names_of attached' (units_of vols')) vols' m')
+  pub kept : sound_after result ≡ true → AreKept m'.state attached' vols'
+  pub pending : sound_after result ≡ true → IsPendingBy m' attached' vols' (Some w')
+  pub held : sound_after result ≡ true → AreHeld m'.state attached' vols' known'
+  pub bodies : sound_after result ≡ true → KnowsBodies (shelf_on m'.state attached' vols') known'

@@ -1,0 +1,157 @@
+//! Blocks put by a writer on one of several packs, whose set is extended where it owns no track.
+ghost use Rattle.std.specs.Prelude.{◌≡◌, ◌≤◌, length, true, false, Some, IsErrOf, IsTrue};
+ghost use Rattle.hall_core.specs.Facts.{ReportedCall};
+ghost use Rattle.vol_model.specs.Calls.{sound_after};
+ghost use Rattle.vol_model.specs.Writing.{Wanted};
+ghost use Rattle.vol_model.specs.declared.refusals.Refusal.{Refusal};
+ghost use Rattle.vol_model.specs.declared.refusals.Refusal.TheVariants.{NoRoom};
+ghost use Rattle.shelf_machine.specs.Known.{AllFollow, AreHeld, HaveBuffers, KnowsBodies};
+ghost use Rattle.shelf_machine.specs.Machine.{AreIndexes, AreInOrder, AreKept, base_of};
+ghost use Rattle.shelf_machine.specs.Pending.{HasSlot, IsPendingBy};
+ghost use Rattle.shelf_machine.specs.PutBlocks.{PutsBlock, put_answer, room_answer, room_on, shelf_on};
+
+use crate::known::{Known, follow};
+use crate::writer::Writer;
+use crate::writing::{make_room, put_owned};
+use hall_core::Hall;
+use seq_access::PutErr;
+use vol_model::{MachErr, Op, Place, Refusal, StoreErr};
+use vtoc_index::Vol;
+
+// Puts a block behind those of the open writer. Its set is extended first where it owns no track.
+pub(crate) fn put_block<H: Hall>(
+    hall: &mut H,
+    vols: &mut Vec<Vol>,
+    known: &mut Vec<Known>,
+    writer: &mut Writer,
+    done: &mut u64,
+    key: &[u8],
+    payload: &[u8],
+) -> Result<Place, MachErr>
+    requires indexes { AreIndexes (H.facts hall.old).units vols.old.items }
+    requires order { AreInOrder vols.old.items }
+    requires kept { IsTrue H.tells
+        → AreKept (H.meaning hall.old).state (H.facts hall.old).units vols.old.items }
+    requires buffers { HaveBuffers vols.old.items known.old.items }
+    requires slot { HasSlot vols.old.items (Some writer.old) }
+    requires pending { IsTrue H.tells → IsPendingBy (H.meaning hall.old) (H.facts hall.old).units
+        vols.old.items (Some writer.old) }
+    requires bodies { IsTrue H.tells → KnowsBodies (shelf_on (H.meaning hall.old).state
+        (H.facts hall.old).units vols.old.items) known.old.items }
+    requires held { IsTrue H.tells → AreHeld (H.meaning hall.old).state
+        (H.facts hall.old).units vols.old.items known.old.items }
+    requires key { length key.now ≤ 255 }
+    requires payload { length payload.now ≤ 32760 }
+    ensures shelf { IsTrue H.tells → PutsBlock (key.now, payload.now) (H.facts hall.old).units
+        (H.facts hall.new).units vols.old.items vols.new.items known.new.items writer.old writer.new
+        (H.meaning hall.old) (H.meaning hall.new) done.old done.new result }
+    ensures indexes { AreIndexes (H.facts hall.new).units vols.new.items }
+    ensures order { sound_after result ≡ true → AreInOrder vols.new.items }
+    ensures slot { sound_after result ≡ true → HasSlot vols.new.items (Some writer.new) }
+    ensures open { writer.new.is_open ≡ writer.old.is_open }
+    ensures base { base_of (H.facts hall.new) vols.new.items
+        ≡ base_of (H.facts hall.old) vols.old.items }
+    ensures buffers { HaveBuffers vols.new.items known.new.items }
+    ensures refused { (r : Refusal) → IsErrOf result (MachErr.Refused r) → r ≡ NoRoom }
+    ensures print { IsErrOf result MachErr.Print → ⊥ }
+    ensures faults { ReportedCall (IsErrOf result MachErr.Device) (H.facts hall.old)
+        (H.facts hall.new) }
+{
+    let put = put_owned(hall, vols, known, writer, key, payload);
+    if wants_extent(&put) {
+        return put_behind_more(hall, vols, known, writer, done, key, payload);
+    }
+    answer_put(put)
+}
+
+// The same where the set owns no track for the block: it is extended, and then the block is put.
+fn put_behind_more<H: Hall>(
+    hall: &mut H,
+    vols: &mut Vec<Vol>,
+    known: &mut Vec<Known>,
+    writer: &mut Writer,
+    done: &mut u64,
+    key: &[u8],
+    payload: &[u8],
+) -> Result<Place, MachErr>
+    requires indexes { AreIndexes (H.facts hall.old).units vols.old.items }
+    requires order { AreInOrder vols.old.items }
+    requires kept { IsTrue H.tells
+        → AreKept (H.meaning hall.old).state (H.facts hall.old).units vols.old.items }
+    requires buffers { HaveBuffers vols.old.items known.old.items }
+    requires slot { HasSlot vols.old.items (Some writer.old) }
+    requires pending { IsTrue H.tells → IsPendingBy (H.meaning hall.old) (H.facts hall.old).units
+        vols.old.items (Some writer.old) }
+    requires bodies { IsTrue H.tells → KnowsBodies (shelf_on (H.meaning hall.old).state
+        (H.facts hall.old).units vols.old.items) known.old.items }
+    requires wanted { IsTrue H.tells → room_on (H.meaning hall.old).state (H.facts hall.old).units
+        vols.old.items writer.old (key.now, payload.now) ≡ Wanted }
+    requires key { length key.now ≤ 255 }
+    requires payload { length payload.now ≤ 32760 }
+    ensures shelf { IsTrue H.tells → PutsBlock (key.now, payload.now) (H.facts hall.old).units
+        (H.facts hall.new).units vols.old.items vols.new.items known.new.items writer.old writer.new
+        (H.meaning hall.old) (H.meaning hall.new) done.old done.new result }
+    ensures indexes { AreIndexes (H.facts hall.new).units vols.new.items }
+    ensures order { sound_after result ≡ true → AreInOrder vols.new.items }
+    ensures slot { sound_after result ≡ true → HasSlot vols.new.items (Some writer.new) }
+    ensures open { writer.new.is_open ≡ writer.old.is_open }
+    ensures base { base_of (H.facts hall.new) vols.new.items
+        ≡ base_of (H.facts hall.old) vols.old.items }
+    ensures buffers { HaveBuffers vols.new.items known.new.items }
+    ensures refused { (r : Refusal) → IsErrOf result (MachErr.Refused r) → r ≡ NoRoom }
+    ensures print { IsErrOf result MachErr.Print → ⊥ }
+    ensures faults { ReportedCall (IsErrOf result MachErr.Device) (H.facts hall.old)
+        (H.facts hall.new) }
+{
+    let before = *writer;
+    let ran = make_room(hall, vols, known, writer);
+    follow_extension(known, before, ran.is_ok());
+    match ran {
+        Ok(()) => {
+            *done = done.saturating_add(1);
+            answer_put(put_owned(hall, vols, known, writer, key, payload))
+        }
+        Err(error) => Err(answer_room(error)),
+    }
+}
+
+// What is known behind an extension of the set of a writer, done or not: no track is held.
+fn follow_extension(known: &mut Vec<Known>, writer: Writer, is_done: bool)
+    ensures { AllFollow (Op.Extend writer.v writer.dsn) is_done known.old.items known.new.items }
+{
+    let op = Op::Extend {
+        v: writer.v,
+        dsn: writer.dsn,
+    };
+    follow(known, &op, is_done);
+}
+
+// Whether the set owns no track for a block that was to be put.
+fn wants_extent(put: &Result<Place, PutErr>) -> bool
+    ensures wanted { result ≡ true → IsErrOf put.now PutErr.NeedExtent }
+    ensures others { result ≡ false → ¬ IsErrOf put.now PutErr.NeedExtent }
+{
+    matches!(put, Err(PutErr::NeedExtent))
+}
+
+// What the machine answers to a put. Behind an extension there is a track for the block.
+fn answer_put(put: Result<Place, PutErr>) -> Result<Place, MachErr>
+    ensures { result ≡ put_answer put }
+{
+    match put {
+        Ok(place) => Ok(place),
+        Err(PutErr::TooLong | PutErr::NeedExtent) => Err(MachErr::Refused(Refusal::NoRoom)),
+        Err(PutErr::Device) => Err(MachErr::Device),
+    }
+}
+
+// What it answers where the set isn't extended.
+fn answer_room(error: StoreErr) -> MachErr
+    ensures { result ≡ room_answer error }
+{
+    match error {
+        StoreErr::Refused(_) => MachErr::Refused(Refusal::NoRoom),
+        StoreErr::Memory => MachErr::Memory,
+        StoreErr::Device => MachErr::Device,
+    }
+}

@@ -1,0 +1,343 @@
+//! A writer of blocks on one of several packs, and the sync that makes durable what an abandoned one put.
+ghost use Rattle.std.specs.Prelude.{◌≡◌, ◌<◌, ◌≤◌, ℕ, List, length, true, None, Some, IfOk, IfSome, IsErrOf, IsOk, IsTrue, OnErr, OnOk};
+ghost use Rattle.hall_core.specs.Facts.{Attached, DeviceCall, ReportedCall};
+ghost use Rattle.stop_model.specs.Files.{File};
+ghost use Rattle.stop_model.specs.Moments.{IsDurable};
+ghost use Rattle.vol_model.specs.Calls.{sound_after};
+ghost use Rattle.vol_model.specs.Writing.{begin_refusal, begun};
+ghost use Rattle.vol_model.specs.declared.contents.Shelf.{Shelf};
+ghost use Rattle.vtoc_index.specs.Index.{IsOfUnit, first_named};
+ghost use Rattle.vtoc_index.specs.Names.{AreByName, name_at};
+ghost use Rattle.dadsm_ops.specs.Operations.{StoreCall};
+ghost use Rattle.shelf_machine.specs.Known.{AreHeld, ForgetsOn, HaveBuffers, IsServed, KnowsBodies, geometries_of};
+ghost use Rattle.shelf_machine.specs.Machine.{AreIndexes, AreInOrder, AreKept, base_of, is_open_in, shelf_under, units_of, writer_in};
+ghost use Rattle.shelf_machine.specs.Opening.{names_of};
+ghost use Rattle.shelf_machine.specs.Operating.{OperatesOnShelf};
+ghost use Rattle.shelf_machine.specs.Pending.{HasSlot, IsBegunAt, IsBegunOn, IsFor, IsInSlot, IsPendingBy, Settles, closed};
+ghost use Rattle.shelf_machine.specs.Reads.{HasVolume};
+ghost use Rattle.shelf_machine.specs.Putting.{DidPut, PutsOn};
+ghost use Rattle.shelf_machine.specs.Reporting.{reported};
+
+use crate::known::Known;
+use crate::operations::{extend_on, operate};
+use crate::writer::Writer;
+use ebcdic_names::Dsn;
+use hall_core::{Device, Hall};
+use seq_access::{PutErr, begin, put};
+use std::alloc::Global;
+use vol_model::{Mode, Op, Place, StoreErr, is_catalog};
+use vtoc_index::{Vol, find};
+
+// Makes durable what an abandoned writer put, and forgets that writer. Where there is none nothing is called.
+pub(crate) fn settle<H: Hall>(hall: &mut H, writer: &mut Option<Writer>) -> Result<(), Device>
+    requires durable { IsTrue H.tells → writer.old ≡ None → IsDurable (H.meaning hall.old) }
+    ensures files { IsTrue H.tells → Settles (H.meaning hall.old) (H.meaning hall.new) result }
+    ensures done { OnOk result (writer.new ≡ None) }
+    ensures failed { OnErr result (writer.new ≡ writer.old) }
+    ensures faults { DeviceCall (H.facts hall.old) (H.facts hall.new) result }
+{
+    let Some(_) = *writer else {
+        return Ok(());
+    };
+    match hall.sync() {
+        Ok(()) => {
+            *writer = None;
+            Ok(())
+        }
+        Err(_) => Err(Device),
+    }
+}
+
+// The writer, closed: what it put is pending still, and none of the set's.
+pub(crate) fn abandoned(writer: Option<Writer>) -> Option<Writer>
+    ensures { result ≡ closed writer }
+{
+    let mut writer = writer?;
+    writer.is_open = false;
+    Some(writer)
+}
+
+// Does an operation on one of the packs, once nothing is pending.
+pub(crate) fn operate_settled<H: Hall>(
+    alloc: Global,
+    hall: &mut H,
+    vols: &mut Vec<Vol>,
+    known: &Vec<Known>,
+    writer: &mut Option<Writer>,
+    op: &Op,
+) -> Result<(), StoreErr>
+    requires indexes { AreIndexes (H.facts hall.old).units vols.old.items }
+    requires order { AreInOrder vols.old.items }
+    requires kept { IsTrue H.tells
+        → AreKept (H.meaning hall.old).state (H.facts hall.old).units vols.old.items }
+    requires slot { HasSlot vols.old.items writer.old }
+    requires pending { IsTrue H.tells → IsPendingBy (H.meaning hall.old) (H.facts hall.old).units
+        vols.old.items writer.old }
+    requires buffers { HaveBuffers vols.old.items known.now.items }
+    requires bodies { IsTrue H.tells → KnowsBodies
+        (shelf_under (names_of (H.facts hall.old).units (units_of vols.old.items)) (H.meaning hall.old).state)
+        known.now.items }
+    ensures shelf { let names = names_of (H.facts hall.old).units (units_of vols.old.items) in
+        let names' = names_of (H.facts hall.new).units (units_of vols.new.items) in
+        IsTrue H.tells → OperatesOnShelf op.now names names' (H.facts hall.new).units
+        vols.old.items vols.new.items (H.meaning hall.old) (H.meaning hall.new) result }
+    ensures indexes { AreIndexes (H.facts hall.new).units vols.new.items }
+    ensures order { sound_after (reported result) ≡ true → AreInOrder vols.new.items }
+    ensures writer { sound_after (reported result) ≡ true → writer.new ≡ None }
+    ensures base { base_of (H.facts hall.new) vols.new.items
+        ≡ base_of (H.facts hall.old) vols.old.items }
+    ensures geometries { geometries_of vols.new.items ≡ geometries_of vols.old.items }
+    ensures served { OnOk result (IsServed op.now) }
+    ensures faults { StoreCall (H.facts hall.old) (H.facts hall.new) result }
+{
+    match settle(hall, writer) {
+        Ok(()) => operate(alloc, hall, vols, known, op),
+        Err(_) => Err(StoreErr::Device),
+    }
+}
+
+// Opens a writer on a data set to which blocks can be written, once nothing is pending; false where there is no such set.
+pub(crate) fn open_writer<H: Hall>(
+    hall: &mut H,
+    vols: &Vec<Vol>,
+    writer: &mut Option<Writer>,
+    v: u8,
+    dsn: &Dsn,
+) -> Result<bool, Device>
+    requires indexes { AreIndexes (H.facts hall.old).units vols.now.items }
+    requires order { AreInOrder vols.now.items }
+    requires kept { IsTrue H.tells
+        → AreKept (H.meaning hall.old).state (H.facts hall.old).units vols.now.items }
+    requires pending { IsTrue H.tells → IsPendingBy (H.meaning hall.old) (H.facts hall.old).units
+        vols.now.items writer.old }
+    requires slot { HasSlot vols.now.items writer.old }
+    ensures files { IsTrue H.tells → Settles (H.meaning hall.old) (H.meaning hall.new) result }
+    ensures opened { IfOk result (λ is. is ≡ is_open_in writer.new) }
+    ensures slot { HasSlot vols.now.items writer.new }
+    ensures pending { let shelf = shelf_under (names_of (H.facts hall.old).units (units_of vols.now.items))
+        (H.meaning hall.old).state in
+        IsTrue H.tells → begin_refusal shelf (record { v = v; dsn = dsn.now; mode = Mode.Fill }) ≡ None
+        → IsPendingBy (H.meaning hall.new) (H.facts hall.new).units vols.now.items writer.new }
+    ensures writer { let shelf = shelf_under (names_of (H.facts hall.old).units (units_of vols.now.items))
+        (H.meaning hall.old).state in
+        IsTrue H.tells → begin_refusal shelf (record { v = v; dsn = dsn.now; mode = Mode.Fill }) ≡ None
+        → IfOk result (λ is. is ≡ true
+        → writer_in (H.meaning hall.new).state (H.facts hall.new).units vols.now.items writer.new
+        ≡ begun (record { v = v; dsn = dsn.now; mode = Mode.Fill })) }
+    ensures failed { OnErr result (writer.new ≡ writer.old) }
+    ensures faults { DeviceCall (H.facts hall.old) (H.facts hall.new) result }
+{
+    match settle(hall, writer) {
+        Ok(()) => {
+            *writer = writer_on(vols, v, dsn);
+            Ok(writer.is_some())
+        }
+        Err(_) => Err(Device),
+    }
+}
+
+// A writer behind the blocks of the data set of this name on the pack of this number, where there is one.
+fn writer_on(vols: &Vec<Vol>, v: u8, dsn: &Dsn) -> Option<Writer>
+    requires order { AreInOrder vols.now.items }
+    ensures slot { HasSlot vols.now.items result }
+    ensures target { IfSome result (IsFor v dsn.now) }
+    ensures begun { (files : List File) (attached : List Attached) → AreIndexes attached vols.now.items
+        → AreKept files attached vols.now.items
+        → begin_refusal (shelf_under (names_of attached (units_of vols.now.items)) files)
+        (record { v = v; dsn = dsn.now; mode = Mode.Fill }) ≡ None
+        → IfSome result (IsBegunOn files attached vols.now.items) }
+{
+    let k = usize::from(v);
+    if k >= vols.len() {
+        return None;
+    }
+    writer_at(&vols[k], v, dsn)
+}
+
+// The same on this pack.
+fn writer_at(vol: &Vol, v: u8, dsn: &Dsn) -> Option<Writer>
+    requires names { AreByName (name_at vol.now.slots.items) vol.now.by_name.items }
+    ensures slot { IfSome result (IsInSlot vol.now) }
+    ensures target { IfSome result (IsFor v dsn.now) }
+    ensures begun { (shelf : Shelf) (n : ℕ) (has : HasVolume shelf n vol.now)
+        → begin_refusal shelf (record { v = n; dsn = dsn.now; mode = Mode.Fill }) ≡ None
+        → IfSome result (IsBegunAt has.image vol.now) }
+{
+    if is_catalog(dsn) {
+        return None;
+    }
+    let Some(slot) = find(vol, dsn) else {
+        return None;
+    };
+    Some(Writer {
+        v,
+        dsn: *dsn,
+        mode: Mode::Fill,
+        inner: begin(vol, slot),
+        is_open: true,
+    })
+}
+
+// Puts a block behind those of the open writer, where its set owns a track for it.
+pub(crate) fn put_owned<H: Hall>(
+    hall: &mut H,
+    vols: &mut Vec<Vol>,
+    known: &mut Vec<Known>,
+    writer: &mut Writer,
+    key: &[u8],
+    payload: &[u8],
+) -> Result<Place, PutErr>
+    requires indexes { AreIndexes (H.facts hall.old).units vols.old.items }
+    requires kept { IsTrue H.tells
+        → AreKept (H.meaning hall.old).state (H.facts hall.old).units vols.old.items }
+    requires buffers { HaveBuffers vols.old.items known.old.items }
+    requires slot { HasSlot vols.old.items (Some writer.old) }
+    requires pending { IsTrue H.tells → IsPendingBy (H.meaning hall.old) (H.facts hall.old).units
+        vols.old.items (Some writer.old) }
+    requires held { IsTrue H.tells → AreHeld (H.meaning hall.old).state
+        (H.facts hall.old).units vols.old.items known.old.items }
+    requires key { length key.now ≤ 255 }
+    requires payload { length payload.now ≤ 32760 }
+    ensures files { let names = names_of (H.facts hall.old).units (units_of vols.old.items) in
+        IsTrue H.tells → PutsOn names (H.facts hall.new).units vols.old.items vols.new.items
+        known.new.items writer.new (H.meaning hall.old) (H.meaning hall.new) result }
+    ensures did { let names = names_of (H.facts hall.old).units (units_of vols.old.items) in
+        let files = (H.meaning hall.old).state in
+        IsTrue H.tells → DidPut (shelf_under names files)
+        (writer_in files (H.facts hall.old).units vols.old.items (Some writer.old)) (key.now, payload.now)
+        (writer_in (H.meaning hall.new).state (H.facts hall.new).units vols.new.items (Some writer.new))
+        result }
+    ensures indexes { AreIndexes (H.facts hall.new).units vols.new.items }
+    ensures order { AreInOrder vols.old.items → AreInOrder vols.new.items }
+    ensures slot { HasSlot vols.new.items (Some writer.new) }
+    ensures open { writer.new.is_open ≡ writer.old.is_open }
+    ensures base { base_of (H.facts hall.new) vols.new.items
+        ≡ base_of (H.facts hall.old) vols.old.items }
+    ensures buffers { HaveBuffers vols.new.items known.new.items }
+    ensures known { (shelf : Shelf) → KnowsBodies shelf known.old.items
+        → KnowsBodies shelf known.new.items }
+    ensures faults { ReportedCall (IsErrOf result PutErr.Device) (H.facts hall.old)
+        (H.facts hall.new) }
+{
+    let k = usize::from(writer.v);
+    forget_on(known, k);
+    put(hall, &mut vols[k], &mut writer.inner, key, payload)
+}
+
+// More tracks for the set of the open writer, once what it put is durable; it stands behind the same blocks then.
+pub(crate) fn make_room<H: Hall>(
+    hall: &mut H,
+    vols: &mut Vec<Vol>,
+    known: &Vec<Known>,
+    writer: &mut Writer,
+) -> Result<(), StoreErr>
+    requires indexes { AreIndexes (H.facts hall.old).units vols.old.items }
+    requires order { AreInOrder vols.old.items }
+    requires kept { IsTrue H.tells
+        → AreKept (H.meaning hall.old).state (H.facts hall.old).units vols.old.items }
+    requires slot { HasSlot vols.old.items (Some writer.old) }
+    requires pending { IsTrue H.tells → IsPendingBy (H.meaning hall.old) (H.facts hall.old).units
+        vols.old.items (Some writer.old) }
+    requires buffers { HaveBuffers vols.old.items known.now.items }
+    requires bodies { IsTrue H.tells → KnowsBodies
+        (shelf_under (names_of (H.facts hall.old).units (units_of vols.old.items)) (H.meaning hall.old).state)
+        known.now.items }
+    ensures shelf { let names = names_of (H.facts hall.old).units (units_of vols.old.items) in
+        let names' = names_of (H.facts hall.new).units (units_of vols.new.items) in
+        IsTrue H.tells → OperatesOnShelf (Op.Extend writer.old.v writer.old.dsn) names names'
+        (H.facts hall.new).units vols.old.items vols.new.items (H.meaning hall.old)
+        (H.meaning hall.new) result }
+    ensures indexes { AreIndexes (H.facts hall.new).units vols.new.items }
+    ensures order { sound_after (reported result) ≡ true → AreInOrder vols.new.items }
+    ensures slot { sound_after (reported result) ≡ true → HasSlot vols.new.items (Some writer.new) }
+    ensures pending { IsTrue H.tells → sound_after (reported result) ≡ true
+        → IsPendingBy (H.meaning hall.new) (H.facts hall.new).units vols.new.items (Some writer.new) }
+    ensures puts { IsTrue H.tells → sound_after (reported result) ≡ true
+        → writer_in (H.meaning hall.new).state (H.facts hall.new).units vols.new.items (Some writer.new)
+        ≡ writer_in (H.meaning hall.old).state (H.facts hall.old).units vols.old.items (Some writer.old) }
+    ensures same { writer.new ≡ record writer.old { inner = writer.new.inner } }
+    ensures base { base_of (H.facts hall.new) vols.new.items
+        ≡ base_of (H.facts hall.old) vols.old.items }
+    ensures geometries { geometries_of vols.new.items ≡ geometries_of vols.old.items }
+    ensures faults { StoreCall (H.facts hall.old) (H.facts hall.new) result }
+{
+    match hall.sync() {
+        Ok(()) => make_room_settled(hall, vols, known, writer),
+        Err(_) => Err(StoreErr::Device),
+    }
+}
+
+// The same, where all is durable already.
+fn make_room_settled<H: Hall>(
+    hall: &mut H,
+    vols: &mut Vec<Vol>,
+    known: &Vec<Known>,
+    writer: &mut Writer,
+) -> Result<(), StoreErr>
+    requires indexes { AreIndexes (H.facts hall.old).units vols.old.items }
+    requires order { AreInOrder vols.old.items }
+    requires kept { IsTrue H.tells
+        → AreKept (H.meaning hall.old).state (H.facts hall.old).units vols.old.items }
+    requires durable { IsTrue H.tells → IsDurable (H.meaning hall.old) }
+    requires slot { HasSlot vols.old.items (Some writer.old) }
+    requires pending { IsTrue H.tells → IsPendingBy (H.meaning hall.old) (H.facts hall.old).units
+        vols.old.items (Some writer.old) }
+    requires buffers { HaveBuffers vols.old.items known.now.items }
+    requires bodies { IsTrue H.tells → KnowsBodies
+        (shelf_under (names_of (H.facts hall.old).units (units_of vols.old.items)) (H.meaning hall.old).state)
+        known.now.items }
+    ensures shelf { let names = names_of (H.facts hall.old).units (units_of vols.old.items) in
+        let names' = names_of (H.facts hall.new).units (units_of vols.new.items) in
+        IsTrue H.tells → OperatesOnShelf (Op.Extend writer.old.v writer.old.dsn) names names'
+        (H.facts hall.new).units vols.old.items vols.new.items (H.meaning hall.old)
+        (H.meaning hall.new) result }
+    ensures indexes { AreIndexes (H.facts hall.new).units vols.new.items }
+    ensures order { sound_after (reported result) ≡ true → AreInOrder vols.new.items }
+    ensures slot { sound_after (reported result) ≡ true → HasSlot vols.new.items (Some writer.new) }
+    ensures pending { IsTrue H.tells → sound_after (reported result) ≡ true
+        → IsPendingBy (H.meaning hall.new) (H.facts hall.new).units vols.new.items (Some writer.new) }
+    ensures puts { IsTrue H.tells → sound_after (reported result) ≡ true
+        → writer_in (H.meaning hall.new).state (H.facts hall.new).units vols.new.items (Some writer.new)
+        ≡ writer_in (H.meaning hall.old).state (H.facts hall.old).units vols.old.items (Some writer.old) }
+    ensures same { writer.new ≡ record writer.old { inner = writer.new.inner } }
+    ensures base { base_of (H.facts hall.new) vols.new.items
+        ≡ base_of (H.facts hall.old) vols.old.items }
+    ensures geometries { geometries_of vols.new.items ≡ geometries_of vols.old.items }
+    ensures faults { StoreCall (H.facts hall.old) (H.facts hall.new) result }
+{
+    extend_on(hall, vols, known, writer.v, &writer.dsn)?;
+    match find_slot(hall, &vols[usize::from(writer.v)], writer) {
+        Ok(()) => Ok(()),
+        Err(Device) => Err(StoreErr::Device),
+    }
+}
+
+// Makes the slot of the writer that of its set in this index; there is one on each hall that tells its content.
+fn find_slot<H: Hall>(hall: &mut H, vol: &Vol, writer: &mut Writer) -> Result<(), Device>
+    requires unit { IsOfUnit (H.facts hall.old).units vol.now }
+    requires names { AreByName (name_at vol.now.slots.items) vol.now.by_name.items }
+    requires named { IsTrue H.tells
+        → (slot : ℕ) × (first_named writer.old.dsn.bytes vol.now.slots.items ≡ Some slot) }
+    ensures slot { OnOk result (first_named writer.old.dsn.bytes vol.now.slots.items
+        ≡ Some writer.new.inner.slot) }
+    ensures others { let inner = record (writer.old.inner) { slot = writer.new.inner.slot } in
+        writer.new ≡ record writer.old { inner = inner } }
+    ensures told { IsTrue H.tells → IsOk result }
+    ensures hall { OnOk result (hall.new ≡ hall.old) }
+    ensures faults { DeviceCall (H.facts hall.old) (H.facts hall.new) result }
+{
+    let Some(slot) = find(vol, &writer.dsn) else {
+        hall.differs(vol.unit, vol.vtoc.start);
+        return Err(Device);
+    };
+    writer.inner.slot = slot;
+    Ok(())
+}
+
+// Forgets the track that is held of the pack of this number.
+pub(crate) fn forget_on(known: &mut Vec<Known>, k: usize)
+    requires { k < length known.old.items }
+    ensures { ForgetsOn k known.old.items known.new.items }
+{
+    known[k].buf.forget();
+}
