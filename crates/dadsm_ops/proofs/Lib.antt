@@ -16,6 +16,7 @@ pub mod ChangedFormats
 pub mod AddedExtents
 pub mod AddedFields
 pub mod AddedArrays
+pub mod CutRuns
 pub mod NewPlans
 pub mod NewSetCalls
 pub mod NewIndex

@@ -1,5 +1,7 @@
 -- The index of a VTOC when a new data set is in it: its slots, its free runs and its order of names.
-use Rattle.std.proofs.Common.{◌≡◌, ℕ, List, sym, ap, subst, ◌∙◌}
+use Rattle.std.proofs.Common.{◌≡◌, ◌≤◌, ◌+◌, ℕ, List, sym, ap, subst, ◌∙◌}
+use Rattle.std.specs.Prelude.{vec_len}
+use Rattle.std.specs.Vec.{vec_capacity}
 use Rattle.hall_core.specs.Facts.{Attached}
 use Rattle.pack_spec.specs.Label.{tracks_of}
 use Rattle.space_alloc.specs.Edits.{AreWithout}
@@ -51,6 +53,13 @@ both_changed u v w first second =
 pub slots_changed : (u v : Vol) → v ≡ record u { slots = v.slots; buf = v.buf } → HasVtocOf u v
 slots_changed u v first =
     first ∙ (λ i. record u { slots = v.slots; free = sym (ap (λ (x : Vol). x.free) first) i; by_name = sym (ap (λ (x : Vol). x.by_name) first) i; buf = v.buf })
+
+-- so the list of free runs has the room that it had
+pub room_kept : (u v : Vol) → v ≡ record u { slots = v.slots; buf = v.buf } → vec_capacity v.free ≡ vec_capacity u.free
+room_kept u v is = ap (λ (x : Vol). vec_capacity x.free) is
+
+pub room_then : (u v : Vol) → v ≡ record u { slots = v.slots; buf = v.buf } → vec_len u.free + 6 ≤ vec_capacity u.free → vec_len v.free + 6 ≤ vec_capacity v.free
+room_then u v is room = subst (λ (x : Vol). vec_len x.free + 6 ≤ vec_capacity x.free) (sym is) room
 
 -- the order of names alone
 pub order_changed : (u v : Vol) → v ≡ record u { by_name = v.by_name } → HasVtocOf u v

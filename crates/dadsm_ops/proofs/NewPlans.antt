@@ -1,5 +1,5 @@
 -- The slots that a volume with a new data set needs, by the index, and why there are too few.
-use Rattle.std.proofs.Common.{◌≡◌, ◌+◌, ◌/◌, ◌≤◌, ◌<◌, ℕ, max, List, length, sym, ap, ◌∙◌, arith}
+use Rattle.std.proofs.Common.{◌≡◌, ◌+◌, ◌-◌, ◌/◌, ◌≤◌, ◌<◌, ℕ, max, List, [], ◌∷◌, length, sym, ap, ◌∙◌, arith}
 use Rattle.std.specs.Prelude.{Ok, Err}
 use Rattle.ebcdic_names.specs.declared.names.Dsn.{Dsn}
 use Rattle.hall_core.specs.Facts.{Attached}
@@ -13,17 +13,15 @@ use Rattle.vol_model.specs.declared.refusals.Refusal.TheVariants.{VtocFull}
 use Rattle.vol_model.specs.declared.requests.Request.{Request}
 use Rattle.vol_model.specs.Shelf.{allocate_on, with_new}
 use Rattle.vol_model.specs.Slots.{slots_needed}
-use Rattle.vol_model.specs.Space.{EndBy, free_runs}
+use Rattle.vol_model.specs.Space.{AreApartFrom, EndBy, free_runs}
 use Rattle.vol_model.proofs.FreeRuns.{EndBy-higher}
 use Rattle.vtoc_index.specs.declared.vol.Vol.{Vol}
 use Rattle.vtoc_index.specs.Index.{IsMounted, IsOfUnit}
 use Rattle.vtoc_index.proofs.HeldDscbs.{dscbs_many}
 use Rattle.vtoc_index.proofs.OwnedVolumes.{few_tracks}
 use Rattle.vtoc_sets.specs.Sets.{slots_taken, volume_in}
-use Rattle.vtoc_sets.proofs.FewRuns.{free_few}
 use Rattle.dadsm_ops.specs.Allocating.{HasChoice, HasPlan, own_slots}
 use Rattle.dadsm_ops.proofs.NewChoices.{volume_is}
-use Rattle.dadsm_ops.proofs.NewIndex.{unit_with}
 use Rattle.dadsm_ops.proofs.NewVolumes.{allocate_full, free_runs_new, needed_new}
 use Rattle.dadsm_ops.proofs.StandingPuts.{slots_by}
 
@@ -60,6 +58,11 @@ module _ (image : List ℕ) (v : Vol) (volume : Volume) (mounted : IsMounted ima
   pub plan_fits : HasChoice dsn attr q volume runs → total ≤ length v.slots.items → HasPlan image dsn attr q runs
   plan_fits has enough = record { volume = volume; stands = stands; has = has; fits = omega (arith, enough, slots_many, needed) }
 
--- the free runs without the tracks of a set are few
-pub without_few : (units : List Attached) (v w : Vol) (runs : List Run) → w ≡ record v { free = w.free; by_name = w.by_name } → IsOfUnit units v → AreWithout v.free.items runs w.free.items → length w.free.items ≤ 65535
-without_few units v w runs others unit without = free_few units w (unit_with v w others units runs unit without)
+-- runs that lie apart are at most as many as the tracks that they lie on
+few_runs : (low limit : ℕ) (rs : List Run) → AreApartFrom low rs → EndBy limit rs → length rs ≤ limit - low
+few_runs low limit [] apart ends = omega arith
+few_runs low limit (r ∷ rs) apart ends = omega (arith, apart.0, apart.1, ends.0, few_runs (r.start + r.len + 1) limit rs apart.2 ends.1)
+
+-- so the free runs without the tracks of a set are few
+pub without_few : (v : Vol) (runs left : List Run) → (units : List Attached) × IsOfUnit units v → AreWithout v.free.items runs left → length left ≤ 65535
+without_few v runs left unit without = omega (arith, few_runs 0 65535 left without.maximal (without.within 65535 (free_within v unit)))

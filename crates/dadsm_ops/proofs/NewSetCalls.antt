@@ -256,9 +256,10 @@ decides_not name operation v m n answer failed decides = record {
 pub decided_marked : {T E : Type 0} {x : T} (name : List ℕ) (operation : Volume → Result Volume Refusal) (v : Vol) (m n : Meaning (List File)) → Decides {T = T} {E = E} name operation v m n (Ok x) → IsMarked (slots_by (image_named n.state name) v)
 decided_marked name operation v m n decides = marked_by (image_named n.state name) v decides.after decides.index decides.decided.stands decides.decided.marked
 
--- the free runs are replaced, and then the order of names
-pub entered_changes : (v u w : Vol) → w ≡ record v { free = u.free; by_name = w.by_name } → w ≡ record v { free = w.free; by_name = w.by_name }
-entered_changes v u w is = is ∙ (λ i. record v { free = sym (ap (λ (x : Vol). x.free) is) i; by_name = w.by_name })
+-- the free runs change, and then the order of names
+pub entered_changes : (v u w : Vol) → u ≡ record v { free = u.free } → w ≡ record u { by_name = w.by_name } → w ≡ record v { free = w.free; by_name = w.by_name }
+entered_changes v u w first second =
+    second ∙ ap (λ (x : Vol). record x { by_name = w.by_name }) first ∙ (λ i. record v { free = sym (ap (λ (x : Vol). x.free) second) i; by_name = w.by_name })
 
 -- the name of the unit's file is the same
 pub name_kept : (us vs : List Attached) (v w : Vol) → vs ≡ us → HasVtocOf v w → (unit_of vs w.unit).name ≡ (unit_of us v.unit).name

@@ -6,8 +6,7 @@ use Rattle.stop_model.specs.Files.{File}
 use Rattle.stop_model.specs.Moments.{Meaning, Same}
 use Rattle.stop_model.proofs.MomentLemmas.{elapses_none}
 use Rattle.pack_spec.specs.Volume.{volume_of}
-use Rattle.vol_model.specs.declared.answers.StoreErr.{StoreErr}
-use Rattle.vol_model.specs.declared.answers.StoreErr.TheVariants.{Device, Memory, Refused}
+use Rattle.vol_model.specs.declared.answers.StoreErr.TheVariants.{Device, Memory}
 use Rattle.vol_model.specs.declared.contents.Attr.{Attr}
 use Rattle.vol_model.specs.declared.contents.Run.{Run}
 use Rattle.vol_model.specs.declared.contents.Volume.{Volume}
@@ -18,7 +17,6 @@ use Rattle.vtoc_index.specs.declared.vol.Vol.{Vol}
 use Rattle.dadsm_ops.specs.Allocating.{HasPlan}
 use Rattle.dadsm_ops.specs.Operations.{DoesOperation, Operates, image_named}
 use Rattle.dadsm_ops.proofs.NewVolumes.{allocate_ok}
-use Rattle.dadsm_ops.proofs.Operating.{operates_none}
 
 -- memory ran out before anything was called
 pub operates_memory : {T : Type 0} (name : List ℕ) (operation : Volume → Result Volume Refusal) (v : Vol) (m : Meaning (List File)) (volume : Volume) → volume_of (image_named m.state name) ≡ Ok volume → Same m m → Operates {T = T} name operation v m m (Err Memory)
@@ -28,12 +26,6 @@ operates_memory name operation v m volume before same = record {
   idle = λ other refused. same;
   memory = λ given. same;
 }
-
--- it is refused, or memory ran out
-pub operates_idle : {T : Type 0} (name : List ℕ) (operation : Volume → Result Volume Refusal) (v : Vol) (m : Meaning (List File)) (volume : Volume) (e : StoreErr) → volume_of (image_named m.state name) ≡ Ok volume → ((r : Refusal) → e ≡ Refused r → operation volume ≡ Err r) → ¬ (e ≡ Device) → Same m m → Operates {T = T} name operation v m m (Err e)
-operates_idle name operation v m volume (Refused r) before refused no_device same = operates_none name operation v m volume r before (refused r refl) same
-operates_idle name operation v m volume Memory before refused no_device same = operates_memory name operation v m volume before same
-operates_idle name operation v m volume Device before refused no_device same = absurd (no_device refl)
 
 module _ (name : List ℕ) (dsn : Dsn) (attr : Attr) (q : Request) (dir : ℕ) (none : dir ≡ 0) (v : Vol) (m n : Meaning (List File)) (runs : List Run) (plan : HasPlan (image_named m.state name) dsn attr q runs) (other : is_catalog dsn.bytes ≡ false) where
   -- what is planned isn't refused

@@ -1,5 +1,5 @@
 -- The DSCBs of a new data set (System Control Blocks GC28-6628).
-use Rattle.std.specs.Prelude.{◌≡◌, ◌≢◌, ◌⊎◌, ℕ, ◌+◌, ◌-◌, ◌*◌, ◌^◌, ◌≤◌, ◌<◌, nat_lt, false, List, ◌∷◌, ◌++◌, count_by, drop, length, map, replicate, slice_get, Some, Result, Ok, OnOk, if◌then◌else◌}
+use Rattle.std.specs.Prelude.{◌≡◌, ◌≢◌, ◌⊎◌, ℕ, ◌+◌, ◌-◌, ◌*◌, ◌^◌, ◌≤◌, ◌<◌, nat_lt, false, List, [], ◌∷◌, ◌++◌, count_by, drop, length, map, replicate, slice_get, Some, Result, Ok, OnOk, if◌then◌else◌}
 use Rattle.std.specs.List.{range_with_len}
 use Rattle.std.specs.Option.{option_map_or}
 use Rattle.ckd_image.specs.declared.header.Geometry.{Geometry}
@@ -15,6 +15,7 @@ use Rattle.free_rebuild.specs.Chain.{is_open}
 use Rattle.free_rebuild.specs.Repairs.{image_named}
 use Rattle.pack_spec.specs.declared.slot.VtocSlot.{VtocSlot}
 use Rattle.pack_spec.specs.Settled.{is_used}
+use Rattle.space_alloc.specs.Edits.{cut_all}
 use Rattle.vol_model.specs.declared.requests.Request.{Request}
 use Rattle.vol_model.specs.Shelf.{has_set, is_partitioned, with_new}
 use Rattle.vol_model.specs.Slots.{slots_needed}
@@ -35,6 +36,11 @@ use Rattle.vol_model.specs.declared.requests.SpaceUnit.TheVariants.{Track, Cylin
 pub record AreExtents (runs : List Run) : Type 0 where
   pub each : (k : ℕ) (r : Run) → slice_get runs k ≡ Some r
       → (1 ≤ r.len) × (r.start + r.len ≤ 65535)
+
+-- what is left of runs without the tracks of others, one after the other
+abbrev pub cut_by : List Run → List Run → List Run
+cut_by [] runs = runs
+cut_by (e ∷ es) runs = cut_by es (cut_all e.start (e.start + e.len) runs)
 
 -- the type of an extent: data, on cylinder boundaries where cylinders were asked for
 abbrev pub extent_type : SpaceUnit → ℕ

@@ -1,5 +1,5 @@
 //! A new data set.
-ghost use Rattle.std.specs.Prelude.{◌≡◌, ◌≤◌, ◌<◌, ◌+◌, ◌^◌, ◌≢◌, IsOk, ℕ, List, false, length, vec_len, IfOk, IsErrOf, IsTrue, OnOk, Some};
+ghost use Rattle.std.specs.Prelude.{◌≡◌, ◌≤◌, ◌<◌, ◌+◌, ◌^◌, IsOk, false, vec_len, IfOk, IsErrOf, IsTrue, OnOk, Some};
 ghost use Rattle.std.specs.Vec.{vec_capacity};
 ghost use Rattle.hall_core.specs.Facts.{DeviceCall, unit_of};
 ghost use Rattle.hall_core.specs.Images.{image_in};
@@ -7,7 +7,6 @@ ghost use Rattle.stop_model.specs.Moments.{IsDurable};
 ghost use Rattle.pack_spec.specs.Settled.{IsMarked, IsSettledVtoc};
 ghost use Rattle.pack_spec.specs.Slots.{slots_of_vtoc};
 ghost use Rattle.free_rebuild.specs.Updates.{Marks};
-ghost use Rattle.space_alloc.specs.Edits.{AreWithout};
 ghost use Rattle.space_alloc.specs.Units.{listed};
 ghost use Rattle.vol_model.specs.Shelf.{allocate_on, is_catalog, new_attr};
 ghost use Rattle.vol_model.specs.declared.refusals.Refusal.{Refusal};
@@ -18,14 +17,14 @@ ghost use Rattle.dadsm_ops.specs.Allocating.{AreExtents, Decides, HasPlan, HasFu
 ghost use Rattle.dadsm_ops.specs.Operations.{DoesOperation, Operates, StoreCall};
 
 use crate::new_set::{extent_type, new_attr, new_f1, new_f3};
-use crate::planning::{SetPlan, own_slots, plan};
+use crate::planning::{own_slots, plan, take_runs};
 use crate::through::put_through;
 use dscb_codec::Dscb;
 use ebcdic_names::Dsn;
 use free_rebuild::{conclude, mark};
 use hall_core::{Device, Hall};
 use space_alloc::Extents;
-use std::alloc::{AllocError, Global};
+use std::alloc::AllocError;
 use vol_model::{Attr, Request, StoreErr};
 use vtoc_index::{Vol, enter_name, free_slot, slot_address};
 
@@ -38,11 +37,11 @@ use vtoc_index::{Vol, enter_name, free_slot, slot_address};
 ///
 /// It is refused, in this order, where the volume has a set of the name (`SetExists`), where the organization
 /// is that of a partitioned set, which needs a directory (`WrongKind`), where the free tracks don't serve the
-/// request (`NoSpace`), and where the VTOC has fewer slots than are needed then (`VtocFull`). All memory is
-/// taken before the first write. `Device` comes only where the count of its faults rose. The index is that
-/// of the new image after `Ok`, and may be that of no image after `Device`.
+/// request (`NoSpace`), and where the VTOC has fewer slots than are needed then (`VtocFull`). Memory is taken
+/// for its name alone, before the first write: the list of free runs has room for 6 more. `Device` comes only
+/// where the count of its faults rose. The index is that of the new image after `Ok`, and may be that of no
+/// image after `Device`.
 pub fn allocate<H: Hall>(
-    alloc: Global,
     hall: &mut H,
     vol: &mut Vol,
     dsn: &Dsn,
@@ -52,6 +51,7 @@ pub fn allocate<H: Hall>(
 ) -> Result<(), StoreErr>
     requires unit { IsOfUnit (H.facts hall.old).units vol.old }
     requires names { AreByName (name_at vol.old.slots.items) vol.old.by_name.items }
+    requires room { vec_len vol.old.free + 6 ≤ vec_capacity vol.old.free }
     requires catalog { is_catalog dsn.now.bytes ≡ false }
     requires dir { dir ≡ 0 }
     requires quantities { request.now.secondary < 2 ^ 24 }
@@ -76,13 +76,14 @@ pub fn allocate<H: Hall>(
     ensures memory { IsErrOf result StoreErr.Memory → (hall.new ≡ hall.old)
         × (vol.new ≡ record vol.old { by_name = vol.new.by_name })
         × (vol.new.by_name.items ≡ vol.old.by_name.items) }
+    ensures room { vec_capacity vol.new.free ≡ vec_capacity vol.old.free }
     ensures faults { StoreCall (H.facts hall.old) (H.facts hall.new) result }
 {
-    let plan = plan(alloc, vol, dsn, attr, request, dir)?;
+    let extents = plan(vol, dsn, attr, request, dir)?;
     let Ok(()) = reserve_name(vol) else {
         return Err(StoreErr::Memory);
     };
-    match carry_out(hall, vol, dsn, attr, request, plan) {
+    match carry_out(hall, vol, dsn, attr, request, &extents) {
         Ok(()) => Ok(()),
         Err(Device) => Err(StoreErr::Device),
     }
@@ -105,19 +106,19 @@ fn carry_out<H: Hall>(
     dsn: &Dsn,
     attr: &Attr,
     request: &Request,
-    plan: SetPlan,
+    extents: &Extents,
 ) -> Result<(), Device>
     requires unit { IsOfUnit (H.facts hall.old).units vol.old }
     requires names { AreByName (name_at vol.old.slots.items) vol.old.by_name.items }
     requires absent { IsAbsent dsn.now.bytes vol.old.slots.items }
-    requires room { vec_len vol.old.by_name < vec_capacity vol.old.by_name }
+    requires name_room { vec_len vol.old.by_name < vec_capacity vol.old.by_name }
     requires catalog { is_catalog dsn.now.bytes ≡ false }
     requires quantities { request.now.secondary < 2 ^ 24 }
-    requires few { plan.extents.n ≤ 5 }
-    requires written { AreExtents (listed plan.extents) }
-    requires free { AreWithout vol.old.free.items (listed plan.extents) plan.free.items }
+    requires few { extents.now.n ≤ 5 }
+    requires written { AreExtents (listed extents.now) }
+    requires room { vec_len vol.old.free + 6 ≤ vec_capacity vol.old.free }
     requires plan { let image = image_in (H.meaning hall.old) (H.facts hall.old) vol.old.unit in
-        IsTrue H.tells → HasPlan image dsn.now attr.now request.now (listed plan.extents) }
+        IsTrue H.tells → HasPlan image dsn.now attr.now request.now (listed extents.now) }
     requires mounted { let image = image_in (H.meaning hall.old) (H.facts hall.old) vol.old.unit in
         IsTrue H.tells → IsMounted image vol.old }
     requires settled { let image = image_in (H.meaning hall.old) (H.facts hall.old) vol.old.unit in
@@ -134,11 +135,12 @@ fn carry_out<H: Hall>(
       by_name = vol.new.by_name;
       buf = vol.new.buf;
     } }
+    ensures room { vec_capacity vol.new.free ≡ vec_capacity vol.old.free }
     ensures faults { DeviceCall (H.facts hall.old) (H.facts hall.new) result }
 {
     mark(hall, vol)?;
-    let pointer = put_further(hall, vol, request, &plan.extents)?;
-    put_set(hall, vol, dsn, attr, request, plan, pointer)?;
+    let pointer = put_further(hall, vol, request, extents)?;
+    put_set(hall, vol, dsn, attr, request, extents, pointer)?;
     conclude(hall, vol)
 }
 
@@ -204,24 +206,24 @@ fn put_set<H: Hall>(
     dsn: &Dsn,
     attr: &Attr,
     request: &Request,
-    plan: SetPlan,
+    extents: &Extents,
     pointer: [u8; 5],
 ) -> Result<(), Device>
     requires unit { IsOfUnit (H.facts hall.old).units vol.old }
     requires names { AreByName (name_at vol.old.slots.items) vol.old.by_name.items }
     requires absent { IsAbsent dsn.now.bytes vol.old.slots.items }
-    requires room { vec_len vol.old.by_name < vec_capacity vol.old.by_name }
+    requires name_room { vec_len vol.old.by_name < vec_capacity vol.old.by_name }
     requires catalog { is_catalog dsn.now.bytes ≡ false }
     requires quantities { request.now.secondary < 2 ^ 24 }
-    requires few { plan.extents.n ≤ 5 }
-    requires written { AreExtents (listed plan.extents) }
-    requires free { AreWithout vol.old.free.items (listed plan.extents) plan.free.items }
+    requires few { extents.now.n ≤ 5 }
+    requires written { AreExtents (listed extents.now) }
+    requires room { vec_len vol.old.free + 6 ≤ vec_capacity vol.old.free }
     requires slots { IsTrue H.tells → 1 ≤ open_slots vol.old.slots.items }
     requires plan { let image = image_in (H.meaning hall.old) (H.facts hall.old) vol.old.unit in
-        IsTrue H.tells → HasPlan image dsn.now attr.now request.now (listed plan.extents) }
+        IsTrue H.tells → HasPlan image dsn.now attr.now request.now (listed extents.now) }
     requires third { let image = image_in (H.meaning hall.old) (H.facts hall.old) vol.old.unit in
         IsTrue H.tells → HasFurtherIfMany (slots_of_vtoc image vol.old.geometry vol.old.vtoc) vol.old.geometry
-        (extent_type request.now.unit) (listed plan.extents) pointer }
+        (extent_type request.now.unit) (listed extents.now) pointer }
     requires mounted { let image = image_in (H.meaning hall.old) (H.facts hall.old) vol.old.unit in
         IsTrue H.tells → IsMounted image vol.old }
     requires marked { let image = image_in (H.meaning hall.old) (H.facts hall.old) vol.old.unit in
@@ -238,6 +240,7 @@ fn put_set<H: Hall>(
       by_name = vol.new.by_name;
       buf = vol.new.buf;
     } }
+    ensures room { vec_capacity vol.new.free ≡ vec_capacity vol.old.free }
     ensures faults { DeviceCall (H.facts hall.old) (H.facts hall.new) result }
 {
     let slot = open_slot(hall, vol)?;
@@ -247,11 +250,11 @@ fn put_set<H: Hall>(
         &new_attr(attr, request),
         &vol.geometry,
         extent_type(request.unit),
-        &plan.extents,
+        extents,
         pointer,
     );
     put_through(hall, vol, slot, &Dscb::F1(set))?;
-    vol.free = plan.free;
+    take_runs(vol, extents);
     enter_name(vol, slot);
     Ok(())
 }

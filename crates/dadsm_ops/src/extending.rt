@@ -1,6 +1,7 @@
 //! More extents for a data set.
-ghost use Rattle.std.specs.Prelude.{◌≡◌, ◌≤◌, ◌<◌, ◌+◌, ℕ, List, length, true, false, slice_get, IfOk, IfErr, IfSome, IsErrOf, IsOk, IsTrue, OnOk, Some, None, Ok};
+ghost use Rattle.std.specs.Prelude.{◌≡◌, ◌≤◌, ◌<◌, ◌+◌, ℕ, List, length, true, false, slice_get, vec_len, IfOk, IfErr, IfSome, IsErrOf, IsOk, IsTrue, OnOk, Some, None, Ok};
 ghost use Rattle.std.specs.Str.{bytes_eq};
+ghost use Rattle.std.specs.Vec.{vec_capacity};
 ghost use Rattle.hall_core.specs.Facts.{Attached, DeviceCall, unit_of};
 ghost use Rattle.hall_core.specs.Images.{image_in};
 ghost use Rattle.stop_model.specs.Moments.{IsDurable};
@@ -11,10 +12,8 @@ ghost use Rattle.pack_spec.specs.Settled.{IsMarked, IsSettledVtoc};
 ghost use Rattle.pack_spec.specs.Slots.{slots_of_vtoc};
 ghost use Rattle.pack_spec.specs.Volume.{attr_of, volume_of};
 ghost use Rattle.free_rebuild.specs.Updates.{Marks};
-ghost use Rattle.space_alloc.specs.Edits.{AreWithout};
 ghost use Rattle.space_alloc.specs.Units.{listed};
 ghost use Rattle.vol_model.specs.Shelf.{extend_on, is_catalog, secondary_asked, secondary_choice};
-ghost use Rattle.vol_model.specs.Space.{EndBy};
 ghost use Rattle.vol_model.specs.declared.contents.Volume.{Volume};
 ghost use Rattle.vol_model.specs.declared.refusals.Refusal.{Refusal};
 ghost use Rattle.vtoc_index.specs.Index.{IsMounted, IsOfUnit, address_in};
@@ -29,7 +28,7 @@ use crate::added::{
 };
 use crate::allocating::open_slot;
 use crate::new_set::extent_count;
-use crate::planning::{SetPlan, free_without};
+use crate::planning::{runs_left, take_runs};
 use crate::through::put_through;
 use dscb_codec::{Dscb, F1, F3};
 use free_rebuild::{conclude, mark};
@@ -49,13 +48,14 @@ use vtoc_sets::{attr_of, slots_for, slots_of_sets};
 /// and the bit off (System Control Blocks GC28-6628).
 ///
 /// It is refused, in this order, where the free tracks don't serve the quantity (`NoSpace`), where the set would have
-/// more than 16 extents (`ExtentsFull`), and where the VTOC has fewer slots than are needed then (`VtocFull`). All
-/// memory is taken before the first write. `Device` comes only where the count of its faults rose. The index is that
-/// of the new image after `Ok`, and may be that of no image after `Device`.
+/// more than 16 extents (`ExtentsFull`), and where the VTOC has fewer slots than are needed then (`VtocFull`). It takes
+/// no memory: the list of free runs has room for 6 more. `Device` comes only where the count of its faults rose. The
+/// index is that of the new image after `Ok`, and may be that of no image after `Device`.
 pub fn extend<H: Hall>(hall: &mut H, vol: &mut Vol, slot: u32) -> Result<(), StoreErr>
     requires unit { IsOfUnit (H.facts hall.old).units vol.old }
     requires names { AreByName (name_at vol.old.slots.items) vol.old.by_name.items }
     requires set { HoldsSet vol.old.slots.items slot }
+    requires room { vec_len vol.old.free + 6 ≤ vec_capacity vol.old.free }
     requires mounted { let image = image_in (H.meaning hall.old) (H.facts hall.old) vol.old.unit in
         IsTrue H.tells → IsMounted image vol.old }
     requires body { let image = image_in (H.meaning hall.old) (H.facts hall.old) vol.old.unit in
@@ -76,12 +76,13 @@ pub fn extend<H: Hall>(hall: &mut H, vol: &mut Vol, slot: u32) -> Result<(), Sto
     } }
     ensures refused { (r : Refusal) → IsErrOf result (StoreErr.Refused r)
         → (hall.new ≡ hall.old) × (vol.new ≡ vol.old) }
-    ensures memory { IsErrOf result StoreErr.Memory → (hall.new ≡ hall.old) × (vol.new ≡ vol.old) }
+    ensures memory { ¬ IsErrOf result StoreErr.Memory }
+    ensures room { vec_capacity vol.new.free ≡ vec_capacity vol.old.free }
     ensures faults { StoreCall (H.facts hall.old) (H.facts hall.new) result }
 {
     let set = set_at(vol, slot);
-    let plan = plan(vol, &set)?;
-    match carry_out(hall, vol, slot, &set, plan) {
+    let extents = plan(vol, &set)?;
+    match carry_out(hall, vol, slot, &set, &extents) {
         Ok(()) => Ok(()),
         Err(Device) => Err(StoreErr::Device),
     }
@@ -102,7 +103,6 @@ fn set_at(vol: &Vol, slot: u32) -> F1
 fn chosen(vol: &Vol, attr: &Attr) -> Result<Extents, Refusal>
     requires unit { (units : List Attached) × IsOfUnit units vol.now }
     ensures few { IfOk result (λ e. e.n ≤ 5) }
-    ensures within { IfOk result (λ e. EndBy 65535 (listed e)) }
     ensures written { IfOk result (λ e. AreExtents (listed e)) }
     ensures chosen { IfOk result (λ e. (image : List ℕ) (volume : Volume) → IsMounted image vol.now
         → volume_of image ≡ Ok volume → secondary_choice volume attr.now ≡ Some (listed e)) }
@@ -126,7 +126,6 @@ fn more_extents(vol: &Vol, set: &F1) -> Result<Extents, Refusal>
     requires unit { (units : List Attached) × IsOfUnit units vol.now }
     ensures few { IfOk result (λ e. e.n ≤ 5) }
     ensures total { IfOk result (λ e. set.now.extents + length (listed e) ≤ 16) }
-    ensures within { IfOk result (λ e. EndBy 65535 (listed e)) }
     ensures written { IfOk result (λ e. AreExtents (listed e)) }
     ensures more { IfOk result (λ e. (image : List ℕ) (volume : Volume) → IsMounted image vol.now
         → volume_of image ≡ Ok volume → HasMore set.now volume (listed e)) }
@@ -140,31 +139,24 @@ fn more_extents(vol: &Vol, set: &F1) -> Result<Extents, Refusal>
     Ok(extents)
 }
 
-// What a data set gets, or the first reason why it gets nothing; memory is taken for the free runs then.
-fn plan(vol: &Vol, set: &F1) -> Result<SetPlan, StoreErr>
+// The tracks that a data set gets, or the first reason why it gets none, that for want of slots too.
+fn plan(vol: &Vol, set: &F1) -> Result<Extents, Refusal>
     requires unit { (units : List Attached) × IsOfUnit units vol.now }
-    ensures few { IfOk result (λ p. p.extents.n ≤ 5) }
-    ensures total { IfOk result (λ p. set.now.extents + length (listed p.extents) ≤ 16) }
-    ensures written { IfOk result (λ p. AreExtents (listed p.extents)) }
-    ensures free { IfOk result (λ p. AreWithout vol.now.free.items (listed p.extents) p.free.items) }
-    ensures plan { IfOk result (λ p. (image : List ℕ) (slot : ℕ) → IsMounted image vol.now
+    ensures few { IfOk result (λ e. e.n ≤ 5) }
+    ensures total { IfOk result (λ e. set.now.extents + length (listed e) ≤ 16) }
+    ensures written { IfOk result (λ e. AreExtents (listed e)) }
+    ensures plan { IfOk result (λ e. (image : List ℕ) (slot : ℕ) → IsMounted image vol.now
         → slice_get vol.now.slots.items slot ≡ Some (Dscb.F1 set.now)
-        → HasExtension image set.now (listed p.extents)) }
-    ensures refused { (r : Refusal) → IsErrOf result (StoreErr.Refused r) → IsRefused vol.now set.now r }
-    ensures device { ¬ IsErrOf result StoreErr.Device }
+        → HasExtension image set.now (listed e)) }
+    ensures refused { IfErr result (λ r. IsRefused vol.now set.now r) }
 {
     let extents = more_extents(vol, set)?;
-    let Ok(free) = free_without(*vol.free.allocator(), vol, &extents) else {
-        return Err(StoreErr::Memory);
-    };
-    let slots = slots_for(
-        free.len() as u32,
-        slots_of_sets(vol) + further_slots(set.extents, &extents),
-    );
+    let sets = slots_of_sets(vol) + further_slots(set.extents, &extents);
+    let slots = slots_for(runs_left(vol, &extents), sets);
     if slots > vol.slots.len() as u32 {
-        return Err(StoreErr::Refused(Refusal::VtocFull { slots }));
+        return Err(Refusal::VtocFull { slots });
     }
-    Ok(SetPlan { extents, free })
+    Ok(extents)
 }
 
 // Writes what is planned, each step durable before the next: else a stop could leave added tracks that the chain shows
@@ -174,18 +166,18 @@ fn carry_out<H: Hall>(
     vol: &mut Vol,
     slot: u32,
     set: &F1,
-    plan: SetPlan,
+    extents: &Extents,
 ) -> Result<(), Device>
     requires unit { IsOfUnit (H.facts hall.old).units vol.old }
     requires names { AreByName (name_at vol.old.slots.items) vol.old.by_name.items }
     requires set { slice_get vol.old.slots.items slot ≡ Some (Dscb.F1 set.now) }
     requires catalog { is_catalog set.now.name ≡ false }
-    requires few { plan.extents.n ≤ 5 }
-    requires total { set.now.extents + length (listed plan.extents) ≤ 16 }
-    requires written { AreExtents (listed plan.extents) }
-    requires free { AreWithout vol.old.free.items (listed plan.extents) plan.free.items }
+    requires few { extents.now.n ≤ 5 }
+    requires total { set.now.extents + length (listed extents.now) ≤ 16 }
+    requires written { AreExtents (listed extents.now) }
+    requires room { vec_len vol.old.free + 6 ≤ vec_capacity vol.old.free }
     requires plan { let image = image_in (H.meaning hall.old) (H.facts hall.old) vol.old.unit in
-        IsTrue H.tells → HasExtension image set.now (listed plan.extents) }
+        IsTrue H.tells → HasExtension image set.now (listed extents.now) }
     requires mounted { let image = image_in (H.meaning hall.old) (H.facts hall.old) vol.old.unit in
         IsTrue H.tells → IsMounted image vol.old }
     requires body { let image = image_in (H.meaning hall.old) (H.facts hall.old) vol.old.unit in
@@ -203,11 +195,12 @@ fn carry_out<H: Hall>(
       free = vol.new.free;
       buf = vol.new.buf;
     } }
+    ensures room { vec_capacity vol.new.free ≡ vec_capacity vol.old.free }
     ensures faults { DeviceCall (H.facts hall.old) (H.facts hall.new) result }
 {
     mark(hall, vol)?;
-    let pointer = put_added(hall, vol, slot, set, &plan.extents)?;
-    put_extended(hall, vol, slot, set, plan, pointer)?;
+    let pointer = put_added(hall, vol, slot, set, extents)?;
+    put_extended(hall, vol, slot, set, extents, pointer)?;
     conclude(hall, vol)
 }
 
@@ -314,22 +307,22 @@ fn put_extended<H: Hall>(
     vol: &mut Vol,
     slot: u32,
     set: &F1,
-    plan: SetPlan,
+    extents: &Extents,
     pointer: [u8; 5],
 ) -> Result<(), Device>
     requires unit { IsOfUnit (H.facts hall.old).units vol.old }
     requires names { AreByName (name_at vol.old.slots.items) vol.old.by_name.items }
     requires set { slice_get vol.old.slots.items slot ≡ Some (Dscb.F1 set.now) }
     requires catalog { is_catalog set.now.name ≡ false }
-    requires few { plan.extents.n ≤ 5 }
-    requires total { set.now.extents + length (listed plan.extents) ≤ 16 }
-    requires written { AreExtents (listed plan.extents) }
-    requires free { AreWithout vol.old.free.items (listed plan.extents) plan.free.items }
+    requires few { extents.now.n ≤ 5 }
+    requires total { set.now.extents + length (listed extents.now) ≤ 16 }
+    requires written { AreExtents (listed extents.now) }
+    requires room { vec_len vol.old.free + 6 ≤ vec_capacity vol.old.free }
     requires plan { let image = image_in (H.meaning hall.old) (H.facts hall.old) vol.old.unit in
-        IsTrue H.tells → HasExtension image set.now (listed plan.extents) }
+        IsTrue H.tells → HasExtension image set.now (listed extents.now) }
     requires added { let image = image_in (H.meaning hall.old) (H.facts hall.old) vol.old.unit in
         IsTrue H.tells → HoldAdded (slots_of_vtoc image vol.old.geometry vol.old.vtoc) vol.old.geometry
-        (added_type (attr_of set.now)) slot set.now (listed plan.extents) pointer }
+        (added_type (attr_of set.now)) slot set.now (listed extents.now) pointer }
     requires mounted { let image = image_in (H.meaning hall.old) (H.facts hall.old) vol.old.unit in
         IsTrue H.tells → IsMounted image vol.old }
     requires body { let image = image_in (H.meaning hall.old) (H.facts hall.old) vol.old.unit in
@@ -347,11 +340,12 @@ fn put_extended<H: Hall>(
       free = vol.new.free;
       buf = vol.new.buf;
     } }
+    ensures room { vec_capacity vol.new.free ≡ vec_capacity vol.old.free }
     ensures faults { DeviceCall (H.facts hall.old) (H.facts hall.new) result }
 {
     let kind = added_type(&attr_of(set));
-    let more = f1_with(set, &vol.geometry, kind, &plan.extents, pointer);
+    let more = f1_with(set, &vol.geometry, kind, extents, pointer);
     put_through(hall, vol, slot, &Dscb::F1(more))?;
-    vol.free = plan.free;
+    take_runs(vol, extents);
     Ok(())
 }

@@ -1,33 +1,26 @@
 //! What a new data set gets, judged before anything is written.
-ghost use Rattle.std.specs.Prelude.{◌≡◌, ◌≤◌, ◌<◌, ◌+◌, ℕ, List, length, vec_len, IfOk, IfErr, OnOk, IsErrOf, Ok, Err, false};
+ghost use Rattle.std.specs.Prelude.{◌≡◌, ◌≤◌, ◌<◌, ◌+◌, ◌-◌, ℕ, List, length, vec_len, IfOk, IfErr, OnOk, Ok, Err, false};
+ghost use Rattle.std.specs.Vec.{vec_capacity};
 ghost use Rattle.hall_core.specs.Facts.{Attached};
 ghost use Rattle.pack_spec.specs.Volume.{volume_of};
-ghost use Rattle.space_alloc.specs.Edits.{AreWithout};
+ghost use Rattle.space_alloc.specs.Edits.{AreWithout, between};
 ghost use Rattle.space_alloc.specs.Units.{listed};
-ghost use Rattle.vol_model.specs.Shelf.{allocate_on, is_catalog, is_partitioned, with_new};
-ghost use Rattle.vol_model.specs.Slots.{slots_needed};
-ghost use Rattle.vol_model.specs.Space.{EndBy};
+ghost use Rattle.vol_model.specs.Shelf.{allocate_on, is_catalog, is_partitioned};
+ghost use Rattle.vol_model.specs.Space.{AreMaximal, EndBy};
+ghost use Rattle.vol_model.specs.declared.contents.Run.{Run};
 ghost use Rattle.vol_model.specs.declared.contents.Volume.{Volume};
 ghost use Rattle.vol_model.specs.declared.refusals.Refusal.{Refusal};
 ghost use Rattle.vtoc_index.specs.Index.{IsMounted, IsOfUnit};
 ghost use Rattle.vtoc_index.specs.Names.{AreByName, name_at};
-ghost use Rattle.dadsm_ops.specs.Allocating.{AreExtents, HasChoice, HasPlan, IsAbsent, own_slots};
+ghost use Rattle.dadsm_ops.specs.Allocating.{AreExtents, HasChoice, HasPlan, IsAbsent, cut_by, own_slots};
 
 use crate::new_set::extent_count;
 use ebcdic_names::Dsn;
 use pack_spec::layout::OWN_EXTENTS;
 use space_alloc::{Extents, choose, remove_all};
-use std::alloc::{AllocError, Global};
-use vol_model::{Attr, Refusal, Request, Run, StoreErr, is_catalog};
+use vol_model::{Attr, Refusal, Request, Run, is_catalog};
 use vtoc_index::{Vol, find};
 use vtoc_sets::{slots_for, slots_of_sets};
-
-// The tracks of a new data set, and the free runs without them.
-#[derive(Drop)]
-pub(crate) struct SetPlan {
-    pub extents: Extents,
-    pub free: Vec<Run>,
-}
 
 // Whether the name and the organization are those of a partitioned data set.
 fn is_partitioned(dsn: &Dsn, attr: &Attr) -> bool
@@ -48,7 +41,6 @@ fn chosen(
     requires names { AreByName (name_at vol.now.slots.items) vol.now.by_name.items }
     requires dir { dir ≡ 0 }
     ensures few { IfOk result (λ e. e.n ≤ 5) }
-    ensures within { IfOk result (λ e. EndBy 65535 (listed e)) }
     ensures written { IfOk result (λ e. AreExtents (listed e)) }
     ensures absent { OnOk result (IsAbsent dsn.now.bytes vol.now.slots.items) }
     ensures chosen { IfOk result (λ e. (image : List ℕ) (volume : Volume) → IsMounted image vol.now
@@ -68,21 +60,60 @@ fn chosen(
     }
 }
 
-// The free runs without these tracks.
-pub(crate) fn free_without(
-    alloc: Global,
-    vol: &Vol,
-    extents: &Extents,
-) -> Result<Vec<Run>, AllocError>
+// How many runs are left of the tracks from one up to another without those of extents.
+fn pieces(low: u16, high: u16, taken: &[Run]) -> u32
+    requires within { EndBy 65535 taken.now }
+    ensures runs { result ≡ length (cut_by taken.now (between low high)) }
+    ensures few { result ≤ high - low }
+{
+    if high <= low {
+        return 0;
+    }
+    match taken {
+        [] => 1,
+        [first, rest @ ..] => {
+            pieces(low, first.start.min(high), rest)
+                + pieces(low.max(first.start + first.len), high, rest)
+        }
+    }
+}
+
+// How many free runs are left without the tracks of extents.
+fn count_without(free: &[Run], taken: &[Run]) -> u32
+    requires maximal { AreMaximal free.now }
+    requires within { EndBy 65535 free.now }
+    requires taken_within { EndBy 65535 taken.now }
+    ensures { result ≡ length (cut_by taken.now free.now) }
+{
+    let mut left = 0;
+    for run in free {
+        left += pieces(run.start, run.start + run.len, taken);
+    }
+    left
+}
+
+// How many free runs a volume has without the tracks of extents.
+pub(crate) fn runs_left(vol: &Vol, extents: &Extents) -> u32
     requires unit { (units : List Attached) × IsOfUnit units vol.now }
     requires few { extents.now.n ≤ 5 }
-    requires within { EndBy 65535 (listed extents.now) }
-    ensures runs { IfOk result (λ free. AreWithout vol.now.free.items (listed extents.now) free.items) }
+    requires written { AreExtents (listed extents.now) }
+    ensures { (left : List Run) × AreWithout vol.now.free.items (listed extents.now) left
+        × (result ≡ length left) }
 {
-    let mut free = Vec::from_slice(alloc, &vol.free)?;
-    free.reserve(usize::from(extents.n) + 1)?;
-    remove_all(&mut free, &extents.runs[..usize::from(extents.n)]);
-    Ok(free)
+    count_without(&vol.free, &extents.runs[..usize::from(extents.n)])
+}
+
+// Removes the tracks of extents from the free runs of a volume.
+pub(crate) fn take_runs(vol: &mut Vol, extents: &Extents)
+    requires unit { (units : List Attached) × IsOfUnit units vol.old }
+    requires few { extents.now.n ≤ 5 }
+    requires written { AreExtents (listed extents.now) }
+    requires room { vec_len vol.old.free + 6 ≤ vec_capacity vol.old.free }
+    ensures runs { AreWithout vol.old.free.items (listed extents.now) vol.new.free.items }
+    ensures others { vol.new ≡ record vol.old { free = vol.new.free } }
+    ensures room { vec_capacity vol.new.free ≡ vec_capacity vol.old.free }
+{
+    remove_all(&mut vol.free, &extents.runs[..usize::from(extents.n)]);
 }
 
 // The slots that a new data set takes.
@@ -98,37 +129,31 @@ pub(crate) fn own_slots(extents: &Extents) -> u32
     }
 }
 
-// What a new data set gets, or the first reason why it gets nothing; memory is taken for the free runs then.
+// The tracks that a new data set gets, or the first reason why it gets nothing.
 pub(crate) fn plan(
-    alloc: Global,
     vol: &Vol,
     dsn: &Dsn,
     attr: &Attr,
     request: &Request,
     dir: u32,
-) -> Result<SetPlan, StoreErr>
+) -> Result<Extents, Refusal>
     requires unit { (units : List Attached) × IsOfUnit units vol.now }
     requires names { AreByName (name_at vol.now.slots.items) vol.now.by_name.items }
     requires catalog { is_catalog dsn.now.bytes ≡ false }
     requires dir { dir ≡ 0 }
-    ensures few { IfOk result (λ p. p.extents.n ≤ 5) }
-    ensures written { IfOk result (λ p. AreExtents (listed p.extents)) }
-    ensures free { IfOk result (λ p. AreWithout vol.now.free.items (listed p.extents) p.free.items) }
+    ensures few { IfOk result (λ e. e.n ≤ 5) }
+    ensures written { IfOk result (λ e. AreExtents (listed e)) }
     ensures absent { OnOk result (IsAbsent dsn.now.bytes vol.now.slots.items) }
-    ensures plan { IfOk result (λ p. (image : List ℕ) → IsMounted image vol.now
-        → HasPlan image dsn.now attr.now request.now (listed p.extents)) }
-    ensures refused { (r : Refusal) → IsErrOf result (StoreErr.Refused r) → (image : List ℕ)
-        (volume : Volume) → IsMounted image vol.now → volume_of image ≡ Ok volume
-        → allocate_on dsn.now attr.now request.now dir volume ≡ Err r }
-    ensures device { ¬ IsErrOf result StoreErr.Device }
+    ensures plan { IfOk result (λ e. (image : List ℕ) → IsMounted image vol.now
+        → HasPlan image dsn.now attr.now request.now (listed e)) }
+    ensures refused { IfErr result (λ r. (image : List ℕ) (volume : Volume) → IsMounted image vol.now
+        → volume_of image ≡ Ok volume → allocate_on dsn.now attr.now request.now dir volume ≡ Err r) }
 {
     let extents = chosen(vol, dsn, attr, request, dir)?;
-    let Ok(free) = free_without(alloc, vol, &extents) else {
-        return Err(StoreErr::Memory);
-    };
-    let slots = slots_for(free.len() as u32, slots_of_sets(vol) + own_slots(&extents));
+    let sets = slots_of_sets(vol) + own_slots(&extents);
+    let slots = slots_for(runs_left(vol, &extents), sets);
     if slots > vol.slots.len() as u32 {
-        return Err(StoreErr::Refused(Refusal::VtocFull { slots }));
+        return Err(Refusal::VtocFull { slots });
     }
-    Ok(SetPlan { extents, free })
+    Ok(extents)
 }

@@ -60,6 +60,7 @@ pub fn scratch<H: Hall>(hall: &mut H, vol: &mut Vol, slot: u32) -> Result<(), De
       by_name = vol.new.by_name;
       buf = vol.new.buf;
     } }
+    ensures room { vec_capacity vol.new.free ≡ vec_capacity vol.old.free }
     ensures faults { DeviceCall (H.facts hall.old) (H.facts hall.new) result }
 {
     mark(hall, vol)?;
@@ -79,6 +80,7 @@ fn forget_set(vol: &mut Vol, slot: u32, runs: &[Run])
         → IsForgotten slot before vol.old.slots.items
         → AreByName (name_at vol.new.slots.items) vol.new.by_name.items }
     ensures others { vol.new ≡ record vol.old { free = vol.new.free; by_name = vol.new.by_name } }
+    ensures room { vec_capacity vol.new.free ≡ vec_capacity vol.old.free }
 {
     release(&mut vol.free, vol.geometry, runs);
     forget_name(vol, slot);
@@ -140,7 +142,8 @@ fn release(free: &mut Vec<Run>, geometry: Geometry, runs: &[Run])
     requires room { vec_len free.old + length runs.now ≤ vec_capacity free.old }
     requires maximal { AreMaximal free.old.items }
     requires within { EndBy (tracks_of geometry) free.old.items }
-    ensures { AreFreed (usable_tracks geometry) free.old.items runs.now free.new.items }
+    ensures freed { AreFreed (usable_tracks geometry) free.old.items runs.now free.new.items }
+    ensures capacity { vec_capacity free.new ≡ vec_capacity free.old }
 {
     let tracks = usable_tracks(geometry);
     for run in runs {

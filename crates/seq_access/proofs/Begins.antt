@@ -1,6 +1,7 @@
 -- A writer that was opened behind the blocks of a data set, and has put none.
-use Rattle.std.proofs.Common.{◌≡◌, ◌<◌, ℕ, false, List, [], ◌∷◌, ◌++◌, length, map, drop, Some, inr, refl, sym, ap, ap₂, ◌∙◌, arith}
+use Rattle.std.proofs.Common.{◌≡◌, ◌≤◌, ◌<◌, ℕ, true, false, List, [], ◌∷◌, ◌++◌, length, map, drop, Some, inr, refl, sym, ap, ap₂, ◌∙◌, arith}
 use Rattle.std.specs.Prelude.{slice_get}
+use Rattle.std.proofs.lemmas.Bool.Decides.{nat_tests}
 use Rattle.std.proofs.lemmas.List.{append-nil}
 use Rattle.dscb_codec.specs.declared.Dscb.TheVariants as formats
 use Rattle.dscb_codec.specs.declared.F1.{F1}
@@ -15,15 +16,22 @@ use Rattle.vtoc_index.specs.declared.vol.Vol.{Vol}
 use Rattle.vtoc_sets.specs.Sets.{HasSet, extents_in}
 use Rattle.seq_access.specs.declared.writer.Writer.{Writer}
 use Rattle.seq_access.specs.Bodies.{HasBlocks, IsReadable, IsSequential, body_in, data_in}
-use Rattle.seq_access.specs.Writing.{IsWriting, body_so_far, puts_in}
+use Rattle.seq_access.specs.Writing.{IsWriting, body_so_far, has_put, puts_in}
 use Rattle.seq_access.proofs.LastPlaces.{body_said}
+
+-- by its count a writer put a block, or none
+pub has_some : (w : Writer) → 0 < w.blocks → has_put w ≡ true
+has_some w any = grind (arith, nat_tests)
+
+pub has_none : (w : Writer) → w.blocks ≤ 0 → has_put w ≡ false
+has_none w none = grind (arith, nat_tests)
 
 nothing_behind : (bs : List Block) → map content (drop (length bs) bs) ≡ []
 nothing_behind [] = refl
 nothing_behind (b ∷ bs) = nothing_behind bs
 
 -- A writer that has put none stands on an image whose set ends at its last block.
-pub begun_at : (image : List ℕ) (v : Vol) (f : F1) (w : Writer) (old : List Block) → w.has_put ≡ false → slice_get v.slots.items w.slot ≡ Some (formats.F1 f) → HasSet image v f → IsSequential f → HasBlocks (body_in image v f) old → w.last ≡ last_of f.lstar → w.last.tt < 65536 → w.last.r < 256
+pub begun_at : (image : List ℕ) (v : Vol) (f : F1) (w : Writer) (old : List Block) → has_put w ≡ false → slice_get v.slots.items w.slot ≡ Some (formats.F1 f) → HasSet image v f → IsSequential f → HasBlocks (body_in image v f) old → w.last ≡ last_of f.lstar → w.last.tt < 65536 → w.last.r < 256
     → (is : IsWriting image v w) × (is.f ≡ f) × (is.old ≡ old) × (puts_in image v f w ≡ [])
 unfolding puts_in placed
 begun_at image v f w old fresh there set sequential body at low small =
@@ -49,7 +57,7 @@ begun_at image v f w old fresh there set sequential body at low small =
     )
 
 pub begins : (image : List ℕ) (v : Vol) (f : F1) (slot : ℕ) (last : Place) → slice_get v.slots.items slot ≡ Some (formats.F1 f) → HasSet image v f → IsSequential f → IsReadable (body_in image v f) → last ≡ last_of f.lstar → last.tt < 65536 → last.r < 256
-    → (is : IsWriting image v (record { slot = slot; last = last; has_put = false })) × (is.f ≡ f) × (puts_in image v f (record { slot = slot; last = last; has_put = false }) ≡ [])
+    → (is : IsWriting image v (record { slot = slot; last = last; blocks = 0 })) × (is.f ≡ f) × (puts_in image v f (record { slot = slot; last = last; blocks = 0 }) ≡ [])
 begins image v f slot last there set sequential readable at low small =
-    let begun = begun_at image v f (record { slot = slot; last = last; has_put = false }) readable.0 refl there set sequential readable.1 at low small in
+    let begun = begun_at image v f (record { slot = slot; last = last; blocks = 0 }) readable.0 refl there set sequential readable.1 at low small in
     (begun.0, begun.1, begun.3)

@@ -19,7 +19,7 @@ use Rattle.free_rebuild.specs.Durable.{LeavesAll}
 use Rattle.free_rebuild.specs.Repairs.{image_named}
 use Rattle.seq_access.specs.declared.writer.Writer.{Writer}
 use Rattle.seq_access.specs.Bodies.{HasBlocks}
-use Rattle.seq_access.specs.Writing.{AreSpared, AreThere, HasSetBy, IsWriting, Spares, body_so_far, puts_in, written_by}
+use Rattle.seq_access.specs.Writing.{AreSpared, AreThere, HasSetBy, IsWriting, Spares, body_so_far, has_put, puts_in, written_by}
 use Rattle.seq_access.proofs.NextPlaces.{contents_behind}
 use Rattle.seq_access.proofs.DataPlaces.{outside}
 use Rattle.seq_access.proofs.KeptBodies.{data_read}
@@ -40,7 +40,7 @@ nothing_dropped zero = refl
 nothing_dropped (suc n) = refl
 
 -- where a block was put, the last one is a record behind R0
-pub first_put : (image : List ℕ) (v : Vol) (w : Writer) (is : IsWriting image v w) → w.has_put ≡ true → w.last.tt < 65536 → w.last.r < 256 → 1 ≤ w.last.r
+pub first_put : (image : List ℕ) (v : Vol) (w : Writer) (is : IsWriting image v w) → has_put w ≡ true → w.last.tt < 65536 → w.last.r < 256 → 1 ≤ w.last.r
 first_put image v w is put low small = ⊎_elim
     (λ none. absurd (is.some put (
     sym (contents_behind v.geometry.device is.old (puts_in image v is.f w))
@@ -50,7 +50,7 @@ first_put image v w is put low small = ⊎_elim
     (standing image v w is low small)
 
 -- and its track is read up to it
-pub there_put : (image : List ℕ) (v : Vol) (w : Writer) (is : IsWriting image v w) → w.has_put ≡ true → w.last.tt < 65536 → w.last.r < 256 → AreThere image v is.f w.last
+pub there_put : (image : List ℕ) (v : Vol) (w : Writer) (is : IsWriting image v w) → has_put w ≡ true → w.last.tt < 65536 → w.last.r < 256 → AreThere image v is.f w.last
 there_put image v w is put low small = ⊎_elim
     (λ none. absurd (omega (arith, first_put image v w is put low small, ap (λ (p : Place). p.r) none.0)))
     (λ parts. record {

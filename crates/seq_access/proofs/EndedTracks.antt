@@ -31,7 +31,7 @@ use Rattle.vtoc_index.specs.declared.vol.Vol.{Vol}
 use Rattle.vtoc_sets.specs.Sets.{HasSet, extents_in}
 use Rattle.seq_access.specs.declared.writer.Writer.{Writer}
 use Rattle.seq_access.specs.Bodies.{IsSetIn, body_in, data_in, owned_in}
-use Rattle.seq_access.specs.Writing.{DifferBehind, HasSetBy, HoldsLast, IsEnded, IsRoomy, IsWriting, Spares}
+use Rattle.seq_access.specs.Writing.{DifferBehind, HasSetBy, HoldsLast, IsEnded, IsRoomy, IsWriting, Spares, has_put}
 use Rattle.seq_access.proofs.Begins.{begun_at}
 use Rattle.seq_access.proofs.DataPlaces.{once, outside, own, owners, owners_more}
 use Rattle.seq_access.proofs.KeptBodies.{on_same, owned_apart}
@@ -68,7 +68,7 @@ module _ (before after : List ℕ) (v : Vol) (f : F1) (set : IsSetIn before v f)
       (λ t there. on_same v.geometry v.vtoc before after (Some (last_of f.lstar).r) t (outside before v f set (last_of f.lstar).tt t there) (differ.kept t there first))
 
 module _ (units : List Attached) (image : List ℕ) (v : Vol) (w : Writer) (is : IsWriting image v w) (held : HoldsLast image v is.f w.last)
-    (fresh : w.has_put ≡ false) (first : 1 ≤ w.last.r) (geometry : v.buf.geometry ≡ v.geometry) (roomy : IsRoomy units v.buf) where
+    (fresh : has_put w ≡ false) (first : 1 ≤ w.last.r) (geometry : v.buf.geometry ≡ v.geometry) (roomy : IsRoomy units v.buf) where
   abbrev b : Buffer
   b = v.buf
 

@@ -1,5 +1,5 @@
 -- What the calls of a put come to: one makes the buffer of the index ready, and one writes behind its records.
-use Rattle.std.proofs.Common.{◌≡◌, ◌+◌, ◌≤◌, ◌<◌, ℕ, true, List, [], ◌∷◌, length, Result, Ok, sym, ap, ◌∙◌, subst}
+use Rattle.std.proofs.Common.{◌≡◌, ◌+◌, ◌≤◌, ◌<◌, ℕ, List, [], ◌∷◌, length, Result, Ok, sym, ap, ◌∙◌, subst}
 use Rattle.std.specs.Prelude.{unwrap_or}
 use Rattle.hall_core.specs.Facts.{Attached, Facts, name_in, unit_of}
 use Rattle.hall_core.specs.Images.{image_in, image_of}
@@ -73,12 +73,12 @@ module _ (m0 m1 m2 : Meaning (List File)) (f0 f1 f2 : Facts) (v0 v1 : Vol) (w : 
     index : ◌≡◌ {A = Vol} (record v1 { buf = b2 }) (record v0 { buf = more })
     index = ap (λ (x : Buffer). let v : Vol = record v1 { buf = x } in v) same ∙ ap (λ (v : Vol). let u : Vol = record v { buf = more } in u) others
 
-    pub call_puts : length key ≤ 255 → length content ≤ 32760 → place.tt < 65536 → place.r < 256 → IsPutBehind is (key, content) place i2 (record v1 { buf = b2 }) (record { slot = w.slot; last = place; has_put = true })
-    call_puts key_fits data_fits far near =
-        let put : IsPutBehind is (key, content) place i2 (record v0 { buf = more }) (record { slot = w.slot; last = place; has_put = true }) =
-        put_done (image_in m0 f0 v0.unit) i1 v0 w is kl dl place b here geometry low small key content e key_fits data_fits far near i2 appended.0 stands
+    pub call_puts : length key ≤ 255 → length content ≤ 32760 → place.tt < 65536 → place.r < 256 → (count : ℕ) → 0 < count → IsPutBehind is (key, content) place i2 (record v1 { buf = b2 }) (record { slot = w.slot; last = place; blocks = count })
+    call_puts key_fits data_fits far near count any =
+        let put : IsPutBehind is (key, content) place i2 (record v0 { buf = more }) (record { slot = w.slot; last = place; blocks = count }) =
+        put_done (image_in m0 f0 v0.unit) i1 v0 w is kl dl place b here geometry low small key content e key_fits data_fits far near count any i2 appended.0 stands
         in
-        subst (λ (v : Vol). IsPutBehind is (key, content) place i2 v (record { slot = w.slot; last = place; has_put = true })) (sym index) put
+        subst (λ (v : Vol). IsPutBehind is (key, content) place i2 v (record { slot = w.slot; last = place; blocks = count })) (sym index) put
 
     -- or where it isn't to be a block, the others are as they were
     pub call_stays : 1 ≤ w.last.r → HasBlocks (body_so_far i2 (record v1 { buf = b2 }) is.f w) (written_by is)

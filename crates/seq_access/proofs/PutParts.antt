@@ -23,6 +23,7 @@ use Rattle.vtoc_sets.specs.Sets.{HasSet, extents_in}
 use Rattle.seq_access.specs.declared.writer.Writer.{Writer}
 use Rattle.seq_access.specs.Bodies.{IsSetIn, body_in, data_in, owned_in}
 use Rattle.seq_access.specs.Writing.{DifferBehind, IsWriting, body_so_far, puts_in, written_by}
+use Rattle.seq_access.proofs.Begins.{has_some}
 use Rattle.seq_access.proofs.DataPlaces.{outside}
 use Rattle.seq_access.proofs.KeptBodies.{data_read}
 use Rattle.seq_access.proofs.KeptBodies.{on_same as same_on}
@@ -55,7 +56,7 @@ short_block b key content first second = ap₂ (λ (p q : Bool). p && q) (at_mos
 
 module _ (i1 i2 : List ℕ) (v : Vol) (w : Writer) (is : IsWriting i1 v w) (key content' : List ℕ) (place : Place) (at : PutsAt i1 v w is (key, content') place)
     (put : IsAppended v.buf key content' i1 i2) (stands : StandsOn i2 (with_more v.buf (record_of v.buf key content' ∷ [])))
-    (key_fits : length key ≤ 255) (data_fits : length content' ≤ 32760) (low : place.tt < 65536) (small : place.r < 256) where
+    (key_fits : length key ≤ 255) (data_fits : length content' ≤ 32760) (low : place.tt < 65536) (small : place.r < 256) (count : ℕ) (any : 0 < count) where
   abbrev f : F1
   f = is.f
 
@@ -72,7 +73,7 @@ module _ (i1 i2 : List ℕ) (v : Vol) (w : Writer) (is : IsWriting i1 v w) (key 
   new_vol = record v { buf = b }
 
   abbrev new_writer : Writer
-  new_writer = record { slot = w.slot; last = place; has_put = true }
+  new_writer = record { slot = w.slot; last = place; blocks = count }
 
   abbrev blocks : List Block
   blocks = written_by is
@@ -227,7 +228,7 @@ module _ (i1 i2 : List ℕ) (v : Vol) (w : Writer) (is : IsWriting i1 v w) (key 
     old = is.old;
     body = own_body;
     so_far = all_blocks ∙ ap (λ (cs : List Content). bodies.Seq (is.old ++ placed v.geometry.device (bodies.Seq is.old) cs)) (sym puts_more);
-    begun = λ not. cc;
+    begun = λ none. let some = has_some new_writer any in cc;
     some = λ put none. not_none puts c (sym puts_more ∙ none);
     behind = behind i1 v w is c place at;
     ended = λ put track own. ends_there track own;

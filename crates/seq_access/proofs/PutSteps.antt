@@ -86,20 +86,20 @@ module _ (i0 i1 : List ℕ) (v : Vol) (w : Writer) (is : IsWriting i0 v w) (kl d
   }
 
   -- the block is put
-  pub put_done : (key content : List ℕ) → lengths (key, content) ≡ (kl, dl) → length key ≤ 255 → length content ≤ 32760 → place.tt < 65536 → place.r < 256
+  pub put_done : (key content : List ℕ) → lengths (key, content) ≡ (kl, dl) → length key ≤ 255 → length content ≤ 32760 → place.tt < 65536 → place.r < 256 → (count : ℕ) → 0 < count
       → (i2 : List ℕ) → IsAppended b key content i1 i2 → StandsOn i2 (with_more b (record_of b key content ∷ []))
-      → IsPutBehind is (key, content) place i2 (record v { buf = with_more b (record_of b key content ∷ []) }) (record { slot = w.slot; last = place; has_put = true })
-  put_done key content e key_fits data_fits far near i2 put stands =
+      → IsPutBehind is (key, content) place i2 (record v { buf = with_more b (record_of b key content ∷ []) }) (record { slot = w.slot; last = place; blocks = count })
+  put_done key content e key_fits data_fits far near count any i2 put stands =
       let at = puts_at (key, content) e in
-      let more = puts_more i1 i2 held w ready.writing key content place at put stands key_fits data_fits far near in
+      let more = puts_more i1 i2 held w ready.writing key content place at put stands key_fits data_fits far near count any in
       record {
         next = ready.next (key, content) e;
         owned = slice_get_within (owned_in i0 v f0) place.tt b.track ready.owned;
-        writing = writing_more i1 i2 held w ready.writing key content place at put stands key_fits data_fits far near;
-        same = same_set_more i1 i2 held w ready.writing key content place at put stands key_fits data_fits far near ∙ ready.same;
-        old = same_old_more i1 i2 held w ready.writing key content place at put stands key_fits data_fits far near ∙ ready.old;
+        writing = writing_more i1 i2 held w ready.writing key content place at put stands key_fits data_fits far near count any;
+        same = same_set_more i1 i2 held w ready.writing key content place at put stands key_fits data_fits far near count any ∙ ready.same;
+        old = same_old_more i1 i2 held w ready.writing key content place at put stands key_fits data_fits far near count any ∙ ready.old;
         puts =
-            ap (λ (f : F1). puts_in i2 (record v { buf = with_more b (record_of b key content ∷ []) }) f (record { slot = w.slot; last = place; has_put = true })) (sym ready.same)
+            ap (λ (f : F1). puts_in i2 (record v { buf = with_more b (record_of b key content ∷ []) }) f (record { slot = w.slot; last = place; blocks = count })) (sym ready.same)
             ∙ more
             ∙ ap (λ (cs : List Content). cs ++ (key, content) ∷ []) puts_same;
       }

@@ -1,6 +1,6 @@
 -- The names of the data sets in slots stay where a format 1 names another last block.
-use Rattle.std.proofs.Common.{◌≡◌, ⊎_elim, ◌<◌, ℕ, List, get_or, length, set, Option, Some, refl, sym, ap, ◌∙◌}
-use Rattle.std.specs.Prelude.{Ok, option_and_then, slice_get}
+use Rattle.std.proofs.Common.{◌≡◌, ⊎_elim, ◌<◌, ℕ, List, get_or, length, set, Option, refl, sym, ap, ◌∙◌}
+use Rattle.std.specs.Prelude.{Ok, option_and_then}
 use Rattle.std.specs.Option.{option_map}
 use Rattle.std.proofs.lemmas.Bool.{cases_eq}
 use Rattle.std.proofs.lemmas.Option.{slice_get-get_or}

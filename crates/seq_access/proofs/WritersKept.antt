@@ -12,7 +12,7 @@ use Rattle.vtoc_index.specs.Index.{IsMounted}
 use Rattle.vtoc_sets.specs.Sets.{HasSet}
 use Rattle.seq_access.specs.declared.writer.Writer.{Writer}
 use Rattle.seq_access.specs.Bodies.{HasBlocks, IsSetIn}
-use Rattle.seq_access.specs.Writing.{IsEnded, IsWriting, body_so_far, puts_in}
+use Rattle.seq_access.specs.Writing.{IsEnded, IsWriting, body_so_far, has_put, puts_in}
 use Rattle.seq_access.proofs.Checked.{mounted_with}
 
 -- one slot holds one format 1
@@ -50,7 +50,7 @@ module _ (image : List ℕ) (v : Vol) (b : Buffer) where
   }
 
 -- the track of the last block that was put ends behind it
-pub ended_put : (image : List ℕ) (v : Vol) (w : Writer) (is : IsWriting image v w) → w.has_put ≡ true → IsEnded image v is.f is.old w image v
+pub ended_put : (image : List ℕ) (v : Vol) (w : Writer) (is : IsWriting image v w) → has_put w ≡ true → IsEnded image v is.f is.old w image v
 ended_put image v w is put = record {
   writing = is;
   same = refl;

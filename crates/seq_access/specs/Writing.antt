@@ -1,5 +1,5 @@
 -- What a writer has put behind the blocks of a sequential data set, and what its writes leave, in this project's profile.
-use Rattle.std.specs.Prelude.{◌≡◌, ◌≢◌, ◌⊎◌, ℕ, ◌+◌, ◌≤◌, ◌<◌, true, false, List, [], ◌∷◌, ◌++◌, length, map, drop, take, slice_get, Some, None, Ok, Result, OnOk}
+use Rattle.std.specs.Prelude.{◌≡◌, ◌≢◌, ◌⊎◌, ℕ, ◌+◌, ◌≤◌, ◌<◌, nat_lt, Bool, true, false, List, [], ◌∷◌, ◌++◌, length, map, drop, take, slice_get, Some, None, Ok, Result, OnOk}
 use Rattle.std.specs.List.{list_all}
 use Rattle.dscb_codec.specs.declared.Dscb.TheVariants as formats
 use Rattle.dscb_codec.specs.declared.F1.{F1}
@@ -40,6 +40,10 @@ unfoldable pub puts_in : List ℕ → Vol → F1 → Writer → List Content
 puts_in image v f w = map content
     (drop (length (blocks_of (body_in image v f))) (blocks_of (body_so_far image v f w)))
 
+-- whether a writer put a block
+abbrev pub has_put : Writer → Bool
+has_put w = nat_lt 0 w.blocks
+
 -- one place doesn't stand before another
 abbrev pub IsNotBefore : Place → Place → Type 0
 IsNotBefore p q = (q.tt < p.tt) ⊎ ((q.tt ≡ p.tt) × (q.r ≤ p.r))
@@ -54,10 +58,10 @@ pub record IsWriting (image : List ℕ) (v : Vol) (w : Writer) : Type 0 where
   pub body : HasBlocks (body_in image v f) old
   pub so_far : HasBlocks (body_so_far image v f w)
       (old ++ placed v.geometry.device (bodies.Seq old) (puts_in image v f w))
-  pub begun : w.has_put ≡ false → w.last ≡ last_of f.lstar
-  pub some : w.has_put ≡ true → puts_in image v f w ≢ []
+  pub begun : has_put w ≡ false → w.last ≡ last_of f.lstar
+  pub some : has_put w ≡ true → puts_in image v f w ≢ []
   pub behind : IsNotBefore w.last (last_of f.lstar)
-  pub ended : w.has_put ≡ true → (track : ℕ) → slice_get (owned_in image v f) w.last.tt ≡ Some track
+  pub ended : has_put w ≡ true → (track : ℕ) → slice_get (owned_in image v f) w.last.tt ≡ Some track
       → records_on image v.geometry None track ≡ records_on image v.geometry (Some w.last.r) track
 
 -- all blocks behind which the next one comes

@@ -17,4 +17,4 @@ pub use checking::check_records;
 pub use read_buf::{Reach, ReadBuf};
 pub use reading::{read_block, read_into};
 pub use writer::{PutErr, Writer};
-pub use writing::{begin, commit, put};
+pub use writing::{abandon, begin, commit, put};

@@ -12,8 +12,8 @@ pub struct Writer {
     pub slot: u32,
     /// Where the last block stands, put or not; of a set without blocks, record 0 of track 0.
     pub last: Place,
-    /// Whether a block was put.
-    pub has_put: bool,
+    /// How many blocks were put so far; the count stays at its type's end.
+    pub blocks: u32,
 }
 
 /// Why a block wasn't put.

@@ -1,5 +1,5 @@
 //! Blocks written behind those of a sequential data set.
-ghost use Rattle.std.specs.Prelude.{◌≡◌, ◌≤◌, ◌<◌, ◌+◌, [], ℕ, List, Some, Ok, true, false, length, map, slice_get, slice_index_or, IsTrue, IsErrOf, OnOk, OnErr, IfOk};
+ghost use Rattle.std.specs.Prelude.{◌≡◌, ◌≤◌, ◌<◌, ◌+◌, ◌-◌, ◌^◌, min, [], ℕ, List, Some, Ok, true, false, length, map, slice_get, slice_index_or, IsTrue, IsOk, IsErrOf, OnOk, OnErr, IfOk};
 ghost use Rattle.ckd_image.specs.Fit.{balance, fits};
 ghost use Rattle.dscb_codec.specs.declared.F1.{F1};
 ghost use Rattle.hall_core.specs.Facts.{DeviceCall, ReportedCall, unit_of};
@@ -18,7 +18,7 @@ ghost use Rattle.vtoc_sets.specs.Sets.{HasSet};
 ghost use Rattle.free_rebuild.specs.Durable.{LeavesAll, PutsDurably};
 ghost use Rattle.free_rebuild.specs.Repairs.{image_named};
 ghost use Rattle.seq_access.specs.Bodies.{HasBlocks, IsReadable, IsSequential, body_in, owned_in};
-ghost use Rattle.seq_access.specs.Writing.{AreSpared, Commits, HasSetBy, HoldsLast, IsEnded, IsPutBehind, IsReady, IsRoomy, IsWriting, Spares, body_so_far, place_next, puts_in, sizes, written_by};
+ghost use Rattle.seq_access.specs.Writing.{AreSpared, Commits, HasSetBy, HoldsLast, IsEnded, IsPutBehind, IsReady, IsRoomy, IsWriting, Spares, body_so_far, has_put, place_next, puts_in, sizes, written_by};
 
 use crate::held::{balance_of, fits_behind};
 use crate::holding::{hold_last, set_at, turn_to};
@@ -30,25 +30,32 @@ use ckd_image::fits;
 use dscb_codec::{Dscb, F1};
 use hall_core::{Device, Hall};
 use track_records::{append, seal};
-use vol_model::Place;
+use vol_model::{Place, WorkErr};
 use vtoc_index::{Vol, set_last};
 
 /// Opens a writer behind the blocks of the sequential data set in a slot, whose body can be read.
-pub fn begin(vol: &Vol, slot: u32) -> Writer
-    requires slot { slot < length vol.now.slots.items }
-    ensures slot { result.slot ≡ slot }
-    ensures writing { (image : List ℕ) (f : F1) → slice_get vol.now.slots.items slot ≡ Some (Dscb.F1 f)
-        → HasSet image vol.now f → IsSequential f → IsReadable (body_in image vol.now f)
-        → (is : IsWriting image vol.now result) × (is.f ≡ f) × (puts_in image vol.now f result ≡ []) }
+///
+/// Nothing is read or written, so no error comes. No memory is taken.
+pub fn begin<H: Hall>(_hall: &mut H, vol: &mut Vol, slot: u32) -> Result<Writer, WorkErr>
+    requires slot { slot < length vol.old.slots.items }
+    ensures answer { IsOk result }
+    ensures slot { IfOk result (λ writer. writer.slot ≡ slot) }
+    ensures writing { IfOk result (λ writer. (image : List ℕ) (f : F1)
+        → slice_get vol.old.slots.items slot ≡ Some (Dscb.F1 f)
+        → HasSet image vol.old f → IsSequential f → IsReadable (body_in image vol.old f)
+        → (is : IsWriting image vol.old writer) × (is.f ≡ f) × (puts_in image vol.old f writer ≡ [])) }
+    ensures same { (_hall.new ≡ _hall.old) × (vol.new ≡ vol.old) }
+    ensures faults { ReportedCall (IsErrOf result WorkErr.Device) (H.facts _hall.old)
+        (H.facts _hall.new) }
 {
-    Writer {
+    Ok(Writer {
         slot,
         last: match &vol.slots[slot as usize] {
             Dscb::F1(set) => last_of(set),
             _ => Place { tt: 0, r: 0 },
         },
-        has_put: false,
-    }
+        blocks: 0,
+    })
 }
 
 /// Puts a block behind those of the set and those put so far, and gives its place.
@@ -93,6 +100,7 @@ pub fn put<H: Hall>(
         IsTrue H.tells → ¬ IsErrOf result PutErr.Device → IsMounted image' vol.new }
     ensures writer { OnErr result (writer.new ≡ writer.old) }
     ensures slot { writer.new.slot ≡ writer.old.slot }
+    ensures blocks { OnOk result (writer.new.blocks ≡ min (writer.old.blocks + 1) (2 ^ 32 - 1)) }
     ensures others { vol.new ≡ record vol.old { buf = vol.new.buf } }
     ensures unit { IsOfUnit (H.facts hall.new).units vol.new }
     ensures faults { ReportedCall (IsErrOf result PutErr.Device) (H.facts hall.old)
@@ -108,7 +116,7 @@ pub fn put<H: Hall>(
     *writer = Writer {
         slot: before.slot,
         last: place,
-        has_put: true,
+        blocks: before.blocks.saturating_add(1),
     };
     Ok(place)
 }
@@ -125,7 +133,7 @@ pub fn commit<H: Hall>(hall: &mut H, vol: &mut Vol, writer: Writer) -> Result<()
         IsTrue H.tells → IsWriting image vol.old writer }
     ensures files { let image = image_in (H.meaning hall.old) (H.facts hall.old) vol.old.unit in
         let name = (unit_of (H.facts hall.old).units vol.old.unit).name in
-        IsTrue H.tells → writer.has_put ≡ true → (is : IsWriting image vol.old writer)
+        IsTrue H.tells → has_put writer ≡ true → (is : IsWriting image vol.old writer)
         (before : List File) (volume : Volume) → HasSetBy (image_named before name) vol.old is.f
         → volume_of (image_named before name) ≡ Ok volume
         → ((files : List File) → (H.meaning hall.old).left files → AreSpared name vol.old is.f before files)
@@ -133,19 +141,24 @@ pub fn commit<H: Hall>(hall: &mut H, vol: &mut Vol, writer: Writer) -> Result<()
         → Commits name volume (write_on Mode.Fill (record { bytes = is.f.name })
         (puts_in image vol.old is.f writer) volume) vol.new before (H.meaning hall.old)
         (H.meaning hall.new) result }
-    ensures nothing { writer.has_put ≡ false → (result ≡ Ok tt) × (hall.new ≡ hall.old) × (vol.new ≡ vol.old) }
+    ensures nothing { has_put writer ≡ false → (result ≡ Ok tt) × (hall.new ≡ hall.old) × (vol.new ≡ vol.old) }
     ensures names { OnOk result ((k : ℕ) → name_at vol.new.slots.items k
         ≡ name_at vol.old.slots.items k) }
     ensures others { vol.new ≡ record vol.old { slots = vol.new.slots; buf = vol.new.buf } }
     ensures unit { IsOfUnit (H.facts hall.new).units vol.new }
     ensures faults { DeviceCall (H.facts hall.old) (H.facts hall.new) result }
 {
-    if !writer.has_put {
+    if writer.blocks == 0 {
         return Ok(());
     }
     let balance = end_durably(hall, vol, writer)?;
     raise_durably(hall, vol, writer, balance)
 }
+
+/// Gives a writer up: the blocks that it put so far are none of the set's.
+///
+/// Nothing is written, and no memory is taken. What was written for them is pending until the next sync.
+pub fn abandon(_writer: Writer) {}
 
 // Makes the buffer of the index that of the track on which the next block of these lengths goes, with the records of the
 // set before it there, and gives its place.
@@ -264,7 +277,7 @@ fn end_last<H: Hall>(hall: &mut H, vol: &mut Vol, writer: Writer) -> Result<(), 
     ensures same { vol.new ≡ vol.old }
     ensures faults { DeviceCall (H.facts hall.old) (H.facts hall.new) result }
 {
-    if writer.has_put {
+    if writer.blocks > 0 {
         return Ok(());
     }
     seal(hall, &mut vol.buf)?;
@@ -276,7 +289,7 @@ fn end_last<H: Hall>(hall: &mut H, vol: &mut Vol, writer: Writer) -> Result<(), 
 fn end_durably<H: Hall>(hall: &mut H, vol: &mut Vol, writer: Writer) -> Result<u16, Device>
     requires unit { IsOfUnit (H.facts hall.old).units vol.old }
     requires slot { writer.slot < length vol.old.slots.items }
-    requires put { writer.has_put ≡ true }
+    requires put { has_put writer ≡ true }
     requires writing { let image = image_in (H.meaning hall.old) (H.facts hall.old) vol.old.unit in
         IsTrue H.tells → IsWriting image vol.old writer }
     ensures files { let image = image_in (H.meaning hall.old) (H.facts hall.old) vol.old.unit in
@@ -307,7 +320,7 @@ fn end_durably<H: Hall>(hall: &mut H, vol: &mut Vol, writer: Writer) -> Result<u
 fn last_balance<H: Hall>(hall: &mut H, vol: &mut Vol, writer: Writer) -> Result<u16, Device>
     requires unit { IsOfUnit (H.facts hall.old).units vol.old }
     requires slot { writer.slot < length vol.old.slots.items }
-    requires put { writer.has_put ≡ true }
+    requires put { has_put writer ≡ true }
     requires writing { let image = image_in (H.meaning hall.old) (H.facts hall.old) vol.old.unit in
         IsTrue H.tells → IsWriting image vol.old writer }
     ensures balance { IfOk result (λ n. n ≡ balance vol.old.geometry.device
@@ -332,7 +345,7 @@ fn last_balance<H: Hall>(hall: &mut H, vol: &mut Vol, writer: Writer) -> Result<
 fn put_end<H: Hall>(hall: &mut H, vol: &mut Vol, writer: Writer) -> Result<(), Device>
     requires unit { IsOfUnit (H.facts hall.old).units vol.old }
     requires slot { writer.slot < length vol.old.slots.items }
-    requires put { writer.has_put ≡ true }
+    requires put { has_put writer ≡ true }
     requires writing { let image = image_in (H.meaning hall.old) (H.facts hall.old) vol.old.unit in
         IsTrue H.tells → IsWriting image vol.old writer }
     ensures spares { let image = image_in (H.meaning hall.old) (H.facts hall.old) vol.old.unit in

@@ -1,5 +1,5 @@
 -- How far the check of the bodies on several packs has come.
-use Rattle.std.proofs.Common.{◌≡◌, ◌≤◌, ◌+◌, ⊎_elim, ℕ, zero, suc, Bool, List, [], ◌∷◌, ◌++◌, length, set, Option, Some, sym, ap, subst, ◌∙◌, refl, arith}
+use Rattle.std.proofs.Common.{◌≡◌, ◌≤◌, ◌+◌, ⊎_elim, ℕ, zero, suc, Bool, List, [], ◌∷◌, ◌++◌, length, set, vec_capacity, Option, Some, sym, ap, subst, ◌∙◌, refl, arith}
 use Rattle.std.specs.Prelude.{IsTrue, option_and_then, slice_get, take}
 use Rattle.std.proofs.lemmas.Bool.{cases_eq}
 use Rattle.std.proofs.lemmas.List.{length-map}
@@ -74,6 +74,7 @@ same_buffer v v' is = record {
   serial = ap (λ (w : Vol). w.serial.bytes) is;
   geometry = ap (λ (w : Vol). w.geometry) is;
   vtoc = ap (λ (w : Vol). w.vtoc) is;
+  room = ap (λ (w : Vol). vec_capacity w.free) is;
 }
 
 module _ {X : Type 0} where

@@ -1,5 +1,5 @@
 -- A writer that is closed on one of several packs: what it put becomes its set's, as one operation of their shelf.
-use Rattle.std.proofs.Common.{◌≡◌, ◌≢◌, ◌<◌, ◌⊎◌, ℕ, false, List, [], set, Some, inl, refl, sym, ap, ◌∙◌, subst}
+use Rattle.std.proofs.Common.{◌≡◌, ◌≢◌, ◌<◌, ◌⊎◌, ℕ, false, List, [], set, vec_capacity, Some, inl, refl, sym, ap, ◌∙◌, subst}
 use Rattle.std.specs.Prelude.{OnOk, Result, Ok, Err, slice_get}
 use Rattle.free_rebuild.specs.Repairs.{image_named}
 use Rattle.free_rebuild.proofs.SettledBool.{settled_true, settled_vtoc}
@@ -25,7 +25,7 @@ use Rattle.vtoc_index.specs.declared.vol.Vol.{Vol}
 use Rattle.vtoc_sets.specs.Sets.{volume_in}
 use Rattle.dadsm_ops.proofs.FoundSets.{FoundSet, set_found}
 use Rattle.seq_access.specs.Bodies.{body_in}
-use Rattle.seq_access.specs.Writing.{AreSpared, Commits, HasSetBy, IsBeforeOrAfter, IsCommitted, IsLeftInCommit, IsWriting, puts_in}
+use Rattle.seq_access.specs.Writing.{AreSpared, Commits, HasSetBy, IsBeforeOrAfter, IsCommitted, IsLeftInCommit, IsWriting, has_put, puts_in}
 use Rattle.seq_access.proofs.SparedCalls.{differ_none}
 use Rattle.seq_access.proofs.SparedFiles.{on_ok}
 use Rattle.seq_access.proofs.WritersKept.{set_by}
@@ -67,6 +67,7 @@ pack_same v v' others = record {
   serial = ap (λ (x : Vol). x.serial.bytes) others;
   geometry = ap (λ (x : Vol). x.geometry) others;
   vtoc = ap (λ (x : Vol). x.vtoc) others;
+  room = ap (λ (x : Vol). vec_capacity x.free) others;
 }
 
 -- and has its data sets in the order of their names, where these stay
@@ -184,7 +185,7 @@ module _ (old new : Facts) (vols : List Vol) (indexes : AreIndexes old.units vol
 
   -- ---- none was put, and all is made durable
 
-  pub synced_on : {E : Type 0} (r : Result (Unit {0}) E) → Settles m m' r → w.inner.has_put ≡ false → w.inner.last.tt < 65536 → w.inner.last.r < 256
+  pub synced_on : {E : Type 0} (r : Result (Unit {0}) E) → Settles m m' r → has_put w.inner ≡ false → w.inner.last.tt < 65536 → w.inner.last.r < 256
       → CommitsOn names (names_of new.units (units_of vols)) new.units vols vols known' (writer_in m.state old.units vols (Some w)) m m' r
   synced_on {E} r s none low small = closed_on vols r (ap (λ (us : List Attached). names_of us (units_of vols)) units) s.printed
       (elapses_seen (shelf_under names) (elapses_from_exactly s.time (λ files p now. (inl (stays files now.0), now.1))))

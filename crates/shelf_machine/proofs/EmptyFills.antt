@@ -21,7 +21,7 @@ use Rattle.vtoc_index.specs.declared.vol.Vol.{Vol}
 use Rattle.vtoc_sets.specs.Sets.{extents_in, volume_in}
 use Rattle.seq_access.specs.declared.writer.Writer.{Writer as BlockWriter}
 use Rattle.seq_access.specs.Bodies.{body_in, data_in}
-use Rattle.seq_access.specs.Writing.{body_so_far, puts_in}
+use Rattle.seq_access.specs.Writing.{body_so_far, has_put, puts_in}
 use Rattle.seq_access.proofs.LastPlaces.{body_said}
 use Rattle.shelf_machine.specs.Pending.{IsWritingBy}
 use Rattle.shelf_machine.specs.Reads.{HasVolume, IsSetOn}
@@ -85,7 +85,7 @@ drop_all : (bs : List Block) → drop (length bs) bs ≡ []
 drop_all [] = refl
 drop_all (b ∷ bs) = drop_all bs
 
-pub none_put : (image : List ℕ) (v : Vol) (f : F1) (w : BlockWriter) → IsWritingBy image v f w → w.has_put ≡ false → w.last.tt < 65536 → w.last.r < 256 → puts_in image v f w ≡ []
+pub none_put : (image : List ℕ) (v : Vol) (f : F1) (w : BlockWriter) → IsWritingBy image v f w → has_put w ≡ false → w.last.tt < 65536 → w.last.r < 256 → puts_in image v f w ≡ []
 unfolding puts_in
 none_put image v f w by none low small =
     let old : List Block = blocks_of (body_in image v f) in

@@ -38,7 +38,7 @@ use Rattle.vtoc_index.specs.Last.{lstar_of}
 use Rattle.vtoc_sets.specs.Sets.{extents_in, volume_in}
 use Rattle.seq_access.specs.declared.writer.Writer.{Writer as BlockWriter}
 use Rattle.seq_access.specs.Bodies.{HasBlocks, IsSequential, IsSetIn, body_in, body_upto, data_in, owned_in}
-use Rattle.seq_access.specs.Writing.{body_so_far, puts_in}
+use Rattle.seq_access.specs.Writing.{body_so_far, has_put, puts_in}
 use Rattle.seq_access.proofs.DataPlaces.{few_owned_tracks, outside}
 use Rattle.seq_access.proofs.MoreBlocks.{Parts, parts_of}
 use Rattle.seq_access.proofs.NextPlaces.{contents_behind}
@@ -263,7 +263,7 @@ module _ (image image' : List ℕ) (v v' : Vol) (mounted : IsMounted image v) (m
           ap₂ (λ (b s : Body). map content (drop (length (blocks_of b)) (blocks_of s))) body_same (more_upto (lstar_of w.last) written by.so_far ∙ sym by.so_far)
 
       -- the track of its last block was the set's before
-      last_owned : w.has_put ≡ true → w.last.tt < 65536 → (t : ℕ) × (slice_get (owned_in image v f) w.last.tt ≡ Some t)
+      last_owned : has_put w ≡ true → w.last.tt < 65536 → (t : ℕ) × (slice_get (owned_in image v f) w.last.tt ≡ Some t)
       unfolding seq_body
       last_owned put low = at (has_no_block (lstar_of w.last)) refl
         where
@@ -279,7 +279,7 @@ module _ (image image' : List ℕ) (v v' : Vol) (mounted : IsMounted image v) (m
               let parts = parts_of v.geometry (extents_in image v f) (data_in image v) (lstar_of w.last) (last_of (lstar_of w.last)) written refl some by.so_far in
               (parts.track, ap (slice_get (owned_in image v f)) (sym (track_said w.last low)) ∙ parts.there)
 
-      ended_now : w.has_put ≡ true → (track : ℕ) → slice_get (owned_in image' v' f') w.last.tt ≡ Some track → records_on image' v'.geometry None track ≡ records_on image' v'.geometry (Some w.last.r) track
+      ended_now : has_put w ≡ true → (track : ℕ) → slice_get (owned_in image' v' f') w.last.tt ≡ Some track → records_on image' v'.geometry None track ≡ records_on image' v'.geometry (Some w.last.r) track
       ended_now put track at =
           let few = few_owned_tracks image' v' f' set_is in
           let low : w.last.tt < 65536 = omega (arith, few, within (owned_in image' v' f') w.last.tt track at) in

@@ -45,3 +45,4 @@ pub mod ShelfSteps
 pub mod Settling
 pub mod ExtendedWriters
 pub mod MadeRooms
+pub mod FreeRooms

@@ -1,5 +1,5 @@
 -- What a machine over several images keeps, and what it stands on.
-use Rattle.std.proofs.Common.{◌≡◌, ⊎_elim, ℕ, List, [], ◌∷◌, ◌++◌, refl, sym, ◌∙◌, ap, subst, arith}
+use Rattle.std.proofs.Common.{◌≡◌, ⊎_elim, ℕ, List, [], ◌∷◌, ◌++◌, refl, sym, ◌∙◌, ap, subst}
 use Rattle.std.specs.Prelude.{Bool, None, IsErrOf, IsTrue, Result, Ok, Err, slice_get}
 use Rattle.hall_core.specs.Facts.{Attached, Facts}
 use Rattle.stop_model.specs.Files.{AfterPrint, File, IsPrefixOf}
@@ -7,13 +7,11 @@ use Rattle.stop_model.specs.Moments.{Elapses, Meaning, Same}
 use Rattle.stop_model.specs.Steps.{seen}
 use Rattle.stop_model.proofs.MomentLemmas.{CountsNow, counts_now_seen, elapses_none, elapses_seen, same_none}
 use Rattle.stop_model.proofs.StepLemmas.{elapses_print}
-use Rattle.vol_model.specs.Calls.{Applies, Bytes, Does, Files, Idles, Keeps, Known, Prints}
-use Rattle.vol_model.specs.Did.{Did}
+use Rattle.vol_model.specs.Calls.{Applies, Bytes, Files, Idles, Keeps, Known, Prints}
 use Rattle.vol_model.specs.Writing.{OpenWriter}
 use Rattle.vol_model.specs.declared.answers.MachErr.{MachErr}
 use Rattle.vol_model.specs.declared.answers.MachErr.TheVariants as mach
 use Rattle.vol_model.specs.declared.contents.Shelf.{Shelf}
-use Rattle.vol_model.specs.declared.refusals.Refusal.{Refusal}
 use Rattle.vol_model.specs.declared.refusals.Refusal.TheVariants.{NoVolume}
 use Rattle.vol_model.specs.declared.requests.Op.{Op}
 use Rattle.vol_model.specs.Shelf.{on_volume, step, step_on, volume_number}
@@ -135,12 +133,9 @@ module _ (f : List File → Shelf) (m : Meaning (List File)) (counts : CountsNow
   pub idles : {w : OpenWriter} {P : ℕ → Known → Type 0} {S : ℕ → List File → Type 0} → Idles here here w w P P S S
   idles {P} {S} = record { same = same_here; writer = refl; promise_kept = keeps_all P; stays_kept = keeps_all S }
 
-  -- an operation, and a call of several, for which memory ran out
+  -- an operation for which memory ran out
   pub applies_memory : {T : Type 0} (op : Op) → Applies {T = T} op here here (Err mach.Memory)
   applies_memory op = record { answer = refl; idle = λ idle. same_here; printed = refl; moments = elapses_none here _ }
-
-  pub does_memory : {X : Type 0} (way : List Op) (did : Did X Refusal) (n : ℕ) → Does way did here here n n (Err mach.Memory)
-  does_memory way did n = record { answer = tt; state = (0, omega arith, (refl, omega arith)); printed = refl; moments = elapses_none here _ }
 
   -- an operation on a volume that isn't there
   pub applies_nowhere : {T : Type 0} (op : Op) → slice_get (f m.state).volumes (volume_number op) ≡ None → Applies {T = T} op here here (Err (mach.Refused NoVolume))

@@ -6,15 +6,13 @@ use Rattle.std.proofs.lemmas.List.{length-map}
 use Rattle.std.proofs.lemmas.Option.{slice_get-get_or}
 use Rattle.dadsm_ops.specs.Operations.{Operates}
 use Rattle.dadsm_ops.proofs.FoundSets.{FoundSet, set_found}
-use Rattle.dscb_codec.specs.declared.Dscb.{Dscb}
 use Rattle.dscb_codec.specs.declared.Dscb.TheVariants as formats
 use Rattle.dscb_codec.specs.declared.F1.{F1}
 use Rattle.ebcdic_names.specs.declared.names.Dsn.{Dsn}
 use Rattle.free_rebuild.specs.Repairs.{image_named}
 use Rattle.hall_core.specs.Facts.{Attached, unit_of}
 use Rattle.pack_spec.specs.declared.MountErr.{MountErr}
-use Rattle.seq_access.specs.declared.writer.Writer.{Writer as BlockWriter}
-use Rattle.seq_access.specs.Writing.{AreSpared, puts_in}
+use Rattle.seq_access.specs.Writing.{AreSpared}
 use Rattle.seq_access.proofs.SparedCalls.{differ_none}
 use Rattle.stop_model.specs.Files.{File}
 use Rattle.stop_model.specs.Moments.{IsDurable, Meaning}
@@ -31,7 +29,7 @@ use Rattle.vtoc_index.proofs.KeptLemmas.{mounted_of}
 use Rattle.vtoc_sets.specs.Sets.{volume_in}
 use Rattle.shelf_machine.specs.Known.{geometries_of}
 use Rattle.shelf_machine.specs.Machine.{writer_in}
-use Rattle.shelf_machine.specs.Operating.{IsRoomed, IsSamePack}
+use Rattle.shelf_machine.specs.Operating.{IsSamePack}
 use Rattle.shelf_machine.specs.Pending.{HasSlot, IsInSlot, IsPendingBy, IsWriterOn, IsWritingBy, puts_by, puts_on}
 use Rattle.shelf_machine.specs.Reporting.{reported}
 use Rattle.shelf_machine.specs.declared.writer.Writer.{Writer}
@@ -54,39 +52,6 @@ in_slot_same w w' slot moved = (ap (λ (x : Writer). x.v) moved, ap (λ (x : Wri
 
 -- ---- the extension isn't done
 
--- an index with more room alone
-module _ (v v' : Vol) (roomed : IsRoomed v v') where
-  abbrev wide : Vol
-  wide = record v { free = v'.free; by_name = v'.by_name }
-
-  writing_wide : (image : List ℕ) (f : F1) (w : BlockWriter) → IsWritingBy image v f w → IsWritingBy image wide f w
-  unfolding puts_in
-  writing_wide image f w by = record {
-    extents = by.extents;
-    sequential = by.sequential;
-    body = by.body;
-    so_far = by.so_far;
-    begun = by.begun;
-    some = by.some;
-    behind = by.behind;
-    ended = by.ended;
-  }
-
-  puts_wide : (image : List ℕ) (w : BlockWriter) (o : Option Dscb) → puts_by image wide w o ≡ puts_by image v w o
-  unfolding puts_in
-  puts_wide image w o = refl
-
-  -- nothing changes for the writer
-  pub stands_roomed : (image : List ℕ) (w : Writer) → IsWriterOn image v w → StandsAgain image image v v' w w
-  stands_roomed image w on = subst (λ (u : Vol). StandsAgain image image v u w w) (sym roomed.others) (record {
-    stands = record { fills = on.fills; writing = λ f at. writing_wide image f w.inner (on.writing f at) };
-    puts = puts_wide image w.inner (slice_get v.slots.items w.inner.slot);
-  })
-
-  -- its slot neither
-  pub slot_roomed : (w : Writer) → IsInSlot v w → IsInSlot v' w
-  slot_roomed w low = subst (λ (u : Vol). IsInSlot u w) (sym roomed.others) low
-
 -- one that answers an error wasn't done, unless the device failed
 pub undone_by : (T : Type 0) (e : StoreErr) → sound_after (reported {T = T} (Err e)) ≡ true → IsUndone (reported {T = T} (Err e))
 undone_by T (store.Refused why) sound = tt
@@ -100,12 +65,12 @@ state_undone name operation v m m' store.Memory run undone = (run.memory refl).s
 state_undone name operation v m m' store.Device run undone = absurd undone
 
 -- so the writer stands as before
-pub stands_undone : (us us' : List Attached) (v v' : Vol) (files files' : List File) (w : Writer) → us' ≡ us → v'.unit ≡ v.unit → files' ≡ files → IsRoomed v v' → IsWriterOn (image_named files (unit_of us v.unit).name) v w
+pub stands_undone : (us us' : List Attached) (v v' : Vol) (files files' : List File) (w : Writer) → us' ≡ us → v'.unit ≡ v.unit → files' ≡ files → v' ≡ v → IsWriterOn (image_named files (unit_of us v.unit).name) v w
     → StandsAgain (image_named files (unit_of us v.unit).name) (image_named files' (unit_of us' v'.unit).name) v v' w w
-stands_undone us us' v v' files files' w units unit state roomed on =
+stands_undone us us' v v' files files' w units unit state index on =
     let image : List ℕ = image_named files (unit_of us v.unit).name in
     let same : image ≡ image_named files' (unit_of us' v'.unit).name = λ i. image_named (sym state i) (unit_of (sym units i) (sym unit i)).name in
-    subst (λ (x : List ℕ). StandsAgain image x v v' w w) same (stands_roomed v v' roomed image w on)
+    subst (λ (x : List ℕ). StandsAgain image x v v' w w) same (subst (λ (u : Vol). StandsAgain image image v u w w) (sym index) (record { stands = on; puts = refl }))
 
 -- ---- it is done
 

@@ -8,13 +8,12 @@ use Rattle.vol_model.specs.declared.refusals.Refusal.{Refusal}
 use Rattle.vtoc_index.specs.declared.vol.Vol.{Vol}
 use Rattle.vtoc_index.specs.Kept.{IsKept}
 use Rattle.vtoc_index.specs.Names.{AreByName, name_at}
-use Rattle.hall_core.specs.Facts.{Attached}
-use Rattle.pack_spec.specs.Label.{tracks_of}
-use Rattle.vol_model.specs.Space.{AreMaximal, EndBy}
-use Rattle.vol_model.specs.declared.contents.Run.{Run}
-use Rattle.vtoc_index.specs.Index.{IsOfUnit}
 use Rattle.shelf_machine.specs.Operating.{IsRoomed}
 use Rattle.shelf_machine.specs.Reporting.{reported}
+
+-- the data sets of an index stand in the order of their names
+abbrev IsInOrder : Vol → Type 0
+IsInOrder v = AreByName (name_at v.slots.items) v.by_name.items
 
 -- an index with more room is that of the same image
 module _ (v v' : Vol) (roomed : IsRoomed v v') where
@@ -35,18 +34,8 @@ module _ (v v' : Vol) (roomed : IsRoomed v v') where
     buffer = kept.buffer;
   })
 
-  pub roomed_unit : (units : List Attached) → IsOfUnit units v → IsOfUnit units v'
-  roomed_unit units unit = subst (IsOfUnit units) (sym roomed.others) (record {
-    attached = unit.attached;
-    whole = unit.whole;
-    inside = unit.inside;
-    tracks = unit.tracks;
-    few = unit.few;
-    most = unit.most;
-    firsts = unit.firsts;
-    free = subst (λ (runs : List Run). AreMaximal runs × EndBy (tracks_of v.geometry) runs) (sym roomed.free) unit.free;
-    buffer = unit.buffer;
-  })
+  pub roomed_order : IsInOrder v → IsInOrder v'
+  roomed_order order = subst IsInOrder (sym roomed.others) (subst (AreByName (name_at v.slots.items)) (sym roomed.names) order)
 
 -- an index with room for more names alone
 pub name_roomed : (v v' : Vol) → v' ≡ record v { by_name = v'.by_name } → v'.by_name.items ≡ v.by_name.items → IsRoomed v v'
@@ -55,14 +44,6 @@ name_roomed v v' others names = record {
   free = ap (λ (w : Vol). w.free.items) others;
   names = names;
 }
-
--- and so has one that is as it was
-pub same_roomed : (v v' : Vol) → v' ≡ v → IsRoomed v v'
-same_roomed v v' same = subst (IsRoomed v) (sym same) (record { others = refl; free = refl; names = refl })
-
--- the data sets of an index stand in the order of their names
-abbrev IsInOrder : Vol → Type 0
-IsInOrder v = AreByName (name_at v.slots.items) v.by_name.items
 
 -- where an operation is refused, or memory ran out, the index is as before
 module _ {T : Type 0} (v v' : Vol) (r : Result T StoreErr) (refused : (why : Refusal) → IsErrOf r (store.Refused why) → v' ≡ v) (memory : IsErrOf r store.Memory → IsRoomed v v') where
@@ -78,7 +59,5 @@ pub order_kept : {T : Type 0} (v v' : Vol) (r : Result T StoreErr) → ((why : R
     → sound_after (reported r) ≡ true → IsInOrder v'
 order_kept v v' (Ok x) refused memory done order sound = done
 order_kept v v' (Err (store.Refused why)) refused memory done order sound = subst IsInOrder (sym (refused why refl)) order
-order_kept v v' (Err store.Memory) refused memory done order sound =
-    let roomed = memory refl in
-    subst IsInOrder (sym roomed.others) (subst (AreByName (name_at v.slots.items)) (sym roomed.names) order)
+order_kept v v' (Err store.Memory) refused memory done order sound = roomed_order v v' (memory refl) order
 order_kept v v' (Err store.Device) refused memory done order sound = absurd cc

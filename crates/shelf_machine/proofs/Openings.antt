@@ -32,6 +32,7 @@ some_volume same = cc
 pub indexes_read : (attached : List Attached) (units : List ℕ) (vols : List Vol) → AreUnits attached units → AreRead attached units vols → AreApart (serials_of vols) → AreIndexes attached vols
 indexes_read attached units vols are read apart = record {
   each = read.each;
+  room = read.room;
   names = subst (λ (us : List ℕ). AreApart (names_of attached us)) (sym read.numbers) are.apart;
   serials = apart;
   few = omega (arith, length-map vols (λ (v : Vol). v.unit), ap length read.numbers, are.few);

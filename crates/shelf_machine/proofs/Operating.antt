@@ -6,6 +6,7 @@ use Rattle.dadsm_ops.specs.Operations.{Operates}
 use Rattle.free_rebuild.specs.Repairs.{image_named}
 use Rattle.free_rebuild.proofs.SettledBool.{settled_true, settled_vtoc}
 use Rattle.hall_core.specs.Facts.{Attached, Facts, unit_of}
+use Rattle.pack_spec.specs.Label.{tracks_of}
 use Rattle.stop_model.specs.Files.{File, file_of}
 use Rattle.stop_model.specs.Moments.{IsDurable, Meaning, Same}
 use Rattle.stop_model.proofs.MomentLemmas.{CountsNow, durable_same}
@@ -33,7 +34,7 @@ use Rattle.vtoc_index.specs.Kept.{IsKept}
 use Rattle.vtoc_index.specs.Names.{AreByName, name_at}
 use Rattle.vtoc_index.specs.declared.vol.Vol.{Vol}
 use Rattle.vtoc_index.proofs.KeptLemmas.{kept_of}
-use Rattle.shelf_machine.specs.Machine.{AreIndexes, AreInOrder, AreKept, IsKeptSettled, base_of, numbers_of, plans_of, texts_of, units_of}
+use Rattle.shelf_machine.specs.Machine.{AreIndexes, AreInOrder, AreKept, HasRoom, IsKeptSettled, base_of, numbers_of, plans_of, texts_of, units_of}
 use Rattle.shelf_machine.specs.Opening.{AreApart, names_of}
 use Rattle.shelf_machine.specs.Operating.{IsSamePack, OperatesOnShelf}
 use Rattle.shelf_machine.specs.Reporting.{reported}
@@ -57,6 +58,10 @@ plans_set (u ∷ vols) zero v v' at same =
     ap (λ g. numbers_of g ∷ (v'.vtoc.start ∷ v'.vtoc.len ∷ []) ∷ plans_of vols) geometry
     ∙ ap (λ r. numbers_of u.geometry ∷ (r.start ∷ r.len ∷ []) ∷ plans_of vols) vtoc
 plans_set (u ∷ vols) (suc k) v v' at same = ap (λ rest. numbers_of u.geometry ∷ (u.vtoc.start ∷ u.vtoc.len ∷ []) ∷ rest) (plans_set vols k v v' at same)
+
+-- and so is its room
+room_same : (v v' : Vol) → IsSamePack v v' → HasRoom v → HasRoom v'
+room_same v v' same room = omega (arith, room, same.room, ap tracks_of same.geometry)
 
 -- the name of an index's unit stands at its place
 pub name_there : (attached : List Attached) (vols : List Vol) (k : ℕ) (v : Vol) → slice_get vols k ≡ Some v → slice_get (names_of attached (units_of vols)) k ≡ Some (unit_of attached v.unit).name
@@ -82,6 +87,10 @@ module _ (old new : Facts) (vols : List Vol) (k : ℕ) (v v' : Vol) (there : sli
     each = λ j u at. ⊎_elim
         (λ here. subst (IsOfUnit new.units) (some_vol (sym (get_set vols k v v' there) ∙ ap (slice_get (set vols k v')) (sym here) ∙ at)) unit)
         (λ differs. subst (λ (us : List Attached). IsOfUnit us u) (sym units) (indexes.each j u (sym (get_other vols j k v' differs) ∙ at)))
+        (cases_eq j k);
+    room = λ j u at. ⊎_elim
+        (λ here. subst HasRoom (some_vol (sym (get_set vols k v v' there) ∙ ap (slice_get (set vols k v')) (sym here) ∙ at)) (room_same v v' same (indexes.room k v there)))
+        (λ differs. indexes.room j u (sym (get_other vols j k v' differs) ∙ at))
         (cases_eq j k);
     names = subst AreApart (sym names_same) indexes.names;
     serials = subst AreApart (sym (map_set_same (λ (w : Vol). w.serial.bytes) vols k v v' there same.serial)) indexes.serials;

@@ -1,5 +1,5 @@
 -- A block that is put by the writer of one of several packs, or isn't: what the call on its pack leaves and answers, by the shelf.
-use Rattle.std.proofs.Common.{◌≡◌, ◌≤◌, ℕ, true, false, List, [], ◌∷◌, length, set, Some, Result, Ok, Err, refl, sym, ap, ◌∙◌, subst}
+use Rattle.std.proofs.Common.{◌≡◌, ◌≤◌, ℕ, true, false, List, [], ◌∷◌, length, set, vec_capacity, Some, Result, Ok, Err, refl, sym, ap, ◌∙◌, subst}
 use Rattle.std.specs.Prelude.{IfOk, IsErrOf, OnErr, slice_get}
 use Rattle.dscb_codec.specs.declared.Dscb.TheVariants as formats
 use Rattle.dscb_codec.specs.declared.F1.{F1}
@@ -54,6 +54,7 @@ same_pack v v' others = record {
   serial = ap (λ (x : Vol). x.serial.bytes) others;
   geometry = ap (λ (x : Vol). x.geometry) others;
   vtoc = ap (λ (x : Vol). x.vtoc) others;
+  room = ap (λ (x : Vol). vec_capacity x.free) others;
 }
 
 module _ (old new : Facts) (vols : List Vol) (k : ℕ) (v v' : Vol) (at : slice_get vols k ≡ Some v) (others : v' ≡ record v { buf = v'.buf }) (units : new.units ≡ old.units) where

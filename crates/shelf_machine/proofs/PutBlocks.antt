@@ -1,5 +1,5 @@
 -- A put on one of several packs: alone, behind an extension of its set, and where that isn't done.
-use Rattle.std.proofs.Common.{◌≡◌, ℕ, Bool, true, List, Some, refl, sym, ap, ◌∙◌, subst}
+use Rattle.std.proofs.Common.{◌≡◌, ◌≢◌, ℕ, Bool, true, List, Some, refl, sym, ap, ◌∙◌, subst}
 use Rattle.std.specs.Prelude.{IsErrOf, OnOk, Result, Ok, Err, is_ok}
 use Rattle.ebcdic_names.specs.declared.names.Dsn.{Dsn}
 use Rattle.hall_core.specs.Facts.{Attached}
@@ -29,7 +29,7 @@ use Rattle.shelf_machine.specs.Reporting.{reported}
 use Rattle.shelf_machine.specs.declared.known.Known.{Known}
 use Rattle.shelf_machine.specs.declared.writer.Writer.{Writer}
 use Rattle.shelf_machine.proofs.KnownLemmas.{held_after, knows_applied}
-use Rattle.shelf_machine.proofs.PutExtends.{FillsSet, does_after, does_alone, does_behind, does_device, does_memory, does_unextended, records_put}
+use Rattle.shelf_machine.proofs.PutExtends.{FillsSet, does_after, does_alone, does_behind, does_device, does_unextended, records_put}
 use Rattle.shelf_machine.proofs.Settling.{keeps_then}
 
 -- ---- what is answered
@@ -155,9 +155,9 @@ module _ (c : Content) (attached mid : List Attached) (vols vols1 : List Vol) (k
   knows_now sound = knows_applied ran (Extend w.v w.dsn) done is_done follow run.applies (extends_served ran w.v w.dsn) sound knows
 
   -- it isn't done
-  pub puts_unextended : (e : StoreErr) (n : ℕ) → ran ≡ Err e → (sound_after (reported ran) ≡ true → IsPendingBy m1 mid vols1 (Some w1)) → PutsBlock c attached mid vols vols1 known1 w w1 m m1 n n (Err (room_answer e))
-  puts_unextended e n is pending = record {
-    does = by_does e (subst (λ (r : Result (Unit {0}) StoreErr). Applies (Extend w.v w.dsn) old now (reported r)) is run.applies);
+  pub puts_unextended : (e : StoreErr) (n : ℕ) → ran ≡ Err e → e ≢ store.Memory → (sound_after (reported ran) ≡ true → IsPendingBy m1 mid vols1 (Some w1)) → PutsBlock c attached mid vols vols1 known1 w w1 m m1 n n (Err (room_answer e))
+  puts_unextended e n is other pending = record {
+    does = by_does e other (subst (λ (r : Result (Unit {0}) StoreErr). Applies (Extend w.v w.dsn) old now (reported r)) is run.applies);
     records = by_records e is;
     safe = run.safe;
     kept = λ sound. run.kept (still sound);
@@ -169,10 +169,10 @@ module _ (c : Content) (attached mid : List Attached) (vols vols1 : List Vol) (k
       still : sound_after {T = Place} (Err (room_answer e)) ≡ true → sound_after (reported ran) ≡ true
       still sound = still_sound ran e (room_answer e) is refl sound
 
-      by_does : (f : StoreErr) → Applies {T = Unit {0}} (Extend w.v w.dsn) old now (reported (Err f)) → Does {X = Place} (did_put old.state writer c).operations (did_put old.state writer c) old now n n (Err (room_answer f))
-      by_does (store.Refused r) applies = does_unextended old now w.v w.dsn writer fills c wanted r n applies
-      by_does store.Memory applies = does_memory old now w.v w.dsn writer fills c wanted n applies
-      by_does store.Device applies = does_device old now w.v w.dsn writer fills c wanted applies n n
+      by_does : (f : StoreErr) → f ≢ store.Memory → Applies {T = Unit {0}} (Extend w.v w.dsn) old now (reported (Err f)) → Does {X = Place} (did_put old.state writer c).operations (did_put old.state writer c) old now n n (Err (room_answer f))
+      by_does (store.Refused r) none applies = does_unextended old now w.v w.dsn writer fills c wanted r n applies
+      by_does store.Memory none applies = absurd (none refl)
+      by_does store.Device none applies = does_device old now w.v w.dsn writer fills c wanted applies n n
 
       by_records : (f : StoreErr) → ran ≡ Err f → Records {T = Place} (Err (room_answer f)) writer c writer1
       by_records (store.Refused r) at = same (ap (λ (q : Result (Unit {0}) StoreErr). sound_after (reported q)) at)

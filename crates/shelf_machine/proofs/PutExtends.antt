@@ -169,9 +169,6 @@ module _ (old mid : Meaning Shelf) (v : ℕ) (dsn : Dsn) (writer : OpenWriter) (
         moments = moments_in run;
       }
 
-  pub does_memory : {T : Type 0} (n : ℕ) → Applies {T = T} extending old mid (Err mach.Memory) → Does did.operations did old mid n n (Err mach.Memory)
-  does_memory n run = record { answer = tt; state = (0, omega arith, (run.answer, omega arith)); printed = run.printed; moments = moments_in run }
-
   -- it is done, and then comes another put
   module _ {T : Type 0} (x : T) (new : Meaning Shelf) (run : Applies {T = T} extending old mid (Ok x)) (state : new.state ≡ mid.state) (printed : new.printed ≡ mid.printed)
       (moments : Elapses mid new (λ s p. (s ≡ mid.state) × (p ≡ mid.printed))) (writer' later : OpenWriter) (same : writer' ≡ writer) where

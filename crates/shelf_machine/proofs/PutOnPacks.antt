@@ -44,7 +44,7 @@ module _ (old new : Facts) (vols : List Vol) (indexes : AreIndexes old.units vol
   names = names_of old.units (units_of vols)
 
   same_pack : IsSamePack v v'
-  same_pack = record { unit = refl; serial = refl; geometry = refl; vtoc = refl }
+  same_pack = record { unit = refl; serial = refl; geometry = refl; vtoc = refl; room = refl }
 
   pub puts_on : {T : Type 0} (r : Result T PutErr) (known known' : List Known) → ForgetsOn w.v known known' → AreHeld m.state old.units vols known → LeavesBehind name v f m m' → (¬ IsErrOf r Device → IsMounted (image_named m'.state name) v')
       → (¬ IsErrOf r Device → IsWriterOn (image_named m'.state name) v' w') → w'.v ≡ w.v → w'.inner.slot ≡ w.inner.slot → PutsOn names new.units vols (set vols w.v v') known' w' m m' r

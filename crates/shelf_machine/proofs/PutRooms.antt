@@ -133,8 +133,5 @@ module _ (old new : Meaning Shelf) (printed : new.printed ≡ old.printed) (mome
       let run : Does {X = X} [] (answered (Err r)) old new n n (Err (mach.Refused r)) = record { answer = refl; state = (same, omega arith); printed = printed; moments = stays [] } in
       subst (λ (d : Did X Refusal). Does d.operations d old new n n (Err (mach.Refused r))) (sym is) run
 
-  pub does_wanting : {X : Type 0} (did : Did X Refusal) → new.state ≡ old.state → Does {X = X} did.operations did old new n n (Err mach.Memory)
-  does_wanting did same = record { answer = tt; state = (0, omega arith, (same, omega arith)); printed = printed; moments = stays did.operations }
-
   pub does_failed : {X : Type 0} (did : Did X Refusal) (k : ℕ) → Does {X = X} did.operations did old new n k (Err mach.Device)
   does_failed did k = record { answer = tt; state = tt; printed = printed; moments = stays did.operations }

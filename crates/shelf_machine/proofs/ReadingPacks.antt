@@ -21,7 +21,7 @@ use Rattle.vol_model.specs.declared.contents.Volume.{Volume}
 use Rattle.vtoc_index.specs.Index.{IsMounted, IsOfUnit}
 use Rattle.vtoc_index.specs.Names.{AreByName, name_at}
 use Rattle.vtoc_index.specs.declared.vol.Vol.{Vol}
-use Rattle.shelf_machine.specs.Machine.{serials_of, units_of}
+use Rattle.shelf_machine.specs.Machine.{HasRoom, serials_of, units_of}
 use Rattle.shelf_machine.specs.Opening.{AreApart, AreUnits, images_named, names_of}
 use Rattle.shelf_machine.specs.Packs.{AreMounted, AreRead, IsFirstTwice, RefusesImages}
 use Rattle.shelf_machine.specs.declared.stopped.Stopped.{Stopped}
@@ -74,11 +74,12 @@ pub number_low : (units : List ℕ) (u : ℕ) → units ≡ range_with_len 0 (le
 number_low units u numbered held = number_at units held.0 u numbered (slice_get-get_or units held.0 u held.1 ∙ ap (λ (n : ℕ). Some n) held.2)
 
 -- one pack more
-pub read_more : (attached : List Attached) (units : List ℕ) (vols : List Vol) (k unit : ℕ) (v : Vol) → slice_get units k ≡ Some unit → AreRead attached (take k units) vols → v.unit ≡ unit → IsOfUnit attached v
+pub read_more : (attached : List Attached) (units : List ℕ) (vols : List Vol) (k unit : ℕ) (v : Vol) → slice_get units k ≡ Some unit → AreRead attached (take k units) vols → v.unit ≡ unit → IsOfUnit attached v → HasRoom v
     → AreByName (name_at v.slots.items) v.by_name.items → AreRead attached (take (k + 1) units) (vols ++ v ∷ [])
-read_more attached units vols k unit v at read is of_unit order = record {
+read_more attached units vols k unit v at read is of_unit room order = record {
   numbers = map_push (λ (w : Vol). w.unit) vols v ∙ ap (λ (us : List ℕ). us ++ v.unit ∷ []) read.numbers ∙ ap (λ (u : ℕ). take k units ++ u ∷ []) is ∙ sym (take_push units k unit at);
   each = λ j w here. ⊎_elim (λ before. read.each j w before) (λ same. subst (IsOfUnit attached) same of_unit) (of_push vols v j w here);
+  room = λ j w here. ⊎_elim (λ before. read.room j w before) (λ same. subst HasRoom same room) (of_push vols v j w here);
   order = λ j w here. ⊎_elim (λ before. read.order j w before) (λ same. subst (λ (x : Vol). AreByName (name_at x.slots.items) x.by_name.items) same order) (of_push vols v j w here);
 }
 
@@ -126,12 +127,12 @@ module _ (tells : Bool) (units : List ℕ) (old now : Facts) (m m' : Meaning (Li
       ∙ ap (λ (n : ℕ). Err (record { unit = n; why = s.why })) (sym place)
 
   -- or it is read
-  pub read_next : (next : Facts) (m'' : Meaning (List File)) (vols' : List Vol) (v : Vol) → v.unit ≡ unit → IsOfUnit now.units v → AreByName (name_at v.slots.items) v.by_name.items → (IsTrue tells → IsMounted (image_of m'.state now unit) v)
+  pub read_next : (next : Facts) (m'' : Meaning (List File)) (vols' : List Vol) (v : Vol) → v.unit ≡ unit → IsOfUnit now.units v → HasRoom v → AreByName (name_at v.slots.items) v.by_name.items → (IsTrue tells → IsMounted (image_of m'.state now unit) v)
       → (IsTrue tells → Same m' m'') → Unreported now next → vols' ≡ vols ++ v ∷ [] → ReadSoFar tells units old next m m'' vols' (k + 1)
-  read_next next m'' vols' v is of_unit order mounted same call pushed = record {
+  read_next next m'' vols' v is of_unit room order mounted same call pushed = record {
     facts = reported_none old now next so_far.facts call (λ never. never);
     same = λ told. same_then (so_far.same told) (same told);
-    read = subst (AreRead old.units (take (k + 1) units)) (sym pushed) (read_more old.units units vols k unit v at so_far.read is (subst (λ (us : List Attached). IsOfUnit us v) so_far.facts.units of_unit) order);
+    read = subst (AreRead old.units (take (k + 1) units)) (sym pushed) (read_more old.units units vols k unit v at so_far.read is (subst (λ (us : List Attached). IsOfUnit us v) so_far.facts.units of_unit) room order);
     mounted = λ told.
         let image : image_of m'.state now unit ≡ image_named m.state (unit_of old.units v.unit).name =
         image_before m.state m'.state old now unit (so_far.same told).state so_far.facts.units ∙ ap (λ (u : ℕ). image_named m.state (unit_of old.units u).name) (sym is) in

@@ -1,5 +1,5 @@
 -- How far the repair of the packs of several indexes has come.
-use Rattle.std.proofs.Common.{◌≡◌, ◌≢◌, ◌<◌, ◌≤◌, ◌+◌, ⊎_elim, ℕ, zero, suc, Bool, true, List, [], length, set, Option, Some, sym, ap, subst, ◌∙◌, refl, arith}
+use Rattle.std.proofs.Common.{◌≡◌, ◌≢◌, ◌<◌, ◌≤◌, ◌+◌, ⊎_elim, ℕ, zero, suc, Bool, true, List, [], length, set, vec_capacity, Option, Some, sym, ap, subst, ◌∙◌, refl, arith}
 use Rattle.std.specs.Prelude.{Contains, IsTrue, Result, Ok, Err, slice_get, unwrap_or}
 use Rattle.std.proofs.lemmas.Bool.{cases_eq}
 use Rattle.std.proofs.lemmas.List.{length-map}
@@ -79,6 +79,7 @@ same_pack v v' is = record {
   serial = ap (λ (w : Vol). w.serial.bytes) is;
   geometry = ap (λ (w : Vol). w.geometry) is;
   vtoc = ap (λ (w : Vol). w.vtoc) is;
+  room = ap (λ (w : Vol). vec_capacity w.free) is;
 }
 
 pub packs_after : (before vols : List Vol) (k : ℕ) (v v' : Vol) → slice_get vols k ≡ Some v → IsSamePack v v' → AreOfSamePacks before vols → AreOfSamePacks before (set vols k v')

@@ -86,14 +86,6 @@ module _ {T : Type 0} (name : List ℕ) (operation : Volume → Result Volume Re
       same_refusal : {a b : Refusal} → ◌≡◌ {A = Result T StoreErr} (Err (store.Refused a)) (Err (store.Refused b)) → a ≡ b
       same_refusal same = cc
 
-  pub operates_unroomed : Operates {T = T} name operation v m m (Err store.Memory)
-  operates_unroomed = record {
-    does = undone store.Memory;
-    refused = λ r is. absurd cc;
-    idle = λ r is. same_none m counts;
-    memory = λ is. same_none m counts;
-  }
-
 -- an operation that isn't refused, and was called
 module _ {E : Type 0} (name : List ℕ) (operation : Volume → Result Volume Refusal) (v : Vol) (m m' : Meaning (List File)) where
   pub operates_done : {T : Type 0} (x y : T) → DoesOperation {T = T} {E = E} name operation v m m' (Ok x) → Operates name operation v m m' (Ok y)

@@ -1,10 +1,11 @@
 -- The shelf that the machine over several images holds, and what it promises besides.
-use Rattle.std.specs.Prelude.{◌≡◌, ℕ, ◌≤◌, Bool, true, false, List, [], ◌∷◌, ◌++◌, length, map, replicate, slice_get, Option, Some, None, Result, Ok, Err}
+use Rattle.std.specs.Prelude.{◌≡◌, ℕ, ◌+◌, ◌*◌, ◌≤◌, Bool, true, false, List, [], ◌∷◌, ◌++◌, length, map, replicate, slice_get, vec_capacity, Option, Some, None, Result, Ok, Err}
 use Rattle.ckd_image.specs.Device.{row_of}
 use Rattle.ckd_image.specs.declared.header.Geometry.{Geometry}
 use Rattle.hall_core.specs.Facts.{Attached, Facts, unit_of}
 use Rattle.stop_model.specs.Files.{File}
 use Rattle.stop_model.specs.Moments.{Meaning}
+use Rattle.pack_spec.specs.Label.{tracks_of}
 use Rattle.pack_spec.specs.Shelf.{UnitRefusal, shelf_of}
 use Rattle.vol_model.specs.Calls.{Bytes, Files, Known, Status}
 use Rattle.vol_model.specs.Writing.{OpenWriter, begun}
@@ -73,9 +74,18 @@ writer_in files attached vols (Some w) = record {
 }
 writer_in files attached vols None = begun (record { v = 0; dsn = record { bytes = replicate 44 0x40 }; mode = Fill })
 
--- The indexes are those of attached units, whose names differ, as do the serials; there are at most 255.
+-- an index has room for 16 free runs more than its pack can have: these are at most half as many as its tracks, rounded up
+abbrev pub HasRoom : Vol → Type 0
+HasRoom v = tracks_of v.geometry + 33 ≤ 2 * vec_capacity v.free
+
+-- and so has each
+abbrev pub AreRoomy : List Vol → Type 0
+AreRoomy vols = (k : ℕ) (v : Vol) → slice_get vols k ≡ Some v → HasRoom v
+
+-- The indexes are those of attached units, whose names differ, as do the serials, and have room for free runs; there are at most 255.
 pub record AreIndexes (attached : List Attached) (vols : List Vol) : Type 0 where
   pub each : (k : ℕ) (v : Vol) → slice_get vols k ≡ Some v → IsOfUnit attached v
+  pub room : AreRoomy vols
   pub names : AreApart (names_of attached (units_of vols))
   pub serials : AreApart (serials_of vols)
   pub few : length vols ≤ 255

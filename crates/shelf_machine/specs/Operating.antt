@@ -1,5 +1,5 @@
 -- What an operation on the volume of one of several images leaves, by their shelf.
-use Rattle.std.specs.Prelude.{◌≡◌, ◌<◌, ◌^◌, true, false, ℕ, List, Result}
+use Rattle.std.specs.Prelude.{◌≡◌, ◌<◌, ◌^◌, true, false, ℕ, List, vec_capacity, Result}
 use Rattle.ebcdic_names.specs.declared.names.Dsn.{Dsn}
 use Rattle.hall_core.specs.Facts.{Attached}
 use Rattle.stop_model.specs.Files.{File}
@@ -32,12 +32,13 @@ pub record CanBeMade (dsn : Dsn) (request : Request) (dir : ℕ) : Type 0 where
   pub catalog : is_catalog dsn.bytes ≡ false
   pub quantities : request.secondary < 2 ^ 24
 
--- The index is one of the same pack as another.
+-- The index is one of the same pack as another, with the same room for free runs.
 pub record IsSamePack (v v' : Vol) : Type 0 where
   pub unit : v'.unit ≡ v.unit
   pub serial : v'.serial.bytes ≡ v.serial.bytes
   pub geometry : v'.geometry ≡ v.geometry
   pub vtoc : v'.vtoc ≡ v.vtoc
+  pub room : vec_capacity v'.free ≡ vec_capacity v.free
 
 -- The index is as another, but for the room of its lists of free runs and of names.
 pub record IsRoomed (v v' : Vol) : Type 0 where

@@ -12,14 +12,15 @@ use Rattle.free_rebuild.specs.Repairs.{image_named}
 use Rattle.vtoc_index.specs.Index.{IsMounted, IsOfUnit}
 use Rattle.vtoc_index.specs.declared.vol.Vol.{Vol}
 use Rattle.shelf_machine.specs.Known.{geometries_of}
-use Rattle.shelf_machine.specs.Machine.{AreIndexes, AreInOrder, AreKept, serials_of, units_of}
+use Rattle.shelf_machine.specs.Machine.{AreIndexes, AreInOrder, AreKept, AreRoomy, serials_of, units_of}
 use Rattle.shelf_machine.specs.Opening.{OpensSafely, images_named}
 use Rattle.shelf_machine.specs.declared.stopped.Stopped.{Stopped}
 
--- Indexes of the packs on units, in order, and their data sets in the order of their names.
+-- Indexes of the packs on units, in order, with room for free runs, and their data sets in the order of their names.
 pub record AreRead (attached : List Attached) (units : List ℕ) (vols : List Vol) : Type 0 where
   pub numbers : units_of vols ≡ units
   pub each : (k : ℕ) (v : Vol) → slice_get vols k ≡ Some v → IsOfUnit attached v
+  pub room : AreRoomy vols
   pub order : AreInOrder vols
 
 -- each index is that of its unit's image, which stands for a volume

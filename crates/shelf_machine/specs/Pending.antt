@@ -21,7 +21,7 @@ use Rattle.vtoc_index.specs.Index.{first_named}
 use Rattle.free_rebuild.specs.Repairs.{image_named}
 use Rattle.seq_access.specs.declared.writer.Writer.{Writer as BlockWriter}
 use Rattle.seq_access.specs.Bodies.{HasBlocks, IsSequential, body_in, owned_in}
-use Rattle.seq_access.specs.Writing.{AreSpared, body_so_far, puts_in}
+use Rattle.seq_access.specs.Writing.{AreSpared, body_so_far, has_put, puts_in}
 use Rattle.shelf_machine.specs.declared.writer.Writer.{Writer}
 
 -- A writer of blocks stands on the mounted image of an index by this format 1, said by clauses of which each has one proof: see `writes_by`.
@@ -31,10 +31,10 @@ pub record IsWritingBy (image : List ℕ) (v : Vol) (f : F1) (w : BlockWriter) :
   pub body : HasBlocks (body_in image v f) (blocks_of (body_in image v f))
   pub so_far : HasBlocks (body_so_far image v f w) (blocks_of (body_in image v f)
       ++ placed v.geometry.device (Seq (blocks_of (body_in image v f))) (puts_in image v f w))
-  pub begun : w.has_put ≡ false → w.last ≡ last_of f.lstar
-  pub some : w.has_put ≡ true → puts_in image v f w ≢ []
+  pub begun : has_put w ≡ false → w.last ≡ last_of f.lstar
+  pub some : has_put w ≡ true → puts_in image v f w ≢ []
   pub behind : is_before w.last (last_of f.lstar) ≡ false
-  pub ended : w.has_put ≡ true → (track : ℕ) → slice_get (owned_in image v f) w.last.tt ≡ Some track
+  pub ended : has_put w ≡ true → (track : ℕ) → slice_get (owned_in image v f) w.last.tt ≡ Some track
       → records_on image v.geometry None track ≡ records_on image v.geometry (Some w.last.r) track
 
 -- what a writer put behind the set whose format 1 this is

@@ -30,11 +30,10 @@ put_answer (Ok place) = Ok place
 put_answer (Err put_err.Device) = Err mach.Device
 put_answer (Err e) = Err (mach.Refused NoRoom)
 
--- the answer where a set isn't extended for the block of a put
+-- the answer where a set isn't extended for the block of a put; that takes no memory
 abbrev pub room_answer : StoreErr → MachErr
-room_answer (store.Refused r) = mach.Refused NoRoom
-room_answer store.Memory = mach.Memory
 room_answer store.Device = mach.Device
+room_answer e = mach.Refused NoRoom
 
 -- the shelf of the packs of these indexes
 abbrev pub shelf_on : List File → List Attached → List Vol → Shelf

@@ -50,7 +50,7 @@ pub(crate) fn commit_on<H: Hall>(
 {
     let k = usize::from(writer.v);
     forget_on(known, k);
-    if !writer.inner.has_put {
+    if writer.inner.blocks == 0 {
         hall.sync()?;
         return Ok(());
     }

@@ -30,7 +30,8 @@ use vtoc_index::Vol;
 ///
 /// It is sound as long as no call of its hall failed. Of the operations it does `Extend`, `Rename`, `Scratch` and
 /// `Empty`, and `Allocate` without a directory, of any name but SYSCTLG, where the secondary quantity is below 2^24; for
-/// every other, and for a writer of an area, it wants memory.
+/// every other, and for a writer of an area, it wants memory. `put` and `commit` never do: from its opening on there is
+/// room for the free runs of each pack.
 #[derive(Drop)]
 pub struct HallShelf<H: Hall> {
     hall: H,
@@ -61,8 +62,8 @@ impl<H: Hall> HallShelf<H> {
     ghost use Rattle.shelf_machine.specs.Opened.{IsOpened, LeavesSettled, OpenCall, OpensShelf, RefusesShelf, hall_left};
     ghost use Rattle.shelf_machine.specs.Parts.{hall_of, is_sound, pack_names};
 
-    /// Opens the machine over the packs on these units: reads all, compares their serials, walks the records of each
-    /// sequential data set, and then repairs each pack whose VTOC isn't settled.
+    /// Opens the machine over the packs on these units: reads all and takes room for the free runs of each, compares
+    /// their serials, walks the records of each sequential data set, and then repairs each pack whose VTOC isn't settled.
     ///
     /// The error names the unit at which it stopped: the first whose pack breaks a rule of mounting, with the first rule
     /// that it breaks, or else the lowest whose serial an earlier one has (`SameSerial`). `Device` comes only where the
@@ -121,7 +122,7 @@ impl<H: Hall> Machine for HallShelf<H> {
 
     ghost tells_prints = { H.tells };
 
-    ghost roomy = { false };
+    ghost roomy = { true };
 
     ghost meaning = { λ m. meaning_of m };
 
@@ -217,14 +218,7 @@ impl<H: Hall> Machine for HallShelf<H> {
 
     fn apply(&mut self, op: &Op) -> Result<(), MachErr> {
         let hall = &mut self.hall;
-        let ran = operate_settled(
-            self.alloc,
-            hall,
-            &mut self.vols,
-            &self.known,
-            &mut self.writer,
-            op,
-        );
+        let ran = operate_settled(hall, &mut self.vols, &self.known, &mut self.writer, op);
         follow(&mut self.known, op, ran.is_ok());
         report(&mut self.is_sound, &mut self.done, ran)
     }
@@ -236,7 +230,7 @@ impl<H: Hall> Machine for HallShelf<H> {
         let Mode::Fill = mode else {
             return Err(MachErr::Memory);
         };
-        match open_writer(&mut self.hall, &self.vols, &mut self.writer, v, dsn) {
+        match open_writer(&mut self.hall, &mut self.vols, &mut self.writer, v, dsn) {
             Ok(true) => Ok(()),
             Ok(false) => Err(MachErr::Memory),
             Err(_) => Err(fault(&mut self.is_sound, MachErr::Device)),

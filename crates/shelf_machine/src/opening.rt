@@ -10,8 +10,9 @@ ghost use Rattle.vtoc_index.specs.Index.{IsMounted, IsOfUnit};
 ghost use Rattle.vtoc_index.specs.Names.{AreByName, name_at};
 ghost use Rattle.vtoc_index.specs.declared.vol.Vol.{Vol};
 ghost use Rattle.shelf_machine.specs.Known.{AreFresh, HaveBuffers, KnowsBodies};
-ghost use Rattle.shelf_machine.specs.Machine.{AreIndexes, AreInOrder, serials_of, shelf_under, units_of};
+ghost use Rattle.shelf_machine.specs.Machine.{AreIndexes, AreInOrder, HasRoom, serials_of, shelf_under, units_of};
 ghost use Rattle.shelf_machine.specs.Opening.{AreApart, AreUnits, LeavesSafe, names_of};
+ghost use Rattle.shelf_machine.specs.Operating.{IsRoomed};
 ghost use Rattle.shelf_machine.specs.Packs.{AreMounted, AreOfSamePacks, AreOpened, AreRead, RefusesImages, RepairsAll, StopCall, StopsAtTwice};
 
 use crate::checking::check_all;
@@ -20,11 +21,12 @@ use crate::stopped::Stopped;
 use ebcdic_names::Serial;
 use free_rebuild::{is_settled, rebuild};
 use hall_core::Hall;
-use std::alloc::Global;
+use pack_spec::layout::MOST_EXTENTS;
+use std::alloc::{AllocError, Global};
 use vtoc_index::{MountErr, Vol, read_vtoc};
 
-// The packs on units: all are read, then their serials compared, then the bodies checked, then each that isn't settled
-// is repaired. Behind an error nothing was written, unless the device failed.
+// The packs on units: all are read, with room for their free runs, then their serials compared, then the bodies checked,
+// then each that isn't settled is repaired. Behind an error nothing was written, unless the device failed.
 pub(crate) fn open_packs<H: Hall>(
     alloc: Global,
     hall: &mut H,
@@ -60,7 +62,7 @@ pub(crate) fn open_packs<H: Hall>(
     Ok(Packs { vols, known })
 }
 
-// The indexes of the packs on units, in order.
+// The indexes of the packs on units, in order, with room for free runs.
 fn read_all<H: Hall>(alloc: Global, hall: &mut H, units: &[u8]) -> Result<Vec<Vol>, Stopped>
     requires units { AreUnits (H.facts hall.old).units units.now }
     ensures read { IfOk result (λ vols. AreRead (H.facts hall.old).units units.now vols.items) }
@@ -80,7 +82,7 @@ fn read_all<H: Hall>(alloc: Global, hall: &mut H, units: &[u8]) -> Result<Vec<Vo
     Ok(vols)
 }
 
-// The index of the pack on a unit.
+// The index of the pack on a unit, with room for free runs.
 fn read_pack<H: Hall>(alloc: Global, hall: &mut H, unit: u8) -> Result<Vol, Stopped>
     requires { unit < length (H.facts hall.old).units }
     ensures mounted { let image = image_in (H.meaning hall.old) (H.facts hall.old) unit in
@@ -90,14 +92,31 @@ fn read_pack<H: Hall>(alloc: Global, hall: &mut H, unit: u8) -> Result<Vol, Stop
         → volume_of image ≡ Err s.why) }
     ensures place { IfErr result (λ s. s.unit ≡ unit) }
     ensures unit { IfOk result (λ vol. (vol.unit ≡ unit) × IsOfUnit (H.facts hall.old).units vol) }
+    ensures room { IfOk result HasRoom }
     ensures names { IfOk result (λ vol. AreByName (name_at vol.slots.items) vol.by_name.items) }
     ensures files { IsTrue H.tells → Same (H.meaning hall.old) (H.meaning hall.new) }
     ensures faults { StopCall (H.facts hall.old) (H.facts hall.new) result }
 {
     match read_vtoc(alloc, hall, unit) {
-        Ok(vol) => Ok(vol),
+        Ok(mut vol) => match reserve_runs(&mut vol) {
+            Ok(()) => Ok(vol),
+            Err(_) => Err(Stopped {
+                unit,
+                why: MountErr::Memory,
+            }),
+        },
         Err(why) => Err(Stopped { unit, why }),
     }
+}
+
+// Takes room for as many free runs as the pack can have, and for those that the extents of a removed
+// data set make.
+fn reserve_runs(vol: &mut Vol) -> Result<(), AllocError>
+    ensures index { IsRoomed vol.old vol.new }
+    ensures room { OnOk result (HasRoom vol.new) }
+{
+    let tracks = usize::from(vol.geometry.cylinders) * usize::from(vol.geometry.device.heads());
+    vol.free.reserve(tracks / 2 + usize::from(MOST_EXTENTS) + 1)
 }
 
 // Puts an index behind the others.

@@ -12,9 +12,9 @@ ghost use Rattle.vol_model.specs.Calls.{IsUndone, sound_after};
 ghost use Rattle.dadsm_ops.specs.Operations.{Operates, StoreCall};
 ghost use Rattle.vtoc_sets.specs.Sets.{volume_in};
 ghost use Rattle.shelf_machine.specs.Known.{HaveBuffers, IsServed, KnowsBodies, ListsBroken, geometries_of};
-ghost use Rattle.shelf_machine.specs.Machine.{AreIndexes, AreInOrder, AreKept, base_of, shelf_under, units_of};
+ghost use Rattle.shelf_machine.specs.Machine.{AreIndexes, AreInOrder, AreKept, HasRoom, base_of, shelf_under, units_of};
 ghost use Rattle.shelf_machine.specs.Opening.{names_of};
-ghost use Rattle.shelf_machine.specs.Operating.{CanBeMade, IsRoomed, IsSamePack, OperatesOnShelf};
+ghost use Rattle.shelf_machine.specs.Operating.{CanBeMade, IsSamePack, OperatesOnShelf};
 ghost use Rattle.shelf_machine.specs.Reporting.{reported};
 
 use crate::known::Known;
@@ -22,8 +22,6 @@ use crate::refusals::{slot_to_empty, slot_to_extend};
 use dadsm_ops::{allocate, empty, extend, rename, scratch};
 use ebcdic_names::Dsn;
 use hall_core::{Device, Hall};
-use pack_spec::layout::MOST_EXTENTS;
-use std::alloc::Global;
 use vol_model::{Attr, Op, Refusal, Request, StoreErr, is_catalog};
 use vtoc_index::{Vol, find};
 
@@ -32,7 +30,6 @@ const QUANTITIES: u32 = 0x0100_0000;
 
 // Does an operation on one of the packs. Each that isn't done yet wants memory, before anything is called.
 pub(crate) fn operate<H: Hall>(
-    alloc: Global,
     hall: &mut H,
     vols: &mut Vec<Vol>,
     known: &Vec<Known>,
@@ -66,7 +63,7 @@ pub(crate) fn operate<H: Hall>(
             attr,
             request,
             dir,
-        } => allocate_on(alloc, hall, vols, *v, dsn, attr, request, *dir),
+        } => allocate_on(hall, vols, *v, dsn, attr, request, *dir),
         Op::Rename { v, old, new } => rename_on(hall, vols, *v, old, new),
         Op::Scratch { v, dsn } => scratch_on(hall, vols, *v, dsn),
         Op::Extend { v, dsn } => extend_on(hall, vols, known, *v, dsn),
@@ -77,7 +74,6 @@ pub(crate) fn operate<H: Hall>(
 
 // Makes a data set on the pack of this number.
 fn allocate_on<H: Hall>(
-    alloc: Global,
     hall: &mut H,
     vols: &mut Vec<Vol>,
     v: u8,
@@ -110,7 +106,7 @@ fn allocate_on<H: Hall>(
     if !is_served(dsn, request, dir) {
         return Err(StoreErr::Memory);
     }
-    allocate(alloc, hall, &mut vols[k], dsn, attr, request, dir)
+    allocate(hall, &mut vols[k], dsn, attr, request, dir)
 }
 
 // Whether such a data set can be made yet: it has no directory and isn't the catalog, and its secondary quantity fits its field.
@@ -178,12 +174,13 @@ fn scratch_on<H: Hall>(hall: &mut H, vols: &mut Vec<Vol>, v: u8, dsn: &Dsn) -> R
     scratch_set(hall, &mut vols[k], dsn)
 }
 
-// Removes a data set of a volume. Memory is taken before anything is called: for each of its extents a free run may come.
+// Removes a data set of a volume.
 fn scratch_set<H: Hall>(hall: &mut H, vol: &mut Vol, dsn: &Dsn) -> Result<(), StoreErr>
     requires unit { IsOfUnit (H.facts hall.old).units vol.old }
     requires names { AreByName (name_at vol.old.slots.items) vol.old.by_name.items }
     requires mounted { let image = image_in (H.meaning hall.old) (H.facts hall.old) vol.old.unit in
         IsTrue H.tells → IsMounted image vol.old }
+    requires room { HasRoom vol.old }
     requires durable { IsTrue H.tells → IsDurable (H.meaning hall.old) }
     ensures files { IsTrue H.tells → Operates (unit_of (H.facts hall.old).units vol.old.unit).name
         (scratch_on dsn.now) vol.new (H.meaning hall.old) (H.meaning hall.new) result }
@@ -191,15 +188,12 @@ fn scratch_set<H: Hall>(hall: &mut H, vol: &mut Vol, dsn: &Dsn) -> Result<(), St
     ensures names { OnOk result (AreByName (name_at vol.new.slots.items) vol.new.by_name.items) }
     ensures index { IsSamePack vol.old vol.new }
     ensures refused { (r : Refusal) → IsErrOf result (StoreErr.Refused r) → vol.new ≡ vol.old }
-    ensures memory { IsErrOf result StoreErr.Memory → IsRoomed vol.old vol.new }
+    ensures memory { ¬ IsErrOf result StoreErr.Memory }
     ensures faults { StoreCall (H.facts hall.old) (H.facts hall.new) result }
 {
     let Some(slot) = find(vol, dsn) else {
         return Err(StoreErr::Refused(Refusal::NoSet));
     };
-    if vol.free.reserve(usize::from(MOST_EXTENTS)).is_err() {
-        return Err(StoreErr::Memory);
-    }
     match scratch(hall, vol, slot) {
         Ok(()) => Ok(()),
         Err(Device) => Err(StoreErr::Device),
@@ -264,7 +258,7 @@ fn empty_set<H: Hall>(
     ensures names { OnOk result (AreByName (name_at vol.new.slots.items) vol.new.by_name.items) }
     ensures index { IsSamePack vol.old vol.new }
     ensures refused { (r : Refusal) → IsErrOf result (StoreErr.Refused r) → vol.new ≡ vol.old }
-    ensures memory { IsErrOf result StoreErr.Memory → IsRoomed vol.old vol.new }
+    ensures memory { ¬ IsErrOf result StoreErr.Memory }
     ensures faults { StoreCall (H.facts hall.old) (H.facts hall.new) result }
 {
     let slot = match slot_to_empty(vol, known, dsn) {
@@ -303,9 +297,10 @@ pub(crate) fn extend_on<H: Hall>(
     ensures order { sound_after (reported result) ≡ true → AreInOrder vols.new.items }
     ensures pack { (vol vol' : Vol) → slice_get vols.old.items v ≡ Some vol
         → slice_get vols.new.items v ≡ Some vol' → IsSamePack vol vol'
-        × (IsUndone (reported result) → IsRoomed vol vol')
+        × (IsUndone (reported result) → vol' ≡ vol)
         × (IsTrue H.tells → Operates (unit_of (H.facts hall.old).units vol.unit).name
         (extend_on dsn.now) vol' (H.meaning hall.old) (H.meaning hall.new) result) }
+    ensures memory { ¬ IsErrOf result StoreErr.Memory }
     ensures base { base_of (H.facts hall.new) vols.new.items
         ≡ base_of (H.facts hall.old) vols.old.items }
     ensures geometries { geometries_of vols.new.items ≡ geometries_of vols.old.items }
@@ -333,6 +328,7 @@ fn extend_set<H: Hall>(
         IsTrue H.tells → ListsBroken (volume_in image vol.old) known.now.unread.items }
     requires settled { let image = image_in (H.meaning hall.old) (H.facts hall.old) vol.old.unit in
         IsTrue H.tells → IsSettledVtoc image }
+    requires room { HasRoom vol.old }
     requires durable { IsTrue H.tells → IsDurable (H.meaning hall.old) }
     ensures files { IsTrue H.tells → Operates (unit_of (H.facts hall.old).units vol.old.unit).name
         (extend_on dsn.now) vol.new (H.meaning hall.old) (H.meaning hall.new) result }
@@ -340,7 +336,7 @@ fn extend_set<H: Hall>(
     ensures names { OnOk result (AreByName (name_at vol.new.slots.items) vol.new.by_name.items) }
     ensures index { IsSamePack vol.old vol.new }
     ensures refused { (r : Refusal) → IsErrOf result (StoreErr.Refused r) → vol.new ≡ vol.old }
-    ensures memory { IsErrOf result StoreErr.Memory → IsRoomed vol.old vol.new }
+    ensures memory { ¬ IsErrOf result StoreErr.Memory }
     ensures faults { StoreCall (H.facts hall.old) (H.facts hall.new) result }
 {
     match slot_to_extend(vol, known, dsn) {

@@ -1,5 +1,5 @@
 //! Blocks put by a writer on one of several packs, whose set is extended where it owns no track.
-ghost use Rattle.std.specs.Prelude.{◌≡◌, ◌≤◌, length, true, false, Some, IsErrOf, IsTrue};
+ghost use Rattle.std.specs.Prelude.{◌≡◌, ◌≢◌, ◌≤◌, length, true, false, Some, IsErrOf, IsTrue};
 ghost use Rattle.hall_core.specs.Facts.{ReportedCall};
 ghost use Rattle.vol_model.specs.Calls.{sound_after};
 ghost use Rattle.vol_model.specs.Writing.{Wanted};
@@ -53,6 +53,7 @@ pub(crate) fn put_block<H: Hall>(
         ≡ base_of (H.facts hall.old) vols.old.items }
     ensures buffers { HaveBuffers vols.new.items known.new.items }
     ensures refused { (r : Refusal) → IsErrOf result (MachErr.Refused r) → r ≡ NoRoom }
+    ensures memory { IsErrOf result MachErr.Memory → ⊥ }
     ensures print { IsErrOf result MachErr.Print → ⊥ }
     ensures faults { ReportedCall (IsErrOf result MachErr.Device) (H.facts hall.old)
         (H.facts hall.new) }
@@ -99,6 +100,7 @@ fn put_behind_more<H: Hall>(
         ≡ base_of (H.facts hall.old) vols.old.items }
     ensures buffers { HaveBuffers vols.new.items known.new.items }
     ensures refused { (r : Refusal) → IsErrOf result (MachErr.Refused r) → r ≡ NoRoom }
+    ensures memory { IsErrOf result MachErr.Memory → ⊥ }
     ensures print { IsErrOf result MachErr.Print → ⊥ }
     ensures faults { ReportedCall (IsErrOf result MachErr.Device) (H.facts hall.old)
         (H.facts hall.new) }
@@ -145,13 +147,14 @@ fn answer_put(put: Result<Place, PutErr>) -> Result<Place, MachErr>
     }
 }
 
-// What it answers where the set isn't extended.
+// What it answers where the set isn't extended, which takes no memory.
 fn answer_room(error: StoreErr) -> MachErr
+    requires { error ≢ StoreErr.Memory }
     ensures { result ≡ room_answer error }
 {
     match error {
         StoreErr::Refused(_) => MachErr::Refused(Refusal::NoRoom),
-        StoreErr::Memory => MachErr::Memory,
+        StoreErr::Memory => unreachable!(),
         StoreErr::Device => MachErr::Device,
     }
 }

@@ -23,8 +23,7 @@ use crate::operations::{extend_on, operate};
 use crate::writer::Writer;
 use ebcdic_names::Dsn;
 use hall_core::{Device, Hall};
-use seq_access::{PutErr, begin, put};
-use std::alloc::Global;
+use seq_access::{PutErr, abandon, begin, put};
 use vol_model::{Mode, Op, Place, StoreErr, is_catalog};
 use vtoc_index::{Vol, find};
 
@@ -53,13 +52,13 @@ pub(crate) fn abandoned(writer: Option<Writer>) -> Option<Writer>
     ensures { result ≡ closed writer }
 {
     let mut writer = writer?;
+    abandon(writer.inner);
     writer.is_open = false;
     Some(writer)
 }
 
 // Does an operation on one of the packs, once nothing is pending.
 pub(crate) fn operate_settled<H: Hall>(
-    alloc: Global,
     hall: &mut H,
     vols: &mut Vec<Vol>,
     known: &Vec<Known>,
@@ -91,7 +90,7 @@ pub(crate) fn operate_settled<H: Hall>(
     ensures faults { StoreCall (H.facts hall.old) (H.facts hall.new) result }
 {
     match settle(hall, writer) {
-        Ok(()) => operate(alloc, hall, vols, known, op),
+        Ok(()) => operate(hall, vols, known, op),
         Err(_) => Err(StoreErr::Device),
     }
 }
@@ -99,37 +98,38 @@ pub(crate) fn operate_settled<H: Hall>(
 // Opens a writer on a data set to which blocks can be written, once nothing is pending; false where there is no such set.
 pub(crate) fn open_writer<H: Hall>(
     hall: &mut H,
-    vols: &Vec<Vol>,
+    vols: &mut Vec<Vol>,
     writer: &mut Option<Writer>,
     v: u8,
     dsn: &Dsn,
 ) -> Result<bool, Device>
-    requires indexes { AreIndexes (H.facts hall.old).units vols.now.items }
-    requires order { AreInOrder vols.now.items }
+    requires indexes { AreIndexes (H.facts hall.old).units vols.old.items }
+    requires order { AreInOrder vols.old.items }
     requires kept { IsTrue H.tells
-        → AreKept (H.meaning hall.old).state (H.facts hall.old).units vols.now.items }
+        → AreKept (H.meaning hall.old).state (H.facts hall.old).units vols.old.items }
     requires pending { IsTrue H.tells → IsPendingBy (H.meaning hall.old) (H.facts hall.old).units
-        vols.now.items writer.old }
-    requires slot { HasSlot vols.now.items writer.old }
+        vols.old.items writer.old }
+    requires slot { HasSlot vols.old.items writer.old }
     ensures files { IsTrue H.tells → Settles (H.meaning hall.old) (H.meaning hall.new) result }
     ensures opened { IfOk result (λ is. is ≡ is_open_in writer.new) }
-    ensures slot { HasSlot vols.now.items writer.new }
-    ensures pending { let shelf = shelf_under (names_of (H.facts hall.old).units (units_of vols.now.items))
+    ensures slot { HasSlot vols.old.items writer.new }
+    ensures pending { let shelf = shelf_under (names_of (H.facts hall.old).units (units_of vols.old.items))
         (H.meaning hall.old).state in
         IsTrue H.tells → begin_refusal shelf (record { v = v; dsn = dsn.now; mode = Mode.Fill }) ≡ None
-        → IsPendingBy (H.meaning hall.new) (H.facts hall.new).units vols.now.items writer.new }
-    ensures writer { let shelf = shelf_under (names_of (H.facts hall.old).units (units_of vols.now.items))
+        → IsPendingBy (H.meaning hall.new) (H.facts hall.new).units vols.old.items writer.new }
+    ensures writer { let shelf = shelf_under (names_of (H.facts hall.old).units (units_of vols.old.items))
         (H.meaning hall.old).state in
         IsTrue H.tells → begin_refusal shelf (record { v = v; dsn = dsn.now; mode = Mode.Fill }) ≡ None
         → IfOk result (λ is. is ≡ true
-        → writer_in (H.meaning hall.new).state (H.facts hall.new).units vols.now.items writer.new
+        → writer_in (H.meaning hall.new).state (H.facts hall.new).units vols.old.items writer.new
         ≡ begun (record { v = v; dsn = dsn.now; mode = Mode.Fill })) }
     ensures failed { OnErr result (writer.new ≡ writer.old) }
+    ensures indexes { vols.new.items ≡ vols.old.items }
     ensures faults { DeviceCall (H.facts hall.old) (H.facts hall.new) result }
 {
     match settle(hall, writer) {
         Ok(()) => {
-            *writer = writer_on(vols, v, dsn);
+            *writer = writer_on(hall, vols, v, dsn);
             Ok(writer.is_some())
         }
         Err(_) => Err(Device),
@@ -137,31 +137,34 @@ pub(crate) fn open_writer<H: Hall>(
 }
 
 // A writer behind the blocks of the data set of this name on the pack of this number, where there is one.
-fn writer_on(vols: &Vec<Vol>, v: u8, dsn: &Dsn) -> Option<Writer>
-    requires order { AreInOrder vols.now.items }
-    ensures slot { HasSlot vols.now.items result }
+fn writer_on<H: Hall>(hall: &mut H, vols: &mut Vec<Vol>, v: u8, dsn: &Dsn) -> Option<Writer>
+    requires order { AreInOrder vols.old.items }
+    ensures slot { HasSlot vols.old.items result }
     ensures target { IfSome result (IsFor v dsn.now) }
-    ensures begun { (files : List File) (attached : List Attached) → AreIndexes attached vols.now.items
-        → AreKept files attached vols.now.items
-        → begin_refusal (shelf_under (names_of attached (units_of vols.now.items)) files)
+    ensures begun { (files : List File) (attached : List Attached) → AreIndexes attached vols.old.items
+        → AreKept files attached vols.old.items
+        → begin_refusal (shelf_under (names_of attached (units_of vols.old.items)) files)
         (record { v = v; dsn = dsn.now; mode = Mode.Fill }) ≡ None
-        → IfSome result (IsBegunOn files attached vols.now.items) }
+        → IfSome result (IsBegunOn files attached vols.old.items) }
+    ensures hall { hall.new ≡ hall.old }
+    ensures indexes { vols.new.items ≡ vols.old.items }
 {
     let k = usize::from(v);
     if k >= vols.len() {
         return None;
     }
-    writer_at(&vols[k], v, dsn)
+    writer_at(hall, &mut vols[k], v, dsn)
 }
 
-// The same on this pack.
-fn writer_at(vol: &Vol, v: u8, dsn: &Dsn) -> Option<Writer>
-    requires names { AreByName (name_at vol.now.slots.items) vol.now.by_name.items }
-    ensures slot { IfSome result (IsInSlot vol.now) }
+// The same on this pack. Nothing is called for it, so no error comes.
+fn writer_at<H: Hall>(hall: &mut H, vol: &mut Vol, v: u8, dsn: &Dsn) -> Option<Writer>
+    requires names { AreByName (name_at vol.old.slots.items) vol.old.by_name.items }
+    ensures slot { IfSome result (IsInSlot vol.old) }
     ensures target { IfSome result (IsFor v dsn.now) }
-    ensures begun { (shelf : Shelf) (n : ℕ) (has : HasVolume shelf n vol.now)
+    ensures begun { (shelf : Shelf) (n : ℕ) (has : HasVolume shelf n vol.old)
         → begin_refusal shelf (record { v = n; dsn = dsn.now; mode = Mode.Fill }) ≡ None
-        → IfSome result (IsBegunAt has.image vol.now) }
+        → IfSome result (IsBegunAt has.image vol.old) }
+    ensures same { (hall.new ≡ hall.old) × (vol.new ≡ vol.old) }
 {
     if is_catalog(dsn) {
         return None;
@@ -169,11 +172,14 @@ fn writer_at(vol: &Vol, v: u8, dsn: &Dsn) -> Option<Writer>
     let Some(slot) = find(vol, dsn) else {
         return None;
     };
+    let Ok(inner) = begin(hall, vol, slot) else {
+        unreachable!()
+    };
     Some(Writer {
         v,
         dsn: *dsn,
         mode: Mode::Fill,
-        inner: begin(vol, slot),
+        inner,
         is_open: true,
     })
 }
@@ -256,6 +262,7 @@ pub(crate) fn make_room<H: Hall>(
         → writer_in (H.meaning hall.new).state (H.facts hall.new).units vols.new.items (Some writer.new)
         ≡ writer_in (H.meaning hall.old).state (H.facts hall.old).units vols.old.items (Some writer.old) }
     ensures same { writer.new ≡ record writer.old { inner = writer.new.inner } }
+    ensures memory { ¬ IsErrOf result StoreErr.Memory }
     ensures base { base_of (H.facts hall.new) vols.new.items
         ≡ base_of (H.facts hall.old) vols.old.items }
     ensures geometries { geometries_of vols.new.items ≡ geometries_of vols.old.items }
@@ -300,6 +307,7 @@ fn make_room_settled<H: Hall>(
         → writer_in (H.meaning hall.new).state (H.facts hall.new).units vols.new.items (Some writer.new)
         ≡ writer_in (H.meaning hall.old).state (H.facts hall.old).units vols.old.items (Some writer.old) }
     ensures same { writer.new ≡ record writer.old { inner = writer.new.inner } }
+    ensures memory { ¬ IsErrOf result StoreErr.Memory }
     ensures base { base_of (H.facts hall.new) vols.new.items
         ≡ base_of (H.facts hall.old) vols.old.items }
     ensures geometries { geometries_of vols.new.items ≡ geometries_of vols.old.items }

@@ -1,13 +1,15 @@
-use Rattle.std.proofs.Common.{◌≡◌, ◌∙◌, ℕ, List, ap, subst, sym}
-use Rattle.std.specs.Prelude.{Err, Ok, Result}
+use Rattle.std.proofs.Common.{◌≡◌, ◌≤◌, ◌+◌, ◌∙◌, ℕ, List, ap, subst, sym}
+use Rattle.std.specs.Prelude.{Err, Ok, Result, vec_len}
+use Rattle.std.specs.Vec.{vec_capacity}
 use Rattle.std.proofs.lemmas.Result.{err_from_is_err_and}
 use Rattle.hall_core.specs.Facts.{unit_of}
 use Rattle.hall_core.specs.declared.steps.Device.{Device}
 use Rattle.stop_model.proofs.MomentLemmas.{same_none}
 use Rattle.pack_spec.specs.Settled.{IsSettledVtoc}
-use Rattle.space_alloc.specs.Edits.{AreWithout}
 use Rattle.space_alloc.specs.Units.{listed}
 use Rattle.vol_model.specs.declared.answers.StoreErr.{StoreErr}
+use Rattle.vol_model.specs.declared.answers.StoreErr.TheVariants.{Refused}
+use Rattle.vol_model.specs.declared.refusals.Refusal.{Refusal}
 use Rattle.vol_model.specs.Shelf.{allocate_on}
 use Rattle.vtoc_index.specs.Index.{IsMounted}
 use Rattle.vtoc_index.specs.Names.{AreByName, name_at}
@@ -15,12 +17,13 @@ use Rattle.vtoc_index.specs.declared.vol.Vol.{Vol}
 use Rattle.dadsm_ops.specs.Allocating.{HasPlan, IsAbsent}
 use Rattle.dadsm_ops.specs.Operations.{DoesOperation, Operates, image_named}
 use Rattle.dadsm_ops.proofs.NewIndex.{order_changed}
-use Rattle.dadsm_ops.proofs.PlannedOperates.{operates_failed, operates_idle, operates_memory, operates_planned}
+use Rattle.dadsm_ops.proofs.Operating.{operates_none}
+use Rattle.dadsm_ops.proofs.PlannedOperates.{operates_failed, operates_memory, operates_planned}
 use Rattle.dadsm_ops.proofs.Reordering.{mounted_reordered, unit_reordered}
 use Rattle.dadsm_ops.proofs.allocating.allocate.Goals as goal
 
-pub returns-in_err-plan-clause-files : goal.returns-in_err-plan-clause-files
-returns-in_err-plan-clause-files g c told =
+pub returns-in_err-extents-clause-files : goal.returns-in_err-extents-clause-files
+returns-in_err-extents-clause-files g c told =
     let hall = c.args.hall.now in
     let v = c.args.vol.now in
     let m = g.H.Hall.meaning hall in
@@ -28,10 +31,10 @@ returns-in_err-plan-clause-files g c told =
     let operation = allocate_on c.args.dsn.now c.args.attr.now c.args.request.now c.args.dir in
     let mounted = c.requires.mounted told in
     let p = err_from_is_err_and c.from_residual.result c.from_residual.ensures.1 in
-    let given : c.from_residual.result ≡ Err c.in_err-plan.field-0.0 = p.1 ∙ ap (λ (e : StoreErr). Err e) p.2 in
-    subst (λ (r : Result (Unit {0}) StoreErr). Operates name operation v m m r) (sym given)
-    (operates_idle name operation v m _ c.in_err-plan.field-0.0 mounted.volume (λ r is. c.in_err-plan.ensures.refused r (ap (λ (e : StoreErr). Err e) is) _ _ mounted mounted.volume)
-    (λ is. c.in_err-plan.ensures.device (ap (λ (e : StoreErr). Err e) is)) (same_none m (g.met.H.Hall.counts_now hall)))
+    let r : Refusal = c.in_err-extents.field-0.0 in
+    let given : c.from_residual.result ≡ Err (Refused r) = p.1 ∙ ap (λ (e : StoreErr). Err e) p.2 in
+    subst (λ (x : Result (Unit {0}) StoreErr). Operates name operation v m m x) (sym given)
+    (operates_none name operation v m _ r mounted.volume (c.in_err-extents.ensures.refused _ _ mounted mounted.volume) (same_none m (g.met.H.Hall.counts_now hall)))
 
 pub returns-in_default-clause-files : goal.returns-in_default-clause-files
 returns-in_default-clause-files g c told =
@@ -58,17 +61,17 @@ carry_out-requires-clause-names g c =
     (subst (AreByName (name_at v0.slots.items)) (sym c.reserve_name.ensures.items) c.requires.names)
 
 pub carry_out-requires-clause-absent : goal.carry_out-requires-clause-absent
-carry_out-requires-clause-absent g c = subst (λ (x : Vol). IsAbsent c.args.dsn.now.bytes x.slots.items) (sym c.reserve_name.ensures.others) c.in_ok-plan.ensures.absent
+carry_out-requires-clause-absent g c = subst (λ (x : Vol). IsAbsent c.args.dsn.now.bytes x.slots.items) (sym c.reserve_name.ensures.others) c.in_ok-extents.ensures.absent
 
-pub carry_out-requires-clause-free : goal.carry_out-requires-clause-free
-carry_out-requires-clause-free g c = subst (λ (x : Vol). AreWithout x.free.items (listed c.in_ok-plan.plan.extents) c.in_ok-plan.plan.free.items) (sym c.reserve_name.ensures.others) c.in_ok-plan.ensures.free
+pub carry_out-requires-clause-room : goal.carry_out-requires-clause-room
+carry_out-requires-clause-room g c = subst (λ (x : Vol). vec_len x.free + 6 ≤ vec_capacity x.free) (sym c.reserve_name.ensures.others) c.requires.room
 
 pub carry_out-requires-clause-plan : goal.carry_out-requires-clause-plan
 carry_out-requires-clause-plan g c told =
     let m = g.H.Hall.meaning c.args.hall.now in
     let units = (g.H.Hall.facts c.args.hall.now).units in
-    subst (λ (x : Vol). HasPlan (image_named m.state (unit_of units x.unit).name) c.args.dsn.now c.args.attr.now c.args.request.now (listed c.in_ok-plan.plan.extents)) (sym c.reserve_name.ensures.others)
-    (c.in_ok-plan.ensures.plan _ (c.requires.mounted told))
+    subst (λ (x : Vol). HasPlan (image_named m.state (unit_of units x.unit).name) c.args.dsn.now c.args.attr.now c.args.request.now (listed c.in_ok-extents.extents)) (sym c.reserve_name.ensures.others)
+    (c.in_ok-extents.ensures.plan _ (c.requires.mounted told))
 
 pub carry_out-requires-clause-mounted : goal.carry_out-requires-clause-mounted
 carry_out-requires-clause-mounted g c told =
@@ -98,7 +101,7 @@ returns-in-Ok-carry_out-clause-files g c told =
     let name : List ℕ = (unit_of units v.unit).name in
     let by : (unit_of units c.reserve_name.new.vol.unit).name ≡ name = ap (λ (x : Vol). (unit_of units x.unit).name) c.reserve_name.ensures.others in
     let does = subst (λ (s : List ℕ). DoesOperation {T = Unit {0}} {E = Device} s (allocate_on dsn attr q 0) w m n (Ok tt)) by (c.in-Ok-carry_out.ensures.files told) in
-    operates_planned name dsn attr q c.args.dir c.requires.dir w m n (listed c.in_ok-plan.plan.extents) (c.in_ok-plan.ensures.plan _ (c.requires.mounted told)) c.requires.catalog tt does
+    operates_planned name dsn attr q c.args.dir c.requires.dir w m n (listed c.in_ok-extents.extents) (c.in_ok-extents.ensures.plan _ (c.requires.mounted told)) c.requires.catalog tt does
 
 pub returns-in-Err-clause-files : goal.returns-in-Err-clause-files
 returns-in-Err-clause-files g c told =
@@ -114,7 +117,7 @@ returns-in-Err-clause-files g c told =
     let name : List ℕ = (unit_of units v.unit).name in
     let by : (unit_of units c.reserve_name.new.vol.unit).name ≡ name = ap (λ (x : Vol). (unit_of units x.unit).name) c.reserve_name.ensures.others in
     let does = subst (λ (s : List ℕ). DoesOperation {T = Unit {0}} {E = Device} s (allocate_on dsn attr q 0) w m n c.carry_out.result) by (c.carry_out.ensures.files told) in
-    operates_failed name dsn attr q c.args.dir c.requires.dir w m n (listed c.in_ok-plan.plan.extents) (c.in_ok-plan.ensures.plan _ (c.requires.mounted told)) c.requires.catalog does
+    operates_failed name dsn attr q c.args.dir c.requires.dir w m n (listed c.in_ok-extents.extents) (c.in_ok-extents.ensures.plan _ (c.requires.mounted told)) c.requires.catalog does
 
 pub returns-in-Ok-carry_out-clause-index : goal.returns-in-Ok-carry_out-clause-index
 returns-in-Ok-carry_out-clause-index g c =
@@ -125,3 +128,14 @@ pub returns-in-Err-clause-index : goal.returns-in-Err-clause-index
 returns-in-Err-clause-index g c =
     let w = c.carry_out.new.vol in
     c.carry_out.ensures.index ∙ ap (λ (x : Vol). record x { slots = w.slots; free = w.free; by_name = w.by_name; buf = w.buf }) c.reserve_name.ensures.others
+
+-- ---- the room of the list of free runs
+
+pub returns-in_default-clause-room : goal.returns-in_default-clause-room
+returns-in_default-clause-room g c = ap (λ (x : Vol). vec_capacity x.free) c.reserve_name.ensures.others
+
+pub returns-in-Ok-carry_out-clause-room : goal.returns-in-Ok-carry_out-clause-room
+returns-in-Ok-carry_out-clause-room g c = c.carry_out.ensures.room ∙ ap (λ (x : Vol). vec_capacity x.free) c.reserve_name.ensures.others
+
+pub returns-in-Err-clause-room : goal.returns-in-Err-clause-room
+returns-in-Err-clause-room g c = c.carry_out.ensures.room ∙ ap (λ (x : Vol). vec_capacity x.free) c.reserve_name.ensures.others

@@ -4,7 +4,6 @@ use Rattle.std.specs.Vec.{vec_capacity}
 use Rattle.dscb_codec.specs.declared.Dscb.TheVariants as formats
 use Rattle.hall_core.specs.Facts.{unit_of}
 use Rattle.hall_core.specs.declared.steps.Device.{Device}
-use Rattle.space_alloc.specs.Edits.{AreWithout}
 use Rattle.space_alloc.specs.Units.{listed}
 use Rattle.pack_spec.specs.Settled.{IsMarked}
 use Rattle.pack_spec.specs.Slots.{slots_of_vtoc}
@@ -17,7 +16,7 @@ use Rattle.free_rebuild.proofs.NameLemmas.{mark_names, names_kept}
 use Rattle.free_rebuild.proofs.RunCounts.{low_tracks}
 use Rattle.dadsm_ops.specs.Allocating.{Decides, HasPlan, HasFurtherIfMany, extent_type, open_slots, own_slots}
 use Rattle.dadsm_ops.specs.Operations.{image_named}
-use Rattle.dadsm_ops.proofs.NewIndex.{slots_changed, vtoc_then}
+use Rattle.dadsm_ops.proofs.NewIndex.{room_kept, room_then, slots_changed, vtoc_then}
 use Rattle.dadsm_ops.proofs.NewNames.{absent_same}
 use Rattle.dadsm_ops.proofs.NewSetCalls.{decided_marked, name_kept, open_marked, plan_room, still_marked, still_planned}
 use Rattle.dadsm_ops.proofs.UpdateEnds.{ends, ends_deciding, ends_marking, ends_writing}
@@ -135,7 +134,7 @@ put_further-requires-clause-slots g c told =
     let f0 = g.H.Hall.facts c.args.hall.now in
     let m0 = g.H.Hall.meaning c.args.hall.now in
     let v1 = c.mark.new.vol in
-    let runs = listed c.args.plan.extents in
+    let runs = listed c.args.extents.now in
     let room = plan_room (image_named m0.state (unit_of f0.units v0.unit).name) v0 c.args.dsn.now c.args.attr.now c.args.request.now runs (c.requires.mounted told) (low_tracks f0.units v0 c.requires.unit) (c.requires.settled told) (c.requires.plan told) in
     let same : open_slots v1.slots.items ≡ open_slots v0.slots.items = ap open_slots c.in_ok-mark.ensures.index.items ∙ open_marked v0.slots.items (with_bit true (slice_index_or v0.slots.items 0 formats.F0)) in
     subst (λ (n : ℕ). own_slots runs ≤ n) (sym same) room
@@ -174,17 +173,13 @@ put_set-requires-clause-absent g c =
     let marked = c.mark.new.vol.slots.items in
     absent_same name marked c.put_further.new.vol.slots.items c.in_ok-pointer.ensures.names (absent_same name before marked (mark_names before marked c.in_ok-mark.ensures.index.items) c.requires.absent)
 
-pub put_set-requires-clause-room : goal.put_set-requires-clause-room
-put_set-requires-clause-room g c =
+pub put_set-requires-clause-name_room : goal.put_set-requires-clause-name_room
+put_set-requires-clause-name_room g c =
     subst (λ (x : Vol). vec_len x.by_name < vec_capacity x.by_name) (sym c.put_further.ensures.others)
-    (subst (λ (x : Vol). vec_len x.by_name < vec_capacity x.by_name) (sym c.mark.ensures.others) c.requires.room)
+    (subst (λ (x : Vol). vec_len x.by_name < vec_capacity x.by_name) (sym c.mark.ensures.others) c.requires.name_room)
 
-pub put_set-requires-clause-free : goal.put_set-requires-clause-free
-put_set-requires-clause-free g c =
-    let runs = listed c.args.plan.extents in
-    let free = c.args.plan.free.items in
-    subst (λ (x : Vol). AreWithout x.free.items runs free) (sym c.put_further.ensures.others)
-    (subst (λ (x : Vol). AreWithout x.free.items runs free) (sym c.mark.ensures.others) c.requires.free)
+pub put_set-requires-clause-room : goal.put_set-requires-clause-room
+put_set-requires-clause-room g c = room_then c.mark.new.vol c.put_further.new.vol c.put_further.ensures.others (room_then c.args.vol.now c.mark.new.vol c.mark.ensures.others c.requires.room)
 
 pub put_set-requires-clause-plan : goal.put_set-requires-clause-plan
 put_set-requires-clause-plan g c told =
@@ -201,7 +196,7 @@ put_set-requires-clause-plan g c told =
     let dsn = c.args.dsn.now in
     let attr = c.args.attr.now in
     let q = c.args.request.now in
-    let runs = listed c.args.plan.extents in
+    let runs = listed c.args.extents.now in
     let by1 = name_kept f0.units f1.units v0 v1 c.in_ok-mark.ensures.faults.units (slots_changed v0 v1 c.mark.ensures.others) in
     let by2 = name_kept f1.units f2.units v1 v2 c.in_ok-pointer.ensures.faults.units (slots_changed v1 v2 c.put_further.ensures.others) ∙ by1 in
     let more = subst (λ (n : List ℕ). Marks {T = List ℕ} {E = Device} n v2 m1 m2 (Ok c.in_ok-pointer.pointer)) by1 (c.in_ok-pointer.ensures.files told) in
@@ -215,7 +210,7 @@ put_set-requires-clause-third g c told =
     let f2 = g.H.Hall.facts c.put_further.new.hall in
     let m2 = g.H.Hall.meaning c.put_further.new.hall in
     let kind = extent_type c.args.request.now.unit in
-    let runs = listed c.args.plan.extents in
+    let runs = listed c.args.extents.now in
     subst (λ (x : Vol). HasFurtherIfMany (slots_of_vtoc (image_named m2.state (unit_of f2.units x.unit).name) x.geometry x.vtoc) x.geometry kind runs c.in_ok-pointer.pointer) (sym c.put_further.ensures.others)
     (c.in_ok-pointer.ensures.third told)
 
@@ -271,3 +266,18 @@ conclude-requires-clause-durable g c told = (c.in_ok-put_set.ensures.files told)
 
 pub returns-clause-names : goal.returns-clause-names
 returns-clause-names g c = c.conclude.ensures.names c.in_ok-put_set.ensures.names
+
+-- ---- the room of the list of free runs
+
+pub returns-in_err-mark-clause-room : goal.returns-in_err-mark-clause-room
+returns-in_err-mark-clause-room g c = room_kept c.args.vol.now c.mark.new.vol c.mark.ensures.others
+
+pub returns-in_err-pointer-clause-room : goal.returns-in_err-pointer-clause-room
+returns-in_err-pointer-clause-room g c = room_kept c.mark.new.vol c.put_further.new.vol c.put_further.ensures.others ∙ room_kept c.args.vol.now c.mark.new.vol c.mark.ensures.others
+
+pub returns-in_err-put_set-clause-room : goal.returns-in_err-put_set-clause-room
+returns-in_err-put_set-clause-room g c = c.put_set.ensures.room ∙ room_kept c.mark.new.vol c.put_further.new.vol c.put_further.ensures.others ∙ room_kept c.args.vol.now c.mark.new.vol c.mark.ensures.others
+
+pub returns-clause-room : goal.returns-clause-room
+returns-clause-room g c =
+    room_kept c.put_set.new.vol c.conclude.new.vol c.conclude.ensures.others ∙ c.put_set.ensures.room ∙ room_kept c.mark.new.vol c.put_further.new.vol c.put_further.ensures.others ∙ room_kept c.args.vol.now c.mark.new.vol c.mark.ensures.others

@@ -1,4 +1,4 @@
-use Rattle.std.proofs.Common.{◌<◌, ◌^◌, ◌∙◌, ℕ, List, subst, sym}
+use Rattle.std.proofs.Common.{◌<◌, ◌^◌, ◌∙◌, ℕ, List, ap, subst, sym}
 use Rattle.std.specs.Prelude.{Err, Ok, vec_len}
 use Rattle.std.specs.Vec.{vec_capacity}
 use Rattle.dscb_codec.specs.declared.Dscb.TheVariants as formats
@@ -16,7 +16,7 @@ use Rattle.dadsm_ops.specs.Allocating.{extent_type}
 use Rattle.dadsm_ops.specs.Operations.{image_named}
 use Rattle.dadsm_ops.specs.Through.{PutsThrough}
 use Rattle.dadsm_ops.proofs.NewAttributes.{asked, attr_asked}
-use Rattle.dadsm_ops.proofs.NewIndex.{both_changed, index_with, slots_changed, unit_with}
+use Rattle.dadsm_ops.proofs.NewIndex.{both_changed, index_with, room_kept, room_then, slots_changed, unit_with}
 use Rattle.dadsm_ops.proofs.NewSetCalls.{decides_not, entered_changes, found_open, put_decides, set_enters, set_is, set_named}
 use Rattle.dadsm_ops.proofs.allocating.put_set.Goals as goal
 
@@ -37,7 +37,13 @@ put_through-requires-clause-index g c told =
     subst (λ h. IsIndexOf (image_named (g.H.Hall.meaning h).state (unit_of (g.H.Hall.facts h).units v.unit).name) v) (sym c.in_ok-slot.ensures.hall) (c.requires.mounted told).index
 
 pub enter_name-requires : goal.enter_name-requires
-enter_name-requires g c = record { room = subst (λ (x : Vol). vec_len x.by_name < vec_capacity x.by_name) (sym c.put_through.ensures.others) c.requires.room }
+enter_name-requires g c = record {
+  room = subst (λ (x : Vol). vec_len x.by_name < vec_capacity x.by_name) (sym c.take_runs.ensures.others)
+      (subst (λ (x : Vol). vec_len x.by_name < vec_capacity x.by_name) (sym c.put_through.ensures.others) c.requires.name_room);
+}
+
+pub take_runs-requires-clause-room : goal.take_runs-requires-clause-room
+take_runs-requires-clause-room g c = room_then c.args.vol.now c.put_through.new.vol c.put_through.ensures.others c.requires.room
 
 pub returns-in_err-put_through-clause-files : goal.returns-in_err-put_through-clause-files
 returns-in_err-put_through-clause-files g c told =
@@ -45,7 +51,7 @@ returns-in_err-put_through-clause-files g c told =
     let dsn = c.args.dsn.now in
     let attr = c.args.attr.now in
     let q = c.args.request.now in
-    let runs = listed c.args.plan.extents in
+    let runs = listed c.args.extents.now in
     let m = g.H.Hall.meaning c.args.hall.now in
     let units = (g.H.Hall.facts c.args.hall.now).units in
     let name : List ℕ = (unit_of units v.unit).name in
@@ -66,7 +72,7 @@ returns-clause-files g c told =
     let dsn = c.args.dsn.now in
     let attr = c.args.attr.now in
     let q = c.args.request.now in
-    let runs = listed c.args.plan.extents in
+    let runs = listed c.args.extents.now in
     let m = g.H.Hall.meaning c.args.hall.now in
     let units = (g.H.Hall.facts c.args.hall.now).units in
     let name : List ℕ = (unit_of units v.unit).name in
@@ -78,23 +84,22 @@ returns-clause-files g c told =
     let attrs = c.new_attr.ensures dsn.bytes c.requires.catalog ∙ attr_asked dsn.bytes attr q c.requires.catalog in
     let is = set_is f dsn.bytes v.serial.bytes _ v.geometry _ runs c.args.pointer c.new_f1-set.ensures (asked attr q) (extent_type q.unit) attrs c.extent_type.ensures in
     let put = subst (λ x. PutsThrough {T = Unit {0}} {E = Device} (unit_of (g.H.Hall.facts x).units v.unit).name v slot (formats.F1 f) v' (g.H.Hall.meaning x) n (Ok tt)) c.in_ok-slot.ensures.hall (c.in_ok-put_through.ensures.files told) in
-    let freed : Vol = record v' { free = c.args.plan.free } in
-    let last = entered_changes v' freed w c.enter_name.ensures.others in
-    let without = subst (λ (x : Vol). AreWithout v.free.items runs x.free.items) (sym c.enter_name.ensures.others) c.requires.free in
+    let freed = c.take_runs.new.vol in
+    let last = entered_changes v' freed w c.take_runs.ensures.others c.enter_name.ensures.others in
+    let taken = subst (λ (x : Vol). AreWithout x.free.items runs freed.free.items) c.put_through.ensures.others c.take_runs.ensures.runs in
+    let without = subst (λ (x : Vol). AreWithout v.free.items runs x.free.items) (sym c.enter_name.ensures.others) taken in
     put_decides name v v' slot m n units c.requires.unit (c.requires.mounted told) c.in_ok-slot.ensures.found (c.requires.marked told) dsn attr q runs c.args.pointer c.requires.catalog c.requires.quantities (c.requires.third told) (c.requires.plan told) f is
     (Ok tt) w (both_changed v v' w c.put_through.ensures.others last) (index_with v' w last (image_named n.state name)) without put
 
 pub returns-clause-unit : goal.returns-clause-unit
 returns-clause-unit g c =
-    let v = c.args.vol.now in
     let v' = c.put_through.new.vol in
     let w = c.enter_name.new.vol in
-    let runs = listed c.args.plan.extents in
+    let runs = listed c.args.extents.now in
     let units = (g.H.Hall.facts c.put_through.new.hall).units in
-    let freed : Vol = record v' { free = c.args.plan.free } in
-    let without = subst (λ (x : Vol). AreWithout v.free.items runs x.free.items) (sym c.enter_name.ensures.others) c.requires.free in
-    unit_with v' w (entered_changes v' freed w c.enter_name.ensures.others) units runs c.put_through.ensures.unit
-    (subst (λ (x : Vol). AreWithout x.free.items runs w.free.items) (sym c.put_through.ensures.others) without)
+    let freed = c.take_runs.new.vol in
+    let without = subst (λ (x : Vol). AreWithout v'.free.items runs x.free.items) (sym c.enter_name.ensures.others) c.take_runs.ensures.runs in
+    unit_with v' w (entered_changes v' freed w c.take_runs.ensures.others c.enter_name.ensures.others) units runs c.put_through.ensures.unit without
 
 pub returns-clause-names : goal.returns-clause-names
 returns-clause-names g c =
@@ -102,17 +107,27 @@ returns-clause-names g c =
     let slot = c.in_ok-slot.slot in
     let f : F1 = c.new_f1-set.result in
     let v' = c.put_through.new.vol in
-    let named = set_named f c.args.dsn.now.bytes v.serial.bytes _ v.geometry _ (listed c.args.plan.extents) c.args.pointer c.new_f1-set.ensures in
-    let ordered = subst (λ (x : Vol). AreByName (name_at v.slots.items) x.by_name.items) (sym c.put_through.ensures.others) c.requires.names in
-    c.enter_name.ensures.names v.slots.items ordered (set_enters v slot f c.args.dsn.now.bytes v'.slots.items (found_open v slot c.in_ok-slot.ensures.found) named c.requires.absent c.in_ok-put_through.ensures.index.items)
+    let named = set_named f c.args.dsn.now.bytes v.serial.bytes _ v.geometry _ (listed c.args.extents.now) c.args.pointer c.new_f1-set.ensures in
+    let freed = c.take_runs.new.vol in
+    let put = subst (λ (x : Vol). AreByName (name_at v.slots.items) x.by_name.items) (sym c.put_through.ensures.others) c.requires.names in
+    let ordered = subst (λ (x : Vol). AreByName (name_at v.slots.items) x.by_name.items) (sym c.take_runs.ensures.others) put in
+    let items = ap (λ (x : Vol). x.slots.items) c.take_runs.ensures.others ∙ c.in_ok-put_through.ensures.index.items in
+    c.enter_name.ensures.names v.slots.items ordered (set_enters v slot f c.args.dsn.now.bytes freed.slots.items (found_open v slot c.in_ok-slot.ensures.found) named c.requires.absent items)
 
 pub returns-clause-index : goal.returns-clause-index
 returns-clause-index g c =
     let v = c.args.vol.now in
     let v' = c.put_through.new.vol in
     let w = c.enter_name.new.vol in
-    let freed : Vol = record v' { free = c.args.plan.free } in
-    both_changed v v' w c.put_through.ensures.others (entered_changes v' freed w c.enter_name.ensures.others)
+    let freed = c.take_runs.new.vol in
+    both_changed v v' w c.put_through.ensures.others (entered_changes v' freed w c.take_runs.ensures.others c.enter_name.ensures.others)
 
 pub returns-in_err-put_through-clause-index : goal.returns-in_err-put_through-clause-index
 returns-in_err-put_through-clause-index g c = slots_changed c.args.vol.now c.put_through.new.vol c.put_through.ensures.others
+
+pub returns-clause-room : goal.returns-clause-room
+returns-clause-room g c =
+    ap (λ (x : Vol). vec_capacity x.free) c.enter_name.ensures.others ∙ c.take_runs.ensures.room ∙ room_kept c.args.vol.now c.put_through.new.vol c.put_through.ensures.others
+
+pub returns-in_err-put_through-clause-room : goal.returns-in_err-put_through-clause-room
+returns-in_err-put_through-clause-room g c = room_kept c.args.vol.now c.put_through.new.vol c.put_through.ensures.others

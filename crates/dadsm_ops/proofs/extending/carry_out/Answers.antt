@@ -6,7 +6,6 @@ use Rattle.hall_core.specs.declared.steps.Device.{Device}
 use Rattle.pack_spec.specs.Settled.{IsMarked}
 use Rattle.pack_spec.specs.Slots.{slots_of_vtoc}
 use Rattle.pack_spec.specs.Volume.{attr_of}
-use Rattle.space_alloc.specs.Edits.{AreWithout}
 use Rattle.space_alloc.specs.Units.{listed}
 use Rattle.vol_model.specs.Shelf.{extend_on}
 use Rattle.vtoc_index.specs.Bits.{with_bit}
@@ -21,7 +20,7 @@ use Rattle.dadsm_ops.specs.Operations.{image_named}
 use Rattle.dadsm_ops.proofs.ExtendedNames.{set_marked}
 use Rattle.dadsm_ops.proofs.ExtendedIndex.{changes_then, only_slots, same_vtoc}
 use Rattle.dadsm_ops.proofs.ExtensionPlans.{further_room, readable_stays, still_extended}
-use Rattle.dadsm_ops.proofs.NewIndex.{slots_changed, vtoc_then}
+use Rattle.dadsm_ops.proofs.NewIndex.{room_kept, room_then, slots_changed, vtoc_then}
 use Rattle.dadsm_ops.proofs.NewSetCalls.{decided_marked, name_kept, open_marked, still_marked}
 use Rattle.dadsm_ops.proofs.UpdateEnds.{ends, ends_deciding, ends_marking, ends_writing}
 use Rattle.dadsm_ops.proofs.extending.carry_out.Goals as goal
@@ -140,7 +139,7 @@ put_added-requires-clause-slots g c told =
     let f0 = g.H.Hall.facts c.args.hall.now in
     let m0 = g.H.Hall.meaning c.args.hall.now in
     let v1 = c.mark.new.vol in
-    let runs = listed c.args.plan.extents in
+    let runs = listed c.args.extents.now in
     let room = further_room (image_named m0.state (unit_of f0.units v0.unit).name) v0 (c.requires.mounted told) c.args.slot c.args.set.now c.requires.set (low_tracks f0.units v0 c.requires.unit) (c.requires.settled told) runs (c.requires.plan told) in
     let same : open_slots v1.slots.items ≡ open_slots v0.slots.items = ap open_slots c.in_ok-mark.ensures.index.items ∙ open_marked v0.slots.items (with_bit true (slice_index_or v0.slots.items 0 formats.F0)) in
     subst (λ (n : ℕ). further_slots c.args.set.now.extents runs ≤ n) (sym same) room
@@ -172,12 +171,8 @@ pub put_extended-requires-clause-names : goal.put_extended-requires-clause-names
 put_extended-requires-clause-names g c =
     names_kept c.mark.new.vol c.put_added.new.vol c.put_added.ensures.others c.in_ok-pointer.ensures.names (c.in_ok-mark.ensures.names c.requires.names)
 
-pub put_extended-requires-clause-free : goal.put_extended-requires-clause-free
-put_extended-requires-clause-free g c =
-    let runs = listed c.args.plan.extents in
-    let free = c.args.plan.free.items in
-    subst (λ (x : Vol). AreWithout x.free.items runs free) (sym c.put_added.ensures.others)
-    (subst (λ (x : Vol). AreWithout x.free.items runs free) (sym c.mark.ensures.others) c.requires.free)
+pub put_extended-requires-clause-room : goal.put_extended-requires-clause-room
+put_extended-requires-clause-room g c = room_then c.mark.new.vol c.put_added.new.vol c.put_added.ensures.others (room_then c.args.vol.now c.mark.new.vol c.mark.ensures.others c.requires.room)
 
 pub put_extended-requires-clause-plan : goal.put_extended-requires-clause-plan
 put_extended-requires-clause-plan g c told =
@@ -191,7 +186,7 @@ put_extended-requires-clause-plan g c told =
     let v2 = c.put_added.new.vol in
     let f2 = g.H.Hall.facts c.put_added.new.hall in
     let m2 = g.H.Hall.meaning c.put_added.new.hall in
-    let runs = listed c.args.plan.extents in
+    let runs = listed c.args.extents.now in
     let by1 = name_kept f0.units f1.units v0 v1 c.in_ok-mark.ensures.faults.units (slots_changed v0 v1 c.mark.ensures.others) in
     let by2 = name_kept f1.units f2.units v1 v2 c.in_ok-pointer.ensures.faults.units (slots_changed v1 v2 c.put_added.ensures.others) ∙ by1 in
     let more = subst (λ (n : List ℕ). Marks {T = List ℕ} {E = Device} n v2 m1 m2 (Ok c.in_ok-pointer.pointer)) by1 (c.in_ok-pointer.ensures.files told) in
@@ -221,7 +216,7 @@ put_extended-requires-clause-added g c told =
     let f2 = g.H.Hall.facts c.put_added.new.hall in
     let m2 = g.H.Hall.meaning c.put_added.new.hall in
     let set = c.args.set.now in
-    subst (λ (x : Vol). HoldAdded (slots_of_vtoc (image_named m2.state (unit_of f2.units x.unit).name) x.geometry x.vtoc) x.geometry (added_type (attr_of set)) c.args.slot set (listed c.args.plan.extents) c.in_ok-pointer.pointer) (sym c.put_added.ensures.others)
+    subst (λ (x : Vol). HoldAdded (slots_of_vtoc (image_named m2.state (unit_of f2.units x.unit).name) x.geometry x.vtoc) x.geometry (added_type (attr_of set)) c.args.slot set (listed c.args.extents.now) c.in_ok-pointer.pointer) (sym c.put_added.ensures.others)
     (c.in_ok-pointer.ensures.added told)
 
 pub put_extended-requires-clause-mounted : goal.put_extended-requires-clause-mounted
@@ -276,3 +271,18 @@ conclude-requires-clause-durable g c told = (c.in_ok-put_extended.ensures.files 
 
 pub returns-clause-names : goal.returns-clause-names
 returns-clause-names g c = c.conclude.ensures.names c.in_ok-put_extended.ensures.names
+
+-- ---- the room of the list of free runs
+
+pub returns-in_err-mark-clause-room : goal.returns-in_err-mark-clause-room
+returns-in_err-mark-clause-room g c = room_kept c.args.vol.now c.mark.new.vol c.mark.ensures.others
+
+pub returns-in_err-pointer-clause-room : goal.returns-in_err-pointer-clause-room
+returns-in_err-pointer-clause-room g c = room_kept c.mark.new.vol c.put_added.new.vol c.put_added.ensures.others ∙ room_kept c.args.vol.now c.mark.new.vol c.mark.ensures.others
+
+pub returns-in_err-put_extended-clause-room : goal.returns-in_err-put_extended-clause-room
+returns-in_err-put_extended-clause-room g c = c.put_extended.ensures.room ∙ room_kept c.mark.new.vol c.put_added.new.vol c.put_added.ensures.others ∙ room_kept c.args.vol.now c.mark.new.vol c.mark.ensures.others
+
+pub returns-clause-room : goal.returns-clause-room
+returns-clause-room g c =
+    room_kept c.put_extended.new.vol c.conclude.new.vol c.conclude.ensures.others ∙ c.put_extended.ensures.room ∙ room_kept c.mark.new.vol c.put_added.new.vol c.put_added.ensures.others ∙ room_kept c.args.vol.now c.mark.new.vol c.mark.ensures.others

@@ -5,17 +5,19 @@ use Rattle.hall_core.specs.Facts.{unit_of}
 use Rattle.stop_model.proofs.MomentLemmas.{same_none}
 use Rattle.space_alloc.specs.Units.{listed}
 use Rattle.vol_model.specs.declared.answers.StoreErr.{StoreErr}
+use Rattle.vol_model.specs.declared.answers.StoreErr.TheVariants.{Refused}
+use Rattle.vol_model.specs.declared.refusals.Refusal.{Refusal}
 use Rattle.vol_model.specs.Shelf.{extend_on}
 use Rattle.dadsm_ops.specs.Operations.{Operates, image_named}
 use Rattle.dadsm_ops.proofs.ExtendedNames.{dsn_at, named_at, plain_at}
 use Rattle.dadsm_ops.proofs.ExtendedOperates.{operates_extended, operates_unextended, refused_at}
-use Rattle.dadsm_ops.proofs.PlannedOperates.{operates_idle}
+use Rattle.dadsm_ops.proofs.Operating.{operates_none}
 use Rattle.dadsm_ops.proofs.extending.extend.Goals as goal
 
 -- ---- nothing is begun
 
-pub returns-in_err-plan-clause-files : goal.returns-in_err-plan-clause-files
-returns-in_err-plan-clause-files g c dsn is told =
+pub returns-in_err-extents-clause-files : goal.returns-in_err-extents-clause-files
+returns-in_err-extents-clause-files g c dsn is told =
     let hall = c.args.hall.now in
     let v = c.args.vol.now in
     let m = g.H.Hall.meaning hall in
@@ -24,17 +26,17 @@ returns-in_err-plan-clause-files g c dsn is told =
     let set = c.set_at-set.result in
     let there = c.set_at-set.ensures.set in
     let p = err_from_is_err_and c.from_residual.result c.from_residual.ensures.1 in
-    let given : c.from_residual.result ≡ Err c.in_err-plan.field-0.0 = p.1 ∙ ap (λ (e : StoreErr). Err e) p.2 in
-    subst (λ (r : Result (Unit {0}) StoreErr). Operates name (extend_on dsn) v m m r) (sym given)
-    (operates_idle name (extend_on dsn) v m _ c.in_err-plan.field-0.0 mounted.volume
-    (λ r refused. refused_at v c.args.slot set there (plain_at v.slots.items c.args.slot c.requires.set set there) dsn (dsn_at v.slots.items c.args.slot set there dsn is) r (c.in_err-plan.ensures.refused r (ap (λ (e : StoreErr). Err e) refused)) (image_named m.state name) mounted
-    (c.requires.body told set.name (named_at v.slots.items c.args.slot set there)))
-    (λ failed. c.in_err-plan.ensures.device (ap (λ (e : StoreErr). Err e) failed)) (same_none m (g.met.H.Hall.counts_now hall)))
+    let r : Refusal = c.in_err-extents.field-0.0 in
+    let given : c.from_residual.result ≡ Err (Refused r) = p.1 ∙ ap (λ (e : StoreErr). Err e) p.2 in
+    let is_refused = refused_at v c.args.slot set there (plain_at v.slots.items c.args.slot c.requires.set set there) dsn (dsn_at v.slots.items c.args.slot set there dsn is) r c.in_err-extents.ensures.refused (image_named m.state name) mounted
+    (c.requires.body told set.name (named_at v.slots.items c.args.slot set there)) in
+    subst (λ (x : Result (Unit {0}) StoreErr). Operates name (extend_on dsn) v m m x) (sym given)
+    (operates_none name (extend_on dsn) v m _ r mounted.volume is_refused (same_none m (g.met.H.Hall.counts_now hall)))
 
 -- ---- what is planned is carried out
 
 pub carry_out-requires-clause-plan : goal.carry_out-requires-clause-plan
-carry_out-requires-clause-plan g c told = c.in_ok-plan.ensures.plan _ c.args.slot (c.requires.mounted told) c.set_at-set.ensures.set
+carry_out-requires-clause-plan g c told = c.in_ok-extents.ensures.plan _ c.args.slot (c.requires.mounted told) c.set_at-set.ensures.set
 
 pub returns-in-Ok-clause-files : goal.returns-in-Ok-clause-files
 returns-in-Ok-clause-files g c dsn is told =
@@ -49,7 +51,7 @@ returns-in-Ok-clause-files g c dsn is told =
     let mounted = c.requires.mounted told in
     let named = dsn_at v.slots.items c.args.slot set there dsn is in
     operates_extended name v c.carry_out.new.vol m n mounted c.args.slot set there (plain_at v.slots.items c.args.slot c.requires.set set there) (c.requires.body told set.name (named_at v.slots.items c.args.slot set there))
-    (listed c.in_ok-plan.plan.extents) (c.in_ok-plan.ensures.plan _ c.args.slot mounted there) dsn named tt (c.in-Ok.ensures.files dsn named told)
+    (listed c.in_ok-extents.extents) (c.in_ok-extents.ensures.plan _ c.args.slot mounted there) dsn named tt (c.in-Ok.ensures.files dsn named told)
 
 pub returns-in-Err-clause-files : goal.returns-in-Err-clause-files
 returns-in-Err-clause-files g c dsn is told =
@@ -64,4 +66,4 @@ returns-in-Err-clause-files g c dsn is told =
     let mounted = c.requires.mounted told in
     let named = dsn_at v.slots.items c.args.slot set there dsn is in
     operates_unextended name v c.carry_out.new.vol m n mounted c.args.slot set there (plain_at v.slots.items c.args.slot c.requires.set set there) (c.requires.body told set.name (named_at v.slots.items c.args.slot set there))
-    (listed c.in_ok-plan.plan.extents) (c.in_ok-plan.ensures.plan _ c.args.slot mounted there) dsn named (c.carry_out.ensures.files dsn named told)
+    (listed c.in_ok-extents.extents) (c.in_ok-extents.ensures.plan _ c.args.slot mounted there) dsn named (c.carry_out.ensures.files dsn named told)

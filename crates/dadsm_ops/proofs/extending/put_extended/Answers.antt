@@ -1,4 +1,4 @@
-use Rattle.std.proofs.Common.{◌≡◌, ◌∙◌, ℕ, List, ap, refl, subst, sym}
+use Rattle.std.proofs.Common.{◌≡◌, ◌∙◌, ℕ, List, ap, subst, sym}
 use Rattle.std.specs.Prelude.{Err, Ok}
 use Rattle.dscb_codec.specs.declared.Dscb.{Dscb}
 use Rattle.dscb_codec.specs.declared.Dscb.TheVariants as formats
@@ -9,6 +9,7 @@ use Rattle.space_alloc.specs.Edits.{AreWithout}
 use Rattle.space_alloc.specs.Units.{listed}
 use Rattle.vol_model.specs.declared.contents.Attr.{Attr}
 use Rattle.vol_model.specs.Shelf.{extend_on}
+use Rattle.vtoc_index.specs.Names.{AreByName, name_at}
 use Rattle.vtoc_index.specs.declared.vol.Vol.{Vol}
 use Rattle.free_rebuild.proofs.ChainLemmas.{get_low}
 use Rattle.free_rebuild.proofs.NameLemmas.{names_kept}
@@ -19,6 +20,7 @@ use Rattle.dadsm_ops.proofs.AddedExtents.{after_name}
 use Rattle.dadsm_ops.proofs.ExtendedIndex.{index_freed, only_slots, same_vtoc, then_free, unit_freed}
 use Rattle.dadsm_ops.proofs.ExtendedNames.{names_set}
 use Rattle.dadsm_ops.proofs.ExtensionPlans.{put_extends}
+use Rattle.dadsm_ops.proofs.NewIndex.{room_kept, room_then}
 use Rattle.dadsm_ops.proofs.NewSetCalls.{decides_not}
 use Rattle.dadsm_ops.proofs.extending.put_extended.Goals as goal
 
@@ -29,7 +31,7 @@ pub returns-in_err-put_through-clause-files : goal.returns-in_err-put_through-cl
 returns-in_err-put_through-clause-files g c dsn is told =
     let v = c.args.vol.now in
     let set = c.args.set.now in
-    let runs = listed c.args.plan.extents in
+    let runs = listed c.args.extents.now in
     let m = g.H.Hall.meaning c.args.hall.now in
     let units = (g.H.Hall.facts c.args.hall.now).units in
     let name : List ℕ = (unit_of units v.unit).name in
@@ -46,34 +48,36 @@ pub returns-clause-files : goal.returns-clause-files
 returns-clause-files g c dsn is told =
     let v = c.args.vol.now in
     let set = c.args.set.now in
-    let runs = listed c.args.plan.extents in
+    let runs = listed c.args.extents.now in
     let m = g.H.Hall.meaning c.args.hall.now in
     let units = (g.H.Hall.facts c.args.hall.now).units in
     let name : List ℕ = (unit_of units v.unit).name in
     let v' = c.put_through.new.vol in
-    let w : Vol = record v' { free = c.args.plan.free } in
+    let w = c.take_runs.new.vol in
     let n = g.H.Hall.meaning c.put_through.new.hall in
     let e : F1 = c.f1_with-more.result in
     let attrs : added_type c.attr_of.result ≡ added_type (attr_of set) = ap (λ (a : Attr). added_type a) c.attr_of.ensures.attr in
     let same : e ≡ f1_with v.geometry (added_type (attr_of set)) runs c.args.pointer set = c.f1_with-more.ensures ∙ ap (λ (k : ℕ). f1_with v.geometry k runs c.args.pointer set) (c.added_type-kind.ensures ∙ attrs) in
+    let without = subst (λ (x : Vol). AreWithout x.free.items runs w.free.items) c.put_through.ensures.others c.take_runs.ensures.runs in
     put_extends name v v' c.args.slot m n units c.requires.unit (c.requires.mounted told) (c.requires.marked told) set c.requires.set runs c.args.pointer c.requires.catalog (c.requires.added told) (c.requires.plan told) (c.requires.body told) e same dsn is
-    (Ok tt) w (same_vtoc v w (then_free v v' w c.put_through.ensures.others refl)) (index_freed v' w refl (image_named n.state name)) c.requires.free (c.in_ok-put_through.ensures.files told)
+    (Ok tt) w (same_vtoc v w (then_free v v' w c.put_through.ensures.others c.take_runs.ensures.others)) (index_freed v' w c.take_runs.ensures.others (image_named n.state name)) without (c.in_ok-put_through.ensures.files told)
 
 pub returns-clause-unit : goal.returns-clause-unit
 returns-clause-unit g c =
-    let v = c.args.vol.now in
-    let v' = c.put_through.new.vol in
-    let w : Vol = record v' { free = c.args.plan.free } in
-    let runs = listed c.args.plan.extents in
     let units = (g.H.Hall.facts c.put_through.new.hall).units in
-    unit_freed v' w refl units runs c.put_through.ensures.unit (subst (λ (x : Vol). AreWithout x.free.items runs w.free.items) (sym c.put_through.ensures.others) c.requires.free)
+    unit_freed c.put_through.new.vol c.take_runs.new.vol c.take_runs.ensures.others units (listed c.args.extents.now) c.put_through.ensures.unit c.take_runs.ensures.runs
 
 pub returns-clause-index : goal.returns-clause-index
-returns-clause-index g c =
-    let v = c.args.vol.now in
-    let v' = c.put_through.new.vol in
-    let w : Vol = record v' { free = c.args.plan.free } in
-    then_free v v' w c.put_through.ensures.others refl
+returns-clause-index g c = then_free c.args.vol.now c.put_through.new.vol c.take_runs.new.vol c.put_through.ensures.others c.take_runs.ensures.others
+
+pub take_runs-requires-clause-room : goal.take_runs-requires-clause-room
+take_runs-requires-clause-room g c = room_then c.args.vol.now c.put_through.new.vol c.put_through.ensures.others c.requires.room
+
+pub returns-clause-room : goal.returns-clause-room
+returns-clause-room g c = c.take_runs.ensures.room ∙ room_kept c.args.vol.now c.put_through.new.vol c.put_through.ensures.others
+
+pub returns-in_err-put_through-clause-room : goal.returns-in_err-put_through-clause-room
+returns-in_err-put_through-clause-room g c = room_kept c.args.vol.now c.put_through.new.vol c.put_through.ensures.others
 
 pub returns-in_err-put_through-clause-index : goal.returns-in_err-put_through-clause-index
 returns-in_err-put_through-clause-index g c = only_slots c.args.vol.now c.put_through.new.vol c.put_through.ensures.others
@@ -84,6 +88,6 @@ returns-clause-names g c =
     let v' = c.put_through.new.vol in
     let set = c.args.set.now in
     let e : F1 = c.f1_with-more.result in
-    let named : e.name ≡ set.name = ap (λ (x : F1). x.name) c.f1_with-more.ensures ∙ after_name v.geometry c.added_type-kind.result set (listed c.args.plan.extents) c.args.pointer in
+    let named : e.name ≡ set.name = ap (λ (x : F1). x.name) c.f1_with-more.ensures ∙ after_name v.geometry c.added_type-kind.result set (listed c.args.extents.now) c.args.pointer in
     let same : HaveSameNames v.slots.items v'.slots.items = subst (λ (l : List Dscb). HaveSameNames v.slots.items l) (sym c.in_ok-put_through.ensures.index.items) (names_set v.slots.items c.args.slot set e c.requires.set named) in
-    names_kept v v' c.put_through.ensures.others same c.requires.names
+    subst (λ (x : Vol). AreByName (name_at x.slots.items) x.by_name.items) (sym c.take_runs.ensures.others) (names_kept v v' c.put_through.ensures.others same c.requires.names)

@@ -23,5 +23,5 @@ loop-run-preserved c =
     (λ track low. c.first_part.ensures.tracks track (subst (λ (n : ℕ). track < n) (sym c.usable_tracks-tracks.ensures) low)) c.loop-run.invariant.freed c.insert.ensures.runs in
     record { grown = omega arith; capacity = cc; freed = more }
 
-pub returns : goal.returns
-returns c = freed_all _ c.args.free.now.items _ c.args.runs.now c.loop-run.run-index (omega arith) c.loop-run.invariant.freed
+pub returns-clause-freed : goal.returns-clause-freed
+returns-clause-freed c = freed_all _ c.args.free.now.items _ c.args.runs.now c.loop-run.run-index (omega arith) c.loop-run.invariant.freed

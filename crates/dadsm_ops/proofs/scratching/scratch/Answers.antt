@@ -13,6 +13,7 @@ use Rattle.pack_spec.specs.Slots.{slots_of_vtoc}
 use Rattle.free_rebuild.specs.Updates.{Concludes}
 use Rattle.dadsm_ops.specs.Operations.{image_named}
 use Rattle.dadsm_ops.specs.Through.{PutsThrough}
+use Rattle.dadsm_ops.proofs.NewIndex.{room_kept}
 use Rattle.dadsm_ops.proofs.ScratchSteps.{marked_by, mounted_now, scratch_concluded, scratch_unmarked, scratch_unput}
 use Rattle.dadsm_ops.proofs.ScratchedImages.{set_extents}
 use Rattle.dadsm_ops.proofs.ScratchedIndex.{base_differs, base_freed, base_put, base_then, forgotten, freed_within, name_marked, named_low, set_at, set_of, set_still, unit_freed}
@@ -172,3 +173,13 @@ returns-clause-names g c =
     let was = ap is_some (name_marked c.args.vol.now.slots.items v1.slots.items c.args.slot c.in_ok-mark.ensures.index.items) ∙ c.requires.set in
     let by_name = subst (λ (x : Vol). AreByName (name_at v1.slots.items) x.by_name.items) (sym c.put_through.ensures.others) (c.in_ok-mark.ensures.names c.requires.names) in
     c.conclude.ensures.names (c.forget_set.ensures.names v1.slots.items by_name (forgotten v1.slots.items v2.slots.items c.args.slot was (named_low v1.slots.items c.args.slot was) c.in_ok-put_through.ensures.index.items))
+
+pub returns-in_err-mark-clause-room : goal.returns-in_err-mark-clause-room
+returns-in_err-mark-clause-room g c = room_kept c.args.vol.now c.mark.new.vol c.mark.ensures.others
+
+pub returns-in_err-put_through-clause-room : goal.returns-in_err-put_through-clause-room
+returns-in_err-put_through-clause-room g c = room_kept c.mark.new.vol c.put_through.new.vol c.put_through.ensures.others ∙ room_kept c.args.vol.now c.mark.new.vol c.mark.ensures.others
+
+pub returns-clause-room : goal.returns-clause-room
+returns-clause-room g c =
+    room_kept c.forget_set.new.vol c.conclude.new.vol c.conclude.ensures.others ∙ c.forget_set.ensures.room ∙ room_kept c.mark.new.vol c.put_through.new.vol c.put_through.ensures.others ∙ room_kept c.args.vol.now c.mark.new.vol c.mark.ensures.others

@@ -59,7 +59,7 @@ returns-clause-put g c told is =
     let payload : List ℕ = c.args.payload.now in
     let units = c.in_ok-place.ensures.faults.units in
     let ready = c.in_ok-place.ensures.ready told is in
-    call_puts m0 m1 m2 f0 f1 f2 v0 v1 c.args.writer.now is (length key) (length payload) c.in_ok-place.place c.in_ok-place.ensures.others c.in_ok-place.ensures.unit units ready c.in_ok-place.ensures.numbers.0 c.in_ok-place.ensures.numbers.1 key payload refl c.append.new.buf c.append.ensures.buffer (c.in_ok-append.ensures.record told) c.requires.key c.requires.payload (omega arith) (omega arith)
+    call_puts m0 m1 m2 f0 f1 f2 v0 v1 c.args.writer.now is (length key) (length payload) c.in_ok-place.place c.in_ok-place.ensures.others c.in_ok-place.ensures.unit units ready c.in_ok-place.ensures.numbers.0 c.in_ok-place.ensures.numbers.1 key payload refl c.append.new.buf c.append.ensures.buffer (c.in_ok-append.ensures.record told) c.requires.key c.requires.payload (omega arith) (omega arith) c.saturating_add.result (omega arith)
 
 pub returns-clause-spares : goal.returns-clause-spares
 returns-clause-spares g c told is =

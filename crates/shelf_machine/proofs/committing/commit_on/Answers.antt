@@ -1,9 +1,11 @@
 use Rattle.std.proofs.Common.{◌≡◌, ◌<◌, ℕ, true, false, set, Some, sym, ap, ◌∙◌, subst, arith}
 use Rattle.std.specs.Prelude.{slice_get}
+use Rattle.std.proofs.lemmas.Bool.Decides.{nat_tests}
 use Rattle.std.proofs.lemmas.Option.{slice_get-get_or}
 use Rattle.std.proofs.lemmas.Result.{on_ok_weaker}
 use Rattle.dadsm_ops.proofs.FoundSets.{set_found}
 use Rattle.vtoc_index.specs.declared.vol.Vol.{Vol}
+use Rattle.seq_access.specs.Writing.{has_put}
 use Rattle.shelf_machine.specs.Committing.{CommitsOn}
 use Rattle.shelf_machine.specs.Known.{ForgetsOn}
 use Rattle.shelf_machine.specs.Machine.{units_of, writer_in}
@@ -17,14 +19,14 @@ use Rattle.shelf_machine.proofs.Settling.{settles_done}
 use Rattle.shelf_machine.proofs.committing.commit_on.Given.{Over}
 use Rattle.shelf_machine.proofs.committing.commit_on.Goals as goal
 
-pub returns-then-not-writer-clause-shelf : goal.returns-then-not-writer-clause-shelf
-returns-then-not-writer-clause-shelf g c told =
+pub returns-then-writer-eq0-clause-shelf : goal.returns-then-writer-eq0-clause-shelf
+returns-then-writer-eq0-clause-shelf g c told =
     let vols = c.args.vols.now.items in
     let w = c.args.writer in
     let at = there vols w.v c.requires.slot.0 in
     let p = c.requires.pending told at.0 at.1 in
     let forgot = subst (λ (n : ℕ). ForgetsOn n c.args.known.now.items c.forget_on.new.known.items) c.from-k.ensures c.forget_on.ensures in
-    let none : w.inner.has_put ≡ false = grind arith in
+    let none : has_put w.inner ≡ false = grind (arith, nat_tests) in
     let low : w.inner.last.tt < 65536 = omega arith in
     let small : w.inner.last.r < 256 = omega arith in
     synced_on (g.H.Hall.facts c.args.hall.now) (g.H.Hall.facts c.sync.new.self) vols c.requires.indexes (g.H.Hall.meaning c.args.hall.now) (g.H.Hall.meaning c.sync.new.self)
@@ -78,7 +80,7 @@ returns-clause-shelf g c told =
     let p = c.requires.pending told v at in
     let units = c.commit.ensures.faults.units in
     let forgot = subst (λ (n : ℕ). ForgetsOn n known known') c.from-k.ensures c.forget_on.ensures in
-    let put : w.inner.has_put ≡ true = grind arith in
+    let put : has_put w.inner ≡ true = grind (arith, nat_tests) in
     let commits = commits_by f f' vols c.requires.indexes m m' counts left (c.requires.kept told) w v at slot units p.0 p.1 known known' forgot (c.requires.held told) (c.requires.bodies told) v' c.commit.result (c.commit.ensures.files told put) in
     subst (λ (n : ℕ). CommitsOn (names_of f.units (units_of vols)) (names_of f'.units (units_of (set vols n v'))) f'.units vols (set vols n v') known' (writer_in m.state f.units vols (Some w)) m m' c.commit.result) (sym c.from-k.ensures)
     (committed_on f f' vols c.requires.indexes m m' counts left (c.requires.kept told) w v at slot units p.0 p.1 known known' forgot (c.requires.held told) (c.requires.bodies told) v' (alike g c) c.commit.result commits

@@ -28,7 +28,7 @@ loop-k-preserved g c =
     let l = c.loop-k in
     let at = slice_get-get_or c.args.units.now l.k 0 c.loop-k-test.true in
     let read = c.in_ok-vol.ensures in
-    read_next g.H.Hall.tells c.args.units.now _ _ _ _ l.vols.items l.k _ at l.invariant _ _ c.push.new.vols.items c.in_ok-vol.vol read.unit.0 read.unit.1 read.names read.mounted read.files read.faults c.in_ok-push.ensures.done
+    read_next g.H.Hall.tells c.args.units.now _ _ _ _ l.vols.items l.k _ at l.invariant _ _ c.push.new.vols.items c.in_ok-vol.vol read.unit.0 read.unit.1 read.room read.names read.mounted read.files read.faults c.in_ok-push.ensures.done
 
 pub returns-in_err-vol-clause-unit : goal.returns-in_err-vol-clause-unit
 returns-in_err-vol-clause-unit g c =

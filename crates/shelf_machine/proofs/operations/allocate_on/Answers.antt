@@ -7,6 +7,7 @@ use Rattle.vol_model.specs.declared.answers.StoreErr.TheVariants as store
 use Rattle.vol_model.specs.declared.requests.Op.TheVariants.{Allocate}
 use Rattle.vtoc_index.proofs.KeptLemmas.{mounted_of}
 use Rattle.vtoc_index.specs.declared.vol.Vol.{Vol}
+use Rattle.shelf_machine.proofs.FreeRooms.{room_for_more}
 use Rattle.shelf_machine.proofs.ListPlaces.{map_set_same, not_there}
 use Rattle.shelf_machine.proofs.OneVolume.{kept_idle, name_roomed, order_kept}
 use Rattle.shelf_machine.specs.Operating.{IsRoomed, IsSamePack}
@@ -28,6 +29,12 @@ here g c =
 pub allocate-requires-clause-unit : goal.allocate-requires-clause-unit
 allocate-requires-clause-unit g c = c.requires.indexes.each c.from-k.result c.index_mut.result.now (here g c)
 
+pub allocate-requires-clause-room : goal.allocate-requires-clause-room
+allocate-requires-clause-room g c =
+    let indexes = c.requires.indexes in
+    let more = room_for_more (g.H.Hall.facts c.args.hall.now).units c.index_mut.result.now (indexes.each c.from-k.result c.index_mut.result.now (here g c)) (indexes.room c.from-k.result c.index_mut.result.now (here g c)) in
+    omega (arith, more)
+
 pub allocate-requires-clause-names : goal.allocate-requires-clause-names
 allocate-requires-clause-names g c = c.requires.order c.from-k.result c.index_mut.result.now (here g c)
 
@@ -47,6 +54,7 @@ alike g c = record {
   serial = ap (λ (w : Vol). w.serial.bytes) c.allocate.ensures.index;
   geometry = ap (λ (w : Vol). w.geometry) c.allocate.ensures.index;
   vtoc = ap (λ (w : Vol). w.vtoc) c.allocate.ensures.index;
+  room = c.allocate.ensures.room;
 }
 
 roomed : (g : Over) (c : goal.After-vols-1 g) → IsErrOf c.allocate.result store.Memory → IsRoomed c.index_mut.result.now c.allocate.new.vol

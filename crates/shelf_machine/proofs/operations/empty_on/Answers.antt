@@ -48,7 +48,7 @@ returns-clause-shelf g c told =
     c.index_mut.result.now c.empty_set.new.vol (there g c) (alike g c) c.empty_set.ensures.faults.units c.requires.indexes
     (g.H.Hall.meaning c.args.hall.now) (g.H.Hall.meaning c.empty_set.new.hall) c.empty_set.result
     (g.met.H.Hall.counts_now c.args.hall.now) (g.met.H.Hall.leaves_state c.args.hall.now) (c.requires.kept told) (c.requires.durable told) (c.empty_set.ensures.files told)
-    (kept_idle c.index_mut.result.now c.empty_set.new.vol c.empty_set.result (λ why is. c.empty_set.ensures.refused why is) c.empty_set.ensures.memory)
+    (kept_idle c.index_mut.result.now c.empty_set.new.vol c.empty_set.result (λ why is. c.empty_set.ensures.refused why is) (λ is. absurd (c.empty_set.ensures.memory is)))
 
 pub returns-clause-indexes : goal.returns-clause-indexes
 returns-clause-indexes g c =
@@ -59,7 +59,7 @@ pub returns-clause-order : goal.returns-clause-order
 returns-clause-order g c sound =
     order_after (g.H.Hall.facts c.args.hall.now) (g.H.Hall.facts c.empty_set.new.hall) c.args.vols.now.items c.from-k.result
     c.index_mut.result.now c.empty_set.new.vol (there g c) (alike g c) c.empty_set.ensures.faults.units c.requires.order
-    (order_kept c.index_mut.result.now c.empty_set.new.vol c.empty_set.result (λ why is. c.empty_set.ensures.refused why is) c.empty_set.ensures.memory
+    (order_kept c.index_mut.result.now c.empty_set.new.vol c.empty_set.result (λ why is. c.empty_set.ensures.refused why is) (λ is. absurd (c.empty_set.ensures.memory is))
     c.empty_set.ensures.names (c.requires.order c.from-k.result c.index_mut.result.now (there g c)) sound)
 
 pub returns-clause-base : goal.returns-clause-base

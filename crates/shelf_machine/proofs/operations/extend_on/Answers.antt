@@ -14,8 +14,8 @@ use Rattle.vtoc_index.proofs.KeptLemmas.{mounted_of}
 use Rattle.vtoc_index.specs.declared.vol.Vol.{Vol}
 use Rattle.shelf_machine.proofs.KnownLemmas.{at_index, known_low, lists_held}
 use Rattle.shelf_machine.proofs.ListPlaces.{get_set, map_set_same, not_there}
-use Rattle.shelf_machine.proofs.OneVolume.{kept_idle, order_kept, same_roomed}
-use Rattle.shelf_machine.specs.Operating.{IsRoomed, IsSamePack}
+use Rattle.shelf_machine.proofs.OneVolume.{kept_idle, order_kept}
+use Rattle.shelf_machine.specs.Operating.{IsSamePack}
 use Rattle.shelf_machine.specs.Reporting.{reported}
 use Rattle.shelf_machine.proofs.Operating.{base_same, indexes_after, operates, operates_nowhere, order_after, extend_keeps}
 use Rattle.shelf_machine.proofs.operations.extend_on.Given.{Over}
@@ -38,6 +38,9 @@ here g c =
 pub extend_set-requires-clause-unit : goal.extend_set-requires-clause-unit
 extend_set-requires-clause-unit g c = c.requires.indexes.each c.from-k.result c.index_mut.result.now (here g c)
 
+pub extend_set-requires-clause-room : goal.extend_set-requires-clause-room
+extend_set-requires-clause-room g c = c.requires.indexes.room c.from-k.result c.index_mut.result.now (here g c)
+
 pub extend_set-requires-clause-names : goal.extend_set-requires-clause-names
 extend_set-requires-clause-names g c = c.requires.order c.from-k.result c.index_mut.result.now (here g c)
 
@@ -59,7 +62,7 @@ returns-clause-shelf g c told =
     c.index_mut.result.now c.extend_set.new.vol (there g c) (alike g c) c.extend_set.ensures.faults.units c.requires.indexes
     (g.H.Hall.meaning c.args.hall.now) (g.H.Hall.meaning c.extend_set.new.hall) c.extend_set.result
     (g.met.H.Hall.counts_now c.args.hall.now) (g.met.H.Hall.leaves_state c.args.hall.now) (c.requires.kept told) (c.requires.durable told) (c.extend_set.ensures.files told)
-    (kept_idle c.index_mut.result.now c.extend_set.new.vol c.extend_set.result (λ why is. c.extend_set.ensures.refused why is) c.extend_set.ensures.memory)
+    (kept_idle c.index_mut.result.now c.extend_set.new.vol c.extend_set.result (λ why is. c.extend_set.ensures.refused why is) (λ is. absurd (c.extend_set.ensures.memory is)))
 
 pub returns-clause-indexes : goal.returns-clause-indexes
 returns-clause-indexes g c =
@@ -70,7 +73,7 @@ pub returns-clause-order : goal.returns-clause-order
 returns-clause-order g c sound =
     order_after (g.H.Hall.facts c.args.hall.now) (g.H.Hall.facts c.extend_set.new.hall) c.args.vols.now.items c.from-k.result
     c.index_mut.result.now c.extend_set.new.vol (there g c) (alike g c) c.extend_set.ensures.faults.units c.requires.order
-    (order_kept c.index_mut.result.now c.extend_set.new.vol c.extend_set.result (λ why is. c.extend_set.ensures.refused why is) c.extend_set.ensures.memory
+    (order_kept c.index_mut.result.now c.extend_set.new.vol c.extend_set.result (λ why is. c.extend_set.ensures.refused why is) (λ is. absurd (c.extend_set.ensures.memory is))
     c.extend_set.ensures.names (c.requires.order c.from-k.result c.index_mut.result.now (there g c)) sound)
 
 pub returns-clause-base : goal.returns-clause-base
@@ -108,12 +111,12 @@ returns-then-k-len-clause-pack g c vol vol' at at' =
     let wrong : None ≡ Some vol = sym none ∙ at in
     cc
 
--- where the extension wasn't done the index is as before but for its room
-roomed_undone : {T : Type 0} (v v' : Vol) (r : Result T StoreErr) → ((why : Refusal) → IsErrOf r (store.Refused why) → v' ≡ v) → (IsErrOf r store.Memory → IsRoomed v v') → IsUndone (reported r) → IsRoomed v v'
-roomed_undone v v' (Ok x) refused memory undone = absurd undone
-roomed_undone v v' (Err (store.Refused why)) refused memory undone = same_roomed v v' (refused why refl)
-roomed_undone v v' (Err store.Memory) refused memory undone = memory refl
-roomed_undone v v' (Err store.Device) refused memory undone = absurd undone
+-- where the extension wasn't done the index is as before
+same_undone : {T : Type 0} (v v' : Vol) (r : Result T StoreErr) → ((why : Refusal) → IsErrOf r (store.Refused why) → v' ≡ v) → ¬ IsErrOf r store.Memory → IsUndone (reported r) → v' ≡ v
+same_undone v v' (Ok x) refused memory undone = absurd undone
+same_undone v v' (Err (store.Refused why)) refused memory undone = refused why refl
+same_undone v v' (Err store.Memory) refused memory undone = absurd (memory refl)
+same_undone v v' (Err store.Device) refused memory undone = absurd undone
 
 pub returns-clause-pack : goal.returns-clause-pack
 returns-clause-pack g c vol vol' at at' =
@@ -122,11 +125,11 @@ returns-clause-pack g c vol vol' at at' =
     let is : Vol = c.extend_set.new.vol in
     let here : was ≡ vol = some_vol (sym (there g c) ∙ ap (slice_get vols) c.from-k.ensures ∙ at) in
     let here' : is ≡ vol' = some_vol (sym (get_set vols c.from-k.result was is (there g c)) ∙ ap (slice_get (set vols c.from-k.result is)) c.from-k.ensures ∙ at') in
-    subst (λ (u : Vol). IsSamePack u vol' × (IsUndone (reported c.extend_set.result) → IsRoomed u vol')
+    subst (λ (u : Vol). IsSamePack u vol' × (IsUndone (reported c.extend_set.result) → vol' ≡ u)
     × (IsTrue g.H.Hall.tells → Operates (unit_of (g.H.Hall.facts c.args.hall.now).units u.unit).name (extend_on c.args.dsn.now) vol' (g.H.Hall.meaning c.args.hall.now) (g.H.Hall.meaning c.extend_set.new.hall) c.extend_set.result)) here
-    (subst (λ (u : Vol). IsSamePack was u × (IsUndone (reported c.extend_set.result) → IsRoomed was u)
+    (subst (λ (u : Vol). IsSamePack was u × (IsUndone (reported c.extend_set.result) → u ≡ was)
     × (IsTrue g.H.Hall.tells → Operates (unit_of (g.H.Hall.facts c.args.hall.now).units was.unit).name (extend_on c.args.dsn.now) u (g.H.Hall.meaning c.args.hall.now) (g.H.Hall.meaning c.extend_set.new.hall) c.extend_set.result)) here' (
       alike g c,
-      roomed_undone was is c.extend_set.result (λ why r. c.extend_set.ensures.refused why r) c.extend_set.ensures.memory,
+      same_undone was is c.extend_set.result (λ why r. c.extend_set.ensures.refused why r) c.extend_set.ensures.memory,
       c.extend_set.ensures.files,
     ))

@@ -1,8 +1,9 @@
+use Rattle.std.proofs.Common.{arith}
 use Rattle.hall_core.specs.Facts.{unit_of}
 use Rattle.hall_core.specs.Images.{image_in}
 use Rattle.vol_model.specs.Shelf.{extend_on}
 use Rattle.vtoc_sets.specs.Sets.{volume_in}
-use Rattle.shelf_machine.proofs.OneVolume.{same_roomed}
+use Rattle.shelf_machine.proofs.FreeRooms.{room_for_more}
 use Rattle.shelf_machine.proofs.Refusing.{may_be_extended}
 use Rattle.shelf_machine.proofs.Scratching.{name_found, operates_refused}
 use Rattle.shelf_machine.proofs.operations.extend_set.Goals as goal
@@ -22,11 +23,13 @@ extend-requires-clause-body g c told name is =
     let image = image_in (g.H.Hall.meaning c.args.hall.now) (g.H.Hall.facts c.args.hall.now) v.unit in
     may_be_extended image v c.args.dsn.now name c.in-Ok.slot c.in-Ok.ensures.slot is (c.in-Ok.ensures.readable image (c.requires.mounted told) (c.requires.bodies told))
 
+pub extend-requires-clause-room : goal.extend-requires-clause-room
+extend-requires-clause-room g c =
+    let more = room_for_more (g.H.Hall.facts c.args.hall.now).units c.args.vol.now c.requires.unit c.requires.room in
+    omega (arith, more)
+
 pub returns-in-Ok-clause-files : goal.returns-in-Ok-clause-files
 returns-in-Ok-clause-files g c told = c.extend.ensures.files c.args.dsn.now (name_found c.args.dsn.now.bytes c.args.vol.now.slots.items c.in-Ok.slot c.in-Ok.ensures.slot) told
 
 pub returns-in-Ok-clause-refused : goal.returns-in-Ok-clause-refused
 returns-in-Ok-clause-refused g c r is = (c.extend.ensures.refused r is).1
-
-pub returns-in-Ok-clause-memory : goal.returns-in-Ok-clause-memory
-returns-in-Ok-clause-memory g c is = same_roomed c.args.vol.now c.extend.new.vol (c.extend.ensures.memory is).1

@@ -1,4 +1,4 @@
-use Rattle.std.proofs.Common.{◌≡◌, Some, None, sym, ap, ◌∙◌, arith}
+use Rattle.std.proofs.Common.{◌≡◌, vec_capacity, Some, None, sym, ap, ◌∙◌, arith}
 use Rattle.std.specs.Prelude.{slice_get}
 use Rattle.std.proofs.lemmas.Option.{slice_get-get_or}
 use Rattle.vol_model.specs.Shelf.{step_on}
@@ -42,6 +42,7 @@ alike g c = record {
   serial = ap (λ (w : Vol). w.serial.bytes) c.rename.ensures.index;
   geometry = ap (λ (w : Vol). w.geometry) c.rename.ensures.index;
   vtoc = ap (λ (w : Vol). w.vtoc) c.rename.ensures.index;
+  room = ap (λ (w : Vol). vec_capacity w.free) c.rename.ensures.index;
 }
 
 pub returns-clause-shelf : goal.returns-clause-shelf

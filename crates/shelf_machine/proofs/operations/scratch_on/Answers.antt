@@ -26,6 +26,9 @@ here g c =
 pub scratch_set-requires-clause-unit : goal.scratch_set-requires-clause-unit
 scratch_set-requires-clause-unit g c = c.requires.indexes.each c.from-k.result c.index_mut.result.now (here g c)
 
+pub scratch_set-requires-clause-room : goal.scratch_set-requires-clause-room
+scratch_set-requires-clause-room g c = c.requires.indexes.room c.from-k.result c.index_mut.result.now (here g c)
+
 pub scratch_set-requires-clause-names : goal.scratch_set-requires-clause-names
 scratch_set-requires-clause-names g c = c.requires.order c.from-k.result c.index_mut.result.now (here g c)
 
@@ -47,7 +50,7 @@ returns-clause-shelf g c told =
     c.index_mut.result.now c.scratch_set.new.vol (there g c) (alike g c) c.scratch_set.ensures.faults.units c.requires.indexes
     (g.H.Hall.meaning c.args.hall.now) (g.H.Hall.meaning c.scratch_set.new.hall) c.scratch_set.result
     (g.met.H.Hall.counts_now c.args.hall.now) (g.met.H.Hall.leaves_state c.args.hall.now) (c.requires.kept told) (c.requires.durable told) (c.scratch_set.ensures.files told)
-    (kept_idle c.index_mut.result.now c.scratch_set.new.vol c.scratch_set.result (λ why is. c.scratch_set.ensures.refused why is) c.scratch_set.ensures.memory)
+    (kept_idle c.index_mut.result.now c.scratch_set.new.vol c.scratch_set.result (λ why is. c.scratch_set.ensures.refused why is) (λ is. absurd (c.scratch_set.ensures.memory is)))
 
 pub returns-clause-indexes : goal.returns-clause-indexes
 returns-clause-indexes g c =
@@ -58,7 +61,7 @@ pub returns-clause-order : goal.returns-clause-order
 returns-clause-order g c sound =
     order_after (g.H.Hall.facts c.args.hall.now) (g.H.Hall.facts c.scratch_set.new.hall) c.args.vols.now.items c.from-k.result
     c.index_mut.result.now c.scratch_set.new.vol (there g c) (alike g c) c.scratch_set.ensures.faults.units c.requires.order
-    (order_kept c.index_mut.result.now c.scratch_set.new.vol c.scratch_set.result (λ why is. c.scratch_set.ensures.refused why is) c.scratch_set.ensures.memory
+    (order_kept c.index_mut.result.now c.scratch_set.new.vol c.scratch_set.result (λ why is. c.scratch_set.ensures.refused why is) (λ is. absurd (c.scratch_set.ensures.memory is))
     c.scratch_set.ensures.names (c.requires.order c.from-k.result c.index_mut.result.now (there g c)) sound)
 
 pub returns-clause-base : goal.returns-clause-base

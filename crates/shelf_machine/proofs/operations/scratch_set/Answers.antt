@@ -5,6 +5,7 @@ use Rattle.hall_core.specs.Images.{image_in}
 use Rattle.vol_model.specs.Shelf.{scratch_on}
 use Rattle.vol_model.specs.declared.refusals.Refusal.TheVariants.{NoSet}
 use Rattle.vtoc_sets.specs.Sets.{volume_in}
+use Rattle.shelf_machine.proofs.FreeRooms.{room_for_more}
 use Rattle.shelf_machine.proofs.Scratching.{is_accepted, name_found, operates_done, operates_failed, operates_refused, scratch_none}
 use Rattle.shelf_machine.proofs.operations.scratch_set.Goals as goal
 
@@ -19,6 +20,9 @@ returns-in_default-clause-files g c told =
 
 pub scratch-requires-clause-set : goal.scratch-requires-clause-set
 scratch-requires-clause-set g c = ap is_some (name_found c.args.dsn.now.bytes c.args.vol.now.slots.items c.in-Some.slot (sym c.find.ensures ∙ c.in-Some.is))
+
+pub scratch-requires-clause-room : goal.scratch-requires-clause-room
+scratch-requires-clause-room g c = room_for_more (g.H.Hall.facts c.args.hall.now).units c.args.vol.now c.requires.unit c.requires.room
 
 pub returns-in-Ok-clause-files : goal.returns-in-Ok-clause-files
 returns-in-Ok-clause-files g c told =

@@ -1,8 +1,9 @@
 -- The extension and the put behind it are one put of the shelf, and so is an extension that is refused or fails.
-use Rattle.std.proofs.Common.{◌≡◌, ℕ, Err, sym, ap, subst, arith}
-use Rattle.std.specs.Prelude.{Result}
+use Rattle.std.proofs.Common.{◌≡◌, ◌≢◌, ℕ, Err, sym, ap, ◌∙◌, subst, arith}
+use Rattle.std.specs.Prelude.{IsErrOf, Result}
 use Rattle.vol_model.specs.declared.answers.MachErr.{MachErr}
 use Rattle.vol_model.specs.declared.answers.StoreErr.{StoreErr}
+use Rattle.vol_model.specs.declared.answers.StoreErr.TheVariants as store
 use Rattle.vol_model.specs.declared.contents.Place.{Place}
 use Rattle.vol_model.specs.Calls.{counted, sound_after}
 use Rattle.shelf_machine.specs.PutBlocks.{PutsBlock}
@@ -11,6 +12,13 @@ use Rattle.shelf_machine.proofs.FilledSets.{fills_set}
 use Rattle.shelf_machine.proofs.Machines.{same_base}
 use Rattle.shelf_machine.proofs.PutBlocks.{puts_behind, puts_unextended, still_sound}
 use Rattle.shelf_machine.proofs.puts.put_behind_more.Goals as goal
+
+-- an extension that isn't done doesn't want memory
+not_memory : (ran : Result (Unit {0}) StoreErr) (e : StoreErr) → ran ≡ Err e → ¬ IsErrOf ran store.Memory → e ≢ store.Memory
+not_memory ran e is none memory = none (is ∙ ap (λ (x : StoreErr). Err x) memory)
+
+pub answer_room-requires : goal.answer_room-requires
+answer_room-requires g c = not_memory c.make_room-ran.result c.in-Err.error c.in-Err.is c.make_room-ran.ensures.memory
 
 pub returns-in-Ok-clause-shelf : goal.returns-in-Ok-clause-shelf
 returns-in-Ok-clause-shelf g c told =
@@ -55,7 +63,7 @@ returns-in-Err-clause-shelf g c told =
     subst (λ (e : MachErr). PutsBlock (c.args.key.now, c.args.payload.now) us us1 vols vols1 known1 w w1 m m1 n n (Err e)) (sym c.answer_room.ensures)
     (puts_unextended (c.args.key.now, c.args.payload.now) us us1 vols vols1 c.args.known.now.items known1 w w1 m m1 (fills_set m us vols c.requires.indexes (c.requires.kept told) w c.requires.slot (c.requires.pending told))
     (c.requires.wanted told) c.make_room-ran.result (room.shelf told) (room.puts told) c.is_ok.result c.is_ok.ensures.value c.follow_extension.ensures (c.requires.bodies told)
-    c.in-Err.error n c.in-Err.is (room.pending told))
+    c.in-Err.error n c.in-Err.is (not_memory c.make_room-ran.result c.in-Err.error c.in-Err.is room.memory) (room.pending told))
 
 pub returns-in-Err-clause-order : goal.returns-in-Err-clause-order
 returns-in-Err-clause-order g c sound = c.make_room-ran.ensures.order (still_sound c.make_room-ran.result c.in-Err.error c.answer_room.result c.in-Err.is c.answer_room.ensures sound)

@@ -1,17 +1,19 @@
 use Rattle.std.proofs.Common.{◌≡◌, IsTrue, true, Some, refl, sym, ap, subst, ◌∙◌, arith}
-use Rattle.std.specs.Prelude.{Err, Result, slice_get}
+use Rattle.std.specs.Prelude.{Err, IsErrOf, Result, slice_get}
 use Rattle.std.proofs.lemmas.Result.{err_from_is_err_and}
 use Rattle.vol_model.specs.Calls.{sound_after}
 use Rattle.vol_model.specs.Shelf.{extend_on, is_catalog}
 use Rattle.vol_model.specs.declared.answers.StoreErr.{StoreErr}
+use Rattle.vol_model.specs.declared.answers.StoreErr.TheVariants as store
 use Rattle.vtoc_index.specs.Index.{first_named}
 use Rattle.vtoc_index.specs.declared.vol.Vol.{Vol}
 use Rattle.ebcdic_names.specs.declared.names.Dsn.{Dsn}
 use Rattle.free_rebuild.specs.Repairs.{image_named}
 use Rattle.hall_core.specs.Facts.{unit_of}
+use Rattle.shelf_machine.specs.Pending.{IsInSlot}
 use Rattle.shelf_machine.specs.Reporting.{reported}
 use Rattle.shelf_machine.proofs.ListPlaces.{there}
-use Rattle.shelf_machine.proofs.MadeRooms.{StandsAgain, as_many, in_slot_same, index_at, named_now, pending_again, slot_again, slot_roomed, stands_done, stands_undone, state_undone, undone_by, writer_again}
+use Rattle.shelf_machine.proofs.MadeRooms.{StandsAgain, as_many, in_slot_same, index_at, named_now, pending_again, slot_again, stands_done, stands_undone, state_undone, undone_by, writer_again}
 use Rattle.shelf_machine.proofs.writing.make_room_settled.Given.{Over}
 use Rattle.shelf_machine.proofs.writing.make_room_settled.Goals as goal
 
@@ -38,7 +40,11 @@ returns-in_err-extend_on-clause-slot g c sound =
     let w = c.args.writer.now in
     let undone = undone_by (Unit {0}) c.in_err-extend_on.field-0.0 (sound_now g c sound) in
     slot_again vols vols' w w refl (as_many vols vols' c.extend_on.ensures.geometries) c.requires.slot
-    (λ v v' at at' low. slot_roomed v v' ((c.in_err-extend_on.ensures.pack v v' at at').1 undone) w low)
+    (λ v v' at at' low. subst (λ (u : Vol). IsInSlot u w) (sym ((c.in_err-extend_on.ensures.pack v v' at at').1 undone)) low)
+
+pub returns-in_err-extend_on-clause-memory : goal.returns-in_err-extend_on-clause-memory
+returns-in_err-extend_on-clause-memory g c is =
+    c.in_err-extend_on.ensures.memory (subst (λ (r : Result (Unit {0}) StoreErr). IsErrOf r store.Memory) (given g c) is)
 
 -- the writer stands on its pack as before
 still : (g : Over) (c : goal.After-from_residual g) → IsTrue g.H.Hall.tells → sound_after (reported c.from_residual.result) ≡ true → (v v' : Vol) → slice_get c.args.vols.now.items c.args.writer.now.v ≡ Some v → slice_get c.extend_on.new.vols.items c.args.writer.now.v ≡ Some v'

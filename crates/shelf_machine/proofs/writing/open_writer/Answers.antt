@@ -11,7 +11,7 @@ use Rattle.shelf_machine.proofs.Settling.{settled_as, unsettled_as}
 use Rattle.shelf_machine.proofs.writing.open_writer.Goals as goal
 
 pub returns-in-Ok-clause-files : goal.returns-in-Ok-clause-files
-returns-in-Ok-clause-files g c told = settled_as c.in-Ok.field-0 _ (c.in-Ok.ensures.files told)
+returns-in-Ok-clause-files g c told = rw c.writer_on.ensures.hall (settled_as c.in-Ok.field-0 _ (c.in-Ok.ensures.files told))
 
 pub returns-in-Ok-clause-opened : goal.returns-in-Ok-clause-opened
 returns-in-Ok-clause-opened g c = c.is_some.ensures ∙ open_some c.args.v c.args.dsn.now c.writer_on.result c.writer_on.ensures.target
@@ -23,8 +23,8 @@ returns-in-Ok-clause-pending g c told none =
     let files = (g.H.Hall.meaning c.args.hall.now).state in
     let us = (g.H.Hall.facts c.args.hall.now).units in
     let begun = c.writer_on.ensures.begun files us c.requires.indexes (c.requires.kept told) none in
-    pending_begun (g.H.Hall.meaning c.settle.new.hall) (g.H.Hall.facts c.settle.new.hall).units vols r (c.in-Ok.ensures.files told).done
-    (both_same (λ (fs : List File) (u : List Attached). IfSome r (IsBegunOn fs u vols)) (c.settle.ensures.files told).state c.settle.ensures.faults.units begun)
+    rw c.writer_on.ensures.hall (pending_begun (g.H.Hall.meaning c.settle.new.hall) (g.H.Hall.facts c.settle.new.hall).units vols r (c.in-Ok.ensures.files told).done
+    (both_same (λ (fs : List File) (u : List Attached). IfSome r (IsBegunOn fs u vols)) (c.settle.ensures.files told).state c.settle.ensures.faults.units begun))
 
 pub returns-in-Ok-clause-writer : goal.returns-in-Ok-clause-writer
 returns-in-Ok-clause-writer g c told none is =
@@ -33,9 +33,9 @@ returns-in-Ok-clause-writer g c told none is =
     let files = (g.H.Hall.meaning c.args.hall.now).state in
     let us = (g.H.Hall.facts c.args.hall.now).units in
     let begun = c.writer_on.ensures.begun files us c.requires.indexes (c.requires.kept told) none in
-    writer_begun (g.H.Hall.meaning c.settle.new.hall).state (g.H.Hall.facts c.settle.new.hall).units vols c.args.v c.args.dsn.now r c.writer_on.ensures.slot c.writer_on.ensures.target
+    rw c.writer_on.ensures.hall (writer_begun (g.H.Hall.meaning c.settle.new.hall).state (g.H.Hall.facts c.settle.new.hall).units vols c.args.v c.args.dsn.now r c.writer_on.ensures.slot c.writer_on.ensures.target
     (both_same (λ (fs : List File) (u : List Attached). IfSome r (IsBegunOn fs u vols)) (c.settle.ensures.files told).state c.settle.ensures.faults.units begun)
-    (sym (open_some c.args.v c.args.dsn.now r c.writer_on.ensures.target) ∙ sym c.is_some.ensures ∙ is)
+    (sym (open_some c.args.v c.args.dsn.now r c.writer_on.ensures.target) ∙ sym c.is_some.ensures ∙ is))
 
 pub returns-in-Err-clause-files : goal.returns-in-Err-clause-files
 returns-in-Err-clause-files g c told = unsettled_as c.in-Err.field-0 _ (c.in-Err.ensures.files told)

@@ -30,7 +30,7 @@ invariant_of-self-in-Ok-1 g c =
     let was = c.args.self.now in
     let vols = was.vols.items in
     let run = c.open_writer.ensures in
-    record {
+    rw c.open_writer.ensures.indexes (record {
       indexes = subst (λ (us : List Attached). AreIndexes us vols) (sym run.faults.units) was.indexes;
       order = λ sound. was.order c.requires.sound;
       kept = λ sound told. both_same (λ (fs : List File) (us : List Attached). AreKept fs us vols) (run.files told).state run.faults.units (was.kept c.requires.sound told);
@@ -39,34 +39,34 @@ invariant_of-self-in-Ok-1 g c =
       buffers = was.buffers;
       bodies = λ sound told. both_same (λ (fs : List File) (us : List Attached). KnowsBodies (shelf_under (names_of us (units_of vols)) fs) was.known.items) (run.files told).state run.faults.units (was.bodies c.requires.sound told);
       held = λ sound told. both_same (λ (fs : List File) (us : List Attached). AreHeld fs us vols was.known.items) (run.files told).state run.faults.units (was.held c.requires.sound told);
-    }
+    })
 
 pub returns-in-Ok-true-clause-answer : goal.returns-in-Ok-true-clause-answer
 returns-in-Ok-true-clause-answer g c told = sym (c.write_refusal.ensures _ (machine_volumes c.args.self.now c.deref.result.now c.deref.ensures.value c.requires.sound told) (c.args.self.now.bodies c.requires.sound told)) ∙ c.in_default.is
 
 pub returns-in-Ok-true-clause-same : goal.returns-in-Ok-true-clause-same
-returns-in-Ok-true-clause-same g c told = same_at (g.H.Hall.facts c.args.self.now.hall).units (g.H.Hall.facts c.open_writer.new.hall).units (units_of c.args.self.now.vols.items) c.open_writer.ensures.faults.units c.args.self.now.vols.items (g.H.Hall.meaning c.args.self.now.hall) (g.H.Hall.meaning c.open_writer.new.hall)
+returns-in-Ok-true-clause-same g c told = rw c.open_writer.ensures.indexes (same_at (g.H.Hall.facts c.args.self.now.hall).units (g.H.Hall.facts c.open_writer.new.hall).units (units_of c.args.self.now.vols.items) c.open_writer.ensures.faults.units c.args.self.now.vols.items (g.H.Hall.meaning c.args.self.now.hall) (g.H.Hall.meaning c.open_writer.new.hall)
     (pending_left (g.H.Hall.meaning c.args.self.now.hall) (g.H.Hall.facts c.args.self.now.hall).units c.args.self.now.vols.items c.args.self.now.writer (c.args.self.now.kept c.requires.sound told) (c.args.self.now.slot c.requires.sound) (c.args.self.now.pending c.requires.sound told))
-    (g.met.H.Hall.leaves_state c.args.self.now.hall) (g.met.H.Hall.leaves_state c.open_writer.new.hall) _ (c.open_writer.ensures.files told)
+    (g.met.H.Hall.leaves_state c.args.self.now.hall) (g.met.H.Hall.leaves_state c.open_writer.new.hall) _ (c.open_writer.ensures.files told))
 
 pub returns-in-Ok-true-clause-promise : goal.returns-in-Ok-true-clause-promise
-returns-in-Ok-true-clause-promise g c told = promise_at (g.H.Hall.facts c.args.self.now.hall).units (g.H.Hall.facts c.open_writer.new.hall).units (units_of c.args.self.now.vols.items) c.open_writer.ensures.faults.units c.args.self.now.vols.items (g.H.Hall.meaning c.args.self.now.hall) (g.H.Hall.meaning c.open_writer.new.hall)
-    (g.met.H.Hall.counts_now c.args.self.now.hall) _ (c.open_writer.ensures.files told)
+returns-in-Ok-true-clause-promise g c told = rw c.open_writer.ensures.indexes (promise_at (g.H.Hall.facts c.args.self.now.hall).units (g.H.Hall.facts c.open_writer.new.hall).units (units_of c.args.self.now.vols.items) c.open_writer.ensures.faults.units c.args.self.now.vols.items (g.H.Hall.meaning c.args.self.now.hall) (g.H.Hall.meaning c.open_writer.new.hall)
+    (g.met.H.Hall.counts_now c.args.self.now.hall) _ (c.open_writer.ensures.files told))
 
 pub returns-in-Ok-false-clause-same : goal.returns-in-Ok-false-clause-same
-returns-in-Ok-false-clause-same g c told = same_at (g.H.Hall.facts c.args.self.now.hall).units (g.H.Hall.facts c.open_writer.new.hall).units (units_of c.args.self.now.vols.items) c.open_writer.ensures.faults.units c.args.self.now.vols.items (g.H.Hall.meaning c.args.self.now.hall) (g.H.Hall.meaning c.open_writer.new.hall)
+returns-in-Ok-false-clause-same g c told = rw c.open_writer.ensures.indexes (same_at (g.H.Hall.facts c.args.self.now.hall).units (g.H.Hall.facts c.open_writer.new.hall).units (units_of c.args.self.now.vols.items) c.open_writer.ensures.faults.units c.args.self.now.vols.items (g.H.Hall.meaning c.args.self.now.hall) (g.H.Hall.meaning c.open_writer.new.hall)
     (pending_left (g.H.Hall.meaning c.args.self.now.hall) (g.H.Hall.facts c.args.self.now.hall).units c.args.self.now.vols.items c.args.self.now.writer (c.args.self.now.kept c.requires.sound told) (c.args.self.now.slot c.requires.sound) (c.args.self.now.pending c.requires.sound told))
-    (g.met.H.Hall.leaves_state c.args.self.now.hall) (g.met.H.Hall.leaves_state c.open_writer.new.hall) _ (c.open_writer.ensures.files told)
+    (g.met.H.Hall.leaves_state c.args.self.now.hall) (g.met.H.Hall.leaves_state c.open_writer.new.hall) _ (c.open_writer.ensures.files told))
 
 pub returns-in-Ok-false-clause-promise : goal.returns-in-Ok-false-clause-promise
-returns-in-Ok-false-clause-promise g c told = promise_at (g.H.Hall.facts c.args.self.now.hall).units (g.H.Hall.facts c.open_writer.new.hall).units (units_of c.args.self.now.vols.items) c.open_writer.ensures.faults.units c.args.self.now.vols.items (g.H.Hall.meaning c.args.self.now.hall) (g.H.Hall.meaning c.open_writer.new.hall)
-    (g.met.H.Hall.counts_now c.args.self.now.hall) _ (c.open_writer.ensures.files told)
+returns-in-Ok-false-clause-promise g c told = rw c.open_writer.ensures.indexes (promise_at (g.H.Hall.facts c.args.self.now.hall).units (g.H.Hall.facts c.open_writer.new.hall).units (units_of c.args.self.now.vols.items) c.open_writer.ensures.faults.units c.args.self.now.vols.items (g.H.Hall.meaning c.args.self.now.hall) (g.H.Hall.meaning c.open_writer.new.hall)
+    (g.met.H.Hall.counts_now c.args.self.now.hall) _ (c.open_writer.ensures.files told))
 
 pub returns-in-Err-clause-promise : goal.returns-in-Err-clause-promise
-returns-in-Err-clause-promise g c told = promise_at (g.H.Hall.facts c.args.self.now.hall).units (g.H.Hall.facts c.open_writer.new.hall).units (units_of c.args.self.now.vols.items) c.open_writer.ensures.faults.units c.args.self.now.vols.items (g.H.Hall.meaning c.args.self.now.hall) (g.H.Hall.meaning c.open_writer.new.hall)
-    (g.met.H.Hall.counts_now c.args.self.now.hall) _ (c.open_writer.ensures.files told)
+returns-in-Err-clause-promise g c told = rw c.open_writer.ensures.indexes (promise_at (g.H.Hall.facts c.args.self.now.hall).units (g.H.Hall.facts c.open_writer.new.hall).units (units_of c.args.self.now.vols.items) c.open_writer.ensures.faults.units c.args.self.now.vols.items (g.H.Hall.meaning c.args.self.now.hall) (g.H.Hall.meaning c.open_writer.new.hall)
+    (g.met.H.Hall.counts_now c.args.self.now.hall) _ (c.open_writer.ensures.files told))
 
 pub returns-in-Ok-true-clause-writer : goal.returns-in-Ok-true-clause-writer
 returns-in-Ok-true-clause-writer g c told =
-    subst (λ (m : Mode). writer_in (g.H.Hall.meaning c.open_writer.new.hall).state (g.H.Hall.facts c.open_writer.new.hall).units c.args.self.now.vols.items c.open_writer.new.writer ≡ begun (record { v = c.args.v; dsn = c.args.dsn.now; mode = m }))
-    (sym c.in-Fill.is) (c.in-Ok-true.ensures.writer told (fills_well _ c.args.v c.args.dsn.now c.args.mode c.write_refusal.result (c.write_refusal.ensures _ (machine_volumes c.args.self.now c.deref.result.now c.deref.ensures.value c.requires.sound told) (c.args.self.now.bodies c.requires.sound told)) c.in_default.is c.in-Fill.is) c.in-Ok-true.field-0-test)
+    rw c.open_writer.ensures.indexes (subst (λ (m : Mode). writer_in (g.H.Hall.meaning c.open_writer.new.hall).state (g.H.Hall.facts c.open_writer.new.hall).units c.args.self.now.vols.items c.open_writer.new.writer ≡ begun (record { v = c.args.v; dsn = c.args.dsn.now; mode = m }))
+    (sym c.in-Fill.is) (c.in-Ok-true.ensures.writer told (fills_well _ c.args.v c.args.dsn.now c.args.mode c.write_refusal.result (c.write_refusal.ensures _ (machine_volumes c.args.self.now c.deref.result.now c.deref.ensures.value c.requires.sound told) (c.args.self.now.bodies c.requires.sound told)) c.in_default.is c.in-Fill.is) c.in-Ok-true.field-0-test))
