@@ -37,8 +37,11 @@ def milliseconds(command, deck=None):
     return (time.perf_counter() - begin) * 1000
 
 
-def device_calls(command, image, deck=None):
-    """How many reads, writes and syncs of the image one run makes, if `strace` is installed."""
+def traced_calls(command, images, deck=None):
+    """The reads, writes and syncs of images that one run makes, in order, if `strace` is installed.
+
+    Each has the name of the system's call, the image, and of a write the offset and the number of bytes.
+    """
     strace = shutil.which("strace")
     if strace is None:
         return None
@@ -51,12 +54,27 @@ def device_calls(command, image, deck=None):
         text=True,
         check=True,
     )
-    counts = Counter()
+    paths = {Path(image).resolve() for image in images}
+    calls = []
     for line in traced.stderr.splitlines():
         call = re.match(r"(?:\[pid +\d+\] )?(\w+)\(\d+<([^>]*)>", line)
-        if call and Path(call[2]) == Path(image).resolve():
-            counts[call[1]] += 1
+        if call and Path(call[2]) in paths:
+            place = re.search(r", (\d+), (\d+)\) += \d+$", line)
+            length, at = (int(place[1]), int(place[2])) if place else (0, 0)
+            calls.append((call[1], Path(call[2]), at, length))
+    return calls
+
+
+def counted(calls):
+    """How many of the calls are reads, writes and syncs."""
+    counts = Counter(name for name, *_ in calls)
     return {
         kind: sum(counts[name] for name in names)
         for kind, names in (("reads", READS), ("writes", WRITES), ("syncs", SYNCS))
     }
+
+
+def device_calls(command, image, deck=None):
+    """How many reads, writes and syncs of the image one run makes, if `strace` is installed."""
+    calls = traced_calls(command, [image], deck)
+    return None if calls is None else counted(calls)

@@ -46,6 +46,8 @@ pub struct Bench {
     pub mode: Mode,
     /// The words of a run over what each of these leaves, or none.
     pub next: Vec<String>,
+    /// The deck of that run.
+    pub next_deck: Vec<u8>,
 }
 
 // Ample room.
@@ -69,6 +71,7 @@ impl Bench {
             shows_calls: false,
             mode: Mode::Once,
             next: Vec::new(alloc),
+            next_deck: Vec::new(alloc),
         }
     }
 
@@ -84,6 +87,7 @@ impl Bench {
         self.shows_calls = false;
         self.mode = Mode::Once;
         self.next.clear();
+        self.next_deck.clear();
     }
 
     /// A copy of a pack.
@@ -113,6 +117,13 @@ impl Bench {
     pub fn add_card(&mut self, text: &str, end: &str) -> Result<()> {
         self.deck.extend_from_slice(text.as_bytes())?;
         self.deck.extend_from_slice(end.as_bytes())?;
+        Ok(())
+    }
+
+    /// Adds a line, and its end, to the deck of the run over what stops or faults leave.
+    pub fn add_next_card(&mut self, text: &str) -> Result<()> {
+        self.next_deck.extend_from_slice(text.as_bytes())?;
+        self.next_deck.extend_from_slice(b"\n")?;
         Ok(())
     }
 }

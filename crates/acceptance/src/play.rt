@@ -30,6 +30,9 @@ fn play_line<R: Print + AllocGlobal>(rt: &R, bench: &mut Bench, line: &str) -> R
     if let Some(card) = line.strip_prefix('+') {
         return bench.add_card(card, "");
     }
+    if let Some(card) = line.strip_prefix('&') {
+        return bench.add_next_card(card);
+    }
     let words: Vec<&str> = line.split_whitespace().collect(alloc)?;
     match words.as_slice() {
         [] | ["#", ..] => Ok(()),

@@ -99,7 +99,8 @@ fn push_next(alloc: Global, text: &mut String, bench: &Bench, left: Left) -> Res
     let Left { files, printed: _ } = left;
     let mut hall = MemHall::new(alloc, files, Vec::new(alloc));
     hall.room(calls, bytes)?;
-    let mut cards = MemCards::new(Vec::new(alloc), Vec::new(alloc));
+    let deck = bench.next_deck.as_slice().to_vec(alloc)?;
+    let mut cards = MemCards::new(deck, Vec::new(alloc));
     let status = volume_manager::volman(alloc, &bench.next, &mut cards, &mut hall);
     writeln!(text, "then {status}")?;
     push_printed(text, hall.printed())

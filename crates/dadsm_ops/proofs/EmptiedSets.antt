@@ -17,7 +17,10 @@ use Rattle.pack_spec.specs.Bodies.{body_of, catalog_of}
 use Rattle.pack_spec.specs.Rules.{counted_extents, name_faults, set_in, slots_faults}
 use Rattle.pack_spec.specs.Volume.{attr_of, counted_runs, data_set_of, data_sets_in, volume_with}
 use Rattle.pack_spec.specs.Vtoc.{run_of_extent}
+use Rattle.pack_spec.specs.Directories.{part_body}
+use Rattle.pack_spec.proofs.BodyKinds.{partitioned_body, sequential_body}
 use Rattle.pack_spec.proofs.Lawful.{groups_hold}
+use Rattle.pack_spec.proofs.PartBodies.{part_or_unread}
 use Rattle.pack_spec.proofs.SetNames.{distinct_sets, names_apart}
 use Rattle.vol_model.specs.declared.catalogs.CatBody.TheVariants as catalogs
 use Rattle.vol_model.specs.declared.contents.Attr.{Attr}
@@ -25,12 +28,14 @@ use Rattle.vol_model.specs.declared.contents.Block.{Block}
 use Rattle.vol_model.specs.declared.contents.Body.{Body}
 use Rattle.vol_model.specs.declared.contents.Body.TheVariants as bodies
 use Rattle.vol_model.specs.declared.contents.DataSet.{DataSet}
+use Rattle.vol_model.specs.declared.contents.Entry.{Entry}
+use Rattle.vol_model.specs.declared.contents.Place.{Place}
 use Rattle.vol_model.specs.declared.contents.Run.{Run}
 use Rattle.vol_model.specs.declared.contents.Volume.{Volume}
 use Rattle.vol_model.specs.declared.refusals.Refusal.{Refusal}
 use Rattle.vol_model.specs.declared.refusals.Refusal.TheVariants.{WrongKind}
 use Rattle.vol_model.specs.Order.{IsAscending, in_order, is_before}
-use Rattle.vol_model.specs.Shelf.{catalog_name, changed, empty_on, empty_set, emptied, has_name, if_readable, is_catalog, is_partitioned, is_sequential, is_vacant, may_empty, organization, set_of, with_set, without_blocks}
+use Rattle.vol_model.specs.Shelf.{catalog_name, changed, empty_on, empty_set, emptied, has_name, if_readable, is_catalog, is_partitioned, is_sequential, is_vacant, may_empty, set_of, with_set, without_blocks}
 use Rattle.vol_model.proofs.InOrder.{in_order-sorted, in_order-stable, in_order-unique}
 use Rattle.vol_model.proofs.Steps.{ascending_in_order, in_order-ascending, same_names}
 use Rattle.shelf_laws.proofs.SetChanges.{changed-any, changed-ascending}
@@ -39,6 +44,7 @@ use Rattle.vtoc_index.specs.Index.{with_dscb}
 use Rattle.dadsm_ops.specs.Emptying.{emptied_format_1}
 use Rattle.dadsm_ops.proofs.ChangedLists.{filter-map}
 use Rattle.dadsm_ops.proofs.ChangedSlots.{holding, length-changed, split_changed, split_slots}
+use Rattle.dadsm_ops.proofs.VacantSets.{vacant_part}
 use Rattle.dadsm_ops.proofs.ScratchedSets.{apart_before, apart_behind, filter_in_order}
 
 -- ---- a body without blocks
@@ -56,71 +62,92 @@ seq_emptied g tracks extents lstar = by_test (has_no_block lstar) _ (plain_body 
     by_test true body plain = refl
     by_test false body plain = plain
 
--- any body that is read
-body_emptied : (g : Geometry) (tracks : List (List ℕ)) (name : List ℕ) (attr : Attr) (extents : List Run) (lstar : List ℕ) → without_blocks (body_of g tracks name attr extents lstar) ≡ bodies.Seq []
-unfolding body_of
-body_emptied g tracks name attr extents lstar = by_tests (is_sequential name attr) _
-  where
-    by_tests : (s p : Bool) → without_blocks (cond s (seq_body g tracks extents lstar) (cond p (bodies.Unreadable 0) bodies.Other)) ≡ bodies.Seq []
-    by_tests true p = seq_emptied g tracks extents lstar
-    by_tests false true = refl
-    by_tests false false = refl
-
--- a sequential data set of which no block is named
-body_without : (g : Geometry) (tracks : List (List ℕ)) (name : List ℕ) (attr : Attr) (extents : List Run) → is_sequential name attr ≡ true → body_of g tracks name attr extents (replicate 3 0) ≡ bodies.Seq []
-unfolding body_of seq_body
-body_without g tracks name attr extents is =
-    let rest : Body = cond (is_catalog name || (not (is_catalog name) && organization attr == 1)) (bodies.Unreadable 0) bodies.Other in
-    ap (λ (b : Bool). cond b (bodies.Seq []) rest) is
-
--- the organization of a data set that is emptied, which isn't the catalog's, and which is sequential or none
+-- the organization of a data set that is emptied
 abbrev after_dsorg : ℕ → ℕ
 after_dsorg d = if d == 0 then 0x4000 else d
 
-only_left : (s z p v : Bool) → z ≡ false → p ≡ false → (s || (z || (p && v))) ≡ true → s ≡ true
-only_left true z p v none flat may = refl
-only_left false true p v none flat may = cc
-only_left false false true v none flat may = cc
-only_left false false false v none flat may = may
-
-seq_after : (c : Bool) (d : ℕ) (v : Bool) → (not c && d / 512 == 1) ≡ false → ((not c && d / 512 == 32) || ((d == 0 && not c) || ((not c && d / 512 == 1) && v))) ≡ true → (not c && after_dsorg d / 512 == 32) ≡ true
-seq_after c d v flat may = by_zero (d == 0) may
+seq_kept : (c : Bool) (d : ℕ) → (not c && d / 512 == 32) ≡ true → (not c && after_dsorg d / 512 == 32) ≡ true
+seq_kept true d is = is
+seq_kept false d is = by_zero (d == 0)
   where
-    none : (k : Bool) → ((not k && d / 512 == 32) || (not k || ((not k && d / 512 == 1) && v))) ≡ true → (not k && 0x4000 / 512 == 32) ≡ true
-    none true is = is
-    none false is = refl
+    by_zero : (b : Bool) → (cond b 0x4000 d / 512 == 32) ≡ true
+    by_zero true = refl
+    by_zero false = is
 
-    by_zero : (b : Bool) → ((not c && d / 512 == 32) || ((b && not c) || ((not c && d / 512 == 1) && v))) ≡ true → (not c && (if b then 0x4000 else d) / 512 == 32) ≡ true
-    by_zero true is = none c is
-    by_zero false is = only_left (not c && d / 512 == 32) false (not c && d / 512 == 1) v refl flat is
+part_kept : (c : Bool) (d : ℕ) → (not c && d / 512 == 1) ≡ true → ((d == 0) ≡ false) × ((not c && after_dsorg d / 512 == 1) ≡ true)
+part_kept true d is = cc
+part_kept false d is =
+    let some : (d == 0) ≡ false = apart d is in
+    (some, ap (λ (b : Bool). cond b 0x4000 d / 512 == 1) some ∙ is)
+  where
+    apart : (n : ℕ) → (n / 512 == 1) ≡ true → (n == 0) ≡ false
+    apart n one = grind (arith, nat_tests)
 
 not_not : (b : Bool) → not b ≡ false → b ≡ true
 not_not true is = refl
 not_not false is = cc
 
+-- a partitioned body without entries and blocks, if it can be read
+vacant_is : (n : ℕ) (end : Place) (es : List Entry) (bs : List Block) → is_vacant (bodies.Part n end es bs) ≡ true → bodies.Part n end es bs ≡ bodies.Part n end [] []
+vacant_is n end [] [] is = refl
+vacant_is n end [] (b ∷ bs) is = cc
+vacant_is n end (e ∷ es) bs is = cc
+
 -- a body by the answers to the tests on its kind
-abbrev body_by : Geometry → List (List ℕ) → List Run → List ℕ → Bool → Bool → Bool → Body
-body_by g tracks extents lstar s c p = cond s (seq_body g tracks extents lstar) (cond (c || p) (bodies.Unreadable 0) bodies.Other)
+abbrev by_kind : Bool → Bool → Bool → Body → Body → Body
+by_kind s p c seq part = cond s seq (cond p part (cond c (bodies.Unreadable 0) bodies.Other))
 
--- where a data set may be emptied and its body is read, it is sequential then
-seq_then : (g : Geometry) (tracks : List (List ℕ)) (name : List ℕ) (attr : Attr) (extents : List Run) (lstar : List ℕ) (new w : Volume) → may_empty name attr (body_of g tracks name attr extents lstar) ≡ true
-    → (let rest : Result Volume Refusal = Ok new in if_readable (body_of g tracks name attr extents lstar) rest) ≡ Ok w → (not (is_catalog name) && after_dsorg attr.dsorg / 512 == 32) ≡ true
-unfolding body_of
-seq_then g tracks name attr extents lstar new w may read = by_kind (is_sequential name attr) (is_catalog name) (is_partitioned name attr) refl refl refl may read
-  where
-    other : (n : ℕ) → (n == 32) ≡ true → (n == 1) ≡ false
-    other n is = grind (arith, nat_tests)
+-- Where a data set may be emptied and its body is read, that body without blocks is the one of which no block is named.
+module _ (g : Geometry) (tracks : List (List ℕ)) (name : List ℕ) (attr now : Attr) (extents : List Run) (lstar : List ℕ) (new w : Volume) (kind : now.dsorg ≡ after_dsorg attr.dsorg) where
+  abbrev readable : Body → Type 0
+  readable body = (let rest : Result Volume Refusal = Ok new in if_readable body rest) ≡ Ok w
 
-    flat_seq : (c : Bool) (d : ℕ) → (not c && d / 512 == 32) ≡ true → (not c && d / 512 == 1) ≡ false
-    flat_seq true d is = refl
-    flat_seq false d is = other (d / 512) is
+  seq_without : is_sequential name now ≡ true → body_of g tracks name now extents (replicate 3 0) ≡ bodies.Seq []
+  unfolding seq_body
+  seq_without is = sequential_body g tracks name now extents (replicate 3 0) is
 
-    by_kind : (s c p : Bool) → is_sequential name attr ≡ s → is_catalog name ≡ c → is_partitioned name attr ≡ p → may_empty name attr (body_by g tracks extents lstar s c p) ≡ true
-        → (let rest : Result Volume Refusal = Ok new in if_readable (body_by g tracks extents lstar s c p) rest) ≡ Ok w → (not (is_catalog name) && after_dsorg attr.dsorg / 512 == 32) ≡ true
-    by_kind true c p seq cat part may read = seq_after (is_catalog name) attr.dsorg (is_vacant (seq_body g tracks extents lstar)) (flat_seq (is_catalog name) attr.dsorg seq) may
-    by_kind false true p seq cat part may read = cc
-    by_kind false false true seq cat part may read = cc
-    by_kind false false false seq cat part may read = seq_after (is_catalog name) attr.dsorg false part may
+  part_without : is_partitioned name now ≡ true → is_vacant (part_body g tracks extents lstar) ≡ true → readable (part_body g tracks extents lstar) → body_of g tracks name now extents (replicate 3 0) ≡ without_blocks (part_body g tracks extents lstar)
+  part_without is = part_or_unread g tracks extents lstar
+      (λ (b : Body). part_body g tracks extents lstar ≡ b → is_vacant b ≡ true → readable b → body_of g tracks name now extents (replicate 3 0) ≡ without_blocks b)
+      (λ n end es bs read vacant ok.
+      partitioned_body g tracks name now extents (replicate 3 0) is ∙ vacant_part g tracks extents lstar n end (read ∙ vacant_is n end es bs vacant))
+      (λ k read vacant ok. cc)
+      refl
+
+  pub body_emptied : may_empty name attr (body_of g tracks name attr extents lstar) ≡ true → readable (body_of g tracks name attr extents lstar) → body_of g tracks name now extents (replicate 3 0) ≡ without_blocks (body_of g tracks name attr extents lstar)
+  unfolding body_of
+  body_emptied = by (is_sequential name attr) (is_partitioned name attr) refl refl
+    where
+      only : (s z p v : Bool) → s ≡ false → z ≡ false → (s || (z || (p && v))) ≡ true → v ≡ true
+      only true z p v other none may = cc
+      only false true p v other none may = cc
+      only false false true v other none may = may
+      only false false false v other none may = cc
+
+      without : (c : Bool) (d : ℕ) → ((d == 0 && not c) || false) ≡ true → (c ≡ false) × ((not c && after_dsorg d / 512 == 32) ≡ true)
+      without true d may = absurd (never (d == 0) may)
+        where
+          never : (b : Bool) → ((b && false) || false) ≡ true → ⊥
+          never true e = cc
+          never false e = cc
+      without false d may = (refl, by_zero (d == 0) may)
+        where
+          by_zero : (b : Bool) → ((b && true) || false) ≡ true → (cond b 0x4000 d / 512 == 32) ≡ true
+          by_zero true e = refl
+          by_zero false e = cc
+
+      by : (s p : Bool) → is_sequential name attr ≡ s → is_partitioned name attr ≡ p
+          → let body : Body = by_kind s p (is_catalog name) (seq_body g tracks extents lstar) (part_body g tracks extents lstar) in
+          (s || ((attr.dsorg == 0 && not (is_catalog name)) || (p && is_vacant body))) ≡ true → readable body → body_of g tracks name now extents (replicate 3 0) ≡ without_blocks body
+      by true p seq part may read =
+          seq_without (ap (λ (d : ℕ). not (is_catalog name) && d / 512 == 32) kind ∙ seq_kept (is_catalog name) attr.dsorg seq) ∙ sym (seq_emptied g tracks extents lstar)
+      by false true seq part may read =
+          let kept = part_kept (is_catalog name) attr.dsorg part in
+          part_without (ap (λ (d : ℕ). not (is_catalog name) && d / 512 == 1) kind ∙ kept.1) (only false (attr.dsorg == 0 && not (is_catalog name)) true _ refl (ap (λ (b : Bool). b && not (is_catalog name)) kept.0) may) read
+      by false false seq part may read =
+          let flat = without (is_catalog name) attr.dsorg may in
+          seq_without (ap (λ (d : ℕ). not (is_catalog name) && d / 512 == 32) kind ∙ flat.1)
+          ∙ ap (λ (c : Bool). without_blocks (cond c (bodies.Unreadable 0) bodies.Other)) (sym flat.0)
 
 -- ---- lists in which one data set has a name
 
@@ -272,10 +299,6 @@ module _ (g : Geometry) (tracks : List (List ℕ)) (slots : List VtocSlot) (k : 
         let kind = refuse_ok (not (may_empty f.name (as_set f).attr (as_set f).body)) WrongKind (if_readable (as_set f).body (Ok (with_set volume f.name (emptied attr)))) w step in
         (not_not (may_empty f.name (as_set f).attr (as_set f).body) kind.0, kind.1)
 
-    seq_now : (not (is_catalog f.name) && after_dsorg f.dsorg / 512 == 32) ≡ true
-    unfolding data_set_of attr_of
-    seq_now = seq_then g tracks f.name (attr_of f) (counted_runs g slots f) f.lstar (with_set volume f.name (emptied attr)) w judged.0 judged.1
-
     counted_now : counted_extents slots now ≡ counted_extents slots f
     unfolding counted_extents
     counted_now = refl
@@ -287,8 +310,7 @@ module _ (g : Geometry) (tracks : List (List ℕ)) (slots : List VtocSlot) (k : 
         let make : List Run → Body → DataSet = λ runs body. record { name = record { bytes = f.name }; attr = attr_of now; extents = runs; body = body } in
         ap (λ (es : List (List ℕ)). make (map (run_of_extent g) es) (body_of g tracks f.name (attr_of now) (map (run_of_extent g) es) (replicate 3 0))) counted_now
         ∙ ap (make (counted_runs g slots f))
-        (body_without g tracks f.name (attr_of now) (counted_runs g slots f) seq_now
-        ∙ sym (body_emptied g tracks f.name (attr_of f) (counted_runs g slots f) f.lstar))
+        (body_emptied g tracks f.name (attr_of f) (attr_of now) (counted_runs g slots f) f.lstar (with_set volume f.name (emptied attr)) w refl judged.0 judged.1)
 
     sets_now : in_order (data_sets_in g tracks after) ≡ changed f.name (emptied attr) (in_order (data_sets_in g tracks slots))
     sets_now =

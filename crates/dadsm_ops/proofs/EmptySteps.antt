@@ -23,7 +23,7 @@ use Rattle.vtoc_index.specs.declared.vol.Vol.{Vol}
 use Rattle.free_rebuild.proofs.ChainLemmas.{get_low, get_set, get_set_other, same_or_not}
 use Rattle.dadsm_ops.specs.Allocating.{HaveSameNames}
 use Rattle.dadsm_ops.specs.Emptying.{MayEmpty, emptied_dscb, emptied_format_1}
-use Rattle.dadsm_ops.specs.Operations.{DoesOperation, Operates, image_named}
+use Rattle.dadsm_ops.specs.Operations.{DoesOperation, InVtoc, Operates, image_named}
 use Rattle.dadsm_ops.specs.Through.{PutsThrough}
 use Rattle.dadsm_ops.proofs.EmptiedImages.{CanEmpty, empty_put, empty_stands}
 use Rattle.dadsm_ops.proofs.NewIndex.{slots_changed}
@@ -35,9 +35,9 @@ use Rattle.dadsm_ops.proofs.ScratchedIndex.{set_at, set_of}
 abbrev HasSlotsOf : Vol → Vol → Type 0
 HasSlotsOf v w = w ≡ record v { slots = w.slots; buf = w.buf }
 
-module _ {X Y : Type 0} {name : List ℕ} {operation : Volume → Result Volume Refusal} {w : Vol} {m n : Meaning (List File)} where
+module _ {X Y : Type 0} {name : List ℕ} {operation : Volume → Result Volume Refusal} {w : Vol} {Changes : List ℕ → List ℕ → Type 0} {m n : Meaning (List File)} where
   -- an operation that isn't refused, by what it does
-  when_done : {answer : Unit {0}} (x : X) → Operates {T = Unit {0}} name operation w m n (Ok answer) → DoesOperation {T = X} {E = Y} name operation w m n (Ok x)
+  when_done : {answer : Unit {0}} (x : X) → Operates {T = Unit {0}} name operation w Changes m n (Ok answer) → DoesOperation {T = X} {E = Y} name operation w Changes m n (Ok x)
   when_done x is = record {
     volume = is.does.volume;
     before = is.does.before;
@@ -47,7 +47,7 @@ module _ {X Y : Type 0} {name : List ℕ} {operation : Volume → Result Volume 
     moments = is.does.moments;
   }
 
-  when_failed : (e : Y) → Operates {T = Unit {0}} name operation w m n (Err Device) → DoesOperation {T = X} {E = Y} name operation w m n (Err e)
+  when_failed : (e : Y) → Operates {T = Unit {0}} name operation w Changes m n (Err Device) → DoesOperation {T = X} {E = Y} name operation w Changes m n (Err e)
   when_failed e is = record {
     volume = is.does.volume;
     before = is.does.before;
@@ -70,7 +70,7 @@ module _ (name : List ℕ) (v v' : Vol) (slot : ℕ) (f : F1) (attr : Attr) (m n
       let s = empty_stands (image_named m.state name) (image_named put.after name) v slot f attr put.bytes can put.size put.dscb put.put.written put.put.image volume before in
       record { after = s.after; step = s.step; stands = s.stands; guarded = s.guarded; settled = s.settled; changes = record { others = put.put.others; image = s.changes } }
 
-  set_empties : {X Y : Type 0} (result : Result X Y) → PutsThrough name v slot d v' m n result → DoesOperation name operation v' m n result
+  set_empties : {X Y : Type 0} (result : Result X Y) → PutsThrough name v slot d v' m n result → DoesOperation name operation v' (InVtoc v') m n result
   set_empties (Ok x) put =
       let same_files : image_named n.state name ≡ image_named put.after name = ap (λ (files : List File). image_named files name) put.step.done.0 in
       let mounted : IsMounted (image_named put.after name) v' =
@@ -85,7 +85,7 @@ dscb_emptied attr items slot x d f set read is = is ∙ ap (emptied_dscb attr) (
 
 -- The operation, done or not.
 pub empties : {X Y : Type 0} (name : List ℕ) (v v' : Vol) (dsn : Dsn) (slot : ℕ) (x d : Dscb) (attr : Attr) (m n : Meaning (List File)) → IsMounted (image_named m.state name) v → name_at v.slots.items slot ≡ Some dsn.bytes → MayEmpty (image_named m.state name) dsn attr → x ≡ get_or v.slots.items slot x → d ≡ emptied_dscb attr x → HasSlotsOf v v'
-    → (result : Result X Y) → PutsThrough name v slot d v' m n result → DoesOperation name (empty_on dsn attr) v' m n result
+    → (result : Result X Y) → PutsThrough name v slot d v' m n result → DoesOperation name (empty_on dsn attr) v' (InVtoc v') m n result
 empties name v v' dsn slot x d attr m n mounted named may read is same result put =
     let set = set_at v.slots.items slot dsn.bytes named in
     let f : F1 = set.0 in
@@ -97,7 +97,7 @@ empties name v v' dsn slot x d attr m n mounted named may read is same result pu
       may = subst (λ (y : Dsn). MayEmpty (image_named m.state name) y attr) called may;
     } in
     let dscb : d ≡ formats.F1 (emptied_format_1 attr f) = dscb_emptied attr v.slots.items slot x d f set.1.0 read is in
-    subst (λ (y : Dsn). DoesOperation name (empty_on y attr) v' m n result) (sym called)
+    subst (λ (y : Dsn). DoesOperation name (empty_on y attr) v' (InVtoc v') m n result) (sym called)
     (set_empties name v v' slot f attr m n can same result (subst (λ (y : Dscb). PutsThrough name v slot y v' m n result) dscb put))
 
 -- the name of a data set, if a DSCB is a format 1

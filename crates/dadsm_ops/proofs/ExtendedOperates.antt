@@ -18,7 +18,7 @@ use Rattle.vol_model.specs.Slots.{slots_needed}
 use Rattle.vtoc_index.specs.declared.vol.Vol.{Vol}
 use Rattle.vtoc_index.specs.Index.{IsMounted}
 use Rattle.dadsm_ops.specs.Extending.{HasExtension, HasMore, IsReadable, IsRefused}
-use Rattle.dadsm_ops.specs.Operations.{DoesOperation, Operates, image_named}
+use Rattle.dadsm_ops.specs.Operations.{DoesOperation, InVtoc, Operates, image_named}
 use Rattle.dadsm_ops.proofs.ExtendedVolumes.{extend_ok}
 use Rattle.dadsm_ops.proofs.ExtensionPlans.{attr_on, found_on, many_on}
 use Rattle.dadsm_ops.proofs.NewChoices.{volume_is}
@@ -57,7 +57,7 @@ module _ (name : List ℕ) (v w : Vol) (m n : Meaning (List File)) (mounted : Is
       absurd (cc never)
 
   -- it is done
-  pub operates_extended : {T A B : Type 0} {y : A} (answer : T) → DoesOperation {T = A} {E = B} name (extend_on dsn) w m n (Ok y) → Operates name (extend_on dsn) w m n (Ok answer)
+  pub operates_extended : {T A B : Type 0} {y : A} (answer : T) → DoesOperation {T = A} {E = B} name (extend_on dsn) w (InVtoc w) m n (Ok y) → Operates name (extend_on dsn) w (InVtoc w) m n (Ok answer)
   operates_extended answer does = record {
     does = record {
       volume = does.volume;
@@ -73,7 +73,7 @@ module _ (name : List ℕ) (v w : Vol) (m n : Meaning (List File)) (mounted : Is
   }
 
   -- or the device failed
-  pub operates_unextended : {T A B : Type 0} {result : Result A B} → DoesOperation name (extend_on dsn) w m n result → Operates {T = T} name (extend_on dsn) w m n (Err Device)
+  pub operates_unextended : {T A B : Type 0} {result : Result A B} → DoesOperation name (extend_on dsn) w (InVtoc w) m n result → Operates {T = T} name (extend_on dsn) w (InVtoc w) m n (Err Device)
   operates_unextended does = record {
     does = record { volume = does.volume; before = does.before; done = tt; settled = tt; printed = does.printed; moments = does.moments };
     refused = λ r wrong. absurd (let never = wrong in cc);

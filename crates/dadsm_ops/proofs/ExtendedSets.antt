@@ -1,5 +1,5 @@
 -- The format 1 of a data set with added extents, as it is read: the set with these extents, and its body as it was.
-use Rattle.std.proofs.Common.{◌≡◌, ◌+◌, ◌-◌, ◌≤◌, ℕ, Bool, true, false, cond, ◌||◌, ◌&&◌, List, [], ◌∷◌, ◌++◌, length, map, ◌/◌, Option, Some, None, refl, sym, ap, ap₂, ◌∙◌, arith}
+use Rattle.std.proofs.Common.{◌≡◌, ◌+◌, ◌-◌, ◌≤◌, ℕ, Bool, true, false, cond, ◌||◌, ◌&&◌, List, [], ◌∷◌, ◌++◌, length, map, ◌/◌, Option, Some, None, refl, ap, ap₂, ◌∙◌, arith}
 use Rattle.std.specs.Prelude.{◌==◌, nat_le, nat_lt, slice_get}
 use Rattle.std.specs.List.{AllByRecursion, list_all}
 use Rattle.std.specs.Option.{option_map_or}
@@ -9,20 +9,16 @@ use Rattle.std.proofs.lemmas.List.{map-append}
 use Rattle.ckd_image.specs.declared.header.Geometry.{Geometry}
 use Rattle.dscb_codec.specs.declared.F1.{F1}
 use Rattle.pack_spec.specs.declared.slot.VtocSlot.{VtocSlot}
-use Rattle.pack_spec.specs.Blocks.{seq_body}
 use Rattle.pack_spec.specs.Bodies.{body_of}
 use Rattle.pack_spec.specs.Label.{tracks_of}
 use Rattle.pack_spec.specs.Rules.{counted_extents, has_extents, has_types}
 use Rattle.pack_spec.specs.Volume.{attr_of, data_set_of}
 use Rattle.pack_spec.specs.Vtoc.{is_counted_type, is_extent, is_field_type, run_of_extent}
-use Rattle.pack_spec.proofs.BlockBodies.{more_extents}
-use Rattle.pack_spec.proofs.SeqBodies.{seq_or_unread}
+use Rattle.pack_spec.proofs.BodyKinds.{body_more}
 use Rattle.vol_model.specs.declared.contents.Attr.{Attr}
-use Rattle.vol_model.specs.declared.contents.Body.{Body}
-use Rattle.vol_model.specs.declared.contents.Body.TheVariants.{Other, Unreadable}
 use Rattle.vol_model.specs.declared.contents.Run.{Run}
 use Rattle.vol_model.specs.Lawful.{IsOnPack}
-use Rattle.vol_model.specs.Shelf.{is_catalog, is_partitioned, is_sequential, unreadable, with_extents}
+use Rattle.vol_model.specs.Shelf.{unreadable, with_extents}
 use Rattle.dadsm_ops.specs.Allocating.{extent_bytes}
 use Rattle.dadsm_ops.specs.Extending.{added_extents, added_field, added_fields, added_type, f1_with}
 use Rattle.dadsm_ops.proofs.AddedFields.{added_numbered}
@@ -39,35 +35,6 @@ added_counted attr = by (attr.scalo / 64 == 3)
 all_append : {X : Type 0} (p : X → Bool) (xs ys : List X) → list_all p xs ≡ true → list_all p ys ≡ true → list_all p (xs ++ ys) ≡ true
 all_append p [] ys one two = two
 all_append p (x ∷ xs) ys one two = let parts = and_parts (p x) (list_all p xs) one in ap₂ (λ (a b : Bool). a && b) parts.0 (all_append p xs ys parts.1 two)
-
--- ---- the body
-
-module _ (g : Geometry) (tracks : List (List ℕ)) (name : List ℕ) (attr : Attr) (extents more : List Run) (lstar : List ℕ) where
-  abbrev by_kind : Bool → Bool → Body → Body
-  by_kind sequential unread body = cond sequential body (cond unread (Unreadable 0) Other)
-
-  body_is : (rs : List Run) → body_of g tracks name attr rs lstar ≡ by_kind (is_sequential name attr) (is_catalog name || is_partitioned name attr) (seq_body g tracks rs lstar)
-  unfolding body_of
-  body_is rs = refl
-
-  seq_kept : unreadable (seq_body g tracks extents lstar) ≡ None → seq_body g tracks (extents ++ more) lstar ≡ seq_body g tracks extents lstar
-  seq_kept readable =
-      seq_or_unread g tracks extents lstar (λ (b : Body). seq_body g tracks extents lstar ≡ b → unreadable b ≡ None → seq_body g tracks (extents ++ more) lstar ≡ seq_body g tracks extents lstar)
-      (λ bs is read. more_extents g tracks extents more lstar bs is ∙ sym is)
-      (λ t is read. absurd (let never : unreadable (Unreadable t) ≡ None = read in cc))
-      refl readable
-
-  -- a body that can be read is the same with more extents
-  pub body_more : unreadable (body_of g tracks name attr extents lstar) ≡ None → body_of g tracks name attr (extents ++ more) lstar ≡ body_of g tracks name attr extents lstar
-  body_more readable =
-      body_is (extents ++ more)
-      ∙ by_test (is_sequential name attr) (is_catalog name || is_partitioned name attr) (sym (ap unreadable (body_is extents)) ∙ readable)
-      ∙ sym (body_is extents)
-    where
-      by_test : (b c : Bool) → unreadable (by_kind b c (seq_body g tracks extents lstar)) ≡ None → by_kind b c (seq_body g tracks (extents ++ more) lstar) ≡ by_kind b c (seq_body g tracks extents lstar)
-      by_test true c read = seq_kept read
-      by_test false true read = cc
-      by_test false false read = refl
 
 -- ---- the set
 

@@ -45,6 +45,7 @@ pub mod EmptySteps
 pub mod FoundSets
 pub mod FreedLists
 pub mod FreedRuns
+pub mod KeptDirectories
 pub mod KeptGuards
 pub mod KeptSlots
 pub mod LawfulFaults
@@ -63,3 +64,17 @@ pub mod ScratchedImages
 pub mod ScratchedIndex
 pub mod ScratchedSets
 pub mod Writes
+pub mod VacantSets
+pub mod DirectoryPlaces
+pub mod NewBlocks
+pub mod DirectoryTracks
+pub mod RunTracks
+pub mod FormattedTracks
+pub mod FormattedRuns
+pub mod FormattedSets
+pub mod SpareTracks
+pub mod FormattedBodies
+pub mod ChosenTracks
+pub mod DirectoryOutcomes
+pub mod DirectorySets
+pub mod NewSetChanges

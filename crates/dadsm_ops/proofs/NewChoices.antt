@@ -51,7 +51,7 @@ module _ (image : List ℕ) (v : Vol) (volume : Volume) (mounted : IsMounted ima
   pub volume_is : volume ≡ volume_by image v.geometry v.vtoc
   volume_is = let same : Ok volume ≡ Ok (volume_by image v.geometry v.vtoc) = sym stands ∙ mounted.volume in cc
 
-  geometry_is : volume.geometry ≡ v.geometry
+  pub geometry_is : volume.geometry ≡ v.geometry
   unfolding volume_with
   geometry_is = ap (λ (x : Volume). x.geometry) volume_is
 

@@ -120,9 +120,9 @@ module _ (g : Geometry) where
       by_run None = refl
       by_run (Some r) = either _ _ counted
 
-  module _ (name serial : List ℕ) (attr : Attr) (kind : ℕ) (pointer : List ℕ) where
+  module _ (name serial : List ℕ) (attr : Attr) (kind : ℕ) (pointer : List ℕ) (dir : ℕ) where
     abbrev pub set_f1 : List Run → F1
-    set_f1 runs = new_f1 name serial attr g kind runs pointer
+    set_f1 runs = new_f1 name serial attr g kind runs pointer dir
 
     pub field_types : (runs : List Run) → ((kind == 0x01) || (kind == 0x81)) ≡ true → list_all is_field_type (set_f1 runs).runs ≡ true
     unfolding new_f1

@@ -54,6 +54,10 @@ pub slots_changed : (u v : Vol) → v ≡ record u { slots = v.slots; buf = v.bu
 slots_changed u v first =
     first ∙ (λ i. record u { slots = v.slots; free = sym (ap (λ (x : Vol). x.free) first) i; by_name = sym (ap (λ (x : Vol). x.by_name) first) i; buf = v.buf })
 
+-- the buffer alone
+pub buffer_changed : (u v : Vol) → v ≡ record u { buf = v.buf } → v ≡ record u { slots = v.slots; buf = v.buf }
+buffer_changed u v is = is ∙ (λ i. record u { slots = sym (ap (λ (x : Vol). x.slots) is) i; buf = v.buf })
+
 -- so the list of free runs has the room that it had
 pub room_kept : (u v : Vol) → v ≡ record u { slots = v.slots; buf = v.buf } → vec_capacity v.free ≡ vec_capacity u.free
 room_kept u v is = ap (λ (x : Vol). vec_capacity x.free) is

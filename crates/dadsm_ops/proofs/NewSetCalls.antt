@@ -18,6 +18,8 @@ use Rattle.stop_model.specs.Files.{File}
 use Rattle.stop_model.specs.Moments.{Meaning, IsDurable}
 use Rattle.stop_model.proofs.MomentLemmas.{elapses_none}
 use Rattle.pack_spec.specs.declared.slot.VtocSlot.{VtocSlot}
+use Rattle.pack_spec.specs.Blocks.{data_tracks, owned_tracks}
+use Rattle.pack_spec.specs.Bodies.{body_of}
 use Rattle.pack_spec.specs.Label.{tracks_of}
 use Rattle.pack_spec.specs.Settled.{AreSettled, IsMarked, IsSettledVtoc, slots_for}
 use Rattle.pack_spec.specs.Volume.{volume_by, volume_of, volume_with}
@@ -29,8 +31,10 @@ use Rattle.vol_model.specs.declared.contents.Volume.{Volume}
 use Rattle.vol_model.specs.declared.refusals.Refusal.{Refusal}
 use Rattle.vol_model.specs.declared.requests.Request.{Request}
 use Rattle.vol_model.specs.Lawful.{IsOnPack}
-use Rattle.vol_model.specs.Shelf.{allocate_on, is_catalog, with_new}
+use Rattle.vol_model.specs.Places.{tracks_in}
+use Rattle.vol_model.specs.Shelf.{allocate_on, is_catalog, lacks_room, new_body, with_new}
 use Rattle.vol_model.specs.Slots.{slots_needed}
+use Rattle.vol_model.specs.Space.{is_in}
 use Rattle.vtoc_index.specs.declared.vol.Vol.{Vol}
 use Rattle.vtoc_index.specs.Free.{open_slot}
 use Rattle.vtoc_index.specs.Index.{IsIndexOf, IsMounted, IsOfUnit}
@@ -40,9 +44,11 @@ use Rattle.free_rebuild.specs.Chain.{is_open}
 use Rattle.free_rebuild.specs.Updates.{Marks}
 use Rattle.free_rebuild.proofs.ChainLemmas.{get_low, get_set}
 use Rattle.free_rebuild.proofs.RunCounts.{low_tracks}
-use Rattle.dadsm_ops.specs.Allocating.{Decides, HasChoice, HasPlan, HasFurtherIfMany, IsAbsent, extent_type, new_f1, open_slots, own_slots}
+use Rattle.dadsm_ops.specs.Allocating.{Decides, HasChoice, HasDirectory, HasPlan, HasFurtherIfMany, IsAbsent, PutsDirectory, extent_type, new_f1, new_lstar, open_slots, own_slots}
 use Rattle.dadsm_ops.specs.Operations.{image_named}
 use Rattle.dadsm_ops.specs.Through.{PutsThrough}
+use Rattle.dadsm_ops.proofs.ChosenTracks.{chosen_spare, runs_inside}
+use Rattle.dadsm_ops.proofs.DirectorySets.{new_read, spare_outside}
 use Rattle.dadsm_ops.proofs.NewAttributes.{asked}
 use Rattle.dadsm_ops.proofs.NewChoices.{volume_is}
 use Rattle.dadsm_ops.proofs.NewNames.{set_entered}
@@ -53,12 +59,13 @@ use Rattle.dadsm_ops.proofs.StandingPuts.{slots_by}
 use Rattle.dadsm_ops.proofs.UpdateEnds.{HasVtocOf}
 
 -- what is planned on a volume is planned on each image that stands for it
-pub plan_stays : (before after : List ℕ) (w : Volume) (dsn : Dsn) (attr : Attr) (q : Request) (runs : List Run) → HasPlan before dsn attr q runs → volume_of before ≡ Ok w → volume_of after ≡ Ok w → HasPlan after dsn attr q runs
-plan_stays before after w dsn attr q runs plan one two = record {
+pub plan_stays : (before after : List ℕ) (w : Volume) (dsn : Dsn) (attr : Attr) (q : Request) (dir : ℕ) (runs : List Run) → HasPlan before dsn attr q dir runs → volume_of before ≡ Ok w → volume_of after ≡ Ok w → HasPlan after dsn attr q dir runs
+plan_stays before after w dsn attr q dir runs plan one two = record {
   volume = plan.volume;
   stands = two ∙ sym one ∙ plan.stands;
   has = plan.has;
   fits = plan.fits;
+  roomy = plan.roomy;
 }
 
 module _ (image : List ℕ) (v : Vol) (w : Volume) (mounted : IsMounted image v) (stands : volume_of image ≡ Ok w) where
@@ -77,12 +84,12 @@ module _ (image : List ℕ) (v : Vol) (w : Volume) (mounted : IsMounted image v)
       (subst (λ (ss : List VtocSlot). AreSettled ss w) same_slots settled)
 
 -- a settled image has the open slots that a planned set takes
-pub plan_room : (image : List ℕ) (v : Vol) (dsn : Dsn) (attr : Attr) (q : Request) (runs : List Run) → IsMounted image v → v.vtoc.start + v.vtoc.len ≤ 65536 → IsSettledVtoc image → HasPlan image dsn attr q runs → own_slots runs ≤ open_slots v.slots.items
-plan_room image v dsn attr q runs mounted few settled plan =
+pub plan_room : (image : List ℕ) (v : Vol) (dsn : Dsn) (attr : Attr) (q : Request) (dir : ℕ) (runs : List Run) → IsMounted image v → v.vtoc.start + v.vtoc.len ≤ 65536 → IsSettledVtoc image → HasPlan image dsn attr q dir runs → own_slots runs ≤ open_slots v.slots.items
+plan_room image v dsn attr q dir runs mounted few settled plan =
     let is : plan.volume ≡ volume_by image v.geometry v.vtoc = volume_is image v plan.volume mounted plan.stands in
-    let fits : slots_needed (with_new dsn attr q 0 (volume_by image v.geometry v.vtoc) runs) ≤ (volume_by image v.geometry v.vtoc).slots =
-    subst (λ (x : Volume). slots_needed (with_new dsn attr q 0 x runs) ≤ x.slots) is plan.fits in
-    open_room image v mounted few (settled_by image v settled.0 mounted settled.1 settled.2) dsn attr q runs fits
+    let fits : slots_needed (with_new dsn attr q dir (volume_by image v.geometry v.vtoc) runs) ≤ (volume_by image v.geometry v.vtoc).slots =
+    subst (λ (x : Volume). slots_needed (with_new dsn attr q dir x runs) ≤ x.slots) is plan.fits in
+    open_room image v mounted few (settled_by image v settled.0 mounted settled.1 settled.2) dsn attr q dir runs fits
 
 -- slot 0 isn't among them
 pub open_marked : (items : List Dscb) (d : Dscb) → open_slots (slice_set items 0 d) ≡ open_slots items
@@ -143,10 +150,10 @@ set_enters v slot f name items at named absent is =
     subst (IsEntered slot v.slots.items) (sym is)
     (set_entered v.slots.items slot at.item at.there at.opened f (subst (λ (l : List ℕ). IsAbsent l v.slots.items) (sym named) absent))
 
-module _ (f : F1) (name serial : List ℕ) (a : Attr) (g : Geometry) (k : ℕ) (runs : List Run) (pointer : List ℕ) (is : f ≡ new_f1 name serial a g k runs pointer) where
+module _ (f : F1) (name serial : List ℕ) (a : Attr) (g : Geometry) (k : ℕ) (runs : List Run) (pointer : List ℕ) (dir : ℕ) (is : f ≡ new_f1 name serial a g k runs pointer dir) where
   -- its format 1, by the attributes and the type that are meant
-  pub set_is : (b : Attr) (l : ℕ) → a ≡ b → k ≡ l → f ≡ new_f1 name serial b g l runs pointer
-  set_is b l attr kind = is ∙ ap₂ (λ (x : Attr) (n : ℕ). new_f1 name serial x g n runs pointer) attr kind
+  pub set_is : (b : Attr) (l : ℕ) → a ≡ b → k ≡ l → f ≡ new_f1 name serial b g l runs pointer dir
+  set_is b l attr kind = is ∙ ap₂ (λ (x : Attr) (n : ℕ). new_f1 name serial x g n runs pointer dir) attr kind
 
   pub set_named : f.name ≡ name
   unfolding new_f1
@@ -154,18 +161,18 @@ module _ (f : F1) (name serial : List ℕ) (a : Attr) (g : Geometry) (k : ℕ) (
 
 -- ---- what is planned on a mounted image
 
-module _ (image : List ℕ) (v : Vol) (mounted : IsMounted image v) (dsn : Dsn) (attr : Attr) (q : Request) (runs : List Run) (plan : HasPlan image dsn attr q runs) where
+module _ (image : List ℕ) (v : Vol) (mounted : IsMounted image v) (dsn : Dsn) (attr : Attr) (q : Request) (dir : ℕ) (runs : List Run) (plan : HasPlan image dsn attr q dir runs) where
   abbrev volume : Volume
   volume = volume_by image v.geometry v.vtoc
 
   plan_is : plan.volume ≡ volume
   plan_is = volume_is image v plan.volume mounted plan.stands
 
-  pub plan_has : HasChoice dsn attr q volume runs
-  plan_has = subst (λ (x : Volume). HasChoice dsn attr q x runs) plan_is plan.has
+  pub plan_has : HasChoice dsn attr q dir volume runs
+  plan_has = subst (λ (x : Volume). HasChoice dsn attr q dir x runs) plan_is plan.has
 
-  pub plan_slots : slots_needed (with_new dsn attr q 0 volume runs) ≤ volume.slots
-  plan_slots = subst (λ (x : Volume). slots_needed (with_new dsn attr q 0 x runs) ≤ x.slots) plan_is plan.fits
+  pub plan_slots : slots_needed (with_new dsn attr q dir volume runs) ≤ volume.slots
+  plan_slots = subst (λ (x : Volume). slots_needed (with_new dsn attr q dir x runs) ≤ x.slots) plan_is plan.fits
 
   plan_new : AreNew volume runs
   plan_new = choice_new volume q.unit q.contig q.primary runs plan_has.chosen
@@ -177,24 +184,39 @@ module _ (image : List ℕ) (v : Vol) (mounted : IsMounted image v) (dsn : Dsn) 
   unfolding volume_with
   plan_on_pack = plan_new.on_pack
 
+  pub plan_roomy : lacks_room v.geometry.device dsn.bytes dir (tracks_in runs) ≡ false
+  unfolding volume_with
+  plan_roomy = subst (λ (x : Volume). lacks_room x.geometry.device dsn.bytes dir (tracks_in runs) ≡ false) plan_is plan.roomy
+
+  -- none of its tracks is the VTOC's, and each is on the pack
+  pub plan_outside : (k t : ℕ) → slice_get (owned_tracks runs) k ≡ Some t → (is_in t v.vtoc ≡ false) × (t < tracks_of v.geometry)
+  unfolding volume_with
+  plan_outside k t there = (spare_outside volume runs (chosen_spare volume q.unit q.contig q.primary runs plan_has.chosen) k t there, runs_inside v.geometry runs plan_on_pack k t there)
+
+  -- where they hold its directory, they are read as the body of the set
+  pub plan_body : dir ≤ 2000 → is_catalog dsn.bytes ≡ false → HasDirectory image v.geometry runs dir
+      → body_of v.geometry (data_tracks image v.geometry v.vtoc) dsn.bytes (asked attr q) runs (new_lstar v.geometry.device dir) ≡ new_body v.geometry.device dsn.bytes attr dir
+  plan_body most other formatted = new_read image v.geometry v.vtoc dsn attr q dir runs most other plan_has.right plan_outside formatted
+
 -- The format 1 of a planned set decides the operation.
 pub put_decides : {T E : Type 0} (name : List ℕ) (v v' : Vol) (slot : ℕ) (m n : Meaning (List File)) (units : List Attached) → IsOfUnit units v → IsMounted (image_named m.state name) v → open_slot v.slots.items ≡ Some slot → IsMarked (slots_by (image_named m.state name) v)
-    → (dsn : Dsn) (attr : Attr) (q : Request) (runs : List Run) (pointer : List ℕ) → is_catalog dsn.bytes ≡ false → q.secondary < 2 ^ 24 → HasFurtherIfMany (slots_by (image_named m.state name) v) v.geometry (extent_type q.unit) runs pointer → HasPlan (image_named m.state name) dsn attr q runs
-    → (f : F1) → f ≡ new_f1 dsn.bytes v.serial.bytes (asked attr q) v.geometry (extent_type q.unit) runs pointer
+    → (dsn : Dsn) (attr : Attr) (q : Request) (dir : ℕ) (runs : List Run) (pointer : List ℕ) → dir ≤ 2000 → is_catalog dsn.bytes ≡ false → q.secondary < 2 ^ 24 → HasFurtherIfMany (slots_by (image_named m.state name) v) v.geometry (extent_type q.unit) runs pointer → HasPlan (image_named m.state name) dsn attr q dir runs → HasDirectory (image_named m.state name) v.geometry runs dir
+    → (f : F1) → f ≡ new_f1 dsn.bytes v.serial.bytes (asked attr q) v.geometry (extent_type q.unit) runs pointer dir
     → (result : Result T E) (w : Vol) → OnOk result (HasVtocOf v w) → OnOk result (IsIndexOf (image_named n.state name) v' → IsIndexOf (image_named n.state name) w) → OnOk result (AreWithout v.free.items runs w.free.items)
-    → PutsThrough name v slot (formats.F1 f) v' m n result → Decides name (allocate_on dsn attr q 0) w m n result
-put_decides name v v' slot m n units unit mounted found marked dsn attr q runs pointer other secondary third plan f is result w others indexed without put =
+    → PutsThrough name v slot (formats.F1 f) v' m n result → Decides name (allocate_on dsn attr q dir) w m n result
+put_decides name v v' slot m n units unit mounted found marked dsn attr q dir runs pointer most other secondary third plan formatted f is result w others indexed without put =
     let image = image_named m.state name in
     let small : tracks_of v.geometry ≤ 65536 = omega (arith, few_tracks v.geometry ((unit_of units v.unit).size, unit.whole)) in
-    set_decides name v v' slot m n mounted (low_tracks units v unit) (found_open v slot found) marked dsn attr q runs pointer v.serial.bytes other secondary small
-    (plan_few image v mounted dsn attr q runs plan) (plan_on_pack image v mounted dsn attr q runs plan) third (plan_has image v mounted dsn attr q runs plan) (plan_slots image v mounted dsn attr q runs plan)
+    set_decides name v v' slot m n mounted (low_tracks units v unit) (found_open v slot found) marked dsn attr q dir most runs pointer v.serial.bytes other secondary small
+    (plan_few image v mounted dsn attr q dir runs plan) (plan_on_pack image v mounted dsn attr q dir runs plan) third (plan_has image v mounted dsn attr q dir runs plan) (plan_slots image v mounted dsn attr q dir runs plan)
+    (plan_roomy image v mounted dsn attr q dir runs plan) (plan_body image v mounted dsn attr q dir runs plan most other formatted)
     result w others indexed without (subst (λ (x : F1). PutsThrough name v slot (formats.F1 x) v' m n result) is put)
 
 -- ---- what a step that marks an image leaves
 
 module _ {T E : Type 0} {x : T} (name : List ℕ) (v : Vol) (m n : Meaning (List File)) (marks : Marks {T = T} {E = E} name v m n (Ok x)) where
-  pub still_planned : (dsn : Dsn) (attr : Attr) (q : Request) (runs : List Run) → HasPlan (image_named m.state name) dsn attr q runs → HasPlan (image_named n.state name) dsn attr q runs
-  still_planned dsn attr q runs plan = plan_stays (image_named m.state name) (image_named n.state name) marks.volume dsn attr q runs plan marks.before marks.marked.stands
+  pub still_planned : (dsn : Dsn) (attr : Attr) (q : Request) (dir : ℕ) (runs : List Run) → HasPlan (image_named m.state name) dsn attr q dir runs → HasPlan (image_named n.state name) dsn attr q dir runs
+  still_planned dsn attr q dir runs plan = plan_stays (image_named m.state name) (image_named n.state name) marks.volume dsn attr q dir runs plan marks.before marks.marked.stands
 
   pub still_marked : IsMarked (slots_by (image_named n.state name) v)
   still_marked = marked_by (image_named n.state name) v marks.volume marks.index marks.marked.stands marks.marked.marked
@@ -210,6 +232,17 @@ module _ {T E : Type 0} {x : T} (name : List ℕ) (v : Vol) (m n : Meaning (List
     printed = marks.printed;
     moments = marks.moments;
   }
+
+-- ---- what the directory leaves
+
+module _ {T E : Type 0} {x : T} (name : List ℕ) (runs : List Run) (dir : ℕ) (v : Vol) (m n : Meaning (List File)) (puts : PutsDirectory {T = T} {E = E} name runs dir v m n (Ok x)) where
+  pub puts_planned : (dsn : Dsn) (attr : Attr) (q : Request) → HasPlan (image_named m.state name) dsn attr q dir runs → HasPlan (image_named n.state name) dsn attr q dir runs
+  puts_planned dsn attr q plan = plan_stays (image_named m.state name) (image_named n.state name) puts.volume dsn attr q dir runs plan puts.before puts.spared.stands
+
+  pub puts_marked : IsMarked (slots_by (image_named n.state name) v)
+  puts_marked = marked_by (image_named n.state name) v puts.volume puts.index puts.spared.stands puts.spared.marked
+
+-- ---- a step that marks an image, again
 
 -- it failed
 pub marks_not : {T E A B : Type 0} {result : Result T E} (name : List ℕ) (v : Vol) (m n : Meaning (List File)) (answer : Result A B) → IsErr answer → Marks name v m n result → Marks name v m n answer

@@ -28,12 +28,12 @@ use Rattle.vol_model.specs.declared.contents.Attr.{Attr}
 use Rattle.vol_model.specs.declared.contents.Run.{Run}
 use Rattle.vol_model.specs.declared.requests.Request.{Request}
 use Rattle.vol_model.specs.Lawful.{IsOnPack}
-use Rattle.vol_model.specs.Shelf.{is_catalog, is_partitioned, new_attr, new_body}
+use Rattle.vol_model.specs.Shelf.{is_catalog, new_attr, new_body}
 use Rattle.vtoc_index.specs.Index.{with_dscb}
 use Rattle.free_rebuild.proofs.PutLemmas.{alike_with}
-use Rattle.dadsm_ops.specs.Allocating.{HasFurther, HasFurtherIfMany, extent_type, new_f1, new_f3}
+use Rattle.dadsm_ops.specs.Allocating.{HasFurther, HasFurtherIfMany, extent_type, new_f1, new_f3, new_lstar}
 use Rattle.dadsm_ops.proofs.ChangedSlots.{changed_elsewhere, changed_there}
-use Rattle.dadsm_ops.proofs.NewAttributes.{asked, attr_asked, attr_read, body_read}
+use Rattle.dadsm_ops.proofs.NewAttributes.{asked, attr_asked, attr_read}
 use Rattle.dadsm_ops.proofs.NewExtents.{counted_new, field_types, kind_counted, numbered, numbered_inside, numbered_read, numbered_types}
 use Rattle.dadsm_ops.proofs.NewSlots.{CanPut, free_third, none_at, not_same}
 
@@ -162,14 +162,14 @@ module _ (g : Geometry) (slots : List VtocSlot) (lawful : slots_faults g slots �
 -- ---- the format 1
 
 module _ (g : Geometry) (few : tracks_of g ≤ 65536) (slots : List VtocSlot) (lawful : slots_faults g slots ≡ []) (apart : AreApart slots)
-    (dsn : Dsn) (serial : List ℕ) (attr : Attr) (q : Request) (runs : List Run) (pointer : List ℕ)
-    (other : is_catalog dsn.bytes ≡ false) (flat : is_partitioned dsn.bytes attr ≡ false) (secondary : q.secondary < 2 ^ 24)
+    (dsn : Dsn) (serial : List ℕ) (attr : Attr) (q : Request) (runs : List Run) (pointer : List ℕ) (dir : ℕ)
+    (other : is_catalog dsn.bytes ≡ false) (secondary : q.secondary < 2 ^ 24)
     (five : length runs ≤ 5) (on_pack : AllByRecursion (IsOnPack g) runs) (third : HasFurtherIfMany slots g (extent_type q.unit) runs pointer) where
   abbrev kind : ℕ
   kind = extent_type q.unit
 
   abbrev f : F1
-  f = new_f1 dsn.bytes serial (asked attr q) g kind runs pointer
+  f = new_f1 dsn.bytes serial (asked attr q) g kind runs pointer dir
 
   chained_more : is_chained f ≡ true → 3 < length runs
   unfolding new_f1
@@ -199,11 +199,11 @@ module _ (g : Geometry) (few : tracks_of g ≤ 65536) (slots : List VtocSlot) (l
       (has.slot, ap (λ (b : Bool). cond b (find (is_led_to f) slots) None) chained ∙ third_by has, has.content)
 
   counted : counted_extents slots f ≡ numbered g kind 0 runs
-  counted = counted_new g dsn.bytes serial (asked attr q) kind pointer slots runs five led_to
+  counted = counted_new g dsn.bytes serial (asked attr q) kind pointer dir slots runs five led_to
 
   types : has_types slots f ≡ true
   unfolding has_types
-  types = ap₂ (λ (a b : Bool). a && b) (field_types g dsn.bytes serial (asked attr q) kind pointer runs (kind_counted q.unit)) (ap (list_all _) counted ∙ numbered_types g kind 0 runs (kind_counted q.unit))
+  types = ap₂ (λ (a b : Bool). a && b) (field_types g dsn.bytes serial (asked attr q) kind pointer dir runs (kind_counted q.unit)) (ap (list_all _) counted ∙ numbered_types g kind 0 runs (kind_counted q.unit))
 
   extents : has_extents g slots f ≡ true
   unfolding has_extents new_f1
@@ -249,13 +249,13 @@ module _ (g : Geometry) (few : tracks_of g ≤ 65536) (slots : List VtocSlot) (l
     alone = alone;
   }
 
-  -- and is read as the new set
-  pub set_read : (tracks : List (List ℕ)) → data_set_of g tracks slots f ≡ record { name = dsn; attr = new_attr dsn.bytes attr q; extents = runs; body = new_body g.device dsn.bytes attr 0 }
+  -- and is read as the new set, where its tracks are read as its body
+  pub set_read : (tracks : List (List ℕ)) → body_of g tracks dsn.bytes (asked attr q) runs (new_lstar g.device dir) ≡ new_body g.device dsn.bytes attr dir → data_set_of g tracks slots f ≡ record { name = dsn; attr = new_attr dsn.bytes attr q; extents = runs; body = new_body g.device dsn.bytes attr dir }
   unfolding data_set_of new_f1
-  set_read tracks =
-      let attrs = attr_read dsn.bytes serial attr q g kind runs pointer secondary in
-      let body : body_of g tracks f.name (attr_of f) (map (run_of_extent g) (counted_extents slots f)) f.lstar ≡ new_body g.device dsn.bytes attr 0 =
-      ap (λ (a : Attr). body_of g tracks f.name a (map (run_of_extent g) (counted_extents slots f)) f.lstar) attrs ∙ body_read dsn.bytes serial attr q g kind runs pointer secondary g.device tracks (map (run_of_extent g) (counted_extents slots f)) other flat in
+  set_read tracks is =
+      let attrs = attr_read dsn.bytes serial attr q g kind runs pointer dir secondary in
       let rows : map (run_of_extent g) (counted_extents slots f) ≡ runs = ap (map (run_of_extent g)) counted ∙ numbered_read g kind 0 runs few on_pack in
+      let body : body_of g tracks f.name (attr_of f) (map (run_of_extent g) (counted_extents slots f)) f.lstar ≡ new_body g.device dsn.bytes attr dir =
+      ap₂ (λ (a : Attr) (rs : List Run). body_of g tracks f.name a rs f.lstar) attrs rows ∙ is in
       let whole : attr_of f ≡ new_attr dsn.bytes attr q = attrs ∙ sym (attr_asked dsn.bytes attr q other) in
       λ i. record { name = dsn; attr = whole i; extents = rows i; body = body i }

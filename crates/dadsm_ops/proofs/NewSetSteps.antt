@@ -17,6 +17,7 @@ use Rattle.pack_spec.specs.Owned.{volume_faults}
 use Rattle.pack_spec.specs.Rules.{is_named, slots_faults}
 use Rattle.pack_spec.specs.Settled.{IsMarked}
 use Rattle.pack_spec.specs.Blocks.{data_tracks}
+use Rattle.pack_spec.specs.Bodies.{body_of}
 use Rattle.pack_spec.specs.Volume.{volume_by, volume_with}
 use Rattle.pack_spec.proofs.AddressesApart.{AreApart, slots_apart}
 use Rattle.pack_spec.proofs.AlikeVolumes.{alike_faults, alike_volume}
@@ -27,7 +28,8 @@ use Rattle.vol_model.specs.declared.contents.Run.{Run}
 use Rattle.vol_model.specs.declared.contents.Volume.{Volume}
 use Rattle.vol_model.specs.declared.requests.Request.{Request}
 use Rattle.vol_model.specs.Lawful.{IsOnPack}
-use Rattle.vol_model.specs.Shelf.{allocate_on, is_catalog, with_new}
+use Rattle.vol_model.specs.Shelf.{allocate_on, is_catalog, lacks_room, new_body, with_new}
+use Rattle.vol_model.specs.Places.{tracks_in}
 use Rattle.vol_model.specs.Slots.{slots_needed}
 use Rattle.vol_model.specs.Space.{free_runs}
 use Rattle.vtoc_index.specs.declared.vol.Vol.{Vol}
@@ -35,7 +37,7 @@ use Rattle.vtoc_index.specs.Index.{IsIndexOf, IsMounted, address_in, with_dscb}
 use Rattle.free_rebuild.specs.Chain.{is_open}
 use Rattle.free_rebuild.specs.Updates.{IsMarkedFor, Marks}
 use Rattle.free_rebuild.proofs.AddressLemmas.{held_slots}
-use Rattle.dadsm_ops.specs.Allocating.{Decides, HasChoice, HasFurther, HasFurtherIfMany, extent_type, new_f1, new_f3}
+use Rattle.dadsm_ops.specs.Allocating.{Decides, HasChoice, HasFurther, HasFurtherIfMany, extent_type, new_f1, new_f3, new_lstar}
 use Rattle.dadsm_ops.specs.Operations.{image_named}
 use Rattle.dadsm_ops.specs.Through.{PutsThrough}
 use Rattle.dadsm_ops.proofs.NewAttributes.{asked}
@@ -142,33 +144,35 @@ module _ (name : List ℕ) (v v' : Vol) (slot : ℕ) (m n : Meaning (List File))
 
   -- ---- the format 1
 
-  module _ (dsn : Dsn) (attr : Attr) (q : Request) (runs : List Run) (pointer serial : List ℕ) (other : is_catalog dsn.bytes ≡ false) (secondary : q.secondary < 2 ^ 24) (low : tracks_of v.geometry ≤ 65536)
-      (five : length runs ≤ 5) (on_pack : AllByRecursion (IsOnPack v.geometry) runs) (third : HasFurtherIfMany slots v.geometry (extent_type q.unit) runs pointer) (has : HasChoice dsn attr q volume runs) (fits : slots_needed (with_new dsn attr q 0 volume runs) ≤ volume.slots) where
+  module _ (dsn : Dsn) (attr : Attr) (q : Request) (dir : ℕ) (blocks : dir ≤ 2000) (runs : List Run) (pointer serial : List ℕ) (other : is_catalog dsn.bytes ≡ false) (secondary : q.secondary < 2 ^ 24) (low : tracks_of v.geometry ≤ 65536)
+      (five : length runs ≤ 5) (on_pack : AllByRecursion (IsOnPack v.geometry) runs) (third : HasFurtherIfMany slots v.geometry (extent_type q.unit) runs pointer) (has : HasChoice dsn attr q dir volume runs) (fits : slots_needed (with_new dsn attr q dir volume runs) ≤ volume.slots) (roomy : lacks_room v.geometry.device dsn.bytes dir (tracks_in runs) ≡ false)
+      (body : body_of v.geometry (data_tracks image v.geometry v.vtoc) dsn.bytes (asked attr q) runs (new_lstar v.geometry.device dir) ≡ new_body v.geometry.device dsn.bytes attr dir) where
     abbrev f : F1
-    f = new_f1 dsn.bytes serial (asked attr q) v.geometry (extent_type q.unit) runs pointer
+    f = new_f1 dsn.bytes serial (asked attr q) v.geometry (extent_type q.unit) runs pointer dir
 
     abbrev after : Volume
-    after = with_new dsn attr q 0 volume runs
+    after = with_new dsn attr q dir volume runs
 
     absent : list_any (λ (t : VtocSlot). is_named dsn.bytes t.content) slots ≡ false
     absent = any_first (λ (t : VtocSlot). is_named dsn.bytes t.content) slots ∙ sym (has_set_found v.geometry (data_tracks image v.geometry v.vtoc) (label_by image v) v.vtoc slots dsn.bytes) ∙ has.absent
 
     can : CanPut v.geometry slots slot f
-    can = can_put v.geometry low slots mounted.lawful apart dsn serial attr q runs pointer other has.flat secondary five on_pack third slot here at.behind there at.opened absent
+    can = can_put v.geometry low slots mounted.lawful apart dsn serial attr q runs pointer dir other secondary five on_pack third slot here at.behind there at.opened absent
 
     set_lawful : slots_faults v.geometry (with_dscb slot (formats.F1 f) slots) ≡ []
     set_lawful = faults_put v.geometry slots slot f can
 
     set_after : volume_with v.geometry (data_tracks image v.geometry v.vtoc) (label_by image v) v.vtoc (with_dscb slot (formats.F1 f) slots) ≡ after
     unfolding new_f1
-    set_after = volume_with_new v.geometry (data_tracks image v.geometry v.vtoc) slots slot f can (label_by image v) v.vtoc dsn attr q runs other refl
-        (set_read v.geometry low slots mounted.lawful apart dsn serial attr q runs pointer other has.flat secondary five on_pack third (data_tracks image v.geometry v.vtoc))
+    set_after = volume_with_new v.geometry (data_tracks image v.geometry v.vtoc) slots slot f can (label_by image v) v.vtoc dsn attr q dir runs other refl
+        (set_read v.geometry low slots mounted.lawful apart dsn serial attr q runs pointer dir other secondary five on_pack third (data_tracks image v.geometry v.vtoc) body)
 
-    stepped : allocate_on dsn attr q 0 volume ≡ Ok after
-    stepped = allocate_ok dsn attr q volume has.absent has.flat runs has.chosen other fits
+    stepped : allocate_on dsn attr q dir volume ≡ Ok after
+    unfolding volume_with
+    stepped = allocate_ok dsn attr q dir volume has.absent has.right runs has.chosen fits roomy
 
     set_whole : volume_faults (volume_with v.geometry (data_tracks image v.geometry v.vtoc) (label_by image v) v.vtoc (with_dscb slot (formats.F1 f) slots)) ≡ []
-    set_whole = ap volume_faults set_after ∙ lawful_faults after (allocate_keeps dsn attr q volume secondary after (lawful_volume image volume mounted.volume) stepped)
+    set_whole = ap volume_faults set_after ∙ lawful_faults after (allocate_keeps dsn attr q dir volume blocks secondary after (lawful_volume image volume mounted.volume) stepped)
 
     module _ {T E : Type 0} {result : Result T E} (put : PutsThrough name v slot (formats.F1 f) v' m n result) where
       set_marked : IsMarkedFor name after m.state put.after
@@ -183,11 +187,11 @@ module _ (name : List ℕ) (v v' : Vol) (slot : ℕ) (m n : Meaning (List File))
       set_index : (w : Vol) → w ≡ record v { slots = w.slots; free = w.free; by_name = w.by_name; buf = w.buf } → IsIndexOf (image_named put.after name) w → AreWithout v.free.items runs w.free.items → IsMounted (image_named put.after name) w
       set_index w others index without =
           put_mounted image (image_named put.after name) v slot (formats.F1 f) put.bytes mounted at.low put.size put.dscb put.put.written put.put.image not_zero set_lawful set_whole w others index
-          (free_runs_new dsn attr q volume runs v.free.items w.free.items mounted.free without ∙ sym (ap free_runs set_after))
+          (free_runs_new dsn attr q dir volume runs v.free.items w.free.items mounted.free without ∙ sym (ap free_runs set_after))
 
     -- The format 1 is put and made durable: the image stands for the volume with the set.
     pub set_decides : {T E : Type 0} (result : Result T E) (w : Vol) → OnOk result (w ≡ record v { slots = w.slots; free = w.free; by_name = w.by_name; buf = w.buf }) → OnOk result (IsIndexOf (image_named n.state name) v' → IsIndexOf (image_named n.state name) w) → OnOk result (AreWithout v.free.items runs w.free.items)
-        → PutsThrough name v slot (formats.F1 f) v' m n result → Decides name (allocate_on dsn attr q 0) w m n result
+        → PutsThrough name v slot (formats.F1 f) v' m n result → Decides name (allocate_on dsn attr q dir) w m n result
     unfolding volume_with
     set_decides (Ok x) w others indexed without put =
         let is : n.state ≡ put.after = put.step.done.0 in

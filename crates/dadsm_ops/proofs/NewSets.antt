@@ -111,12 +111,12 @@ module _ (g : Geometry) (tracks : List (List ℕ)) (y : List VtocSlot) (k : ℕ)
       (ap (list_any (has_name catalog_name)) sets_with ∙ any_in_order (has_name catalog_name) (x ∷ in_order old) ∙ ap (λ b. b || list_any (has_name catalog_name) (in_order old)) other)
 
   -- The volume has the new set and is else the same.
-  pub volume_with_new : (label : List ℕ) (vtoc : Run) (dsn : Dsn) (attr : Attr) (q : Request) (runs : List Run) → is_catalog f.name ≡ false → f.name ≡ dsn.bytes
-      → x ≡ record { name = dsn; attr = new_attr dsn.bytes attr q; extents = runs; body = new_body g.device dsn.bytes attr 0 }
-      → volume_with g tracks label vtoc z ≡ with_new dsn attr q 0 (volume_with g tracks label vtoc y) runs
+  pub volume_with_new : (label : List ℕ) (vtoc : Run) (dsn : Dsn) (attr : Attr) (q : Request) (dir : ℕ) (runs : List Run) → is_catalog f.name ≡ false → f.name ≡ dsn.bytes
+      → x ≡ record { name = dsn; attr = new_attr dsn.bytes attr q; extents = runs; body = new_body g.device dsn.bytes attr dir }
+      → volume_with g tracks label vtoc z ≡ with_new dsn attr q dir (volume_with g tracks label vtoc y) runs
   unfolding volume_with
-  volume_with_new label vtoc dsn attr q runs other named is =
-      let sets : in_order (data_sets_in g tracks z) ≡ in_order (record { name = dsn; attr = new_attr dsn.bytes attr q; extents = runs; body = new_body g.device dsn.bytes attr 0 } ∷ in_order old) =
+  volume_with_new label vtoc dsn attr q dir runs other named is =
+      let sets : in_order (data_sets_in g tracks z) ≡ in_order (record { name = dsn; attr = new_attr dsn.bytes attr q; extents = runs; body = new_body g.device dsn.bytes attr dir } ∷ in_order old) =
       sets_with ∙ ap (λ (w : DataSet). in_order (w ∷ in_order old)) is in
       let tree : CatBody = catalogs.Tree (tracks_in runs * (row_of g.device).directory_blocks_per_track) [] in
       let flat : is_catalog dsn.bytes ≡ false = ap is_catalog (sym named) ∙ other in

@@ -1,5 +1,5 @@
 -- The volume with a new data set: what it breaks, what of it is free, and the slots that it needs.
-use Rattle.std.proofs.Common.{◌≡◌, ◌+◌, ◌*◌, ◌/◌, ◌^◌, ◌<◌, ◌≤◌, ℕ, suc, max, Bool, true, false, cond, not, ◌||◌, ◌&&◌, List, [], ◌∷◌, length, nat_lt, Option, Some, None, refl, sym, ap, subst, ◌∙◌, arith}
+use Rattle.std.proofs.Common.{◌≡◌, ◌+◌, ◌*◌, ◌/◌, ◌^◌, ◌<◌, ◌≤◌, ℕ, suc, max, Bool, true, false, cond, not, ◌||◌, ◌&&◌, List, [], ◌∷◌, length, nat_lt, Some, refl, sym, ap, subst, ◌∙◌, arith}
 use Rattle.std.specs.Prelude.{◌==◌, Result, Ok, Err}
 use Rattle.std.specs.List.{list_any, sum_by}
 use Rattle.std.proofs.lemmas.Bool.Decides.{nat_tests}
@@ -20,13 +20,15 @@ use Rattle.vol_model.specs.declared.requests.Request.{Request}
 use Rattle.vol_model.specs.Lawful.{IsLawful, IsLawfulVolume}
 use Rattle.vol_model.specs.Order.{in_order}
 use Rattle.vol_model.specs.Places.{tracks_in}
-use Rattle.vol_model.specs.Shelf.{allocate_on, has_set, if_room, is_catalog, is_partitioned, lacks_room, new_attr, new_body, on_choice, refuse, step, step_on, with_new, with_volume}
+use Rattle.vol_model.specs.Shelf.{allocate_on, has_set, lacks_room, new_attr, new_body, step, step_on, with_new, with_volume}
 use Rattle.vol_model.specs.Slots.{slots_needed}
 use Rattle.vol_model.specs.Space.{AreFreeRuns, choice, covers, free_runs, is_in, is_unowned, usable_cylinders}
 use Rattle.vol_model.proofs.FreeRuns.{AreRunsOf-runs_of, runs_of-AreRunsOf}
 use Rattle.vol_model.proofs.InOrder.{in_order-permutation}
 use Rattle.vol_model.proofs.Steps.{any_in_order}
 use Rattle.shelf_laws.proofs.Allocating.{allocate_lawful}
+use Rattle.dadsm_ops.specs.Allocating.{is_wrong}
+use Rattle.dadsm_ops.proofs.DirectoryOutcomes.{no_room, set_made, vtoc_full}
 
 not_less : (a b : ℕ) → b ≤ a → nat_lt a b ≡ false
 not_less a b few = grind (arith, nat_tests)
@@ -54,12 +56,12 @@ taken_sum (x ∷ sets) =
 
 -- ---- the volume with a new set
 
-module _ (dsn : Dsn) (attr : Attr) (q : Request) (volume : Volume) (runs : List Run) where
+module _ (dsn : Dsn) (attr : Attr) (q : Request) (dir : ℕ) (volume : Volume) (runs : List Run) where
   abbrev w : Volume
-  w = with_new dsn attr q 0 volume runs
+  w = with_new dsn attr q dir volume runs
 
   abbrev x : DataSet
-  x = record { name = dsn; attr = new_attr dsn.bytes attr q; extents = runs; body = new_body volume.geometry.device dsn.bytes attr 0 }
+  x = record { name = dsn; attr = new_attr dsn.bytes attr q; extents = runs; body = new_body volume.geometry.device dsn.bytes attr dir }
 
   -- its extents are free no more
   unowned_new : (t : ℕ) → is_unowned w t ≡ (is_unowned volume t && not (covers runs t))
@@ -105,71 +107,40 @@ module _ (dsn : Dsn) (attr : Attr) (q : Request) (volume : Volume) (runs : List 
 
 -- ---- the operation
 
-module _ (dsn : Dsn) (attr : Attr) (q : Request) (volume : Volume) where
+module _ (dsn : Dsn) (attr : Attr) (q : Request) (dir : ℕ) (volume : Volume) where
   abbrev after : List Run → Volume
-  after runs = with_new dsn attr q 0 volume runs
+  after runs = with_new dsn attr q dir volume runs
 
-  abbrev with_runs : List Run → Result Volume Refusal
-  with_runs runs = if_room (lacks_room volume.geometry.device dsn.bytes 0 (tracks_in runs)) (after runs)
+  module _ (absent : has_set volume dsn.bytes ≡ false) (right : is_wrong dsn attr dir ≡ false) (runs : List Run) (chosen : choice volume q.unit q.contig q.primary ≡ Some runs) where
+    -- there are too few slots
+    pub allocate_full : volume.slots < slots_needed (after runs) → allocate_on dsn attr q dir volume ≡ Err (refusals.VtocFull (slots_needed (after runs)))
+    allocate_full more = vtoc_full dsn attr q dir volume absent right runs chosen (lower volume.slots (slots_needed (after runs)) more)
+      where
+        lower : (a b : ℕ) → a < b → nat_lt a b ≡ true
+        lower a b l = grind (arith, nat_tests)
 
-  abbrev outcome : Bool → Bool → Option (List Run) → Result Volume Refusal
-  outcome exists wants chosen = refuse exists refusals.SetExists (refuse wants refusals.WrongKind (on_choice q.primary chosen with_runs))
+    module _ (fits : slots_needed (after runs) ≤ volume.slots) where
+      enough : nat_lt volume.slots (slots_needed (after runs)) ≡ false
+      enough = not_less volume.slots (slots_needed (after runs)) fits
 
-  outcome_is : allocate_on dsn attr q 0 volume ≡ outcome (has_set volume dsn.bytes) (is_partitioned dsn.bytes attr) (choice volume q.unit q.contig q.primary)
-  unfolding allocate_on
-  outcome_is = refl
+      -- its directory doesn't fit the tracks
+      pub allocate_crowded : lacks_room volume.geometry.device dsn.bytes dir (tracks_in runs) ≡ true → allocate_on dsn attr q dir volume ≡ Err refusals.NoRoom
+      allocate_crowded crowded = no_room dsn attr q dir volume absent right runs chosen enough crowded
 
-  -- a set has the name
-  pub allocate_exists : has_set volume dsn.bytes ≡ true → allocate_on dsn attr q 0 volume ≡ Err refusals.SetExists
-  allocate_exists exists = outcome_is ∙ ap (λ b. outcome b (is_partitioned dsn.bytes attr) (choice volume q.unit q.contig q.primary)) exists
+      -- else it is done
+      pub allocate_ok : lacks_room volume.geometry.device dsn.bytes dir (tracks_in runs) ≡ false → allocate_on dsn attr q dir volume ≡ Ok (after runs)
+      allocate_ok roomy = set_made dsn attr q dir volume absent right runs chosen enough roomy
 
-  module _ (absent : has_set volume dsn.bytes ≡ false) where
-    -- a partitioned set wants a directory
-    pub allocate_partitioned : is_partitioned dsn.bytes attr ≡ true → allocate_on dsn attr q 0 volume ≡ Err refusals.WrongKind
-    allocate_partitioned wants =
-        outcome_is
-        ∙ ap (λ b. outcome b (is_partitioned dsn.bytes attr) (choice volume q.unit q.contig q.primary)) absent
-        ∙ ap (λ b. outcome false b (choice volume q.unit q.contig q.primary)) wants
-
-    module _ (flat : is_partitioned dsn.bytes attr ≡ false) where
-      kind_fits : allocate_on dsn attr q 0 volume ≡ on_choice q.primary (choice volume q.unit q.contig q.primary) with_runs
-      kind_fits =
-          outcome_is
-          ∙ ap (λ b. outcome b (is_partitioned dsn.bytes attr) (choice volume q.unit q.contig q.primary)) absent
-          ∙ ap (λ b. outcome false b (choice volume q.unit q.contig q.primary)) flat
-
-      -- no tracks serve it
-      pub allocate_no_space : choice volume q.unit q.contig q.primary ≡ None → allocate_on dsn attr q 0 volume ≡ Err (refusals.NoSpace q.primary)
-      allocate_no_space none = kind_fits ∙ ap (λ (o : Option (List Run)). on_choice q.primary o with_runs) none
-
-      module _ (runs : List Run) (chosen : choice volume q.unit q.contig q.primary ≡ Some runs) where
-        -- there are too few slots
-        pub allocate_full : volume.slots < slots_needed (after runs) → allocate_on dsn attr q 0 volume ≡ Err (refusals.VtocFull (slots_needed (after runs)))
-        allocate_full more =
-            let less : nat_lt volume.slots (slots_needed (after runs)) ≡ true = lower volume.slots (slots_needed (after runs)) more in
-            kind_fits ∙ ap (λ (o : Option (List Run)). on_choice q.primary o with_runs) chosen
-            ∙ ap (λ b. refuse b (refusals.VtocFull (slots_needed (after runs))) (refuse (lacks_room volume.geometry.device dsn.bytes 0 (tracks_in runs)) refusals.NoRoom (Ok (after runs)))) less
-          where
-            lower : (a b : ℕ) → a < b → nat_lt a b ≡ true
-            lower a b l = grind (arith, nat_tests)
-
-        -- else it is done
-        pub allocate_ok : is_catalog dsn.bytes ≡ false → slots_needed (after runs) ≤ volume.slots → allocate_on dsn attr q 0 volume ≡ Ok (after runs)
-        allocate_ok other fits =
-            kind_fits ∙ ap (λ (o : Option (List Run)). on_choice q.primary o with_runs) chosen
-            ∙ ap (λ b. refuse b (refusals.VtocFull (slots_needed (after runs))) (refuse (lacks_room volume.geometry.device dsn.bytes 0 (tracks_in runs)) refusals.NoRoom (Ok (after runs)))) (not_less volume.slots (slots_needed (after runs)) fits)
-            ∙ ap (λ b. refuse (cond b (tracks_in runs == 0) false) refusals.NoRoom (Ok (after runs))) other
-
-  stepped : (later : Volume) → allocate_on dsn attr q 0 volume ≡ Ok later → step (record { volumes = volume ∷ [] }) (Allocate 0 dsn attr q 0) ≡ Ok (record { volumes = later ∷ [] })
+  stepped : (later : Volume) → allocate_on dsn attr q dir volume ≡ Ok later → step (record { volumes = volume ∷ [] }) (Allocate 0 dsn attr q dir) ≡ Ok (record { volumes = later ∷ [] })
   unfolding step step_on
   stepped later done = ap (λ (r : Result Volume Refusal). with_volume (record { volumes = volume ∷ [] }) 0 r) done
 
   -- the volume that it leaves is lawful
-  pub allocate_keeps : q.secondary < 2 ^ 24 → (later : Volume) → IsLawfulVolume volume → allocate_on dsn attr q 0 volume ≡ Ok later → IsLawfulVolume later
-  allocate_keeps few later lawful done =
+  pub allocate_keeps : dir ≤ 2000 → q.secondary < 2 ^ 24 → (later : Volume) → IsLawfulVolume volume → allocate_on dsn attr q dir volume ≡ Ok later → IsLawfulVolume later
+  allocate_keeps blocks few later lawful done =
       let before : Shelf = record { volumes = volume ∷ [] } in
       let behind : Shelf = record { volumes = later ∷ [] } in
       let one : 1 ≤ 256 = omega arith in
       let whole : IsLawful before = record { few = one; volumes = (lawful, tt) } in
-      let then : IsLawful behind = allocate_lawful before behind 0 dsn attr q 0 (omega arith) few whole (stepped later done) in
+      let then : IsLawful behind = allocate_lawful before behind 0 dsn attr q dir blocks few whole (stepped later done) in
       then.volumes.0

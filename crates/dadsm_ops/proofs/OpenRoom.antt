@@ -106,16 +106,16 @@ module _ (image : List ℕ) (v : Vol) (mounted : IsMounted image v) (few : v.vto
         sym (used_pointed at slots items s (held_slots image v mounted.index) third) ∙ sym (ap (λ (b : Bool). not b || is_used slots s) third) ∙ used
 
     -- So there are as many open slots.
-    pub open_room : (dsn : Dsn) (attr : Attr) (q : Request) (runs : List Run) → slots_needed (with_new dsn attr q 0 volume runs) ≤ volume.slots → own_slots runs ≤ open_slots items
-    open_room dsn attr q runs fits =
+    pub open_room : (dsn : Dsn) (attr : Attr) (q : Request) (dir : ℕ) (runs : List Run) → slots_needed (with_new dsn attr q dir volume runs) ≤ volume.slots → own_slots runs ≤ open_slots items
+    open_room dsn attr q dir runs fits =
         let front = has_front image v mounted in
         let chained = thirds_led at items apart led in
         let one = fours_few items (λ k d there. four_alone v.geometry slots k (record { address = at (suc k); content = Ok d }) mounted.lawful (held (suc k) d there)) in
         let opens = opens_behind items (formats.F4 front.head) front.one front.four refl front.second front.opened in
-        let need = needed_new dsn attr q volume runs in
+        let need = needed_new dsn attr q dir volume runs in
         let sum = taken_sum volume.sets in
         let all = kinds items in
-        let chain = some ((length (free_runs (with_new dsn attr q 0 volume runs)) + 25) / 26) in
+        let chain = some ((length (free_runs (with_new dsn attr q dir volume runs)) + 25) / 26) in
         omega (arith, chained, one, opens, need, sum, all, chain, fits, sets_many, chained_many, slots_many)
       where
         some : (n : ℕ) → 1 ≤ max 1 n

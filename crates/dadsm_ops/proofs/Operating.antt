@@ -14,7 +14,7 @@ use Rattle.vol_model.specs.declared.contents.Volume.{Volume}
 use Rattle.vol_model.specs.declared.refusals.Refusal.{Refusal}
 use Rattle.vtoc_index.specs.Index.{IsMounted}
 use Rattle.vtoc_index.specs.declared.vol.Vol.{Vol}
-use Rattle.dadsm_ops.specs.Operations.{ChangesVtoc, IsLeftInOperation, Operates, image_named}
+use Rattle.dadsm_ops.specs.Operations.{ChangesVtoc, InVtoc, IsLeftInOperation, Operates, image_named}
 
 -- the files as before
 pub unchanged : (name : List ℕ) (g : Geometry) (vtoc : Run) (before after : List File) → after ≡ before → ChangesVtoc name g vtoc before after
@@ -38,12 +38,12 @@ pub record LeadsTo (name : List ℕ) (stepped : Result Volume Refusal) (v : Vol)
   pub changes : ChangesVtoc name v.geometry v.vtoc before files
 
 -- the files as before are what a stop may leave
-left_before : (name : List ℕ) (volume : Volume) (stepped : Result Volume Refusal) (v : Vol) (before : List File) → volume_of (image_named before name) ≡ Ok volume → IsLeftInOperation name volume stepped v before before
+left_before : (name : List ℕ) (volume : Volume) (stepped : Result Volume Refusal) (v : Vol) (before : List File) → volume_of (image_named before name) ≡ Ok volume → IsLeftInOperation name volume stepped (InVtoc v) before before
 left_before name volume stepped v before stands = record { stands = inl stands; guarded = λ guarded. guarded; changes = unchanged name v.geometry v.vtoc before before refl }
 
 module _ (name : List ℕ) (operation : Volume → Result Volume Refusal) (v v' : Vol) (same : v' ≡ record v { slots = v'.slots; by_name = v'.by_name; buf = v'.buf }) (old new : Meaning (List File)) (volume : Volume) (before : volume_of (image_named old.state name) ≡ Ok volume) where
   module _ (files : List File) (leads : LeadsTo name (operation volume) v old.state files) where
-    left_after : IsLeftInOperation name volume (operation volume) v' old.state files
+    left_after : IsLeftInOperation name volume (operation volume) (InVtoc v') old.state files
     left_after = record {
       stands = inr (leads.after, leads.step, leads.stands);
       guarded = leads.guarded;
@@ -52,11 +52,11 @@ module _ (name : List ℕ) (operation : Volume → Result Volume Refusal) (v v' 
 
     -- what a stop in it leaves
     stopped : {T E : Type 0} {result : Result T E} → StepTo (λ all. all) files old new result
-        → Elapses old new (λ left p. IsLeftInOperation name volume (operation volume) v' old.state left × (p ≡ old.printed))
+        → Elapses old new (λ left p. IsLeftInOperation name volume (operation volume) (InVtoc v') old.state left × (p ≡ old.printed))
     stopped step = elapses_weaker step.moments (λ left p (which, printed). (
       ⊎_elim
-          (λ is. subst (λ (all : List File). IsLeftInOperation name volume (operation volume) v' old.state all) (sym is) (left_before name volume (operation volume) v' old.state before))
-          (λ is. subst (λ (all : List File). IsLeftInOperation name volume (operation volume) v' old.state all) (sym is) left_after)
+          (λ is. subst (λ (all : List File). IsLeftInOperation name volume (operation volume) (InVtoc v') old.state all) (sym is) (left_before name volume (operation volume) v' old.state before))
+          (λ is. subst (λ (all : List File). IsLeftInOperation name volume (operation volume) (InVtoc v') old.state all) (sym is) left_after)
           which,
       printed,
     ))
@@ -66,7 +66,7 @@ module _ (name : List ℕ) (operation : Volume → Result Volume Refusal) (v v' 
     not_refused r refused = let never = sym leads.step ∙ refused in absurd (cc never)
 
     -- it is done
-    pub operates : {T X Y : Type 0} {x : X} (answer : T) → StepTo {T = X} {E = Y} (λ all. all) files old new (Ok x) → IsMounted (image_named new.state name) v' → Operates name operation v' old new (Ok answer)
+    pub operates : {T X Y : Type 0} {x : X} (answer : T) → StepTo {T = X} {E = Y} (λ all. all) files old new (Ok x) → IsMounted (image_named new.state name) v' → Operates name operation v' (InVtoc v') old new (Ok answer)
     operates answer step mounted = record {
       does = record {
         volume = volume;
@@ -89,7 +89,7 @@ module _ (name : List ℕ) (operation : Volume → Result Volume Refusal) (v v' 
     }
 
     -- the device failed
-    pub operates_not : {T X Y : Type 0} {result : Result X Y} → StepTo (λ all. all) files old new result → Operates {T = T} name operation v' old new (Err Device)
+    pub operates_not : {T X Y : Type 0} {result : Result X Y} → StepTo (λ all. all) files old new result → Operates {T = T} name operation v' (InVtoc v') old new (Err Device)
     operates_not step = record {
       does = record { volume = volume; before = before; done = tt; settled = tt; printed = step.printed; moments = stopped step };
       refused = λ r other. absurd (let wrong = other in cc);
@@ -98,8 +98,8 @@ module _ (name : List ℕ) (operation : Volume → Result Volume Refusal) (v v' 
     }
 
 -- it is refused where its step is, before anything is called
-pub operates_none : {T : Type 0} (name : List ℕ) (operation : Volume → Result Volume Refusal) (v : Vol) (m : Meaning (List File)) (volume : Volume) (r : Refusal) → volume_of (image_named m.state name) ≡ Ok volume → operation volume ≡ Err r → Same m m → Operates {T = T} name operation v m m (Err (Refused r))
-operates_none name operation v m volume r before is same = record {
+pub operates_none : {T : Type 0} (name : List ℕ) (operation : Volume → Result Volume Refusal) (v : Vol) (Changes : List ℕ → List ℕ → Type 0) (m : Meaning (List File)) (volume : Volume) (r : Refusal) → volume_of (image_named m.state name) ≡ Ok volume → operation volume ≡ Err r → Same m m → Operates {T = T} name operation v Changes m m (Err (Refused r))
+operates_none name operation v Changes m volume r before is same = record {
   does = record { volume = volume; before = before; done = tt; settled = tt; printed = refl; moments = elapses_none m _ };
   refused = λ other given. is ∙ ap (λ (x : Refusal). Err x) (let one : r ≡ other = cc given in one);
   idle = λ other refused. same;

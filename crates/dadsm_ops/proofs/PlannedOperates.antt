@@ -1,5 +1,5 @@
 -- A new data set as an operation that may be refused: nothing is begun, or what is planned is carried out.
-use Rattle.std.proofs.Common.{◌≡◌, ℕ, false, List, refl, sym, ap, subst, ◌∙◌}
+use Rattle.std.proofs.Common.{◌≡◌, ℕ, List, refl, sym, ap, ◌∙◌}
 use Rattle.std.specs.Prelude.{Result, Ok, Err}
 use Rattle.ebcdic_names.specs.declared.names.Dsn.{Dsn}
 use Rattle.stop_model.specs.Files.{File}
@@ -12,56 +12,52 @@ use Rattle.vol_model.specs.declared.contents.Run.{Run}
 use Rattle.vol_model.specs.declared.contents.Volume.{Volume}
 use Rattle.vol_model.specs.declared.refusals.Refusal.{Refusal}
 use Rattle.vol_model.specs.declared.requests.Request.{Request}
-use Rattle.vol_model.specs.Shelf.{allocate_on, is_catalog}
+use Rattle.vol_model.specs.Shelf.{allocate_on}
 use Rattle.vtoc_index.specs.declared.vol.Vol.{Vol}
 use Rattle.dadsm_ops.specs.Allocating.{HasPlan}
 use Rattle.dadsm_ops.specs.Operations.{DoesOperation, Operates, image_named}
 use Rattle.dadsm_ops.proofs.NewVolumes.{allocate_ok}
 
 -- memory ran out before anything was called
-pub operates_memory : {T : Type 0} (name : List ℕ) (operation : Volume → Result Volume Refusal) (v : Vol) (m : Meaning (List File)) (volume : Volume) → volume_of (image_named m.state name) ≡ Ok volume → Same m m → Operates {T = T} name operation v m m (Err Memory)
-operates_memory name operation v m volume before same = record {
+pub operates_memory : {T : Type 0} (name : List ℕ) (operation : Volume → Result Volume Refusal) (v : Vol) (Changes : List ℕ → List ℕ → Type 0) (m : Meaning (List File)) (volume : Volume) → volume_of (image_named m.state name) ≡ Ok volume → Same m m → Operates {T = T} name operation v Changes m m (Err Memory)
+operates_memory name operation v Changes m volume before same = record {
   does = record { volume = volume; before = before; done = tt; settled = tt; printed = refl; moments = elapses_none m _ };
   refused = λ other given. absurd (let wrong = given in cc);
   idle = λ other refused. same;
   memory = λ given. same;
 }
 
-module _ (name : List ℕ) (dsn : Dsn) (attr : Attr) (q : Request) (dir : ℕ) (none : dir ≡ 0) (v : Vol) (m n : Meaning (List File)) (runs : List Run) (plan : HasPlan (image_named m.state name) dsn attr q runs) (other : is_catalog dsn.bytes ≡ false) where
+module _ (name : List ℕ) (dsn : Dsn) (attr : Attr) (q : Request) (dir : ℕ) (v : Vol) (Changes : List ℕ → List ℕ → Type 0) (m n : Meaning (List File)) (runs : List Run) (plan : HasPlan (image_named m.state name) dsn attr q dir runs) where
   -- what is planned isn't refused
   not_refused : {P : Type 0} (volume : Volume) → volume_of (image_named m.state name) ≡ Ok volume → (r : Refusal) → allocate_on dsn attr q dir volume ≡ Err r → P
   not_refused volume stands r refused =
       let both : Ok plan.volume ≡ Ok volume = sym plan.stands ∙ stands in
       let same : plan.volume ≡ volume = cc in
-      let done = allocate_ok dsn attr q plan.volume plan.has.absent plan.has.flat runs plan.has.chosen other plan.fits in
-      let never = sym done ∙ ap (λ (x : Volume). allocate_on dsn attr q 0 x) same ∙ ap (λ (k : ℕ). allocate_on dsn attr q k volume) (sym none) ∙ refused in
+      let done = allocate_ok dsn attr q dir plan.volume plan.has.absent plan.has.right runs plan.has.chosen plan.fits plan.roomy in
+      let never = sym done ∙ ap (λ (x : Volume). allocate_on dsn attr q dir x) same ∙ refused in
       absurd (cc never)
 
   -- it is done
-  pub operates_planned : {T A B : Type 0} {x : A} (y : T) → DoesOperation {T = A} {E = B} name (allocate_on dsn attr q 0) v m n (Ok x) → Operates name (allocate_on dsn attr q dir) v m n (Ok y)
-  operates_planned {A = A} {B = B} {x = x} y given =
-      let does = subst (λ (k : ℕ). DoesOperation {T = A} {E = B} name (allocate_on dsn attr q k) v m n (Ok x)) (sym none) given in
-      record {
-        does = record {
-          volume = does.volume;
-          before = does.before;
-          done = does.done;
-          settled = does.settled;
-          printed = does.printed;
-          moments = does.moments;
-        };
-        refused = λ r wrong. absurd (let never = wrong in cc);
-        idle = λ r refused. not_refused does.volume does.before r refused;
-        memory = λ wrong. absurd (let never = wrong in cc);
-      }
+  pub operates_planned : {T A B : Type 0} {x : A} (y : T) → DoesOperation {T = A} {E = B} name (allocate_on dsn attr q dir) v Changes m n (Ok x) → Operates name (allocate_on dsn attr q dir) v Changes m n (Ok y)
+  operates_planned y does = record {
+    does = record {
+      volume = does.volume;
+      before = does.before;
+      done = does.done;
+      settled = does.settled;
+      printed = does.printed;
+      moments = does.moments;
+    };
+    refused = λ r wrong. absurd (let never = wrong in cc);
+    idle = λ r refused. not_refused does.volume does.before r refused;
+    memory = λ wrong. absurd (let never = wrong in cc);
+  }
 
   -- or the device failed
-  pub operates_failed : {T A B : Type 0} {result : Result A B} → DoesOperation name (allocate_on dsn attr q 0) v m n result → Operates {T = T} name (allocate_on dsn attr q dir) v m n (Err Device)
-  operates_failed {result = result} given =
-      let does = subst (λ (k : ℕ). DoesOperation name (allocate_on dsn attr q k) v m n result) (sym none) given in
-      record {
-        does = record { volume = does.volume; before = does.before; done = tt; settled = tt; printed = does.printed; moments = does.moments };
-        refused = λ r wrong. absurd (let never = wrong in cc);
-        idle = λ r refused. not_refused does.volume does.before r refused;
-        memory = λ wrong. absurd (let never = wrong in cc);
-      }
+  pub operates_failed : {T A B : Type 0} {result : Result A B} → DoesOperation name (allocate_on dsn attr q dir) v Changes m n result → Operates {T = T} name (allocate_on dsn attr q dir) v Changes m n (Err Device)
+  operates_failed does = record {
+    does = record { volume = does.volume; before = does.before; done = tt; settled = tt; printed = does.printed; moments = does.moments };
+    refused = λ r wrong. absurd (let never = wrong in cc);
+    idle = λ r refused. not_refused does.volume does.before r refused;
+    memory = λ wrong. absurd (let never = wrong in cc);
+  }

@@ -18,6 +18,7 @@ use Rattle.pack_spec.specs.Rules.{counted_extents, is_named, set_in}
 use Rattle.pack_spec.specs.Volume.{attr_of, data_set_of, data_sets_in, volume_with}
 use Rattle.pack_spec.specs.Blocks.{seq_body}
 use Rattle.pack_spec.specs.Bodies.{body_of, catalog_of}
+use Rattle.pack_spec.specs.Directories.{part_body}
 use Rattle.pack_spec.proofs.SetNames.{named_set}
 use Rattle.vol_model.specs.declared.contents.Attr.{Attr}
 use Rattle.vol_model.specs.declared.contents.Body.{Body}
@@ -35,7 +36,8 @@ use Rattle.dadsm_ops.proofs.RenamedSlots.{counted_alike, has_named, renamed_set,
 body_alike : (g : Geometry) (tracks : List (List ℕ)) (old new : List ℕ) (attr : Attr) (extents : List Run) (lstar : List ℕ) → is_catalog old ≡ false → is_catalog new ≡ false → body_of g tracks new attr extents lstar ≡ body_of g tracks old attr extents lstar
 unfolding body_of
 body_alike g tracks old new attr extents lstar no_old no_new =
-    let by : Bool → Body = λ b. cond (not b && organization attr == 32) (seq_body g tracks extents lstar) (cond (b || (not b && organization attr == 1)) (Unreadable 0) Other) in
+    let by : Bool → Body = λ b. cond (not b && organization attr == 32) (seq_body g tracks extents lstar)
+    (cond (not b && organization attr == 1) (part_body g tracks extents lstar) (cond b (Unreadable 0) Other)) in
     ap by (no_new ∙ sym no_old)
 
 module _ (old : List ℕ) (new : Dsn) (no_old : is_catalog old ≡ false) (no_new : is_catalog new.bytes ≡ false) where

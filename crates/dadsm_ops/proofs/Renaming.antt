@@ -17,7 +17,7 @@ use Rattle.vtoc_index.specs.Index.{IsMounted, IsPut}
 use Rattle.vtoc_index.specs.Puts.{IsReplaced}
 use Rattle.vtoc_index.specs.declared.vol.Vol.{Vol}
 use Rattle.dadsm_ops.specs.Naming.{IsToRename, under_name}
-use Rattle.dadsm_ops.specs.Operations.{Operates, image_named}
+use Rattle.dadsm_ops.specs.Operations.{InVtoc, Operates, image_named}
 use Rattle.dadsm_ops.specs.Through.{PutsThrough}
 use Rattle.dadsm_ops.proofs.FoundSets.{FoundSet, named_alike, set_found}
 use Rattle.dadsm_ops.proofs.Operating.{LeadsTo, operates, operates_not}
@@ -65,7 +65,7 @@ module _ (name : List ℕ) (v v' : Vol) (old new : Dsn) (slot : ℕ) (x d : Dscb
         record { after = s.after; step = s.step; stands = s.stands; guarded = s.guarded; settled = s.settled; changes = record { others = put.put.others; image = s.changes } }
 
   -- it is done, and the order of names follows
-  pub renames : {T X Y : Type 0} {y : X} (answer : T) (w : Vol) → v' ≡ record v { slots = v'.slots; buf = v'.buf } → IsReordered v' w → IsReplaced slot d v v' → PutsThrough {T = X} {E = Y} name v slot d v' m n (Ok y) → Operates name (rename_on old new) w m n (Ok answer)
+  pub renames : {T X Y : Type 0} {y : X} (answer : T) (w : Vol) → v' ≡ record v { slots = v'.slots; buf = v'.buf } → IsReordered v' w → IsReplaced slot d v v' → PutsThrough {T = X} {E = Y} name v slot d v' m n (Ok y) → Operates name (rename_on old new) w (InVtoc w) m n (Ok answer)
   renames answer w same order replaced put =
       let same_files : (image_named n.state name) ≡ (image_named put.after name) = ap (λ (files : List File). image_named files name) put.step.done.0 in
       let there : IsPut v slot (formats.F1 (record set.f { name = new.bytes })) (image_named m.state name) (image_named n.state name) =
@@ -75,7 +75,7 @@ module _ (name : List ℕ) (v v' : Vol) (old new : Dsn) (slot : ℕ) (x d : Dscb
       (rename_put (image_named m.state name) (image_named n.state name) v v' old new slot set.f put.bytes can put.size (under_new put) (same_files ∙ put.put.written) there (subst (λ (y : Dscb). IsReplaced slot y v v') dscb replaced) put.index.buffer))
 
   -- the device failed
-  pub renames_not : {T X Y : Type 0} {result : Result X Y} → v' ≡ record v { slots = v'.slots; buf = v'.buf } → PutsThrough name v slot d v' m n result → Operates {T = T} name (rename_on old new) v' m n (Err Device)
+  pub renames_not : {T X Y : Type 0} {result : Result X Y} → v' ≡ record v { slots = v'.slots; buf = v'.buf } → PutsThrough name v slot d v' m n result → Operates {T = T} name (rename_on old new) v' (InVtoc v') m n (Err Device)
   renames_not same put = operates_not name (rename_on old new) v v' (put_changes v v' same) m n _ mounted.volume put.after (leads put _ mounted.volume) put.step
 
 -- behind the put the data set in the slot has its new name

@@ -23,7 +23,7 @@ use Rattle.vol_model.specs.Space.{covers}
 use Rattle.vtoc_index.specs.declared.vol.Vol.{Vol}
 use Rattle.vtoc_index.specs.Index.{IsMounted}
 use Rattle.free_rebuild.specs.Updates.{Concludes, IsGuardedFor, IsMarkedFor, Marks}
-use Rattle.dadsm_ops.specs.Operations.{ChangesVtoc, DoesOperation, IsDone, IsLeftInOperation, image_named}
+use Rattle.dadsm_ops.specs.Operations.{ChangesVtoc, DoesOperation, InVtoc, IsDone, IsLeftInOperation, image_named}
 use Rattle.dadsm_ops.specs.Through.{PutsThrough}
 use Rattle.dadsm_ops.proofs.Operating.{unchanged}
 use Rattle.dadsm_ops.proofs.RenamedImages.{slots_on_image, volume_on_image}
@@ -67,13 +67,13 @@ module _ (name : List ℕ) (volume : Volume) (v : Vol) (of : IsOfIndex volume v)
 
   module _ (stepped : Result Volume Refusal) where
     -- the files as before
-    left_same : (files : List File) → volume_of (image_named before name) ≡ Ok volume → files ≡ before → IsLeftInOperation name volume stepped v before files
+    left_same : (files : List File) → volume_of (image_named before name) ≡ Ok volume → files ≡ before → IsLeftInOperation name volume stepped (InVtoc v) before files
     left_same files stands same =
-        subst (λ (all : List File). IsLeftInOperation name volume stepped v before all) (sym same)
+        subst (λ (all : List File). IsLeftInOperation name volume stepped (InVtoc v) before all) (sym same)
         (record { stands = inl stands; guarded = λ guarded. guarded; changes = unchanged name v.geometry v.vtoc before before refl })
 
     -- the files with the mark
-    left_marked : (files : List File) → IsMarkedFor name volume before files → IsLeftInOperation name volume stepped v before files
+    left_marked : (files : List File) → IsMarkedFor name volume before files → IsLeftInOperation name volume stepped (InVtoc v) before files
     left_marked files marked = record {
       stands = inl marked.stands;
       guarded = λ was. (volume, marked.stands, inl marked.marked);
@@ -82,7 +82,7 @@ module _ (name : List ℕ) (volume : Volume) (v : Vol) (of : IsOfIndex volume v)
 
     -- what a stop leaves while the mark is set
     pub mark_leaves : {T E : Type 0} {w : Vol} {old new : Meaning (List File)} {result : Result T E} → old.state ≡ before → (marks : Marks name w old new result) → marks.volume ≡ volume
-        → Elapses old new (λ files p. IsLeftInOperation name volume stepped v before files × (p ≡ old.printed))
+        → Elapses old new (λ files p. IsLeftInOperation name volume stepped (InVtoc v) before files × (p ≡ old.printed))
     mark_leaves {old = old} start marks same =
         let stands : volume_of (image_named before name) ≡ Ok volume = ap (λ (all : List File). volume_of (image_named all name)) (sym start) ∙ marks.before ∙ ap (λ (x : Volume). Ok x) same in
         elapses_weaker marks.moments (λ files p left. (
@@ -93,7 +93,7 @@ module _ (name : List ℕ) (volume : Volume) (v : Vol) (of : IsOfIndex volume v)
           left.1,
         ))
 
-    left_decided : (after : Volume) (files : List File) → IsDecided name volume before stepped after files → IsLeftInOperation name volume stepped v before files
+    left_decided : (after : Volume) (files : List File) → IsDecided name volume before stepped after files → IsLeftInOperation name volume stepped (InVtoc v) before files
     left_decided after files is = record {
       stands = inr (after, is.step, is.stands);
       guarded = λ was. (after, is.stands, inl is.marked);
@@ -101,7 +101,7 @@ module _ (name : List ℕ) (volume : Volume) (v : Vol) (of : IsOfIndex volume v)
     }
 
     -- the files while the update is concluded
-    left_guarded : (after : Volume) (start files : List File) → IsOfIndex after v → IsDecided name volume before stepped after start → IsGuardedFor name after start files → IsLeftInOperation name volume stepped v before files
+    left_guarded : (after : Volume) (start files : List File) → IsOfIndex after v → IsDecided name volume before stepped after start → IsGuardedFor name after start files → IsLeftInOperation name volume stepped (InVtoc v) before files
     left_guarded after start files of_after is left = record {
       stands = inr (after, is.step, left.stands);
       guarded = λ was. left.guarded;
@@ -121,7 +121,7 @@ module _ (name : List ℕ) (dsn : Dsn) (slot : ℕ) (f : F1) (named : dsn.bytes 
   operation x = scratch_on dsn x
 
   -- Where the mark failed.
-  pub scratch_unmarked : {T E X Y : Type 0} {r : Result T E} (answer : Result X Y) (v1 : Vol) (m1 : Meaning (List File)) → IsErr answer → v1.geometry ≡ v0.geometry → v1.vtoc ≡ v0.vtoc → Marks name v1 m0 m1 r → DoesOperation name (scratch_on dsn) v1 m0 m1 answer
+  pub scratch_unmarked : {T E X Y : Type 0} {r : Result T E} (answer : Result X Y) (v1 : Vol) (m1 : Meaning (List File)) → IsErr answer → v1.geometry ≡ v0.geometry → v1.vtoc ≡ v0.vtoc → Marks name v1 m0 m1 r → DoesOperation name (scratch_on dsn) v1 (InVtoc v1) m0 m1 answer
   scratch_unmarked answer v1 m1 failed geometry vtoc marks =
       let of0 = of_index (image_named m0.state name) v0 marks.volume mounted marks.before in
       let of : IsOfIndex marks.volume v1 = record { geometry = of0.geometry ∙ sym geometry; vtoc = of0.vtoc ∙ sym vtoc } in
@@ -174,19 +174,19 @@ module _ (name : List ℕ) (dsn : Dsn) (slot : ℕ) (f : F1) (named : dsn.bytes 
         of = record { geometry = of1.geometry ∙ sym geometry; vtoc = of1.vtoc ∙ sym vtoc }
 
         -- what a stop leaves up to the cleared format 1
-        pub put_leaves : Elapses m0 m2 (λ files p. IsLeftInOperation name marks.volume (scratch_on dsn marks.volume) v m0.state files × (p ≡ m0.printed))
+        pub put_leaves : Elapses m0 m2 (λ files p. IsLeftInOperation name marks.volume (scratch_on dsn marks.volume) (InVtoc v) m0.state files × (p ≡ m0.printed))
         put_leaves =
             elapses_then (mark_leaves name marks.volume v of m0.state (scratch_on dsn marks.volume) refl marks refl)
             (elapses_weaker put.step.moments (λ files p left. (
               ⊎_elim
                   (λ same. left_marked name marks.volume v of m0.state (scratch_on dsn marks.volume) files (subst (λ (all : List File). IsMarkedFor name marks.volume m0.state all) (sym same) marks.marked))
-                  (λ same. subst (λ (all : List File). IsLeftInOperation name marks.volume (scratch_on dsn marks.volume) v m0.state all) (sym same) (left_decided name marks.volume v of m0.state (scratch_on dsn marks.volume) (volume_after image v1 slot) put.after decided))
+                  (λ same. subst (λ (all : List File). IsLeftInOperation name marks.volume (scratch_on dsn marks.volume) (InVtoc v) m0.state all) (sym same) (left_decided name marks.volume v of m0.state (scratch_on dsn marks.volume) (volume_after image v1 slot) put.after decided))
                   left.0,
               left.1 ∙ marks.printed,
             )))
 
         -- Where the put failed.
-        pub scratch_unput : {X Y : Type 0} (answer : Result X Y) → IsErr answer → DoesOperation name (scratch_on dsn) v m0 m2 answer
+        pub scratch_unput : {X Y : Type 0} (answer : Result X Y) → IsErr answer → DoesOperation name (scratch_on dsn) v (InVtoc v) m0 m2 answer
         scratch_unput answer failed = record {
           volume = marks.volume;
           before = marks.before;
@@ -235,7 +235,7 @@ module _ (name : List ℕ) (dsn : Dsn) (slot : ℕ) (f : F1) (named : dsn.bytes 
         of_now = of v2 m2 put v geometry vtoc
 
         -- The update is concluded, or it failed.
-        pub scratch_concluded : {X Y : Type 0} (result : Result X Y) → Concludes name v m2 m3 result → DoesOperation name (scratch_on dsn) v m0 m3 result
+        pub scratch_concluded : {X Y : Type 0} (result : Result X Y) → Concludes name v m2 m3 result → DoesOperation name (scratch_on dsn) v (InVtoc v) m0 m3 result
         scratch_concluded {X = X} {Y = Y} result ends =
             let after : Volume = volume_after (image_named m1.state name) v1 slot in
             let one : Ok ends.volume ≡ Ok after = sym ends.before ∙ decided_now.stands in
@@ -256,7 +256,7 @@ module _ (name : List ℕ) (dsn : Dsn) (slot : ℕ) (f : F1) (named : dsn.bytes 
           where
             by_result : (r : Result X Y) → OnOk r (IsGuardedFor name ends.volume m2.state m3.state) → OnOk r (IsMounted (image_named m3.state name) v) → OnOk r (IsDurable m3)
                 → ((files : List File) → IsGuardedFor name ends.volume m2.state files → IsGuardedFor name (volume_after (image_named m1.state name) v1 slot) m2.state files)
-                → OnOk r (IsDone name (scratch_on dsn marks.volume) v m0.state m3)
+                → OnOk r (IsDone name (scratch_on dsn marks.volume) v (InVtoc v) m0.state m3)
             by_result (Ok x) safe index durable guarded =
                 let left = left_guarded name marks.volume v of_now m0.state (scratch_on dsn marks.volume) (volume_after (image_named m1.state name) v1 slot) m2.state m3.state of_after decided_now (guarded m3.state safe) in
                 record {

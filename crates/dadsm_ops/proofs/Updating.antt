@@ -13,18 +13,23 @@ use Rattle.vol_model.specs.declared.contents.Volume.{Volume}
 use Rattle.vol_model.specs.declared.refusals.Refusal.{Refusal}
 use Rattle.vtoc_index.specs.declared.vol.Vol.{Vol}
 use Rattle.free_rebuild.specs.Updates.{Concludes, IsGuardedFor, IsMarkedFor, Marks}
-use Rattle.dadsm_ops.specs.Allocating.{Decides}
-use Rattle.dadsm_ops.specs.Operations.{ChangesVtoc, DoesOperation, IsLeftInOperation, image_named}
-use Rattle.dadsm_ops.proofs.Operating.{unchanged}
+use Rattle.dadsm_ops.specs.Allocating.{Decides, PutsDirectory, directory_runs}
+use Rattle.dadsm_ops.specs.Formatting.{AreSpared, DifferOn}
+use Rattle.dadsm_ops.specs.Operations.{ChangesImage, DoesOperation, InVtoc, IsLeftInOperation, image_named}
 
--- changes of one VTOC, and further ones
-changes_then : (name : List ℕ) (g : Geometry) (vtoc : Run) (a b c : List File) → ChangesVtoc name g vtoc a b → ChangesVtoc name g vtoc b c → ChangesVtoc name g vtoc a c
-changes_then name g vtoc a b c one two = record {
-  others = λ other apart. two.others other apart ∙ one.others other apart;
-  image = record {
-    size = two.image.size ∙ one.image.size;
-    header = two.image.header ∙ one.image.header;
-    tracks = λ track outside. two.image.tracks track outside ∙ one.image.tracks track outside;
+-- Changes of an image that begin with none, and go on with those of an index's VTOC.
+pub record GoesOn (v : Vol) (start : List ℕ) (Changes : List ℕ → List ℕ → Type 0) : Type 0 where
+  pub none : Changes start start
+  pub more : (b c : List ℕ) → Changes start b → InVtoc v b c → Changes start c
+
+-- those of the VTOC do so
+pub vtoc_goes_on : (v : Vol) (start : List ℕ) → GoesOn v start (InVtoc v)
+vtoc_goes_on v start = record {
+  none = record { size = refl; header = refl; tracks = λ track outside. refl };
+  more = λ b c one two. record {
+    size = two.size ∙ one.size;
+    header = two.header ∙ one.header;
+    tracks = λ track outside. two.tracks track outside ∙ one.tracks track outside;
   };
 }
 
@@ -32,37 +37,47 @@ changes_then name g vtoc a b c one two = record {
 one_volume : (image : List ℕ) (a b : Volume) → volume_of image ≡ Ok a → volume_of image ≡ Ok b → a ≡ b
 one_volume image a b one two = let both = sym one ∙ two in cc both
 
-module _ (name : List ℕ) (operation : Volume → Result Volume Refusal) (v : Vol) (start : Meaning (List File)) (volume : Volume) (before : volume_of (image_named start.state name) ≡ Ok volume) (same_g : volume.geometry ≡ v.geometry) (same_vtoc : volume.vtoc ≡ v.vtoc) where
+module _ (name : List ℕ) (operation : Volume → Result Volume Refusal) (v : Vol) (start : Meaning (List File)) (volume : Volume) (before : volume_of (image_named start.state name) ≡ Ok volume) (same_g : volume.geometry ≡ v.geometry) (same_vtoc : volume.vtoc ≡ v.vtoc) (Changes : List ℕ → List ℕ → Type 0) (goes : GoesOn v (image_named start.state name) Changes) where
   abbrev Left : List File → Type 0
-  Left files = IsLeftInOperation name volume (operation volume) v start.state files
+  Left files = IsLeftInOperation name volume (operation volume) Changes start.state files
+
+  -- the files that were changed so since the start
+  abbrev Changed : List File → Type 0
+  Changed files = ChangesImage name Changes start.state files
+
+  no_change : Changed start.state
+  no_change = record { others = λ other apart. refl; image = goes.none }
 
   abbrev Time : Meaning (List File) → Type 0
   Time m = Elapses start m (λ files p. Left files × (p ≡ start.printed))
 
-  -- How far an update has come: what a stop since its start left is left in the operation; and now the image stands for this volume, with the VTOC alone changed.
+  -- How far an update has come: what a stop since its start left is left in the operation; and now the image stands for this volume, with such changes alone.
   pub record Come (now : Volume) (m : Meaning (List File)) : Type 0 where
     pub time : Time m
     pub printed : m.printed ≡ start.printed
     pub stands : volume_of (image_named m.state name) ≡ Ok now
     pub left : Left m.state
-    pub changes : ChangesVtoc name v.geometry v.vtoc start.state m.state
+    pub changes : Changed m.state
 
   pub begins : Come volume start
   begins = record {
     time = elapses_none start _;
     printed = refl;
     stands = before;
-    left = record { stands = inl before; guarded = λ is. is; changes = unchanged name v.geometry v.vtoc start.state start.state refl };
-    changes = unchanged name v.geometry v.vtoc start.state start.state refl;
+    left = record { stands = inl before; guarded = λ is. is; changes = no_change };
+    changes = no_change;
   }
 
   -- the VTOC alone is changed, of a volume of the same geometry and VTOC
-  changed : (w : Volume) (mid files : List File) → w.geometry ≡ v.geometry → w.vtoc ≡ v.vtoc → ChangesVtoc name v.geometry v.vtoc start.state mid → DifferInVtoc w.geometry w.vtoc (image_named mid name) (image_named files name) → ((other : List ℕ) → other ≢ name → file_of files other ≡ file_of mid other) → ChangesVtoc name v.geometry v.vtoc start.state files
+  changed : (w : Volume) (mid files : List File) → w.geometry ≡ v.geometry → w.vtoc ≡ v.vtoc → Changed mid → DifferInVtoc w.geometry w.vtoc (image_named mid name) (image_named files name) → ((other : List ℕ) → other ≢ name → file_of files other ≡ file_of mid other) → Changed files
   changed w mid files g vtoc sofar tracks others =
       let here : DifferInVtoc v.geometry v.vtoc (image_named mid name) (image_named files name) =
       subst (λ (x : Geometry). DifferInVtoc x v.vtoc (image_named mid name) (image_named files name)) g
       (subst (λ (r : Run). DifferInVtoc w.geometry r (image_named mid name) (image_named files name)) vtoc tracks) in
-      changes_then name v.geometry v.vtoc start.state mid files sofar (record { others = others; image = here })
+      record {
+        others = λ other apart. others other apart ∙ sofar.others other apart;
+        image = goes.more (image_named mid name) (image_named files name) sofar.image here;
+      }
 
   -- more time, in which each stop leaves what is left in the operation
   more_time : {m n : Meaning (List File)} {Q : List File → Type 0} → Time m → m.printed ≡ start.printed → Elapses m n (λ files p. Q files × (p ≡ m.printed)) → ((files : List File) → Q files → Left files) → Time n
@@ -112,8 +127,38 @@ module _ (name : List ℕ) (operation : Volume → Result Volume Refusal) (v : V
           let left = marked_left n.state marked in
           record { time = time.0; printed = time.1; stands = marked.stands; left = left; changes = left.changes }
 
+    -- the directory of a new set, where its tracks may be changed too
+    module _ (runs : List Run) (dir : ℕ) (onto : (b c : List ℕ) → Changes (image_named start.state name) b → DifferOn v.geometry (directory_runs dir runs) b c → Changes (image_named start.state name) c) where
+      spared_left : (files : List File) → AreSpared name volume (directory_runs dir runs) m.state files → Left files
+      spared_left files is = record {
+        stands = inl is.stands;
+        guarded = λ was. (volume, is.stands, inl is.marked);
+        changes = record {
+          others = λ other apart. is.differ.others other apart ∙ come.changes.others other apart;
+          image = onto (image_named m.state name) (image_named files name) come.changes.image
+              (subst (λ (x : Geometry). DifferOn x (directory_runs dir runs) (image_named m.state name) (image_named files name)) same_g is.differ.image);
+        };
+      }
+
+      module _ {T E : Type 0} {n : Meaning (List File)} {w : Vol} {result : Result T E} where
+        pub puts_time : PutsDirectory name runs dir w m n result → Time n × (n.printed ≡ start.printed)
+        puts_time puts =
+            let same : puts.volume ≡ volume = one_volume (image_named m.state name) puts.volume volume puts.before come.stands in (
+              more_time come.time come.printed puts.moments (λ files is. spared_left files (subst (λ (x : Volume). AreSpared name x (directory_runs dir runs) m.state files) same is)),
+              puts.printed ∙ come.printed,
+            )
+
+      module _ {T E : Type 0} {n : Meaning (List File)} {w : Vol} {x : T} where
+        pub puts_come : PutsDirectory {T = T} {E = E} name runs dir w m n (Ok x) → Come volume n
+        puts_come puts =
+            let same : puts.volume ≡ volume = one_volume (image_named m.state name) puts.volume volume puts.before come.stands in
+            let spared : AreSpared name volume (directory_runs dir runs) m.state n.state = subst (λ (y : Volume). AreSpared name y (directory_runs dir runs) m.state n.state) same puts.spared in
+            let time = puts_time puts in
+            let left = spared_left n.state spared in
+            record { time = time.0; printed = time.1; stands = spared.stands; left = left; changes = left.changes }
+
   -- how an operation ends that isn't done
-  pub ends_not : {T E : Type 0} {m : Meaning (List File)} (answer : Result T E) → IsErr answer → Time m → m.printed ≡ start.printed → DoesOperation name operation v start m answer
+  pub ends_not : {T E : Type 0} {m : Meaning (List File)} (answer : Result T E) → IsErr answer → Time m → m.printed ≡ start.printed → DoesOperation name operation v Changes start m answer
   ends_not answer failed time printed = record {
     volume = volume;
     before = before;
@@ -168,7 +213,7 @@ module _ (name : List ℕ) (operation : Volume → Result Volume Refusal) (v : V
         )
 
     -- the operation is done where the update has ended
-    pub ends_done : {T E A B : Type 0} {n : Meaning (List File)} {x : T} (answer : A) → Concludes {T = T} {E = E} name v m n (Ok x) → DoesOperation {T = A} {E = B} name operation v start n (Ok answer)
+    pub ends_done : {T E A B : Type 0} {n : Meaning (List File)} {x : T} (answer : A) → Concludes {T = T} {E = E} name v m n (Ok x) → DoesOperation {T = A} {E = B} name operation v Changes start n (Ok answer)
     ends_done {n = n} answer concludes =
         let same : concludes.volume ≡ after = one_volume (image_named m.state name) concludes.volume after concludes.before decided.come.stands in
         let safe : IsGuardedFor name after m.state n.state = subst (λ (y : Volume). IsGuardedFor name y m.state n.state) same concludes.safe in

@@ -5,3 +5,4 @@ pub mod Naming
 pub mod Operations
 pub mod Scratching
 pub mod Through
+pub mod Formatting

@@ -8,7 +8,7 @@ ghost use Rattle.vol_model.specs.Shelf.{empty_on};
 ghost use Rattle.vtoc_index.specs.Index.{IsMounted, IsOfUnit};
 ghost use Rattle.vtoc_index.specs.Names.{AreByName, name_at};
 ghost use Rattle.dadsm_ops.specs.Emptying.{MayEmpty, emptied_dscb};
-ghost use Rattle.dadsm_ops.specs.Operations.{DoesOperation};
+ghost use Rattle.dadsm_ops.specs.Operations.{DoesOperation, InVtoc};
 
 use crate::through::put_through;
 use dscb_codec::{Dscb, F1};
@@ -19,8 +19,9 @@ use vtoc_index::Vol;
 // DSORG of a sequential data set.
 const SEQUENTIAL: u16 = 0x4000;
 
-/// Empties the sequential data set whose format 1 a slot holds, or the one without an organization, which becomes
-/// sequential. It takes its record format, options and lengths from the attributes.
+/// Empties the sequential data set whose format 1 a slot holds, the one without an organization, which becomes
+/// sequential, or the partitioned one without entries and blocks, whose directory stays. It takes its record format,
+/// options and lengths from the attributes.
 ///
 /// The index is that of the image of its unit, and no write is pending; the caller knows that the data set may be
 /// emptied. Its format 1 is written with these and with zeros as the place of its last block and as the balance of
@@ -41,7 +42,8 @@ pub fn empty<H: Hall>(hall: &mut H, vol: &mut Vol, slot: u32, attr: &Attr) -> Re
     requires durable { IsTrue H.tells → IsDurable (H.meaning hall.old) }
     ensures files { (dsn : Dsn) → name_at vol.old.slots.items slot ≡ Some dsn.bytes
         → IsTrue H.tells → DoesOperation (unit_of (H.facts hall.old).units vol.old.unit).name
-        (empty_on dsn attr.now) vol.new (H.meaning hall.old) (H.meaning hall.new) result }
+        (empty_on dsn attr.now) vol.new (InVtoc vol.new) (H.meaning hall.old)
+        (H.meaning hall.new) result }
     ensures unit { IsOfUnit (H.facts hall.new).units vol.new }
     ensures names { OnOk result (AreByName (name_at vol.new.slots.items) vol.new.by_name.items) }
     ensures index { vol.new ≡ record vol.old { slots = vol.new.slots; buf = vol.new.buf } }

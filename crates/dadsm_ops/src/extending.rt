@@ -21,7 +21,7 @@ ghost use Rattle.vtoc_index.specs.Names.{AreByName, name_at};
 ghost use Rattle.vtoc_sets.specs.Sets.{leads_to};
 ghost use Rattle.dadsm_ops.specs.Allocating.{AreExtents, Decides, HaveSameNames, open_slots};
 ghost use Rattle.dadsm_ops.specs.Extending.{HasExtension, HasMore, HoldAdded, HoldsSet, IsForFurther, IsLedTo, IsReadable, IsRefused, added_type, further_slots};
-ghost use Rattle.dadsm_ops.specs.Operations.{DoesOperation, Operates, StoreCall};
+ghost use Rattle.dadsm_ops.specs.Operations.{DoesOperation, InVtoc, Operates, StoreCall};
 
 use crate::added::{
     EMPTY_F3, added_type, f1_with, f3_with, further_slots, secondary_asked, secondary_request,
@@ -66,7 +66,8 @@ pub fn extend<H: Hall>(hall: &mut H, vol: &mut Vol, slot: u32) -> Result<(), Sto
     requires durable { IsTrue H.tells → IsDurable (H.meaning hall.old) }
     ensures files { (dsn : Dsn) → name_at vol.old.slots.items slot ≡ Some dsn.bytes
         → IsTrue H.tells → Operates (unit_of (H.facts hall.old).units vol.old.unit).name
-        (extend_on dsn) vol.new (H.meaning hall.old) (H.meaning hall.new) result }
+        (extend_on dsn) vol.new (InVtoc vol.new) (H.meaning hall.old) (H.meaning hall.new)
+        result }
     ensures unit { IsOfUnit (H.facts hall.new).units vol.new }
     ensures names { OnOk result (AreByName (name_at vol.new.slots.items) vol.new.by_name.items) }
     ensures index { vol.new ≡ record vol.old {
@@ -187,7 +188,7 @@ fn carry_out<H: Hall>(
     requires durable { IsTrue H.tells → IsDurable (H.meaning hall.old) }
     ensures files { (dsn : Dsn) → set.now.name ≡ dsn.bytes → IsTrue H.tells
         → DoesOperation (unit_of (H.facts hall.old).units vol.old.unit).name (extend_on dsn) vol.new
-        (H.meaning hall.old) (H.meaning hall.new) result }
+        (InVtoc vol.new) (H.meaning hall.old) (H.meaning hall.new) result }
     ensures unit { IsOfUnit (H.facts hall.new).units vol.new }
     ensures names { OnOk result (AreByName (name_at vol.new.slots.items) vol.new.by_name.items) }
     ensures index { vol.new ≡ record vol.old {

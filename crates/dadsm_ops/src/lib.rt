@@ -5,6 +5,7 @@ mod added;
 mod allocating;
 mod emptying;
 mod extending;
+mod formatting;
 mod naming;
 mod new_set;
 mod planning;

@@ -9,7 +9,7 @@ ghost use Rattle.vol_model.specs.declared.contents.Volume.{Volume};
 ghost use Rattle.vtoc_index.specs.Index.{IsMounted, IsOfUnit};
 ghost use Rattle.vtoc_index.specs.Names.{AreByName, name_at};
 ghost use Rattle.dadsm_ops.specs.Naming.{IsToRename, under_name};
-ghost use Rattle.dadsm_ops.specs.Operations.{Operates, StoreCall};
+ghost use Rattle.dadsm_ops.specs.Operations.{InVtoc, Operates, StoreCall};
 
 use crate::through::put_through;
 use dscb_codec::{Dscb, F1};
@@ -37,7 +37,8 @@ pub fn rename<H: Hall>(hall: &mut H, vol: &mut Vol, old: &Dsn, new: &Dsn) -> Res
         IsTrue H.tells → IsMounted image vol.old }
     requires durable { IsTrue H.tells → IsDurable (H.meaning hall.old) }
     ensures files { IsTrue H.tells → Operates (unit_of (H.facts hall.old).units vol.old.unit).name
-        (rename_on old.now new.now) vol.new (H.meaning hall.old) (H.meaning hall.new) result }
+        (rename_on old.now new.now) vol.new (InVtoc vol.new) (H.meaning hall.old)
+        (H.meaning hall.new) result }
     ensures unit { IsOfUnit (H.facts hall.new).units vol.new }
     ensures names { OnOk result (AreByName (name_at vol.new.slots.items) vol.new.by_name.items) }
     ensures index { vol.new ≡ record vol.old {

@@ -1,10 +1,11 @@
 //! The DSCBs of a new data set.
 ghost use Rattle.std.specs.Prelude.{◌≡◌, ℕ, ◌+◌, ◌^◌, ◌≤◌, ◌<◌, List, length, false};
-ghost use Rattle.dadsm_ops.specs.Allocating.{AreExtents, extent_bytes, extent_field, extent_type, new_f1, new_f3};
+ghost use Rattle.dadsm_ops.specs.Allocating.{AreExtents, extent_bytes, extent_field, extent_type, new_f1, new_f3, new_lstar};
 ghost use Rattle.space_alloc.specs.Units.{listed};
 ghost use Rattle.vol_model.specs.Shelf.{flags_of, is_catalog, new_attr};
 
-use ckd_image::Geometry;
+use crate::formatting::directory_end;
+use ckd_image::{DiskType, Geometry};
 use dscb_codec::{F1, F3};
 use ebcdic_names::{Dsn, Serial};
 use pack_spec::layout::{CYLINDER_EXTENT, DATA_EXTENT, Extent};
@@ -94,7 +95,20 @@ pub(crate) fn extent_count(extents: Extents) -> u8
     extents.n
 }
 
-// The format 1 of a data set that has no block yet; the pointer counts where it has more than three extents.
+// The bytes of LSTAR of a data set that has no member or block yet.
+fn new_lstar(device: DiskType, dir: u32) -> [u8; 3]
+    requires most { dir ≤ 2000 }
+    ensures { result ≡ new_lstar device dir }
+{
+    if dir == 0 {
+        return [0; 3];
+    }
+    let end = directory_end(device, dir);
+    let [tt_high, tt_low] = end.tt.to_be_bytes();
+    [tt_high, tt_low, end.r]
+}
+
+// The format 1 of a data set that has no member or block yet; the pointer counts where it has more than three extents.
 pub(crate) fn new_f1(
     dsn: &Dsn,
     serial: &Serial,
@@ -103,12 +117,14 @@ pub(crate) fn new_f1(
     kind: u8,
     extents: &Extents,
     pointer: [u8; 5],
+    dir: u32,
 ) -> F1
+    requires most { dir ≤ 2000 }
     requires secondary { attr.now.secondary < 2 ^ 24 }
     requires few { extents.now.n ≤ 5 }
     requires written { AreExtents (listed extents.now) }
     ensures { result ≡ new_f1 dsn.now.bytes serial.now.bytes attr.now geometry.now kind
-        (listed extents.now) pointer }
+        (listed extents.now) pointer dir }
 {
     F1 {
         name: dsn.bytes,
@@ -130,7 +146,7 @@ pub(crate) fn new_f1(
         rkp: attr.rkp,
         indicators: attr.indicators,
         scalo: u32::from(attr.scalo) * 0x0100_0000 + attr.secondary,
-        lstar: [0; 3],
+        lstar: new_lstar(geometry.device, dir),
         balance: 0,
         res103: [0; 2],
         runs: [

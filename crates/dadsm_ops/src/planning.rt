@@ -5,22 +5,24 @@ ghost use Rattle.hall_core.specs.Facts.{Attached};
 ghost use Rattle.pack_spec.specs.Volume.{volume_of};
 ghost use Rattle.space_alloc.specs.Edits.{AreWithout, between};
 ghost use Rattle.space_alloc.specs.Units.{listed};
-ghost use Rattle.vol_model.specs.Shelf.{allocate_on, is_catalog, is_partitioned};
+ghost use Rattle.vol_model.specs.Shelf.{allocate_on, is_catalog, is_partitioned, lacks_room};
+ghost use Rattle.vol_model.specs.Places.{tracks_in};
 ghost use Rattle.vol_model.specs.Space.{AreMaximal, EndBy};
 ghost use Rattle.vol_model.specs.declared.contents.Run.{Run};
 ghost use Rattle.vol_model.specs.declared.contents.Volume.{Volume};
 ghost use Rattle.vol_model.specs.declared.refusals.Refusal.{Refusal};
 ghost use Rattle.vtoc_index.specs.Index.{IsMounted, IsOfUnit};
 ghost use Rattle.vtoc_index.specs.Names.{AreByName, name_at};
-ghost use Rattle.dadsm_ops.specs.Allocating.{AreExtents, HasChoice, HasPlan, IsAbsent, cut_by, own_slots};
+ghost use Rattle.dadsm_ops.specs.Allocating.{AreExtents, AreTracksOf, HasChoice, HasPlan, IsAbsent, cut_by, own_slots};
 
+use crate::formatting::lacks_room;
 use crate::new_set::extent_count;
 use ebcdic_names::Dsn;
 use pack_spec::layout::OWN_EXTENTS;
 use space_alloc::{Extents, choose, remove_all};
 use vol_model::{Attr, Refusal, Request, Run, is_catalog};
 use vtoc_index::{Vol, find};
-use vtoc_sets::{slots_for, slots_of_sets};
+use vtoc_sets::{slots_for, slots_of_sets, tracks_in};
 
 // Whether the name and the organization are those of a partitioned data set.
 fn is_partitioned(dsn: &Dsn, attr: &Attr) -> bool
@@ -29,7 +31,7 @@ fn is_partitioned(dsn: &Dsn, attr: &Attr) -> bool
     !is_catalog(dsn) && attr.dsorg / 512 == 1
 }
 
-// The tracks for a new data set without a directory, or the first reason why it gets none.
+// The tracks for a new data set with so many directory blocks, or the first reason why it gets none.
 fn chosen(
     vol: &Vol,
     dsn: &Dsn,
@@ -39,12 +41,13 @@ fn chosen(
 ) -> Result<Extents, Refusal>
     requires unit { (units : List Attached) × IsOfUnit units vol.now }
     requires names { AreByName (name_at vol.now.slots.items) vol.now.by_name.items }
-    requires dir { dir ≡ 0 }
     ensures few { IfOk result (λ e. e.n ≤ 5) }
     ensures written { IfOk result (λ e. AreExtents (listed e)) }
+    ensures tracks { IfOk result (λ e. AreTracksOf vol.now.geometry (listed e)) }
     ensures absent { OnOk result (IsAbsent dsn.now.bytes vol.now.slots.items) }
     ensures chosen { IfOk result (λ e. (image : List ℕ) (volume : Volume) → IsMounted image vol.now
-        → volume_of image ≡ Ok volume → HasChoice dsn.now attr.now request.now volume (listed e)) }
+        → volume_of image ≡ Ok volume
+        → HasChoice dsn.now attr.now request.now dir volume (listed e)) }
     ensures refused { IfErr result (λ r. (image : List ℕ) (volume : Volume) → IsMounted image vol.now
         → volume_of image ≡ Ok volume → allocate_on dsn.now attr.now request.now dir volume ≡ Err r) }
 {
@@ -116,6 +119,15 @@ pub(crate) fn take_runs(vol: &mut Vol, extents: &Extents)
     remove_all(&mut vol.free, &extents.runs[..usize::from(extents.n)]);
 }
 
+// The tracks of extents.
+fn tracks_of(extents: &Extents) -> u32
+    requires few { extents.now.n ≤ 5 }
+    requires written { AreExtents (listed extents.now) }
+    ensures { result ≡ tracks_in (listed extents.now) }
+{
+    tracks_in(&extents.runs[..usize::from(extents.n)])
+}
+
 // The slots that a new data set takes.
 pub(crate) fn own_slots(extents: &Extents) -> u32
     requires few { extents.now.n ≤ 5 }
@@ -140,12 +152,15 @@ pub(crate) fn plan(
     requires unit { (units : List Attached) × IsOfUnit units vol.now }
     requires names { AreByName (name_at vol.now.slots.items) vol.now.by_name.items }
     requires catalog { is_catalog dsn.now.bytes ≡ false }
-    requires dir { dir ≡ 0 }
+    requires dir { dir ≤ 2000 }
     ensures few { IfOk result (λ e. e.n ≤ 5) }
     ensures written { IfOk result (λ e. AreExtents (listed e)) }
+    ensures tracks { IfOk result (λ e. AreTracksOf vol.now.geometry (listed e)) }
+    ensures room { IfOk result (λ e. lacks_room vol.now.geometry.device dsn.now.bytes dir
+        (tracks_in (listed e)) ≡ false) }
     ensures absent { OnOk result (IsAbsent dsn.now.bytes vol.now.slots.items) }
     ensures plan { IfOk result (λ e. (image : List ℕ) → IsMounted image vol.now
-        → HasPlan image dsn.now attr.now request.now (listed e)) }
+        → HasPlan image dsn.now attr.now request.now dir (listed e)) }
     ensures refused { IfErr result (λ r. (image : List ℕ) (volume : Volume) → IsMounted image vol.now
         → volume_of image ≡ Ok volume → allocate_on dsn.now attr.now request.now dir volume ≡ Err r) }
 {
@@ -154,6 +169,9 @@ pub(crate) fn plan(
     let slots = slots_for(runs_left(vol, &extents), sets);
     if slots > vol.slots.len() as u32 {
         return Err(Refusal::VtocFull { slots });
+    }
+    if lacks_room(vol.geometry.device, dir, tracks_of(&extents)) {
+        return Err(Refusal::NoRoom);
     }
     Ok(extents)
 }

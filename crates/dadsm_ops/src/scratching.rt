@@ -14,7 +14,7 @@ ghost use Rattle.vtoc_index.specs.Index.{IsMounted, IsOfUnit};
 ghost use Rattle.vtoc_index.specs.Names.{AreByName, IsForgotten, name_at};
 ghost use Rattle.dscb_codec.specs.declared.Dscb.{Dscb};
 ghost use Rattle.vtoc_sets.specs.Sets.{HasSet, extents_in};
-ghost use Rattle.dadsm_ops.specs.Operations.{DoesOperation};
+ghost use Rattle.dadsm_ops.specs.Operations.{DoesOperation, InVtoc};
 ghost use Rattle.dadsm_ops.specs.Scratching.{AreFreed, usable_tracks};
 
 use crate::through::put_through;
@@ -51,7 +51,8 @@ pub fn scratch<H: Hall>(hall: &mut H, vol: &mut Vol, slot: u32) -> Result<(), De
     requires durable { IsTrue H.tells → IsDurable (H.meaning hall.old) }
     ensures files { (dsn : Dsn) → name_at vol.old.slots.items slot ≡ Some dsn.bytes
         → IsTrue H.tells → DoesOperation (unit_of (H.facts hall.old).units vol.old.unit).name
-        (scratch_on dsn) vol.new (H.meaning hall.old) (H.meaning hall.new) result }
+        (scratch_on dsn) vol.new (InVtoc vol.new) (H.meaning hall.old) (H.meaning hall.new)
+        result }
     ensures unit { IsOfUnit (H.facts hall.new).units vol.new }
     ensures names { OnOk result (AreByName (name_at vol.new.slots.items) vol.new.by_name.items) }
     ensures index { vol.new ≡ record vol.old {

@@ -38,7 +38,7 @@ pub(crate) fn put_through<H: Hall>(
 }
 
 // Makes the writes durable. After an error they are pending as before.
-fn make_durable<H: Hall>(hall: &mut H) -> Result<(), Device>
+pub(crate) fn make_durable<H: Hall>(hall: &mut H) -> Result<(), Device>
     ensures files { IsTrue H.tells → AfterSync (H.meaning hall.old) (H.meaning hall.new) result }
     ensures faults { DeviceCall (H.facts hall.old) (H.facts hall.new) result }
 {

@@ -5,3 +5,4 @@ pub mod Repairs
 pub mod Durable
 pub mod Updates
 pub mod Settled
+pub mod Operations

@@ -1,8 +1,9 @@
 -- What a copy comes to, case by case.
 use Rattle.std.proofs.Common.{◌≡◌, inl, inr, Bool, true, false, not, ◌&&◌, List, refl, sym, ◌∙◌, ap, arith}
 use Rattle.std.proofs.lemmas.Bool.Decides.{nat_tests}
-use Rattle.std.specs.Prelude.{◌==◌, ◌||◌, if◌then◌else◌, is_some, Option, Some, None, Result, Ok, Err}
+use Rattle.std.specs.Prelude.{◌==◌, ◌||◌, if◌then◌else◌, is_some, IfOk, Option, Some, None, Result, Ok, Err}
 use Rattle.std.specs.Str.{bytes_eq}
+use Rattle.ebcdic_names.specs.declared.names.Name8.{Name8}
 use Rattle.record_blocks.specs.declared.formats.Format.{Format}
 use Rattle.record_blocks.specs.declared.formats.FormatErr.{FormatErr}
 use Rattle.record_blocks.specs.Formats.{first_fault}
@@ -18,9 +19,12 @@ use Rattle.util_steps.specs.Steps.{AreApart}
 use Rattle.util_syntax.specs.declared.listing.Outcome.{Outcome}
 use Rattle.util_syntax.specs.declared.listing.Outcome.TheVariants as outcome
 use Rattle.iebgener_util.specs.declared.copying.Output.{Output}
+use Rattle.iebgener_util.specs.declared.copying.Source.{Source}
+use Rattle.iebgener_util.specs.declared.orders.Order.{Order}
 use Rattle.iebgener_util.specs.declared.requests.Edit.{Edit}
-use Rattle.iebgener_util.specs.Attributes.{FindsSet, both, format_in, is_fixed, lower, misfits, output_attr, usable_set}
-use Rattle.iebgener_util.specs.Items.{Found, InputView, IsFound, attr_of, blocks_in, copied, copied_if, copied_with, format_of, found_input, from, has_edits, is_same, outcome_for, put_out}
+use Rattle.iebgener_util.specs.declared.requests.Names.{Names}
+use Rattle.iebgener_util.specs.Attributes.{FindsSet, both, format_in, is_fixed, lower, misfits, output_attr}
+use Rattle.iebgener_util.specs.Items.{Found, InputView, IsFound, blocks_in, copied, copied_if, copied_with, format_of, found_input, found_output, from, has_edits, is_same, outcome_for, put_out, source_of}
 
 -- ---- formats
 
@@ -36,39 +40,39 @@ formats_serve e a b is = by_faults e (first_fault a) (first_fault b) (is_fixed b
 
 -- ---- the copy
 
-module _ (shelf : Shelf) (input : InputView) (out : Output) (edits : List Edit) where
+module _ (shelf : Shelf) (input : InputView) (out : Output) (names : Option Names) (before : List Order) (edits : List Edit) where
   module _ (found : Found) (attr : Attr) where
     abbrev written_out : Did (Unit {0}) Outcome
-    written_out = with_reason outcome_for (put_out shelf out attr (blocks_in (format_in attr) edits found))
+    written_out = with_reason outcome_for (put_out shelf out names attr (blocks_in (format_in attr) before edits found))
 
     abbrev by_tests : Bool → Bool → Did (Unit {0}) Outcome
     by_tests bad same = if bad then answered (Err outcome.Dcb) else (if same then answered (Err outcome.SameSet) else written_out)
 
     -- the formats don't serve
-    pub with_misfits : misfits (has_edits edits) (format_of found) (format_in attr) ≡ true → copied_with shelf input out edits found attr ≡ answered (Err outcome.Dcb)
-    with_misfits bad = ap (λ (t : Bool). by_tests t (is_same input out.to)) bad
+    pub with_misfits : misfits (has_edits edits) (format_of found) (format_in attr) ≡ true → copied_with shelf input out names before edits found attr ≡ answered (Err outcome.Dcb)
+    with_misfits bad = ap (λ (t : Bool). by_tests t (is_same input out.to names)) bad
 
     -- the output is the input
-    pub with_itself : misfits (has_edits edits) (format_of found) (format_in attr) ≡ false → is_same input out.to ≡ true → copied_with shelf input out edits found attr ≡ answered (Err outcome.SameSet)
-    with_itself good same = ap (λ (t : Bool). by_tests t (is_same input out.to)) good ∙ ap (by_tests false) same
+    pub with_itself : misfits (has_edits edits) (format_of found) (format_in attr) ≡ false → is_same input out.to names ≡ true → copied_with shelf input out names before edits found attr ≡ answered (Err outcome.SameSet)
+    with_itself good same = ap (λ (t : Bool). by_tests t (is_same input out.to names)) good ∙ ap (by_tests false) same
 
     -- the records are written
-    pub with_output : misfits (has_edits edits) (format_of found) (format_in attr) ≡ false → is_same input out.to ≡ false → copied_with shelf input out edits found attr ≡ written_out
-    with_output good apart = ap (λ (t : Bool). by_tests t (is_same input out.to)) good ∙ ap (by_tests false) apart
+    pub with_output : misfits (has_edits edits) (format_of found) (format_in attr) ≡ false → is_same input out.to names ≡ false → copied_with shelf input out names before edits found attr ≡ written_out
+    with_output good apart = ap (λ (t : Bool). by_tests t (is_same input out.to names)) good ∙ ap (by_tests false) apart
 
-  abbrev of_both : Result Found Refusal → Result DataSet Refusal → Did (Unit {0}) Outcome
-  of_both f x = copied_if shelf input out edits (both f x)
+  abbrev of_found : Result (Found × DataSet) Refusal → Did (Unit {0}) Outcome
+  of_found b = copied_if shelf input out names before edits b
 
-  -- what a copy comes to, by what is found
-  pub copied_by : (f : Result Found Refusal) (x : Result DataSet Refusal) → found_input shelf input ≡ f → usable_set shelf (not out.append) out.to ≡ x → copied shelf input out edits ≡ of_both f x
+  -- one of the sets is refused
+  pub copied_refused : (r : Refusal) → both (found_input shelf input) (found_output shelf out names) ≡ Err r → copied shelf input out names before edits ≡ answered (Err (outcome.Refused r))
   unfolding copied
-  copied_by f x one two = ap (λ (g : Result Found Refusal). of_both g (usable_set shelf (not out.append) out.to)) one ∙ ap (of_both f) two
+  copied_refused r is = ap of_found is
 
 -- ---- two data sets
 
 -- an input that isn't the output is a set apart from it
-pub apart_from : (s to : SetRef) → is_same (from s) to ≡ false → AreApart to s
-apart_from s to is = by_tests (s.v == to.v) (bytes_eq s.dsn.bytes to.dsn.bytes) refl refl is
+pub apart_from : (s to : SetRef) (member : Option Name8) → is_same (from s member) to None ≡ false → AreApart to s
+apart_from s to member is = by_tests (s.v == to.v) (bytes_eq s.dsn.bytes to.dsn.bytes) refl refl is
   where
     by_tests : (a b : Bool) → (s.v == to.v) ≡ a → bytes_eq s.dsn.bytes to.dsn.bytes ≡ b → (a && b) ≡ false → AreApart to s
     by_tests a false one two is = inr two
@@ -79,44 +83,46 @@ apart_from s to is = by_tests (s.v == to.v) (bytes_eq s.dsn.bytes to.dsn.bytes) 
 
 module _ (f : Result Found Refusal) (x : Result DataSet Refusal) where
   -- the same refusal counts
-  pub both_refused : (a : Result (Option Attr) Refusal) (b : Result SetInfo Refusal) (r : Refusal) → IsFound a f → FindsSet b x → Err r ≡ both a b → both f x ≡ Err r
+  pub both_refused : (a : Result Source Refusal) (b : Result SetInfo Refusal) (r : Refusal) → IsFound a f → FindsSet b x → Err r ≡ both a b → both f x ≡ Err r
   both_refused (Ok p) (Ok q) r one two is = cc
   both_refused (Ok p) (Err s) r one two is = let same : s ≡ r = cc in ap (λ (g : Result Found Refusal). both g x) one.1 ∙ ap (both (Ok one.0)) two ∙ ap Err same
   both_refused (Err p) (Ok q) r one two is = let same : p ≡ r = cc in ap (λ (g : Result Found Refusal). both g x) one ∙ ap (both (Err p)) two.1 ∙ ap Err same
   both_refused (Err p) (Err q) r one two is = let same : lower p q ≡ r = cc in ap (λ (g : Result Found Refusal). both g x) one ∙ ap (both (Err p)) two ∙ ap Err same
 
--- Both sets were found, with these attributes.
-pub record BothFound (f : Result Found Refusal) (x : Result DataSet Refusal) (p : Option Attr) (q : SetInfo) : Type 0 where
+-- Both sets were found, and this is known of them.
+pub record BothFound (f : Result Found Refusal) (x : Result DataSet Refusal) (p : Source) (q : SetInfo) : Type 0 where
   pub read : Found
   pub written : DataSet
   pub one : f ≡ Ok read
   pub two : x ≡ Ok written
-  pub attr : p ≡ attr_of read
+  pub known : p ≡ source_of read
   pub info : q ≡ set_info written
 
-pair_of : (s t : Option Attr × SetInfo) → (let r : Result (Option Attr × SetInfo) Refusal = Ok s in r) ≡ Ok t → s ≡ t
+pair_of : (s t : Source × SetInfo) → (let r : Result (Source × SetInfo) Refusal = Ok s in r) ≡ Ok t → s ≡ t
 pair_of s t is = cc
 
-pub both_found : (f : Result Found Refusal) (x : Result DataSet Refusal) (a : Result (Option Attr) Refusal) (b : Result SetInfo Refusal) (p : Option Attr) (q : SetInfo) → IsFound a f → FindsSet b x → Ok (p, q) ≡ both a b → BothFound f x p q
+pub both_found : (f : Result Found Refusal) (x : Result DataSet Refusal) (a : Result Source Refusal) (b : Result SetInfo Refusal) (p : Source) (q : SetInfo) → IsFound a f → FindsSet b x → Ok (p, q) ≡ both a b → BothFound f x p q
 both_found f x (Ok y) (Ok z) p q one two is =
     let pair = pair_of (p, q) (y, z) is in
-    record { read = one.0; written = two.0; one = one.1; two = two.1; attr = ap (λ (t : Option Attr × SetInfo). t.0) pair ∙ one.2; info = ap (λ (t : Option Attr × SetInfo). t.1) pair ∙ two.2 }
+    record { read = one.0; written = two.0; one = one.1; two = two.1; known = ap (λ (t : Source × SetInfo). t.0) pair ∙ one.2; info = ap (λ (t : Source × SetInfo). t.1) pair ∙ two.2 }
 both_found f x (Ok y) (Err s) p q one two is = let never : ⊥ = cc in absurd never
 both_found f x (Err r) (Ok z) p q one two is = let never : ⊥ = cc in absurd never
 both_found f x (Err r) (Err s) p q one two is = let never : ⊥ = cc in absurd never
 
-module _ (shelf : Shelf) (input : InputView) (out : Output) (edits : List Edit) where
-  abbrev of_found : Result (Found × DataSet) Refusal → Did (Unit {0}) Outcome
-  of_found b = copied_if shelf input out edits b
+-- the output was found where both were
+pub both_there : (a : Result Source Refusal) (b : Result SetInfo Refusal) (p : Source) (q : SetInfo) (P : Type 0) → Ok (p, q) ≡ both a b → IfOk b (λ info. P) → P
+both_there (Ok y) (Ok z) p q P is there = there
+both_there (Ok y) (Err s) p q P is there = let never : ⊥ = cc in absurd never
+both_there (Err r) (Ok z) p q P is there = let never : ⊥ = cc in absurd never
+both_there (Err r) (Err s) p q P is there = let never : ⊥ = cc in absurd never
 
-  -- one of the sets is refused
-  pub copied_refused : (r : Refusal) → both (found_input shelf input) (usable_set shelf (not out.append) out.to) ≡ Err r → copied shelf input out edits ≡ answered (Err (outcome.Refused r))
-  unfolding copied
-  copied_refused r is = ap of_found is
+module _ (shelf : Shelf) (input : InputView) (out : Output) (names : Option Names) (before : List Order) (edits : List Edit) where
+  abbrev of_sets : Result (Found × DataSet) Refusal → Did (Unit {0}) Outcome
+  of_sets b = copied_if shelf input out names before edits b
 
   -- both are there
-  pub copied_found : (p : Option Attr) (q : SetInfo) (b : BothFound (found_input shelf input) (usable_set shelf (not out.append) out.to) p q) → copied shelf input out edits ≡ copied_with shelf input out edits b.read (output_attr out.dcb q.attr p)
+  pub copied_found : (p : Source) (q : SetInfo) (b : BothFound (found_input shelf input) (found_output shelf out names) p q) → copied shelf input out names before edits ≡ copied_with shelf input out names before edits b.read (output_attr out.dcb q.attr p.attr)
   unfolding copied set_info
   copied_found p q b =
-      ap (λ (f : Result Found Refusal). of_found (both f (usable_set shelf (not out.append) out.to))) b.one ∙ ap (λ (x : Result DataSet Refusal). of_found (both (Ok b.read) x)) b.two
-      ∙ sym (ap (λ (i : SetInfo). copied_with shelf input out edits b.read (output_attr out.dcb i.attr p)) b.info ∙ ap (λ (o : Option Attr). copied_with shelf input out edits b.read (output_attr out.dcb b.written.attr o)) b.attr)
+      ap (λ (f : Result Found Refusal). of_sets (both f (found_output shelf out names))) b.one ∙ ap (λ (x : Result DataSet Refusal). of_sets (both (Ok b.read) x)) b.two
+      ∙ sym (ap (λ (i : SetInfo). copied_with shelf input out names before edits b.read (output_attr out.dcb i.attr p.attr)) b.info ∙ ap (λ (k : Source). copied_with shelf input out names before edits b.read (output_attr out.dcb b.written.attr k.attr)) b.known)

@@ -14,12 +14,12 @@ use Rattle.record_blocks.specs.Packing.{is_spanned, longest}
 use Rattle.record_blocks.specs.Reading.{Reading, empty_reading, failed_reading, with_segment}
 use Rattle.record_blocks.specs.Segments.{bytes_with, ends}
 use Rattle.iebgener_util.specs.declared.editor.Editor.{Editor}
-use Rattle.iebgener_util.specs.declared.requests.Edit.{Edit}
-use Rattle.iebgener_util.specs.Editing.{Stream, at_end, at_fault, edited_by, with_record}
-use Rattle.iebgener_util.specs.Editor.{coming_edited, coming_read, groups_left, is_left_open, records_left}
+use Rattle.iebgener_util.specs.Editing.{Stream, at_end, at_fault, with_record}
+use Rattle.iebgener_util.specs.Editor.{coming_edited, coming_read, is_left_open, records_left}
 use Rattle.vol_model.specs.declared.contents.Block.{Block}
 use Rattle.iebgener_util.specs.Reading.{blocks_reading, joined, joined_then, read_then, records_read, set_records}
 use Rattle.iebgener_util.specs.RecordWriter.{coming}
+use Rattle.iebgener_util.proofs.EditorLemmas.{none_to_come}
 
 pub read_as : (e : Editor) (j : Option Joiner) (r : Reading) → coming_read e j r ≡ coming_edited e (records_left j r)
 unfolding coming_read
@@ -147,24 +147,13 @@ fewer_left left rest s is = ap (λ (r : Reading). length r.segments) is
 
 -- ---- no more records
 
-edited_nothing : (lrecl : ℕ) (gs : Option (List Edit)) (broken : Bool) → edited_by lrecl gs (record { records = []; broken = broken }) ≡ record { records = []; broken = broken }
-unfolding edited_by
-edited_nothing lrecl None broken = refl
-edited_nothing lrecl (Some []) broken = refl
-edited_nothing lrecl (Some (e ∷ es)) broken = refl
-
--- where no record is left there is none to edit
-pub nothing_edited : (e : Editor) (broken : Bool) → coming_edited e (record { records = []; broken = broken }) ≡ coming e.writer (record { records = []; broken = broken })
-unfolding coming_edited
-nothing_edited e broken = ap (coming e.writer) (edited_nothing e.lrecl (groups_left e) broken)
-
 -- a fault where this reading is left
-pub reading_breaks : (e : Editor) (j : Option Joiner) (r : Reading) → records_left j r ≡ at_fault → coming_read e j r ≡ coming e.writer at_fault
-reading_breaks e j r is = read_as e j r ∙ ap (coming_edited e) is ∙ nothing_edited e true
+pub reading_breaks : (e : Editor) (j : Option Joiner) (r : Reading) → records_left j r ≡ at_fault → coming_read e j r ≡ coming_edited e at_fault
+reading_breaks e j r is = read_as e j r ∙ ap (coming_edited e) is
 
 -- the end
 pub reading_ends : (e : Editor) (j : Option Joiner) (r : Reading) → records_left j r ≡ at_end → coming_read e j r ≡ coming e.writer at_end
-reading_ends e j r is = read_as e j r ∙ ap (coming_edited e) is ∙ nothing_edited e false
+reading_ends e j r is = read_as e j r ∙ ap (coming_edited e) is ∙ none_to_come e
 
 -- what is to come of a set is what is to come of its blocks
 pub set_read : (e : Editor) (j : Option Joiner) (format : Format) (bs : List Block) → ((r : Reading) → records_left j r ≡ records_read format r) → coming_edited e (set_records format bs) ≡ coming_read e j (blocks_reading format bs)

@@ -1,7 +1,8 @@
 -- What a writer of records makes of them, call by call.
 use Rattle.std.proofs.Common.{◌≡◌, ◌<◌, ◌≤◌, ℕ, Bool, true, false, List, ◌∷◌, length, refl, sym, ap, subst, arith}
 use Rattle.std.proofs.lemmas.Bool.Decides.{nat_tests}
-use Rattle.std.specs.Prelude.{nat_lt, if◌then◌else◌, Result}
+use Rattle.std.specs.Prelude.{nat_lt, if◌then◌else◌, Option, Result}
+use Rattle.vol_model.specs.declared.contents.Place.{Place}
 use Rattle.stop_model.specs.Moments.{Meaning}
 use Rattle.record_blocks.specs.Packer.{format_of}
 use Rattle.record_blocks.specs.Packing.{longest}
@@ -49,6 +50,11 @@ module _ (w : RecordWriter) (rec : List ℕ) (st : Stream) where
   coming_long long = ap (λ (t : Bool). coming_fit w (if t then at_fault else with_record rec (fit w st))) (longer (length rec) (longest (format_of w.packer)) long)
 
 -- a step between equal things to come
-pub advances_as : {tells : Bool} {a b c d : Coming} {u v : OpenWriter} {old new : Meaning Shelf} {n m : ℕ} (r : Result (Result (Unit {0}) Fault) Stop) → a ≡ c → b ≡ d → Advances tells c d u v old new n m r → Advances tells a b u v old new n m r
-advances_as {tells = tells} {a = a} {b = b} {c = c} {d = d} {u = u} {v = v} {old = old} {new = new} {n = n} {m = m} r one two step =
-    subst (λ (x : Coming). Advances tells x b u v old new n m r) (sym one) (subst (λ (y : Coming). Advances tells c y u v old new n m r) (sym two) step)
+pub advances_as : {tells : Bool} {a b c d : Coming} {u v : OpenWriter} {p q : Option Place} {old new : Meaning Shelf} {n m : ℕ} (r : Result (Result (Unit {0}) Fault) Stop) → a ≡ c → b ≡ d → Advances tells c d u v p q old new n m r → Advances tells a b u v p q old new n m r
+advances_as {tells = tells} {a = a} {b = b} {c = c} {d = d} {u = u} {v = v} {p = p} {q = q} {old = old} {new = new} {n = n} {m = m} r one two step =
+    subst (λ (x : Coming). Advances tells x b u v p q old new n m r) (sym one) (subst (λ (y : Coming). Advances tells c y u v p q old new n m r) (sym two) step)
+
+-- with the place of the first block by another name
+pub advances_from : {tells : Bool} {a b : Coming} {u v : OpenWriter} {p q x y : Option Place} {old new : Meaning Shelf} {n m : ℕ} (r : Result (Result (Unit {0}) Fault) Stop) → p ≡ x → q ≡ y → Advances tells a b u v p q old new n m r → Advances tells a b u v x y old new n m r
+advances_from {tells = tells} {a = a} {b = b} {u = u} {v = v} {q = q} {x = x} {old = old} {new = new} {n = n} {m = m} r one two step =
+    subst (λ (z : Option Place). Advances tells a b u v x z old new n m r) two (subst (λ (z : Option Place). Advances tells a b u v z q old new n m r) one step)

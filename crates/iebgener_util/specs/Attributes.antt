@@ -13,9 +13,11 @@ use Rattle.vol_model.specs.declared.contents.DataSet.{DataSet}
 use Rattle.vol_model.specs.declared.contents.Shelf.{Shelf}
 use Rattle.vol_model.specs.declared.contents.Volume.{Volume}
 use Rattle.vol_model.specs.declared.refusals.Refusal.{Refusal}
-use Rattle.vol_model.specs.declared.refusals.Refusal.TheVariants.{NoSet, NoVolume, Unreadable, WrongKind}
-use Rattle.vol_model.specs.Shelf.{is_catalog, is_sequential, set_of, unreadable}
+use Rattle.vol_model.specs.declared.refusals.Refusal.TheVariants.{NoMember, NoSet, NoVolume, Unreadable, WrongKind}
+use Rattle.vol_model.specs.Shelf.{is_catalog, is_partitioned, is_sequential, set_of, unreadable}
 use Rattle.util_steps.specs.declared.calls.SetRef.{SetRef}
+use Rattle.iebgener_util.specs.declared.attributes.Purpose.{Purpose}
+use Rattle.iebgener_util.specs.declared.attributes.Purpose.TheVariants as purposes
 
 -- ---- formats
 
@@ -58,32 +60,36 @@ misfits edits input output = is_some (first_fault input) || (is_some (first_faul
 
 -- ---- refusals
 
--- a data set that has records: a sequential one, or where it is emptied before one without an organization
-abbrev pub holds_records : Bool → List ℕ → Attr → Bool
-holds_records empties name attr = is_sequential name attr || (empties && (attr.dsorg == 0 && not (is_catalog name)))
+-- a data set serves a purpose: a sequential one is read and written, and to be emptied before it may have no organization; a partitioned one has members
+abbrev pub serves : Purpose → List ℕ → Attr → Bool
+serves purposes.Records name attr = is_sequential name attr
+serves purposes.Emptied name attr = is_sequential name attr || (attr.dsorg == 0 && not (is_catalog name))
+serves purposes.Members name attr = is_partitioned name attr
 
 abbrev pub unless_refused : DataSet → Option Refusal → Result DataSet Refusal
 unless_refused x None = Ok x
 unless_refused x (Some r) = Err r
 
-abbrev pub set_if_there : Bool → List ℕ → Option DataSet → Result DataSet Refusal
-set_if_there empties name None = Err NoSet
-set_if_there empties name (Some x) = if holds_records empties name x.attr then unless_refused x (unreadable x.body) else Err WrongKind
+abbrev pub set_if_there : Purpose → List ℕ → Option DataSet → Result DataSet Refusal
+set_if_there purpose name None = Err NoSet
+set_if_there purpose name (Some x) = if serves purpose name x.attr then unless_refused x (unreadable x.body) else Err WrongKind
 
-abbrev pub set_if_mounted : Bool → Dsn → Option Volume → Result DataSet Refusal
-set_if_mounted empties dsn None = Err NoVolume
-set_if_mounted empties dsn (Some volume) = set_if_there empties dsn.bytes (set_of dsn.bytes volume)
+abbrev pub set_if_mounted : Purpose → Dsn → Option Volume → Result DataSet Refusal
+set_if_mounted purpose dsn None = Err NoVolume
+set_if_mounted purpose dsn (Some volume) = set_if_there purpose dsn.bytes (set_of dsn.bytes volume)
 
--- a data set whose records are read, or written where it is emptied before or not, or why they can't be
-unfoldable pub usable_set : Shelf → Bool → SetRef → Result DataSet Refusal
-usable_set shelf empties s = set_if_mounted empties s.dsn (slice_get shelf.volumes s.v)
+-- a data set that serves a purpose, or why there is none
+unfoldable pub usable_set : Shelf → Purpose → SetRef → Result DataSet Refusal
+usable_set shelf purpose s = set_if_mounted purpose s.dsn (slice_get shelf.volumes s.v)
 
 -- the number of a refusal of those that are met here
 abbrev pub rank : Refusal → ℕ
 rank NoVolume = 1
 rank NoSet = 2
 rank WrongKind = 4
-rank _ = 5
+rank (Unreadable track) = 5
+rank NoMember = 10
+rank _ = 11
 
 abbrev pub lower : Refusal → Refusal → Refusal
 lower a b = if nat_le (rank a) (rank b) then a else b
@@ -102,9 +108,9 @@ abbrev pub info_unless : SetInfo → Kind → Result SetInfo Refusal
 info_unless info (kinds.Unreadable track) = Err (Unreadable track)
 info_unless info kind = Ok info
 
--- what is told of a set, if its records can be read or written
-abbrev pub info_if : Bool → List ℕ → SetInfo → Result SetInfo Refusal
-info_if empties name info = if holds_records empties name info.attr then info_unless info info.kind else Err WrongKind
+-- what is told of a set, if it serves a purpose and can be read
+abbrev pub info_if : Purpose → List ℕ → SetInfo → Result SetInfo Refusal
+info_if purpose name info = if serves purpose name info.attr then info_unless info info.kind else Err WrongKind
 
 -- a set is found, with what is told of it in short, or refused
 abbrev pub FindsSet : Result SetInfo Refusal → Result DataSet Refusal → Type 0

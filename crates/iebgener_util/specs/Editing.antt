@@ -1,6 +1,8 @@
 -- Records that IEBGENER edits, group by group (Utilities GC28-6586, in this project's profile).
 use Rattle.std.specs.Prelude.{ℕ, ◌+◌, ◌-◌, nat_eq, nat_le, nat_lt, Bool, true, false, if◌then◌else◌, List, [], ◌∷◌, ◌++◌, length, take, drop, replicate, Option, Some, None, option_and_then}
 use Rattle.std.specs.List.{starts_with}
+use Rattle.iebgener_util.specs.declared.orders.Order.{Order}
+use Rattle.iebgener_util.specs.declared.orders.Order.TheVariants as order
 use Rattle.iebgener_util.specs.declared.requests.Edit.{Edit}
 use Rattle.iebgener_util.specs.declared.requests.Field.{Field}
 use Rattle.iebgener_util.specs.declared.requests.Ident.{Ident}
@@ -69,9 +71,9 @@ edited_then (Some rec) others = with_record rec others
 abbrev pub groups_behind : Edit → List Edit → List ℕ → List Edit
 groups_behind edit edits rec = if ends_group edit.ident rec then edits else edit ∷ edits
 
--- records edited by groups, one group after another; those behind the last group are dropped
+-- records edited by groups, one group after another; what stands behind the last group is dropped
 abbrev pub edited : ℕ → Bool → List Edit → List (List ℕ) → Stream
-edited lrecl broken [] recs = record { records = []; broken = broken }
+edited lrecl broken [] recs = at_end
 edited lrecl broken (e ∷ es) [] = record { records = []; broken = broken }
 edited lrecl broken (e ∷ es) (rec ∷ recs) = edited_then (edited_record lrecl e rec) (edited lrecl broken (groups_behind e es rec) recs)
 
@@ -84,3 +86,34 @@ edited_by lrecl (Some edits) st = edited lrecl st.broken edits st.records
 abbrev pub fitting : ℕ → Bool → List (List ℕ) → Stream
 fitting longest broken [] = record { records = []; broken = broken }
 fitting longest broken (rec ∷ recs) = if nat_lt longest (length rec) then at_fault else with_record rec (fitting longest broken recs)
+
+-- ---- the orders in front
+
+-- the records behind a group: those behind the first that ends it
+abbrev pub behind_group : Edit → List (List ℕ) → List (List ℕ)
+behind_group e [] = []
+behind_group e (rec ∷ recs) = if ends_group e.ident rec then recs else behind_group e recs
+
+-- the records behind groups that follow each other
+abbrev pub behind_groups : List Edit → List (List ℕ) → List (List ℕ)
+behind_groups [] recs = recs
+behind_groups (e ∷ es) recs = behind_groups es (behind_group e recs)
+
+-- the records behind a part: one without groups takes all
+abbrev pub behind_part : List Edit → List (List ℕ) → List (List ℕ)
+behind_part [] recs = []
+behind_part (e ∷ es) recs = behind_groups (e ∷ es) recs
+
+-- the groups of the part that an order writes
+abbrev pub groups_in : Order → List Edit
+groups_in (order.Write p) = p.edits
+groups_in (order.Fault f) = []
+
+-- the records behind orders that follow each other; nothing follows a fault
+abbrev pub behind_orders : List Order → List (List ℕ) → List (List ℕ)
+behind_orders [] recs = recs
+behind_orders (o ∷ os) recs = behind_orders os (behind_part (groups_in o) recs)
+
+-- what is left of a stream behind orders; a fault of the input stays to be met
+abbrev pub left_behind : List Order → Stream → Stream
+left_behind os st = record { records = behind_orders os st.records; broken = st.broken }

@@ -1,9 +1,12 @@
 pub mod Requests
+pub mod Orders
 pub mod Editing
 pub mod Reading
 pub mod Attributes
 pub mod Writing
+pub mod Members
 pub mod RecordWriter
 pub mod Advancing
+pub mod Passing
 pub mod Editor
 pub mod Items

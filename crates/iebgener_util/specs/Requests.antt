@@ -1,22 +1,22 @@
 -- What the statements of IEBGENER ask for (Utilities GC28-6586, in this project's profile).
-use Rattle.std.specs.Prelude.{ℕ, ◌==◌, nat_le, Bool, true, false, ◌&&◌, ◌||◌, if◌then◌else◌, List, [], ◌∷◌, codes, map, is_some, Option, Some, None, option_map, option_and_then, Result, Ok, Err}
+use Rattle.std.specs.Prelude.{ℕ, ◌==◌, nat_le, Bool, true, false, ◌&&◌, ◌||◌, if◌then◌else◌, List, [], ◌∷◌, codes, map, is_some, Option, Some, None, option_map, option_and_then}
 use Rattle.std.specs.List.{count_by, list_all}
 use Rattle.ebcdic_names.specs.Names.{byte_of}
-use Rattle.card_text.specs.Names.{number_of}
+use Rattle.ebcdic_names.specs.declared.names.Name8.{Name8}
+use Rattle.card_text.specs.Names.{name_of, number_of}
 use Rattle.card_text.specs.Operands.{OperandView}
 use Rattle.card_text.specs.Tree.{Tree, Trees, empty, word, quoted, list, more, none, as_list, as_word, value_view}
 use Rattle.card_text.specs.declared.values.Value.{Value}
-use Rattle.util_syntax.specs.declared.operands.SynErr.TheVariants.{BadOperand}
-use Rattle.util_syntax.specs.Forms.{has_keyword, if_given, is_named}
-use Rattle.util_syntax.specs.Items.{ItemView, StatementView, fault, statement}
+use Rattle.util_syntax.specs.Forms.{has_keyword, if_given, is_named, value_of}
+use Rattle.util_syntax.specs.Items.{StatementView}
 use Rattle.iebgener_util.specs.declared.requests.Edit.{Edit}
 use Rattle.iebgener_util.specs.declared.requests.Field.{Field}
 use Rattle.iebgener_util.specs.declared.requests.Ident.{Ident}
+use Rattle.iebgener_util.specs.declared.requests.Names.{Names}
 use Rattle.iebgener_util.specs.declared.requests.Origin.{Origin}
 use Rattle.iebgener_util.specs.declared.requests.Origin.TheVariants as origin
 use Rattle.iebgener_util.specs.declared.requests.Request.{Request}
-use Rattle.iebgener_util.specs.declared.requests.StatementFault.{StatementFault}
-use Rattle.iebgener_util.specs.declared.requests.Request.TheVariants.{Generate, Record}
+use Rattle.iebgener_util.specs.declared.requests.Request.TheVariants.{Generate, Member, Record}
 
 -- characters in EBCDIC
 abbrev pub in_ebcdic : List ℕ → List ℕ
@@ -159,26 +159,41 @@ is_generate operands =
     && (stands_once (codes "MAXNAME") operands && (stands_once (codes "MAXFLDS") operands
     && (stands_once (codes "MAXGPS") operands && stands_once (codes "MAXLITS") operands)))
 
+-- ---- MEMBER
+
+-- a name of one level
+abbrev pub name_in : Tree → Option Name8
+name_in value = option_and_then name_of (as_word value)
+
+-- names
+abbrev pub names_among : Trees → Option (List Name8)
+names_among none = Some []
+names_among (more value values) = option_and_then (λ (name : Name8). option_map (λ (others : List Name8). name ∷ others) (names_among values)) (name_in value)
+
+-- a member's own name, and its other names
+abbrev pub names_with : Option Name8 → Option (List Name8) → Option Names
+names_with name aliases = option_and_then (λ (n : Name8). option_map (λ (others : List Name8). record { name = n; aliases = others }) aliases) name
+
+-- (name,alias,..)
+unfoldable pub names_listed : Trees → Option Names
+names_listed none = None
+names_listed (more value values) = names_with (name_in value) (names_among values)
+
+abbrev pub names_or_one : Option Trees → Tree → Option Names
+names_or_one None value = names_with (name_in value) (Some [])
+names_or_one (Some values) value = names_listed values
+
+-- (name,alias,..), of which the name alone may stand without parentheses
+unfoldable pub names_in : Tree → Option Names
+names_in value = names_or_one (as_list value) value
+
+-- MEMBER NAME=(name,alias,..), NAME once and nothing else
+unfoldable pub member_of : List OperandView → Option Names
+member_of operands = if list_all (has_keyword (codes "NAME")) operands then option_and_then names_in (value_of (codes "NAME") operands) else None
+
 -- what a statement asks for, if it has the form of its operation
 unfoldable pub request_of : StatementView → Option Request
 request_of s =
     if is_named (codes "GENERATE") s.op then (if is_generate s.operands then Some Generate else None)
-    else (if is_named (codes "RECORD") s.op then option_map Record (record_of s.operands) else None)
-
--- ---- all statements
-
-abbrev pub with_edit : Edit → Result (List Edit) StatementFault → Result (List Edit) StatementFault
-with_edit edit (Ok edits) = Ok (edit ∷ edits)
-with_edit edit (Err f) = Err f
-
--- what a statement gives, where GENERATE may stand or not
-abbrev pub edits_with : Bool → ℕ → Option Request → Result (List Edit) StatementFault → Result (List Edit) StatementFault
-edits_with first card None others = Err (record { card = card; kind = BadOperand })
-edits_with first card (Some Generate) others = if first then others else Err (record { card = card; kind = BadOperand })
-edits_with first card (Some (Record edit)) others = with_edit edit others
-
--- the edits of statements, or the first fault; GENERATE stands first or not at all
-abbrev pub edits_of : Bool → List ItemView → Result (List Edit) StatementFault
-edits_of first [] = Ok []
-edits_of first (fault card column kind ∷ items) = Err (record { card = card; kind = kind })
-edits_of first (statement s ∷ items) = edits_with first s.card (request_of s) (edits_of false items)
+    else (if is_named (codes "RECORD") s.op then option_map Record (record_of s.operands)
+    else (if is_named (codes "MEMBER") s.op then option_map Member (member_of s.operands) else None))

@@ -3,6 +3,7 @@ use Rattle.std.specs.Prelude.{ℕ, Bool, if◌then◌else◌, List, [], ◌∷�
 use Rattle.record_blocks.specs.declared.formats.Format.{Format}
 use Rattle.record_blocks.specs.Layout.{packing}
 use Rattle.record_blocks.specs.Packing.{longest}
+use Rattle.vol_model.specs.declared.answers.Mode.{Mode}
 use Rattle.vol_model.specs.declared.answers.Mode.TheVariants as modes
 use Rattle.vol_model.specs.declared.contents.Attr.{Attr}
 use Rattle.vol_model.specs.declared.contents.Block.{Block}
@@ -48,10 +49,10 @@ unfoldable pub written : Shelf → Target → Coming → Did (Unit {0}) Fault
 written shelf t c =
     if c.broken then and_then shelf (did_blocks shelf (begun t) (all_but_last c.blocks)) (λ x u. answered (Err BadRecord)) else did_all shelf t c.blocks
 
--- blocks are written behind those of a sequential set, if it can be written to
-unfoldable pub appended : Shelf → SetRef → Coming → Did (Unit {0}) Fault
-appended shelf to c = and_then shelf (refusing (did_begin shelf (target to modes.Fill))) (λ x u. written u (target to modes.Fill) c)
+-- blocks are written behind those of a set, to a sequential one or as a member's, if it can be written to
+unfoldable pub appended : Shelf → SetRef → Mode → Coming → Did (Unit {0}) Fault
+appended shelf to mode c = and_then shelf (refusing (did_begin shelf (target to mode))) (λ x u. written u (target to mode) c)
 
--- it is emptied before
+-- a sequential set is emptied before
 unfoldable pub replaced : Shelf → SetRef → Attr → Coming → Did (Unit {0}) Fault
-replaced shelf to attr c = and_then shelf (refusing (did_apply shelf (Empty to.v to.dsn attr))) (λ x u. appended u to c)
+replaced shelf to attr c = and_then shelf (refusing (did_apply shelf (Empty to.v to.dsn attr))) (λ x u. appended u to modes.Fill c)

@@ -1,9 +1,9 @@
 //! The attributes of the records that are read and written, and the data sets that hold them.
-ghost use Rattle.std.specs.Prelude.{◌≡◌, false, is_some, option_map, IsTrue, IsFalse, IfOk, Ok, Err};
+ghost use Rattle.std.specs.Prelude.{◌≡◌, false, is_some, IsTrue, IsFalse, IfOk, Ok, Err};
 ghost use Rattle.stop_model.specs.Moments.{Same};
 ghost use Rattle.vol_model.specs.Calls.{Keeps};
 ghost use Rattle.vol_model.specs.Runs.{RunCall};
-ghost use Rattle.iebgener_util.specs.Attributes.{FindsSet, format_in, holds_records, info_if, is_fixed, lower, misfits, output_attr, rank, usable_set, with_card_format, with_dcb, with_format_of};
+ghost use Rattle.iebgener_util.specs.Attributes.{FindsSet, format_in, info_if, is_fixed, lower, misfits, output_attr, rank, serves, usable_set, with_card_format, with_dcb, with_format_of};
 
 use ebcdic_names::Dsn;
 use jcl_forms::Dcb;
@@ -95,19 +95,35 @@ pub fn misfits(edits: bool, input: &Format, output: &Format) -> bool
     input.check().is_err() || output.check().is_err() || (edits && !is_fixed(output))
 }
 
-// Whether a data set has records: it is sequential, or is emptied before and has no organization.
-fn holds_records(empties: bool, name: &Dsn, attr: &Attr) -> bool
-    ensures { result ≡ holds_records empties name.now.bytes attr.now }
-{
-    (!is_catalog(name) && attr.dsorg / 512 == 32)
-        || (empties && attr.dsorg == 0 && !is_catalog(name))
+/// What a data set is found for.
+#[derive(Clone, Copy, Debug, PartialEq, Eq)]
+pub enum Purpose {
+    /// Its records are read, or others are written behind them: it is sequential.
+    Records,
+    /// It is emptied and written: it is sequential, or has no organization.
+    Emptied,
+    /// Members of it are read or written: it is partitioned.
+    Members,
 }
 
-// What is told of a data set, if its records can be read or written.
-fn unless_refused(empties: bool, name: &Dsn, info: SetInfo) -> Result<SetInfo, Refusal>
-    ensures { result ≡ info_if empties name.now.bytes info }
+// Whether a data set serves a purpose.
+fn serves(purpose: Purpose, name: &Dsn, attr: &Attr) -> bool
+    ensures { result ≡ serves purpose name.now.bytes attr.now }
 {
-    if !holds_records(empties, name, &info.attr) {
+    match purpose {
+        Purpose::Records => !is_catalog(name) && attr.dsorg / 512 == 32,
+        Purpose::Emptied => {
+            (!is_catalog(name) && attr.dsorg / 512 == 32) || (attr.dsorg == 0 && !is_catalog(name))
+        }
+        Purpose::Members => !is_catalog(name) && attr.dsorg / 512 == 1,
+    }
+}
+
+// What is told of a data set, if it serves a purpose and can be read.
+fn unless_refused(purpose: Purpose, name: &Dsn, info: SetInfo) -> Result<SetInfo, Refusal>
+    ensures { result ≡ info_if purpose name.now.bytes info }
+{
+    if !serves(purpose, name, &info.attr) {
         return Err(Refusal::WrongKind);
     }
     match info.kind {
@@ -116,15 +132,15 @@ fn unless_refused(empties: bool, name: &Dsn, info: SetInfo) -> Result<SetInfo, R
     }
 }
 
-/// What is told of a data set whose records are read, or written where it is emptied before or not; or why they can't be.
+/// What is told of a data set that serves a purpose, or why there is none.
 pub fn find_set<M: Machine>(
     machine: &mut M,
-    empties: bool,
+    purpose: Purpose,
     set: &SetRef,
 ) -> Result<Result<SetInfo, Refusal>, Stop>
     requires sound { IsTrue (M.status machine.old).is_sound }
     requires closed { IsFalse (M.status machine.old).is_open }
-    ensures found { IsTrue M.tells → IfOk result (λ answer. FindsSet answer (usable_set (M.meaning machine.old).state empties set.now)) }
+    ensures found { IsTrue M.tells → IfOk result (λ answer. FindsSet answer (usable_set (M.meaning machine.old).state purpose set.now)) }
     ensures same { IsTrue M.tells → Same (M.meaning machine.old) (M.meaning machine.new) }
     ensures promise { IsTrue M.tells → Keeps (M.meaning machine.old).clock (M.promise machine.old) (M.promise machine.new) }
     ensures count { (M.status machine.new).done ≡ (M.status machine.old).done }
@@ -132,7 +148,7 @@ pub fn find_set<M: Machine>(
 {
     let mounted = machine.volume(set.v).is_some();
     match machine.attr(set.v, &set.dsn) {
-        Ok(Some(info)) => Ok(unless_refused(empties, &set.dsn, info)),
+        Ok(Some(info)) => Ok(unless_refused(purpose, &set.dsn, info)),
         Ok(None) if mounted => Ok(Err(Refusal::NoSet)),
         Ok(None) => Ok(Err(Refusal::NoVolume)),
         Err(WorkErr::Memory) => Err(Stop::Memory),
@@ -148,7 +164,9 @@ fn rank(refusal: Refusal) -> u8
         Refusal::NoVolume => 1,
         Refusal::NoSet => 2,
         Refusal::WrongKind => 4,
-        _ => 5,
+        Refusal::Unreadable(_) => 5,
+        Refusal::NoMember => 10,
+        _ => 11,
     }
 }
 

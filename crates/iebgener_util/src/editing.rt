@@ -1,6 +1,6 @@
 //! Records that are edited, group by group.
-ghost use Rattle.std.specs.Prelude.{◌≡◌, option_map, if◌then◌else◌, IfOk, Some, None};
-ghost use Rattle.iebgener_util.specs.Editing.{bytes_at, edited_record, ends_group, laid, sized, with_field_laid, with_fields};
+ghost use Rattle.std.specs.Prelude.{◌≡◌, ◌∷◌, option_map, if◌then◌else◌, IfOk, Some, None};
+ghost use Rattle.iebgener_util.specs.Editing.{bytes_at, edited_record, ends_group, groups_behind, laid, sized, with_field_laid, with_fields};
 
 use crate::requests::{Edit, Field, Ident, Origin};
 use std::alloc::{AllocError, Global};
@@ -116,4 +116,22 @@ pub fn ends_group(alloc: Global, ident: &Option<Ident>, rec: &[u8]) -> Result<bo
     }
     let text = sized(alloc, count, ident.text.as_slice())?;
     Ok(rest.starts_with(&text))
+}
+
+/// The groups behind a record of the first: the others where it ends that one. The one error is want of memory.
+pub fn groups_behind<'a>(
+    alloc: Global,
+    edit: &Edit,
+    groups: &'a [Edit],
+    others: &'a [Edit],
+    rec: &[u8],
+) -> Result<&'a [Edit], AllocError>
+    requires { groups.now ≡ edit.now ∷ others.now }
+    ensures { IfOk result (λ left. left.now ≡ groups_behind edit.now others.now rec.now) }
+{
+    if ends_group(alloc, &edit.ident, rec)? {
+        Ok(others)
+    } else {
+        Ok(groups)
+    }
 }

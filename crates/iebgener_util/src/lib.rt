@@ -1,16 +1,20 @@
-//! IEBGENER, which copies cards or a sequential data set to a sequential data set (Utilities GC28-6586, in this
-//! project's profile).
+//! IEBGENER, which copies cards, a sequential data set or a member to a sequential data set or to members (Utilities
+//! GC28-6586, in this project's profile).
 #![tactic(auto)]
 
 mod attributes;
 mod copying;
 mod editing;
 mod editor;
+mod members;
+mod orders;
+mod passing;
 mod program;
 mod putting;
 mod reading;
 mod record_writer;
 mod requests;
 
+pub use orders::{Order, Part, StatementFault, orders_of};
 pub use program::run;
-pub use requests::{Edit, Field, Ident, Origin, Request, StatementFault, edits_of, request_of};
+pub use requests::{Edit, Field, Ident, Names, Origin, Request, request_of};

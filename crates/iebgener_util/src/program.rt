@@ -1,6 +1,7 @@
 //! IEBGENER in a step.
-ghost use Rattle.std.specs.Prelude.{◌≡◌, ◌≤◌, true, false, map, option_map, IsTrue, IsFalse, IfOk};
+ghost use Rattle.std.specs.Prelude.{◌≡◌, ◌≤◌, ◌-◌, [], None, false, drop, length, map, option_map, slice_get, take, IsTrue, IsFalse, IfOk};
 ghost use Rattle.std.specs.Map.{lookup};
+ghost use Rattle.std.specs.Option.{option_copied};
 ghost use Rattle.vol_model.specs.Calls.{Keeps};
 ghost use Rattle.vol_model.specs.Events.{code_of, events_of};
 ghost use Rattle.vol_model.specs.Runs.{Counts, RunCall, Runs};
@@ -8,19 +9,21 @@ ghost use Rattle.util_steps.specs.Items.{DoesItem};
 ghost use Rattle.util_syntax.specs.Items.{item_view};
 ghost use Rattle.util_syntax.specs.Program.{no_dd_item, syntax_item, sysin};
 ghost use Rattle.util_syntax.specs.Step.{same_name};
-ghost use Rattle.iebgener_util.specs.Requests.{edits_of};
-ghost use Rattle.iebgener_util.specs.Items.{copy_item, iebgener_items, input_in, input_view, item_with, line_card, set_in, statements_if, step_item};
+ghost use Rattle.iebgener_util.specs.declared.orders.State.TheVariants.{Begun};
+ghost use Rattle.iebgener_util.specs.Orders.{orders_of};
+ghost use Rattle.iebgener_util.specs.Items.{DoesItems, copy_item, iebgener_items, input_in, input_view, names_for, object_for, order_item, order_items, set_in, statements_if};
 
 use crate::copying::{Input, Output, Task, copy_records};
-use crate::requests::{StatementFault, edits_of};
+use crate::orders::{Order, Part, StatementFault, orders_of};
+use crate::requests::Names;
 use ebcdic_names::Name8;
 use std::alloc::{AllocError, Global};
-use util_steps::{SetRef, report};
+use util_steps::{Items, SetRef, report, run_items};
 use util_syntax::{
     DdIn, Item, Object, Outcome, SYSIN, StepIn, item_line, no_dd_line, syntax_line,
     sysin_statements,
 };
-use vol_model::{Machine, Stop};
+use vol_model::{Listed, Machine, Stop};
 
 // SYSUT1 in EBCDIC.
 const SYSUT1: Name8 = Name8 {
@@ -32,18 +35,25 @@ const SYSUT2: Name8 = Name8 {
     bytes: [0xE2, 0xE8, 0xE2, 0xE4, 0xE3, 0xF2, 0x40, 0x40],
 };
 
-/// Runs IEBGENER in a step (Utilities GC28-6586, in this project's profile), and gives the step's code.
+/// Runs IEBGENER in a step (Utilities GC28-6586, in this project's profile), and gives the step's code, the highest of
+/// its copies.
 ///
-/// It copies the records of SYSUT1, cards or a sequential data set, to the sequential data set SYSUT2, which is emptied
-/// before unless its DD says that records go behind its own. SYSIN is cards or DUMMY, and may be missing. The first of
-/// these DDs that is missing or of another kind is `NO-DD`, with 16. A DD with a member is of another kind, since
-/// members aren't copied yet. SYSPRINT isn't needed.
+/// It copies the records of SYSUT1, cards, a sequential data set or a member, to SYSUT2: to a sequential data set, which
+/// is emptied before unless its DD says that records go behind its own, or to a member of a library. SYSIN is cards or
+/// DUMMY, and may be missing. The first of these DDs that is missing or of another kind is `NO-DD`, with 16. SYSPRINT
+/// isn't needed.
 ///
 /// - `GENERATE` with numbers that limit nothing stands first or not at all.
-/// - `RECORD IDENT=(length,'text',column),FIELD=(length,from,,to)` edits a group of records.
+/// - `MEMBER NAME=(name,alias,..)` begins a member, and goes before a member that the DD names. Its own name replaces an
+///   entry; another name that is there already is `MEMBER-EXISTS`.
+/// - `RECORD IDENT=(length,'text',column),FIELD=(length,from,,to)` edits a group of records. Groups follow each other,
+///   from member to member; a member without a group takes all records that are left. What stands behind the last group
+///   is dropped.
 ///
-/// Any other statement is `SYNTAX BAD-OPERAND` with 12, and ends the step. The copy is answered by one line, by the card of
-/// the first statement or else of EXEC. A refusal has code 8, and `BAD-RECORD` 12.
+/// Any other statement, or one out of its place, is `SYNTAX BAD-OPERAND` with 12; the member before it that may still
+/// take statements isn't written, and the step ends. Each member, or else the one copy, is answered by one line, by the
+/// card of its MEMBER, or of the first statement, or of EXEC. A refusal has code 8, and `BAD-RECORD` 12; neither ends the
+/// step.
 pub fn run<M: Machine>(alloc: Global, machine: &mut M, step: &StepIn) -> Result<u8, Stop>
     requires sound { IsTrue (M.status machine.old).is_sound }
     requires closed { IsFalse (M.status machine.old).is_open }
@@ -57,6 +67,51 @@ pub fn run<M: Machine>(alloc: Global, machine: &mut M, step: &StepIn) -> Result<
     run_step(alloc, machine, step)
 }
 
+// Does the items of a step.
+fn run_step<M: Machine>(alloc: Global, machine: &mut M, step: &StepIn) -> Result<u8, Stop>
+    requires sound { IsTrue (M.status machine.old).is_sound }
+    requires closed { IsFalse (M.status machine.old).is_open }
+    ensures items { IsTrue M.tells → DoesItems M.tells_prints (iebgener_items step.now (M.meaning machine.old).state) (M.meaning machine.old) (M.meaning machine.new) (M.status machine.old).done (M.status machine.new).done result }
+    ensures small { IfOk result (λ code. code ≤ 16) }
+    ensures promise { IsTrue M.tells → Keeps (M.meaning machine.old).clock (M.promise machine.old) (M.promise machine.new) }
+    ensures faults { RunCall false (M.status machine.old) (M.status machine.new) result }
+{
+    let statements = match optional_statements(alloc, step) {
+        Ok(Some(statements)) => statements,
+        Ok(None) => return report_no_dd(alloc, machine, step.card, &SYSIN),
+        Err(AllocError) => return Err(Stop::Memory),
+    };
+    let Some(input) = input_in(step.dds.get(&SYSUT1)) else {
+        return report_no_dd(alloc, machine, step.card, &SYSUT1);
+    };
+    let Some(output) = set_in(step.dds.get(&SYSUT2)) else {
+        return report_no_dd(alloc, machine, step.card, &SYSUT2);
+    };
+    run_statements(alloc, machine, step.card, input, output, &statements)
+}
+
+// Does what statements order, in a step whose EXEC is on this card.
+fn run_statements<M: Machine>(
+    alloc: Global,
+    machine: &mut M,
+    exec: u32,
+    input: Input<'_>,
+    output: Output,
+    statements: &[Item],
+) -> Result<u8, Stop>
+    requires sound { IsTrue (M.status machine.old).is_sound }
+    requires closed { IsFalse (M.status machine.old).is_open }
+    ensures items { IsTrue M.tells → DoesItems M.tells_prints (order_items (input_view input.entry) output [] (M.meaning machine.old).state (orders_of exec (Begun None) (map item_view statements.now))) (M.meaning machine.old) (M.meaning machine.new) (M.status machine.old).done (M.status machine.new).done result }
+    ensures small { IfOk result (λ code. code ≤ 16) }
+    ensures promise { IsTrue M.tells → Keeps (M.meaning machine.old).clock (M.promise machine.old) (M.promise machine.new) }
+    ensures faults { RunCall false (M.status machine.old) (M.status machine.new) result }
+{
+    match orders_of(alloc, exec, statements) {
+        Ok(orders) => run_orders(alloc, machine, input, output, &orders),
+        Err(AllocError) => Err(Stop::Memory),
+    }
+}
+
 // The statements of SYSIN, which may be missing; `None` where it is neither cards nor DUMMY.
 fn optional_statements(alloc: Global, step: &StepIn) -> Result<Option<Vec<Item>>, AllocError>
     ensures { IfOk result (λ found. option_map (λ v. map item_view v.items) found
@@ -68,7 +123,7 @@ fn optional_statements(alloc: Global, step: &StepIn) -> Result<Option<Vec<Item>>
     }
 }
 
-// A data set that a DD names without a member.
+// A data set that a DD gives, with the member that is meant.
 fn set_in(dd: Option<&DdIn>) -> Option<Output>
     ensures { result ≡ set_in (option_map (λ d. d.now) dd.entry) }
 {
@@ -77,12 +132,13 @@ fn set_in(dd: Option<&DdIn>) -> Option<Output>
             DdIn::Set {
                 v,
                 dsn,
-                member: None,
+                member,
                 append,
                 dcb,
             },
         ) => Some(Output {
             to: SetRef { v: *v, dsn: *dsn },
+            member: *member,
             append: *append,
             dcb: *dcb,
         }),
@@ -90,7 +146,7 @@ fn set_in(dd: Option<&DdIn>) -> Option<Output>
     }
 }
 
-// The cards or the data set that a DD gives.
+// The cards, or the data set or member, that a DD gives.
 fn input_in(dd: Option<&DdIn>) -> Option<Input<'_>>
     ensures { option_map input_view result ≡ input_in (option_map (λ d. d.now) dd.entry) }
 {
@@ -98,82 +154,168 @@ fn input_in(dd: Option<&DdIn>) -> Option<Input<'_>>
         return Some(Input::Cards(cards.as_slice()));
     }
     match set_in(dd) {
-        Some(output) => Some(Input::From(output.to)),
+        Some(output) => Some(Input::From {
+            set: output.to,
+            member: output.member,
+        }),
         None => None,
     }
 }
 
-// The card that the line of the copy names.
-fn line_card(card: u32, items: &[Item]) -> u32
-    ensures { result ≡ line_card card (map item_view items.now) }
+// The order at this place, from 0, if there is one.
+fn order_at(orders: &[Order], at: usize) -> Option<&Order>
+    ensures { option_copied result ≡ slice_get orders.now at }
 {
-    match items.split_first() {
-        Some((first, _)) => match first {
-            Item::Stmt(statement) => statement.card,
-            Item::Fault { card, .. } => *card,
-        },
-        None => card,
+    orders.get(at)
+}
+
+// The orders in front of this place.
+fn orders_before(orders: &[Order], at: usize) -> &[Order]
+    requires { at ≤ length orders.now }
+    ensures { result.now ≡ take at orders.now }
+{
+    &orders[..at]
+}
+
+// What is left of the orders of a step.
+#[derive(Drop)]
+struct Work<'a> {
+    alloc: Global,
+    input: Input<'a>,
+    output: Output,
+    orders: &'a [Order],
+    // How many of them are done.
+    done: usize,
+}
+
+impl<M: Machine> Items<M> for Work<'_> {
+    ghost items = { λ work shelf. order_items (input_view work.input) work.output (take work.done work.orders.now) shelf (drop work.done work.orders.now) };
+
+    ghost most = { λ work. length work.orders.now - work.done };
+
+    fn next(&mut self, machine: &mut M) -> Result<Option<u8>, Stop> {
+        match order_at(self.orders, self.done) {
+            Some(order) => {
+                let before = orders_before(self.orders, self.done);
+                let code = do_order(
+                    self.alloc,
+                    machine,
+                    &self.input,
+                    &self.output,
+                    before,
+                    order,
+                )?;
+                self.done += 1;
+                Ok(Some(code))
+            }
+            None => Ok(None),
+        }
     }
 }
 
-// Does the one item of a step.
-#[tactic(auto, unfolding(crate::specs::Items::step_item))]
-fn run_step<M: Machine>(alloc: Global, machine: &mut M, step: &StepIn) -> Result<u8, Stop>
-    requires sound { IsTrue (M.status machine.old).is_sound }
-    requires closed { IsFalse (M.status machine.old).is_open }
-    ensures item { IsTrue M.tells → DoesItem M.tells_prints (step_item step.now (M.meaning machine.old).state) (M.meaning machine.old) (M.meaning machine.new) (M.status machine.old).done (M.status machine.new).done result }
-    ensures small { IfOk result (λ code. code ≤ 16) }
-    ensures promise { IsTrue M.tells → Keeps (M.meaning machine.old).clock (M.promise machine.old) (M.promise machine.new) }
-    ensures faults { RunCall false (M.status machine.old) (M.status machine.new) result }
-{
-    let items = match optional_statements(alloc, step) {
-        Ok(Some(items)) => items,
-        Ok(None) => return report_no_dd(alloc, machine, step.card, &SYSIN),
-        Err(AllocError) => return Err(Stop::Memory),
-    };
-    let Some(input) = input_in(step.dds.get(&SYSUT1)) else {
-        return report_no_dd(alloc, machine, step.card, &SYSUT1);
-    };
-    let Some(output) = set_in(step.dds.get(&SYSUT2)) else {
-        return report_no_dd(alloc, machine, step.card, &SYSUT2);
-    };
-    run_copy(
-        alloc,
-        machine,
-        line_card(step.card, &items),
-        &items,
-        input,
-        output,
-    )
-}
-
-// Copies by statements, or answers the first fault of one.
-fn run_copy<M: Machine>(
+// Does orders one after another.
+fn run_orders<M: Machine>(
     alloc: Global,
     machine: &mut M,
-    card: u32,
-    items: &[Item],
     input: Input<'_>,
     output: Output,
+    orders: &[Order],
 ) -> Result<u8, Stop>
     requires sound { IsTrue (M.status machine.old).is_sound }
     requires closed { IsFalse (M.status machine.old).is_open }
-    ensures item { IsTrue M.tells → DoesItem M.tells_prints (item_with (M.meaning machine.old).state card (input_view input.entry) output (edits_of true (map item_view items.now))) (M.meaning machine.old) (M.meaning machine.new) (M.status machine.old).done (M.status machine.new).done result }
+    ensures items { IsTrue M.tells → DoesItems M.tells_prints (order_items (input_view input.entry) output [] (M.meaning machine.old).state orders.now) (M.meaning machine.old) (M.meaning machine.new) (M.status machine.old).done (M.status machine.new).done result }
     ensures small { IfOk result (λ code. code ≤ 16) }
     ensures promise { IsTrue M.tells → Keeps (M.meaning machine.old).clock (M.promise machine.old) (M.promise machine.new) }
     ensures faults { RunCall false (M.status machine.old) (M.status machine.new) result }
 {
-    let edits = match edits_of(alloc, items) {
-        Ok(Ok(edits)) => edits,
-        Ok(Err(fault)) => return report_fault(alloc, machine, fault),
-        Err(AllocError) => return Err(Stop::Memory),
-    };
-    let task = Task {
+    let mut work = Work {
+        alloc,
         input,
         output,
-        edits: &edits,
+        orders,
+        done: 0,
     };
-    answer(alloc, machine, card, &task)
+    run_items(machine, &mut work)
+}
+
+// Does an order behind others, or answers the fault of a statement.
+#[tactic(auto, unfolding(crate::specs::Items::order_item))]
+fn do_order<M: Machine>(
+    alloc: Global,
+    machine: &mut M,
+    input: &Input<'_>,
+    output: &Output,
+    before: &[Order],
+    order: &Order,
+) -> Result<u8, Stop>
+    requires sound { IsTrue (M.status machine.old).is_sound }
+    requires closed { IsFalse (M.status machine.old).is_open }
+    ensures item { IsTrue M.tells → DoesItem M.tells_prints (order_item (M.meaning machine.old).state (input_view input.now) output.now before.now order.now) (M.meaning machine.old) (M.meaning machine.new) (M.status machine.old).done (M.status machine.new).done result }
+    ensures small { IfOk result (λ code. code ≤ 16) }
+    ensures promise { IsTrue M.tells → Keeps (M.meaning machine.old).clock (M.promise machine.old) (M.promise machine.new) }
+    ensures faults { RunCall false (M.status machine.old) (M.status machine.new) result }
+{
+    match order {
+        Order::Write(part) => do_part(alloc, machine, input, output, before, part),
+        Order::Fault(fault) => report_fault(alloc, machine, *fault),
+    }
+}
+
+// The names of the member that a DD names, if it names one.
+fn names_of(alloc: Global, member: &Option<Name8>) -> Option<Names>
+    ensures { result ≡ names_for None member.now }
+{
+    match member {
+        Some(name) => Some(Names {
+            name: *name,
+            aliases: Listed::from_vec(Vec::new(alloc)),
+        }),
+        None => None,
+    }
+}
+
+// Copies a part to the member of its MEMBER, or else to that of the DD or to the set.
+fn do_part<M: Machine>(
+    alloc: Global,
+    machine: &mut M,
+    input: &Input<'_>,
+    output: &Output,
+    before: &[Order],
+    part: &Part,
+) -> Result<u8, Stop>
+    requires sound { IsTrue (M.status machine.old).is_sound }
+    requires closed { IsFalse (M.status machine.old).is_open }
+    ensures item { IsTrue M.tells → DoesItem M.tells_prints (copy_item (M.meaning machine.old).state part.now.card (input_view input.now) output.now (names_for part.now.names output.now.member) before.now part.now.edits) (M.meaning machine.old) (M.meaning machine.new) (M.status machine.old).done (M.status machine.new).done result }
+    ensures small { IfOk result (λ code. code ≤ 16) }
+    ensures promise { IsTrue M.tells → Keeps (M.meaning machine.old).clock (M.promise machine.old) (M.promise machine.new) }
+    ensures faults { RunCall false (M.status machine.old) (M.status machine.new) result }
+{
+    let named = names_of(alloc, &output.member);
+    let names = match &part.names {
+        Some(_) => &part.names,
+        None => &named,
+    };
+    let task = Task {
+        input: *input,
+        output: *output,
+        names,
+        before,
+        edits: part.edits.as_slice(),
+    };
+    answer(alloc, machine, part.card, &task)
+}
+
+// What a line names: the member, or the set.
+fn object_for(to: &SetRef, names: &Option<Names>) -> Object
+    ensures { result ≡ object_for to.now names.now }
+{
+    match names {
+        Some(names) => Object::Member {
+            set: to.dsn,
+            name: names.name,
+        },
+        None => Object::Name(to.dsn),
+    }
 }
 
 // Copies, and answers the copy.
@@ -186,13 +328,13 @@ fn answer<M: Machine>(
 ) -> Result<u8, Stop>
     requires sound { IsTrue (M.status machine.old).is_sound }
     requires closed { IsFalse (M.status machine.old).is_open }
-    ensures item { IsTrue M.tells → DoesItem M.tells_prints (copy_item (M.meaning machine.old).state card (input_view task.now.input) task.now.output task.now.edits.now) (M.meaning machine.old) (M.meaning machine.new) (M.status machine.old).done (M.status machine.new).done result }
+    ensures item { IsTrue M.tells → DoesItem M.tells_prints (copy_item (M.meaning machine.old).state card (input_view task.now.input) task.now.output task.now.names.now task.now.before.now task.now.edits.now) (M.meaning machine.old) (M.meaning machine.new) (M.status machine.old).done (M.status machine.new).done result }
     ensures small { IfOk result (λ code. code ≤ 16) }
     ensures promise { IsTrue M.tells → Keeps (M.meaning machine.old).clock (M.promise machine.old) (M.promise machine.new) }
     ensures faults { RunCall false (M.status machine.old) (M.status machine.new) result }
 {
     let outcome = Outcome::of(copy_records(alloc, machine, task)?);
-    let object = Object::Name(task.output.to.dsn);
+    let object = object_for(&task.output.to, task.names);
     match item_line(alloc, card, "COPY", &object, outcome) {
         Ok(line) => report(machine, &line, outcome.code()),
         Err(AllocError) => Err(Stop::Memory),

@@ -1,5 +1,5 @@
 //! Puts the blocks of records by the open writer of a machine.
-ghost use Rattle.std.specs.Prelude.{◌≡◌, ◌≤◌, ◌<◌, [], ◌++◌, true, false, ℕ, List, Bool, length, IsTrue, IsErr, IfOk, OnOk};
+ghost use Rattle.std.specs.Prelude.{◌≡◌, ◌≤◌, ◌<◌, [], ◌++◌, true, false, ℕ, List, Bool, length, unwrap_or, IsTrue, IsErr, IfOk, OnOk};
 ghost use Rattle.record_blocks.specs.Packer.{blocks_given, blocks_with, format_of, is_waiting};
 ghost use Rattle.vol_model.specs.Calls.{Keeps};
 ghost use Rattle.vol_model.specs.Runs.{RunCall, Works};
@@ -13,18 +13,26 @@ use record_blocks::PackErr;
 use std::alloc::AllocError;
 use std::mem;
 use util_steps::{Fault, put_bytes};
-use vol_model::{Machine, Stop};
+use vol_model::{Machine, Place, Stop};
 
-// Puts a block that was held back, if there was one.
+// The place of the first block, once one more is put at this place.
+fn earlier(start: Option<Place>, place: Place) -> Place
+    ensures { result ≡ unwrap_or start place }
+{
+    start.unwrap_or(place)
+}
+
+// Puts a block that was held back, if there was one, and keeps where the first that is put stands.
 fn put_held<M: Machine>(
     machine: &mut M,
+    start: &mut Option<Place>,
     holds: bool,
     held: &[u8],
 ) -> Result<Result<(), Fault>, Stop>
     requires sound { IsTrue (M.status machine.old).is_sound }
     requires opened { IsTrue (M.status machine.old).is_open }
     requires fits { length held.now ≤ 32760 }
-    ensures advances { IsTrue M.tells → (more : List (List ℕ)) (broken : Bool) → HasLast broken more → Advances M.tells_prints (coming_of (held_if holds held.now ++ more) broken) (coming_of more broken) (M.writer machine.old) (M.writer machine.new) (M.meaning machine.old) (M.meaning machine.new) (M.status machine.old).done (M.status machine.new).done result }
+    ensures advances { IsTrue M.tells → (more : List (List ℕ)) (broken : Bool) → HasLast broken more → Advances M.tells_prints (coming_of (held_if holds held.now ++ more) broken) (coming_of more broken) (M.writer machine.old) (M.writer machine.new) start.old start.new (M.meaning machine.old) (M.meaning machine.new) (M.status machine.old).done (M.status machine.new).done result }
     ensures later { IsTrue M.tells → (M.meaning machine.old).clock ≤ (M.meaning machine.new).clock }
     ensures promise { IsTrue M.tells → Keeps (M.meaning machine.old).clock (M.promise machine.old) (M.promise machine.new) }
     ensures faults { RunCall true (M.status machine.old) (M.status machine.new) result }
@@ -33,7 +41,10 @@ fn put_held<M: Machine>(
         return Ok(Ok(()));
     }
     match put_bytes(machine, &[], held)? {
-        Ok(_) => Ok(Ok(())),
+        Ok(place) => {
+            *start = Some(earlier(*start, place));
+            Ok(Ok(()))
+        }
         Err(fault) => Ok(Err(fault)),
     }
 }
@@ -47,7 +58,7 @@ fn pass_on<M: Machine>(
     requires sound { IsTrue (M.status machine.old).is_sound }
     requires opened { IsTrue (M.status machine.old).is_open }
     requires fits { full ≡ true → length writer.old.next.items ≤ 32760 }
-    ensures advances { IsTrue M.tells → (more : List (List ℕ)) (broken : Bool) → Advances M.tells_prints (coming_of (held_by writer.old ++ blocks_given full writer.old.next.items more) broken) (coming_of (held_by writer.new ++ more) broken) (M.writer machine.old) (M.writer machine.new) (M.meaning machine.old) (M.meaning machine.new) (M.status machine.old).done (M.status machine.new).done result }
+    ensures advances { IsTrue M.tells → (more : List (List ℕ)) (broken : Bool) → Advances M.tells_prints (coming_of (held_by writer.old ++ blocks_given full writer.old.next.items more) broken) (coming_of (held_by writer.new ++ more) broken) (M.writer machine.old) (M.writer machine.new) writer.old.start writer.new.start (M.meaning machine.old) (M.meaning machine.new) (M.status machine.old).done (M.status machine.new).done result }
     ensures packer { writer.new.packer ≡ writer.old.packer }
     ensures later { IsTrue M.tells → (M.meaning machine.old).clock ≤ (M.meaning machine.new).clock }
     ensures promise { IsTrue M.tells → Keeps (M.meaning machine.old).clock (M.promise machine.old) (M.promise machine.new) }
@@ -56,7 +67,7 @@ fn pass_on<M: Machine>(
     if !full {
         return Ok(Ok(()));
     }
-    if let Err(fault) = put_held(machine, writer.holds, &writer.held)? {
+    if let Err(fault) = put_held(machine, &mut writer.start, writer.holds, &writer.held)? {
         return Ok(Err(fault));
     }
     mem::swap(&mut writer.held, &mut writer.next);
@@ -71,7 +82,7 @@ fn pull_next<M: Machine>(
 ) -> Result<Result<bool, Fault>, Stop>
     requires sound { IsTrue (M.status machine.old).is_sound }
     requires opened { IsTrue (M.status machine.old).is_open }
-    ensures advances { IsTrue M.tells → (records : List (List ℕ)) (broken : Bool) → Advances M.tells_prints (coming_of (blocks_to_come writer.old records) broken) (coming_of (blocks_to_come writer.new records) broken) (M.writer machine.old) (M.writer machine.new) (M.meaning machine.old) (M.meaning machine.new) (M.status machine.old).done (M.status machine.new).done (forgetting result) }
+    ensures advances { IsTrue M.tells → (records : List (List ℕ)) (broken : Bool) → Advances M.tells_prints (coming_of (blocks_to_come writer.old records) broken) (coming_of (blocks_to_come writer.new records) broken) (M.writer machine.old) (M.writer machine.new) writer.old.start writer.new.start (M.meaning machine.old) (M.meaning machine.new) (M.status machine.old).done (M.status machine.new).done (forgetting result) }
     ensures fewer { IfOk result (λ answer. IfOk answer (λ full. full ≡ true → length (blocks_with writer.new.packer []) < length (blocks_with writer.old.packer []))) }
     ensures idle { IfOk result (λ answer. IfOk answer (λ full. full ≡ false → is_waiting writer.new.packer ≡ false)) }
     ensures format { format_of writer.new.packer ≡ format_of writer.old.packer }
@@ -96,7 +107,7 @@ fn pull_all<M: Machine>(
 ) -> Result<Result<(), Fault>, Stop>
     requires sound { IsTrue (M.status machine.old).is_sound }
     requires opened { IsTrue (M.status machine.old).is_open }
-    ensures advances { IsTrue M.tells → (records : List (List ℕ)) (broken : Bool) → Advances M.tells_prints (coming_of (blocks_to_come writer.old records) broken) (coming_of (blocks_to_come writer.new records) broken) (M.writer machine.old) (M.writer machine.new) (M.meaning machine.old) (M.meaning machine.new) (M.status machine.old).done (M.status machine.new).done result }
+    ensures advances { IsTrue M.tells → (records : List (List ℕ)) (broken : Bool) → Advances M.tells_prints (coming_of (blocks_to_come writer.old records) broken) (coming_of (blocks_to_come writer.new records) broken) (M.writer machine.old) (M.writer machine.new) writer.old.start writer.new.start (M.meaning machine.old) (M.meaning machine.new) (M.status machine.old).done (M.status machine.new).done result }
     ensures idle { IfOk result (λ answer. OnOk answer (is_waiting writer.new.packer ≡ false)) }
     ensures format { format_of writer.new.packer ≡ format_of writer.old.packer }
     ensures later { IsTrue M.tells → (M.meaning machine.old).clock ≤ (M.meaning machine.new).clock }
@@ -145,7 +156,7 @@ pub fn put_record<M: Machine>(
     requires sound { IsTrue (M.status machine.old).is_sound }
     requires opened { IsTrue (M.status machine.old).is_open }
     requires idle { is_waiting writer.old.packer ≡ false }
-    ensures advances { IsTrue M.tells → (st : Stream) → Advances M.tells_prints (coming writer.old (with_record rec.now st)) (coming writer.new st) (M.writer machine.old) (M.writer machine.new) (M.meaning machine.old) (M.meaning machine.new) (M.status machine.old).done (M.status machine.new).done result }
+    ensures advances { IsTrue M.tells → (st : Stream) → Advances M.tells_prints (coming writer.old (with_record rec.now st)) (coming writer.new st) (M.writer machine.old) (M.writer machine.new) writer.old.start writer.new.start (M.meaning machine.old) (M.meaning machine.new) (M.status machine.old).done (M.status machine.new).done result }
     ensures idle { IfOk result (λ answer. OnOk answer (is_waiting writer.new.packer ≡ false)) }
     ensures format { IfOk result (λ answer. OnOk answer (format_of writer.new.packer ≡ format_of writer.old.packer)) }
     ensures later { IsTrue M.tells → (M.meaning machine.old).clock ≤ (M.meaning machine.new).clock }
@@ -171,7 +182,7 @@ pub fn finish<M: Machine>(
     requires sound { IsTrue (M.status machine.old).is_sound }
     requires opened { IsTrue (M.status machine.old).is_open }
     requires idle { is_waiting writer.old.packer ≡ false }
-    ensures advances { IsTrue M.tells → Advances M.tells_prints (coming writer.old at_end) (coming_of [] false) (M.writer machine.old) (M.writer machine.new) (M.meaning machine.old) (M.meaning machine.new) (M.status machine.old).done (M.status machine.new).done result }
+    ensures advances { IsTrue M.tells → Advances M.tells_prints (coming writer.old at_end) (coming_of [] false) (M.writer machine.old) (M.writer machine.new) writer.old.start writer.new.start (M.meaning machine.old) (M.meaning machine.new) (M.status machine.old).done (M.status machine.new).done result }
     ensures later { IsTrue M.tells → (M.meaning machine.old).clock ≤ (M.meaning machine.new).clock }
     ensures promise { IsTrue M.tells → Keeps (M.meaning machine.old).clock (M.promise machine.old) (M.promise machine.new) }
     ensures faults { RunCall true (M.status machine.old) (M.status machine.new) result }
@@ -183,5 +194,5 @@ pub fn finish<M: Machine>(
     if let Err(fault) = pass_on(machine, writer, full)? {
         return Ok(Err(fault));
     }
-    put_held(machine, writer.holds, &writer.held)
+    put_held(machine, &mut writer.start, writer.holds, &writer.held)
 }

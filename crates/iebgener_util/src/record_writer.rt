@@ -3,6 +3,7 @@ ghost use Rattle.std.specs.Prelude.{◌≤◌, length};
 
 use record_blocks::{Format, Packer};
 use std::alloc::{AllocError, Global};
+use vol_model::Place;
 
 /// Packs records into blocks, each of which is put once a further one is finished: where a fault ends the records, the
 /// last block isn't finished.
@@ -14,6 +15,8 @@ pub struct RecordWriter {
     pub(crate) holds: bool,
     // Room for the next one.
     pub(crate) next: Vec<u8>,
+    // Where the first block that was put stands.
+    pub(crate) start: Option<Place>,
     ghost fits: { length held.items ≤ 32760 },
 }
 
@@ -28,6 +31,7 @@ impl RecordWriter {
     pub fn new(alloc: Global, format: Format) -> Result<RecordWriter, AllocError>
         requires { first_fault format ≡ None }
         ensures blocks { IfOk result (λ w. (records : List (List ℕ)) → blocks_to_come w records ≡ packing format records) }
+        ensures start { IfOk result (λ w. w.start ≡ None) }
         ensures idle { IfOk result (λ w. is_waiting w.packer ≡ false) }
         ensures format { IfOk result (λ w. format_of w.packer ≡ format) }
     {
@@ -36,6 +40,7 @@ impl RecordWriter {
             held: Vec::new(alloc),
             holds: false,
             next: Vec::new(alloc),
+            start: None,
         })
     }
 }

@@ -1,22 +1,19 @@
 //! What the statements of IEBGENER ask for.
-ghost use Rattle.std.specs.Prelude.{◌≡◌, true, codes, map, option_map, option_and_then, is_some, IfOk};
+ghost use Rattle.std.specs.Prelude.{◌≡◌, codes, map, option_map, option_and_then, is_some, IfOk};
 ghost use Rattle.std.specs.List.{count_by, list_all};
-ghost use Rattle.std.specs.Result.{result_map_both};
-ghost use Rattle.util_syntax.specs.declared.operands.SynErr.TheVariants.{BadOperand};
 ghost use Rattle.card_text.specs.declared.operands.Operand.{Operand};
 ghost use Rattle.card_text.specs.Names.{number_of};
 ghost use Rattle.card_text.specs.Operands.{operand_view};
 ghost use Rattle.card_text.specs.Tree.{as_word, trees, value_view};
 ghost use Rattle.ebcdic_names.specs.Names.{byte_of};
 ghost use Rattle.util_syntax.specs.Forms.{has_keyword, if_given};
-ghost use Rattle.util_syntax.specs.Items.{item_view};
 ghost use Rattle.util_syntax.specs.Program.{statement_view};
-ghost use Rattle.iebgener_util.specs.Requests.{column_in, edits_of, field_among, field_in, field_of, fields_among, first_item, ident_among, ident_in, ident_of, in_ebcdic, is_end, is_generate, is_limit, is_nothing, is_record_operand, items_behind, number_or, origin_in, record_of, request_of, seen, stands_once, text_in};
+ghost use Rattle.iebgener_util.specs.Requests.{column_in, field_among, field_in, field_of, fields_among, first_item, ident_among, ident_in, ident_of, in_ebcdic, is_end, is_generate, is_limit, is_nothing, is_record_operand, items_behind, member_of, name_in, names_among, names_in, names_listed, names_with, number_or, origin_in, record_of, request_of, seen, stands_once, text_in};
 
-use card_text::number_of;
-use ebcdic_names::to_ebcdic;
+use card_text::{name_of, number_of};
+use ebcdic_names::{Name8, to_ebcdic};
 use std::alloc::{AllocError, Global};
-use util_syntax::{Item, Operand, Statement, SynErr, Value, has_keyword, is_named, value_of};
+use util_syntax::{Operand, Statement, Value, has_keyword, is_named, value_of};
 use vol_model::{Listed, Text};
 
 // The length of a field, or of the text of IDENT, where the statement gives none.
@@ -62,6 +59,15 @@ pub struct Edit {
     pub fields: Listed<Field>,
 }
 
+/// The names that a member is entered by.
+#[derive(Debug, Drop)]
+pub struct Names {
+    /// Its own.
+    pub name: Name8,
+    /// Its other names.
+    pub aliases: Listed<Name8>,
+}
+
 /// What a statement asks for.
 #[derive(Debug, Drop)]
 pub enum Request {
@@ -69,6 +75,8 @@ pub enum Request {
     Generate,
     /// RECORD: a group of records is edited.
     Record(Edit),
+    /// MEMBER: a member of these names begins.
+    Member(Names),
 }
 
 // The byte of a character in EBCDIC.
@@ -403,10 +411,98 @@ fn is_generate(operands: &[Operand]) -> bool
         && stands_once(operands, b"MAXLITS")
 }
 
+// The name of one level that a value is.
+fn name_in(value: &Value) -> Option<Name8>
+    ensures { result ≡ name_in (value_view value.now) }
+{
+    match value.as_word() {
+        Some(text) => name_of(text),
+        None => None,
+    }
+}
+
+// The names that values are.
+fn names_among(alloc: Global, items: &[Value]) -> Result<Option<Vec<Name8>>, AllocError>
+    ensures { IfOk result (λ found. option_map (λ v. v.items) found ≡ names_among (trees (map value_view items.now))) }
+{
+    let mut names = Vec::new(alloc);
+    for item in items {
+        match name_in(item) {
+            Some(name) => names.push(name)?,
+            None => return Ok(None),
+        }
+    }
+    Ok(Some(names))
+}
+
+// A member's own name with its other names, if all are given.
+fn names_with(name: Option<Name8>, aliases: Option<Vec<Name8>>) -> Option<Names>
+    ensures { result ≡ names_with name (option_map (λ v. v.items) aliases) }
+{
+    match name {
+        Some(name) => match aliases {
+            Some(aliases) => Some(Names {
+                name,
+                aliases: Listed::from_vec(aliases),
+            }),
+            None => None,
+        },
+        None => None,
+    }
+}
+
+#[tactic(auto, unfolding(crate::specs::Requests::names_listed))]
+fn names_listed(alloc: Global, items: &[Value]) -> Result<Option<Names>, AllocError>
+    ensures { IfOk result (λ found. found ≡ names_listed (trees (map value_view items.now))) }
+{
+    match items.split_first() {
+        Some((name, aliases)) => Ok(names_with(name_in(name), names_among(alloc, aliases)?)),
+        None => Ok(None),
+    }
+}
+
+#[tactic(auto, unfolding(crate::specs::Requests::names_in))]
+fn names_in(alloc: Global, value: &Value) -> Result<Option<Names>, AllocError>
+    ensures { IfOk result (λ found. found ≡ names_in (value_view value.now)) }
+{
+    match value.as_list() {
+        Some(items) => names_listed(alloc, items),
+        None => Ok(names_with(name_in(value), Some(Vec::new(alloc)))),
+    }
+}
+
+// Whether each of these operands has the keyword NAME.
+fn each_of_member(operands: &[Operand]) -> bool
+    ensures { result ≡ list_all (λ (o : Operand). has_keyword (codes "NAME") (operand_view o)) operands.now }
+{
+    operands.iter().all(|operand| has_keyword(operand, b"NAME"))
+}
+
+// Whether all of them have it, seen so.
+fn all_of_member(operands: &[Operand]) -> bool
+    ensures { result ≡ list_all (has_keyword (codes "NAME")) (map operand_view operands.now) }
+{
+    each_of_member(operands)
+}
+
+#[tactic(auto, unfolding(crate::specs::Requests::member_of))]
+fn member_of(alloc: Global, operands: &[Operand]) -> Result<Option<Names>, AllocError>
+    ensures { IfOk result (λ found. found ≡ member_of (map operand_view operands.now)) }
+{
+    if !all_of_member(operands) {
+        return Ok(None);
+    }
+    match value_of(operands, b"NAME") {
+        Some(value) => names_in(alloc, value),
+        None => Ok(None),
+    }
+}
+
 /// What a statement asks for; `None` where it hasn't the form of its operation, or its operation isn't one of these:
 ///
 /// - `GENERATE MAXNAME=n,MAXFLDS=n,MAXGPS=n,MAXLITS=n`, each once at most
 /// - `RECORD IDENT=(length,'text',column),FIELD=(length,from,,to)`, IDENT once at most
+/// - `MEMBER NAME=(name,alias,..)`
 ///
 /// `from` is a column or a text in quotes. A number that is missing is 80 for a length and 1 for a column. The one error
 /// is want of memory.
@@ -420,60 +516,17 @@ pub fn request_of(alloc: Global, statement: &Statement) -> Result<Option<Request
         }
         return Ok(None);
     }
-    if !is_named(&statement.op, b"RECORD") {
+    if is_named(&statement.op, b"RECORD") {
+        return match record_of(alloc, &statement.operands)? {
+            Some(edit) => Ok(Some(Request::Record(edit))),
+            None => Ok(None),
+        };
+    }
+    if !is_named(&statement.op, b"MEMBER") {
         return Ok(None);
     }
-    match record_of(alloc, &statement.operands)? {
-        Some(edit) => Ok(Some(Request::Record(edit))),
+    match member_of(alloc, &statement.operands)? {
+        Some(names) => Ok(Some(Request::Member(names))),
         None => Ok(None),
-    }
-}
-
-/// The fault of a statement, with the card on which it stands.
-#[derive(Clone, Copy, Debug, PartialEq, Eq)]
-pub struct StatementFault {
-    /// The number of the card.
-    pub card: u32,
-    /// The kind of the fault.
-    pub kind: SynErr,
-}
-
-/// The edits of a step's statements, in their order, or the first fault. GENERATE stands first or not at all.
-///
-/// The one error is want of memory.
-pub fn edits_of(
-    alloc: Global,
-    items: &[Item],
-) -> Result<Result<Vec<Edit>, StatementFault>, AllocError>
-    ensures { IfOk result (λ found. result_map_both (λ v. v.items) (λ e. e) found ≡ edits_of true (map item_view items.now)) }
-{
-    let mut edits = Vec::new(alloc);
-    let mut first = true;
-    for item in items {
-        match item {
-            Item::Stmt(statement) => match request_of(alloc, statement)? {
-                Some(Request::Generate) if first => (),
-                Some(Request::Record(edit)) => edits.push(edit)?,
-                _ => return Ok(Err(bad_operand(statement.card))),
-            },
-            Item::Fault { card, kind, .. } => {
-                return Ok(Err(StatementFault {
-                    card: *card,
-                    kind: *kind,
-                }));
-            }
-        }
-        first = false;
-    }
-    Ok(Ok(edits))
-}
-
-// The fault of a statement that has no place, or not the form of its operation.
-fn bad_operand(card: u32) -> StatementFault
-    ensures { result ≡ record { card = card; kind = BadOperand } }
-{
-    StatementFault {
-        card,
-        kind: SynErr::BadOperand,
     }
 }

@@ -1,3 +1,5 @@
 mod SetLemmas
+mod DirectoryLemmas
 mod Listings
 mod ItemLemmas
+mod Cases

@@ -128,7 +128,7 @@ none_left (x ∷ xs) zero long = absurd (omega arith)
 none_left (x ∷ xs) (suc k) long = none_left xs k (omega arith)
 
 -- where a list has nothing at a place, it ends before it
-past_end : {X : Type 0} (xs : List X) (k : ℕ) → slice_get xs k ≡ None → length xs ≤ k
+pub past_end : {X : Type 0} (xs : List X) (k : ℕ) → slice_get xs k ≡ None → length xs ≤ k
 past_end [] k none = omega arith
 past_end (x ∷ xs) zero none = let never : ⊥ = cc in absurd never
 past_end (x ∷ xs) (suc k) none = omega (arith, past_end xs k none)

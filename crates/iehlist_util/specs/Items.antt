@@ -14,6 +14,7 @@ use Rattle.vol_model.specs.Events.{Item}
 use Rattle.vol_model.specs.Reading.{set_info, volume_info}
 use Rattle.vol_model.specs.Shelf.{number_of, set_of}
 use Rattle.util_steps.specs.Items.{items_along}
+use Rattle.util_syntax.specs.declared.listing.Object.{Object}
 use Rattle.util_syntax.specs.declared.listing.Object.TheVariants as object
 use Rattle.util_syntax.specs.declared.listing.Outcome.{Outcome}
 use Rattle.util_syntax.specs.declared.listing.Outcome.TheVariants.{Done, Refused}
@@ -23,7 +24,11 @@ use Rattle.util_syntax.specs.Items.{ItemView, fault, statement}
 use Rattle.util_syntax.specs.Listing.{item_line}
 use Rattle.util_syntax.specs.Program.{no_dd_item, outcome_code, statements_in, syntax_item, sysin}
 use Rattle.util_syntax.specs.Step.{same_name}
+use Rattle.iehlist_util.specs.declared.requests.ListPds.{ListPds}
 use Rattle.iehlist_util.specs.declared.requests.ListVtoc.{ListVtoc}
+use Rattle.iehlist_util.specs.declared.requests.Request.{Request}
+use Rattle.iehlist_util.specs.declared.requests.Request.TheVariants.{Pds, Vtoc}
+use Rattle.iehlist_util.specs.Directories.{PdsListing, pds_listing}
 use Rattle.iehlist_util.specs.Lines.{extent_line, set_line, volume_line}
 use Rattle.iehlist_util.specs.Requests.{request_of}
 
@@ -79,33 +84,51 @@ abbrev pub named_serial : Option Serial → Serial
 named_serial None = record { bytes = replicate 6 0x40 }
 named_serial (Some serial) = serial
 
--- the item of a listing, and the line that answers it
-abbrev pub listing_item : ℕ → Serial → Listing → Item
-listing_item card serial l = record {
+-- the item of a listing, and the line that answers it: its operation, and what it names
+abbrev pub listing_item : ℕ → List ℕ → Object → Listing → Item
+listing_item card operation named l = record {
   operations = [];
-  lines = l.lines ++ item_line card (codes "LISTVTOC") (object.Volume serial) l.outcome ∷ [];
+  lines = l.lines ++ item_line card operation named l.outcome ∷ [];
   code = outcome_code l.outcome;
 }
 
+-- the item of a listing whose volume isn't there
+abbrev pub no_volume_item : ℕ → List ℕ → Object → Item
+no_volume_item card operation named = listing_item card operation named (record { lines = []; outcome = Refused NoVolume })
+
 -- the item of LISTVTOC on a volume, if the shelf has that
 abbrev pub vtoc_item : ℕ → ListVtoc → Option Volume → Item
-vtoc_item card request None = listing_item card (named_serial request.volume) (record { lines = []; outcome = Refused NoVolume })
-vtoc_item card request (Some volume) = listing_item card volume.serial (volume_listing request volume)
+vtoc_item card request None = no_volume_item card (codes "LISTVTOC") (object.Volume (named_serial request.volume))
+vtoc_item card request (Some volume) = listing_item card (codes "LISTVTOC") (object.Volume volume.serial) (volume_listing request volume)
 
--- the volume that LISTVTOC lists
-abbrev pub volume_for : Shelf → ListVtoc → Option Volume
-volume_for shelf request = option_and_then (λ v. slice_get shelf.volumes v) (volume_number shelf request.volume)
+-- the item of directories that are listed
+abbrev pub directories_item : ℕ → PdsListing → Item
+directories_item card l = listing_item card (codes "LISTPDS") (object.Name l.answer.dsn) (record { lines = l.lines; outcome = l.answer.outcome })
+
+-- the item of LISTPDS on a volume, if the shelf has that
+abbrev pub pds_item : ℕ → ListPds → Option Volume → Item
+pds_item card request None = no_volume_item card (codes "LISTPDS") (object.Name request.first)
+pds_item card request (Some volume) = directories_item card (pds_listing volume request.first request.others)
+
+-- the volume that is listed, by its serial or as the first
+abbrev pub volume_for : Shelf → Option Serial → Option Volume
+volume_for shelf serial = option_and_then (λ v. slice_get shelf.volumes v) (volume_number shelf serial)
 
 -- the volume that is listed is found, with its number and what is told of it in short, or there is none
-abbrev pub FindsVolume : Shelf → ListVtoc → Option (ℕ × VolumeInfo) → Type 0
-FindsVolume shelf request None = volume_for shelf request ≡ None
-FindsVolume shelf request (Some found) =
-    (volume : Volume) × (volume_for shelf request ≡ Some volume) × (slice_get shelf.volumes found.0 ≡ Some volume) × (found.1 ≡ volume_info volume)
+abbrev pub FindsVolume : Shelf → Option Serial → Option (ℕ × VolumeInfo) → Type 0
+FindsVolume shelf serial None = volume_for shelf serial ≡ None
+FindsVolume shelf serial (Some found) =
+    (volume : Volume) × (volume_for shelf serial ≡ Some volume) × (slice_get shelf.volumes found.0 ≡ Some volume) × (found.1 ≡ volume_info volume)
+
+-- the item of what a statement asks for
+abbrev pub asked_item : Shelf → ℕ → Request → Item
+asked_item shelf card (Vtoc request) = vtoc_item card request (volume_for shelf request.volume)
+asked_item shelf card (Pds request) = pds_item card request (volume_for shelf request.volume)
 
 -- the item of a statement, by what it asks for; one that asks for nothing that is done here is a fault
-abbrev pub requested_item : Shelf → ℕ → Option ListVtoc → Item
+abbrev pub requested_item : Shelf → ℕ → Option Request → Item
 requested_item shelf card None = syntax_item card BadOperand
-requested_item shelf card (Some request) = vtoc_item card request (volume_for shelf request)
+requested_item shelf card (Some request) = asked_item shelf card request
 
 -- the item of a statement, or of the fault of one
 abbrev pub statement_item : Shelf → ItemView → Item

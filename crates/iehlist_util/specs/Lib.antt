@@ -1,3 +1,4 @@
 pub mod Lines
 pub mod Requests
+pub mod Directories
 pub mod Items

@@ -1,10 +1,12 @@
--- The lines of a listing of a VTOC, in this project's profile.
-use Rattle.std.specs.Prelude.{ℕ, ◌+◌, ◌-◌, ◌*◌, ◌/◌, ◌%◌, ◌==◌, bit_and, if◌then◌else◌, List, [], ◌∷◌, ◌++◌, codes, length, replicate, slice_index}
+-- The lines of listings, in this project's profile.
+use Rattle.std.specs.Prelude.{ℕ, ◌+◌, ◌-◌, ◌*◌, ◌/◌, ◌%◌, ◌==◌, nat_lt, bit_and, if◌then◌else◌, List, [], ◌∷◌, ◌++◌, codes, length, replicate, slice_index}
 use Rattle.std.specs.Fmt.{decimal}
+use Rattle.std.specs.List.{flat_map}
 use Rattle.ckd_image.specs.Device.{row_of}
 use Rattle.ebcdic_names.specs.Names.{shown}
 use Rattle.vol_model.specs.declared.answers.SetInfo.{SetInfo}
 use Rattle.vol_model.specs.declared.answers.VolumeInfo.{VolumeInfo}
+use Rattle.vol_model.specs.declared.contents.Entry.{Entry}
 use Rattle.vol_model.specs.declared.contents.Run.{Run}
 use Rattle.util_syntax.specs.Lines.{next_word}
 
@@ -79,3 +81,35 @@ unfoldable pub extent_line : ℕ → Run → List ℕ
 extent_line number run =
     codes "  EXTENT" ++ next_word (right_in 2 number) ++ codes " START" ++ next_word (right_in 5 run.start)
     ++ codes " LENGTH" ++ next_word (right_in 5 run.len) ++ codes "\n"
+
+-- the line of a directory: its set, how many blocks it has, and how many entries
+unfoldable pub directory_line : List ℕ → ℕ → ℕ → List ℕ
+directory_line name blocks members =
+    codes "PDS" ++ next_word (shown name) ++ word_and_number (codes "DIRECTORY") blocks ++ word_and_number (codes "MEMBERS") members ++ codes "\n"
+
+-- a hexadecimal digit, in capitals
+abbrev pub hex_digit : ℕ → ℕ
+hex_digit n = if nat_lt n 10 then 48 + n else 55 + n
+
+-- a byte in two hexadecimal digits
+abbrev pub hex_byte : ℕ → List ℕ
+hex_byte b = hex_digit (b / 16) ∷ hex_digit (b % 16) ∷ []
+
+-- bytes in hexadecimal
+abbrev pub hex_bytes : List ℕ → List ℕ
+hex_bytes bytes = flat_map hex_byte bytes
+
+-- a number of two bytes in hexadecimal
+abbrev pub hex_number : ℕ → List ℕ
+hex_number n = hex_byte (n / 256) ++ hex_byte (n % 256)
+
+-- user data in hexadecimal, where there are any
+abbrev pub user_word : List ℕ → List ℕ
+user_word [] = []
+user_word (b ∷ bs) = next_word (hex_bytes (b ∷ bs))
+
+-- the line of an entry: its name, TT and R of its place, its flags and its user data
+unfoldable pub entry_line : Entry → List ℕ
+entry_line e =
+    left_in 8 (shown e.name.bytes) ++ next_word (hex_number e.place.tt) ++ next_word (hex_byte e.place.r) ++ next_word (hex_byte e.flags)
+    ++ user_word e.user ++ codes "\n"

@@ -1,14 +1,14 @@
-//! The lines of a listing of a VTOC.
-ghost use Rattle.std.specs.Prelude.{◌≡◌, ◌≤◌, ◌++◌, IfOk, OnOk};
+//! The lines of listings.
+ghost use Rattle.std.specs.Prelude.{◌≡◌, ◌≤◌, ◌<◌, ◌++◌, IfOk, OnOk};
 ghost use Rattle.std.specs.Fmt.{decimal};
 ghost use Rattle.ebcdic_names.specs.Names.{shown};
 ghost use Rattle.util_syntax.specs.Lines.{next_word};
-ghost use Rattle.iehlist_util.specs.Lines.{attribute_words, date_word, extent_line, format_letter, format_word, left_in, letter_if, organization_word, padded_number, right_in, set_line, space_words, volume_line, word_and_number};
+ghost use Rattle.iehlist_util.specs.Lines.{attribute_words, date_word, directory_line, entry_line, extent_line, format_letter, format_word, hex_byte, hex_bytes, hex_digit, hex_number, left_in, letter_if, organization_word, padded_number, right_in, set_line, space_words, user_word, volume_line, word_and_number};
 
 use ebcdic_names::{Dsn, push_name_in_ascii};
 use itoa::Buffer;
 use std::alloc::{AllocError, Global};
-use vol_model::{Run, SetInfo, VolumeInfo};
+use vol_model::{Entry, Run, SetInfo, VolumeInfo};
 
 // The most columns that are filled in front of a number.
 const MOST_COLUMNS: usize = 5;
@@ -19,6 +19,9 @@ const ZEROS: [u8; MOST_COLUMNS] = [b'0'; MOST_COLUMNS];
 
 // The columns of a data set name.
 const NAME_COLUMNS: usize = 44;
+
+// The columns of a member's name.
+const MEMBER_COLUMNS: usize = 8;
 
 // The columns of a record format.
 const FORMAT_COLUMNS: usize = 4;
@@ -236,6 +239,105 @@ pub fn extent_line(alloc: Global, number: u8, run: &Run) -> Result<Vec<u8>, Allo
     push_column(&mut line, 5, u32::from(run.start))?;
     line.extend_from_slice(b" LENGTH".as_slice())?;
     push_column(&mut line, 5, u32::from(run.len))?;
+    line.push(b'\n')?;
+    Ok(line)
+}
+
+/// The line of a directory: `PDS dsn DIRECTORY n MEMBERS m`, with the numbers of its blocks and of its entries.
+///
+/// It ends with a line feed. The one error is want of memory.
+#[tactic(auto, unfolding(crate::specs::Lines::directory_line))]
+pub fn directory_line(
+    alloc: Global,
+    name: &Dsn,
+    blocks: u32,
+    members: u32,
+) -> Result<Vec<u8>, AllocError>
+    ensures { IfOk result (λ line. line.items ≡ directory_line name.now.bytes blocks members) }
+{
+    let mut line = Vec::new(alloc);
+    line.extend_from_slice(b"PDS".as_slice())?;
+    push_name(&mut line, &name.bytes)?;
+    push_numbered(&mut line, "DIRECTORY", blocks)?;
+    push_numbered(&mut line, "MEMBERS", members)?;
+    line.push(b'\n')?;
+    Ok(line)
+}
+
+// A hexadecimal digit, in capitals.
+fn hex_digit(value: u8) -> u8
+    requires { value < 16 }
+    ensures { result ≡ hex_digit value }
+{
+    if value < 10 {
+        b'0' + value
+    } else {
+        b'A' + (value - 10)
+    }
+}
+
+// Adds a byte in two hexadecimal digits.
+fn push_hex(line: &mut Vec<u8>, byte: u8) -> Result<(), AllocError>
+    ensures { OnOk result (line.new.items ≡ line.old.items ++ hex_byte byte) }
+{
+    line.push(hex_digit(byte / 16))?;
+    line.push(hex_digit(byte % 16))?;
+    Ok(())
+}
+
+// Adds bytes in hexadecimal.
+fn push_hex_bytes(line: &mut Vec<u8>, bytes: &[u8]) -> Result<(), AllocError>
+    ensures { OnOk result (line.new.items ≡ line.old.items ++ hex_bytes bytes.now) }
+{
+    for byte in bytes {
+        push_hex(line, *byte)?;
+    }
+    Ok(())
+}
+
+// Adds a byte in hexadecimal behind a blank.
+fn push_hex_byte(line: &mut Vec<u8>, byte: u8) -> Result<(), AllocError>
+    ensures { OnOk result (line.new.items ≡ line.old.items ++ next_word (hex_byte byte)) }
+{
+    line.push(b' ')?;
+    push_hex(line, byte)
+}
+
+// Adds a number in four hexadecimal digits behind a blank.
+fn push_hex_number(line: &mut Vec<u8>, number: u16) -> Result<(), AllocError>
+    ensures { OnOk result (line.new.items ≡ line.old.items ++ next_word (hex_number number)) }
+{
+    push_hex_byte(line, (number / 256) as u8)?;
+    push_hex(line, (number % 256) as u8)
+}
+
+// Adds user data in hexadecimal behind a blank, where there are any.
+fn push_user(line: &mut Vec<u8>, user: &[u8]) -> Result<(), AllocError>
+    ensures { OnOk result (line.new.items ≡ line.old.items ++ user_word user.now) }
+{
+    if user.is_empty() {
+        return Ok(());
+    }
+    line.push(b' ')?;
+    push_hex_bytes(line, user)
+}
+
+/// The line of an entry of a directory: its name in eight columns, then in hexadecimal TT and R of its place, its C byte
+/// and, where there are any, its user data.
+///
+/// It ends with a line feed. The one error is want of memory.
+#[tactic(auto, unfolding(crate::specs::Lines::entry_line))]
+pub fn entry_line(alloc: Global, entry: &Entry) -> Result<Vec<u8>, AllocError>
+    ensures { IfOk result (λ line. line.items ≡ entry_line entry.now) }
+{
+    let mut shown = Vec::new(alloc);
+    push_name_in_ascii(&mut shown, &entry.name.bytes)?;
+    let mut line = Vec::new(alloc);
+    push_left(&mut line, MEMBER_COLUMNS, &shown)?;
+    push_hex_number(&mut line, entry.place.tt)?;
+    push_hex_byte(&mut line, entry.place.r)?;
+    push_hex_byte(&mut line, entry.flags)?;
+    push_user(&mut line, entry.user.as_slice())?;
     line.push(b'\n')?;
     Ok(line)
 }

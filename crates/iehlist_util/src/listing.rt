@@ -40,8 +40,8 @@ fn read_name<M: Machine>(machine: &mut M, v: u8, k: u32) -> Result<Option<Dsn>, 
     }
 }
 
-// A data set in short.
-fn read_info<M: Machine>(machine: &mut M, v: u8, dsn: &Dsn) -> Result<Option<SetInfo>, Stop>
+/// A data set in short.
+pub fn read_info<M: Machine>(machine: &mut M, v: u8, dsn: &Dsn) -> Result<Option<SetInfo>, Stop>
     requires sound { IsTrue (M.status machine.old).is_sound }
     requires closed { IsFalse (M.status machine.old).is_open }
     ensures value { IsTrue M.tells → IfOk result (λ found. found ≡ option_map set_info (set_on (M.meaning machine.old).state v dsn.now.bytes)) }

@@ -1,5 +1,5 @@
 //! IEHLIST in a step.
-ghost use Rattle.std.specs.Prelude.{◌≡◌, ◌≤◌, [], false, length, map, slice_get, IsTrue, IsFalse, IfOk};
+ghost use Rattle.std.specs.Prelude.{◌≡◌, ◌≤◌, [], codes, false, length, map, slice_get, IsTrue, IsFalse, IfOk};
 ghost use Rattle.vol_model.specs.declared.contents.Volume.{Volume};
 ghost use Rattle.vol_model.specs.Calls.{Keeps};
 ghost use Rattle.vol_model.specs.Events.{code_of, events_of};
@@ -8,10 +8,12 @@ ghost use Rattle.vol_model.specs.Runs.{Counts, RunCall, Runs};
 ghost use Rattle.util_steps.specs.Items.{DoesItem, items_along};
 ghost use Rattle.util_syntax.specs.Items.{item_view};
 ghost use Rattle.util_syntax.specs.Program.{no_dd_item, syntax_item, sysin};
-ghost use Rattle.iehlist_util.specs.Items.{FindsVolume, iehlist_items, listing_item, named_serial, statement_item, volume_for, volume_listing, vtoc_item};
+ghost use Rattle.iehlist_util.specs.Directories.{pds_listing};
+ghost use Rattle.iehlist_util.specs.Items.{FindsVolume, asked_item, directories_item, iehlist_items, listing_item, named_serial, no_volume_item, pds_item, statement_item, volume_for, volume_listing, vtoc_item};
 
+use crate::directories::say_directories;
 use crate::listing::say_volume;
-use crate::requests::{ListVtoc, request_of};
+use crate::requests::{ListPds, ListVtoc, Request, request_of};
 use ebcdic_names::Serial;
 use std::alloc::{AllocError, Global};
 use util_steps::{Items, find_volume, report, run_items};
@@ -28,10 +30,16 @@ const NO_SERIAL: Serial = Serial { bytes: [0x40; 6] };
 /// its statements.
 ///
 /// SYSIN has the statements; it is cards or DUMMY, else the step ends with `NO-DD` and 16. SYSPRINT isn't needed. A
-/// statement `LISTVTOC [VOL=dev=serial][,FORMAT][,DSNAME=(dsn,..)]` prints a line for the volume, or unit 0 without VOL,
-/// one for each of its data sets, or for those that are named, with FORMAT one for each extent, and a line with `OK`. A
-/// named set that isn't there ends the list with `NO-SET` and 8; where the volume isn't there, `NO-VOLUME` is the only
-/// line. Where the shelf has no volume at all and VOL is missing, that line names no serial.
+/// statement lists what is on one volume, which is unit 0 without VOL. Behind its list a line answers it, with `OK`, or
+/// with the first refusal and 8. Where the volume isn't there, `NO-VOLUME` is the only line.
+///
+/// - `LISTVTOC [VOL=dev=serial][,FORMAT][,DSNAME=(dsn,..)]` prints a line for the volume, one for each of its data sets,
+///   or for those that are named, and with FORMAT one for each extent. A named set that isn't there ends the list with
+///   `NO-SET`. The answer names the volume's serial; none where the shelf has no volume at all and VOL is missing.
+/// - `LISTPDS DSNAME=(dsn,..)[,VOL=dev=serial]` prints for each of these partitioned sets a line for its directory and
+///   one for each entry. The list ends at the first set that isn't there (`NO-SET`), isn't partitioned (`WRONG-KIND`) or
+///   can't be read (`UNREADABLE`), which has no line of its own. The answer names that set, or the last; and the first
+///   where the volume isn't there.
 ///
 /// Any other statement, and one without these operands, is `SYNTAX BAD-OPERAND` with 12, and the next statement is done
 /// all the same.
@@ -110,12 +118,12 @@ fn do_statement<M: Machine>(alloc: Global, machine: &mut M, item: &Item) -> Resu
     }
 }
 
-// The volume that is listed, with its number on the shelf.
-fn volume_for<M: Machine>(machine: &M, request: &ListVtoc) -> Option<(u8, VolumeInfo)>
+// The volume that is listed, by its serial or as the first, with its number on the shelf.
+fn volume_for<M: Machine>(machine: &M, serial: Option<Serial>) -> Option<(u8, VolumeInfo)>
     requires { IsTrue (M.status machine.now).is_sound }
-    ensures { IsTrue M.tells → FindsVolume (M.meaning machine.now).state request.now result }
+    ensures { IsTrue M.tells → FindsVolume (M.meaning machine.now).state serial result }
 {
-    let v = match &request.volume {
+    let v = match &serial {
         Some(serial) => find_volume(machine, serial)?,
         None => 0,
     };
@@ -130,18 +138,41 @@ fn answer<M: Machine>(
     alloc: Global,
     machine: &mut M,
     card: u32,
-    request: &ListVtoc,
+    request: &Request,
 ) -> Result<u8, Stop>
     requires sound { IsTrue (M.status machine.old).is_sound }
     requires closed { IsFalse (M.status machine.old).is_open }
-    ensures item { IsTrue M.tells → DoesItem M.tells_prints (vtoc_item card request.now (volume_for (M.meaning machine.old).state request.now)) (M.meaning machine.old) (M.meaning machine.new) (M.status machine.old).done (M.status machine.new).done result }
+    ensures item { IsTrue M.tells → DoesItem M.tells_prints (asked_item (M.meaning machine.old).state card request.now) (M.meaning machine.old) (M.meaning machine.new) (M.status machine.old).done (M.status machine.new).done result }
     ensures small { IfOk result (λ code. code ≤ 16) }
     ensures promise { IsTrue M.tells → Keeps (M.meaning machine.old).clock (M.promise machine.old) (M.promise machine.new) }
     ensures faults { RunCall false (M.status machine.old) (M.status machine.new) result }
 {
-    match volume_for(machine, request) {
+    match request {
+        Request::Vtoc(request) => answer_vtoc(alloc, machine, card, request),
+        Request::Pds(request) => answer_pds(alloc, machine, card, request),
+    }
+}
+
+// Lists a volume that is asked for, if it is there, and answers the statement.
+fn answer_vtoc<M: Machine>(
+    alloc: Global,
+    machine: &mut M,
+    card: u32,
+    request: &ListVtoc,
+) -> Result<u8, Stop>
+    requires sound { IsTrue (M.status machine.old).is_sound }
+    requires closed { IsFalse (M.status machine.old).is_open }
+    ensures item { IsTrue M.tells → DoesItem M.tells_prints (vtoc_item card request.now (volume_for (M.meaning machine.old).state request.now.volume)) (M.meaning machine.old) (M.meaning machine.new) (M.status machine.old).done (M.status machine.new).done result }
+    ensures small { IfOk result (λ code. code ≤ 16) }
+    ensures promise { IsTrue M.tells → Keeps (M.meaning machine.old).clock (M.promise machine.old) (M.promise machine.new) }
+    ensures faults { RunCall false (M.status machine.old) (M.status machine.new) result }
+{
+    match volume_for(machine, request.volume) {
         Some((v, info)) => list_volume(alloc, machine, card, v, &info, request),
-        None => report_no_volume(alloc, machine, card, &named_serial(request)),
+        None => {
+            let object = Object::Volume(named_serial(request));
+            report_no_volume(alloc, machine, card, "LISTVTOC", &object)
+        }
     }
 }
 
@@ -166,13 +197,57 @@ fn list_volume<M: Machine>(
 ) -> Result<u8, Stop>
     requires sound { IsTrue (M.status machine.old).is_sound }
     requires closed { IsFalse (M.status machine.old).is_open }
-    ensures item { IsTrue M.tells → (volume : Volume) → slice_get (M.meaning machine.old).state.volumes v ≡ Some volume → info.now ≡ volume_info volume → DoesItem M.tells_prints (listing_item card info.now.serial (volume_listing request.now volume)) (M.meaning machine.old) (M.meaning machine.new) (M.status machine.old).done (M.status machine.new).done result }
+    ensures item { IsTrue M.tells → (volume : Volume) → slice_get (M.meaning machine.old).state.volumes v ≡ Some volume → info.now ≡ volume_info volume → DoesItem M.tells_prints (listing_item card (codes "LISTVTOC") (Object.Volume info.now.serial) (volume_listing request.now volume)) (M.meaning machine.old) (M.meaning machine.new) (M.status machine.old).done (M.status machine.new).done result }
     ensures small { IfOk result (λ code. code ≤ 16) }
     ensures promise { IsTrue M.tells → Keeps (M.meaning machine.old).clock (M.promise machine.old) (M.promise machine.new) }
     ensures faults { RunCall false (M.status machine.old) (M.status machine.new) result }
 {
     let outcome = say_volume(alloc, machine, v, info, request)?;
-    report_outcome(alloc, machine, card, &info.serial, outcome)
+    let object = Object::Volume(info.serial);
+    report_outcome(alloc, machine, card, "LISTVTOC", &object, outcome)
+}
+
+// Lists the directories that are asked for, if their volume is there, and answers the statement.
+fn answer_pds<M: Machine>(
+    alloc: Global,
+    machine: &mut M,
+    card: u32,
+    request: &ListPds,
+) -> Result<u8, Stop>
+    requires sound { IsTrue (M.status machine.old).is_sound }
+    requires closed { IsFalse (M.status machine.old).is_open }
+    ensures item { IsTrue M.tells → DoesItem M.tells_prints (pds_item card request.now (volume_for (M.meaning machine.old).state request.now.volume)) (M.meaning machine.old) (M.meaning machine.new) (M.status machine.old).done (M.status machine.new).done result }
+    ensures small { IfOk result (λ code. code ≤ 16) }
+    ensures promise { IsTrue M.tells → Keeps (M.meaning machine.old).clock (M.promise machine.old) (M.promise machine.new) }
+    ensures faults { RunCall false (M.status machine.old) (M.status machine.new) result }
+{
+    match volume_for(machine, request.volume) {
+        Some((v, _)) => list_directories(alloc, machine, card, v, request),
+        None => {
+            let object = Object::Name(request.first);
+            report_no_volume(alloc, machine, card, "LISTPDS", &object)
+        }
+    }
+}
+
+// Lists directories of a volume, and answers the statement.
+fn list_directories<M: Machine>(
+    alloc: Global,
+    machine: &mut M,
+    card: u32,
+    v: u8,
+    request: &ListPds,
+) -> Result<u8, Stop>
+    requires sound { IsTrue (M.status machine.old).is_sound }
+    requires closed { IsFalse (M.status machine.old).is_open }
+    ensures item { IsTrue M.tells → (volume : Volume) → slice_get (M.meaning machine.old).state.volumes v ≡ Some volume → DoesItem M.tells_prints (directories_item card (pds_listing volume request.now.first request.now.others)) (M.meaning machine.old) (M.meaning machine.new) (M.status machine.old).done (M.status machine.new).done result }
+    ensures small { IfOk result (λ code. code ≤ 16) }
+    ensures promise { IsTrue M.tells → Keeps (M.meaning machine.old).clock (M.promise machine.old) (M.promise machine.new) }
+    ensures faults { RunCall false (M.status machine.old) (M.status machine.new) result }
+{
+    let answer = say_directories(alloc, machine, v, request)?;
+    let object = Object::Name(answer.dsn);
+    report_outcome(alloc, machine, card, "LISTPDS", &object, answer.outcome)
 }
 
 // Answers a statement.
@@ -180,18 +255,18 @@ fn report_outcome<M: Machine>(
     alloc: Global,
     machine: &mut M,
     card: u32,
-    serial: &Serial,
+    operation: &str,
+    object: &Object,
     outcome: Outcome,
 ) -> Result<u8, Stop>
     requires sound { IsTrue (M.status machine.old).is_sound }
     requires closed { IsFalse (M.status machine.old).is_open }
-    ensures item { IsTrue M.tells → DoesItem M.tells_prints (listing_item card serial.now (record { lines = []; outcome = outcome })) (M.meaning machine.old) (M.meaning machine.new) (M.status machine.old).done (M.status machine.new).done result }
+    ensures item { IsTrue M.tells → DoesItem M.tells_prints (listing_item card operation.now object.now (record { lines = []; outcome = outcome })) (M.meaning machine.old) (M.meaning machine.new) (M.status machine.old).done (M.status machine.new).done result }
     ensures small { IfOk result (λ code. code ≤ 16) }
     ensures promise { IsTrue M.tells → Keeps (M.meaning machine.old).clock (M.promise machine.old) (M.promise machine.new) }
     ensures faults { RunCall false (M.status machine.old) (M.status machine.new) result }
 {
-    let object = Object::Volume(*serial);
-    match item_line(alloc, card, "LISTVTOC", &object, outcome) {
+    match item_line(alloc, card, operation, object, outcome) {
         Ok(line) => report(machine, &line, outcome.code()),
         Err(AllocError) => Err(Stop::Memory),
     }
@@ -202,11 +277,12 @@ fn report_no_volume<M: Machine>(
     alloc: Global,
     machine: &mut M,
     card: u32,
-    serial: &Serial,
+    operation: &str,
+    object: &Object,
 ) -> Result<u8, Stop>
     requires sound { IsTrue (M.status machine.old).is_sound }
     requires closed { IsFalse (M.status machine.old).is_open }
-    ensures item { IsTrue M.tells → DoesItem M.tells_prints (listing_item card serial.now (record { lines = []; outcome = Outcome.Refused Refusal.NoVolume })) (M.meaning machine.old) (M.meaning machine.new) (M.status machine.old).done (M.status machine.new).done result }
+    ensures item { IsTrue M.tells → DoesItem M.tells_prints (no_volume_item card operation.now object.now) (M.meaning machine.old) (M.meaning machine.new) (M.status machine.old).done (M.status machine.new).done result }
     ensures small { IfOk result (λ code. code ≤ 16) }
     ensures promise { IsTrue M.tells → Keeps (M.meaning machine.old).clock (M.promise machine.old) (M.promise machine.new) }
     ensures faults { RunCall false (M.status machine.old) (M.status machine.new) result }
@@ -215,7 +291,8 @@ fn report_no_volume<M: Machine>(
         alloc,
         machine,
         card,
-        serial,
+        operation,
+        object,
         Outcome::Refused(Refusal::NoVolume),
     )
 }

@@ -1,1 +1,3 @@
+mod MemberLemmas
+mod MemberNames
 mod StepLemmas

@@ -1,5 +1,5 @@
 -- What statements do, case by case.
-use Rattle.std.proofs.Common.{◌≡◌, ℕ, Bool, true, false, cond, not, ◌&&◌, List, [], ◌∷◌, refl, sym, ◌∙◌, ap, subst}
+use Rattle.std.proofs.Common.{◌≡◌, ℕ, Bool, true, false, cond, not, List, [], ◌∷◌, refl, sym, ◌∙◌, ap, subst}
 use Rattle.std.specs.Prelude.{Option, Some, None, Result, Ok, Err, IsErr, option_map}
 use Rattle.std.specs.Map.{lookup}
 use Rattle.stop_model.specs.Moments.{Meaning}
@@ -8,7 +8,6 @@ use Rattle.vol_model.specs.Events.{Item}
 use Rattle.vol_model.specs.Runs.{Works}
 use Rattle.util_steps.specs.Items.{DoesItem, items_along}
 use Rattle.util_steps.proofs.Reporting.{item_after, item_for, item_stopped, lines_item}
-use Rattle.util_syntax.specs.declared.listing.Object.TheVariants as object
 use Rattle.util_syntax.specs.declared.step.StepIn.{StepIn}
 use Rattle.util_syntax.specs.Items.{ItemView}
 use Rattle.util_syntax.specs.Listing.{item_line}
@@ -18,19 +17,23 @@ use Rattle.std.specs.Option.{option_map_or}
 use Rattle.std.specs.Ordering.{is_lt, nat_cmp}
 use Rattle.std.specs.Cmp.Lexicographic.{slice_cmp}
 use Rattle.ebcdic_names.specs.declared.names.Dsn.{Dsn}
+use Rattle.ebcdic_names.specs.declared.names.Name8.{Name8}
 use Rattle.vol_model.specs.declared.answers.SetInfo.{SetInfo}
+use Rattle.vol_model.specs.declared.contents.Body.TheVariants as bodies
 use Rattle.vol_model.specs.declared.contents.DataSet.{DataSet}
+use Rattle.vol_model.specs.declared.contents.Entry.{Entry}
 use Rattle.vol_model.specs.declared.contents.Shelf.{Shelf}
-use Rattle.vol_model.specs.declared.refusals.Refusal.TheVariants.{NoVolume}
+use Rattle.vol_model.specs.declared.refusals.Refusal.{Refusal}
+use Rattle.vol_model.specs.declared.refusals.Refusal.TheVariants.{NoSet, NoVolume, WrongKind}
 use Rattle.vol_model.specs.declared.requests.Op.TheVariants as ops
-use Rattle.vol_model.specs.Did.{Did, answered}
-use Rattle.vol_model.specs.Reading.{set_info}
-use Rattle.vol_model.specs.Shelf.{number_of}
-use Rattle.vol_model.specs.Writing.{set_on}
+use Rattle.vol_model.specs.Did.{answered}
+use Rattle.vol_model.specs.Reading.{entries_in, set_info}
+use Rattle.vol_model.specs.Shelf.{is_partitioned, number_of, on_found, refuse}
+use Rattle.vol_model.specs.Writing.{body_on, set_on}
 use Rattle.util_syntax.specs.declared.listing.Outcome.{Outcome}
 use Rattle.util_syntax.specs.declared.listing.Outcome.TheVariants as outcome
 use Rattle.iehprogm_util.specs.declared.requests.Request.{Request}
-use Rattle.iehprogm_util.specs.Items.{data_set, iehprogm_items, is_unexpired, items_if, operation_word, performed, request_item, scratched, serial_in, statement_item, steps_of, steps_on}
+use Rattle.iehprogm_util.specs.Items.{entry_in, iehprogm_items, is_unexpired, items_if, member_on, object_of, operation_word, performed, request_item, scratched, serial_in, statement_item, steps_of, steps_on}
 
 -- whether a data set is unexpired, by what a machine tells of it in short
 pub unexpired_by : (date : List ℕ) (o : Option DataSet) (info : SetInfo) → Some info ≡ option_map set_info o → is_lt (slice_cmp nat_cmp date info.attr.expires) ≡ option_map_or (is_unexpired date) o false
@@ -54,6 +57,44 @@ module _ (date : List ℕ) (shelf : Shelf) (v : ℕ) (dsn : Dsn) where
   unfolding scratched
   purged = refl
 
+-- the entry of a member, by what a machine tells of its data set in short
+module _ (shelf : Shelf) (v : ℕ) (dsn : Dsn) (name : Name8) where
+  abbrev of_set : Option DataSet → Result Entry Refusal
+  of_set found = on_found found (λ x. refuse (not (is_partitioned dsn.bytes x.attr)) WrongKind (entry_in name (entries_in x.body)))
+
+  -- the set isn't there
+  pub member_nowhere : None ≡ option_map set_info (set_on shelf v dsn.bytes) → Err NoSet ≡ member_on shelf v dsn name
+  unfolding member_on
+  member_nowhere told = by_set (set_on shelf v dsn.bytes) told
+    where
+      by_set : (o : Option DataSet) → None ≡ option_map set_info o → Err NoSet ≡ of_set o
+      by_set None is = refl
+      by_set (Some x) is = let never : ⊥ = cc in absurd never
+
+  -- it isn't partitioned
+  pub member_elsewhere : (info : SetInfo) → Some info ≡ option_map set_info (set_on shelf v dsn.bytes) → is_partitioned dsn.bytes info.attr ≡ false → Err WrongKind ≡ member_on shelf v dsn name
+  unfolding member_on set_info
+  member_elsewhere info told kind = by_set (set_on shelf v dsn.bytes) told
+    where
+      by_set : (o : Option DataSet) → Some info ≡ option_map set_info o → Err WrongKind ≡ of_set o
+      by_set None is = let never : ⊥ = cc in absurd never
+      by_set (Some x) is =
+          let same : info ≡ set_info x = cc in
+          let other : is_partitioned dsn.bytes x.attr ≡ false = ap (λ (i : SetInfo). is_partitioned dsn.bytes i.attr) (sym same) ∙ kind in
+          ap (λ (t : Bool). refuse (not t) WrongKind (entry_in name (entries_in x.body))) (sym other)
+
+  -- it has a directory
+  pub member_there : (info : SetInfo) → Some info ≡ option_map set_info (set_on shelf v dsn.bytes) → is_partitioned dsn.bytes info.attr ≡ true → entry_in name (entries_in (body_on shelf v dsn.bytes)) ≡ member_on shelf v dsn name
+  unfolding member_on set_info body_on
+  member_there info told kind = by_set (set_on shelf v dsn.bytes) told
+    where
+      by_set : (o : Option DataSet) → Some info ≡ option_map set_info o → entry_in name (entries_in (option_map_or (λ (x : DataSet). x.body) o bodies.Other)) ≡ of_set o
+      by_set None is = let never : ⊥ = cc in absurd never
+      by_set (Some x) is =
+          let same : info ≡ set_info x = cc in
+          let own : is_partitioned dsn.bytes x.attr ≡ true = ap (λ (i : SetInfo). is_partitioned dsn.bytes i.attr) (sym same) ∙ kind in
+          ap (λ (t : Bool). refuse (not t) WrongKind (entry_in name (entries_in x.body))) (sym own)
+
 module _ (date : List ℕ) (shelf : Shelf) (request : Request) where
   -- the volume is there
   pub steps_found : (v : ℕ) → Some v ≡ number_of shelf (serial_in request).bytes → steps_of date shelf request ≡ steps_on date shelf v request
@@ -69,7 +110,7 @@ module _ (date : List ℕ) (shelf : Shelf) (request : Request) where
 
 -- the line that answers a statement
 abbrev pub line_for : ℕ → Request → Outcome → List ℕ
-line_for card request o = item_line card (operation_word request) (object.Name (data_set request)) o
+line_for card request o = item_line card (operation_word request) (object_of request) o
 
 module _ (date : List ℕ) (card : ℕ) (request : Request) {tells : Bool} {old : Meaning Shelf} where
   -- the steps of a statement are stopped, or its line isn't printed

@@ -1,4 +1,5 @@
-//! IEHPROGM, which renames and scratches data sets (Utilities GC28-6586, in this project's profile).
+//! IEHPROGM, which renames and scratches data sets and members (Utilities GC28-6586, in this
+//! project's profile).
 #![tactic(auto)]
 
 mod program;

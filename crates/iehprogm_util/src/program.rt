@@ -7,14 +7,14 @@ ghost use Rattle.util_steps.specs.Items.{DoesItem, items_along};
 ghost use Rattle.util_syntax.specs.Items.{item_view};
 ghost use Rattle.util_syntax.specs.Program.{no_dd_item, syntax_item, sysin};
 ghost use Rattle.iehprogm_util.specs.Items.{iehprogm_items, request_item, statement_item};
+ghost use Rattle.iehprogm_util.specs.Requests.{IsLawfulRequest};
 
 use crate::requests::{Request, request_of};
 use crate::steps::do_request;
 use std::alloc::{AllocError, Global};
 use util_steps::{Items, report, run_items};
 use util_syntax::{
-    Item, Object, Outcome, SYSIN, StepIn, SynErr, item_line, no_dd_line, syntax_line,
-    sysin_statements,
+    Item, Outcome, SYSIN, StepIn, SynErr, item_line, no_dd_line, syntax_line, sysin_statements,
 };
 use vol_model::{Machine, Stop};
 
@@ -25,8 +25,13 @@ use vol_model::{Machine, Stop};
 /// statement is done and then answered by one line, in the order of the cards:
 ///
 /// - `RENAME DSNAME=old,VOL=dev=serial,NEWNAME=new` gives a data set another name.
+/// - `RENAME DSNAME=dsn,VOL=dev=serial,MEMBER=old,NEWNAME=new` renames a member of a partitioned
+///   set: its entry is entered under the new name, which no member may have yet, and then dropped
+///   under the old one. So the directory needs room for both, else it is `DIR-FULL`.
 /// - `SCRATCH DSNAME=dsn,VOL=dev=serial[,PURGE]` lets a data set go; without PURGE one whose expiration date is later
 ///   than the date of the run is `EXPIRES`.
+/// - `SCRATCH DSNAME=dsn,VOL=dev=serial,MEMBER=member[,PURGE]` drops the entry of a member; when the
+///   set expires isn't asked.
 ///
 /// A refusal has code 8. Any other statement, and one without these operands, is `SYNTAX BAD-OPERAND` with 12, and the
 /// next statement is done all the same.
@@ -130,14 +135,14 @@ fn answer<M: Machine>(
 ) -> Result<u8, Stop>
     requires sound { IsTrue (M.status machine.old).is_sound }
     requires closed { IsFalse (M.status machine.old).is_open }
+    requires lawful { IsLawfulRequest request.now }
     ensures item { IsTrue M.tells → DoesItem M.tells_prints (request_item date.now (M.meaning machine.old).state card request.now) (M.meaning machine.old) (M.meaning machine.new) (M.status machine.old).done (M.status machine.new).done result }
     ensures small { IfOk result (λ code. code ≤ 16) }
     ensures promise { IsTrue M.tells → Keeps (M.meaning machine.old).clock (M.promise machine.old) (M.promise machine.new) }
     ensures faults { RunCall false (M.status machine.old) (M.status machine.new) result }
 {
     let outcome = Outcome::of(do_request(machine, date, request)?);
-    let object = Object::Name(request.data_set());
-    match item_line(alloc, card, request.operation(), &object, outcome) {
+    match item_line(alloc, card, request.operation(), &request.object(), outcome) {
         Ok(line) => report(machine, &line, outcome.code()),
         Err(AllocError) => Err(Stop::Memory),
     }

@@ -7,6 +7,7 @@ use Rattle.card_text.specs.Operands.{keyed}
 use Rattle.card_text.specs.Values.{is_word, text_of}
 use Rattle.jcl_forms.specs.Attributes.{attributes_of, new_value, no_attributes}
 use Rattle.jcl_forms.specs.Dates.{expiry_of}
+use Rattle.jcl_forms.specs.SpaceRequest.{space_of}
 use Rattle.jcl_forms.specs.Volume.{volume_of}
 use Rattle.jcl_forms.specs.declared.data_set.DdPart.{DdPart}
 use Rattle.jcl_forms.specs.declared.disposition.DdStatus.TheVariants.{New}
@@ -14,7 +15,7 @@ use Rattle.jcl_forms.specs.declared.disposition.DdAfter.TheVariants.{Delete}
 use Rattle.job_deck.specs.Faults.{fault_at}
 use Rattle.job_deck.specs.Pieces.{is_unbalanced_piece, pieces, with_continuation}
 use Rattle.job_deck.specs.Statements.{is_text, is_either}
-use Rattle.job_deck.specs.Taken.{whole_set_of, plain_disposition_of, plain_space_of}
+use Rattle.job_deck.specs.Taken.{named_set_of, plain_disposition_of}
 use Rattle.job_deck.specs.declared.faults.JclErr.{JclErr}
 use Rattle.job_deck.specs.declared.faults.JclKind.TheVariants.{BadOperand, Unbalanced}
 use Rattle.job_deck.specs.declared.statements.Joined.{Joined}
@@ -45,11 +46,11 @@ dd_key_of text =
 
 -- operands with a value for one of them, which has none yet
 unfoldable pub with_dd_value : List ℕ → DdOperands → DdKey → List Mark → Option DdOperands
-with_dd_value date operands key.Dsn value = option_map (λ v. record operands { dsn = Some v }) (new_value operands.dsn (whole_set_of (text_of value)))
+with_dd_value date operands key.Dsn value = option_map (λ v. record operands { dsn = Some v }) (new_value operands.dsn (named_set_of (text_of value)))
 with_dd_value date operands key.Disp value = option_map (λ v. record operands { disp = Some v }) (new_value operands.disp (plain_disposition_of (text_of value)))
 with_dd_value date operands key.Volume value = option_map (λ v. record operands { serial = Some v }) (new_value operands.serial (volume_of (text_of value)))
 with_dd_value date operands key.Unit value = if not operands.unit && is_word value then Some (record operands { unit = true }) else None
-with_dd_value date operands key.Space value = option_map (λ v. record operands { space = Some v }) (new_value operands.space (plain_space_of (text_of value)))
+with_dd_value date operands key.Space value = option_map (λ v. record operands { space = Some v }) (new_value operands.space (space_of (text_of value)))
 with_dd_value date operands key.Dcb value = option_map (λ v. record operands { dcb = Some v }) (new_value operands.dcb (attributes_of (text_of value)))
 with_dd_value date operands key.Label value = option_map (λ v. record operands { expires = Some v }) (new_value operands.expires (expiry_of date (text_of value)))
 

@@ -1,5 +1,5 @@
--- What a DD takes so far: whole data sets without a directory, which the step keeps or scratches, and no new catalog.
-use Rattle.std.specs.Prelude.{ℕ, ◌==◌, Bool, false, true, ◌&&◌, if◌then◌else◌, List, [], ◌∷◌, codes, find, Option, Some, None, option_and_then}
+-- What a DD takes so far: data sets and their members, which the step keeps or scratches, but no generation and no new catalog.
+use Rattle.std.specs.Prelude.{ℕ, Bool, false, true, ◌&&◌, if◌then◌else◌, List, [], ◌∷◌, codes, find, Option, Some, None, option_and_then}
 use Rattle.std.specs.List.{list_any}
 use Rattle.std.specs.Option.{option_map_or}
 use Rattle.ebcdic_names.specs.declared.names.Dsn.{Dsn}
@@ -8,14 +8,12 @@ use Rattle.card_text.specs.Operands.{keyed}
 use Rattle.card_text.specs.Values.{text_of}
 use Rattle.jcl_forms.specs.DataSet.{data_set_of}
 use Rattle.jcl_forms.specs.Disposition.{disposition_of}
-use Rattle.jcl_forms.specs.SpaceRequest.{space_of}
 use Rattle.jcl_forms.specs.declared.data_set.DdPart.{DdPart}
 use Rattle.jcl_forms.specs.declared.data_set.DdPart.TheVariants.{Whole, Member, Generation}
 use Rattle.jcl_forms.specs.declared.disposition.DdStatus.{DdStatus}
 use Rattle.jcl_forms.specs.declared.disposition.DdStatus.TheVariants.{New, Old, Shr, Mod}
 use Rattle.jcl_forms.specs.declared.disposition.DdAfter.{DdAfter}
 use Rattle.jcl_forms.specs.declared.disposition.DdAfter.TheVariants.{Delete, Keep, Catlg, Uncatlg}
-use Rattle.jcl_forms.specs.declared.space.Space.{Space}
 use Rattle.job_deck.specs.Faults.{fault_at}
 use Rattle.job_deck.specs.Statements.{is_text, is_either}
 use Rattle.job_deck.specs.declared.faults.JclErr.{JclErr}
@@ -26,15 +24,15 @@ use Rattle.job_deck.specs.declared.operands.Piece.{Piece}
 abbrev pub taken : {A : Type 0} → (A → Bool) → Option A → Option A
 taken test value = option_and_then (λ v. if test v then Some v else None) value
 
--- the set itself, and no member or generation
-abbrev pub is_whole : DdPart → Bool
-is_whole Whole = true
-is_whole (Member name) = false
-is_whole (Generation n) = false
+-- the set itself or a member, and no generation
+abbrev pub is_of_one_set : DdPart → Bool
+is_of_one_set Whole = true
+is_of_one_set (Member name) = true
+is_of_one_set (Generation n) = false
 
--- the value of a DSN that names a whole set
-unfoldable pub whole_set_of : List ℕ → Option (Dsn × DdPart)
-whole_set_of text = taken (λ named. is_whole named.1) (data_set_of text)
+-- the value of a DSN that names a set or a member of it
+unfoldable pub named_set_of : List ℕ → Option (Dsn × DdPart)
+named_set_of text = taken (λ named. is_of_one_set named.1) (data_set_of text)
 
 -- nothing is done in the catalog
 abbrev pub leaves_catalog : DdAfter → Bool
@@ -46,13 +44,6 @@ leaves_catalog Uncatlg = false
 -- the value of a DISP that leaves the catalog as it is
 unfoldable pub plain_disposition_of : List ℕ → Option (DdStatus × DdAfter)
 plain_disposition_of text = taken (λ d. leaves_catalog d.1) (disposition_of text)
-
-abbrev pub has_no_directory : Space → Bool
-has_no_directory space = space.dir == 0
-
--- the value of a SPACE that asks for no directory
-unfoldable pub plain_space_of : List ℕ → Option Space
-plain_space_of text = taken has_no_directory (space_of text)
 
 -- DSN=SYSCTLG
 abbrev pub is_catalog_name : Option (List Mark × List Mark) → Bool

@@ -11,10 +11,12 @@ use crate::faults::{JclErr, JclKind, fault_at};
 use crate::job::DdSet;
 use crate::operands::{Piece, is_unbalanced_piece, pieces, with_continuation};
 use crate::statements::{Joined, is_either};
-use crate::taken::{plain_disposition_of, plain_space_of, whole_set_of};
+use crate::taken::{named_set_of, plain_disposition_of};
 use card_text::{Mark, is_word, keyed, missing_place, text_of};
 use ebcdic_names::{Dsn, Serial};
-use jcl_forms::{Dcb, DdAfter, DdPart, DdStatus, Space, attributes_of, expiry_of, volume_of};
+use jcl_forms::{
+    Dcb, DdAfter, DdPart, DdStatus, Space, attributes_of, expiry_of, space_of, volume_of,
+};
 use std::alloc::{AllocError, Global};
 
 // A keyword of DD.
@@ -114,10 +116,10 @@ fn with_dd_value(
 {
     let mut operands = operands;
     match key {
-        DdKey::Dsn => operands.dsn = Some(new_value(operands.dsn, whole_set_of(text))?),
+        DdKey::Dsn => operands.dsn = Some(new_value(operands.dsn, named_set_of(text))?),
         DdKey::Disp => operands.disp = Some(new_value(operands.disp, plain_disposition_of(text))?),
         DdKey::Volume => operands.serial = Some(new_value(operands.serial, volume_of(text))?),
-        DdKey::Space => operands.space = Some(new_value(operands.space, plain_space_of(text))?),
+        DdKey::Space => operands.space = Some(new_value(operands.space, space_of(text))?),
         DdKey::Dcb => operands.dcb = Some(new_value(operands.dcb, attributes_of(text))?),
         DdKey::Label => {
             operands.expires = Some(new_value(operands.expires, expiry_of(date, text))?);

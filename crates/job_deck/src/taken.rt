@@ -1,10 +1,11 @@
-//! What a DD takes so far: whole data sets without a directory, which the step keeps or scratches, and no new catalog.
+//! What a DD takes so far: data sets and their members, which the step keeps or scratches, but no generation and no new
+//! catalog.
 ghost use Rattle.std.specs.Prelude.{◌≡◌, ◌++◌, [], ◌∷◌, find, option_map, IfOk, OnOk};
 ghost use Rattle.std.specs.List.{list_any};
 ghost use Rattle.std.specs.Option.{option_map_or};
 ghost use Rattle.card_text.specs.Operands.{keyed};
 ghost use Rattle.job_deck.specs.Faults.{fault_at};
-ghost use Rattle.job_deck.specs.Taken.{is_whole, whole_set_of, leaves_catalog, plain_disposition_of, has_no_directory, plain_space_of, is_catalog_name, names_catalog, is_old, is_old_disposition, asks_for_old, new_catalog_faults};
+ghost use Rattle.job_deck.specs.Taken.{is_of_one_set, named_set_of, leaves_catalog, plain_disposition_of, is_catalog_name, names_catalog, is_old, is_old_disposition, asks_for_old, new_catalog_faults};
 ghost use Rattle.job_deck.specs.declared.faults.JclKind.TheVariants.{BadOperand};
 
 use crate::faults::{JclErr, JclKind, fault_at};
@@ -12,22 +13,26 @@ use crate::operands::Piece;
 use crate::statements::is_either;
 use card_text::{CardColumn, keyed, text_of};
 use ebcdic_names::Dsn;
-use jcl_forms::{DdAfter, DdPart, DdStatus, Space, data_set_of, disposition_of, space_of};
+use jcl_forms::{DdAfter, DdPart, DdStatus, data_set_of, disposition_of};
 use std::alloc::{AllocError, Global};
 
-fn is_whole(part: DdPart) -> bool
-    ensures { result ≡ is_whole part }
+fn is_of_one_set(part: DdPart) -> bool
+    ensures { result ≡ is_of_one_set part }
 {
-    matches!(part, DdPart::Whole)
+    matches!(part, DdPart::Whole | DdPart::Member(_))
 }
 
-// The value of a DSN, which names no member and no generation.
-#[tactic(auto, unfolding(crate::specs::Taken::whole_set_of))]
-pub fn whole_set_of(text: &[u8]) -> Option<(Dsn, DdPart)>
-    ensures { result ≡ whole_set_of text.now }
+// The value of a DSN, which names no generation.
+#[tactic(auto, unfolding(crate::specs::Taken::named_set_of))]
+pub fn named_set_of(text: &[u8]) -> Option<(Dsn, DdPart)>
+    ensures { result ≡ named_set_of text.now }
 {
     let named = data_set_of(text)?;
-    if is_whole(named.1) { Some(named) } else { None }
+    if is_of_one_set(named.1) {
+        Some(named)
+    } else {
+        None
+    }
 }
 
 fn leaves_catalog(after: DdAfter) -> bool
@@ -47,15 +52,6 @@ pub fn plain_disposition_of(text: &[u8]) -> Option<(DdStatus, DdAfter)>
     } else {
         None
     }
-}
-
-// The value of a SPACE, which asks for no directory.
-#[tactic(auto, unfolding(crate::specs::Taken::plain_space_of))]
-pub fn plain_space_of(text: &[u8]) -> Option<Space>
-    ensures { result ≡ plain_space_of text.now }
-{
-    let space = space_of(text)?;
-    if space.dir == 0 { Some(space) } else { None }
 }
 
 // Whether an operand is DSN=SYSCTLG.

@@ -95,7 +95,7 @@ fn faults_stand_at_their_columns(rt: HostRuntime) -> Result<(), Fail> {
             JclKind::BadOperand,
         ),
         (
-            "//J1 JOB\n//S1 EXEC PGM=A\n//D1 DD DSN=A(M)",
+            "//J1 JOB\n//S1 EXEC PGM=A\n//D1 DD DSN=A(MEMBERTOO)",
             3,
             9,
             JclKind::BadOperand,
@@ -114,12 +114,6 @@ fn faults_stand_at_their_columns(rt: HostRuntime) -> Result<(), Fail> {
         ),
         (
             "//J1 JOB\n//S1 EXEC PGM=A\n//D1 DD DISP=(,UNCATLG)",
-            3,
-            9,
-            JclKind::BadOperand,
-        ),
-        (
-            "//J1 JOB\n//S1 EXEC PGM=A\n//D1 DD SPACE=(TRK,(1,1,1))",
             3,
             9,
             JclKind::BadOperand,

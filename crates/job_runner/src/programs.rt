@@ -10,6 +10,9 @@ use std::alloc::Global;
 use util_syntax::StepIn;
 use vol_model::{Machine, Stop};
 
+// IEBCOPY in EBCDIC.
+const IEBCOPY: [u8; 8] = [0xC9, 0xC5, 0xC2, 0xC3, 0xD6, 0xD7, 0xE8, 0x40];
+
 // IEBGENER in EBCDIC.
 const IEBGENER: [u8; 8] = [0xC9, 0xC5, 0xC2, 0xC7, 0xC5, 0xD5, 0xC5, 0xD9];
 
@@ -27,12 +30,14 @@ const IEHPROGM: [u8; 8] = [0xC9, 0xC5, 0xC8, 0xD7, 0xD9, 0xD6, 0xC7, 0xD4];
 pub enum Program {
     /// IEFBR14, which does nothing.
     Iefbr14,
-    /// IEHPROGM, which renames and scratches data sets.
+    /// IEHPROGM, which renames and scratches data sets and members.
     Iehprogm,
-    /// IEHLIST, which lists volumes.
+    /// IEHLIST, which lists volumes and directories.
     Iehlist,
     /// IEBGENER, which copies records.
     Iebgener,
+    /// IEBCOPY, which copies members.
+    Iebcopy,
 }
 
 /// The program of a name, if there is one.
@@ -48,6 +53,8 @@ pub fn program_named(name: &Name8) -> Option<Program>
         Some(Program::Iehlist)
     } else if name.bytes == IEBGENER {
         Some(Program::Iebgener)
+    } else if name.bytes == IEBCOPY {
+        Some(Program::Iebcopy)
     } else {
         None
     }
@@ -72,5 +79,6 @@ pub fn run_program<M: Machine>(
         Program::Iehprogm => iehprogm_util::run(alloc, machine, step),
         Program::Iehlist => iehlist_util::run(alloc, machine, step),
         Program::Iebgener => iebgener_util::run(alloc, machine, step),
+        Program::Iebcopy => iebcopy_util::run(alloc, machine, step),
     }
 }

@@ -42,12 +42,12 @@ one_track g vtoc before after k low others = same_tracks g vtoc before after (λ
 
 module _ {X : Type 0} where
   -- what is the same for each number of a range
-  map_range : (f h : ℕ → X) (n low : ℕ) → ((k : ℕ) → low ≤ k → k < low + n → f k ≡ h k) → map f (range_with_len low n) ≡ map h (range_with_len low n)
+  pub map_range : (f h : ℕ → X) (n low : ℕ) → ((k : ℕ) → low ≤ k → k < low + n → f k ≡ h k) → map f (range_with_len low n) ≡ map h (range_with_len low n)
   map_range f h zero low same = refl
   map_range f h (suc n) low same = ap₂ (λ (x : X) (xs : List X). x ∷ xs) (same low (omega arith) (omega arith)) (map_range f h n (low + 1) (λ k l u. same k (omega arith) (omega arith)))
 
   -- where none of a range gives nothing, each gives something
-  all_there : (f : ℕ → Option X) (n low : ℕ) → list_any (λ o. is_none o) (map f (range_with_len low n)) ≡ false → (k : ℕ) → low ≤ k → k < low + n → is_none (f k) ≡ false
+  pub all_there : (f : ℕ → Option X) (n low : ℕ) → list_any (λ o. is_none o) (map f (range_with_len low n)) ≡ false → (k : ℕ) → low ≤ k → k < low + n → is_none (f k) ≡ false
   all_there f zero low none k l u = absurd (omega arith)
   all_there f (suc n) low none k l u =
       let parts = neither (is_none (f low)) (list_any (λ o. is_none o) (map f (range_with_len (low + 1) n))) none in
@@ -56,7 +56,7 @@ module _ {X : Type 0} where
         | inr w ↦ all_there f n (low + 1) parts.1 k (omega (arith, l, w.1)) (omega (arith, u))
       ]
 
-  front_there : (xs ys : List X) (k : ℕ) (x : X) → slice_get xs k ≡ Some x → slice_get (xs ++ ys) k ≡ Some x
+  pub front_there : (xs ys : List X) (k : ℕ) (x : X) → slice_get xs k ≡ Some x → slice_get (xs ++ ys) k ≡ Some x
   front_there [] ys k x is = cc
   front_there (z ∷ xs) ys zero x is = is
   front_there (z ∷ xs) ys (suc k) x is = front_there xs ys k x is

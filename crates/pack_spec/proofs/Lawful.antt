@@ -42,10 +42,13 @@ use Rattle.pack_spec.specs.Slots.{slots_of_vtoc, track_faults}
 use Rattle.pack_spec.specs.Rules.{content_fault, counted_extents, extents_fault, front_faults, has_chain, has_extents, has_types, is_f4, name_faults, set_in, slot_fault, slot_faults, slots_faults}
 use Rattle.pack_spec.specs.Owned.{overlap_faults, room_faults, volume_faults}
 use Rattle.pack_spec.specs.Blocks.{data_tracks, seq_body}
+use Rattle.pack_spec.specs.Directories.{part_body}
 use Rattle.pack_spec.specs.Bodies.{body_of, catalog_of}
 use Rattle.pack_spec.specs.Volume.{attr_of, counted_runs, data_set_of, data_sets_in, secondary_of, unless, volume_by, volume_of, volume_on, volume_with, volume_within, vtoc_fault}
 use Rattle.pack_spec.proofs.FirstFaults.{cons_option-none, first_append-both}
 use Rattle.pack_spec.proofs.SetNames.{all_sets, distinct_sets, names_apart}
+use Rattle.pack_spec.proofs.PartBodies.{part_or_unread}
+use Rattle.pack_spec.proofs.PartLawful.{lawful_part}
 use Rattle.pack_spec.proofs.SeqBodies.{lawful_seq, seq_or_unread}
 use Rattle.pack_spec.proofs.SlotCounts.{few_slots}
 use Rattle.pack_spec.proofs.OwnedAmounts.{few_owned}
@@ -58,10 +61,11 @@ module _ (g : Geometry) (tracks : List (List ℕ)) (name : List ℕ) (attr : Att
   unfolding body_of
   kind_of_body = by_tests (is_catalog name) (is_sequential name attr) (is_partitioned name attr) refl refl refl
     where
-      by_tests : (c s p : Bool) → is_catalog name ≡ c → is_sequential name attr ≡ s → is_partitioned name attr ≡ p → is_of_kind name attr (cond s (seq_body g tracks extents lstar) (cond (c || p) (Unreadable 0) Other)) ≡ true
+      by_tests : (c s p : Bool) → is_catalog name ≡ c → is_sequential name attr ≡ s → is_partitioned name attr ≡ p
+          → is_of_kind name attr (cond s (seq_body g tracks extents lstar) (cond p (part_body g tracks extents lstar) (cond c (Unreadable 0) Other))) ≡ true
       by_tests c true p catalog sequential partitioned = seq_or_unread g tracks extents lstar (λ b. is_of_kind name attr b ≡ true) (λ bs. sequential) (λ k. refl)
-      by_tests true false p catalog sequential partitioned = refl
-      by_tests false false true catalog sequential partitioned = refl
+      by_tests c false true catalog sequential partitioned = part_or_unread g tracks extents lstar (λ b. is_of_kind name attr b ≡ true) (λ n end es bs. partitioned) (λ k. refl)
+      by_tests true false false catalog sequential partitioned = refl
       by_tests false false false catalog sequential partitioned =
           ap (λ (b : Bool). not (b || (is_sequential name attr || is_partitioned name attr))) catalog
           ∙ ap (λ (b : Bool). not (b || is_partitioned name attr)) sequential
@@ -69,12 +73,13 @@ module _ (g : Geometry) (tracks : List (List ℕ)) (name : List ℕ) (attr : Att
 
   lawful_body : tracks_in extents < 65535 → IsLawfulBody (tracks_in extents) (body_of g tracks name attr extents lstar)
   unfolding body_of
-  lawful_body few = by_tests (is_sequential name attr) (is_catalog name || is_partitioned name attr)
+  lawful_body few = by_tests (is_sequential name attr) (is_partitioned name attr) (is_catalog name)
     where
-      by_tests : (a b : Bool) → IsLawfulBody (tracks_in extents) (cond a (seq_body g tracks extents lstar) (cond b (Unreadable 0) Other))
-      by_tests true b = lawful_seq g tracks extents lstar few
-      by_tests false true = tt
-      by_tests false false = tt
+      by_tests : (a b c : Bool) → IsLawfulBody (tracks_in extents) (cond a (seq_body g tracks extents lstar) (cond b (part_body g tracks extents lstar) (cond c (Unreadable 0) Other)))
+      by_tests true b c = lawful_seq g tracks extents lstar few
+      by_tests false true c = lawful_part g tracks extents lstar few
+      by_tests false false true = tt
+      by_tests false false false = tt
 
 -- there is a catalog where there is a SYSCTLG, and it isn't read
 catalog_is : (sets : List DataSet) → list_any (has_name catalog_name) sets ≡ is_some (catalog_of sets)

@@ -12,3 +12,14 @@ pub mod AlikeSlots
 pub mod AddressesApart
 pub mod AlikeVolumes
 pub mod FreeCases
+pub mod DirectoryCases
+pub mod FrontRecords
+pub mod PartBodies
+pub mod NameOrder
+pub mod ChainRoom
+pub mod DirectoryEntries
+pub mod PartLawful
+pub mod NewPlaces
+pub mod NewDirectories
+pub mod BodyKinds
+pub mod EndRecords

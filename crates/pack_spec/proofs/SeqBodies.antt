@@ -38,7 +38,7 @@ length-records_up_to (suc left) r bytes xs e = by (is_at_end bytes) (is_record_a
     by false stands o h e = more-records left (front_record bytes) xs false stands o h e
 
 -- at most 255 records stand on a track, to its end marker or up to a record of that number or less
-few_records : (g : Geometry) (tracks : List (List ℕ)) (last : Place) (k track : ℕ) (xs : List Record) → last.r ≤ 255 → records_in g tracks (upto_last last k) track ≡ Some xs → length xs ≤ 255
+pub few_records : (g : Geometry) (tracks : List (List ℕ)) (last : Place) (k track : ℕ) (xs : List Record) → last.r ≤ 255 → records_in g tracks (upto_last last k) track ≡ Some xs → length xs ≤ 255
 unfolding records_in records_of
 few_records g tracks last k track xs low e = by (k == last.tt) e
   where
@@ -47,16 +47,16 @@ few_records g tracks last k track xs low e = by (k == last.tt) e
     by false e = length-records_to_end 255 1 (drop 21 (slice_index_or tracks track [])) xs (taken (is_front (track / heads_of g) (track % heads_of g) (slice_index_or tracks track [])) _ xs e)
 
 -- the first block on each track from this on may stand behind a place
-abbrev IsReady : Place → ℕ → Type 0
+abbrev pub IsReady : Place → ℕ → Type 0
 IsReady p k = (j : ℕ) → k ≤ j → is_next p (record { tt = j; r = 1 }) ≡ true
 
 -- blocks on tracks from this on, behind any place that is ready
-abbrev AreBehind : ℕ → ℕ → List Block → Type 0
+abbrev pub AreBehind : ℕ → ℕ → List Block → Type 0
 AreBehind total k bs = ((p : Place) → IsReady p k → FollowFrom total p bs) × AllByRecursion IsLawfulBlock bs
 
 module _ (total : ℕ) (few : total < 65535) where
   -- one after the other on a track, and then others on later tracks
-  on_track : (k r : ℕ) (xs : List Record) (bs : List Block) (p : Place) → k < total → r + length xs ≤ 256 → is_next p (record { tt = k; r = r }) ≡ true → IsReady p (k + 1) → list_all is_block xs ≡ true → AreBehind total (k + 1) bs
+  pub on_track : (k r : ℕ) (xs : List Record) (bs : List Block) (p : Place) → k < total → r + length xs ≤ 256 → is_next p (record { tt = k; r = r }) ≡ true → IsReady p (k + 1) → list_all is_block xs ≡ true → AreBehind total (k + 1) bs
       → FollowFrom total p (blocks_from k r xs ++ bs) × AllByRecursion IsLawfulBlock (blocks_from k r xs ++ bs)
   on_track k r [] bs p low room next ready are behind = (behind.0 p ready, behind.1)
   on_track k r (x ∷ xs) bs p low room next ready are behind =
@@ -75,7 +75,7 @@ module _ (total : ℕ) (few : total < 65535) where
       later k r j past = grind (arith, nat_tests)
 
   -- the blocks on one track
-  one_track : (k : ℕ) (xs : List Record) (bs : List Block) → k < total → length xs ≤ 255 → list_all is_block xs ≡ true → AreBehind total (k + 1) bs → AreBehind total k (blocks_from k 1 xs ++ bs)
+  pub one_track : (k : ℕ) (xs : List Record) (bs : List Block) → k < total → length xs ≤ 255 → list_all is_block xs ≡ true → AreBehind total (k + 1) bs → AreBehind total k (blocks_from k 1 xs ++ bs)
   one_track k xs bs low short are behind = (
     λ p ready. (on_track k 1 xs bs p low (omega arith) (ready k (omega arith)) (λ j past. ready j (omega arith)) are behind).0,
     (on_track k 1 xs bs (record { tt = k; r = 0 }) low (omega arith) (first k) (later k) are behind).1,
@@ -97,7 +97,7 @@ module _ (total : ℕ) (few : total < 65535) where
         one k _ parts.0 (all_tracks n (k + 1) parts.1)
 
 -- as many tracks are owned as the extents have
-length-owned : (extents : List Run) → length (owned_tracks extents) ≡ places.tracks_in extents
+pub length-owned : (extents : List Run) → length (owned_tracks extents) ≡ places.tracks_in extents
 unfolding owned_tracks
 length-owned extents = length-flat_map tracks_in extents ∙ ap (λ (f : Run → ℕ). sum_by f extents) (λ i r. length-range_with_len r.start r.len i)
 

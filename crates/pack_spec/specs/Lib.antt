@@ -4,6 +4,7 @@ pub mod Slots
 pub mod Rules
 pub mod Owned
 pub mod Blocks
+pub mod Directories
 pub mod Bodies
 pub mod Volume
 pub mod Written

@@ -1,12 +1,26 @@
 -- What a stop in a change of the VTOC may leave of it, and what no stop leaves unfinished (System Control Blocks GC28-6628; the bit of an interrupted update: this project's profile).
-use Rattle.std.specs.Prelude.{◌≡◌, ◌⊎◌, ℕ, ◌==◌, ◌&&◌, ◌||◌, not, Bool, true, false, List, count_by, filter, length, map, bit_and, replicate, slice_get, unwrap_or, Option, Some, None, option_and_then, Result, Ok}
-use Rattle.std.specs.List.{last_or, list_all, list_any}
+use Rattle.std.specs.Prelude.{◌≡◌, ◌⊎◌, ℕ, ◌==◌, ◌&&◌, ◌||◌, not, Bool, true, false, List, [], ◌++◌, count_by, filter, length, map, bit_and, replicate, slice_get, unwrap_or, Option, Some, None, option_and_then, Result, Ok}
+use Rattle.std.specs.List.{flat_map, last_or, list_all, list_any}
+use Rattle.chain_spec.specs.Cut.{IsCut}
+use Rattle.chain_spec.specs.Kept.{joined, kept}
+use Rattle.chain_spec.specs.Store.{Block as Stored, stored}
+use Rattle.ckd_image.specs.declared.header.Geometry.{Geometry}
 use Rattle.dscb_codec.specs.declared.Dscb.{Dscb}
 use Rattle.dscb_codec.specs.declared.Dscb.TheVariants as formats
 use Rattle.dscb_codec.specs.declared.DscbErr.{DscbErr}
 use Rattle.dscb_codec.specs.declared.F4.{F4}
+use Rattle.vol_model.specs.declared.contents.Block.{Block}
+use Rattle.vol_model.specs.declared.contents.Body.{Body}
+use Rattle.vol_model.specs.declared.contents.Body.TheVariants.{Part}
+use Rattle.vol_model.specs.declared.contents.DataSet.{DataSet}
+use Rattle.vol_model.specs.declared.contents.Entry.{Entry}
+use Rattle.vol_model.specs.declared.contents.Place.{Place}
+use Rattle.vol_model.specs.declared.contents.Run.{Run}
 use Rattle.vol_model.specs.declared.contents.Volume.{Volume}
+use Rattle.vol_model.specs.Slots.{entry_size}
 use Rattle.pack_spec.specs.declared.slot.VtocSlot.{VtocSlot}
+use Rattle.pack_spec.specs.Blocks.{data_tracks, owned_tracks}
+use Rattle.pack_spec.specs.Directories.{before_end, name_number, part_tracks, stored_in}
 use Rattle.pack_spec.specs.FreeChain.{ListsFree, free_entries}
 use Rattle.pack_spec.specs.Rules.{is_chained, is_f3, is_led_to}
 use Rattle.pack_spec.specs.Slots.{slots_of_vtoc}
@@ -86,3 +100,32 @@ IsGuarded image = (volume : Volume) × (volume_of image ≡ Ok volume)
 abbrev pub IsSettledVtoc : List ℕ → Type 0
 IsSettledVtoc image = (volume : Volume) × (volume_of image ≡ Ok volume)
     × AreSettled (slots_for image volume) volume
+
+-- A directory in these blocks is cut as its entries need: each block takes as many of them as fit.
+pub record IsPacked (directory : List Block) : Type 0 where
+  pub blocks : List (List Entry)
+  pub behind : List (Option (Stored Entry))
+  pub store : map stored_in directory ≡ stored blocks ++ behind
+  pub cut : IsCut entry_size 254 12 blocks (kept name_number (joined blocks))
+
+-- the blocks of a directory that ends at a place, on the tracks of its data set
+abbrev pub directory_upto : Geometry → List (List ℕ) → List ℕ → Place → List Block
+directory_upto g tracks owned end = before_end end (flat_map (λ o. unwrap_or o []) (part_tracks g tracks owned end end))
+
+-- the directory of a data set with these extents and this body is packed, if it has one that can be read
+abbrev pub HasPacked : Geometry → List (List ℕ) → List Run → Body → Type 0
+HasPacked g tracks extents (Part dir end entries blocks) = IsPacked (directory_upto g tracks (owned_tracks extents) end)
+HasPacked g tracks extents body = Unit {0}
+
+-- and so that of each of these data sets
+abbrev pub HavePacked : Geometry → List (List ℕ) → List DataSet → Type 0
+HavePacked g tracks sets = (k : ℕ) (d : DataSet) → slice_get sets k ≡ Some d → HasPacked g tracks d.extents d.body
+
+-- each directory of an image that stands for a volume is packed, if it can be read
+abbrev pub ArePacked : List ℕ → Volume → Type 0
+ArePacked image volume = HavePacked volume.geometry (data_tracks image volume.geometry volume.vtoc) volume.sets
+
+-- an image that stands for a volume is settled: its VTOC is, and each directory that can be read is packed
+abbrev pub IsSettled : List ℕ → Type 0
+IsSettled image = (volume : Volume) × (volume_of image ≡ Ok volume)
+    × AreSettled (slots_for image volume) volume × ArePacked image volume

@@ -55,7 +55,7 @@ module _ (f : Tracks) where
         one_more (is_none (f low)) (k - (low + 1)) _ (nothing (f low) (some low (omega arith) past)) rest ∙ (let same : suc (k - (low + 1)) ≡ k - low = omega (arith, past) in same)
   ]
 
-  none_first : (n : ℕ) → ((j : ℕ) → j < n → f j ≢ None) → position (λ o. is_none o) (map f (range_with_len 0 n)) ≡ None
+  pub none_first : (n : ℕ) → ((j : ℕ) → j < n → f j ≢ None) → position (λ o. is_none o) (map f (range_with_len 0 n)) ≡ None
   none_first n some =
       ap₂ (λ (a b : ℕ). cond (nat_lt a b) (Some a) None) (all_passed n 0 (λ j l u. some j (omega (arith, u)))) (length-map-range_with_len f 0 n)
       ∙ ap (λ (b : Bool). cond b (Some n) None) (not_less n)
@@ -63,7 +63,7 @@ module _ (f : Tracks) where
       not_less : (n : ℕ) → nat_lt n n ≡ false
       not_less n = grind (arith, nat_tests)
 
-  first_is : (n k : ℕ) → k < n → ((j : ℕ) → j < k → f j ≢ None) → f k ≡ None → position (λ o. is_none o) (map f (range_with_len 0 n)) ≡ Some k
+  pub first_is : (n k : ℕ) → k < n → ((j : ℕ) → j < k → f j ≢ None) → f k ≡ None → position (λ o. is_none o) (map f (range_with_len 0 n)) ≡ Some k
   first_is n k low some none =
       ap₂ (λ (a b : ℕ). cond (nat_lt a b) (Some a) None) (passed_to n 0 k (omega arith) (omega (arith, low)) (λ j l u. some j u) none ∙ same k) (length-map-range_with_len f 0 n)
       ∙ ap (λ (b : Bool). cond b (Some k) None) (less k n low)

@@ -139,7 +139,7 @@ module _ (image : List ℕ) (v : Vol) (f : F1) (set : IsSetIn image v f) where
       let all = flat_map (λ (x : DataSet). x.extents) sets in
       no_more (is_in t v.vtoc) _ (owners t all) (owners t (v.vtoc ∷ all)) (owners t (runs_owned v.vtoc sets)) (once t) (owners_more t (record { start = 0; len = 1 }) (v.vtoc ∷ all)) (owners_more t v.vtoc all) (omega (arith, own t, owned_some (extents_in image v f) k t is))
 
-  records_are : (upto : Option ℕ) (k t : ℕ) → slice_get (owned_in image v f) k ≡ Some t → t < tracks_of v.geometry → records_in v.geometry (data_in image v) upto t ≡ records_on image v.geometry upto t
+  pub records_are : (upto : Option ℕ) (k t : ℕ) → slice_get (owned_in image v f) k ≡ Some t → t < tracks_of v.geometry → records_in v.geometry (data_in image v) upto t ≡ records_on image v.geometry upto t
   unfolding records_in records_on data_tracks
   records_are upto k t is inside =
       ap (records_of (t / heads_of v.geometry) (t % heads_of v.geometry) upto)

@@ -18,7 +18,7 @@ use Rattle.vtoc_index.specs.Index.{IsMounted}
 use Rattle.free_rebuild.specs.Durable.{LeavesAll}
 use Rattle.free_rebuild.specs.Repairs.{image_named}
 use Rattle.seq_access.specs.declared.writer.Writer.{Writer}
-use Rattle.seq_access.specs.Bodies.{HasBlocks}
+use Rattle.seq_access.specs.Bodies.{HasBlocks, last_in}
 use Rattle.seq_access.specs.Writing.{AreSpared, AreThere, HasSetBy, IsWriting, Spares, body_so_far, has_put, puts_in, written_by}
 use Rattle.seq_access.proofs.NextPlaces.{contents_behind}
 use Rattle.seq_access.proofs.DataPlaces.{outside}
@@ -85,12 +85,12 @@ module _ (i0 i1 : List ℕ) (v0 v1 : Vol) (w : Writer) (image : i1 ≡ i0) (same
       let by_index : (x : IsWriting i0 now w) → HasBlocks (body_so_far i2 v2 x.f w) (written_by x) = subst (λ (v : Vol). (x : IsWriting i0 v w) → HasBlocks (body_so_far i2 v2 x.f w) (written_by x)) same by_image in
       by_index (writing_with i0 v0 v1.buf w is there) ∙ ap (λ (cs : List Content). bodies.Seq (is.old ++ placed v0.geometry.device (bodies.Seq is.old) cs)) (puts_with i0 v0 v1.buf is.f w)
 
-  pub spares_from : {T E : Type 0} (is : IsWriting i0 v0 w) (n0 n1 : List ℕ) (m0 m1 m2 : Meaning (List File)) (r : Result T E) → n1 ≡ n0 → Same m0 m1 → ((x : IsWriting i1 v1 w) → Spares n1 v1 x.f m1 m2 r) → Spares n0 v0 is.f m0 m2 r
+  pub spares_from : {T E : Type 0} (is : IsWriting i0 v0 w) (n0 n1 : List ℕ) (m0 m1 m2 : Meaning (List File)) (r : Result T E) → n1 ≡ n0 → Same m0 m1 → ((x : IsWriting i1 v1 w) → Spares n1 v1 x.f (last_in i1 v1 x.f) m1 m2 r) → Spares n0 v0 is.f (last_in i0 v0 is.f) m0 m2 r
   spares_from is n0 n1 m0 m1 m2 r names quiet told =
-      let by_name : (x : IsWriting i1 v1 w) → Spares n0 v1 x.f m1 m2 r = subst (λ (n : List ℕ). (x : IsWriting i1 v1 w) → Spares n v1 x.f m1 m2 r) names told in
-      let by_image : (x : IsWriting i0 v1 w) → Spares n0 v1 x.f m1 m2 r = subst (λ (i : List ℕ). (x : IsWriting i v1 w) → Spares n0 v1 x.f m1 m2 r) image by_name in
-      let by_index : (x : IsWriting i0 now w) → Spares n0 now x.f m1 m2 r = subst (λ (v : Vol). (x : IsWriting i0 v w) → Spares n0 v x.f m1 m2 r) same by_image in
-      spares_then n0 v0 is.f m0 m1 m2 r quiet (spares_with n0 v0 is.f v1.buf m1 m2 r (by_index (writing_with i0 v0 v1.buf w is there)))
+      let by_name : (x : IsWriting i1 v1 w) → Spares n0 v1 x.f (last_in i1 v1 x.f) m1 m2 r = subst (λ (n : List ℕ). (x : IsWriting i1 v1 w) → Spares n v1 x.f (last_in i1 v1 x.f) m1 m2 r) names told in
+      let by_image : (x : IsWriting i0 v1 w) → Spares n0 v1 x.f (last_in i0 v1 x.f) m1 m2 r = subst (λ (i : List ℕ). (x : IsWriting i v1 w) → Spares n0 v1 x.f (last_in i v1 x.f) m1 m2 r) image by_name in
+      let by_index : (x : IsWriting i0 now w) → Spares n0 now x.f (last_in i0 now x.f) m1 m2 r = subst (λ (v : Vol). (x : IsWriting i0 v w) → Spares n0 v x.f (last_in i0 v x.f) m1 m2 r) same by_image in
+      spares_then n0 v0 is.f (last_in i0 v0 is.f) m0 m1 m2 r quiet (spares_with n0 v0 is.f (last_in i0 v0 is.f) v1.buf m1 m2 r (by_index (writing_with i0 v0 v1.buf w is there)))
 
 -- the same blocks on an image that is the same
 pub blocks_same_image : (i0 i1 : List ℕ) (v0 v1 : Vol) (w : Writer) (is : IsWriting i0 v0 w) → i1 ≡ i0 → v1 ≡ record v0 { buf = v1.buf } → HasBlocks (body_so_far i1 v1 is.f w) (written_by is)
@@ -98,12 +98,12 @@ blocks_same_image i0 i1 v0 v1 w is image same =
     ap (λ (i : List ℕ). body_so_far i v1 is.f w) image ∙ ap (λ (v : Vol). body_so_far i0 v is.f w) same ∙ is.so_far
 
 -- What a stop leaves of calls behind which only a sync comes, or nothing.
-pub leaves_all : {T E U D : Type 0} (name : List ℕ) (v : Vol) (f : F1) (m0 m1 m2 : Meaning (List File)) (r : Result T E) (answer : Result U D) → Spares name v f m0 m1 r → OnOk answer (IsDurable m2) → m2.state ≡ m1.state → m2.printed ≡ m1.printed → Elapses m1 m2 (LeftNow m1)
-    → (before : List File) → HasSetBy (image_named before name) v f → ((files : List File) → m0.left files → AreSpared name v f before files) → AreSpared name v f before m0.state → LeavesAll (AreSpared name v f before) m0 m2 answer
-leaves_all name v f m0 m1 m2 r answer spares durable state printed time before set left here =
+pub leaves_all : {T E U D : Type 0} (name : List ℕ) (v : Vol) (f : F1) (last : Place) (m0 m1 m2 : Meaning (List File)) (r : Result T E) (answer : Result U D) → Spares name v f last m0 m1 r → OnOk answer (IsDurable m2) → m2.state ≡ m1.state → m2.printed ≡ m1.printed → Elapses m1 m2 (LeftNow m1)
+    → (before : List File) → HasSetBy (image_named before name) v f → ((files : List File) → m0.left files → AreSpared name v f last before files) → AreSpared name v f last before m0.state → LeavesAll (AreSpared name v f last before) m0 m2 answer
+leaves_all name v f last m0 m1 m2 r answer spares durable state printed time before set left here =
     let k = spares before set left here in
     record {
-      done = on_ok_weaker answer (λ d. (d, subst (AreSpared name v f before) (sym state) k.1)) durable;
+      done = on_ok_weaker answer (λ d. (d, subst (AreSpared name v f last before) (sym state) k.1)) durable;
       printed = printed ∙ k.0.printed;
       moments = elapses_then k.0.moments (elapses_weaker time (λ files p now. (k.0.left files now.0, now.1 ∙ k.0.printed)));
     }

@@ -1,43 +1,38 @@
 -- The end marker is written behind the last block of a set into which none was put yet.
-use Rattle.std.proofs.Common.{◌≡◌, ◌⊎◌, ◌+◌, ◌/◌, ◌%◌, ◌≤◌, ◌<◌, ℕ, true, false, List, [], ◌∷◌, length, take, drop, None, Some, Result, inr, refl, sym, ap, ◌∙◌, subst, arith}
+use Rattle.std.proofs.Common.{◌≡◌, ◌+◌, ◌/◌, ◌%◌, ◌≤◌, ◌<◌, ℕ, false, List, [], length, take, drop, None, Some, Result, inr, refl, sym, ap, ◌∙◌, subst, arith}
 use Rattle.std.specs.Prelude.{slice_get}
-use Rattle.std.specs.List.{flat_map}
 use Rattle.std.proofs.lemmas.List.{append-nil, take_all}
 use Rattle.ckd_image.specs.declared.header.Geometry.{Geometry}
 use Rattle.ckd_image.specs.Track.{Record}
 use Rattle.ckd_image.proofs.GeometryLemmas.{has_geometry}
 use Rattle.ckd_image.proofs.Grammar.{read_past, reads_front}
-use Rattle.dscb_codec.specs.declared.F1.{F1}
 use Rattle.hall_core.specs.Facts.{Attached}
 use Rattle.free_rebuild.specs.Repairs.{image_named}
 use Rattle.stop_model.specs.Files.{AfterWrite, File}
 use Rattle.stop_model.specs.Moments.{Meaning}
-use Rattle.pack_spec.specs.declared.slot.VtocSlot.{VtocSlot}
-use Rattle.pack_spec.specs.Blocks.{has_no_block, last_of, owned_tracks, seq_body}
+use Rattle.pack_spec.specs.Blocks.{owned_tracks}
 use Rattle.pack_spec.specs.Label.{heads_of, records_on, track_bytes, tracks_of}
-use Rattle.pack_spec.specs.Rules.{has_extents}
-use Rattle.pack_spec.specs.Slots.{slots_of_vtoc}
-use Rattle.pack_spec.specs.Volume.{data_sets_in}
-use Rattle.pack_spec.proofs.BlockBodies.{same_body}
 use Rattle.track_records.specs.Appends.{IsSealed, continuation, place_behind, start_behind}
 use Rattle.track_records.specs.Buffers.{Buffer}
 use Rattle.track_records.specs.Written.{StandsOn}
 use Rattle.track_records.proofs.ContinueLemmas.{length-end}
 use Rattle.track_records.proofs.FrontLemmas.{count_up}
-use Rattle.vol_model.specs.declared.contents.DataSet.{DataSet}
+use Rattle.vol_model.specs.declared.contents.Body.{Body}
+use Rattle.vol_model.specs.declared.contents.Body.TheVariants.{Seq}
 use Rattle.vol_model.specs.declared.contents.Place.{Place}
 use Rattle.vol_model.specs.declared.contents.Run.{Run}
 use Rattle.vtoc_index.specs.declared.vol.Vol.{Vol}
+use Rattle.vtoc_index.specs.Last.{lstar_of}
 use Rattle.vtoc_sets.specs.Sets.{HasSet, extents_in}
 use Rattle.seq_access.specs.declared.writer.Writer.{Writer}
-use Rattle.seq_access.specs.Bodies.{IsSetIn, body_in, data_in, owned_in}
-use Rattle.seq_access.specs.Writing.{DifferBehind, HasSetBy, HoldsLast, IsEnded, IsRoomy, IsWriting, Spares, has_put}
+use Rattle.seq_access.specs.Bodies.{IsSetIn, IsWritable, body_of_set, body_upto, last_in, last_read, owned_in}
+use Rattle.seq_access.specs.Writing.{DifferBehind, HasSetBy, HoldsLast, IsEnded, IsRoomy, IsWriting, Spares, front_in, has_put}
 use Rattle.seq_access.proofs.Begins.{begun_at}
-use Rattle.seq_access.proofs.DataPlaces.{once, outside, own, owners, owners_more}
-use Rattle.seq_access.proofs.KeptBodies.{on_same, owned_apart}
+use Rattle.seq_access.proofs.PutPlaces.{ends_of, last_low, last_small, set_of, some_of}
 use Rattle.seq_access.proofs.SparedCalls.{differ_by, differ_none}
 use Rattle.seq_access.proofs.SparedFiles.{MayWrite, spared_pends}
-use Rattle.seq_access.proofs.SparedImages.{by_bytes, same_extents, slots_kept, spared_mounted, spared_write}
+use Rattle.seq_access.proofs.SparedImages.{same_extents, spared_write}
+use Rattle.seq_access.proofs.SparedSets.{bare, bare_set, body_kept, front_kept, set_kept, tracks_kept}
 use Rattle.seq_access.proofs.WritersKept.{set_by}
 
 -- so many records are read up to one of that number
@@ -49,31 +44,13 @@ count_on image g r t xs is =
     let bytes : List ℕ = track_bytes image g t in
     count_up r 1 (drop 21 bytes) xs (sym (read_past c h (Some r) bytes (reads_front c h (Some r) xs bytes is)) ∙ is)
 
--- images that differ behind the last block alone have the same body
-module _ (before after : List ℕ) (v : Vol) (f : F1) (set : IsSetIn before v f) (first : 1 ≤ (last_of f.lstar).r) (differ : DifferBehind v f before after) where
-  abbrev some : (has_no_block f.lstar ≡ true) ⊎ (1 ≤ (last_of f.lstar).r)
-  some = inr first
-
-  owned_once : (t : ℕ) → owners t (extents_in before v f) ≤ 1
-  owned_once t =
-      let all : List Run = flat_map (λ (x : DataSet). x.extents) (data_sets_in v.geometry (data_in before v) (slots_of_vtoc before v.geometry v.vtoc)) in
-      omega (arith, own before v f set t, once before v f set t, owners_more t (record { start = 0; len = 1 }) (v.vtoc ∷ all), owners_more t v.vtoc all)
-
-  pub body_kept : body_in after v f ≡ body_in before v f
-  body_kept =
-      ap (λ (xs : List Run). seq_body v.geometry (data_in after v) xs f.lstar) (same_extents before after v f set some differ f)
-      ∙ same_body v.geometry (data_in before v) (data_in after v) (extents_in before v f) f.lstar
-      (λ k t low there. on_same v.geometry v.vtoc before after None t (outside before v f set k t there)
-      (by_bytes v.geometry None t before after (differ.others t (λ j at past. absurd (omega (arith, past, low, owned_apart (extents_in before v f) k j t there at (owned_once t)))))))
-      (λ t there. on_same v.geometry v.vtoc before after (Some (last_of f.lstar).r) t (outside before v f set (last_of f.lstar).tt t there) (differ.kept t there first))
-
 module _ (units : List Attached) (image : List ℕ) (v : Vol) (w : Writer) (is : IsWriting image v w) (held : HoldsLast image v is.f w.last)
     (fresh : has_put w ≡ false) (first : 1 ≤ w.last.r) (geometry : v.buf.geometry ≡ v.geometry) (roomy : IsRoomy units v.buf) where
   abbrev b : Buffer
   b = v.buf
 
   abbrev last : Place
-  last = last_of is.f.lstar
+  last = last_in image v is.f
 
   at : w.last ≡ last
   at = is.begun fresh
@@ -94,12 +71,11 @@ module _ (units : List Attached) (image : List ℕ) (v : Vol) (w : Writer) (is :
   room_own = omega (arith, roomy.room, length-end (b.track / heads_of b.geometry) (b.track % heads_of b.geometry) b.records, ap (λ (g : Geometry). g.track_size) geometry)
 
   -- it may be written
-  pub may_seal : (before : List ℕ) → HasSetBy before v is.f → DifferBehind v is.f before image → MayWrite before v is.f b []
+  pub may_seal : (before : List ℕ) → HasSetBy before v is.f → DifferBehind v is.f last before image → MayWrite before v is.f last b []
   may_seal before set differ =
       let empty : Buffer = record b { records = [] } in
       let there : IsSetIn before (record v { buf = empty }) is.f = record { set = set; slot = w.slot; dscb = is.slot } in
-      let some : (has_no_block is.f.lstar ≡ true) ⊎ (1 ≤ last.r) = inr first_own in
-      let extents : extents_in image v is.f ≡ extents_in before v is.f = same_extents before image (record v { buf = empty }) is.f there some (differ_by v empty is.f before image differ) is.f in
+      let extents : extents_in image v is.f ≡ extents_in before v is.f = same_extents before image (record v { buf = empty }) is.f there last (differ_by v empty is.f last before image differ) is.f in
       let mine : slice_get (owned_in before v is.f) last.tt ≡ Some b.track = ap (λ (xs : List Run). slice_get (owned_tracks xs) last.tt) (sym extents) ∙ owned_own in
       let all : take last.r b.records ≡ b.records = take_all last.r b.records (omega (arith, count_own)) in
       record {
@@ -114,29 +90,29 @@ module _ (units : List Attached) (image : List ℕ) (v : Vol) (w : Writer) (is :
       }
 
   -- files in which it is written or pending
-  pub spares_sealed : {T E : Type 0} (name other : List ℕ) (old new : Meaning (List File)) (result : Result T E) → image ≡ image_named old.state name → other ≡ name → AfterWrite {T = T} {E = E} other (place_behind b) (continuation b []) old new result → Spares name v is.f old new result
+  pub spares_sealed : {T E : Type 0} (name other : List ℕ) (old new : Meaning (List File)) (result : Result T E) → image ≡ image_named old.state name → other ≡ name → AfterWrite {T = T} {E = E} other (place_behind b) (continuation b []) old new result → Spares name v is.f last old new result
   spares_sealed {T = T} {E = E} name other old new result same alike wrote before set left here =
-      spared_pends name before v is.f b [] (may_seal (image_named before name) set (subst (DifferBehind v is.f (image_named before name)) (sym same) here.image)) old new result
+      spared_pends name before v is.f last b [] (may_seal (image_named before name) set (subst (DifferBehind v is.f last (image_named before name)) (sym same) here.image)) old new result
       (subst (λ (n : List ℕ). AfterWrite {T = T} {E = E} n (place_behind b) (continuation b []) old new result) alike wrote) left here
 
   module _ (image' : List ℕ) (sealed : IsSealed b image image') (stands : StandsOn image' b) where
-    differ_own : DifferBehind v is.f image image'
+    differ_own : DifferBehind v is.f last image image'
     differ_own =
-        let may = may_seal image (set_by image v (record b { records = [] }) is.f is.set refl) (differ_none v is.f image) in
-        subst (DifferBehind v is.f image) (sym sealed.bytes)
-        (spared_write image image v is.f b [] may.k may.geometry may.whole may.inside may.room may.owned may.past may.first (differ_none v is.f image))
+        let may = may_seal image (set_by image v (record b { records = [] }) is.f is.set refl) (differ_none v is.f last image) in
+        subst (DifferBehind v is.f last image) (sym sealed.bytes)
+        (spared_write image image v is.f last b [] may.k may.geometry may.whole may.inside may.room may.owned may.past may.first (differ_none v is.f last image))
 
-    abbrev there_own : IsSetIn image v is.f
-    there_own = record { set = is.set; slot = w.slot; dscb = is.slot }
-
-    abbrev some_own : (has_no_block is.f.lstar ≡ true) ⊎ (1 ≤ last.r)
-    some_own = inr first_own
+    abbrev there_own : IsSetIn image (bare v) is.f
+    there_own = bare_set image v is.f (set_of image v w is)
 
     set_own : HasSet image' v is.f
-    set_own = record {
-      mounted = spared_mounted image image' v is.f there_own some_own differ_own (inr stands);
-      extents = ap (λ (ss : List VtocSlot). has_extents v.geometry ss is.f) (slots_kept image image' v is.f there_own some_own differ_own) ∙ is.set.extents;
-    }
+    set_own = set_kept image image' v is.f there_own last differ_own (ends_of image v w is) b (inr stands)
+
+    body_own : body_of_set image' v is.f ≡ body_of_set image v is.f
+    body_own = body_kept image image' v is.f there_own last differ_own (ends_of image v w is)
+
+    last_own : last_in image' v is.f ≡ last
+    last_own = ap (λ (x : Body). last_read x is.f.lstar) body_own
 
     ended_own : (track : ℕ) → slice_get (owned_in image v is.f) w.last.tt ≡ Some track → records_on image' v.geometry None track ≡ records_on image' v.geometry (Some w.last.r) track
     ended_own track mine =
@@ -151,13 +127,19 @@ module _ (units : List Attached) (image : List ℕ) (v : Vol) (w : Writer) (is :
     -- and the writer stands as before
     pub ended_sealed : w.last.tt < 65536 → w.last.r < 256 → IsEnded image v is.f is.old w image' v
     ended_sealed low small =
-        let now = begun_at image' v is.f w is.old fresh is.slot set_own is.sequential (body_kept image image' v is.f there_own first_own differ_own ∙ is.body) at low small in
-        let was = begun_at image v is.f w is.old fresh is.slot is.set is.sequential is.body at low small in
+        let front : front_in image' v is.f ≡ Seq is.old =
+        ap (λ (p : Place). body_upto image' v is.f (lstar_of p)) last_own
+        ∙ front_kept image image' v is.f there_own last differ_own (last_low image v w is low) (last_small image v w is) (some_of image v w is)
+        ∙ is.front
+        in
+        let now = begun_at image' v is.f w is.old fresh is.slot set_own (subst IsWritable (sym body_own) is.writable) front (at ∙ sym last_own) in
+        let was = begun_at image v is.f w is.old fresh is.slot is.set is.writable is.front at in
         record {
           writing = now.0;
           same = now.1;
+          body = body_own;
           old = now.2;
           puts = now.3 ∙ sym was.3;
-          tracks = ap owned_tracks (same_extents image image' v is.f there_own some_own differ_own is.f);
+          tracks = tracks_kept image image' v is.f there_own last differ_own;
           ended = ended_own;
         }

@@ -16,7 +16,7 @@ use Rattle.seq_access.specs.declared.writer.PutErr.{PutErr}
 use Rattle.seq_access.specs.declared.writer.PutErr.TheVariants as put_err
 use Rattle.seq_access.specs.declared.writer.Writer.{Writer}
 use Rattle.seq_access.specs.Bodies.{owned_in}
-use Rattle.seq_access.specs.Writing.{IsReady, IsRoomy, IsWriting, place_next, sizes}
+use Rattle.seq_access.specs.Writing.{IsReady, IsRoomy, IsWriting, record_next, sizes}
 use Rattle.seq_access.proofs.Checked.{call_as, mounted_with, unit_with}
 use Rattle.seq_access.proofs.ReadyPlaces.{ends_before, roomy_empty}
 use Rattle.seq_access.proofs.ReadySteps.{ready_first}
@@ -75,7 +75,7 @@ first_ready image v v' set (Ok p) w is kl dl t low small none same =
     ready_first image v w is low small kl dl v' (made v v' set (Ok p)) p t.buffer refl none t.place owned
 first_ready image v v' set (Err e) w is kl dl t low small none same = tt
 
-pub first_need : (image : List ℕ) (v v' : Vol) (set : F1) (r : Result Place PutErr) (w : Writer) (is : IsWriting image v w) (c : Content) → Turned v v' set r → w.last.r ≡ 0 → is.f ≡ set → IsErrOf r put_err.NeedExtent → length (owned_in image v is.f) ≤ (place_next is c).tt
+pub first_need : (image : List ℕ) (v v' : Vol) (set : F1) (r : Result Place PutErr) (w : Writer) (is : IsWriting image v w) (c : Content) → Turned v v' set r → w.last.r ≡ 0 → is.f ≡ set → IsErrOf r put_err.NeedExtent → length (owned_in image v is.f) ≤ (record_next is c).tt
 first_need image v v' set (Ok p) w is c t none same of = absurd (no_error p of)
   where
     no_error : (p : Place) → IsErrOf {T = Place} (Ok p) put_err.NeedExtent → ⊥

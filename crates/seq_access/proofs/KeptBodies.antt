@@ -1,5 +1,5 @@
--- Images that differ on tracks of one data set behind its last block have the same data sets.
-use Rattle.std.proofs.Common.{◌≡◌, ◌≢◌, ◌⊎◌, ◌+◌, ◌≤◌, ◌<◌, ◌/◌, ◌%◌, ℕ, zero, suc, Bool, true, false, cond, ◌||◌, List, [], ◌∷◌, ◌++◌, length, map, Option, Some, None, inl, inr, refl, sym, ap, ap₂, ◌∙◌, subst, arith, ⊎_elim}
+-- Images that differ on tracks of one data set alone, which keeps its body, have the same data sets.
+use Rattle.std.proofs.Common.{◌≡◌, ◌≢◌, ◌⊎◌, ◌+◌, ◌≤◌, ◌<◌, ◌/◌, ◌%◌, ℕ, zero, suc, Bool, true, false, cond, List, [], ◌∷◌, ◌++◌, length, map, Option, Some, inl, inr, refl, sym, ap, ap₂, ◌∙◌, subst, arith}
 use Rattle.std.specs.Prelude.{slice_get}
 use Rattle.std.specs.List.{count_by, filter_map, flat_map, range_with_len}
 use Rattle.std.proofs.lemmas.Bool.{cases_lt}
@@ -11,18 +11,16 @@ use Rattle.ckd_image.specs.declared.header.Geometry.{Geometry}
 use Rattle.ckd_image.specs.Reading.{records_of}
 use Rattle.dscb_codec.specs.declared.F1.{F1}
 use Rattle.vol_model.specs.declared.contents.Body.{Body}
-use Rattle.vol_model.specs.declared.contents.Body.TheVariants.{Seq, Other, Unreadable}
 use Rattle.vol_model.specs.declared.contents.Run.{Run}
-use Rattle.vol_model.specs.Shelf.{is_catalog, is_partitioned, is_sequential}
 use Rattle.vol_model.specs.Space.{is_in}
 use Rattle.pack_spec.specs.declared.slot.VtocSlot.{VtocSlot}
-use Rattle.pack_spec.specs.Blocks.{blocks_at, data_track, data_tracks, has_no_block, last_of, owned_tracks, records_in, seq_body, seq_of}
+use Rattle.pack_spec.specs.Blocks.{data_track, data_tracks, owned_tracks, records_in}
 use Rattle.pack_spec.specs.Bodies.{body_of}
 use Rattle.pack_spec.specs.Label.{heads_of, records_on, track_bytes, tracks_of}
 use Rattle.pack_spec.specs.Rules.{set_in}
 use Rattle.pack_spec.specs.Slots.{tracks_in}
 use Rattle.pack_spec.specs.Volume.{attr_of, counted_runs, data_set_of, data_sets_in}
-use Rattle.pack_spec.proofs.BlockBodies.{same_body}
+use Rattle.pack_spec.proofs.BodyKinds.{body_same}
 
 -- how many runs have a track
 abbrev pub owners : ℕ → List Run → ℕ
@@ -122,10 +120,6 @@ pub data_past : (image : List ℕ) (g : Geometry) (vtoc : Run) (u : Option ℕ) 
 unfolding records_in data_tracks
 data_past image g vtoc u t past = ap (records_of (t / heads_of g) (t % heads_of g) u) (get_or_past (map (data_track image g vtoc) (range_with_len 0 (tracks_of g))) t [] (omega (arith, past, length-map-range_with_len (data_track image g vtoc) 0 (tracks_of g))))
 
-pub record KeptBehind (g : Geometry) (extents : List Run) (lstar : List ℕ) (before after : List ℕ) : Type 0 where
-  pub others : (track : ℕ) → ((k : ℕ) → slice_get (owned_tracks extents) k ≡ Some track → (last_of lstar).tt ≤ k → ⊥) → track_bytes after g track ≡ track_bytes before g track
-  pub kept : (track : ℕ) → slice_get (owned_tracks extents) (last_of lstar).tt ≡ Some track → 1 ≤ (last_of lstar).r → records_on after g (Some (last_of lstar).r) track ≡ records_on before g (Some (last_of lstar).r) track
-
 module _ (g : Geometry) (vtoc : Run) (before after : List ℕ) where
   abbrev a : List (List ℕ)
   a = data_tracks before g vtoc
@@ -143,21 +137,17 @@ module _ (g : Geometry) (vtoc : Run) (before after : List ℕ) where
   unfolding records_on
   by_bytes u t same = ap (records_of (t / heads_of g) (t % heads_of g) u) same
 
-  set_same : (slots : List VtocSlot) (h : F1) → seq_body g b (counted_runs g slots h) h.lstar ≡ seq_body g a (counted_runs g slots h) h.lstar → data_set_of g b slots h ≡ data_set_of g a slots h
-  unfolding data_set_of body_of
-  set_same slots h same = ap (λ (y : Body). record {
-    name = record { bytes = h.name };
-    attr = attr_of h;
-    extents = counted_runs g slots h;
-    body = cond (is_sequential h.name (attr_of h)) y (cond (is_catalog h.name || is_partitioned h.name (attr_of h)) (Unreadable 0) Other);
-  }) same
+  set_same : (slots : List VtocSlot) (h : F1) → body_of g b h.name (attr_of h) (counted_runs g slots h) h.lstar ≡ body_of g a h.name (attr_of h) (counted_runs g slots h) h.lstar → data_set_of g b slots h ≡ data_set_of g a slots h
+  unfolding data_set_of
+  set_same slots h same = ap (λ (y : Body). record { name = record { bytes = h.name }; attr = attr_of h; extents = counted_runs g slots h; body = y }) same
 
-  -- the data sets of slots in which one keeps its records up to its last block, and owns all tracks that differ
+  -- the data sets of slots in which one keeps its body, and owns all tracks that differ
   pub sets_same : (slots : List VtocSlot) (m : ℕ) (f : F1) → slice_get (filter_map (λ (s : VtocSlot). set_in s.content) slots) m ≡ Some f → ((t : ℕ) → owners t (flat_map (counted_runs g slots) (filter_map (λ (s : VtocSlot). set_in s.content) slots)) ≤ 1)
       → ((x : F1) (n k t : ℕ) → slice_get (filter_map (λ (s : VtocSlot). set_in s.content) slots) n ≡ Some x → slice_get (owned_tracks (counted_runs g slots x)) k ≡ Some t → is_in t vtoc ≡ false)
-      → (has_no_block f.lstar ≡ true) ⊎ (1 ≤ (last_of f.lstar).r) → KeptBehind g (counted_runs g slots f) f.lstar before after → data_sets_in g b slots ≡ data_sets_in g a slots
-  unfolding data_sets_in seq_body
-  sets_same slots m f there once out some kept = map_at (data_set_of g b slots) (data_set_of g a slots) fs (λ n x is. set_same slots x (each n x is))
+      → ((t : ℕ) → ((k : ℕ) → slice_get (owned_tracks (counted_runs g slots f)) k ≡ Some t → ⊥) → track_bytes after g t ≡ track_bytes before g t)
+      → body_of g b f.name (attr_of f) (counted_runs g slots f) f.lstar ≡ body_of g a f.name (attr_of f) (counted_runs g slots f) f.lstar → data_sets_in g b slots ≡ data_sets_in g a slots
+  unfolding data_sets_in
+  sets_same slots m f there once out others mine = map_at (data_set_of g b slots) (data_set_of g a slots) fs (λ n x is. set_same slots x (each n x is))
     where
       fs : List F1
       fs = filter_map (λ (s : VtocSlot). set_in s.content) slots
@@ -165,28 +155,24 @@ module _ (g : Geometry) (vtoc : Run) (before after : List ℕ) where
       h : F1 → List Run
       h = counted_runs g slots
 
-      other : (n : ℕ) (x : F1) → slice_get fs n ≡ Some x → n ≢ m → seq_body g b (h x) x.lstar ≡ seq_body g a (h x) x.lstar
-      other n x is apart = same_body g a b (h x) x.lstar (λ k t low own. one None k t own) (λ t own. one (Some (last_of x.lstar).r) (last_of x.lstar).tt t own)
-        where
-          one : (u : Option ℕ) (k t : ℕ) → slice_get (owned_tracks (h x)) k ≡ Some t → records_in g b u t ≡ records_in g a u t
-          one u k t own = on_same u t (out x n k t is own) (by_bytes u t (kept.others t (λ j mine past. absurd (omega (arith, once t, two_of h t fs n m x f is there apart, owned_some (h x) k t own, owned_some (h f) j t mine)))))
+      -- the body of a set on one of the images
+      by : List (List ℕ) → F1 → Body
+      by tracks x = body_of g tracks x.name (attr_of x) (h x) x.lstar
 
-      mine : seq_body g b (h f) f.lstar ≡ seq_body g a (h f) f.lstar
-      mine = ⊎_elim (λ none. cond_none none) (λ first. same_body g a b (h f) f.lstar (λ k t low own. on_same None t (out f m k t there own) (by_bytes None t (kept.others t (λ j at past. absurd (omega (arith, past, low, owned_apart (h f) k j t own at (omega (arith, once t, one_of h t fs m f there)))))))) (λ t own. on_same (Some (last_of f.lstar).r) t (out f m (last_of f.lstar).tt t there own) (kept.kept t own first))) some
+      other : (n : ℕ) (x : F1) → slice_get fs n ≡ Some x → n ≢ m → by b x ≡ by a x
+      other n x is apart = body_same g a b x.name (attr_of x) (h x) x.lstar one
         where
-          cond_none : has_no_block f.lstar ≡ true → seq_body g b (h f) f.lstar ≡ seq_body g a (h f) f.lstar
-          cond_none none =
-              ap (λ (c : Bool). cond c (Seq []) (seq_of (map (blocks_at g b (owned_tracks (h f)) (last_of f.lstar)) (range_with_len 0 ((last_of f.lstar).tt + 1))))) none
-              ∙ sym (ap (λ (c : Bool). cond c (Seq []) (seq_of (map (blocks_at g a (owned_tracks (h f)) (last_of f.lstar)) (range_with_len 0 ((last_of f.lstar).tt + 1))))) none)
+          one : (k t : ℕ) (u : Option ℕ) → slice_get (owned_tracks (h x)) k ≡ Some t → records_in g b u t ≡ records_in g a u t
+          one k t u own = on_same u t (out x n k t is own) (by_bytes u t (others t (λ j mine'. absurd (omega (arith, once t, two_of h t fs n m x f is there apart, owned_some (h x) k t own, owned_some (h f) j t mine')))))
 
-      each : (n : ℕ) (x : F1) → slice_get fs n ≡ Some x → seq_body g b (h x) x.lstar ≡ seq_body g a (h x) x.lstar
+      each : (n : ℕ) (x : F1) → slice_get fs n ≡ Some x → by b x ≡ by a x
       each n x is = elim (eqb_tells n m) [
         | inl w ↦ same_set n x is w.1
         | inr w ↦ other n x is w.1
       ]
         where
-          same_set : (n : ℕ) (x : F1) → slice_get fs n ≡ Some x → n ≡ m → seq_body g b (h x) x.lstar ≡ seq_body g a (h x) x.lstar
+          same_set : (n : ℕ) (x : F1) → slice_get fs n ≡ Some x → n ≡ m → by b x ≡ by a x
           same_set n x is e =
               let one : slice_get fs m ≡ Some x = ap (slice_get fs) (sym e) ∙ is in
               let same : f ≡ x = cc in
-              subst (λ (y : F1). seq_body g b (h y) y.lstar ≡ seq_body g a (h y) y.lstar) same mine
+              subst (λ (y : F1). by b y ≡ by a y) same mine

@@ -46,7 +46,7 @@ itself : (n : ℕ) → (n == n) ≡ false → ⊥
 itself n is = grind (arith, nat_tests)
 
 -- the blocks on a track, where others stand before it
-lengths_before : (k : ℕ) (front rest : List Block) → AreBefore k front → lengths_on k (front ++ rest) ≡ lengths_on k rest
+pub lengths_before : (k : ℕ) (front rest : List Block) → AreBefore k front → lengths_on k (front ++ rest) ≡ lengths_on k rest
 lengths_before k [] rest before = refl
 lengths_before k (b ∷ bs) rest before = by (b.place.tt == k) refl (lengths_before k bs rest before.1)
   where
@@ -54,7 +54,7 @@ lengths_before k (b ∷ bs) rest before = by (b.place.tt == k) refl (lengths_bef
     by true is more = absurd (apart b.place.tt k before.0 is)
     by false is more = more
 
-lengths_at : (k r : ℕ) (xs : List Record) → lengths_on k (blocks_from k r xs) ≡ map sizes xs
+pub lengths_at : (k r : ℕ) (xs : List Record) → lengths_on k (blocks_from k r xs) ≡ map sizes xs
 lengths_at k r [] = refl
 lengths_at k r (x ∷ xs) = by (k == k) refl (lengths_at k (r + 1) xs)
   where
@@ -67,7 +67,7 @@ last_at : (p : Place) (k r : ℕ) (x : Record) (xs : List Record) → last_place
 last_at p k r x [] = let none : r ≡ r + 0 = omega arith in ap (λ (n : ℕ). record { tt = k; r = n }) none
 last_at p k r x (y ∷ xs) = let next : r + 1 + length xs ≡ r + suc (length xs) = omega arith in last_at (record { tt = k; r = r }) k (r + 1) y xs ∙ ap (λ (n : ℕ). record { tt = k; r = n }) next
 
-last_behind : (p : Place) (front : List Block) (k r : ℕ) (x : Record) (xs : List Record) → last_place p (front ++ blocks_from k r (x ∷ xs)) ≡ record { tt = k; r = r + length xs }
+pub last_behind : (p : Place) (front : List Block) (k r : ℕ) (x : Record) (xs : List Record) → last_place p (front ++ blocks_from k r (x ∷ xs)) ≡ record { tt = k; r = r + length xs }
 last_behind p [] k r x xs = last_at p k r x xs
 last_behind p (b ∷ bs) k r x xs = last_behind b.place bs k r x xs
 

@@ -13,7 +13,7 @@ use Rattle.vol_model.specs.Places.{lengths}
 use Rattle.vtoc_index.specs.declared.vol.Vol.{Vol}
 use Rattle.vtoc_index.specs.Index.{IsMounted, IsOfUnit}
 use Rattle.seq_access.specs.declared.writer.Writer.{Writer}
-use Rattle.seq_access.specs.Bodies.{HasBlocks}
+use Rattle.seq_access.specs.Bodies.{HasBlocks, last_in}
 use Rattle.seq_access.specs.Writing.{IsPutBehind, IsReady, IsWriting, Spares, body_so_far, written_by}
 use Rattle.seq_access.proofs.PutSteps.{blocks_stay, put_done, set_stays, spares_more}
 use Rattle.seq_access.proofs.SparedCalls.{spares_as}
@@ -33,6 +33,9 @@ module _ (m0 m1 m2 : Meaning (List File)) (f0 f1 f2 : Facts) (v0 v1 : Vol) (w : 
 
   abbrev name : List ℕ
   name = (unit_of f0.units v0.unit).name
+
+  abbrev last : Place
+  last = last_in (image_in m0 f0 v0.unit) v0 is.f
 
   abbrev i1 : List ℕ
   i1 = image_in m1 f1 v0.unit
@@ -56,12 +59,12 @@ module _ (m0 m1 m2 : Meaning (List File)) (f0 f1 f2 : Facts) (v0 v1 : Vol) (w : 
   names = ap (name_in f1) number ∙ ap (λ (us : List Attached). (unit_of us v0.unit).name) units
 
   -- what a stop leaves
-  pub call_spares : {T E A B U D : Type 0} (x : A) (r : Result T E) (answer : Result U D) → Spares {T = A} {E = B} name v0 is.f m0 m1 (Ok x) → end_of b + (8 + length key + length content) + 8 ≤ b.geometry.track_size
-      → AfterWrite (name_in f1 b.unit) (place_behind b) (continuation b (record_of b key content ∷ [])) m1 m2 r → Spares name v0 is.f m0 m2 answer
+  pub call_spares : {T E A B U D : Type 0} (x : A) (r : Result T E) (answer : Result U D) → Spares {T = A} {E = B} name v0 is.f last m0 m1 (Ok x) → end_of b + (8 + length key + length content) + 8 ≤ b.geometry.track_size
+      → AfterWrite (name_in f1 b.unit) (place_behind b) (continuation b (record_of b key content ∷ [])) m1 m2 r → Spares name v0 is.f last m0 m2 answer
   call_spares {T = T} {E = E} x r answer first room wrote =
       let image : image_in m1 f1 v0.unit ≡ image_of m1.state f0 v0.unit = ap (λ (us : List Attached). unwrap_or (file_of m1.state (unit_of us v0.unit).name) []) units in
       let by_name : AfterWrite name (place_behind b) (continuation b (record_of b key content ∷ [])) m1 m2 r = subst (λ (n : List ℕ). AfterWrite n (place_behind b) (continuation b (record_of b key content ∷ [])) m1 m2 r) names wrote in
-      spares_as name v0 is.f m0 m2 r answer (spares_more (image_in m0 f0 v0.unit) i1 v0 w is kl dl place b here geometry low small name m0 m1 m2 x r key content e (sym image) first room by_name)
+      spares_as name v0 is.f last m0 m2 r answer (spares_more (image_in m0 f0 v0.unit) i1 v0 w is kl dl place b here geometry low small name m0 m1 m2 x r key content e (sym image) first room by_name)
 
   module _ (b2 : Buffer) (same : b2 ≡ more) (wrote : MayContinue (image_of m1.state f1 b.unit) b → IsAppended b key content (image_of m1.state f1 b.unit) (image_of m2.state f2 b.unit) × StandsOn (image_of m2.state f2 b.unit) b2) where
     appended : IsAppended b key content i1 i2 × StandsOn i2 b2

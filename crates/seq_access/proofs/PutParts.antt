@@ -21,8 +21,8 @@ use Rattle.vtoc_index.specs.declared.vol.Vol.{Vol}
 use Rattle.vtoc_index.specs.Last.{lstar_of}
 use Rattle.vtoc_sets.specs.Sets.{HasSet, extents_in}
 use Rattle.seq_access.specs.declared.writer.Writer.{Writer}
-use Rattle.seq_access.specs.Bodies.{IsSetIn, body_in, data_in, owned_in}
-use Rattle.seq_access.specs.Writing.{DifferBehind, IsWriting, body_so_far, puts_in, written_by}
+use Rattle.seq_access.specs.Bodies.{IsSetIn, IsWritable, body_of_set, body_upto, data_in, last_in, last_read, owned_in}
+use Rattle.seq_access.specs.Writing.{DifferBehind, IsNotBefore, IsWriting, body_so_far, front_in, puts_in, written_by}
 use Rattle.seq_access.proofs.Begins.{has_some}
 use Rattle.seq_access.proofs.DataPlaces.{outside}
 use Rattle.seq_access.proofs.KeptBodies.{data_read}
@@ -30,9 +30,9 @@ use Rattle.seq_access.proofs.KeptBodies.{on_same as same_on}
 use Rattle.seq_access.proofs.LastPlaces.{last_said, some_said}
 use Rattle.seq_access.proofs.MoreBlocks.{Parts, on_first, on_next, on_same}
 use Rattle.seq_access.proofs.NextPlaces.{contents_behind, written_more}
-use Rattle.seq_access.proofs.PutPlaces.{PutsAt, all_on, behind, count_in, differs, earlier, goes, set_of, some_of}
+use Rattle.seq_access.proofs.PutPlaces.{PutsAt, all_on, behind, count_in, differs, earlier, ends_of, goes, last_low, last_small, set_of, some_of}
 use Rattle.seq_access.proofs.SparedImages.{same_extents}
-use Rattle.seq_access.proofs.SparedSets.{bare, bare_set, body_kept, own_inside, set_kept, tracks_kept}
+use Rattle.seq_access.proofs.SparedSets.{bare, bare_set, body_kept, front_kept, own_inside, set_kept, tracks_kept}
 
 no_records : (xs : List Record) → length xs ≡ 0 → xs ≡ []
 no_records [] e = refl
@@ -90,7 +90,11 @@ module _ (i1 i2 : List ℕ) (v : Vol) (w : Writer) (is : IsWriting i1 v w) (key 
   set : IsSetIn i1 v f
   set = set_of i1 v w is
 
-  differ : DifferBehind v f i1 i2
+  -- the set's last record
+  abbrev last : Place
+  last = last_in i1 v f
+
+  differ : DifferBehind v f last i1 i2
   differ = differs i1 v w is c place at (x ∷ []) i2 put
 
   first : 1 ≤ place.r
@@ -191,7 +195,7 @@ module _ (i1 i2 : List ℕ) (v : Vol) (w : Writer) (is : IsWriting i1 v w) (key 
 
   blocks_more : body_so_far i2 new_vol f new_writer ≡ bodies.Seq (blocks ++ more ∷ [])
   blocks_more =
-      ap (λ (xs : List Run). seq_body v.geometry new_tracks xs (lstar_of place)) (same_extents i1 i2 v f set (some_of i1 v w is) differ f)
+      ap (λ (xs : List Run). seq_body v.geometry new_tracks xs (lstar_of place)) (same_extents i1 i2 v f set last differ f)
       ∙ ⊎_elim (λ none. by_first none.1 none.2) (λ more'. ⊎_elim (λ here. by_same more'.0 here) (λ on. by_next more'.0 on) more'.1) (goes i1 v w is c place at)
 
   abbrev puts : List Content
@@ -200,23 +204,32 @@ module _ (i1 i2 : List ℕ) (v : Vol) (w : Writer) (is : IsWriting i1 v w) (key 
   all_blocks : body_so_far i2 new_vol f new_writer ≡ bodies.Seq (is.old ++ placed v.geometry.device (bodies.Seq is.old) (puts ++ c ∷ []))
   all_blocks = blocks_more ∙ ap bodies.Seq (sym (written_more v.geometry.device is.old puts c))
 
-  own_body : body_in i2 new_vol f ≡ bodies.Seq is.old
-  own_body = body_kept i1 i2 v f (bare_set i1 v f set) (some_of i1 v w is) differ ∙ is.body
-
-  pub puts_more : puts_in i2 new_vol f new_writer ≡ puts ++ c ∷ []
-  unfolding puts_in
-  puts_more = ap₂ (λ (p q : Body). map content (drop (length (blocks_of p)) (blocks_of q))) own_body all_blocks ∙ contents_behind v.geometry.device is.old (puts ++ c ∷ [])
-
   bare_there : IsSetIn i1 (bare v) f
   bare_there = bare_set i1 v f set
 
+  pub same_body_more : body_of_set i2 v f ≡ body_of_set i1 v f
+  same_body_more = body_kept i1 i2 v f bare_there last differ (ends_of i1 v w is)
+
+  same_last : last_in i2 v f ≡ last
+  same_last = ap (λ (x : Body). last_read x f.lstar) same_body_more
+
+  own_front : front_in i2 new_vol f ≡ bodies.Seq is.old
+  own_front =
+      ap (λ (p : Place). body_upto i2 v f (lstar_of p)) same_last
+      ∙ front_kept i1 i2 v f bare_there last differ (last_low i1 v w is at.low) (last_small i1 v w is) (some_of i1 v w is)
+      ∙ is.front
+
+  pub puts_more : puts_in i2 new_vol f new_writer ≡ puts ++ c ∷ []
+  unfolding puts_in
+  puts_more = ap₂ (λ (p q : Body). map content (drop (length (blocks_of p)) (blocks_of q))) own_front all_blocks ∙ contents_behind v.geometry.device is.old (puts ++ c ∷ [])
+
   -- the data set is one of that image
   new_set : HasSet i2 new_vol f
-  new_set = set_kept i1 i2 v f bare_there (some_of i1 v w is) differ b (inr stands)
+  new_set = set_kept i1 i2 v f bare_there last differ (ends_of i1 v w is) b (inr stands)
 
   ends_there : (track : ℕ) → slice_get (owned_in i2 new_vol f) place.tt ≡ Some track → records_on i2 v.geometry None track ≡ records_on i2 v.geometry (Some place.r) track
   ends_there track own =
-      let same : track ≡ v.buf.track = same_track track v.buf.track (sym own ∙ ap (λ (ts : List ℕ). slice_get ts place.tt) (tracks_kept i1 i2 v f (bare_set i1 v f set) (some_of i1 v w is) differ) ∙ there) in
+      let same : track ≡ v.buf.track = same_track track v.buf.track (sym own ∙ ap (λ (ts : List ℕ). slice_get ts place.tt) (tracks_kept i1 i2 v f bare_there last differ) ∙ there) in
       ap (records_on i2 v.geometry None) same ∙ whole ∙ sym (up_to_it place.r (sym at.number)) ∙ ap (records_on i2 v.geometry (Some place.r)) (sym same)
 
   pub writing_more : IsWriting i2 new_vol new_writer
@@ -224,20 +237,16 @@ module _ (i1 i2 : List ℕ) (v : Vol) (w : Writer) (is : IsWriting i1 v w) (key 
     f = f;
     slot = is.slot;
     set = new_set;
-    sequential = is.sequential;
+    writable = subst IsWritable (sym same_body_more) is.writable;
     old = is.old;
-    body = own_body;
+    front = own_front;
     so_far = all_blocks ∙ ap (λ (cs : List Content). bodies.Seq (is.old ++ placed v.geometry.device (bodies.Seq is.old) cs)) (sym puts_more);
     begun = λ none. let some = has_some new_writer any in cc;
     some = λ put none. not_none puts c (sym puts_more ∙ none);
-    behind = behind i1 v w is c place at;
+    behind = subst (IsNotBefore place) (sym same_last) (behind i1 v w is c place at);
     ended = λ put track own. ends_there track own;
   }
 
   pub same_set_more : writing_more.f ≡ is.f
   unfolding writing_more
   same_set_more = refl
-
-  pub same_old_more : writing_more.old ≡ is.old
-  unfolding writing_more
-  same_old_more = refl

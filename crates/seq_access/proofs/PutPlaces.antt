@@ -17,17 +17,19 @@ use Rattle.vol_model.specs.declared.contents.Place.{Place}
 use Rattle.vol_model.specs.Places.{Content, lengths, next_place, place_behind}
 use Rattle.pack_spec.specs.Blocks.{blocks_at, blocks_from, has_no_block, last_of, owned_tracks, records_in, seq_body, seq_of}
 use Rattle.pack_spec.specs.Label.{heads_of, records_on, track_bytes}
+use Rattle.pack_spec.specs.Volume.{attr_of}
 use Rattle.track_records.specs.Appends.{IsContinued, MayContinue}
 use Rattle.track_records.proofs.FrontLemmas.{count_up}
 use Rattle.vtoc_index.specs.declared.vol.Vol.{Vol}
 use Rattle.vtoc_index.specs.Last.{lstar_of}
 use Rattle.vtoc_sets.specs.Sets.{extents_in}
 use Rattle.seq_access.specs.declared.writer.Writer.{Writer}
-use Rattle.seq_access.specs.Bodies.{IsSetIn, data_in, owned_in}
-use Rattle.seq_access.specs.Writing.{DifferBehind, IsNotBefore, IsWriting, place_next, sizes, written_by}
+use Rattle.seq_access.specs.Bodies.{IsLastOf, IsSetIn, data_in, last_in, owned_in}
+use Rattle.seq_access.specs.Writing.{DifferBehind, IsNotBefore, IsWriting, record_next, sizes, written_by}
 use Rattle.seq_access.proofs.LastPlaces.{last_said}
 use Rattle.seq_access.proofs.MoreBlocks.{Parts, parts_of}
 use Rattle.seq_access.proofs.NextPlaces.{AreBefore, next_behind, next_first}
+use Rattle.seq_access.proofs.OwnBodies.{last_small as small}
 use Rattle.seq_access.proofs.SparedImages.{by_bytes}
 use Rattle.seq_access.proofs.SparedSets.{first_on, own_apart, upto_kept}
 
@@ -35,13 +37,24 @@ use Rattle.seq_access.proofs.SparedSets.{first_on, own_apart, upto_kept}
 pub set_of : (image : List ℕ) (v : Vol) (w : Writer) (is : IsWriting image v w) → IsSetIn image v is.f
 set_of image v w is = record { set = is.set; slot = w.slot; dscb = is.slot }
 
--- has no block, or one that isn't a record 0
-pub some_of : (image : List ℕ) (v : Vol) (w : Writer) (is : IsWriting image v w) → (has_no_block is.f.lstar ≡ true) ⊎ (1 ≤ (last_of is.f.lstar).r)
-some_of image v w is = by (has_no_block is.f.lstar) refl
+-- whose last record is this
+pub ends_of : (image : List ℕ) (v : Vol) (w : Writer) (is : IsWriting image v w) → IsLastOf image v is.f (last_in image v is.f)
+ends_of image v w is = (is.writable, refl)
+
+-- and has a number of one byte, on a track that a TTR can say
+pub last_small : (image : List ℕ) (v : Vol) (w : Writer) (is : IsWriting image v w) → (last_in image v is.f).r < 256
+last_small image v w is = small v.geometry (data_in image v) is.f.name (attr_of is.f) (extents_in image v is.f) is.f.lstar is.writable
+
+pub last_low : (image : List ℕ) (v : Vol) (w : Writer) (is : IsWriting image v w) → w.last.tt < 65536 → (last_in image v is.f).tt < 65536
+last_low image v w is low = ⊎_elim (λ before. omega (arith, before, low)) (λ same. omega (arith, same.0, low)) is.behind
+
+-- it is none, or isn't a record 0
+pub some_of : (image : List ℕ) (v : Vol) (w : Writer) (is : IsWriting image v w) → (has_no_block (lstar_of (last_in image v is.f)) ≡ true) ⊎ (1 ≤ (last_of (lstar_of (last_in image v is.f))).r)
+some_of image v w is = by (lstar_of (last_in image v is.f)) (has_no_block (lstar_of (last_in image v is.f))) refl is.front
   where
-    by : (b : Bool) → has_no_block is.f.lstar ≡ b → (has_no_block is.f.lstar ≡ true) ⊎ (1 ≤ (last_of is.f.lstar).r)
-    by true e = inl e
-    by false e = inr (parts_of v.geometry (extents_in image v is.f) (data_in image v) is.f.lstar (last_of is.f.lstar) is.old refl e is.body).first
+    by : (told : List ℕ) (b : Bool) → has_no_block told ≡ b → seq_body v.geometry (data_in image v) (extents_in image v is.f) told ≡ Seq is.old → (has_no_block told ≡ true) ⊎ (1 ≤ (last_of told).r)
+    by told true e front = inl e
+    by told false e front = inr (parts_of v.geometry (extents_in image v is.f) (data_in image v) told (last_of told) is.old refl e front).first
 
 same_blocks : (xs ys : List Block) → Seq xs ≡ Seq ys → xs ≡ ys
 same_blocks xs ys e = cc
@@ -92,7 +105,7 @@ goes_behind device last earlier new = one_place (fits device earlier new.0 new.1
 -- A writer may put a content at a place: the buffer of the index is that of its track, with the records before it there.
 pub record PutsAt (image : List ℕ) (v : Vol) (w : Writer) (is : IsWriting image v w) (c : Content) (place : Place) : Type 0 where
   pub geometry : v.buf.geometry ≡ v.geometry
-  pub next : place ≡ place_next is c
+  pub next : place ≡ record_next is c
   pub owned : slice_get (owned_in image v is.f) place.tt ≡ Some v.buf.track
   pub number : length v.buf.records + 1 ≡ place.r
   pub may : MayContinue image v.buf
@@ -133,10 +146,10 @@ module _ (image : List ℕ) (v : Vol) (w : Writer) (is : IsWriting image v w) (c
       (λ more. ⊎_elim (λ here. inl (ap (λ (p : Place). p.tt) here, ap (λ (p : Place). p.r) here)) (λ on. inr (ap (λ (p : Place). p.tt) on, ap (λ (p : Place). p.r) on)) more.1)
       goes
 
-  pub behind : IsNotBefore place (last_of is.f.lstar)
-  behind = not_before place w.last (last_of is.f.lstar) follows is.behind
+  pub behind : IsNotBefore place (last_in image v is.f)
+  behind = not_before place w.last (last_in image v is.f) follows is.behind
 
-  pub past : (last_of is.f.lstar).tt ≤ place.tt
+  pub past : (last_in image v is.f).tt ≤ place.tt
   past = ⊎_elim (λ low. omega (arith, low)) (λ same. omega (arith, same.0)) behind
 
   -- the buffer has the records up to a last block on its track
@@ -163,12 +176,12 @@ module _ (image : List ℕ) (v : Vol) (w : Writer) (is : IsWriting image v w) (c
       | inr w1 ↦ by_bytes v.geometry (Some q.r) track image after (elsewhere track w1.1)
     ]
 
-    pub differs : DifferBehind v is.f image after
+    pub differs : DifferBehind v is.f (last_in image v is.f) image after
     differs = record {
       size = put.size;
       header = put.header;
       others = λ track out. elsewhere track (λ same. out place.tt (at.owned ∙ ap (λ (t : ℕ). Some t) (sym same)) past);
-      kept = kept_upto (last_of is.f.lstar) is.behind;
+      kept = kept_upto (last_in image v is.f) is.behind;
     }
 
     -- the tracks before this one

@@ -1,6 +1,6 @@
--- An image in which one slot holds a data set's format 1 with a further last block: it stands for the volume after the Fill.
-use Rattle.std.proofs.Common.{◌≡◌, ◌≢◌, ℕ, ◌<◌, Bool, true, false, cond, List, [], ◌++◌, map, length, get_or, Some, Result, Ok, Err, refl, sym, ap, subst, ◌∙◌}
-use Rattle.std.specs.Prelude.{slice_get, unwrap_or}
+-- An image in which one slot holds a data set's format 1 with a further last block: it stands for the volume after the Fill or Area.
+use Rattle.std.proofs.Common.{◌≡◌, ◌≢◌, ℕ, ◌<◌, Bool, true, false, cond, List, [], map, length, get_or, Some, Result, Ok, Err, refl, sym, ap, subst, ◌∙◌}
+use Rattle.std.specs.Prelude.{slice_get, unwrap_or, None}
 use Rattle.std.specs.Option.{option_map}
 use Rattle.std.specs.Str.{bytes_eq}
 use Rattle.std.proofs.lemmas.Slice.Eq.{bytes_eq-Decides}
@@ -11,35 +11,37 @@ use Rattle.dscb_codec.specs.declared.F1.{F1}
 use Rattle.dscb_codec.specs.Layout.{decoded}
 use Rattle.ebcdic_names.specs.declared.names.Dsn.{Dsn}
 use Rattle.stop_model.specs.Files.{patched}
+use Rattle.pack_spec.specs.Alike.{DifferInVtoc}
 use Rattle.pack_spec.specs.declared.slot.VtocSlot.{VtocSlot}
 use Rattle.pack_spec.specs.Blocks.{data_tracks}
+use Rattle.pack_spec.specs.Bodies.{body_of}
 use Rattle.pack_spec.specs.FreeChain.{entries_of, free_entries}
 use Rattle.pack_spec.specs.Label.{heads_of, label_of}
 use Rattle.pack_spec.specs.Owned.{volume_faults}
 use Rattle.pack_spec.specs.Rules.{counted_extents, is_named, slots_faults}
 use Rattle.pack_spec.specs.Settled.{AreGuarded, AreSettled, IsGuarded, IsSettledVtoc, slots_for}
-use Rattle.pack_spec.specs.Volume.{data_sets_in, volume_by, volume_of, volume_with}
+use Rattle.pack_spec.specs.Volume.{attr_of, data_sets_in, volume_by, volume_of, volume_with}
 use Rattle.pack_spec.proofs.Lawful.{groups_hold, lawful_volume}
-use Rattle.vol_model.specs.declared.answers.Mode.TheVariants as modes
-use Rattle.vol_model.specs.declared.contents.Block.{Block}
-use Rattle.vol_model.specs.declared.contents.Body.TheVariants as bodies
+use Rattle.vol_model.specs.declared.answers.Mode.{Mode}
+use Rattle.vol_model.specs.declared.contents.Body.{Body}
 use Rattle.vol_model.specs.declared.contents.DataSet.{DataSet}
 use Rattle.vol_model.specs.declared.contents.Place.{Place}
 use Rattle.vol_model.specs.declared.contents.Volume.{Volume}
 use Rattle.vol_model.specs.Order.{IsAscending, in_order}
-use Rattle.vol_model.specs.Places.{Content, placed}
-use Rattle.vol_model.specs.Shelf.{with_set, write_on}
+use Rattle.vol_model.specs.Places.{Content, placed, with_blocks}
+use Rattle.vol_model.specs.Shelf.{fits_mode, unreadable, with_set, with_written, write_on, written}
 use Rattle.vol_model.specs.Space.{free_runs}
 use Rattle.vtoc_index.specs.declared.vol.Vol.{Vol}
 use Rattle.vtoc_index.specs.Index.{IsIndexOf, IsMounted, IsPut, place_of_slot, with_dscb}
 use Rattle.vtoc_index.specs.Last.{lstar_of}
-use Rattle.seq_access.specs.Bodies.{IsSequential, body_in, body_upto}
+use Rattle.vtoc_sets.specs.Sets.{extents_in}
+use Rattle.seq_access.specs.Bodies.{body_of_set, data_in}
 use Rattle.seq_access.proofs.ChangedNames.{faults_kept, free_kept}
 use Rattle.seq_access.proofs.FoundSlots.{content_at, has_named, low_of, others_apart, set_behind, slot_there}
 use Rattle.seq_access.proofs.KeptGuards.{guarded_alike, settled_alike}
 use Rattle.seq_access.proofs.KeptSlots.{HasExtentsOf, changed_content, changed_slot, counted_alike, faults_alike, put_is_change}
-use Rattle.seq_access.proofs.RaisedSets.{filled, filled_on, raised, volume_filled}
-use Rattle.seq_access.proofs.StandingPuts.{put_mounted, put_stands, slots_by, volume_after}
+use Rattle.seq_access.proofs.RaisedSets.{raised, volume_written, written_on}
+use Rattle.seq_access.proofs.StandingPuts.{put_differs, put_mounted, put_stands, slots_by, volume_after}
 
 -- a format 1, with the last block raised where it has this name
 abbrev one_raised : List ℕ → Place → ℕ → F1 → F1
@@ -72,24 +74,25 @@ module _ (name : List ℕ) (last : Place) (balance : ℕ) where
   same_slot : (s : VtocSlot) → has_named name s ≡ false → s ≡ changed_slot (one_raised name last balance) s
   same_slot s apart = ap (λ (d : Result Dscb DscbErr). record s { content = d }) (sym (unnamed s.content apart))
 
--- A sequential data set in a slot has these blocks, and these contents behind them up to another last block.
-pub record CanRaise (image : List ℕ) (v : Vol) (slot : ℕ) (f : F1) (last : Place) (old : List Block) (cs : List Content) : Type 0 where
+-- A data set in a slot has this body, and these contents behind its blocks up to another last block.
+pub record CanRaise (image : List ℕ) (v : Vol) (slot : ℕ) (f : F1) (last : Place) (mode : Mode) (body : Body) (cs : List Content) : Type 0 where
   pub mounted : IsMounted image v
   pub set : slice_get v.slots.items slot ≡ Some (formats.F1 f)
-  pub sequential : IsSequential f
-  pub was : body_in image v f ≡ bodies.Seq old
-  pub is : body_upto image v f (lstar_of last) ≡ bodies.Seq (old ++ placed v.geometry.device (bodies.Seq old) cs)
+  pub kind : fits_mode mode f.name (attr_of f) ≡ true
+  pub readable : unreadable body ≡ None
+  pub was : body_of_set image v f ≡ body
+  pub is : body_of v.geometry (data_in image v) f.name (attr_of f) (extents_in image v f) (lstar_of last) ≡ with_blocks body (placed v.geometry.device body (written mode body cs))
 
--- An image after a Fill stands for the volume then, and is guarded and settled where the one before it is.
-pub record StandsFilled (volume : Volume) (dsn : Dsn) (cs : List Content) (image put : List ℕ) : Type 0 where
+-- An image after a Fill or Area stands for the volume then, and is guarded and settled where the one before it is.
+pub record StandsWritten (volume : Volume) (dsn : Dsn) (mode : Mode) (cs : List Content) (image put : List ℕ) : Type 0 where
   pub after : Volume
-  pub step : write_on modes.Fill dsn cs volume ≡ Ok after
+  pub step : write_on mode dsn cs volume ≡ Ok after
   pub stands : volume_of put ≡ Ok after
   pub guarded : IsGuarded image → IsGuarded put
   pub settled : IsSettledVtoc image → IsSettledVtoc put
 
-module _ (image put : List ℕ) (v : Vol) (slot : ℕ) (f : F1) (last : Place) (balance : ℕ) (old : List Block) (cs : List Content) (bytes : List ℕ) (can : CanRaise image v slot f last old cs) (size : length bytes ≡ 140) (dscb : decoded bytes ≡ Ok (formats.F1 (raised last balance f)))
-    (written : put ≡ patched image (place_of_slot v slot) bytes) (is : IsPut v slot (formats.F1 (raised last balance f)) image put) where
+module _ (image put : List ℕ) (v : Vol) (slot : ℕ) (f : F1) (last : Place) (balance : ℕ) (mode : Mode) (body : Body) (cs : List Content) (bytes : List ℕ) (can : CanRaise image v slot f last mode body cs) (size : length bytes ≡ 140) (dscb : decoded bytes ≡ Ok (formats.F1 (raised last balance f)))
+    (put_is : put ≡ patched image (place_of_slot v slot) bytes) (is : IsPut v slot (formats.F1 (raised last balance f)) image put) where
   abbrev d : Dscb
   d = formats.F1 (raised last balance f)
 
@@ -103,7 +106,7 @@ module _ (image put : List ℕ) (v : Vol) (slot : ℕ) (f : F1) (last : Place) (
   before = volume_by image v.geometry v.vtoc
 
   abbrev more : DataSet → DataSet
-  more x = filled v.geometry.device cs x
+  more x = with_written v.geometry.device mode cs x
 
   low : slot < length v.slots.items
   low = low_of v.slots.items slot (formats.F1 f) can.set
@@ -136,21 +139,25 @@ module _ (image put : List ℕ) (v : Vol) (slot : ℕ) (f : F1) (last : Place) (
   unfolding volume_with
   up = (lawful_volume image before can.mounted.volume).order
 
-  made : volume_after image put v slot d bytes can.mounted low size dscb written is behind ≡ with_set before f.name more
-  made = volume_filled v.geometry (data_tracks image v.geometry v.vtoc) slots slot at.0 f last balance at.1.0 at.1.1 can.mounted.lawful counted up cs old can.sequential can.was can.is (unwrap_or (label_of image v.geometry) []) v.vtoc
+  made : volume_after image put v slot d bytes can.mounted low size dscb put_is is behind ≡ with_set before f.name more
+  made = volume_written v.geometry (data_tracks image v.geometry v.vtoc) slots slot at.0 f last balance at.1.0 at.1.1 can.mounted.lawful counted up mode cs body can.kind can.readable can.was can.is (unwrap_or (label_of image v.geometry) []) v.vtoc
 
-  whole : volume_faults (volume_after image put v slot d bytes can.mounted low size dscb written is behind) ≡ []
+  whole : volume_faults (volume_after image put v slot d bytes can.mounted low size dscb put_is is behind) ≡ []
   whole = ap volume_faults made ∙ faults_kept f.name more (λ x. refl) before ∙ can.mounted.whole
 
   -- where it is done, the index is the image's
   pub raised_mounted : (w : Vol) → w ≡ record v { slots = w.slots; buf = w.buf } → IsIndexOf put w → IsMounted put w
   raised_mounted w others index =
       let full : w ≡ record v { slots = w.slots; free = w.free; by_name = w.by_name; buf = w.buf } = others ∙ ap (λ (u : Vol). record v { slots = w.slots; free = u.free; by_name = u.by_name; buf = w.buf }) (sym others) in
-      put_mounted image put v slot d bytes can.mounted low size dscb written is behind lawful whole w full index
+      put_mounted image put v slot d bytes can.mounted low size dscb put_is is behind lawful whole w full index
       (ap (λ (u : Vol). u.free.items) others ∙ can.mounted.free ∙ sym (ap free_runs made ∙ free_kept f.name more (λ x. refl) before))
 
+  -- the VTOC alone is changed
+  pub raised_differs : DifferInVtoc v.geometry v.vtoc image put
+  raised_differs = put_differs image put v slot d bytes can.mounted low size dscb put_is is behind
+
   stands : volume_of put ≡ Ok (with_set before f.name more)
-  stands = put_stands image put v slot d bytes can.mounted low size dscb written is behind lawful whole ∙ ap (λ (x : Volume). Ok x) made
+  stands = put_stands image put v slot d bytes can.mounted low size dscb put_is is behind lawful whole ∙ ap (λ (x : Volume). Ok x) made
 
   same_space : free_entries (with_set before f.name more) ≡ free_entries before
   same_space = ap (entries_of (heads_of before.geometry)) (free_kept f.name more (λ x. refl) before)
@@ -178,13 +185,13 @@ module _ (image put : List ℕ) (v : Vol) (slot : ℕ) (f : F1) (last : Place) (
       let there : AreSettled slots before = subst (λ (ss : List VtocSlot). AreSettled ss before) slots_then here in
       (with_set before f.name more, stands, subst (λ (ss : List VtocSlot). AreSettled ss (with_set before f.name more)) (sym slots_now) (settled_alike c (keeps f.name last balance) slots before (with_set before f.name more) same_space there))
 
-  -- Each image with the slot put, also one that a stop leaves, stands for the volume after the Fill.
-  pub raised_stands : (volume : Volume) → volume_of image ≡ Ok volume → StandsFilled volume (record { bytes = f.name }) cs image put
+  -- Each image with the slot put, also one that a stop leaves, stands for the volume after the Fill or Area.
+  pub raised_stands : (volume : Volume) → volume_of image ≡ Ok volume → StandsWritten volume (record { bytes = f.name }) mode cs image put
   raised_stands volume there = record {
     after = with_set before f.name more;
     step =
-        ap (write_on modes.Fill (record { bytes = f.name }) cs) (same_volume volume there)
-        ∙ filled_on v.geometry (data_tracks image v.geometry v.vtoc) slots slot at.0 f last balance at.1.0 at.1.1 can.mounted.lawful counted up cs old can.sequential can.was can.is (unwrap_or (label_of image v.geometry) []) v.vtoc;
+        ap (write_on mode (record { bytes = f.name }) cs) (same_volume volume there)
+        ∙ written_on v.geometry (data_tracks image v.geometry v.vtoc) slots slot at.0 f last balance at.1.0 at.1.1 can.mounted.lawful counted up mode cs body can.kind can.readable can.was can.is (unwrap_or (label_of image v.geometry) []) v.vtoc;
     stands = stands;
     guarded = keeps_guarded;
     settled = keeps_settled;

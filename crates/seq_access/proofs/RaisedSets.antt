@@ -1,9 +1,9 @@
--- The volume of slots of which one holds its format 1 with a further last block: it is the one after a Fill of its data set.
-use Rattle.std.proofs.Common.{◌≡◌, ℕ, suc, Bool, true, false, cond, not, ◌||◌, List, [], ◌∷◌, ◌++◌, take, drop, map, Option, Some, None, Ok, refl, sym, ap, subst, ◌∙◌}
+-- The volume of slots of which one holds its format 1 with a further last block: it is the one after its data set was written to.
+use Rattle.std.proofs.Common.{◌≡◌, ℕ, suc, Bool, true, false, cond, not, List, [], ◌∷◌, ◌++◌, take, drop, map, Option, Some, None, Ok, refl, sym, ap, subst, ◌∙◌}
 use Rattle.std.specs.Prelude.{filter, slice_get, slice_range, if◌then◌else◌}
 use Rattle.std.specs.List.{AllByRecursion, IsDistinct, cons_option, filter_map, find, list_any}
 use Rattle.std.specs.List.Sorted.{IsSortedBy, ties}
-use Rattle.std.proofs.lemmas.List.{append-nil, map-append}
+use Rattle.std.proofs.lemmas.List.{map-append}
 use Rattle.std.proofs.lemmas.List.Elements.{filter-append, filter_map-append}
 use Rattle.std.proofs.lemmas.Slice.Eq.{bytes_eq-Decides}
 use Rattle.ckd_image.specs.declared.device.DiskType.{DiskType}
@@ -12,26 +12,24 @@ use Rattle.dscb_codec.specs.declared.Dscb.TheVariants as formats
 use Rattle.dscb_codec.specs.declared.F1.{F1}
 use Rattle.ebcdic_names.specs.declared.names.Dsn.{Dsn}
 use Rattle.pack_spec.specs.declared.slot.VtocSlot.{VtocSlot}
-use Rattle.pack_spec.specs.Blocks.{seq_body}
 use Rattle.pack_spec.specs.Bodies.{body_of, catalog_of}
 use Rattle.pack_spec.specs.Rules.{counted_extents, name_faults, set_in, slots_faults}
 use Rattle.pack_spec.specs.Volume.{attr_of, counted_runs, data_set_of, data_sets_in, volume_with}
 use Rattle.pack_spec.specs.Vtoc.{run_of_extent}
 use Rattle.pack_spec.proofs.Lawful.{groups_hold}
 use Rattle.pack_spec.proofs.SetNames.{distinct_sets, names_apart}
-use Rattle.vol_model.specs.declared.answers.Mode.TheVariants as modes
+use Rattle.vol_model.specs.declared.answers.Mode.{Mode}
 use Rattle.vol_model.specs.declared.catalogs.CatBody.TheVariants as catalogs
-use Rattle.vol_model.specs.declared.contents.Block.{Block}
 use Rattle.vol_model.specs.declared.contents.Body.{Body}
-use Rattle.vol_model.specs.declared.contents.Body.TheVariants as bodies
 use Rattle.vol_model.specs.declared.contents.DataSet.{DataSet}
 use Rattle.vol_model.specs.declared.contents.Place.{Place}
 use Rattle.vol_model.specs.declared.contents.Run.{Run}
 use Rattle.vol_model.specs.declared.contents.Volume.{Volume}
+use Rattle.vol_model.specs.declared.refusals.Refusal.{Refusal}
 use Rattle.vol_model.specs.declared.refusals.Refusal.TheVariants.{WrongKind}
 use Rattle.vol_model.specs.Order.{IsAscending, in_order, is_before}
-use Rattle.vol_model.specs.Places.{Content, placed}
-use Rattle.vol_model.specs.Shelf.{catalog_name, changed, has_name, is_catalog, is_partitioned, is_sequential, unless_refused, with_set, with_written, write_on, write_refusal, write_refusal_for}
+use Rattle.vol_model.specs.Places.{Content, placed, with_blocks}
+use Rattle.vol_model.specs.Shelf.{catalog_name, changed, fits_mode, has_name, unless_refused, unreadable, with_set, with_written, write_on, write_refusal, write_refusal_for, written}
 use Rattle.vol_model.proofs.InOrder.{in_order-sorted, in_order-stable, in_order-unique}
 use Rattle.vol_model.proofs.Steps.{ascending_in_order, same_names}
 use Rattle.vtoc_index.specs.Index.{with_dscb}
@@ -43,10 +41,6 @@ use Rattle.seq_access.proofs.ChangedSlots.{holding, length-changed, split_change
 -- a format 1 with this last block and this track balance
 abbrev pub raised : Place → ℕ → F1 → F1
 raised last balance f = record f { lstar = lstar_of last; balance = balance }
-
--- a data set with these contents behind its blocks
-abbrev pub filled : DiskType → List Content → DataSet → DataSet
-filled device cs x = with_written device modes.Fill cs x
 
 -- ---- lists in which one data set has a name
 
@@ -97,22 +91,22 @@ find_first p (x ∷ xs) = by_test (p x) (find_first p xs)
     by_test false rest = rest
 
 -- data sets of which some are changed, but in no name, stand in the same order
-module _ (name : List ℕ) (device : DiskType) (cs : List Content) (sets : List DataSet) (up : IsAscending (in_order sets)) where
+module _ (name : List ℕ) (device : DiskType) (mode : Mode) (cs : List Content) (sets : List DataSet) (up : IsAscending (in_order sets)) where
   abbrev one : DataSet → DataSet
-  one y = if has_name name y then filled device cs y else y
+  one y = if has_name name y then with_written device mode cs y else y
 
   ties_alike : (x y : DataSet) → ties is_before x (one y) ≡ ties is_before x y
   ties_alike x y = by_test (has_name name y)
     where
-      by_test : (b : Bool) → ties is_before x (cond b (filled device cs y) y) ≡ ties is_before x y
+      by_test : (b : Bool) → ties is_before x (cond b (with_written device mode cs y) y) ≡ ties is_before x y
       by_test true = refl
       by_test false = refl
 
-  changed_in_order : in_order (changed name (filled device cs) sets) ≡ changed name (filled device cs) (in_order sets)
+  changed_in_order : in_order (changed name (with_written device mode cs) sets) ≡ changed name (with_written device mode cs) (in_order sets)
   changed_in_order =
-      let now : List DataSet = changed name (filled device cs) (in_order sets) in
-      let same : in_order now ≡ now = ascending_in_order now (changed-ascending name (filled device cs) (λ y. refl) (in_order sets) up) in
-      sym (in_order-unique (changed name (filled device cs) sets) now (subst (IsSortedBy is_before) same (in_order-sorted now))
+      let now : List DataSet = changed name (with_written device mode cs) (in_order sets) in
+      let same : in_order now ≡ now = ascending_in_order now (changed-ascending name (with_written device mode cs) (λ y. refl) (in_order sets) up) in
+      sym (in_order-unique (changed name (with_written device mode cs) sets) now (subst (IsSortedBy is_before) same (in_order-sorted now))
       (λ x.
       filter-map (ties is_before x) (ties is_before x) one (ties_alike x) (in_order sets)
       ∙ ap (map one) (in_order-stable sets x)
@@ -185,36 +179,27 @@ module _ (g : Geometry) (tracks : List (List ℕ)) (slots : List VtocSlot) (k : 
   unfolding counted_extents
   counted_now = refl
 
-  module _ (cs : List Content) (old : List Block) (sequential : is_sequential f.name (attr_of f) ≡ true) (was : seq_body g tracks (counted_runs g slots f) f.lstar ≡ bodies.Seq old)
-      (is : seq_body g tracks (counted_runs g slots f) (lstar_of last) ≡ bodies.Seq (old ++ placed g.device (bodies.Seq old) cs)) (label : List ℕ) (vtoc : Run) where
+  module _ (mode : Mode) (cs : List Content) (body : Body) (kind : fits_mode mode f.name (attr_of f) ≡ true) (readable : unreadable body ≡ None) (was : body_of g tracks f.name (attr_of f) (counted_runs g slots f) f.lstar ≡ body)
+      (is : body_of g tracks f.name (attr_of f) (counted_runs g slots f) (lstar_of last) ≡ with_blocks body (placed g.device body (written mode body cs))) (label : List ℕ) (vtoc : Run) where
     abbrev volume : Volume
     volume = volume_with g tracks label vtoc slots
 
     abbrev more : DataSet → DataSet
-    more x = filled g.device cs x
-
-    -- the body of a sequential data set
-    body_by : (lstar : List ℕ) (bs : List Block) → seq_body g tracks (counted_runs g slots f) lstar ≡ bodies.Seq bs → body_of g tracks f.name (attr_of f) (counted_runs g slots f) lstar ≡ bodies.Seq bs
-    unfolding body_of
-    body_by lstar bs read =
-        let rest : Body = cond (is_catalog f.name || is_partitioned f.name (attr_of f)) (bodies.Unreadable 0) bodies.Other in
-        ap (λ (b : Bool). cond b (seq_body g tracks (counted_runs g slots f) lstar) rest) sequential ∙ read
+    more x = with_written g.device mode cs x
 
     abbrev make : Body → DataSet
     make body = record { name = record { bytes = f.name }; attr = attr_of f; extents = counted_runs g slots f; body = body }
 
-    set_was : as_set f ≡ make (bodies.Seq old)
+    set_was : as_set f ≡ make body
     unfolding data_set_of
-    set_was = ap make (body_by f.lstar old was)
+    set_was = ap make was
 
     -- the data set with its blocks
     set_now : as_set now ≡ more (as_set f)
     unfolding data_set_of attr_of
     set_now =
-        let put : List Block = placed g.device (bodies.Seq old) cs in
         ap (λ (es : List (List ℕ)). record { name = record { bytes = f.name }; attr = attr_of f; extents = map (run_of_extent g) es; body = body_of g tracks f.name (attr_of f) (map (run_of_extent g) es) (lstar_of last) }) counted_now
-        ∙ ap make (body_by (lstar_of last) (old ++ put) is)
-        ∙ ap (λ (c : List Content). make (bodies.Seq (old ++ placed g.device (bodies.Seq old) c))) (sym (append-nil cs))
+        ∙ ap make is
         ∙ sym (ap more set_was)
 
     sets_now : in_order (data_sets_in g tracks after) ≡ changed f.name more (in_order (data_sets_in g tracks slots))
@@ -224,7 +209,7 @@ module _ (g : Geometry) (tracks : List (List ℕ)) (slots : List VtocSlot) (k : 
         (sets_after
         ∙ ap (λ (y : DataSet). map as_set ahead ++ y ∷ map as_set behind) set_now
         ∙ sym (ap (changed f.name more) sets_before ∙ one_changed f.name more (as_set f) (map as_set ahead) (map as_set behind) named apart))
-        ∙ changed_in_order f.name g.device cs sets up
+        ∙ changed_in_order f.name g.device mode cs sets up
 
     catalog_now : catalog_of (in_order (data_sets_in g tracks after)) ≡ catalog_of (in_order (data_sets_in g tracks slots))
     unfolding catalog_of
@@ -233,9 +218,9 @@ module _ (g : Geometry) (tracks : List (List ℕ)) (slots : List VtocSlot) (k : 
         (ap (list_any (has_name catalog_name)) sets_now ∙ changed-any f.name more (λ y. refl) catalog_name (in_order (data_sets_in g tracks slots)))
 
     -- The volume of the slots with the last block raised is the one with these contents.
-    pub volume_filled : volume_with g tracks label vtoc after ≡ with_set volume f.name more
+    pub volume_written : volume_with g tracks label vtoc after ≡ with_set volume f.name more
     unfolding volume_with
-    volume_filled = λ i. record {
+    volume_written = λ i. record {
       serial = record { bytes = slice_range label 4 10 };
       geometry = g;
       vtoc = vtoc;
@@ -244,10 +229,11 @@ module _ (g : Geometry) (tracks : List (List ℕ)) (slots : List VtocSlot) (k : 
       catalog = catalog_now i;
     }
 
-    -- and the Fill isn't refused
-    pub filled_on : write_on modes.Fill (record { bytes = f.name }) cs volume ≡ Ok (with_set volume f.name more)
+    -- and the operation isn't refused
+    pub written_on : write_on mode (record { bytes = f.name }) cs volume ≡ Ok (with_set volume f.name more)
     unfolding write_on write_refusal volume_with
-    filled_on =
+    written_on =
         let dsn : Dsn = record { bytes = f.name } in
-        ap (λ (o : Option DataSet). unless_refused (write_refusal_for modes.Fill f.name o) (with_set volume f.name more)) (found ∙ ap (λ (x : DataSet). Some x) set_was)
-        ∙ ap (λ (b : Bool). unless_refused (cond b None (Some WrongKind)) (with_set volume f.name more)) sequential
+        ap (λ (o : Option DataSet). unless_refused (write_refusal_for mode f.name o) (with_set volume f.name more)) (found ∙ ap (λ (x : DataSet). Some x) set_was)
+        ∙ ap (λ (b : Bool). unless_refused (cond b (unreadable body) (Some WrongKind)) (with_set volume f.name more)) kind
+        ∙ ap (λ (r : Option Refusal). unless_refused r (with_set volume f.name more)) readable

@@ -22,7 +22,7 @@ use Rattle.vtoc_index.specs.Last.{lstar_of}
 use Rattle.vtoc_sets.specs.Sets.{extents_in}
 use Rattle.seq_access.specs.declared.writer.Writer.{Writer}
 use Rattle.seq_access.specs.Bodies.{IsSetIn, data_in, owned_in}
-use Rattle.seq_access.specs.Writing.{AreThere, IsRoomy, IsWriting, place_next, sizes, written_by}
+use Rattle.seq_access.specs.Writing.{AreThere, IsRoomy, IsWriting, record_next, sizes, written_by}
 use Rattle.seq_access.proofs.BodyWalks.{body_none}
 use Rattle.seq_access.proofs.DataPlaces.{outside}
 use Rattle.seq_access.proofs.EndedTracks.{count_on}
@@ -73,7 +73,7 @@ module _ (image : List ℕ) (v : Vol) (w : Writer) (is : IsWriting image v w) (l
           let parts = parts_of v.geometry (extents_in image v is.f) (data_in image v) (lstar_of w.last) w.last (written_by is) (last_said w.last low small) some is.so_far in
           absurd (omega (arith, parts.first, zero_r))
 
-  pub next_none : w.last.r ≡ 0 → (c : Content) → place_next is c ≡ record { tt = 0; r = 1 }
+  pub next_none : w.last.r ≡ 0 → (c : Content) → record_next is c ≡ record { tt = 0; r = 1 }
   next_none zero_r c = ap (λ (bs : List Block). next_place v.geometry.device (bodies.Seq bs) c) (none_written zero_r) ∙ next_first v.geometry.device c
 
   module _ (first : 1 ≤ w.last.r) where
@@ -99,7 +99,7 @@ module _ (image : List ℕ) (v : Vol) (w : Writer) (is : IsWriting image v w) (l
 
     -- and the next block goes behind its records
     pub next_by : (t : ℕ) (xs : List Record) → slice_get (owned_in image v is.f) w.last.tt ≡ Some t → records_on image v.geometry (Some w.last.r) t ≡ Some xs → (c : Content)
-        → place_next is c ≡ place_behind v.geometry.device (record { tt = w.last.tt; r = length xs }) (map sizes xs) (lengths c)
+        → record_next is c ≡ place_behind v.geometry.device (record { tt = w.last.tt; r = length xs }) (map sizes xs) (lengths c)
     next_by t xs owned stands c =
         let track : parts.track ≡ t = one_some parts.there owned in
         let mine : records_on image v.geometry (Some w.last.r) t ≡ Some parts.records = ap (records_on image v.geometry (Some w.last.r)) (sym track) ∙ stand_parts in

@@ -13,7 +13,7 @@ use Rattle.vtoc_index.specs.Index.{IsMounted}
 use Rattle.seq_access.specs.declared.writer.PutErr.{PutErr}
 use Rattle.seq_access.specs.declared.writer.Writer.{Writer}
 use Rattle.seq_access.specs.Bodies.{owned_in}
-use Rattle.seq_access.specs.Writing.{HoldsLast, IsEnded, IsReady, IsWriting, place_next, sizes}
+use Rattle.seq_access.specs.Writing.{HoldsLast, IsEnded, IsReady, IsWriting, record_next, sizes}
 use Rattle.seq_access.proofs.Checked.{mounted_with}
 use Rattle.seq_access.proofs.ReadyPlaces.{next_by, next_none}
 use Rattle.seq_access.proofs.WritersKept.{puts_with, writing_with}
@@ -40,13 +40,14 @@ module _ (image : List ℕ) (v : Vol) (w : Writer) (is : IsWriting image v w) (l
         tracks = refl;
         writing = writing_with image v b w is m;
         same = refl;
+        body = refl;
         old = refl;
         puts = puts_with image v b is.f w;
         ended = λ apart first. absurd (omega (arith, none, first));
       })
 
   module _ (first : 1 ≤ w.last.r) (b : Buffer) (held : HoldsLast image (record v { buf = b }) is.f w.last) where
-    next_at : (c : Content) → lengths c ≡ (kl, dl) → place_next is c ≡ place_behind v.geometry.device (record { tt = w.last.tt; r = length b.records }) (map sizes b.records) (kl, dl)
+    next_at : (c : Content) → lengths c ≡ (kl, dl) → record_next is c ≡ place_behind v.geometry.device (record { tt = w.last.tt; r = length b.records }) (map sizes b.records) (kl, dl)
     next_at c same =
         next_by image v w is low small first b.track b.records held.owned held.stand c
         ∙ ap (place_behind v.geometry.device (record { tt = w.last.tt; r = length b.records }) (map sizes b.records)) same
@@ -66,12 +67,13 @@ module _ (image : List ℕ) (v : Vol) (w : Writer) (is : IsWriting image v w) (l
           tracks = refl;
           writing = writing_with image v b w is m;
           same = refl;
+          body = refl;
           old = refl;
           puts = puts_with image v b is.f w;
           ended = λ apart first. absurd (apart (ap (λ (p : Place). p.tt) at));
         })
 
-    place_past : (c : Content) → lengths c ≡ (kl, dl) → fits v.geometry.device (map sizes b.records) kl dl ≡ false → place_next is c ≡ record { tt = w.last.tt + 1; r = 1 }
+    place_past : (c : Content) → lengths c ≡ (kl, dl) → fits v.geometry.device (map sizes b.records) kl dl ≡ false → record_next is c ≡ record { tt = w.last.tt + 1; r = 1 }
     place_past c same long = next_at c same ∙ place_front (fits v.geometry.device (map sizes b.records) kl dl) (record { tt = w.last.tt; r = length b.records + 1 }) (record { tt = w.last.tt + 1; r = 1 }) long
 
     -- and else at the front of the next one
@@ -85,6 +87,7 @@ module _ (image : List ℕ) (v : Vol) (w : Writer) (is : IsWriting image v w) (l
       tracks = end.tracks;
       writing = end.writing;
       same = end.same;
+      body = end.body;
       old = end.old;
       puts = end.puts ∙ puts_with image v b is.f w;
       ended = λ apart some. end.ended;
@@ -95,8 +98,8 @@ module _ (image : List ℕ) (v : Vol) (w : Writer) (is : IsWriting image v w) (l
     ready_by image' v' (Ok p) m long at end owned empty = ready_next image' v' p (end (writing_with image v b w is m)) empty long at owned
     ready_by image' v' (Err e) m long at end owned empty = tt
 
-    pub needs : (c : Content) → lengths c ≡ (kl, dl) → fits v.geometry.device (map sizes b.records) kl dl ≡ false → (n : ℕ) → n ≤ w.last.tt + 1 → n ≤ (place_next is c).tt
+    pub needs : (c : Content) → lengths c ≡ (kl, dl) → fits v.geometry.device (map sizes b.records) kl dl ≡ false → (n : ℕ) → n ≤ w.last.tt + 1 → n ≤ (record_next is c).tt
     needs c same long n most = omega (arith, most, ap (λ (p : Place). p.tt) (place_past c same long))
 
-  pub needs_first : (c : Content) → w.last.r ≡ 0 → (n : ℕ) → n ≤ 0 → n ≤ (place_next is c).tt
+  pub needs_first : (c : Content) → w.last.r ≡ 0 → (n : ℕ) → n ≤ 0 → n ≤ (record_next is c).tt
   needs_first c none n most = omega (arith, most)

@@ -72,7 +72,7 @@ module _ (image : List ℕ) (v : Vol) (f : F1) (set : IsSetIn image v f) (last :
   blocks_found = by_read ∙ found.0
 
   pub none_unfit : (j : ℕ) → option_map is_block (slice_get xs j) ≡ Some false → ⊥
-  none_unfit j is = let no : false ≡ true = not_all xs j is ∙ found.1 in cc
+  none_unfit j is = let no : false ≡ true = not_all is_block xs j is ∙ found.1 in cc
 
 -- the blocks that records are, one by one
 block_there : (k r j : ℕ) (xs : List Record) (x : Record) → slice_get xs j ≡ Some x → slice_get (blocks_from k r xs) j ≡ Some (block_at k (r + j) x)

@@ -1,4 +1,4 @@
--- Images that differ on tracks of a data set behind its last block alone stand for one volume.
+-- Images that differ on tracks of a data set behind the last record that is read stand for one volume.
 use Rattle.std.proofs.Common.{◌≡◌, ◌⊎◌, ◌+◌, ◌≤◌, ◌<◌, ◌*◌, ◌/◌, ◌%◌, ℕ, zero, suc, Bool, true, false, cond, List, [], ◌∷◌, ◌++◌, length, take, map, Option, Some, None, Result, Ok, Err, inl, inr, refl, sym, ap, ap₂, ◌∙◌, subst, arith, option_and_then}
 use Rattle.std.specs.Prelude.{◌&&◌, ◌==◌, slice_get, slice_range, unwrap_or, is_none}
 use Rattle.std.specs.List.{cons_option, filter_map, flat_map, range_with_len}
@@ -18,15 +18,16 @@ use Rattle.pack_spec.specs.declared.MountErr.TheVariants.{BadVtoc, VtocTrack}
 use Rattle.pack_spec.specs.declared.address.Address.{Address}
 use Rattle.pack_spec.specs.declared.slot.VtocSlot.{VtocSlot}
 use Rattle.pack_spec.specs.Alike.{IsIn}
-use Rattle.pack_spec.specs.Blocks.{has_no_block, last_of, owned_tracks}
-use Rattle.pack_spec.specs.Bodies.{catalog_of}
+use Rattle.pack_spec.specs.Blocks.{owned_tracks, records_in}
+use Rattle.pack_spec.specs.Bodies.{body_of, catalog_of}
 use Rattle.pack_spec.specs.Label.{address_at, heads_of, is_inside, label_in, label_of, records_on, track_bytes, track_of_address, tracks_of}
 use Rattle.pack_spec.specs.Owned.{volume_faults}
 use Rattle.pack_spec.specs.Rules.{set_in, slots_faults}
 use Rattle.pack_spec.specs.Slots.{slots_in, slots_of_vtoc, slots_on, track_fault, track_faults}
-use Rattle.pack_spec.specs.Volume.{counted_runs, data_set_of, data_sets_in, volume_by, volume_with}
+use Rattle.pack_spec.specs.Volume.{attr_of, counted_runs, data_set_of, data_sets_in, volume_by, volume_with}
 use Rattle.pack_spec.specs.Vtoc.{first_slot, is_extent, is_vtoc_extent, lower_of, run_of_extent, vtoc_at, vtoc_by, vtoc_of, vtoc_on}
 use Rattle.vol_model.specs.declared.contents.DataSet.{DataSet}
+use Rattle.vol_model.specs.declared.contents.Place.{Place}
 use Rattle.vol_model.specs.declared.contents.Run.{Run}
 use Rattle.vol_model.specs.Order.{in_order}
 use Rattle.vol_model.specs.Space.{free_runs, is_in}
@@ -41,9 +42,11 @@ use Rattle.vtoc_index.specs.Index.{AreDscbs, IsMounted, firsts_of, slots_before}
 use Rattle.vtoc_index.proofs.ExtentLaw.{volume_is}
 use Rattle.vtoc_sets.specs.Sets.{extents_in}
 use Rattle.seq_access.specs.Writing.{DifferBehind}
-use Rattle.seq_access.specs.Bodies.{IsSetIn, data_in, owned_in}
+use Rattle.seq_access.specs.Bodies.{IsLastOf, IsSetIn, body_of_set, data_in, owned_in}
 use Rattle.seq_access.proofs.DataPlaces.{once, outside, owners, owners_more, owned_some}
-use Rattle.seq_access.proofs.KeptBodies.{one_of, sets_same}
+use Rattle.seq_access.proofs.KeptBodies.{one_of, owned_apart, sets_same}
+use Rattle.seq_access.proofs.KeptBodies.{on_same as on_tracks}
+use Rattle.seq_access.proofs.OwnBodies.{own_same}
 
 -- what is read of a track is by its bytes
 pub by_bytes : (g : Geometry) (u : Option ℕ) (t : ℕ) (before after : List ℕ) → track_bytes after g t ≡ track_bytes before g t → records_on after g u t ≡ records_on before g u t
@@ -162,8 +165,7 @@ among_sets (s ∷ slots) (d ∷ dscbs) (suc k) f are is =
     behind None fs m there = (m, there)
     behind (Some x) fs m there = (suc m, there)
 
-module _ (before after : List ℕ) (v : Vol) (f : F1) (set : IsSetIn before v f)
-    (some : (has_no_block f.lstar ≡ true) ⊎ (1 ≤ (last_of f.lstar).r)) (differ : DifferBehind v f before after) where
+module _ (before after : List ℕ) (v : Vol) (f : F1) (set : IsSetIn before v f) (last : Place) (differ : DifferBehind v f last before after) where
   abbrev slots : List VtocSlot
   slots = slots_of_vtoc before v.geometry v.vtoc
 
@@ -224,24 +226,6 @@ module _ (before after : List ℕ) (v : Vol) (f : F1) (set : IsSetIn before v f)
   pub slots_kept : slots_of_vtoc after v.geometry v.vtoc ≡ slots
   slots_kept = slots_same v.geometry v.vtoc before after front in_vtoc
 
-  -- the sets are the same
-  sets_kept : data_sets_in v.geometry (data_in after v) slots ≡ data_sets_in v.geometry (data_in before v) slots
-  sets_kept = sets_same v.geometry v.vtoc before after slots place.0 f place.1 sets_once set_out some (record { others = differ.others; kept = differ.kept })
-
-  -- so the volume is
-  pub volume_kept : volume_by after v.geometry v.vtoc ≡ volume_by before v.geometry v.vtoc
-  unfolding volume_with
-  volume_kept =
-      ap₂ (λ (l : List ℕ) (ss : List VtocSlot). volume_with v.geometry (data_in after v) l v.vtoc ss) (ap (λ (o : Option (List ℕ)). unwrap_or o []) (label_same v.geometry v.vtoc before after front in_vtoc)) slots_kept
-      ∙ ap (λ (sets : List DataSet). record {
-        serial = record { bytes = slice_range (unwrap_or (label_of before v.geometry) []) 4 10 };
-        geometry = v.geometry;
-        vtoc = v.vtoc;
-        slots = length slots;
-        sets = in_order sets;
-        catalog = catalog_of (in_order sets);
-      }) sets_kept
-
   pub same_extents : (x : F1) → extents_in after v x ≡ extents_in before v x
   same_extents x = ap (λ (ss : List VtocSlot). counted_runs v.geometry ss x) slots_kept
 
@@ -249,40 +233,75 @@ module _ (before after : List ℕ) (v : Vol) (f : F1) (set : IsSetIn before v f)
   some_label None is e = cc
   some_label (Some l) is e = (l, sym is)
 
-  -- and the index of one that is mounted is the other's, but for its buffer
-  pub spared_mounted : ((v.buf.records ≡ []) ⊎ StandsOn after v.buf) → IsMounted after v
-  spared_mounted held =
-      let m = set.set.mounted in
-      let g : Geometry = v.geometry in
-      let labels = label_same g v.vtoc before after front in_vtoc in
-      let label = some_label (label_of before g) refl m.index.serial in
-      let faults : track_faults after g v.vtoc ≡ [] = faults_same g v.vtoc before after front in_vtoc ∙ m.index.tracks in
-      let extent : vtoc_of after g ≡ Ok v.vtoc = extent_same g v.vtoc before after front in_vtoc label.0 label.1 m.vtoc in
-      let header : geometry_of (take 512 after) (length after) ≡ Ok g = ap₂ (λ (l : List ℕ) (n : ℕ). geometry_of l n) differ.header differ.size ∙ m.index.header in
-      let lawful : slots_faults g (slots_of_vtoc after g v.vtoc) ≡ [] = ap (slots_faults g) slots_kept ∙ m.lawful in
-      let whole : volume_faults (volume_by after g v.vtoc) ≡ [] = ap volume_faults volume_kept ∙ m.whole in
-      record {
-        index = record {
-          header = header;
-          serial = ap (option_map (λ (l : List ℕ). slice_range l 4 10)) labels ∙ m.index.serial;
-          tracks = faults;
-          slots = subst (AreDscbs v.slots.items) (sym slots_kept) m.index.slots;
-          firsts = m.index.firsts ∙ sym (firsts_same g v.vtoc before after front in_vtoc);
-          buffer = held;
-        };
-        vtoc = extent;
-        lawful = lawful;
-        whole = whole;
-        free = m.free ∙ sym (ap free_runs volume_kept);
-        volume = volume_is after g v.vtoc header extent faults lawful whole;
-      }
+  -- its body is the same, if the record is its last
+  pub own_kept : IsLastOf before v f last → body_of v.geometry (data_in after v) f.name (attr_of f) (extents_in before v f) f.lstar ≡ body_of_set before v f
+  own_kept ends = own_same v.geometry (data_in before v) (data_in after v) f.name (attr_of f) (extents_in before v f) f.lstar last (earlier, at) ends.0 ends.1
+    where
+      g : Geometry
+      g = v.geometry
+
+      mine_once : (t : ℕ) → owners t (extents_in before v f) ≤ 1
+      mine_once t = omega (arith, sets_once t, one_of h t fs place.0 f place.1)
+
+      earlier : (k t : ℕ) → k < last.tt → slice_get (owned_in before v f) k ≡ Some t → records_in g (data_in after v) None t ≡ records_in g (data_in before v) None t
+      earlier k t low own = on_tracks g v.vtoc before after None t (outside before v f set k t own) (by_bytes g None t before after (differ.others t (λ j mine past. absurd (omega (arith, past, low, owned_apart (extents_in before v f) k j t own mine (mine_once t))))))
+
+      at : (t : ℕ) → slice_get (owned_in before v f) last.tt ≡ Some t → 1 ≤ last.r → records_in g (data_in after v) (Some last.r) t ≡ records_in g (data_in before v) (Some last.r) t
+      at t own first = on_tracks g v.vtoc before after (Some last.r) t (outside before v f set last.tt t own) (differ.kept t own first)
+
+  module _ (ends : IsLastOf before v f last) where
+    -- the sets are the same
+    sets_kept : data_sets_in v.geometry (data_in after v) slots ≡ data_sets_in v.geometry (data_in before v) slots
+    sets_kept = sets_same v.geometry v.vtoc before after slots place.0 f place.1 sets_once set_out (λ t out. differ.others t (λ k there past. out k there)) (own_kept ends)
+
+    -- so the volume is
+    pub volume_kept : volume_by after v.geometry v.vtoc ≡ volume_by before v.geometry v.vtoc
+    unfolding volume_with
+    volume_kept =
+        ap₂ (λ (l : List ℕ) (ss : List VtocSlot). volume_with v.geometry (data_in after v) l v.vtoc ss) (ap (λ (o : Option (List ℕ)). unwrap_or o []) (label_same v.geometry v.vtoc before after front in_vtoc)) slots_kept
+        ∙ ap (λ (sets : List DataSet). record {
+          serial = record { bytes = slice_range (unwrap_or (label_of before v.geometry) []) 4 10 };
+          geometry = v.geometry;
+          vtoc = v.vtoc;
+          slots = length slots;
+          sets = in_order sets;
+          catalog = catalog_of (in_order sets);
+        }) sets_kept
+
+    -- and the index of one that is mounted is the other's, but for its buffer
+    pub spared_mounted : ((v.buf.records ≡ []) ⊎ StandsOn after v.buf) → IsMounted after v
+    spared_mounted held =
+        let m = set.set.mounted in
+        let g : Geometry = v.geometry in
+        let labels = label_same g v.vtoc before after front in_vtoc in
+        let label = some_label (label_of before g) refl m.index.serial in
+        let faults : track_faults after g v.vtoc ≡ [] = faults_same g v.vtoc before after front in_vtoc ∙ m.index.tracks in
+        let extent : vtoc_of after g ≡ Ok v.vtoc = extent_same g v.vtoc before after front in_vtoc label.0 label.1 m.vtoc in
+        let header : geometry_of (take 512 after) (length after) ≡ Ok g = ap₂ (λ (l : List ℕ) (n : ℕ). geometry_of l n) differ.header differ.size ∙ m.index.header in
+        let lawful : slots_faults g (slots_of_vtoc after g v.vtoc) ≡ [] = ap (slots_faults g) slots_kept ∙ m.lawful in
+        let whole : volume_faults (volume_by after g v.vtoc) ≡ [] = ap volume_faults volume_kept ∙ m.whole in
+        record {
+          index = record {
+            header = header;
+            serial = ap (option_map (λ (l : List ℕ). slice_range l 4 10)) labels ∙ m.index.serial;
+            tracks = faults;
+            slots = subst (AreDscbs v.slots.items) (sym slots_kept) m.index.slots;
+            firsts = m.index.firsts ∙ sym (firsts_same g v.vtoc before after front in_vtoc);
+            buffer = held;
+          };
+          vtoc = extent;
+          lawful = lawful;
+          whole = whole;
+          free = m.free ∙ sym (ap free_runs volume_kept);
+          volume = volume_is after g v.vtoc header extent faults lawful whole;
+        }
 
 -- A write behind the records of a buffer, on a track of the set that isn't before its last block's, leaves images that differ so.
-pub spared_write : (before image : List ℕ) (v : Vol) (f : F1) (b : Buffer) (new : List Record) (k : ℕ) → b.geometry ≡ v.geometry → HasGeometry (length image) v.geometry → b.track < tracks_of v.geometry → start_behind b.records + length (continuation b new) ≤ v.geometry.track_size
-    → slice_get (owned_in before v f) k ≡ Some b.track → (last_of f.lstar).tt ≤ k
-    → (slice_get (owned_in before v f) (last_of f.lstar).tt ≡ Some b.track → 1 ≤ (last_of f.lstar).r → ((last_of f.lstar).r ≤ length b.records) × (records_on before v.geometry (Some (last_of f.lstar).r) b.track ≡ Some (take (last_of f.lstar).r b.records)))
-    → DifferBehind v f before image → DifferBehind v f before (patched image (place_behind b) (continuation b new))
-spared_write before image v f b new k same has low room there past first differ =
+pub spared_write : (before image : List ℕ) (v : Vol) (f : F1) (last : Place) (b : Buffer) (new : List Record) (k : ℕ) → b.geometry ≡ v.geometry → HasGeometry (length image) v.geometry → b.track < tracks_of v.geometry → start_behind b.records + length (continuation b new) ≤ v.geometry.track_size
+    → slice_get (owned_in before v f) k ≡ Some b.track → last.tt ≤ k
+    → (slice_get (owned_in before v f) last.tt ≡ Some b.track → 1 ≤ last.r → (last.r ≤ length b.records) × (records_on before v.geometry (Some last.r) b.track ≡ Some (take last.r b.records)))
+    → DifferBehind v f last before image → DifferBehind v f last before (patched image (place_behind b) (continuation b new))
+spared_write before image v f last b new k same has low room there past first differ =
     let g : Geometry = v.geometry in
     let has' : HasGeometry (length image) b.geometry = subst (HasGeometry (length image)) (sym same) has in
     let low' : b.track < tracks_of b.geometry = subst (λ (x : Geometry). b.track < tracks_of x) (sym same) low in
@@ -290,7 +309,7 @@ spared_write before image v f b new k same has low room there past first differ 
     let zs : List ℕ = patched image (place_behind b) (continuation b new) in
     let p0 : TrackPatched b.geometry b.track (start_behind b.records) (continuation b new) image zs = track_patched b.geometry b.track (start_behind b.records) (continuation b new) image has' low' room' in
     let p : TrackPatched g b.track (start_behind b.records) (continuation b new) image zs = subst (λ (x : Geometry). TrackPatched x b.track (start_behind b.records) (continuation b new) image zs) same p0 in
-    let r : ℕ = (last_of f.lstar).r in
+    let r : ℕ = last.r in
     record {
       size = p.size ∙ differ.size;
       header = p.header ∙ differ.header;
@@ -301,11 +320,11 @@ spared_write before image v f b new k same has low room there past first differ 
       ];
     }
   where
-    here : (track : ℕ) → track ≡ b.track → slice_get (owned_in before v f) (last_of f.lstar).tt ≡ Some track → 1 ≤ (last_of f.lstar).r → records_on (patched image (place_behind b) (continuation b new)) v.geometry (Some (last_of f.lstar).r) track ≡ records_on before v.geometry (Some (last_of f.lstar).r) track
+    here : (track : ℕ) → track ≡ b.track → slice_get (owned_in before v f) last.tt ≡ Some track → 1 ≤ last.r → records_on (patched image (place_behind b) (continuation b new)) v.geometry (Some last.r) track ≡ records_on before v.geometry (Some last.r) track
     here track e at some =
-        let r : ℕ = (last_of f.lstar).r in
+        let r : ℕ = last.r in
         let zs : List ℕ = patched image (place_behind b) (continuation b new) in
-        let mine : slice_get (owned_in before v f) (last_of f.lstar).tt ≡ Some b.track = at ∙ ap (λ (t : ℕ). Some t) e in
+        let mine : slice_get (owned_in before v f) last.tt ≡ Some b.track = at ∙ ap (λ (t : ℕ). Some t) e in
         let held = first mine some in
         let now : records_on image v.geometry (Some r) b.track ≡ Some (take r b.records) = differ.kept b.track mine some ∙ held.1 in
         let now' : records_on image b.geometry (Some r) b.track ≡ Some (take r b.records) = ap (λ (x : Geometry). records_on image x (Some r) b.track) same ∙ now in

@@ -39,9 +39,9 @@ module _ (image : List ℕ) (v : Vol) (b : Buffer) where
     f = is.f;
     slot = is.slot;
     set = record { mounted = m; extents = is.set.extents };
-    sequential = is.sequential;
+    writable = is.writable;
     old = is.old;
-    body = is.body;
+    front = is.front;
     so_far = subst (λ (cs : List Content). HasBlocks (body_so_far image v is.f w) (is.old ++ placed v.geometry.device (bodies.Seq is.old) cs)) (sym (puts_with is.f w)) is.so_far;
     begun = is.begun;
     some = λ put none. is.some put (sym (puts_with is.f w) ∙ none);
@@ -54,6 +54,7 @@ pub ended_put : (image : List ℕ) (v : Vol) (w : Writer) (is : IsWriting image 
 ended_put image v w is put = record {
   writing = is;
   same = refl;
+  body = refl;
   old = refl;
   puts = refl;
   tracks = refl;
@@ -64,6 +65,7 @@ pub ended_with : (before image : List ℕ) (v : Vol) (b : Buffer) (f : F1) (bloc
 ended_with before image v b f blocks w is empty = record {
   writing = writing_with image v b w is.writing (mounted_with image v b is.writing.set.mounted (inl empty));
   same = is.same;
+  body = is.body;
   old = is.old;
   puts = puts_with image v b f w ∙ is.puts;
   tracks = is.tracks;

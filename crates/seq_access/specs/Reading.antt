@@ -1,5 +1,5 @@
 -- What a buffer holds of a track of a data set, and what is found in it, in this project's profile.
-use Rattle.std.specs.Prelude.{◌≡◌, ℕ, ◌-◌, ◌≤◌, ◌<◌, Bool, true, false, List, [], ◌∷◌, length, slice_get, Option, Some, None, Result, Ok, Err}
+use Rattle.std.specs.Prelude.{◌≡◌, ℕ, ◌-◌, ◌≤◌, ◌<◌, ◌&&◌, not, Bool, true, false, List, [], ◌∷◌, length, slice_get, Option, Some, None, Result, Ok, Err}
 use Rattle.ckd_image.specs.Track.{Record}
 use Rattle.hall_core.specs.declared.steps.Device.{Device}
 use Rattle.pack_spec.specs.Label.{records_on}
@@ -8,7 +8,8 @@ use Rattle.vol_model.specs.declared.answers.WorkErr.{WorkErr}
 use Rattle.vol_model.specs.declared.contents.Block.{Block}
 use Rattle.vol_model.specs.declared.contents.Body.{Body}
 use Rattle.vol_model.specs.declared.contents.Place.{Place}
-use Rattle.vol_model.specs.Reading.{FirstOf, IsBlank, blocks_from}
+use Rattle.vol_model.specs.Places.{is_before}
+use Rattle.vol_model.specs.Reading.{FirstOf, IsBlank, blocks_from, readable}
 use Rattle.seq_access.specs.declared.read_buf.Reach.{Reach}
 use Rattle.seq_access.specs.declared.read_buf.Reach.TheVariants as reaches
 use Rattle.seq_access.specs.declared.read_buf.ReadBuf.{ReadBuf}
@@ -82,3 +83,21 @@ GivesFirst (Ok (Some block)) body from = (blocks : List Block) × (rest : List B
 GivesFirst (Ok None) body from = (blocks : List Block) × HasBlocks body blocks
     × (blocks_from from blocks ≡ [])
 GivesFirst (Err e) body from = Unit {0}
+
+-- The blocks at or after a start are those behind a directory's end that aren't before a place; the number of a record is one byte.
+pub record IsStart (end from start : Place) : Type 0 where
+  pub same : (p : Place) → p.r ≤ 255 → not (is_before p start) ≡ (is_before end p && not (is_before p from))
+
+-- the first block of a partitioned body's members at or after a place is read into a block, or there is none
+abbrev pub ReadsMembers : Result Bool Device → Body → Place → Block → Type 0
+ReadsMembers (Ok more) body from block = (blocks : List Block) × (readable body ≡ Ok blocks)
+    × FirstOf more (blocks_from from blocks) block
+ReadsMembers (Err e) body from block = Unit {0}
+
+-- the first block of a partitioned body's members at or after a place is given, or there is none
+abbrev pub GivesMembers : Result (Option Block) WorkErr → Body → Place → Type 0
+GivesMembers (Ok (Some block)) body from = (blocks : List Block) × (rest : List Block)
+    × (readable body ≡ Ok blocks) × (blocks_from from blocks ≡ block ∷ rest)
+GivesMembers (Ok None) body from = (blocks : List Block) × (readable body ≡ Ok blocks)
+    × (blocks_from from blocks ≡ [])
+GivesMembers (Err e) body from = Unit {0}

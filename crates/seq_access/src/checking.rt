@@ -1,16 +1,18 @@
-//! Whether the body of a sequential data set can be read.
-ghost use Rattle.std.specs.Prelude.{◌≡◌, ◌≢◌, ℕ, None, length, IsTrue, IsErrOf, OnOk};
-ghost use Rattle.std.specs.List.{list_all};
+//! Whether the records of a data set can be read.
+ghost use Rattle.std.specs.Prelude.{◌≡◌, ◌≤◌, ◌-◌, Some, length, slice_get, IsTrue, IsErrOf, IfOk};
+ghost use Rattle.std.specs.List.{enumerate_from, list_all};
+ghost use Rattle.std.specs.Option.{option_map};
 ghost use Rattle.hall_core.specs.Facts.{ReportedCall};
 ghost use Rattle.hall_core.specs.Images.{image_in};
 ghost use Rattle.stop_model.specs.Moments.{Same};
 ghost use Rattle.pack_spec.specs.Blocks.{blocks_at, is_block};
+ghost use Rattle.pack_spec.specs.Directories.{may_stand, part_at};
 ghost use Rattle.vtoc_index.specs.Index.{IsMounted, IsOfUnit};
 ghost use Rattle.vol_model.specs.declared.contents.Place.{Place};
-ghost use Rattle.seq_access.specs.Bodies.{Checks, IsSetIn, body_in, data_in, owned_in};
+ghost use Rattle.seq_access.specs.Bodies.{Checks, ChecksTrack, FindsBroken, IsSetIn, ReadsTrack, body_in, broken_in, data_in, end_in, owned_in, records_upto};
 
-use crate::last::{has_no_block, is_record_0, last_of, upto_last};
-use crate::lengths::is_block;
+use crate::last::{has_no_block, is_before, is_record_0, last_of, read_to, upto_last};
+use crate::lengths::{is_block, is_directory_record};
 use crate::tracks::track_at;
 use dscb_codec::F1;
 use hall_core::Hall;
@@ -48,6 +50,41 @@ pub fn check_records<H: Hall>(hall: &mut H, vol: &mut Vol, set: &F1) -> Result<(
     Ok(())
 }
 
+/// Walks the records of a partitioned data set up to its last block, or to its directory's end if this stands behind
+/// that, by its format 1, which is one of the index, and by the place of the directory's end-of-file record.
+///
+/// `Unreadable` carries the first relative track, from 0, whose records break the body, as for a sequential set; so does a
+/// record before the directory's end that isn't of the lengths of a directory block. What the directory's blocks hold isn't
+/// looked at. `Device` comes only where the count of its faults rose. Each track is read once, into the buffer of the
+/// index. No memory is taken.
+pub fn check_part_records<H: Hall>(
+    hall: &mut H,
+    vol: &mut Vol,
+    set: &F1,
+    end: Place,
+) -> Result<(), CheckErr>
+    requires unit { IsOfUnit (H.facts hall.old).units vol.old }
+    requires set { let image = image_in (H.meaning hall.old) (H.facts hall.old) vol.old.unit in
+        IsTrue H.tells → IsSetIn image vol.old set.now }
+    requires end { let image = image_in (H.meaning hall.old) (H.facts hall.old) vol.old.unit in
+        IsTrue H.tells → end ≡ end_in image vol.old set.now }
+    ensures broken { let image = image_in (H.meaning hall.old) (H.facts hall.old) vol.old.unit in
+        IsTrue H.tells → FindsBroken result (broken_in image vol.old set.now) }
+    ensures same { IsTrue H.tells → Same (H.meaning hall.old) (H.meaning hall.new) }
+    ensures mounted { let image = image_in (H.meaning hall.old) (H.facts hall.old) vol.old.unit in
+        IsTrue H.tells → IsMounted image vol.new }
+    ensures others { vol.new ≡ record vol.old { buf = vol.new.buf } }
+    ensures unit { IsOfUnit (H.facts hall.new).units vol.new }
+    ensures faults { ReportedCall (IsErrOf result CheckErr.Device) (H.facts hall.old)
+        (H.facts hall.new) }
+{
+    let to = read_to(set, end);
+    for k in 0..=to.tt {
+        check_part_track(hall, vol, set, end, to, k)?;
+    }
+    Ok(())
+}
+
 // Walks the records of one relative track.
 fn check_track<H: Hall>(
     hall: &mut H,
@@ -59,13 +96,71 @@ fn check_track<H: Hall>(
     requires unit { IsOfUnit (H.facts hall.old).units vol.old }
     requires set { let image = image_in (H.meaning hall.old) (H.facts hall.old) vol.old.unit in
         IsTrue H.tells → IsSetIn image vol.old set.now }
-    ensures blocks { let image = image_in (H.meaning hall.old) (H.facts hall.old) vol.old.unit in
-        IsTrue H.tells → OnOk result (blocks_at vol.old.geometry (data_in image vol.old)
-        (owned_in image vol.old set.now) last k ≢ None) }
-    ensures broken { (track : ℕ) → IsErrOf result (CheckErr.Unreadable track) → track ≡ k }
-    ensures none { let image = image_in (H.meaning hall.old) (H.facts hall.old) vol.old.unit in
-        IsTrue H.tells → IsErrOf result (CheckErr.Unreadable k) → blocks_at vol.old.geometry
-        (data_in image vol.old) (owned_in image vol.old set.now) last k ≡ None }
+    ensures track { let image = image_in (H.meaning hall.old) (H.facts hall.old) vol.old.unit in
+        IsTrue H.tells → ChecksTrack result k (blocks_at vol.old.geometry (data_in image vol.old)
+        (owned_in image vol.old set.now) last k) }
+    ensures same { IsTrue H.tells → Same (H.meaning hall.old) (H.meaning hall.new) }
+    ensures mounted { let image = image_in (H.meaning hall.old) (H.facts hall.old) vol.old.unit in
+        IsTrue H.tells → IsMounted image vol.new }
+    ensures others { vol.new ≡ record vol.old { buf = vol.new.buf } }
+    ensures unit { IsOfUnit (H.facts hall.new).units vol.new }
+    ensures faults { ReportedCall (IsErrOf result CheckErr.Device) (H.facts hall.old)
+        (H.facts hall.new) }
+{
+    let count = read_track(hall, vol, set, last, k)?;
+    if are_blocks(&vol.buf, count) {
+        Ok(())
+    } else {
+        Err(CheckErr::Unreadable(k))
+    }
+}
+
+// The same of a partitioned set, which is read up to a place.
+fn check_part_track<H: Hall>(
+    hall: &mut H,
+    vol: &mut Vol,
+    set: &F1,
+    end: Place,
+    to: Place,
+    k: u16,
+) -> Result<(), CheckErr>
+    requires unit { IsOfUnit (H.facts hall.old).units vol.old }
+    requires set { let image = image_in (H.meaning hall.old) (H.facts hall.old) vol.old.unit in
+        IsTrue H.tells → IsSetIn image vol.old set.now }
+    ensures track { let image = image_in (H.meaning hall.old) (H.facts hall.old) vol.old.unit in
+        IsTrue H.tells → ChecksTrack result k (part_at vol.old.geometry (data_in image vol.old)
+        (owned_in image vol.old set.now) end to k) }
+    ensures same { IsTrue H.tells → Same (H.meaning hall.old) (H.meaning hall.new) }
+    ensures mounted { let image = image_in (H.meaning hall.old) (H.facts hall.old) vol.old.unit in
+        IsTrue H.tells → IsMounted image vol.new }
+    ensures others { vol.new ≡ record vol.old { buf = vol.new.buf } }
+    ensures unit { IsOfUnit (H.facts hall.new).units vol.new }
+    ensures faults { ReportedCall (IsErrOf result CheckErr.Device) (H.facts hall.old)
+        (H.facts hall.new) }
+{
+    let count = read_track(hall, vol, set, to, k)?;
+    if may_all_stand(&vol.buf, count, end, k) {
+        Ok(())
+    } else {
+        Err(CheckErr::Unreadable(k))
+    }
+}
+
+// Reads the records of one relative track up to a place into the buffer of the index, and gives their number.
+fn read_track<H: Hall>(
+    hall: &mut H,
+    vol: &mut Vol,
+    set: &F1,
+    to: Place,
+    k: u16,
+) -> Result<u8, CheckErr>
+    requires unit { IsOfUnit (H.facts hall.old).units vol.old }
+    requires set { let image = image_in (H.meaning hall.old) (H.facts hall.old) vol.old.unit in
+        IsTrue H.tells → IsSetIn image vol.old set.now }
+    ensures count { IfOk result (λ n. length vol.new.buf.records ≡ n) }
+    ensures records { let image = image_in (H.meaning hall.old) (H.facts hall.old) vol.old.unit in
+        IsTrue H.tells → ReadsTrack result k (records_upto image vol.old set.now to k)
+        vol.new.buf.records }
     ensures same { IsTrue H.tells → Same (H.meaning hall.old) (H.meaning hall.new) }
     ensures mounted { let image = image_in (H.meaning hall.old) (H.facts hall.old) vol.old.unit in
         IsTrue H.tells → IsMounted image vol.new }
@@ -77,17 +172,11 @@ fn check_track<H: Hall>(
     let Some(track) = track_at(vol, set, k) else {
         return Err(CheckErr::Unreadable(k));
     };
-    if is_record_0(last, k) {
+    if is_record_0(to, k) {
         return Err(CheckErr::Unreadable(k));
     }
-    match read_records(hall, vol.unit, track, upto_last(last, k), &mut vol.buf) {
-        Ok(count) => {
-            if are_blocks(&vol.buf, count) {
-                Ok(())
-            } else {
-                Err(CheckErr::Unreadable(k))
-            }
-        }
+    match read_records(hall, vol.unit, track, upto_last(to, k), &mut vol.buf) {
+        Ok(count) => Ok(count),
         Err(TrackErr::BadCount { .. }) => Err(CheckErr::Unreadable(k)),
         Err(TrackErr::Device) => Err(CheckErr::Device),
     }
@@ -104,4 +193,36 @@ pub(crate) fn are_blocks(buf: &TrackBuf, count: u8) -> bool
         }
     }
     true
+}
+
+// Whether each record of a buffer, which has so many, may stand on a relative track of a partitioned set.
+fn may_all_stand(buf: &TrackBuf, count: u8, end: Place, k: u16) -> bool
+    requires { length buf.now.records ≡ count }
+    ensures { result ≡ list_all (may_stand end k) (enumerate_from 1 buf.now.records) }
+{
+    for passed in 0..count {
+        let place = Place {
+            tt: k,
+            r: passed + 1,
+        };
+        if !may_stand(buf, end, place) {
+            return false;
+        }
+    }
+    true
+}
+
+// Whether the record of a place in a buffer may stand there: before the directory's end one that can be a directory
+// block, and else any that can be a block.
+fn may_stand(buf: &TrackBuf, end: Place, place: Place) -> bool
+    requires first { 1 ≤ place.r }
+    requires last { place.r ≤ length buf.now.records }
+    ensures { option_map (λ x. may_stand end place.tt (place.r, x))
+        (slice_get buf.now.records (place.r - 1)) ≡ Some result }
+{
+    if is_before(place, end) {
+        is_directory_record(buf, place.r)
+    } else {
+        is_block(buf, place.r)
+    }
 }

@@ -168,7 +168,7 @@ fn first_record(from: Place) -> u8
 
 // Finds the block at a place, or that there is none on its relative track from this record on; the track is in the
 // buffer then.
-fn seek_on<H: Hall>(
+pub(crate) fn seek_on<H: Hall>(
     hall: &mut H,
     vol: &Vol,
     set: &F1,

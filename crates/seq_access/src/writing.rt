@@ -1,4 +1,4 @@
-//! Blocks written behind those of a sequential data set.
+//! Blocks written behind those of a sequential or partitioned data set.
 ghost use Rattle.std.specs.Prelude.{◌≡◌, ◌≤◌, ◌<◌, ◌+◌, ◌-◌, ◌^◌, min, [], ℕ, List, Some, Ok, true, false, length, map, slice_get, slice_index_or, IsTrue, IsOk, IsErrOf, OnOk, OnErr, IfOk};
 ghost use Rattle.ckd_image.specs.Fit.{balance, fits};
 ghost use Rattle.dscb_codec.specs.declared.F1.{F1};
@@ -6,9 +6,9 @@ ghost use Rattle.hall_core.specs.Facts.{DeviceCall, ReportedCall, unit_of};
 ghost use Rattle.hall_core.specs.Images.{image_in};
 ghost use Rattle.stop_model.specs.Files.{AfterSync, File};
 ghost use Rattle.stop_model.specs.Moments.{IsDurable, Same};
-ghost use Rattle.pack_spec.specs.Volume.{volume_of};
+ghost use Rattle.pack_spec.specs.Volume.{attr_of, volume_of};
 ghost use Rattle.vol_model.specs.Places.{Content, fits_a_track, lengths as lengths_of};
-ghost use Rattle.vol_model.specs.Shelf.{write_on};
+ghost use Rattle.vol_model.specs.Shelf.{fits_mode, write_on, written};
 ghost use Rattle.vol_model.specs.declared.answers.Mode.{Mode};
 ghost use Rattle.vol_model.specs.declared.contents.Volume.{Volume};
 ghost use Rattle.vtoc_index.specs.Index.{IsIndexOf, IsMounted, IsOfUnit};
@@ -17,12 +17,12 @@ ghost use Rattle.vtoc_index.specs.Names.{name_at};
 ghost use Rattle.vtoc_sets.specs.Sets.{HasSet};
 ghost use Rattle.free_rebuild.specs.Durable.{LeavesAll, PutsDurably};
 ghost use Rattle.free_rebuild.specs.Repairs.{image_named};
-ghost use Rattle.seq_access.specs.Bodies.{HasBlocks, IsReadable, IsSequential, body_in, owned_in};
-ghost use Rattle.seq_access.specs.Writing.{AreSpared, Commits, HasSetBy, HoldsLast, IsEnded, IsPutBehind, IsReady, IsRoomy, IsWriting, Spares, body_so_far, has_put, place_next, puts_in, sizes, written_by};
+ghost use Rattle.seq_access.specs.Bodies.{HasBlocks, IsWritable, body_of_set, last_in, owned_in};
+ghost use Rattle.seq_access.specs.Writing.{AreSpared, Commits, EndsAt, HasSetBy, HoldsLast, IsEnded, IsPutBehind, IsReady, IsRoomy, IsWriting, Spares, body_so_far, has_put, place_next, puts_in, record_next, sizes, written_by};
 
 use crate::held::{balance_of, fits_behind};
 use crate::holding::{hold_last, set_at, turn_to};
-use crate::last::last_of;
+use crate::last::last_read;
 use crate::lengths::Lengths;
 use crate::tracks::track_at;
 use crate::writer::{PutErr, Writer};
@@ -30,19 +30,27 @@ use ckd_image::fits;
 use dscb_codec::{Dscb, F1};
 use hall_core::{Device, Hall};
 use track_records::{append, seal};
-use vol_model::{Place, WorkErr};
+use vol_model::{Mode, Place, WorkErr};
 use vtoc_index::{Vol, set_last};
+use vtoc_sets::fits_mode;
 
-/// Opens a writer behind the blocks of the sequential data set in a slot, whose body can be read.
+/// Opens a writer behind the blocks of the sequential or partitioned data set in a slot, whose body can be read; of a
+/// partitioned one by the place of its directory's end-of-file record.
 ///
 /// Nothing is read or written, so no error comes. No memory is taken.
-pub fn begin<H: Hall>(_hall: &mut H, vol: &mut Vol, slot: u32) -> Result<Writer, WorkErr>
+pub fn begin<H: Hall>(
+    _hall: &mut H,
+    vol: &mut Vol,
+    slot: u32,
+    end: Option<Place>,
+) -> Result<Writer, WorkErr>
     requires slot { slot < length vol.old.slots.items }
     ensures answer { IsOk result }
     ensures slot { IfOk result (λ writer. writer.slot ≡ slot) }
     ensures writing { IfOk result (λ writer. (image : List ℕ) (f : F1)
         → slice_get vol.old.slots.items slot ≡ Some (Dscb.F1 f)
-        → HasSet image vol.old f → IsSequential f → IsReadable (body_in image vol.old f)
+        → HasSet image vol.old f → IsWritable (body_of_set image vol.old f)
+        → EndsAt end (body_of_set image vol.old f)
         → (is : IsWriting image vol.old writer) × (is.f ≡ f) × (puts_in image vol.old f writer ≡ [])) }
     ensures same { (_hall.new ≡ _hall.old) × (vol.new ≡ vol.old) }
     ensures faults { ReportedCall (IsErrOf result WorkErr.Device) (H.facts _hall.old)
@@ -51,7 +59,7 @@ pub fn begin<H: Hall>(_hall: &mut H, vol: &mut Vol, slot: u32) -> Result<Writer,
     Ok(Writer {
         slot,
         last: match &vol.slots[slot as usize] {
-            Dscb::F1(set) => last_of(set),
+            Dscb::F1(set) => last_read(set, end),
             _ => Place { tt: 0, r: 0 },
         },
         blocks: 0,
@@ -85,7 +93,7 @@ pub fn put<H: Hall>(
     ensures spares { let image = image_in (H.meaning hall.old) (H.facts hall.old) vol.old.unit in
         IsTrue H.tells → (is : IsWriting image vol.old writer.old)
         → Spares (unit_of (H.facts hall.old).units vol.old.unit).name vol.old is.f
-        (H.meaning hall.old) (H.meaning hall.new) result }
+        (last_in image vol.old is.f) (H.meaning hall.old) (H.meaning hall.new) result }
     ensures long { IsErrOf result PutErr.TooLong
         → fits_a_track vol.old.geometry.device (key.now, payload.now) ≡ false }
     ensures short { ¬ IsErrOf result PutErr.TooLong
@@ -121,8 +129,8 @@ pub fn put<H: Hall>(
     Ok(place)
 }
 
-/// Makes the blocks that were put those of the set: an end-of-file record is put behind them where the set owns a track
-/// for it, all is made durable, and then the format 1 names the last block, durably.
+/// Makes the blocks that were put those of the set: behind those of a sequential set an end-of-file record is put where
+/// the set owns a track for it, all is made durable, and then the format 1 names the last block, durably.
 ///
 /// A stop leaves the set with all of the blocks or with none. Where no block was put, nothing is done. `Device` comes
 /// only where the count of its faults rose. No memory is taken.
@@ -136,11 +144,13 @@ pub fn commit<H: Hall>(hall: &mut H, vol: &mut Vol, writer: Writer) -> Result<()
         IsTrue H.tells → has_put writer ≡ true → (is : IsWriting image vol.old writer)
         (before : List File) (volume : Volume) → HasSetBy (image_named before name) vol.old is.f
         → volume_of (image_named before name) ≡ Ok volume
-        → ((files : List File) → (H.meaning hall.old).left files → AreSpared name vol.old is.f before files)
-        → AreSpared name vol.old is.f before (H.meaning hall.old).state
-        → Commits name volume (write_on Mode.Fill (record { bytes = is.f.name })
-        (puts_in image vol.old is.f writer) volume) vol.new before (H.meaning hall.old)
-        (H.meaning hall.new) result }
+        → ((files : List File) → (H.meaning hall.old).left files
+        → AreSpared name vol.old is.f (last_in image vol.old is.f) before files)
+        → AreSpared name vol.old is.f (last_in image vol.old is.f) before (H.meaning hall.old).state
+        → (mode : Mode) (cs : List Content) → fits_mode mode is.f.name (attr_of is.f) ≡ true
+        → written mode (body_of_set image vol.old is.f) cs ≡ puts_in image vol.old is.f writer
+        → Commits name volume (write_on mode (record { bytes = is.f.name }) cs volume) vol.new before
+        (H.meaning hall.old) (H.meaning hall.new) result }
     ensures nothing { has_put writer ≡ false → (result ≡ Ok tt) × (hall.new ≡ hall.old) × (vol.new ≡ vol.old) }
     ensures names { OnOk result ((k : ℕ) → name_at vol.new.slots.items k
         ≡ name_at vol.old.slots.items k) }
@@ -180,7 +190,7 @@ fn make_ready<H: Hall>(
     ensures spares { let image = image_in (H.meaning hall.old) (H.facts hall.old) vol.old.unit in
         IsTrue H.tells → (is : IsWriting image vol.old writer)
         → Spares (unit_of (H.facts hall.old).units vol.old.unit).name vol.old is.f
-        (H.meaning hall.old) (H.meaning hall.new) result }
+        (last_in image vol.old is.f) (H.meaning hall.old) (H.meaning hall.new) result }
     ensures roomy { OnOk result (IsRoomy (H.facts hall.new).units vol.new.buf) }
     ensures fits { OnOk result
         (fits vol.old.geometry.device (map sizes vol.new.buf.records) lengths.0 lengths.1 ≡ true) }
@@ -188,7 +198,7 @@ fn make_ready<H: Hall>(
     ensures long { ¬ IsErrOf result PutErr.TooLong }
     ensures need { let image = image_in (H.meaning hall.old) (H.facts hall.old) vol.old.unit in
         IsTrue H.tells → IsErrOf result PutErr.NeedExtent → (is : IsWriting image vol.old writer)
-        (c : Content) → lengths_of c ≡ lengths → length (owned_in image vol.old is.f) ≤ (place_next is c).tt }
+        (c : Content) → lengths_of c ≡ lengths → length (owned_in image vol.old is.f) ≤ (record_next is c).tt }
     ensures refused { IsTrue H.tells → IsErrOf result PutErr.NeedExtent
         → Same (H.meaning hall.old) (H.meaning hall.new) }
     ensures mounted { let image' = image_in (H.meaning hall.new) (H.facts hall.new) vol.old.unit in
@@ -233,7 +243,7 @@ fn go_on<H: Hall>(hall: &mut H, vol: &mut Vol, set: &F1, writer: Writer) -> Resu
     ensures spares { let image = image_in (H.meaning hall.old) (H.facts hall.old) vol.old.unit in
         IsTrue H.tells → (is : IsWriting image vol.old writer)
         → Spares (unit_of (H.facts hall.old).units vol.old.unit).name vol.old is.f
-        (H.meaning hall.old) (H.meaning hall.new) result }
+        (last_in image vol.old is.f) (H.meaning hall.old) (H.meaning hall.new) result }
     ensures long { ¬ IsErrOf result PutErr.TooLong }
     ensures need { let image = image_in (H.meaning hall.old) (H.facts hall.old) vol.old.unit in
         IsTrue H.tells → IsErrOf result PutErr.NeedExtent
@@ -273,7 +283,7 @@ fn end_last<H: Hall>(hall: &mut H, vol: &mut Vol, writer: Writer) -> Result<(), 
     ensures spares { let image = image_in (H.meaning hall.old) (H.facts hall.old) vol.old.unit in
         IsTrue H.tells → (is : IsWriting image vol.old writer)
         → Spares (unit_of (H.facts hall.old).units vol.old.unit).name vol.old is.f
-        (H.meaning hall.old) (H.meaning hall.new) result }
+        (last_in image vol.old is.f) (H.meaning hall.old) (H.meaning hall.new) result }
     ensures same { vol.new ≡ vol.old }
     ensures faults { DeviceCall (H.facts hall.old) (H.facts hall.new) result }
 {
@@ -296,9 +306,11 @@ fn end_durably<H: Hall>(hall: &mut H, vol: &mut Vol, writer: Writer) -> Result<u
         let name = (unit_of (H.facts hall.old).units vol.old.unit).name in
         IsTrue H.tells → (is : IsWriting image vol.old writer)
         (before : List File) → HasSetBy (image_named before name) vol.old is.f
-        → ((files : List File) → (H.meaning hall.old).left files → AreSpared name vol.old is.f before files)
-        → AreSpared name vol.old is.f before (H.meaning hall.old).state
-        → LeavesAll (AreSpared name vol.old is.f before) (H.meaning hall.old) (H.meaning hall.new) result }
+        → ((files : List File) → (H.meaning hall.old).left files
+        → AreSpared name vol.old is.f (last_in image vol.old is.f) before files)
+        → AreSpared name vol.old is.f (last_in image vol.old is.f) before (H.meaning hall.old).state
+        → LeavesAll (AreSpared name vol.old is.f (last_in image vol.old is.f) before)
+        (H.meaning hall.old) (H.meaning hall.new) result }
     ensures blocks { let image = image_in (H.meaning hall.old) (H.facts hall.old) vol.old.unit in
         let image' = image_in (H.meaning hall.new) (H.facts hall.new) vol.old.unit in
         IsTrue H.tells → OnOk result ((is : IsWriting image vol.old writer)
@@ -340,8 +352,8 @@ fn last_balance<H: Hall>(hall: &mut H, vol: &mut Vol, writer: Writer) -> Result<
     Ok(balance_of(vol.geometry.device, &vol.buf))
 }
 
-// Puts an end-of-file record behind the last block, where the set owns a track that takes it. It isn't a block of the
-// set.
+// Puts an end-of-file record behind the last block of a sequential set, where that owns a track that takes it. It isn't
+// a block of the set.
 fn put_end<H: Hall>(hall: &mut H, vol: &mut Vol, writer: Writer) -> Result<(), Device>
     requires unit { IsOfUnit (H.facts hall.old).units vol.old }
     requires slot { writer.slot < length vol.old.slots.items }
@@ -351,7 +363,47 @@ fn put_end<H: Hall>(hall: &mut H, vol: &mut Vol, writer: Writer) -> Result<(), D
     ensures spares { let image = image_in (H.meaning hall.old) (H.facts hall.old) vol.old.unit in
         IsTrue H.tells → (is : IsWriting image vol.old writer)
         → Spares (unit_of (H.facts hall.old).units vol.old.unit).name vol.old is.f
-        (H.meaning hall.old) (H.meaning hall.new) result }
+        (last_in image vol.old is.f) (H.meaning hall.old) (H.meaning hall.new) result }
+    ensures blocks { let image = image_in (H.meaning hall.old) (H.facts hall.old) vol.old.unit in
+        let image' = image_in (H.meaning hall.new) (H.facts hall.new) vol.old.unit in
+        IsTrue H.tells → OnOk result ((is : IsWriting image vol.old writer)
+        → HasBlocks (body_so_far image' vol.new is.f writer) (written_by is)) }
+    ensures mounted { let image' = image_in (H.meaning hall.new) (H.facts hall.new) vol.old.unit in
+        IsTrue H.tells → OnOk result (IsMounted image' vol.new) }
+    ensures others { vol.new ≡ record vol.old { buf = vol.new.buf } }
+    ensures unit { IsOfUnit (H.facts hall.new).units vol.new }
+    ensures faults { DeviceCall (H.facts hall.old) (H.facts hall.new) result }
+{
+    if !ends_with_a_record(hall, vol, writer.slot)? {
+        return Ok(());
+    }
+    put_end_record(hall, vol, writer)
+}
+
+// Whether the blocks of the set in a slot end with an end-of-file record that is none of them: those of a sequential one
+// do.
+fn ends_with_a_record<H: Hall>(hall: &mut H, vol: &Vol, slot: u32) -> Result<bool, Device>
+    requires unit { IsOfUnit (H.facts hall.old).units vol.now }
+    requires slot { slot < length vol.now.slots.items }
+    requires set { IsTrue H.tells → (f : F1) × (slice_get vol.now.slots.items slot ≡ Some (Dscb.F1 f)) }
+    ensures same { IsTrue H.tells → Same (H.meaning hall.old) (H.meaning hall.new) }
+    ensures faults { DeviceCall (H.facts hall.old) (H.facts hall.new) result }
+{
+    let set = set_at(hall, vol, slot)?;
+    Ok(fits_mode(&set, Mode::Fill))
+}
+
+// Puts an end-of-file record behind the last block, where the set owns a track that takes it.
+fn put_end_record<H: Hall>(hall: &mut H, vol: &mut Vol, writer: Writer) -> Result<(), Device>
+    requires unit { IsOfUnit (H.facts hall.old).units vol.old }
+    requires slot { writer.slot < length vol.old.slots.items }
+    requires put { has_put writer ≡ true }
+    requires writing { let image = image_in (H.meaning hall.old) (H.facts hall.old) vol.old.unit in
+        IsTrue H.tells → IsWriting image vol.old writer }
+    ensures spares { let image = image_in (H.meaning hall.old) (H.facts hall.old) vol.old.unit in
+        IsTrue H.tells → (is : IsWriting image vol.old writer)
+        → Spares (unit_of (H.facts hall.old).units vol.old.unit).name vol.old is.f
+        (last_in image vol.old is.f) (H.meaning hall.old) (H.meaning hall.new) result }
     ensures blocks { let image = image_in (H.meaning hall.old) (H.facts hall.old) vol.old.unit in
         let image' = image_in (H.meaning hall.new) (H.facts hall.new) vol.old.unit in
         IsTrue H.tells → OnOk result ((is : IsWriting image vol.old writer)

@@ -1,20 +1,15 @@
 -- What a machine leaves that opens a writer behind a sync: nothing changes but the time.
-use Rattle.std.proofs.Common.{◌≡◌, ℕ, true, false, List, Option, None, Result, Ok, Err, refl, sym, subst, ◌∙◌, arith}
-use Rattle.std.specs.Prelude.{IsErrOf}
+use Rattle.std.proofs.Common.{◌≡◌, ⊎_elim, ℕ, true, false, List, Option, None, Result, Ok, Err, refl, sym, subst, arith}
+use Rattle.std.specs.Prelude.{◌⊎◌, IfErr, IsErrOf}
 use Rattle.hall_core.specs.Facts.{Attached, DeviceCall, Facts}
 use Rattle.stop_model.specs.Files.{File}
 use Rattle.stop_model.specs.Moments.{Meaning, Same}
 use Rattle.stop_model.specs.Steps.{seen}
 use Rattle.stop_model.proofs.MomentLemmas.{CountsNow}
-use Rattle.vol_model.specs.Calls.{Keeps, MachineCall, open_at_ok, sound_after}
+use Rattle.vol_model.specs.Calls.{Keeps, MachineCall, Opens, open_at_ok, sound_after}
 use Rattle.vol_model.specs.declared.answers.MachErr.{MachErr}
 use Rattle.vol_model.specs.declared.answers.MachErr.TheVariants as mach
-use Rattle.ebcdic_names.specs.declared.names.Dsn.{Dsn}
-use Rattle.vol_model.specs.declared.answers.Mode.{Mode}
-use Rattle.vol_model.specs.declared.answers.Mode.TheVariants.{Fill}
-use Rattle.vol_model.specs.declared.contents.Shelf.{Shelf}
 use Rattle.vol_model.specs.declared.refusals.Refusal.{Refusal}
-use Rattle.vol_model.specs.Writing.{begin_refusal}
 use Rattle.vtoc_index.specs.declared.vol.Vol.{Vol}
 use Rattle.shelf_machine.specs.Machine.{ByFiles, KeepsSafe, is_open_in, shelf_under, status_with}
 use Rattle.shelf_machine.specs.Opening.{names_of}
@@ -63,6 +58,10 @@ call_failed old new vols w w' n e call = record {
   no_print = λ _. call.prints;
 }
 
--- a writer that fills isn't refused where none of this mode is
-pub fills_well : (shelf : Shelf) (v : ℕ) (dsn : Dsn) (mode : Mode) (r : Option Refusal) → r ≡ begin_refusal shelf (record { v = v; dsn = dsn; mode = mode }) → r ≡ None → mode ≡ Fill → begin_refusal shelf (record { v = v; dsn = dsn; mode = Fill }) ≡ None
-fills_well shelf v dsn mode r is none fills = subst (λ (m : Mode). begin_refusal shelf (record { v = v; dsn = dsn; mode = m }) ≡ None) fills (sym is ∙ none)
+-- what opens a writer that isn't refused stops for memory or the device alone
+pub opens_well : {T : Type 0} (r : Result T MachErr) {refusal : Option Refusal} → refusal ≡ None → IfErr r (λ e. (e ≡ mach.Memory) ⊎ (e ≡ mach.Device)) → Opens r refusal
+opens_well (Ok x) none error = none
+opens_well (Err (mach.Refused why)) none error = absurd (⊎_elim (λ memory. let wrong : mach.Refused why ≡ mach.Memory = memory in cc) (λ device. let wrong : mach.Refused why ≡ mach.Device = device in cc) error)
+opens_well (Err mach.Memory) none error = tt
+opens_well (Err mach.Device) none error = tt
+opens_well (Err mach.Print) none error = ⊎_elim (λ memory. let wrong : mach.Print ≡ mach.Memory = memory in cc) (λ device. let wrong : mach.Print ≡ mach.Device = device in cc) error

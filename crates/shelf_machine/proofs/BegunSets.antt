@@ -1,66 +1,77 @@
 -- A writer behind the blocks of a data set to which blocks can be written.
-use Rattle.std.proofs.Common.{◌≡◌, ℕ, Bool, true, false, cond, List, [], map, Option, Some, None, refl, sym, ap, ◌∙◌, subst}
-use Rattle.std.specs.Prelude.{◌||◌, ◌+◌, Ok, is_none, option_and_then, position, slice_get, unwrap_or}
-use Rattle.std.specs.List.{flat_map, range_with_len}
+use Rattle.std.proofs.Common.{◌≡◌, ℕ, Bool, true, false, cond, List, [], ◌∷◌, Option, Some, None, refl, sym, ap, ◌∙◌, subst}
+use Rattle.std.specs.Prelude.{Ok, option_and_then, slice_get}
 use Rattle.std.specs.Option.{option_map}
-use Rattle.ckd_image.specs.declared.header.Geometry.{Geometry}
 use Rattle.dscb_codec.specs.declared.Dscb.{Dscb}
 use Rattle.dscb_codec.specs.declared.Dscb.TheVariants as formats
 use Rattle.dscb_codec.specs.declared.F1.{F1}
 use Rattle.ebcdic_names.specs.declared.names.Dsn.{Dsn}
-use Rattle.pack_spec.specs.Blocks.{blocks_at, has_no_block, last_of, owned_tracks, seq_body, seq_of, seq_unless}
-use Rattle.pack_spec.specs.Bodies.{body_of}
 use Rattle.pack_spec.specs.Rules.{set_in}
 use Rattle.pack_spec.specs.Volume.{attr_of}
-use Rattle.vol_model.specs.declared.answers.Mode.TheVariants.{Fill}
-use Rattle.vol_model.specs.declared.contents.Block.{Block}
-use Rattle.vol_model.specs.declared.contents.Body.TheVariants.{Other, Seq, Unreadable}
-use Rattle.vol_model.specs.declared.contents.Run.{Run}
+use Rattle.pack_spec.proofs.BodyKinds.{partitioned_body, sequential_body}
+use Rattle.pack_spec.proofs.PartBodies.{part_or_unread}
+use Rattle.pack_spec.proofs.SeqBodies.{seq_or_unread}
+use Rattle.vol_model.specs.declared.answers.Mode.{Mode}
+use Rattle.vol_model.specs.declared.answers.Mode.TheVariants.{Area, Fill}
+use Rattle.vol_model.specs.declared.contents.Body.{Body}
 use Rattle.vol_model.specs.declared.contents.Shelf.{Shelf}
 use Rattle.vol_model.specs.declared.refusals.Refusal.TheVariants as refusals
-use Rattle.vol_model.specs.Shelf.{blocks_of, is_catalog, is_partitioned, is_sequential, unreadable}
-use Rattle.vol_model.specs.Writing.{begin_refusal}
+use Rattle.vol_model.specs.Places.{end_of_file, is_open_ended}
+use Rattle.vol_model.specs.Shelf.{fits_mode, put_first, unreadable}
+use Rattle.vol_model.specs.Writing.{begin_refusal, body_on}
 use Rattle.vtoc_index.specs.Index.{first_named}
 use Rattle.vtoc_index.specs.Names.{name_at}
 use Rattle.vtoc_index.specs.declared.vol.Vol.{Vol}
 use Rattle.vtoc_sets.specs.Sets.{HasSet, extents_in}
-use Rattle.seq_access.specs.Bodies.{HasBlocks, IsReadable, IsSequential, body_in, data_in}
-use Rattle.seq_access.specs.Writing.{IsWriting, puts_in}
+use Rattle.seq_access.specs.Bodies.{IsWritable, body_of_set, data_in}
+use Rattle.seq_access.specs.Writing.{EndsAt, IsWriting, puts_in}
 use Rattle.dadsm_ops.proofs.FoundSets.{set_found}
+use Rattle.shelf_machine.specs.declared.front.Front.{Front}
+use Rattle.shelf_machine.specs.Fronts.{BeginsWell, IsFrontIn, firsts}
 use Rattle.shelf_machine.specs.Pending.{IsBegunAt, IsWritingBy, puts_by}
 use Rattle.shelf_machine.specs.Reads.{HasVolume}
 use Rattle.shelf_machine.specs.declared.writer.Writer.{Writer}
+use Rattle.shelf_machine.proofs.FrontLemmas.{begins_none}
 use Rattle.shelf_machine.proofs.Pendings.{by_writing}
-use Rattle.shelf_machine.proofs.ShelfReads.{begin_set, body_here, is_set}
+use Rattle.shelf_machine.proofs.ShelfReads.{begin_set, body_found, body_here, is_set}
 
--- the body of a sequential set has blocks, unless a track breaks it
-seq_readable : (g : Geometry) (tracks : List (List ℕ)) (extents : List Run) (lstar : List ℕ) → unreadable (seq_body g tracks extents lstar) ≡ None → HasBlocks (seq_body g tracks extents lstar) (blocks_of (seq_body g tracks extents lstar))
-unfolding seq_body
-seq_readable g tracks extents lstar = by_none (has_no_block lstar)
+-- blocks can be added to the body of a set of the kind that a mode needs, if it can be read
+fits_writable : (image : List ℕ) (v : Vol) (f : F1) (mode : Mode) → fits_mode mode f.name (attr_of f) ≡ true → unreadable (body_of_set image v f) ≡ None → IsWritable (body_of_set image v f)
+fits_writable image v f Fill fits =
+    let same = sequential_body v.geometry (data_in image v) f.name (attr_of f) (extents_in image v f) f.lstar fits in
+    subst (λ (b : Body). unreadable b ≡ None → IsWritable b) (sym same)
+    (seq_or_unread v.geometry (data_in image v) (extents_in image v f) f.lstar (λ (b : Body). unreadable b ≡ None → IsWritable b) (λ bs read. tt) (λ k read. let no : ⊥ = cc in absurd no))
+fits_writable image v f Area fits =
+    let same = partitioned_body v.geometry (data_in image v) f.name (attr_of f) (extents_in image v f) f.lstar fits in
+    subst (λ (b : Body). unreadable b ≡ None → IsWritable b) (sym same)
+    (part_or_unread v.geometry (data_in image v) (extents_in image v f) f.lstar (λ (b : Body). unreadable b ≡ None → IsWritable b) (λ n end es bs read. tt) (λ k read. let no : ⊥ = cc in absurd no))
+
+-- where it begins, by what is told of its front
+front_well : (image : List ℕ) (v : Vol) (f : F1) (mode : Mode) (front : Front) → fits_mode mode f.name (attr_of f) ≡ true → unreadable (body_of_set image v f) ≡ None → IsFrontIn mode front (body_of_set image v f)
+    → EndsAt front.end (body_of_set image v f) × (put_first mode (body_of_set image v f) ≡ firsts front.first)
+front_well image v f Fill front fits =
+    let same = sequential_body v.geometry (data_in image v) f.name (attr_of f) (extents_in image v f) f.lstar fits in
+    subst (λ (b : Body). unreadable b ≡ None → IsFrontIn Fill front b → EndsAt front.end b × (put_first Fill b ≡ firsts front.first)) (sym same)
+    (seq_or_unread v.geometry (data_in image v) (extents_in image v f) f.lstar (λ (b : Body). unreadable b ≡ None → IsFrontIn Fill front b → EndsAt front.end b × (put_first Fill b ≡ firsts front.first))
+    (λ bs read is. (ap (λ (x : Front). x.end) is, sym (ap (λ (x : Front). firsts x.first) is))) (λ k read is. let no : ⊥ = cc in absurd no))
+front_well image v f Area front fits =
+    let same = partitioned_body v.geometry (data_in image v) f.name (attr_of f) (extents_in image v f) f.lstar fits in
+    subst (λ (b : Body). unreadable b ≡ None → IsFrontIn Area front b → EndsAt front.end b × (put_first Area b ≡ firsts front.first)) (sym same)
+    (part_or_unread v.geometry (data_in image v) (extents_in image v f) f.lstar (λ (b : Body). unreadable b ≡ None → IsFrontIn Area front b → EndsAt front.end b × (put_first Area b ≡ firsts front.first))
+    (λ n end es bs read is. (is.0, by (is_open_ended bs) ∙ sym (ap firsts is.1))) (λ k read is. let no : ⊥ = cc in absurd no))
   where
-    at : List (Option (List Block))
-    at = map (blocks_at g tracks (owned_tracks extents) (last_of lstar)) (range_with_len 0 ((last_of lstar).tt + 1))
+    by : (b : Bool) → cond b (end_of_file ∷ []) [] ≡ firsts b
+    by true = refl
+    by false = refl
 
-    by_broken : (o : Option ℕ) (blocks : List Block) → unreadable (seq_unless o blocks) ≡ None → HasBlocks (seq_unless o blocks) (blocks_of (seq_unless o blocks))
-    by_broken None blocks is = refl
-    by_broken (Some k) blocks is = absurd cc
-
-    by_none : (b : Bool) → unreadable (cond b (Seq []) (seq_of at)) ≡ None → HasBlocks (cond b (Seq []) (seq_of at)) (blocks_of (cond b (Seq []) (seq_of at)))
-    by_none true is = refl
-    by_none false is = by_broken (position (λ o. is_none o) at) (flat_map (λ o. unwrap_or o []) at) is
-
--- a set to which blocks can be written is a sequential one, whose body can be read
-may_write : (image : List ℕ) (v : Vol) (f : F1) → cond (is_sequential f.name (attr_of f)) (unreadable (body_here image v f)) (Some refusals.WrongKind) ≡ None
-    → IsSequential f × HasBlocks (body_in image v f) (blocks_of (body_in image v f))
-unfolding body_of
-may_write image v f none = by (is_sequential f.name (attr_of f)) refl none
+-- a set that can be written to is of the kind that the mode needs, and can be read
+may_write : (mode : Mode) (image : List ℕ) (v : Vol) (f : F1) → cond (fits_mode mode f.name (attr_of f)) (unreadable (body_here image v f)) (Some refusals.WrongKind) ≡ None
+    → (fits_mode mode f.name (attr_of f) ≡ true) × (unreadable (body_of_set image v f) ≡ None)
+may_write mode image v f none = by (fits_mode mode f.name (attr_of f)) refl none
   where
-    same : is_sequential f.name (attr_of f) ≡ true → body_here image v f ≡ seq_body v.geometry (data_in image v) (extents_in image v f) f.lstar
-    same is = ap (λ (b : Bool). cond b (seq_body v.geometry (data_in image v) (extents_in image v f) f.lstar) (cond (is_catalog f.name || is_partitioned f.name (attr_of f)) (Unreadable 0) Other)) is
-
-    by : (b : Bool) → is_sequential f.name (attr_of f) ≡ b → cond b (unreadable (body_here image v f)) (Some refusals.WrongKind) ≡ None → IsSequential f × HasBlocks (body_in image v f) (blocks_of (body_in image v f))
+    by : (b : Bool) → fits_mode mode f.name (attr_of f) ≡ b → cond b (unreadable (body_here image v f)) (Some refusals.WrongKind) ≡ None → (fits_mode mode f.name (attr_of f) ≡ true) × (unreadable (body_of_set image v f) ≡ None)
     by false is never = absurd cc
-    by true is well = (is, seq_readable v.geometry (data_in image v) (extents_in image v f) f.lstar (sym (ap unreadable (same is)) ∙ well))
+    by true is well = (is, well)
 
 -- the slot that is found holds the format 1 of that name
 pub found_named : (name : List ℕ) (items : List Dscb) (slot : ℕ) → first_named name items ≡ Some slot → name_at items slot ≡ Some name
@@ -69,19 +80,22 @@ found_named name items slot first =
     ap (λ (o : Option Dscb). option_and_then (λ (d : Dscb). option_map (λ (x : F1). x.name) (set_in (Ok d))) o) found.set ∙ ap (λ (n : List ℕ). Some n) found.named
 
 -- a writer that was opened in the slot of that set
-pub begun_at : (shelf : Shelf) (n : ℕ) (v : Vol) (has : HasVolume shelf n v) (dsn : Dsn) (w : Writer) → first_named dsn.bytes v.slots.items ≡ Some w.inner.slot → w.mode ≡ Fill
-    → ((image : List ℕ) (f : F1) → slice_get v.slots.items w.inner.slot ≡ Some (formats.F1 f) → HasSet image v f → IsSequential f → IsReadable (body_in image v f)
+pub begun_at : (shelf : Shelf) (n : ℕ) (v : Vol) (has : HasVolume shelf n v) (dsn : Dsn) (mode : Mode) (front : Front) (w : Writer) → first_named dsn.bytes v.slots.items ≡ Some w.inner.slot → w.mode ≡ mode → w.first ≡ front.first
+    → ((image : List ℕ) (f : F1) → slice_get v.slots.items w.inner.slot ≡ Some (formats.F1 f) → HasSet image v f → IsWritable (body_of_set image v f) → EndsAt front.end (body_of_set image v f)
     → (is : IsWriting image v w.inner) × (is.f ≡ f) × (puts_in image v f w.inner ≡ []))
-    → begin_refusal shelf (record { v = n; dsn = dsn; mode = Fill }) ≡ None → IsBegunAt has.image v w
-begun_at shelf n v has dsn w first fills begun none =
+    → begin_refusal shelf (record { v = n; dsn = dsn; mode = mode }) ≡ None → IsFrontIn mode front (body_on shelf n dsn.bytes) → IsBegunAt has.image v w
+begun_at shelf n v has dsn mode front w first purpose fronted begun none begins =
     let found = set_found dsn.bytes v.slots.items w.inner.slot first in
     let f : F1 = found.f in
     let set = is_set shelf n v has dsn.bytes w.inner.slot f first found.set in
-    let may = may_write has.image v f (sym (begin_set shelf n v has dsn Fill f set) ∙ none) in
-    let run = begun has.image f found.set set.0.set may.0 (blocks_of (body_in has.image v f), may.1) in
+    let may = may_write mode has.image v f (sym (begin_set shelf n v has dsn mode f set) ∙ none) in
+    let well = front_well has.image v f mode front may.0 may.1 (subst (IsFrontIn mode front) (sym (body_found shelf n v has dsn.bytes f set)) begins) in
+    let run = begun has.image f found.set set.0.set (fits_writable has.image v f mode may.0 may.1) well.0 in
     let by : IsWritingBy has.image v f w.inner = subst (λ (x : F1). IsWritingBy has.image v x w.inner) run.1 (by_writing has.image v w.inner run.0) in (
       record {
-        fills = fills;
+        fits = λ x at. subst (λ (y : F1). fits_mode w.mode y.name (attr_of y) ≡ true) (one_set f x found.set at) (ap (λ (m : Mode). fits_mode m f.name (attr_of f)) purpose ∙ may.0);
+        first = λ x at. subst (λ (y : F1). put_first w.mode (body_of_set has.image v y) ≡ firsts w.first) (one_set f x found.set at) (ap (λ (m : Mode). put_first m (body_of_set has.image v f)) purpose ∙ well.1 ∙ ap firsts (sym fronted));
+        begins = λ x at. subst (λ (y : F1). BeginsWell w.first (puts_in has.image v y w.inner)) (one_set f x found.set at) (subst (BeginsWell w.first) (sym run.2) (begins_none w.first));
         writing = λ x at. subst (λ (y : F1). IsWritingBy has.image v y w.inner) (one_set f x found.set at) by;
       },
       ap (puts_by has.image v w.inner) found.set ∙ run.2,

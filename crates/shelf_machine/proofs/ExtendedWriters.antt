@@ -1,35 +1,33 @@
 -- A writer on an image whose data set got more extents: it stands behind the same blocks, and has put the same.
 use Rattle.std.proofs.Common.{◌≡◌, ◌+◌, ◌/◌, ◌%◌, ◌<◌, ℕ, zero, suc, Bool, true, false, cond, List, [], ◌∷◌, ◌++◌, length, map, drop, Option, Some, None, refl, sym, ap, ap₂, ◌∙◌, subst, arith}
-use Rattle.std.specs.Prelude.{◌||◌, Ok, find, slice_get, slice_range}
+use Rattle.std.specs.Prelude.{Ok, find, slice_get, slice_range}
 use Rattle.std.specs.List.{range_with_len}
 use Rattle.std.specs.Int.{w16, from_be_bytes}
 use Rattle.std.proofs.lemmas.Bool.Decides.{nat_tests}
 use Rattle.std.proofs.lemmas.Grind.{flat_map-append}
 use Rattle.std.proofs.lemmas.Nat.{from_be_bytes-to_be_bytes_2}
-use Rattle.std.proofs.lemmas.Slice.Eq.{bytes_eq-Decides}
 use Rattle.ckd_image.specs.Reading.{records_of}
-use Rattle.ckd_image.specs.Track.{Record}
 use Rattle.ckd_image.specs.declared.header.Geometry.{Geometry}
 use Rattle.dscb_codec.specs.declared.Dscb.TheVariants as formats
 use Rattle.dscb_codec.specs.declared.F1.{F1}
 use Rattle.ebcdic_names.specs.declared.names.Dsn.{Dsn}
 use Rattle.pack_spec.specs.Alike.{DifferInVtoc, IsIn}
 use Rattle.pack_spec.specs.Blocks.{blocks_at, blocks_from, data_tracks, has_no_block, last_of, owned_tracks, seq_body, seq_of}
-use Rattle.pack_spec.specs.Bodies.{body_of}
 use Rattle.pack_spec.specs.Label.{heads_of, records_on, track_bytes}
 use Rattle.pack_spec.specs.Slots.{slots_of_vtoc, tracks_in}
 use Rattle.pack_spec.specs.Volume.{attr_of, data_set_of}
 use Rattle.pack_spec.proofs.BlockBodies.{more_extents, vtoc_tracks}
 use Rattle.pack_spec.proofs.Lawful.{good_sets}
+use Rattle.vol_model.specs.declared.answers.Mode.{Mode}
 use Rattle.vol_model.specs.declared.contents.Block.{Block}
 use Rattle.vol_model.specs.declared.contents.Body.{Body}
-use Rattle.vol_model.specs.declared.contents.Body.TheVariants.{Other, Seq, Unreadable}
+use Rattle.vol_model.specs.declared.contents.Body.TheVariants.{Seq}
 use Rattle.vol_model.specs.declared.contents.DataSet.{DataSet}
 use Rattle.vol_model.specs.declared.contents.Place.{Place}
 use Rattle.vol_model.specs.declared.contents.Run.{Run}
 use Rattle.vol_model.specs.declared.contents.Shelf.{Shelf}
-use Rattle.vol_model.specs.Places.{content, is_before, last_place, placed}
-use Rattle.vol_model.specs.Shelf.{blocks_of, changed, extend_on, has_name, is_catalog, is_partitioned, is_sequential, set_of, with_extents}
+use Rattle.vol_model.specs.Places.{content, is_before, placed}
+use Rattle.vol_model.specs.Shelf.{blocks_of, changed, extend_on, fits_mode, has_name, set_of, with_extents}
 use Rattle.vol_model.specs.Space.{is_in}
 use Rattle.vol_model.specs.Writing.{set_on}
 use Rattle.vtoc_index.specs.declared.vol.Vol.{Vol}
@@ -37,12 +35,12 @@ use Rattle.vtoc_index.specs.Index.{IsMounted, first_named}
 use Rattle.vtoc_index.specs.Last.{lstar_of}
 use Rattle.vtoc_sets.specs.Sets.{extents_in, volume_in}
 use Rattle.seq_access.specs.declared.writer.Writer.{Writer as BlockWriter}
-use Rattle.seq_access.specs.Bodies.{HasBlocks, IsSequential, IsSetIn, body_in, body_upto, data_in, owned_in}
-use Rattle.seq_access.specs.Writing.{body_so_far, has_put, puts_in}
+use Rattle.seq_access.specs.Bodies.{HasBlocks, IsSetIn, IsWritable, body_of_set, body_upto, data_in, last_in, owned_in}
+use Rattle.seq_access.specs.Writing.{body_so_far, front_in, has_put, puts_in}
 use Rattle.seq_access.proofs.DataPlaces.{few_owned_tracks, outside}
-use Rattle.seq_access.proofs.MoreBlocks.{Parts, parts_of}
+use Rattle.seq_access.proofs.LastRecords.{last_by_body, last_of_body}
+use Rattle.seq_access.proofs.MoreBlocks.{parts_of}
 use Rattle.seq_access.proofs.NextPlaces.{contents_behind}
-use Rattle.seq_access.proofs.PutPlaces.{count_in}
 use Rattle.dadsm_ops.proofs.ExtendedSteps.{stands_there}
 use Rattle.dadsm_ops.proofs.ExtensionPlans.{found_on}
 use Rattle.shelf_machine.specs.Operating.{IsSamePack}
@@ -75,47 +73,8 @@ some_set same = cc
 never : {a : DataSet} → None ≡ Some a → ⊥
 never same = cc
 
--- ---- the last block's place, by the body
-
--- the last of blocks on a track behind others
-last_at : (p : Place) (k r : ℕ) (x : Record) (xs : List Record) → last_place p (blocks_from k r (x ∷ xs)) ≡ record { tt = k; r = r + length xs }
-last_at p k r x [] = let none : r ≡ r + 0 = omega arith in ap (λ (n : ℕ). record { tt = k; r = n }) none
-last_at p k r x (y ∷ xs) = let next : r + 1 + length xs ≡ r + suc (length xs) = omega arith in last_at (record { tt = k; r = r }) k (r + 1) y xs ∙ ap (λ (n : ℕ). record { tt = k; r = n }) next
-
-last_behind : (p : Place) (front : List Block) (k r : ℕ) (x : Record) (xs : List Record) → last_place p (front ++ blocks_from k r (x ∷ xs)) ≡ record { tt = k; r = r + length xs }
-last_behind p [] k r x xs = last_at p k r x xs
-last_behind p (b ∷ bs) k r x xs = last_behind b.place bs k r x xs
-
-abbrev nowhere : Place
-nowhere = record { tt = 0; r = 0 }
-
 same_blocks : (xs ys : List Block) → Seq xs ≡ Seq ys → xs ≡ ys
 same_blocks xs ys e = cc
-
--- a readable body tells where its last block stands
-last_told : (g : Geometry) (tracks : List (List ℕ)) (extents : List Run) (lstar : List ℕ) (bs : List Block) → seq_body g tracks extents lstar ≡ Seq bs → last_of lstar ≡ last_place nowhere bs
-unfolding seq_body
-last_told g tracks extents lstar bs is = by (has_no_block lstar) refl
-  where
-    each : Body
-    each = seq_of (map (blocks_at g tracks (owned_tracks extents) (last_of lstar)) (range_with_len 0 ((last_of lstar).tt + 1)))
-
-    on : (parts : Parts g extents tracks (last_of lstar) bs) (xs : List Record) → length xs ≡ (last_of lstar).r → bs ≡ parts.front ++ blocks_from (last_of lstar).tt 1 xs → last_of lstar ≡ last_place nowhere bs
-    on parts [] many all = absurd (omega (arith, many, parts.first))
-    on parts (x ∷ xs) many all =
-        let number : 1 + length xs ≡ (last_of lstar).r = omega (arith, many) in
-        ap (λ (n : ℕ). record { tt = (last_of lstar).tt; r = n }) (sym number)
-        ∙ sym (last_behind nowhere parts.front (last_of lstar).tt 1 x xs)
-        ∙ ap (last_place nowhere) (sym all)
-
-    by : (b : Bool) → has_no_block lstar ≡ b → last_of lstar ≡ last_place nowhere bs
-    by true none =
-        let zeros : lstar ≡ 0 ∷ 0 ∷ 0 ∷ [] = (bytes_eq-Decides lstar (0 ∷ 0 ∷ 0 ∷ [])).0 none in
-        let empty : [] ≡ bs = same_blocks [] bs (sym (ap (λ (b : Bool). cond b (Seq []) each) none) ∙ is) in
-        ap last_of zeros ∙ ap (last_place nowhere) empty
-    by false some =
-        let parts = parts_of g extents tracks lstar (last_of lstar) bs refl some is in
-        on parts parts.records (count_in g tracks (last_of lstar).r parts.track parts.records parts.read) parts.all
 
 -- what stands in the front of a list stands there with others behind it, and there alone
 front_there : (xs ys : List ℕ) (k x y : ℕ) → slice_get xs k ≡ Some x → slice_get (xs ++ ys) k ≡ Some y → x ≡ y
@@ -191,9 +150,13 @@ module _ (image image' : List ℕ) (v v' : Vol) (mounted : IsMounted image v) (m
     unfolding data_set_of
     extents_now = ap (λ (y : DataSet). y.extents) set_now
 
-    body_now : body_of v'.geometry (data_in image' v') f'.name (attr_of f') (extents_in image' v' f') f'.lstar ≡ body_of v.geometry (data_in image v) f.name (attr_of f) (extents_in image v f) f.lstar
+    -- the body is the same
+    pub body_now : body_of_set image' v' f' ≡ body_of_set image v f
     unfolding data_set_of
     body_now = ap (λ (y : DataSet). y.body) set_now
+
+    pub fits_extended : (mode : Mode) → fits_mode mode f.name (attr_of f) ≡ true → fits_mode mode f'.name (attr_of f') ≡ true
+    fits_extended mode fits = ap₂ (fits_mode mode) (named' ∙ sym named) attr_now ∙ fits
 
     -- the data tracks are as before
     tracks_now : data_in image' v' ≡ data_in image v
@@ -228,31 +191,27 @@ module _ (image image' : List ℕ) (v v' : Vol) (mounted : IsMounted image v) (m
 
     module _ (w : BlockWriter) (by : IsWritingBy image v f w) where
       abbrev old : List Block
-      old = blocks_of (body_in image v f)
+      old = blocks_of (front_in image v f)
 
       abbrev written : List Block
       written = old ++ placed v.geometry.device (Seq old) (puts_in image v f w)
 
-      sequential_now : IsSequential f'
-      sequential_now = ap₂ is_sequential (named' ∙ sym named) attr_now ∙ by.sequential
+      writable_now : IsWritable (body_of_set image' v' f')
+      writable_now = subst IsWritable (sym body_now) by.writable
 
-      -- the body is the same
-      body_same : body_in image' v' f' ≡ body_in image v f
-      unfolding body_of
-      body_same =
-          let of : Bool → Body → Bool → Body = λ (b : Bool) (body : Body) (c : Bool). cond b body (cond c (Unreadable 0) Other) in
-          sym (ap (λ (b : Bool). of b (body_in image' v' f') (is_catalog f'.name || is_partitioned f'.name (attr_of f'))) sequential_now)
-          ∙ body_now
-          ∙ ap (λ (b : Bool). of b (body_in image v f) (is_catalog f.name || is_partitioned f.name (attr_of f))) by.sequential
-
-      body_has : HasBlocks (body_in image' v' f') old
-      body_has = body_same ∙ by.body
-
-      -- and so is its last block's place
-      last_same : last_of f'.lstar ≡ last_of f.lstar
+      -- its last record has the same place
+      last_same : last_in image' v' f' ≡ last_in image v f
       last_same =
-          last_told v.geometry (data_in image v) (extents_in image v f ++ runs) f'.lstar old (sym (upto_now f'.lstar) ∙ body_has)
-          ∙ sym (last_told v.geometry (data_in image v) (extents_in image v f) f.lstar old by.body)
+          last_by_body image' v' f' set_is writable_now
+          ∙ ap last_of_body body_now
+          ∙ sym (last_by_body image v f set_was by.writable)
+
+      -- and the records up to there are the same
+      front_same : front_in image' v' f' ≡ front_in image v f
+      front_same =
+          ap (λ (p : Place). body_upto image' v' f' (lstar_of p)) last_same
+          ∙ more_upto (lstar_of (last_in image v f)) old by.front
+          ∙ sym by.front
 
       so_far_has : HasBlocks (body_so_far image' v' f' w) written
       so_far_has = more_upto (lstar_of w.last) written by.so_far
@@ -260,7 +219,7 @@ module _ (image image' : List ℕ) (v v' : Vol) (mounted : IsMounted image v) (m
       puts_same : puts_in image' v' f' w ≡ puts_in image v f w
       unfolding puts_in
       puts_same =
-          ap₂ (λ (b s : Body). map content (drop (length (blocks_of b)) (blocks_of s))) body_same (more_upto (lstar_of w.last) written by.so_far ∙ sym by.so_far)
+          ap₂ (λ (b s : Body). map content (drop (length (blocks_of b)) (blocks_of s))) front_same (more_upto (lstar_of w.last) written by.so_far ∙ sym by.so_far)
 
       -- the track of its last block was the set's before
       last_owned : has_put w ≡ true → w.last.tt < 65536 → (t : ℕ) × (slice_get (owned_in image v f) w.last.tt ≡ Some t)
@@ -288,8 +247,8 @@ module _ (image image' : List ℕ) (v v' : Vol) (mounted : IsMounted image v) (m
           let there : slice_get (owned_in image v f) w.last.tt ≡ Some track = was.1 ∙ ap (λ (t : ℕ). Some t) here in
           records_now None w.last.tt track there ∙ by.ended put track there ∙ sym (records_now (Some w.last.r) w.last.tt track there)
 
-      old_same : old ≡ blocks_of (body_in image' v' f')
-      old_same = ap blocks_of (sym body_same)
+      old_same : old ≡ blocks_of (front_in image' v' f')
+      old_same = ap blocks_of (sym front_same)
 
       device_same : v.geometry.device ≡ v'.geometry.device
       device_same = ap (λ (g : Geometry). g.device) (sym same.geometry)
@@ -299,8 +258,8 @@ module _ (image image' : List ℕ) (v v' : Vol) (mounted : IsMounted image v) (m
       unfolding puts_in
       writing_extended = record {
         extents = set_is.set.extents;
-        sequential = sequential_now;
-        body = body_same ∙ by.body ∙ ap (λ (b : Body). Seq (blocks_of b)) (sym body_same);
+        writable = writable_now;
+        front = front_same ∙ by.front ∙ ap (λ (b : Body). Seq (blocks_of b)) (sym front_same);
         so_far = so_far_has ∙ (λ i. Seq (old_same i ++ placed (device_same i) (Seq (old_same i)) (sym puts_same i)));
         begun = λ none. by.begun none ∙ sym last_same;
         some = λ put none. by.some put (sym puts_same ∙ none);

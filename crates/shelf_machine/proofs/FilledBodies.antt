@@ -1,10 +1,11 @@
 -- Which data sets can't be read where blocks are written behind those of one: the same as before.
-use Rattle.std.proofs.Common.{◌≡◌, ℕ, Bool, true, false, cond, List, set, Option, Some, None, inl, inr, refl, sym, ap, ◌∙◌, subst}
+use Rattle.std.proofs.Common.{◌≡◌, ℕ, Bool, true, false, cond, List, map, set, Option, Some, None, inl, inr, refl, sym, ap, ◌∙◌, subst}
 use Rattle.std.specs.Prelude.{Result, Ok, Err, find, option_and_then, slice_get}
 use Rattle.std.specs.Option.{option_map}
 use Rattle.std.proofs.lemmas.Bool.Decides.{eqb_tells}
 use Rattle.ckd_image.specs.declared.device.DiskType.{DiskType}
 use Rattle.ebcdic_names.specs.declared.names.Dsn.{Dsn}
+use Rattle.vol_model.specs.declared.answers.Mode.{Mode}
 use Rattle.vol_model.specs.declared.answers.Mode.TheVariants as modes
 use Rattle.vol_model.specs.declared.contents.Block.{Block}
 use Rattle.vol_model.specs.declared.contents.Body.{Body}
@@ -14,17 +15,19 @@ use Rattle.vol_model.specs.declared.contents.Shelf.{Shelf}
 use Rattle.vol_model.specs.declared.contents.Volume.{Volume}
 use Rattle.vol_model.specs.declared.refusals.Refusal.{Refusal}
 use Rattle.vol_model.specs.declared.requests.Op.{Op}
-use Rattle.vol_model.specs.declared.requests.Op.TheVariants.{Fill}
-use Rattle.vol_model.specs.Places.{Content, placed, with_blocks}
-use Rattle.vol_model.specs.Shelf.{has_name, is_sequential, on_volume, set_of, step, step_on, unless_refused, volume_number, with_set, with_volume, with_written, write_on, write_refusal, written}
-use Rattle.vol_model.specs.Writing.{set_on}
-use Rattle.shelf_machine.specs.Known.{KnowsBodies, ListsBroken, ListsUnread}
-use Rattle.shelf_machine.specs.Unread.{broken_at, broken_in}
+use Rattle.vol_model.specs.declared.requests.Op.TheVariants.{Area, Fill}
+use Rattle.vol_model.specs.Places.{Content, content, placed, with_blocks}
+use Rattle.vol_model.specs.Shelf.{has_name, on_volume, set_of, step, step_on, unless_refused, volume_number, with_set, with_volume, with_written, write_on, write_refusal, written}
+use Rattle.vol_model.specs.Writing.{set_on, writes}
+use Rattle.shelf_machine.specs.Known.{HasNoLibrary, IsLibraryOn, KnowsBodies, ListsBroken, ListsUnread}
+use Rattle.shelf_machine.specs.Unread.{broken_at, broken_in, is_walked}
 use Rattle.shelf_machine.specs.declared.known.Known.{Known}
 use Rattle.shelf_machine.specs.declared.unread.Unread.{Unread}
+use Rattle.shelf_machine.proofs.Following.{elsewhere, library_still}
 use Rattle.shelf_machine.proofs.FoundByKey.{found_changed}
 use Rattle.shelf_machine.proofs.ListPlaces.{get_other, get_set}
 use Rattle.shelf_machine.proofs.Operating.{ok_volume}
+use Rattle.shelf_machine.proofs.WriteSteps.{to_set}
 
 -- more blocks don't tell whether a body can be read
 broken_still : (b : Body) (bs : List Block) → broken_at (with_blocks b bs) ≡ broken_at b
@@ -34,8 +37,8 @@ broken_still bodies.Catalog bs = refl
 broken_still bodies.Other bs = refl
 broken_still (bodies.Unreadable track) bs = refl
 
-set_still : (device : DiskType) (cs : List Content) (x : DataSet) → broken_in (with_written device modes.Fill cs x) ≡ broken_in x
-set_still device cs x = ap (λ (o : Option ℕ). cond (is_sequential x.name.bytes x.attr) o None) (broken_still x.body (placed device x.body (written modes.Fill x.body cs)))
+set_still : (device : DiskType) (mode : Mode) (cs : List Content) (x : DataSet) → broken_in (with_written device mode cs x) ≡ broken_in x
+set_still device mode cs x = ap (λ (o : Option ℕ). cond (is_walked x.name.bytes x.attr) o None) (broken_still x.body (placed device x.body (written mode x.body cs)))
 
 -- the list of a volume of which a data set is changed, but not in its name nor in whether it can be read
 lists_still : (w : Volume) (unread : List Unread) (name : List ℕ) (f : DataSet → DataSet) → ((x : DataSet) → (f x).name.bytes ≡ x.name.bytes) → ((x : DataSet) → broken_in (f x) ≡ broken_in x) → ListsBroken w unread → ListsBroken (with_set w name f) unread
@@ -50,12 +53,12 @@ lists_still w unread name f keeps whole lists m =
     by None = refl
     by (Some x) = test x (has_name name x)
 
-lists_filled : (dsn : Dsn) (cs : List Content) (w after : Volume) → write_on modes.Fill dsn cs w ≡ Ok after → (unread : List Unread) → ListsBroken w unread → ListsBroken after unread
+lists_written : (mode : Mode) (dsn : Dsn) (cs : List Content) (w after : Volume) → write_on mode dsn cs w ≡ Ok after → (unread : List Unread) → ListsBroken w unread → ListsBroken after unread
 unfolding write_on
-lists_filled dsn cs w after done unread lists = by (write_refusal modes.Fill dsn w) done
+lists_written mode dsn cs w after done unread lists = by (write_refusal mode dsn w) done
   where
-    by : (o : Option Refusal) → unless_refused o (with_set w dsn.bytes (with_written w.geometry.device modes.Fill cs)) ≡ Ok after → ListsBroken after unread
-    by None is = subst (λ (y : Volume). ListsBroken y unread) (ok_volume is) (lists_still w unread dsn.bytes (with_written w.geometry.device modes.Fill cs) (λ x. refl) (set_still w.geometry.device cs) lists)
+    by : (o : Option Refusal) → unless_refused o (with_set w dsn.bytes (with_written w.geometry.device mode cs)) ≡ Ok after → ListsBroken after unread
+    by None is = subst (λ (y : Volume). ListsBroken y unread) (ok_volume is) (lists_still w unread dsn.bytes (with_written w.geometry.device mode cs) (λ x. refl) (set_still w.geometry.device mode cs) lists)
     by (Some r) is = absurd cc
 
 -- ---- the shelf
@@ -86,8 +89,17 @@ module _ (op : Op) (still : (w after : Volume) → step_on op w ≡ Ok after →
       by None there is = absurd cc
       by (Some w) there is = with_it w there (step_on op w) refl is
 
--- What is known of bodies stays where blocks are written.
-pub knows_filled : (v : ℕ) (dsn : Dsn) (bs : List Block) (shelf after : Shelf) (known : List Known) → step shelf (Fill v dsn bs) ≡ Ok after → KnowsBodies shelf known → KnowsBodies after known
+-- What is known of bodies stays where blocks are written, if no library of that pack is held.
+knows_by : (op : Op) → ((w after : Volume) → step_on op w ≡ Ok after → (unread : List Unread) → ListsBroken w unread → ListsBroken after unread) → (shelf after : Shelf) (known : List Known) → step shelf op ≡ Ok after → HasNoLibrary (volume_number op) known → KnowsBodies shelf known → KnowsBodies after known
+knows_by op still shelf after known done none knows n b there = record {
+  lists = unread_still op still shelf after done n b.unread.items (knows n b there).lists;
+  library = elim (eqb_tells (volume_number op) n) [
+    | inl e ↦ subst (IsLibraryOn after n) (sym (none b (ap (slice_get known) e.1 ∙ there))) tt
+    | inr e ↦ library_still shelf after n (elsewhere op shelf after done n e.1) b.library (knows n b there).library
+  ];
+}
+
+pub knows_written : (v : ℕ) (dsn : Dsn) (mode : Mode) (bs : List Block) (shelf after : Shelf) (known : List Known) → step shelf (writes (to_set v dsn mode) bs) ≡ Ok after → HasNoLibrary v known → KnowsBodies shelf known → KnowsBodies after known
 unfolding step_on
-knows_filled v dsn bs shelf after known done knows n b there =
-    unread_still (Fill v dsn bs) (λ w x is unread lists. lists_filled dsn _ w x is unread lists) shelf after done n b.unread.items (knows n b there)
+knows_written v dsn modes.Fill bs shelf after known = knows_by (Fill v dsn bs) (λ w x is unread lists. lists_written modes.Fill dsn (map content bs) w x is unread lists) shelf after known
+knows_written v dsn modes.Area bs shelf after known = knows_by (Area v dsn bs) (λ w x is unread lists. lists_written modes.Area dsn (map content bs) w x is unread lists) shelf after known

@@ -1,7 +1,7 @@
 -- Which data sets can't be read behind an operation on the shelf.
 use Rattle.std.proofs.Common.{◌≡◌, ◌≢◌, ⊎_elim, inl, inr, ℕ, Bool, true, false, cond, not, ◌&&◌, ◌||◌, List, [], ◌∷◌, map, set, Option, Some, None, refl, sym, ap, subst, ◌∙◌}
 use Rattle.std.specs.Prelude.{◌⊎◌, ◌==◌, nat_lt, option_and_then, slice_get, Result, Ok, Err, filter, find, if◌then◌else◌}
-use Rattle.std.specs.Option.{option_map}
+use Rattle.std.specs.Option.{option_map, option_map_or}
 use Rattle.std.proofs.lemmas.Bool.{cases_Bool}
 use Rattle.std.proofs.lemmas.Bool.Decides.{eqb_tells}
 use Rattle.std.proofs.lemmas.Slice.Eq.{bytes_eq-Decides}
@@ -12,27 +12,30 @@ use Rattle.vol_model.specs.declared.contents.Attr.{Attr}
 use Rattle.vol_model.specs.declared.contents.Body.{Body}
 use Rattle.vol_model.specs.declared.contents.Body.TheVariants as bodies
 use Rattle.vol_model.specs.declared.contents.DataSet.{DataSet}
+use Rattle.vol_model.specs.declared.contents.Entry.{Entry}
 use Rattle.vol_model.specs.declared.contents.Run.{Run}
 use Rattle.vol_model.specs.declared.contents.Shelf.{Shelf}
 use Rattle.vol_model.specs.declared.contents.Volume.{Volume}
 use Rattle.vol_model.specs.declared.refusals.Refusal.{Refusal}
 use Rattle.vol_model.specs.declared.refusals.Refusal.TheVariants.{NoRoom, NoSet, SetExists, VtocFull, WrongKind}
 use Rattle.vol_model.specs.declared.requests.Op.{Op}
-use Rattle.vol_model.specs.declared.requests.Op.TheVariants.{Allocate, Empty, Extend, Rename, Scratch}
+use Rattle.vol_model.specs.declared.requests.Op.TheVariants.{Allocate, Drop, Empty, Enter, Extend, Rename, Scratch}
 use Rattle.vol_model.specs.declared.requests.Request.{Request}
 use Rattle.vol_model.specs.Order.{in_order}
 use Rattle.vol_model.specs.Places.{directory_end, tracks_in}
-use Rattle.vol_model.specs.Shelf.{allocate_on, emptied, empty_on, empty_set, extend_on, has_name, has_set, if_room, is_catalog, is_partitioned, is_sequential, lacks_room, may_empty, new_attr, new_body, on_choice, on_found, on_volume, organization, refuse, rename_on, rename_refusal, renamed, scratch_on, set_of, step, step_on, unless_refused, volume_number, with_extents, with_name, with_new, with_set, with_volume, without_blocks}
+use Rattle.vol_model.specs.Shelf.{allocate_on, with_directory, with_entries, emptied, empty_on, empty_set, extend_on, has_name, has_set, if_room, is_catalog, is_partitioned, is_sequential, lacks_room, may_empty, new_attr, new_body, on_choice, on_found, on_volume, organization, refuse, rename_on, rename_refusal, renamed, scratch_on, set_of, step, step_on, unless_refused, volume_number, with_extents, with_name, with_new, with_set, with_volume, without_blocks}
 use Rattle.vol_model.specs.Slots.{slots_needed}
 use Rattle.vol_model.specs.Space.{choice}
-use Rattle.vol_model.specs.Writing.{set_on}
-use Rattle.shelf_machine.specs.Known.{IsServed, ListsBroken, ListsUnread, followed}
-use Rattle.shelf_machine.specs.Unread.{broken_at, broken_in, is_of, others_of, renamed_in, track_in}
+use Rattle.vol_model.specs.Writing.{body_on, set_on}
+use Rattle.shelf_machine.specs.Known.{IsLibraryOf, IsLibraryOn, IsServed, ListsBroken, ListsUnread, followed, library_after}
+use Rattle.shelf_machine.specs.Unread.{broken_at, broken_in, is_of, is_walked, others_of, renamed_in, track_in}
+use Rattle.shelf_machine.specs.declared.library.Library.{Library}
 use Rattle.shelf_machine.specs.declared.unread.Unread.{Unread}
+use Rattle.shelf_machine.proofs.DirectorySteps.{drop_is, enter_is}
 use Rattle.shelf_machine.proofs.FoundByKey.{find_passes, found_changed, found_new, found_old, found_other, none_found, others_none, others_same}
 use Rattle.shelf_machine.proofs.ListPlaces.{get_other, get_set}
 use Rattle.shelf_machine.proofs.Operating.{extend_is, ok_volume, read_through, unrefused}
-use Rattle.shelf_machine.proofs.OrderedSets.{find_in_order}
+use Rattle.mount_repair.proofs.OrderedSets.{find_in_order}
 
 abbrev track_of : Unread → ℕ
 track_of u = u.track
@@ -58,7 +61,7 @@ new_whole device name attr dir = by (is_catalog name) (is_sequential name attr) 
     by false false false = refl
 
 whole_set : (x : DataSet) → broken_at x.body ≡ None → broken_in x ≡ None
-whole_set x whole = by (is_sequential x.name.bytes x.attr)
+whole_set x whole = by (is_walked x.name.bytes x.attr)
   where
     by : (b : Bool) → cond b (broken_at x.body) None ≡ None
     by true = whole
@@ -118,7 +121,7 @@ module _ (w : Volume) (unread : List Unread) (lists : ListsBroken w unread) wher
     set_kept : (x : DataSet) → has_name old x ≡ true → broken_in (set_renamed x) ≡ broken_in x
     set_kept x is =
         let named : x.name.bytes ≡ old = (bytes_eq-Decides x.name.bytes old).0 is in
-        ap (λ (b : Bool). cond (not b && (organization x.attr == 32)) (broken_at x.body) None) (after ∙ sym (ap is_catalog named ∙ before))
+        ap (λ (b : Bool). cond ((not b && (organization x.attr == 32)) || (not b && (organization x.attr == 1))) (broken_at x.body) None) (after ∙ sym (ap is_catalog named ∙ before))
 
     body_kept : (o : Option DataSet) → find (has_name old) w.sets ≡ o → option_and_then broken_in (option_map set_renamed o) ≡ option_and_then broken_in o
     body_kept None there = refl
@@ -254,6 +257,19 @@ extend_after dsn w after done unread lists =
     let is = extend_is dsn w after done in
     subst (λ (y : Volume). ListsBroken y unread) is.1 (lists_changed w unread lists dsn.bytes (with_extents is.0) (λ y. refl) (λ y found. refl))
 
+-- a body with other entries can be read where it could
+entries_whole : (es : List Entry) (b : Body) → broken_at (with_directory es b) ≡ broken_at b
+entries_whole es (bodies.Seq blocks) = refl
+entries_whole es (bodies.Part dir end entries blocks) = refl
+entries_whole es bodies.Catalog = refl
+entries_whole es bodies.Other = refl
+entries_whole es (bodies.Unreadable track) = refl
+
+-- and so are all where one has other entries
+entries_after : (dsn : Dsn) (w after : Volume) → (es : List Entry) × (with_set w dsn.bytes (with_entries es) ≡ after) → (unread : List Unread) → ListsBroken w unread → ListsBroken after unread
+entries_after dsn w after is unread lists = subst (λ (y : Volume). ListsBroken y unread) is.1
+    (lists_changed w unread lists dsn.bytes (with_entries is.0) (λ y. refl) (λ y found. ap (λ (o : Option ℕ). if is_walked y.name.bytes y.attr then o else None) (entries_whole is.0 y.body)))
+
 volume_after : (op : Op) → IsServed op → (w after : Volume) → step_on op w ≡ Ok after → (unread : List Unread) → ListsBroken w unread → ListsBroken after (changed_by op unread)
 unfolding step_on
 volume_after (Allocate v dsn attr q dir) served w after done unread lists = allocate_after dsn attr q dir w after done unread lists
@@ -261,6 +277,8 @@ volume_after (Rename v old new) served w after done unread lists = rename_after 
 volume_after (Scratch v dsn) served w after done unread lists = scratch_after dsn w after done unread lists
 volume_after (Extend v dsn) served w after done unread lists = extend_after dsn w after done unread lists
 volume_after (Empty v dsn attr) served w after done unread lists = empty_after dsn attr w after done unread lists
+volume_after (Enter v dsn e replace) served w after done unread lists = entries_after dsn w after (enter_is dsn e replace w after done) unread lists
+volume_after (Drop v dsn name) served w after done unread lists = entries_after dsn w after (drop_is dsn name w after done) unread lists
 volume_after _ served w after done unread lists = absurd served
 
 -- the list of the volume that an operation is on, and that of another
@@ -276,6 +294,8 @@ followed_here (Scratch v dsn) served unread = elim (eqb_tells v v) [
 ]
 followed_here (Extend v dsn) served unread = refl
 followed_here (Empty v dsn attr) served unread = refl
+followed_here (Enter v dsn e replace) served unread = refl
+followed_here (Drop v dsn name) served unread = refl
 followed_here _ served unread = absurd served
 
 followed_elsewhere : (op : Op) → IsServed op → (n : ℕ) → volume_number op ≢ n → (unread : List Unread) → followed op n unread ≡ unread
@@ -290,6 +310,8 @@ followed_elsewhere (Scratch v dsn) served n differs unread = elim (eqb_tells v n
 ]
 followed_elsewhere (Extend v dsn) served n differs unread = refl
 followed_elsewhere (Empty v dsn attr) served n differs unread = refl
+followed_elsewhere (Enter v dsn e replace) served n differs unread = refl
+followed_elsewhere (Drop v dsn name) served n differs unread = refl
 followed_elsewhere _ served n differs unread = absurd served
 
 ok_shelf : {a b : Shelf} → ◌≡◌ {A = Result Shelf Refusal} (Ok a) (Ok b) → a ≡ b
@@ -317,3 +339,30 @@ lists_after op served shelf after done n unread lists = by (slice_get shelf.volu
     by : (o : Option Volume) → slice_get shelf.volumes (volume_number op) ≡ o → on_volume shelf (volume_number op) (step_on op) o ≡ Ok after → ListsUnread after n (followed op n unread)
     by None there is = absurd cc
     by (Some w) there is = with_it w there (step_on op w) refl is
+
+-- what an operation that is done leaves of the other volumes
+pub elsewhere : (op : Op) (shelf after : Shelf) → step shelf op ≡ Ok after → (n : ℕ) → volume_number op ≢ n → slice_get after.volumes n ≡ slice_get shelf.volumes n
+unfolding step
+elsewhere op shelf after done n differs = by (slice_get shelf.volumes (volume_number op)) done
+  where
+    with_it : (r : Result Volume Refusal) → with_volume shelf (volume_number op) r ≡ Ok after → slice_get after.volumes n ≡ slice_get shelf.volumes n
+    with_it (Err r) is = absurd cc
+    with_it (Ok changed) is = ap (λ (s : Shelf). slice_get s.volumes n) (sym (ok_shelf is)) ∙ get_other shelf.volumes n (volume_number op) changed (λ same. differs (sym same))
+
+    by : (o : Option Volume) → on_volume shelf (volume_number op) (step_on op) o ≡ Ok after → slice_get after.volumes n ≡ slice_get shelf.volumes n
+    by None is = absurd cc
+    by (Some w) is = with_it (step_on op w) is
+
+-- a library stays that of its data set where its volume stays
+pub library_still : (shelf after : Shelf) (n : ℕ) → slice_get after.volumes n ≡ slice_get shelf.volumes n → (l : Option Library) → IsLibraryOn shelf n l → IsLibraryOn after n l
+unfolding body_on set_on
+library_still shelf after n same None is = tt
+library_still shelf after n same (Some l) is =
+    subst (IsLibraryOf l) (ap (λ (o : Option Volume). option_map_or (λ (x : DataSet). x.body) (option_and_then (set_of l.dsn.bytes) o) bodies.Other) (sym same)) is
+
+-- and so it follows an operation that is done
+pub library_kept : (op : Op) (shelf after : Shelf) → step shelf op ≡ Ok after → (n : ℕ) (l : Option Library) → IsLibraryOn shelf n l → IsLibraryOn after n (library_after true op n l)
+library_kept op shelf after done n l is = elim (eqb_tells (volume_number op) n) [
+  | inl e ↦ subst (λ (b : Bool). IsLibraryOn after n (cond b None l)) (sym e.0) tt
+  | inr e ↦ subst (λ (b : Bool). IsLibraryOn after n (cond b None l)) (sym e.0) (library_still shelf after n (elsewhere op shelf after done n e.1) l is)
+]

@@ -4,7 +4,7 @@ use Rattle.std.specs.Prelude.{Ok, Err, Result, slice_get}
 use Rattle.std.specs.Option.{option_map_or}
 use Rattle.std.proofs.lemmas.List.{length-map}
 use Rattle.std.proofs.lemmas.Option.{slice_get-get_or}
-use Rattle.dadsm_ops.specs.Operations.{Operates}
+use Rattle.dadsm_ops.specs.Operations.{InVtoc, Operates}
 use Rattle.dadsm_ops.proofs.FoundSets.{FoundSet, set_found}
 use Rattle.dscb_codec.specs.declared.Dscb.TheVariants as formats
 use Rattle.dscb_codec.specs.declared.F1.{F1}
@@ -12,12 +12,15 @@ use Rattle.ebcdic_names.specs.declared.names.Dsn.{Dsn}
 use Rattle.free_rebuild.specs.Repairs.{image_named}
 use Rattle.hall_core.specs.Facts.{Attached, unit_of}
 use Rattle.pack_spec.specs.declared.MountErr.{MountErr}
-use Rattle.seq_access.specs.Writing.{AreSpared}
+use Rattle.pack_spec.specs.Volume.{attr_of}
+use Rattle.seq_access.specs.Bodies.{body_of_set, last_in}
+use Rattle.seq_access.specs.Writing.{AreSpared, puts_in}
 use Rattle.seq_access.proofs.SparedCalls.{differ_none}
 use Rattle.stop_model.specs.Files.{File}
 use Rattle.stop_model.specs.Moments.{IsDurable, Meaning}
 use Rattle.vol_model.specs.Calls.{IsUndone, sound_after}
-use Rattle.vol_model.specs.Shelf.{extend_on}
+use Rattle.vol_model.specs.declared.contents.Place.{Place}
+use Rattle.vol_model.specs.Shelf.{extend_on, fits_mode, put_first}
 use Rattle.vol_model.specs.declared.answers.StoreErr.{StoreErr}
 use Rattle.vol_model.specs.declared.answers.StoreErr.TheVariants as store
 use Rattle.vol_model.specs.declared.contents.Volume.{Volume}
@@ -27,13 +30,14 @@ use Rattle.vtoc_index.specs.Kept.{IsKept}
 use Rattle.vtoc_index.specs.declared.vol.Vol.{Vol}
 use Rattle.vtoc_index.proofs.KeptLemmas.{mounted_of}
 use Rattle.vtoc_sets.specs.Sets.{volume_in}
+use Rattle.shelf_machine.specs.Fronts.{BeginsWell, firsts}
 use Rattle.shelf_machine.specs.Known.{geometries_of}
-use Rattle.shelf_machine.specs.Machine.{writer_in}
+use Rattle.shelf_machine.specs.Machine.{placed_in}
 use Rattle.shelf_machine.specs.Operating.{IsSamePack}
 use Rattle.shelf_machine.specs.Pending.{HasSlot, IsInSlot, IsPendingBy, IsWriterOn, IsWritingBy, puts_by, puts_on}
 use Rattle.shelf_machine.specs.Reporting.{reported}
 use Rattle.shelf_machine.specs.declared.writer.Writer.{Writer}
-use Rattle.shelf_machine.proofs.ExtendedWriters.{puts_extended, still_named, writing_extended}
+use Rattle.shelf_machine.proofs.ExtendedWriters.{body_now, fits_extended, puts_extended, still_named, writing_extended}
 use Rattle.shelf_machine.proofs.ListPlaces.{there}
 
 -- A writer stands on a new image by the index of that, as it stood on the old one.
@@ -59,10 +63,10 @@ undone_by T store.Memory sound = tt
 undone_by T store.Device sound = absurd cc
 
 -- and leaves what is read
-pub state_undone : {T : Type 0} (name : List ℕ) (operation : Volume → Result Volume Refusal) (v : Vol) (m m' : Meaning (List File)) (e : StoreErr) → Operates {T = T} name operation v m m' (Err e) → IsUndone (reported {T = T} (Err e)) → m'.state ≡ m.state
-state_undone name operation v m m' (store.Refused why) run undone = (run.idle why (run.refused why refl)).state
-state_undone name operation v m m' store.Memory run undone = (run.memory refl).state
-state_undone name operation v m m' store.Device run undone = absurd undone
+pub state_undone : {T : Type 0} (name : List ℕ) (operation : Volume → Result Volume Refusal) (v : Vol) (Changes : List ℕ → List ℕ → Type 0) (m m' : Meaning (List File)) (e : StoreErr) → Operates {T = T} name operation v Changes m m' (Err e) → IsUndone (reported {T = T} (Err e)) → m'.state ≡ m.state
+state_undone name operation v Changes m m' (store.Refused why) run undone = (run.idle why (run.refused why refl)).state
+state_undone name operation v Changes m m' store.Memory run undone = (run.memory refl).state
+state_undone name operation v Changes m m' store.Device run undone = absurd undone
 
 -- so the writer stands as before
 pub stands_undone : (us us' : List Attached) (v v' : Vol) (files files' : List File) (w : Writer) → us' ≡ us → v'.unit ≡ v.unit → files' ≡ files → v' ≡ v → IsWriterOn (image_named files (unit_of us v.unit).name) v w
@@ -80,7 +84,7 @@ ok_same same = cc
 one_format : {a b : F1} → Some (formats.F1 a) ≡ Some (formats.F1 b) → a ≡ b
 one_format same = cc
 
-module _ {T : Type 0} (name : List ℕ) (dsn : Dsn) (v v' : Vol) (m m' : Meaning (List File)) (x : T) (run : Operates name (extend_on dsn) v' m m' (Ok x)) (kept : IsKept (image_named m.state name) v)
+module _ {T : Type 0} (name : List ℕ) (dsn : Dsn) (v v' : Vol) (m m' : Meaning (List File)) (x : T) (run : Operates name (extend_on dsn) v' (InVtoc v') m m' (Ok x)) (kept : IsKept (image_named m.state name) v)
     (slot : ℕ) (first : first_named dsn.bytes v.slots.items ≡ Some slot) where
   abbrev image : List ℕ
   image = image_named m.state name
@@ -110,7 +114,12 @@ module _ {T : Type 0} (name : List ℕ) (dsn : Dsn) (v v' : Vol) (m m' : Meaning
       let by : IsWritingBy image v found.f w.inner = on.writing found.f here in
       record {
         stands = record {
-          fills = on.fills;
+          fits = λ f' is. subst (λ (g : F1). fits_mode w.mode g.name (attr_of g) ≡ true) (one_format (sym there'.set ∙ is))
+              (fits_extended image image' v v' (mounted_of image v kept) run.does.done.index dsn slot found.f found.set found.named step_now same run.does.done.changes.image slot' there'.f there'.set there'.named w.mode (on.fits found.f here));
+          first = λ f' is. subst (λ (g : F1). put_first w.mode (body_of_set image' v' g) ≡ firsts w.first) (one_format (sym there'.set ∙ is))
+              (ap (put_first w.mode) (body_now image image' v v' (mounted_of image v kept) run.does.done.index dsn slot found.f found.set found.named step_now same run.does.done.changes.image slot' there'.f there'.set there'.named) ∙ on.first found.f here);
+          begins = λ f' is. subst (λ (g : F1). BeginsWell w.first (puts_in image' v' g (record (w.inner) { slot = slot' }))) (one_format (sym there'.set ∙ is))
+              (subst (BeginsWell w.first) (sym (puts_extended image image' v v' (mounted_of image v kept) run.does.done.index dsn slot found.f found.set found.named step_now same run.does.done.changes.image slot' there'.f there'.set there'.named w.inner by)) (on.begins found.f here));
           writing = λ f' is. subst (λ (g : F1). IsWritingBy image' v' g (record (w.inner) { slot = slot' })) (one_format (sym there'.set ∙ is))
               (writing_extended image image' v v' (mounted_of image v kept) run.does.done.index dsn slot found.f found.set found.named step_now same run.does.done.changes.image slot' there'.f there'.set there'.named w.inner by);
         };
@@ -156,8 +165,9 @@ module _ (us us' : List Attached) (vols vols' : List Vol) (m m' : Meaning (List 
     (each v.0 v' v.1 (ap (slice_get vols') (sym number) ∙ at')).stands,
     λ f here j left.
         let name : List ℕ = (unit_of us' v'.unit).name in
-        let same : AreSpared name v' f m'.state m'.state = record { image = differ_none v' f (image_named m'.state name); others = λ other apart. refl } in
-        subst (AreSpared name v' f m'.state) (sym (durable j left)) same,
+        let last : Place = last_in (image_named m'.state name) v' f in
+        let same : AreSpared name v' f last m'.state m'.state = record { image = differ_none v' f last (image_named m'.state name); others = λ other apart. refl } in
+        subst (AreSpared name v' f last m'.state) (sym (durable j left)) same,
   )
     where
       v : (u : Vol) × (slice_get vols w.v ≡ Some u)
@@ -174,7 +184,7 @@ module _ (us us' : List Attached) (vols vols' : List Vol) (m m' : Meaning (List 
       ∙ (each v.0 v'.0 v.1 v'.1).puts
       ∙ sym (ap (λ (o : Option Vol). option_map_or (λ (u : Vol). puts_by (image_named m.state (unit_of us u.unit).name) u w.inner (slice_get u.slots.items w.inner.slot)) o []) v.1)
 
-  pub writer_again : w'.dsn ≡ w.dsn → w'.mode ≡ w.mode → w.v < length vols → Each → writer_in m'.state us' vols' (Some w') ≡ writer_in m.state us vols (Some w)
+  pub writer_again : w'.dsn ≡ w.dsn → w'.mode ≡ w.mode → w.v < length vols → Each → placed_in m'.state us' vols' w' ≡ placed_in m.state us vols w
   writer_again name mode low each =
       let puts = puts_again low each in
       (λ i. record { target = record { v = number i; dsn = name i; mode = mode i }; puts = puts i })

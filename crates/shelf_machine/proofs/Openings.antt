@@ -1,6 +1,6 @@
 -- What the opening of a machine leaves, by what the reading and the repair of its packs left.
 use Rattle.std.proofs.Common.{◌≡◌, ◌≤◌, ⊎_elim, ℕ, List, length, Some, refl, sym, ap, subst, ◌∙◌, arith}
-use Rattle.std.specs.Prelude.{Result, Ok, Err}
+use Rattle.std.specs.Prelude.{Result, Ok, Err, slice_get}
 use Rattle.std.proofs.lemmas.List.{length-map}
 use Rattle.hall_core.specs.Facts.{Attached}
 use Rattle.stop_model.specs.Files.{File}
@@ -11,13 +11,16 @@ use Rattle.pack_spec.specs.Volume.{volume_with}
 use Rattle.pack_spec.specs.declared.MountErr.{MountErr}
 use Rattle.vol_model.specs.declared.contents.Shelf.{Shelf}
 use Rattle.vol_model.specs.declared.contents.Volume.{Volume}
+use Rattle.mount_repair.specs.declared.scanned.Scan.{Scan}
+use Rattle.vtoc_index.specs.Index.{IsOfUnit}
+use Rattle.vtoc_index.specs.Names.{AreByName, name_at}
 use Rattle.vtoc_index.specs.declared.vol.Vol.{Vol}
-use Rattle.shelf_machine.specs.Machine.{AreIndexes, AreKept, HavePlans, KeepsSafe, LeavesJust, serials_of, units_of}
+use Rattle.shelf_machine.specs.Machine.{AreInOrder, AreIndexes, AreKept, HasRoom, HavePlans, KeepsSafe, LeavesJust, serials_of, units_of}
 use Rattle.shelf_machine.specs.Opening.{AreApart, AreSafe, AreUnits, LeavesSafe, OpensSafely, images_named, names_of}
-use Rattle.shelf_machine.specs.Packs.{AreMounted, AreRead, RefusesImages, RepairsAll, StopsAtTwice}
+use Rattle.shelf_machine.specs.Packs.{AreMounted, AreScanned, RefusesImages, RepairsAll, StopsAtTwice, indexes_of}
 use Rattle.shelf_machine.specs.declared.stopped.Stopped.{Stopped}
 use Rattle.shelf_machine.proofs.Holding.{kept_mounted, shelf_held, volume_held, volumes_held}
-use Rattle.shelf_machine.proofs.ListPlaces.{get_map}
+use Rattle.shelf_machine.proofs.ListPlaces.{get_map, of_map}
 use Rattle.shelf_machine.proofs.ReadingPacks.{twice_refused}
 use Rattle.shelf_machine.proofs.Repairing.{safe_same}
 
@@ -28,15 +31,26 @@ one_shelf same = cc
 some_volume : {a b : Volume} → Some a ≡ Some b → a ≡ b
 some_volume same = cc
 
--- the indexes of packs that were read, whose serials differ
-pub indexes_read : (attached : List Attached) (units : List ℕ) (vols : List Vol) → AreUnits attached units → AreRead attached units vols → AreApart (serials_of vols) → AreIndexes attached vols
-indexes_read attached units vols are read apart = record {
-  each = read.each;
-  room = read.room;
-  names = subst (λ (us : List ℕ). AreApart (names_of attached us)) (sym read.numbers) are.apart;
+-- what is so of the scan of each index is so of that
+each_index : (P : Vol → Type 0) (scans : List Scan) → ((k : ℕ) (s : Scan) → slice_get scans k ≡ Some s → P s.vol) → (k : ℕ) (v : Vol) → slice_get (indexes_of scans) k ≡ Some v → P v
+each_index P scans each k v at = let of = of_map (λ (s : Scan). s.vol) scans k v at in subst P of.2 (each k of.0 of.1)
+
+-- the indexes of packs that were scanned, whose serials differ
+pub indexes_scanned : (attached : List Attached) (units : List ℕ) (scans : List Scan) → AreUnits attached units → AreScanned attached units scans → AreApart (serials_of (indexes_of scans)) → AreIndexes attached (indexes_of scans)
+indexes_scanned attached units scans are scanned apart = record {
+  each = each_index (IsOfUnit attached) scans (λ k s at. (scanned.each k s at).index);
+  room = each_index HasRoom scans (λ k s at. (scanned.each k s at).room);
+  names = subst (λ (us : List ℕ). AreApart (names_of attached us)) (sym scanned.numbers) are.apart;
   serials = apart;
-  few = omega (arith, length-map vols (λ (v : Vol). v.unit), ap length read.numbers, are.few);
+  few = omega (arith, length-map (indexes_of scans) (λ (v : Vol). v.unit), ap length scanned.numbers, are.few);
 }
+
+pub order_scanned : (attached : List Attached) (units : List ℕ) (scans : List Scan) → AreScanned attached units scans → AreInOrder (indexes_of scans)
+order_scanned attached units scans scanned = each_index (λ (v : Vol). AreByName (name_at v.slots.items) v.by_name.items) scans (λ k s at. (scanned.each k s at).names)
+
+-- there are at most 255
+pub few_scanned : (attached : List Attached) (units : List ℕ) (scans : List Scan) → AreUnits attached units → AreScanned attached units scans → length scans ≤ 255
+few_scanned attached units scans are scanned = omega (arith, length-map (indexes_of scans) (λ (v : Vol). v.unit), length-map scans (λ (s : Scan). s.vol), ap length scanned.numbers, are.few)
 
 -- volumes of images that the indexes are of have their plans
 plans_held : (files : List File) (attached : List Attached) (vols : List Vol) → HavePlans vols (volumes_held files attached vols)

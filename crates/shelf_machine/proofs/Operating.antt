@@ -1,6 +1,6 @@
 -- An operation on one of several packs, by their shelf.
 use Rattle.std.proofs.Common.{◌≡◌, ◌≢◌, ⊎_elim, ℕ, zero, suc, Bool, true, false, List, [], ◌∷◌, ◌++◌, set, Option, Some, None, refl, sym, ap, subst, ◌∙◌, arith}
-use Rattle.std.specs.Prelude.{◌==◌, ◌+◌, length, nat_lt, Result, Ok, Err, filter, if◌then◌else◌, not, slice_get, unwrap_or}
+use Rattle.std.specs.Prelude.{◌==◌, ◌+◌, length, nat_lt, OnOk, Result, Ok, Err, filter, if◌then◌else◌, not, slice_get, unwrap_or}
 use Rattle.std.proofs.lemmas.Bool.{cases_eq}
 use Rattle.dadsm_ops.specs.Operations.{Operates}
 use Rattle.free_rebuild.specs.Repairs.{image_named}
@@ -42,6 +42,7 @@ use Rattle.shelf_machine.specs.Unread.{broken_at}
 use Rattle.shelf_machine.proofs.Holding.{has_volumes, held_stand, kept_mounted, serials_apart, volumes_held}
 use Rattle.shelf_machine.proofs.ListPlaces.{get_map, get_other, get_set, map_set_same, set_size}
 use Rattle.shelf_machine.proofs.Machines.{applies_memory, applies_nowhere, just_same, keeps_all}
+use Rattle.shelf_machine.proofs.PackedImages.{IsStillPacked}
 use Rattle.shelf_machine.proofs.Promises.{keeps_safe}
 use Rattle.shelf_machine.proofs.ShelfSteps.{applies, idle_files}
 
@@ -124,52 +125,61 @@ record LeavesPack (name : List ℕ) (v' : Vol) (m m' : Meaning (List File)) : Ty
   here : IsKeptSettled (image_named m'.state name) v'
   durable : IsDurable m'
 
-module _ (name : List ℕ) (operation : Volume → Result Volume Refusal) (v v' : Vol) (m m' : Meaning (List File)) (kept : IsKeptSettled (image_named m.state name) v) (durable : IsDurable m) where
+module _ (name : List ℕ) (operation : Volume → Result Volume Refusal) (v v' : Vol) (Changes : List ℕ → List ℕ → Type 0) (m m' : Meaning (List File)) (kept : IsKeptSettled (image_named m.state name) v) (durable : IsDurable m) where
   leaves_same : Same m m' → IsKept (image_named m.state name) v' → LeavesPack name v' m m'
   leaves_same same is = record {
     others = λ other differs. ap (λ (files : List File). file_of files other) same.state;
-    here = subst (λ (files : List File). IsKeptSettled (image_named files name) v') (sym same.state) (record { kept = is; settled = kept.settled });
+    here = subst (λ (files : List File). IsKeptSettled (image_named files name) v') (sym same.state) (record { kept = is; settled = kept.settled; packed = kept.packed });
     durable = durable_same same durable;
   }
 
-  leaves_pack : {T : Type 0} (r : Result T StoreErr) → Operates name operation v' m m' r → ((image : List ℕ) → IsKept image v → (e : StoreErr) → r ≡ Err e → e ≢ store.Device → IsKept image v')
-      → sound_after (reported r) ≡ true → LeavesPack name v' m m'
-  leaves_pack (Ok x) run idle sound = record {
+  leaves_pack : {T : Type 0} (r : Result T StoreErr) → Operates name operation v' Changes m m' r → (IsKept (image_named m.state name) v → (e : StoreErr) → r ≡ Err e → e ≢ store.Device → IsKept (image_named m.state name) v')
+      → OnOk r (IsStillPacked (image_named m.state name) (image_named m'.state name)) → sound_after (reported r) ≡ true → LeavesPack name v' m m'
+  leaves_pack (Ok x) run idle still sound = record {
     others = run.does.done.changes.others;
     here = record {
       kept = kept_of _ _ run.does.done.index;
       settled = settled_true (image_named m'.state name) (run.does.settled (settled_vtoc (image_named m.state name) kept.settled));
+      packed = still kept.packed;
     };
     durable = run.does.done.durable;
   }
-  leaves_pack (Err (store.Refused why)) run idle sound = leaves_same (run.idle why (run.refused why refl)) (idle (image_named m.state name) kept.kept (store.Refused why) refl (λ is. cc))
-  leaves_pack (Err store.Memory) run idle sound = leaves_same (run.memory refl) (idle (image_named m.state name) kept.kept store.Memory refl (λ is. cc))
-  leaves_pack (Err store.Device) run idle sound = absurd cc
+  leaves_pack (Err (store.Refused why)) run idle still sound = leaves_same (run.idle why (run.refused why refl)) (idle kept.kept (store.Refused why) refl (λ is. cc))
+  leaves_pack (Err store.Memory) run idle still sound = leaves_same (run.memory refl) (idle kept.kept store.Memory refl (λ is. cc))
+  leaves_pack (Err store.Device) run idle still sound = absurd cc
 
 -- an operation of the shelf on the pack of its number
 module _ (op : Op) (keeps : (w after : Volume) → step_on op w ≡ Ok after → after.serial.bytes ≡ w.serial.bytes) (old new : Facts) (vols : List Vol) (k : ℕ) (number : volume_number op ≡ k)
-    (v v' : Vol) (there : slice_get vols k ≡ Some v) (same : IsSamePack v v') (units : new.units ≡ old.units) (indexes : AreIndexes old.units vols) (m m' : Meaning (List File)) where
+    (v v' : Vol) (there : slice_get vols k ≡ Some v) (same : IsSamePack v v') (units : new.units ≡ old.units) (indexes : AreIndexes old.units vols) (Changes : List ℕ → List ℕ → Type 0) (m m' : Meaning (List File)) where
   abbrev names : List (List ℕ)
   names = names_of old.units (units_of vols)
 
-  pub operates : {T : Type 0} (r : Result T StoreErr) → CountsNow m → m.left m.state → AreKept m.state old.units vols → IsDurable m → Operates (unit_of old.units v.unit).name (step_on op) v' m m' r
-      → ((image : List ℕ) → IsKept image v → (e : StoreErr) → r ≡ Err e → e ≢ store.Device → IsKept image v')
+  pub operates_here : {T : Type 0} (r : Result T StoreErr) → CountsNow m → m.left m.state → AreKept m.state old.units vols → IsDurable m → Operates (unit_of old.units v.unit).name (step_on op) v' Changes m m' r
+      → (IsKept (image_named m.state (unit_of old.units v.unit).name) v → (e : StoreErr) → r ≡ Err e → e ≢ store.Device → IsKept (image_named m.state (unit_of old.units v.unit).name) v')
+      → OnOk r (IsStillPacked (image_named m.state (unit_of old.units v.unit).name) (image_named m'.state (unit_of old.units v.unit).name))
       → OperatesOnShelf op names (names_of new.units (units_of (set vols k v'))) new.units vols (set vols k v') m m' r
-  operates r counts left kept durable run idle =
+  operates_here r counts left kept durable run idle still =
       let mounted = kept_mounted m.state old.units vols kept in
       let name : List ℕ = (unit_of old.units v.unit).name in
       let at : slice_get names k ≡ Some name = name_there old.units vols k v there in
       let volumes : List Volume = volumes_held m.state old.units vols in
       let stand = held_stand m.state old.units vols mounted in
       let serials = serials_apart m.state old.units vols mounted indexes.serials in
-      let leaves = leaves_pack name (step_on op) v v' m m' (kept k v there) durable r run idle in
+      let leaves = leaves_pack name (step_on op) v v' Changes m m' (kept k v there) durable r run idle still in
       subst (λ (ns : List (List ℕ)). OperatesOnShelf op names ns new.units vols (set vols k v') m m' r) (sym (names_same old new vols k v v' there same units)) (record {
-        applies = applies names volumes m m' stand indexes.names serials k name at op number keeps v' r run;
+        applies = applies names volumes m m' stand indexes.names serials k name at op number keeps v' Changes r run;
         safe = keeps_safe names vols indexes.names k name at v v' there same.geometry same.vtoc m m' counts left (settled_vtoc (image_named m.state name) (kept k v there).settled) run;
-        idle = λ none. just_same counts (idle_files names volumes m m' stand indexes.names serials k name at op number keeps v' r run none);
+        idle = λ none. just_same counts (idle_files names volumes m m' stand indexes.names serials k name at op number keeps v' Changes r run none);
         kept = λ sound. kept_after old new vols k v v' there same units m.state m'.state indexes kept (leaves sound).others (leaves sound).here;
         durable = λ sound. (leaves sound).durable;
       })
+
+  -- the same, where the index stays that of any image
+  pub operates : {T : Type 0} (r : Result T StoreErr) → CountsNow m → m.left m.state → AreKept m.state old.units vols → IsDurable m → Operates (unit_of old.units v.unit).name (step_on op) v' Changes m m' r
+      → ((image : List ℕ) → IsKept image v → (e : StoreErr) → r ≡ Err e → e ≢ store.Device → IsKept image v')
+      → OnOk r (IsStillPacked (image_named m.state (unit_of old.units v.unit).name) (image_named m'.state (unit_of old.units v.unit).name))
+      → OperatesOnShelf op names (names_of new.units (units_of (set vols k v'))) new.units vols (set vols k v') m m' r
+  operates r counts left kept durable run idle still = operates_here r counts left kept durable run (idle (image_named m.state (unit_of old.units v.unit).name)) still
 
 -- one that changes nothing: there is no such pack, or memory ran out
 pub operates_nowhere : {T : Type 0} (op : Op) (attached : List Attached) (vols : List Vol) (m : Meaning (List File)) → AreIndexes attached vols → CountsNow m → AreKept m.state attached vols → IsDurable m

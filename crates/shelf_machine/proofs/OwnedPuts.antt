@@ -12,7 +12,7 @@ use Rattle.track_records.specs.Buffers.{Buffer}
 use Rattle.vol_model.specs.declared.contents.Place.{Place}
 use Rattle.vol_model.specs.declared.contents.Shelf.{Shelf}
 use Rattle.vol_model.specs.Places.{Content, fits_a_track}
-use Rattle.vol_model.specs.Writing.{OpenWriter, did_put, room_for, set_on, with_puts}
+use Rattle.vol_model.specs.Writing.{OpenWriter, room_for, set_on, with_puts}
 use Rattle.vtoc_index.specs.declared.vol.Vol.{Vol}
 use Rattle.vtoc_index.specs.Index.{IsMounted, IsOfUnit}
 use Rattle.vtoc_index.specs.Names.{AreByName, name_at}
@@ -20,15 +20,16 @@ use Rattle.dadsm_ops.proofs.FoundSets.{FoundSet, set_found}
 use Rattle.seq_access.specs.declared.writer.PutErr.{PutErr}
 use Rattle.seq_access.specs.declared.writer.PutErr.TheVariants.{Device, NeedExtent, TooLong}
 use Rattle.seq_access.specs.declared.writer.Writer.{Writer as BlockWriter}
-use Rattle.seq_access.specs.Bodies.{owned_in}
+use Rattle.seq_access.specs.Bodies.{body_of_set, last_in, owned_in}
 use Rattle.seq_access.specs.Writing.{IsPutBehind, IsWriting, Spares, place_next, puts_in}
 use Rattle.seq_access.proofs.WritersKept.{puts_with}
 use Rattle.shelf_machine.specs.Known.{AreHeld, ForgetsOn, HaveBuffers}
-use Rattle.shelf_machine.specs.Machine.{AreIndexes, AreInOrder, AreKept, base_of, shelf_under, units_of, writer_in}
+use Rattle.shelf_machine.specs.Machine.{AreIndexes, AreInOrder, AreKept, base_of, placed_in, shelf_under, units_of}
 use Rattle.shelf_machine.specs.Opening.{names_of}
 use Rattle.shelf_machine.specs.Operating.{IsSamePack}
 use Rattle.shelf_machine.specs.Pending.{HasSlot, IsInSlot, IsPendingBy, IsWriterOn, IsWritingBy}
-use Rattle.shelf_machine.specs.Putting.{DidPut, PutsOn}
+use Rattle.shelf_machine.specs.Fronts.{BeginsWell}
+use Rattle.shelf_machine.specs.Putting.{DidPut, IsDue, PutsOn, did_place}
 use Rattle.shelf_machine.specs.Reads.{HasVolume, IsSetOn}
 use Rattle.shelf_machine.specs.declared.known.Known.{Known}
 use Rattle.shelf_machine.specs.declared.writer.Writer.{Writer}
@@ -38,7 +39,8 @@ use Rattle.shelf_machine.proofs.Operating.{base_same, indexes_after, order_after
 use Rattle.shelf_machine.proofs.Pendings.{writing_of}
 use Rattle.shelf_machine.proofs.PutAnswers.{put_answer, put_refused, put_wants, writer_is}
 use Rattle.shelf_machine.proofs.PutOnPacks.{puts_on}
-use Rattle.shelf_machine.proofs.PutRooms.{filling}
+use Rattle.shelf_machine.proofs.PutRooms.{writing_to}
+use Rattle.shelf_machine.proofs.FrontLemmas.{begins_more, put_nothing}
 use Rattle.shelf_machine.proofs.Putting.{leaves_behind, stands_still, writer_stands}
 use Rattle.shelf_machine.proofs.ShelfReads.{is_set}
 
@@ -86,7 +88,7 @@ module _ (vols : List Vol) (k : ℕ) (v v' : Vol) (at : slice_get vols k ≡ Som
 -- What a call says that puts a content behind a writer's blocks, or doesn't: as its contract has it.
 pub record Puts {image : List ℕ} {v : Vol} {i : BlockWriter} (is : IsWriting image v i) (name after : List ℕ) (c : Content) (v' : Vol) (i' : BlockWriter) (m m' : Meaning (List File)) (r : Result Place PutErr) : Type 0 where
   pub put : IfOk r (λ place. (x : IsWriting image v i) → IsPutBehind x c place (image_named m'.state after) v' i')
-  pub spares : Spares name v is.f m m' r
+  pub spares : Spares name v is.f (last_in image v is.f) m m' r
   pub long : IsErrOf r TooLong → fits_a_track v.geometry.device c ≡ false
   pub short : ¬ IsErrOf r TooLong → fits_a_track v.geometry.device c ≡ true
   pub need : IsErrOf r NeedExtent → length (owned_in image v is.f) ≤ (place_next is c).tt
@@ -134,7 +136,7 @@ module _ (old : Facts) (vols : List Vol) (m : Meaning (List File)) (kept : AreKe
     set_there = is_set shelf w.v v has w.dsn.bytes w.inner.slot f (slot.1 v at).0 found.set
 
     -- with another buffer in the index
-    module _ (c : Content) (b : Buffer) (i : BlockWriter) where
+    module _ (c : Content) (due : IsDue w c) (b : Buffer) (i : BlockWriter) where
       abbrev v' : Vol
       v' = record v { buf = b }
 
@@ -151,7 +153,13 @@ module _ (old : Facts) (vols : List Vol) (m : Meaning (List File)) (kept : AreKe
 
       -- the writer stands on the image, unless the device failed
       stands : (r : Result Place PutErr) → Puts writing_here name name c v' i m m' r → ¬ IsErrOf r Device → IsWriterOn (image_named m'.state name) v' w'
-      stands (Ok place) run none = writer_stands image (image_named m'.state name) v b w w' refl on (run.put writing_here).writing
+      stands (Ok place) run none =
+          let put = run.put writing_here in
+          let image' : List ℕ = image_named m'.state name in
+          writer_stands image image' v b w i run.slot on put.writing
+          (subst (λ (x : F1). body_of_set image' v x ≡ body_of_set image v x) (sym put.same) put.body)
+          (subst (λ (x : F1). BeginsWell w.first (puts_in image' v' x i)) (sym put.same)
+          (subst (BeginsWell w.first) (sym put.puts) (begins_more w.first (puts_in image v f w.inner) c (on.begins f found.set) (λ none first. due first (put_nothing w.inner (puts_in image v f w.inner) by.some none)))))
       stands (Err TooLong) run none = still (run.long_same refl) (run.mounted none) run.writer
       stands (Err NeedExtent) run none = still (run.need_same refl) (run.mounted none) run.writer
       stands (Err Device) run none = absurd (none refl)
@@ -163,45 +171,45 @@ module _ (old : Facts) (vols : List Vol) (m : Meaning (List File)) (kept : AreKe
           (leaves_behind name m v (kept w.v v at) w on (pending v at).1 f found.set m' r run.spares) run.mounted (stands r run) refl run.slot
 
       abbrev was : OpenWriter
-      was = writer_in m.state old.units vols (Some w)
+      was = placed_in m.state old.units vols w
 
       abbrev is_now : OpenWriter
-      is_now = writer_in m'.state new.units vols' (Some w')
+      is_now = placed_in m'.state new.units vols' w'
 
-      fills : was ≡ filling w.v w.dsn (puts_in image v f w.inner)
-      fills = writer_is m.state old.units vols w v f at found.set on
+      fills : was ≡ writing_to was.target (puts_in image v f w.inner)
+      fills = writer_is m.state old.units vols w v f at found.set
 
       -- the writer behind the call, by the format 1 of its set
-      fills_now : i.slot ≡ w.inner.slot → IsWriterOn (image_named m'.state name) v' w' → is_now ≡ filling w.v w.dsn (puts_in (image_named m'.state name) v' f i)
-      fills_now same stands =
+      fills_now : i.slot ≡ w.inner.slot → is_now ≡ writing_to was.target (puts_in (image_named m'.state name) v' f i)
+      fills_now same =
           let there : slice_get vols' w.v ≡ Some v' = get_set vols w.v v v' at in
           let set_now : slice_get v.slots.items i.slot ≡ Some (formats.F1 f) = ap (slice_get v.slots.items) same ∙ found.set in
-          ap (λ (us : List Attached). writer_in m'.state us vols' (Some w')) units
-          ∙ writer_is m'.state old.units vols' w' v' f there set_now stands
+          ap (λ (us : List Attached). placed_in m'.state us vols' w') units
+          ∙ writer_is m'.state old.units vols' w' v' f there set_now
 
       not_put : m'.state ≡ m.state → i ≡ w.inner → IsMounted (image_named m'.state name) v' → is_now ≡ was
       not_put state same mounted =
-          fills_now (ap (λ (x : BlockWriter). x.slot) same) (still state mounted same)
-          ∙ ap (λ (fs : List File). filling w.v w.dsn (puts_in (image_named fs name) v' f i)) state
-          ∙ ap (λ (x : BlockWriter). filling w.v w.dsn (puts_in image v' f x)) same
-          ∙ ap (filling w.v w.dsn) (puts_with image v b f w.inner)
+          fills_now (ap (λ (x : BlockWriter). x.slot) same)
+          ∙ ap (λ (fs : List File). writing_to was.target (puts_in (image_named fs name) v' f i)) state
+          ∙ ap (λ (x : BlockWriter). writing_to was.target (puts_in image v' f x)) same
+          ∙ ap (writing_to was.target) (puts_with image v b f w.inner)
           ∙ sym fills
 
       answers : (r : Result Place PutErr) → Puts writing_here name name c v' i m m' r → DidPut shelf was c is_now r
       answers (Ok place) run = (
-        ap (λ (x : OpenWriter). did_put shelf x c) fills
-            ∙ put_answer shelf w.v v has w.dsn f set_there w by c place (run.put writing_here).next (run.put writing_here).owned (run.short (λ long. absurd (let wrong = long in cc))),
-        fills_now run.slot (stands (Ok place) run (λ device. absurd (let wrong = device in cc)))
-            ∙ ap (filling w.v w.dsn) (run.put writing_here).puts
+        ap (λ (x : OpenWriter). did_place shelf x c) fills
+            ∙ put_answer shelf w.v v has w.dsn f set_there w.mode (puts_in image v f w.inner) c place (run.put writing_here).next (run.put writing_here).owned (run.short (λ long. absurd (let wrong = long in cc))),
+        fills_now run.slot
+            ∙ ap (writing_to was.target) (run.put writing_here).puts
             ∙ ap (λ (x : OpenWriter). with_puts x (c ∷ [])) (sym fills),
       )
       answers (Err TooLong) run = (
-        ap (λ (x : OpenWriter). did_put shelf x c) fills ∙ put_refused shelf w.v v has w.dsn f set_there w by c (run.long refl),
+        ap (λ (x : OpenWriter). did_place shelf x c) fills ∙ put_refused shelf w.v v has w.dsn f set_there w.mode (puts_in image v f w.inner) c (run.long refl),
         not_put (run.long_same refl) run.writer (run.mounted (λ device. absurd (let wrong = device in cc))),
       )
       answers (Err NeedExtent) run = (
         ap (λ (x : OpenWriter). room_for shelf x.target x.puts c) fills
-            ∙ put_wants shelf w.v v has w.dsn f set_there w by c (run.need refl) (run.short (λ long. absurd (let wrong = long in cc))),
+            ∙ put_wants shelf w.v v has w.dsn f set_there w.mode (puts_in image v f w.inner) c (run.need refl) (run.short (λ long. absurd (let wrong = long in cc))),
         not_put (run.need_same refl) run.writer (run.mounted (λ device. absurd (let wrong = device in cc))),
       )
       answers (Err Device) run = tt
@@ -210,7 +218,7 @@ module _ (old : Facts) (vols : List Vol) (m : Meaning (List File)) (kept : AreKe
     after = (unit_of new.units v.unit).name
 
     -- by what the call says, of the index that it leaves
-    module _ (c : Content) (u : Vol) (others : u ≡ record v { buf = u.buf }) (i : BlockWriter) (r : Result Place PutErr) (run : Puts writing_here name after c u i m m' r) where
+    module _ (c : Content) (due : IsDue w c) (u : Vol) (others : u ≡ record v { buf = u.buf }) (i : BlockWriter) (r : Result Place PutErr) (run : Puts writing_here name after c u i m m' r) where
       run_here : Puts writing_here name name c (record v { buf = u.buf }) i m m' r
       run_here = subst (λ (x : Vol). Puts writing_here name name c x i m m' r) others (subst (λ (us : List Attached). Puts writing_here name (unit_of us v.unit).name c u i m m' r) units run)
 
@@ -218,9 +226,9 @@ module _ (old : Facts) (vols : List Vol) (m : Meaning (List File)) (kept : AreKe
           → PutsOn (names_of old.units (units_of vols)) new.units vols (set vols w.v u) known' (record w { inner = i }) m m' r
       owned_puts known known' forgot held =
           subst (λ (x : Vol). PutsOn (names_of old.units (units_of vols)) new.units vols (set vols w.v x) known' (record w { inner = i }) m m' r) (sym others)
-          (puts c u.buf i known known' forgot held r run_here)
+          (puts c due u.buf i known known' forgot held r run_here)
 
-      pub owned_did : DidPut shelf (writer_in m.state old.units vols (Some w)) c (writer_in m'.state new.units (set vols w.v u) (Some (record w { inner = i }))) r
+      pub owned_did : DidPut shelf (placed_in m.state old.units vols w) c (placed_in m'.state new.units (set vols w.v u) (record w { inner = i })) r
       owned_did =
-          subst (λ (x : Vol). DidPut shelf (writer_in m.state old.units vols (Some w)) c (writer_in m'.state new.units (set vols w.v x) (Some (record w { inner = i }))) r) (sym others)
-          (answers c u.buf i r run_here)
+          subst (λ (x : Vol). DidPut shelf (placed_in m.state old.units vols w) c (placed_in m'.state new.units (set vols w.v x) (record w { inner = i })) r) (sym others)
+          (answers c due u.buf i r run_here)

@@ -9,7 +9,6 @@ use Rattle.free_rebuild.specs.Repairs.{image_named}
 use Rattle.hall_core.specs.Facts.{Attached, unit_of}
 use Rattle.stop_model.specs.Files.{File}
 use Rattle.stop_model.specs.Moments.{Meaning}
-use Rattle.pack_spec.specs.Blocks.{last_of}
 use Rattle.vol_model.specs.declared.contents.Block.{Block}
 use Rattle.vol_model.specs.declared.contents.Body.TheVariants.{Seq}
 use Rattle.vol_model.specs.declared.contents.Place.{Place}
@@ -19,8 +18,8 @@ use Rattle.vtoc_index.specs.declared.vol.Vol.{Vol}
 use Rattle.vtoc_index.specs.Kept.{IsKept}
 use Rattle.vtoc_index.proofs.KeptLemmas.{mounted_of}
 use Rattle.seq_access.specs.declared.writer.Writer.{Writer as BlockWriter}
-use Rattle.seq_access.specs.Bodies.{HasBlocks, body_in}
-use Rattle.seq_access.specs.Writing.{AreSpared, IsNotBefore, IsWriting, body_so_far, puts_in}
+use Rattle.seq_access.specs.Bodies.{HasBlocks, last_in}
+use Rattle.seq_access.specs.Writing.{AreSpared, IsNotBefore, IsWriting, body_so_far, front_in, puts_in}
 use Rattle.shelf_machine.specs.Machine.{is_open_in, writer_in}
 use Rattle.shelf_machine.specs.Pending.{HasSlot, IsPendingBy, IsWriterOn, IsWritingBy, closed}
 use Rattle.shelf_machine.specs.declared.writer.Writer.{Writer}
@@ -50,26 +49,26 @@ writing_of image v f w kept at by = record {
   f = f;
   slot = at;
   set = record { mounted = mounted_of image v kept; extents = by.extents };
-  sequential = by.sequential;
-  old = blocks_of (body_in image v f);
-  body = by.body;
+  writable = by.writable;
+  old = blocks_of (front_in image v f);
+  front = by.front;
   so_far = by.so_far;
   begun = by.begun;
   some = by.some;
-  behind = not_before w.last (last_of f.lstar) by.behind;
+  behind = not_before w.last (last_in image v f) by.behind;
   ended = by.ended;
 }
 
 pub by_writing : (image : List ℕ) (v : Vol) (w : BlockWriter) (is : IsWriting image v w) → IsWritingBy image v is.f w
 by_writing image v w is =
-    let blocks : blocks_of (body_in image v is.f) ≡ is.old = ap blocks_of is.body in record {
+    let blocks : blocks_of (front_in image v is.f) ≡ is.old = ap blocks_of is.front in record {
       extents = is.set.extents;
-      sequential = is.sequential;
-      body = is.body ∙ ap Seq (sym blocks);
+      writable = is.writable;
+      front = is.front ∙ ap Seq (sym blocks);
       so_far = subst (λ (bs : List Block). HasBlocks (body_so_far image v is.f w) (bs ++ placed v.geometry.device (Seq bs) (puts_in image v is.f w))) (sym blocks) is.so_far;
       begun = is.begun;
       some = is.some;
-      behind = before_not w.last (last_of is.f.lstar) is.behind;
+      behind = before_not w.last (last_in image v is.f) is.behind;
       ended = is.ended;
     }
 
@@ -86,7 +85,7 @@ pending_same m m' attached attached' vols (Some w) state left units pending = su
         let p = pending v at in
         let name : List ℕ = (unit_of attached v.unit).name in (
           subst (λ (fs : List File). IsWriterOn (image_named fs name) v w) (sym state) p.0,
-          λ f there j now. subst (λ (fs : List File). AreSpared name v f fs j) (sym state) (p.1 f there j (left j now)),
+          λ f there j now. subst (λ (fs : List File). AreSpared name v f (last_in (image_named fs name) v f) fs j) (sym state) (p.1 f there j (left j now)),
         )
 
 -- and so does the writer
@@ -107,4 +106,4 @@ slot_closed vols (Some w) slot = slot
 pub pending_closed : (m : Meaning (List File)) (attached : List Attached) (vols : List Vol) (w : Option Writer) → IsPendingBy m attached vols w → IsPendingBy m attached vols (closed w)
 pending_closed m attached vols None pending = pending
 pending_closed m attached vols (Some w) pending = λ v at.
-    let p = pending v at in (record { fills = p.0.fills; writing = p.0.writing }, p.1)
+    let p = pending v at in (record { fits = p.0.fits; first = p.0.first; begins = p.0.begins; writing = p.0.writing }, p.1)

@@ -84,7 +84,7 @@ module _ (names : List (List ℕ)) (vols : List Vol) (apart : AreApart names) (k
       }
 
   -- and so after an operation
-  pub keeps_safe : {T : Type 0} {operation : Volume → Result Volume Refusal} {r : Result T StoreErr} (m m' : Meaning (List File)) → CountsNow m → m.left m.state → IsSettledVtoc (image_named m.state name)
-      → Operates name operation v' m m' r → Keeps m.clock (KeepsSafe names vols m) (KeepsSafe names (set vols k v') m')
-  keeps_safe {operation = operation} m m' counts left settled run =
-      keeps_safe_by (IsLeftInOperation name run.does.volume (operation run.does.volume) v' m.state) m m' counts left run.does.moments (λ files stop. stop.guarded (settled_guarded (image_named m.state name) settled)) (λ files stop other apart. stop.changes.others other apart)
+  pub keeps_safe : {T : Type 0} {operation : Volume → Result Volume Refusal} {Changes : List ℕ → List ℕ → Type 0} {r : Result T StoreErr} (m m' : Meaning (List File)) → CountsNow m → m.left m.state → IsSettledVtoc (image_named m.state name)
+      → Operates name operation v' Changes m m' r → Keeps m.clock (KeepsSafe names vols m) (KeepsSafe names (set vols k v') m')
+  keeps_safe {operation = operation} {Changes = Changes} m m' counts left settled run =
+      keeps_safe_by (IsLeftInOperation name run.does.volume (operation run.does.volume) Changes m.state) m m' counts left run.does.moments (λ files stop. stop.guarded (settled_guarded (image_named m.state name) settled)) (λ files stop other apart. stop.changes.others other apart)

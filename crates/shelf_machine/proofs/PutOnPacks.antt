@@ -13,6 +13,7 @@ use Rattle.vtoc_index.specs.declared.vol.Vol.{Vol}
 use Rattle.vtoc_index.specs.Index.{IsMounted}
 use Rattle.seq_access.specs.declared.writer.PutErr.{PutErr}
 use Rattle.seq_access.specs.declared.writer.PutErr.TheVariants.{Device}
+use Rattle.seq_access.specs.Bodies.{last_in}
 use Rattle.seq_access.specs.Writing.{AreSpared}
 use Rattle.shelf_machine.specs.Known.{AreHeld, ForgetsOn}
 use Rattle.shelf_machine.specs.Machine.{AreIndexes, AreKept, units_of}
@@ -52,7 +53,7 @@ module _ (old new : Facts) (vols : List Vol) (indexes : AreIndexes old.units vol
     state = shelf_stays name m v (kept w.v v at) w on spared f there m' leaves names;
     printed = leaves.printed;
     moments = shelf_moments name m v (kept w.v v at) w on spared f there m' leaves names;
-    safe = keeps_safe_by names vols indexes.names w.v name (name_there old.units vols w.v v at) v v' at refl refl (AreSpared name v f m.state) m m' counts here leaves.moments
+    safe = keeps_safe_by names vols indexes.names w.v name (name_there old.units vols w.v v at) v v' at refl refl (AreSpared name v f (last_in (image_named m.state name) v f) m.state) m m' counts here leaves.moments
         (guarded_left name m v (kept w.v v at) w on spared f there m' leaves names) (λ files differ other apart. differ.others other apart);
     kept = λ none. kept_after old new vols w.v v v' at same_pack units m.state m'.state indexes kept leaves.here.others (kept_still name m v (kept w.v v at) w on spared f there m' leaves names b (mounted none));
     pending = λ none u is.

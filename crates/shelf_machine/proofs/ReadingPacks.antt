@@ -1,4 +1,4 @@
--- The packs of several units, read one behind another, and their serials compared.
+-- The packs of several units, scanned one behind another, and their serials compared.
 use Rattle.std.proofs.Common.{◌≡◌, ◌≢◌, ◌<◌, ◌≤◌, ◌+◌, ⊎_elim, inl, inr, ℕ, zero, suc, Bool, true, false, List, [], ◌∷◌, ◌++◌, length, map, take, Some, None, refl, sym, ap, subst, ◌∙◌, arith}
 use Rattle.std.specs.Prelude.{◌⊎◌, Contains, IsTrue, Err, position, slice_get}
 use Rattle.std.specs.List.{enumerate_from, range_with_len}
@@ -18,24 +18,25 @@ use Rattle.pack_spec.specs.declared.MountErr.TheVariants.{Device, Memory, SameSe
 use Rattle.pack_spec.specs.Shelf.{serial_fault, serial_faults, shelf_of}
 use Rattle.pack_spec.specs.Volume.{volume_of}
 use Rattle.vol_model.specs.declared.contents.Volume.{Volume}
-use Rattle.vtoc_index.specs.Index.{IsMounted, IsOfUnit}
-use Rattle.vtoc_index.specs.Names.{AreByName, name_at}
+use Rattle.mount_repair.specs.Scans.{IsScanOf, IsScanOn}
+use Rattle.mount_repair.specs.declared.scanned.Scan.{Scan}
+use Rattle.mount_repair.proofs.DeviceCalls.{Unreported, reported_none}
+use Rattle.vtoc_index.specs.Index.{IsMounted}
 use Rattle.vtoc_index.specs.declared.vol.Vol.{Vol}
-use Rattle.shelf_machine.specs.Machine.{HasRoom, serials_of, units_of}
+use Rattle.shelf_machine.specs.Machine.{serials_of, units_of}
 use Rattle.shelf_machine.specs.Opening.{AreApart, AreUnits, images_named, names_of}
-use Rattle.shelf_machine.specs.Packs.{AreMounted, AreRead, IsFirstTwice, RefusesImages}
+use Rattle.shelf_machine.specs.Packs.{AreMounted, AreScanned, AreScansOf, IsFirstTwice, RefusesImages, indexes_of}
 use Rattle.shelf_machine.specs.declared.stopped.Stopped.{Stopped}
 use Rattle.shelf_machine.proofs.Holding.{held_serials, held_stand, volumes_held}
 use Rattle.shelf_machine.proofs.ListPlaces.{first_kept, get_map, in_take, none_passes, number_of, numbered, of_map, within}
-use Rattle.shelf_machine.proofs.Repairing.{Unreported, reported_none}
 use Rattle.shelf_machine.proofs.ShelfLemmas.{AllStand, fault_by, fault_in, first_refused, place_alike, serials_in, shelf_refused, shelf_twice}
 
--- How far the reading has come: the packs on the first units, and nothing else changed but the time.
-pub record ReadSoFar (tells : Bool) (units : List ℕ) (old now : Facts) (m m' : Meaning (List File)) (vols : List Vol) (k : ℕ) : Type 0 where
+-- How far the scans have come: the packs on the first units, and nothing else changed but the time.
+pub record ScannedSoFar (tells : Bool) (units : List ℕ) (old now : Facts) (m m' : Meaning (List File)) (scans : List Scan) (k : ℕ) : Type 0 where
   pub facts : Unreported old now
   pub same : IsTrue tells → Same m m'
-  pub read : AreRead old.units (take k units) vols
-  pub mounted : IsTrue tells → AreMounted m.state old.units vols
+  pub scanned : AreScanned old.units (take k units) scans
+  pub images : IsTrue tells → AreScansOf m.state old.units scans
 
 -- an element of a list to which one was put
 pub of_push : {X : Type 0} (xs : List X) (x : X) (k : ℕ) (y : X) → slice_get (xs ++ x ∷ []) k ≡ Some y → (slice_get xs k ≡ Some y) ⊎ (x ≡ y)
@@ -73,21 +74,26 @@ number_at units k u numbered at = omega (arith, unit_number units k u numbered a
 pub number_low : (units : List ℕ) (u : ℕ) → units ≡ range_with_len 0 (length units) → Contains units u → u < length units
 number_low units u numbered held = number_at units held.0 u numbered (slice_get-get_or units held.0 u held.1 ∙ ap (λ (n : ℕ). Some n) held.2)
 
+-- what scans tell of indexes
+pub mounted_scans : (files : List File) (attached : List Attached) (scans : List Scan) → AreScansOf files attached scans → AreMounted files attached (indexes_of scans)
+mounted_scans files attached scans images k v at =
+    let of = of_map (λ (s : Scan). s.vol) scans k v at in
+    subst (λ (w : Vol). IsMounted (image_named files (unit_of attached w.unit).name) w) of.2 (images k of.0 of.1).mounted
+
 -- one pack more
-pub read_more : (attached : List Attached) (units : List ℕ) (vols : List Vol) (k unit : ℕ) (v : Vol) → slice_get units k ≡ Some unit → AreRead attached (take k units) vols → v.unit ≡ unit → IsOfUnit attached v → HasRoom v
-    → AreByName (name_at v.slots.items) v.by_name.items → AreRead attached (take (k + 1) units) (vols ++ v ∷ [])
-read_more attached units vols k unit v at read is of_unit room order = record {
-  numbers = map_push (λ (w : Vol). w.unit) vols v ∙ ap (λ (us : List ℕ). us ++ v.unit ∷ []) read.numbers ∙ ap (λ (u : ℕ). take k units ++ u ∷ []) is ∙ sym (take_push units k unit at);
-  each = λ j w here. ⊎_elim (λ before. read.each j w before) (λ same. subst (IsOfUnit attached) same of_unit) (of_push vols v j w here);
-  room = λ j w here. ⊎_elim (λ before. read.room j w before) (λ same. subst HasRoom same room) (of_push vols v j w here);
-  order = λ j w here. ⊎_elim (λ before. read.order j w before) (λ same. subst (λ (x : Vol). AreByName (name_at x.slots.items) x.by_name.items) same order) (of_push vols v j w here);
+scanned_more : (attached : List Attached) (units : List ℕ) (scans : List Scan) (k unit : ℕ) (s : Scan) → slice_get units k ≡ Some unit → AreScanned attached (take k units) scans → IsScanOn attached unit s → AreScanned attached (take (k + 1) units) (scans ++ s ∷ [])
+scanned_more attached units scans k unit s at scanned on = record {
+  numbers =
+      ap units_of (map_push (λ (x : Scan). x.vol) scans s) ∙ map_push (λ (w : Vol). w.unit) (indexes_of scans) s.vol
+      ∙ ap (λ (us : List ℕ). us ++ s.vol.unit ∷ []) scanned.numbers ∙ ap (λ (u : ℕ). take k units ++ u ∷ []) on.unit ∙ sym (take_push units k unit at);
+  each = λ j x here. ⊎_elim (λ before. scanned.each j x before) (λ same. subst (λ (y : Scan). IsScanOn attached y.vol.unit y) same (subst (λ (n : ℕ). IsScanOn attached n s) (sym on.unit) on)) (of_push scans s j x here);
 }
 
-pub mounted_more : (files : List File) (attached : List Attached) (vols : List Vol) (v : Vol) → AreMounted files attached vols → IsMounted (image_named files (unit_of attached v.unit).name) v → AreMounted files attached (vols ++ v ∷ [])
-mounted_more files attached vols v mounted here j w at = ⊎_elim
-    (λ before. mounted j w before)
-    (λ same. subst (λ (x : Vol). IsMounted (image_named files (unit_of attached x.unit).name) x) same here)
-    (of_push vols v j w at)
+images_more : (files : List File) (attached : List Attached) (scans : List Scan) (s : Scan) → AreScansOf files attached scans → IsScanOf (image_named files (unit_of attached s.vol.unit).name) s → AreScansOf files attached (scans ++ s ∷ [])
+images_more files attached scans s images here j x at = ⊎_elim
+    (λ before. images j x before)
+    (λ same. subst (λ (y : Scan). IsScanOf (image_named files (unit_of attached y.vol.unit).name) y) same here)
+    (of_push scans s j x at)
 
 -- the image of a unit, where nothing changed but the time
 pub image_before : (files files' : List File) (old now : Facts) (unit : ℕ) → files' ≡ files → now.units ≡ old.units → image_of files' now unit ≡ image_named files (unit_of old.units unit).name
@@ -118,25 +124,25 @@ pack_refused files attached units vols k unit e numbered at read mounted is =
 pub unit_attached : (attached : List Attached) (units : List ℕ) (k unit : ℕ) → AreUnits attached units → slice_get units k ≡ Some unit → unit < length attached
 unit_attached attached units k unit are at = omega (arith, unit_number units k unit are.numbered at, within units k unit at, are.attached)
 
-module _ (tells : Bool) (units : List ℕ) (old now : Facts) (m m' : Meaning (List File)) (vols : List Vol) (k unit : ℕ) (at : slice_get units k ≡ Some unit) (so_far : ReadSoFar tells units old now m m' vols k) where
+module _ (tells : Bool) (units : List ℕ) (old now : Facts) (m m' : Meaning (List File)) (scans : List Scan) (k unit : ℕ) (at : slice_get units k ≡ Some unit) (so_far : ScannedSoFar tells units old now m m' scans k) where
   -- the pack on the next unit is refused
   pub refuses_pack : (s : Stopped) → AreUnits old.units units → IsTrue tells → s.unit ≡ unit → (s.why ≢ Memory → s.why ≢ Device → volume_of (image_of m'.state now unit) ≡ Err s.why) → RefusesImages (names_of old.units units) m.state s
   refuses_pack s are told place refused memory device =
       let image = image_before m.state m'.state old now unit (so_far.same told).state so_far.facts.units in
-      pack_refused m.state old.units units vols k unit s.why are.numbered at so_far.read.numbers (so_far.mounted told) (ap volume_of (sym image) ∙ refused memory device)
+      pack_refused m.state old.units units (indexes_of scans) k unit s.why are.numbered at so_far.scanned.numbers (mounted_scans m.state old.units scans (so_far.images told)) (ap volume_of (sym image) ∙ refused memory device)
       ∙ ap (λ (n : ℕ). Err (record { unit = n; why = s.why })) (sym place)
 
-  -- or it is read
-  pub read_next : (next : Facts) (m'' : Meaning (List File)) (vols' : List Vol) (v : Vol) → v.unit ≡ unit → IsOfUnit now.units v → HasRoom v → AreByName (name_at v.slots.items) v.by_name.items → (IsTrue tells → IsMounted (image_of m'.state now unit) v)
-      → (IsTrue tells → Same m' m'') → Unreported now next → vols' ≡ vols ++ v ∷ [] → ReadSoFar tells units old next m m'' vols' (k + 1)
-  read_next next m'' vols' v is of_unit room order mounted same call pushed = record {
+  -- or it is scanned
+  pub scanned_next : (next : Facts) (m'' : Meaning (List File)) (scans' : List Scan) (s : Scan) → IsScanOn now.units unit s → (IsTrue tells → IsScanOf (image_of m'.state now unit) s)
+      → (IsTrue tells → Same m' m'') → Unreported now next → scans' ≡ scans ++ s ∷ [] → ScannedSoFar tells units old next m m'' scans' (k + 1)
+  scanned_next next m'' scans' s on image_is same call pushed = record {
     facts = reported_none old now next so_far.facts call (λ never. never);
     same = λ told. same_then (so_far.same told) (same told);
-    read = subst (AreRead old.units (take (k + 1) units)) (sym pushed) (read_more old.units units vols k unit v at so_far.read is (subst (λ (us : List Attached). IsOfUnit us v) so_far.facts.units of_unit) room order);
-    mounted = λ told.
-        let image : image_of m'.state now unit ≡ image_named m.state (unit_of old.units v.unit).name =
-        image_before m.state m'.state old now unit (so_far.same told).state so_far.facts.units ∙ ap (λ (u : ℕ). image_named m.state (unit_of old.units u).name) (sym is) in
-        subst (AreMounted m.state old.units) (sym pushed) (mounted_more m.state old.units vols v (so_far.mounted told) (subst (λ (i : List ℕ). IsMounted i v) image (mounted told)));
+    scanned = subst (AreScanned old.units (take (k + 1) units)) (sym pushed) (scanned_more old.units units scans k unit s at so_far.scanned (subst (λ (us : List Attached). IsScanOn us unit s) so_far.facts.units on));
+    images = λ told.
+        let image : image_of m'.state now unit ≡ image_named m.state (unit_of old.units s.vol.unit).name =
+        image_before m.state m'.state old now unit (so_far.same told).state so_far.facts.units ∙ ap (λ (u : ℕ). image_named m.state (unit_of old.units u).name) (sym on.unit) in
+        subst (AreScansOf m.state old.units) (sym pushed) (images_more m.state old.units scans s (so_far.images told) (subst (λ (i : List ℕ). IsScanOf i s) image (image_is told)));
   }
 
 -- ---- serials
@@ -166,32 +172,41 @@ apart_of serials none j k text first second = ⊎_elim (λ less. absurd (before 
     three_ways (suc j) zero = inr (inl (omega arith))
     three_ways (suc j) (suc k) = ⊎_elim (λ less. inl (omega (arith, less))) (λ more. inr (⊎_elim (λ less. inl (omega (arith, less))) (λ same. inr (ap suc same)) more)) (three_ways j k)
 
--- the first serial that stands twice, among indexes
-pub place_by_serial : (vols : List Vol) (k : ℕ) (serial : List ℕ) → position (λ (v : Vol). bytes_eq v.serial.bytes serial) (take k vols) ≡ position (λ (t : List ℕ). bytes_eq t serial) (take k (serials_of vols))
-place_by_serial vols k serial =
+-- the first serial that stands twice, among scans
+serials_map : (scans : List Scan) → map (λ (s : Scan). s.vol.serial.bytes) scans ≡ serials_of (indexes_of scans)
+serials_map [] = refl
+serials_map (s ∷ scans) = ap (λ (l : List (List ℕ)). s.vol.serial.bytes ∷ l) (serials_map scans)
+
+pub place_by_serial : (scans : List Scan) (k : ℕ) (serial : List ℕ) → position (λ (s : Scan). bytes_eq s.vol.serial.bytes serial) (take k scans) ≡ position (λ (t : List ℕ). bytes_eq t serial) (take k (serials_of (indexes_of scans)))
+place_by_serial scans k serial =
     let test : List ℕ → Bool = λ t. bytes_eq t serial in
-    place_alike (λ (v : Vol). bytes_eq v.serial.bytes serial) test (λ (v : Vol). v.serial.bytes) (take k vols) (λ v. refl) ∙ ap (position test) (sym (take-map (λ (v : Vol). v.serial.bytes) k vols))
+    place_alike (λ (s : Scan). bytes_eq s.vol.serial.bytes serial) test (λ (s : Scan). s.vol.serial.bytes) (take k scans) (λ s. refl)
+    ∙ ap (position test) (sym (take-map (λ (s : Scan). s.vol.serial.bytes) k scans)) ∙ ap (λ (l : List (List ℕ)). position test (take k l)) (serials_map scans)
 
 -- one serial more that doesn't stand before its place
-pub none_more : (vols : List Vol) (k : ℕ) (v : Vol) → slice_get vols k ≡ Some v → position (λ (w : Vol). bytes_eq w.serial.bytes v.serial.bytes) (take k vols) ≡ None → NoneTwice (serials_of vols) k → NoneTwice (serials_of vols) (k + 1)
-none_more vols k v at none before j s low here = ⊎_elim (λ less. before j s less here) (λ same. this same) (lower_or_last j k low)
+pub none_more : (scans : List Scan) (k : ℕ) (s : Scan) → slice_get scans k ≡ Some s → position (λ (x : Scan). bytes_eq x.vol.serial.bytes s.vol.serial.bytes) (take k scans) ≡ None → NoneTwice (serials_of (indexes_of scans)) k → NoneTwice (serials_of (indexes_of scans)) (k + 1)
+none_more scans k s at none before j t low here = ⊎_elim (λ less. before j t less here) (λ same. this same) (lower_or_last j k low)
   where
     some_same : {a b : List ℕ} → Some a ≡ Some b → a ≡ b
     some_same is = cc
 
-    this : j ≡ k → position (λ t. bytes_eq t s) (take j (serials_of vols)) ≡ None
+    serials : List (List ℕ)
+    serials = serials_of (indexes_of scans)
+
+    this : j ≡ k → position (λ x. bytes_eq x t) (take j serials) ≡ None
     this same =
-        let serial : v.serial.bytes ≡ s = some_same (sym (get_map (λ (w : Vol). w.serial.bytes) vols k v at) ∙ ap (slice_get (serials_of vols)) (sym same) ∙ here) in
-        ap (λ (n : ℕ). position (λ t. bytes_eq t s) (take n (serials_of vols))) same
-        ∙ ap (λ (x : List ℕ). position (λ t. bytes_eq t x) (take k (serials_of vols))) (sym serial)
-        ∙ sym (place_by_serial vols k v.serial.bytes) ∙ none
+        let there : slice_get serials k ≡ Some s.vol.serial.bytes = get_map (λ (w : Vol). w.serial.bytes) (indexes_of scans) k s.vol (get_map (λ (x : Scan). x.vol) scans k s at) in
+        let serial : s.vol.serial.bytes ≡ t = some_same (sym there ∙ ap (slice_get serials) (sym same) ∙ here) in
+        ap (λ (n : ℕ). position (λ x. bytes_eq x t) (take n serials)) same
+        ∙ ap (λ (b : List ℕ). position (λ x. bytes_eq x b) (take k serials)) (sym serial)
+        ∙ sym (place_by_serial scans k s.vol.serial.bytes) ∙ none
 
 -- the first serial that stands before its place
-pub first_twice : (vols : List Vol) (k other : ℕ) (v : Vol) → slice_get vols k ≡ Some v → position (λ (w : Vol). bytes_eq w.serial.bytes v.serial.bytes) (take k vols) ≡ Some other → NoneTwice (serials_of vols) k → IsFirstTwice (serials_of vols) k other
-first_twice vols k other v at found before = record {
-  serial = v.serial.bytes;
-  at = get_map (λ (w : Vol). w.serial.bytes) vols k v at;
-  first = sym (place_by_serial vols k v.serial.bytes) ∙ found;
+pub first_twice : (scans : List Scan) (k other : ℕ) (s : Scan) → slice_get scans k ≡ Some s → position (λ (x : Scan). bytes_eq x.vol.serial.bytes s.vol.serial.bytes) (take k scans) ≡ Some other → NoneTwice (serials_of (indexes_of scans)) k → IsFirstTwice (serials_of (indexes_of scans)) k other
+first_twice scans k other s at found before = record {
+  serial = s.vol.serial.bytes;
+  at = get_map (λ (w : Vol). w.serial.bytes) (indexes_of scans) k s.vol (get_map (λ (x : Scan). x.vol) scans k s at);
+  first = sym (place_by_serial scans k s.vol.serial.bytes) ∙ found;
   before = before;
 }
 

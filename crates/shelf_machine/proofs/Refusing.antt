@@ -1,13 +1,36 @@
 -- Why a data set of an image isn't emptied, or gets no extents.
-use Rattle.std.proofs.Common.{◌≡◌, ◌∙◌, not, ◌&&◌, ◌||◌, ℕ, Bool, true, false, cond, List, [], ◌∷◌, Option, Some, None, refl, sym, ap, subst}
-use Rattle.std.specs.Prelude.{◌==◌, Result, Ok, Err, slice_get}
+use Rattle.std.proofs.Common.{◌≡◌, ◌≢◌, ◌∙◌, arith, eqb, inl, inr, not, ◌&&◌, ◌||◌, ℕ, suc, Bool, true, false, cond, List, [], ◌∷◌, Option, Some, None, refl, sym, ap, subst}
+use Rattle.std.specs.Prelude.{◌==◌, ◌⊎◌, length, Result, Ok, Err, slice_get}
+use Rattle.std.specs.Option.{option_map_or}
+use Rattle.std.specs.Str.{bytes_eq}
+use Rattle.std.proofs.lemmas.Bool.Decides.{eqb_tells, nat_tests}
+use Rattle.std.proofs.lemmas.Slice.Eq.{bytes_eq-Decides}
+use Rattle.dadsm_ops.proofs.VacantSets.{vacant_front}
 use Rattle.dadsm_ops.specs.Emptying.{MayEmpty}
+use Rattle.pack_spec.specs.Blocks.{last_of}
+use Rattle.pack_spec.specs.Bodies.{body_of}
+use Rattle.seq_access.proofs.PartReading.{no_members}
+use Rattle.vol_model.specs.declared.contents.Block.{Block}
+use Rattle.vol_model.specs.declared.contents.Entry.{Entry}
+use Rattle.vol_model.specs.declared.contents.Place.{Place}
+use Rattle.vol_model.specs.Places.{is_before}
+use Rattle.shelf_machine.specs.Known.{IsLibraryOf}
+use Rattle.shelf_machine.specs.Libraries.{IsLibraryFor, IsLibraryIn, is_vacant_by, vacancy}
+use Rattle.shelf_machine.specs.declared.library.Library.{Library}
 use Rattle.dadsm_ops.specs.Extending.{HoldsSet, IsReadable}
 use Rattle.dscb_codec.specs.declared.Dscb.{Dscb}
 use Rattle.dscb_codec.specs.declared.Dscb.TheVariants as formats
 use Rattle.dscb_codec.specs.declared.F1.{F1}
 use Rattle.ebcdic_names.specs.declared.names.Dsn.{Dsn}
+use Rattle.ckd_image.specs.declared.header.Geometry.{Geometry}
+use Rattle.pack_spec.specs.Directories.{part_body}
 use Rattle.pack_spec.specs.Volume.{attr_of, data_set_of, volume_of}
+use Rattle.pack_spec.proofs.PartBodies.{part_or_unread}
+use Rattle.vol_model.specs.declared.answers.Kind.TheVariants as answers
+use Rattle.vol_model.specs.declared.answers.StoreErr.{StoreErr}
+use Rattle.vol_model.specs.declared.answers.StoreErr.TheVariants as store
+use Rattle.vol_model.specs.declared.contents.Run.{Run}
+use Rattle.vol_model.specs.Reading.{kind_of}
 use Rattle.vol_model.specs.declared.contents.Attr.{Attr}
 use Rattle.vol_model.specs.declared.contents.Body.{Body}
 use Rattle.vol_model.specs.declared.contents.Body.TheVariants as bodies
@@ -16,7 +39,7 @@ use Rattle.vol_model.specs.declared.contents.Shelf.{Shelf}
 use Rattle.vol_model.specs.declared.contents.Volume.{Volume}
 use Rattle.vol_model.specs.declared.refusals.Refusal.{Refusal}
 use Rattle.vol_model.specs.declared.refusals.Refusal.TheVariants.{NoSet, Unreadable, WrongKind}
-use Rattle.vol_model.specs.Shelf.{emptied, empty_on, empty_set, extend_on, extend_set, if_readable, is_catalog, is_partitioned, is_vacant, may_empty, on_found, organization, refuse, set_of, unreadable, with_set}
+use Rattle.vol_model.specs.Shelf.{blocks_of, emptied, empty_on, empty_set, extend_on, extend_set, if_readable, is_catalog, is_partitioned, is_vacant, may_empty, on_found, organization, refuse, set_of, unreadable, with_set}
 use Rattle.vol_model.specs.Writing.{set_on}
 use Rattle.vtoc_index.specs.Index.{IsMounted, first_named}
 use Rattle.vtoc_index.specs.Names.{name_at}
@@ -25,20 +48,20 @@ use Rattle.vtoc_sets.specs.Sets.{kind_by, volume_in}
 use Rattle.vtoc_sets.specs.declared.sets.BodyKind.TheVariants as kinds
 use Rattle.shelf_machine.specs.Known.{ListsBroken}
 use Rattle.shelf_machine.specs.Reads.{HasVolume, IsSetOn, set_by}
-use Rattle.shelf_machine.specs.Refusals.{empty_refusal, extend_refusal}
+use Rattle.shelf_machine.specs.Refusals.{IsReason, IsRefusedBy, empty_refusal, extend_refusal}
 use Rattle.shelf_machine.specs.Unread.{broken_by, track_in}
 use Rattle.shelf_machine.specs.declared.unread.Unread.{Unread}
 use Rattle.shelf_machine.proofs.Scratching.{name_found}
 use Rattle.shelf_machine.proofs.ShelfSteps.{one_volume}
-use Rattle.shelf_machine.proofs.ShelfReads.{body_here, is_set, known_set, named, no_set, sequential_by}
+use Rattle.shelf_machine.proofs.ShelfReads.{body_here, body_partitioned, is_set, known_set, named, no_set, refused_not, sequential_by}
 
 -- which sets may be emptied, by the kind of their body
 module _ (name : List ℕ) (attr : Attr) (body : Body) where
   pub may_sequential : kinds.Seq ≡ kind_by name attr → true ≡ may_empty name attr body
   may_sequential is = sym (ap (λ (b : Bool). b || ((attr.dsorg == 0 && not (is_catalog name)) || (is_partitioned name attr && is_vacant body))) (sequential_by name attr (sym is)))
 
-  pub may_partitioned : kinds.Part ≡ kind_by name attr → body ≡ bodies.Unreadable 0 → true ≡ may_empty name attr body
-  may_partitioned is unread = by (is_catalog name) (organization attr == 32) (organization attr == 1) (attr.dsorg == 0) (is_vacant body) (ap is_vacant unread) is
+  pub may_partitioned : kinds.Part ≡ kind_by name attr → is_vacant body ≡ true → true ≡ may_empty name attr body
+  may_partitioned is vacant = by (is_catalog name) (organization attr == 32) (organization attr == 1) (attr.dsorg == 0) (is_vacant body) vacant is
     where
       by : (a s p z v : Bool) → v ≡ true → kinds.Part ≡ cond a kinds.Catalog (cond (not a && s) kinds.Seq (cond (not a && p) kinds.Part kinds.Other)) → true ≡ ((not a && s) || ((z && not a) || ((not a && p) && v)))
       by true s p z v vacant same = absurd cc
@@ -66,6 +89,63 @@ module _ (name : List ℕ) (attr : Attr) (body : Body) where
       by false false true z v same = absurd cc
       by false false false true v same = refl
       by false false false false v same = refl
+
+-- a partitioned body that can't be read has nothing
+pub vacant_by : (g : Geometry) (tracks : List (List ℕ)) (extents : List Run) (lstar : List ℕ) → kind_of (part_body g tracks extents lstar) ≢ answers.Part → is_vacant (part_body g tracks extents lstar) ≡ true
+vacant_by g tracks extents lstar = part_or_unread g tracks extents lstar (λ b. kind_of b ≢ answers.Part → is_vacant b ≡ true) (λ dir end es bs not. absurd (not refl)) (λ t not. refl)
+
+-- ---- a partitioned set that can be read, by its library
+
+-- it has no entry and no block
+vacant_is : (g : Geometry) (tracks : List (List ℕ)) (extents : List Run) (lstar : List ℕ) (n : ℕ) (end : Place) (es : List Entry) (bs : List Block) → part_body g tracks extents lstar ≡ bodies.Part n end es bs
+    → ((length es == 0) && not (is_before end (last_of lstar))) ≡ is_vacant (bodies.Part n end es bs)
+vacant_is g tracks extents lstar n end [] bs is = by (is_before end (last_of lstar)) refl bs refl
+  where
+    by : (b : Bool) → is_before end (last_of lstar) ≡ b → (xs : List Block) → bs ≡ xs → not b ≡ is_vacant (bodies.Part n end [] xs)
+    by true behind [] none = absurd (let front = vacant_front g tracks extents lstar n end (is ∙ ap (bodies.Part n end []) none) in let both : true ≡ false = sym behind ∙ front in cc)
+    by true behind (x ∷ xs) none = refl
+    by false front [] none = refl
+    by false front (x ∷ xs) none = absurd (let empty = no_members g tracks extents lstar n end [] bs is front in let both : x ∷ xs ≡ [] = sym none ∙ empty in cc)
+vacant_is g tracks extents lstar n end (e ∷ es) bs is = ap (λ (b : Bool). b && not (is_before end (last_of lstar))) (some_entry (length es))
+  where
+    some_entry : (k : ℕ) → (suc k == 0) ≡ false
+    some_entry k = grind (arith, nat_tests)
+
+-- so it may be emptied
+may_part : (name : List ℕ) (attr : Attr) (body : Body) → is_partitioned name attr ≡ true → may_empty name attr body ≡ is_vacant body
+may_part name attr body = by (is_catalog name) (eqb_tells (organization attr) 1) (is_vacant body)
+  where
+    by : (a : Bool) → ((eqb (organization attr) 1 ≡ true) × (organization attr ≡ 1)) ⊎ ((eqb (organization attr) 1 ≡ false) × (organization attr ≢ 1)) → (v : Bool) → (not a && organization attr == 1) ≡ true
+        → ((not a && organization attr == 32) || ((attr.dsorg == 0 && not a) || ((not a && organization attr == 1) && v))) ≡ v
+    by true org v is = absurd cc
+    by false (inr other) v is = absurd (let both : false ≡ true = sym other.0 ∙ is in cc)
+    by false (inl one) v is = grind (arith, nat_tests, one.1)
+
+module _ (g : Geometry) (tracks : List (List ℕ)) (name : List ℕ) (attr : Attr) (extents : List Run) (lstar : List ℕ) (library : Option Library)
+    (its : IsLibraryFor library name (body_of g tracks name attr extents lstar)) (part : answers.Part ≡ kind_of (body_of g tracks name attr extents lstar)) where
+  abbrev whole : Body
+  whole = body_of g tracks name attr extents lstar
+
+  vacancy_is : (o : Option Library) → IsLibraryFor o name whole → (b : Bool) → Some b ≡ vacancy o name lstar → is_vacant whole ≡ b
+  vacancy_is None is b told = absurd cc
+  vacancy_is (Some l) is b told = by (bytes_eq l.dsn.bytes name) refl told
+    where
+      by : (t : Bool) → bytes_eq l.dsn.bytes name ≡ t → Some b ≡ cond t (Some (is_vacant_by l lstar)) None → is_vacant whole ≡ b
+      by false other at = absurd cc
+      by true same at =
+          let of = is ((bytes_eq-Decides l.dsn.bytes name).0 same) in
+          let this : b ≡ is_vacant_by l lstar = cc in
+          ap is_vacant of
+          ∙ sym (vacant_is g tracks extents lstar l.blocks l.end l.entries.items (blocks_of whole) (sym (body_partitioned g tracks name attr extents lstar part).0 ∙ of))
+          ∙ sym this
+
+  pub vacancy_none : Some true ≡ vacancy library name lstar → empty_refusal name attr whole ≡ None
+  vacancy_none told =
+      ap (λ (b : Bool). cond b (unreadable whole) (Some WrongKind)) (may_part name attr whole (body_partitioned g tracks name attr extents lstar part).1 ∙ vacancy_is library its true told)
+      ∙ sym (refused_not whole (λ t is. let both : answers.Part ≡ answers.Unreadable t = part ∙ is in absurd cc))
+
+  pub vacancy_some : Some false ≡ vacancy library name lstar → empty_refusal name attr whole ≡ Some WrongKind
+  vacancy_some told = ap (λ (b : Bool). cond b (unreadable whole) (Some WrongKind)) (may_part name attr whole (body_partitioned g tracks name attr extents lstar part).1 ∙ vacancy_is library its false told)
 
 -- why a set isn't emptied, by the test of its kind
 pub empty_tested : (name : List ℕ) (attr : Attr) (body : Body) (b : Bool) → b ≡ may_empty name attr body → empty_refusal name attr body ≡ cond b (unreadable body) (Some WrongKind)
@@ -117,6 +197,15 @@ module _ (image : List ℕ) (v : Vol) (dsn : Dsn) (mounted : IsMounted image v) 
   unfolding extend_on set_on
   extend_none none = ap (λ (o : Option DataSet). on_found o (extend_set dsn (volume_in image v))) (no_set alone 0 v here dsn.bytes none)
 
+  -- the library that is held of the volume, if it is that of the data set
+  pub library_for : (slot : ℕ) (f : F1) → first_named dsn.bytes v.slots.items ≡ Some slot → slice_get v.slots.items slot ≡ Some (formats.F1 f) → (library : Option Library) → IsLibraryIn library (volume_in image v) → IsLibraryFor library f.name (body_here image v f)
+  unfolding set_on data_set_of
+  library_for slot f first is None held = tt
+  library_for slot f first is (Some l) held = λ same.
+      let set = is_set alone 0 v here dsn.bytes slot f first is in
+      let there : set_of l.dsn.bytes (volume_in image v) ≡ Some (set_by image v f) = ap (λ (n : List ℕ). set_of n (volume_in image v)) (same ∙ named alone 0 v here dsn.bytes f set) ∙ set.1 in
+      subst (IsLibraryOf l) (ap (λ (o : Option DataSet). option_map_or (λ (x : DataSet). x.body) o bodies.Other) there) held
+
   module _ (unread : List Unread) (lists : ListsBroken (volume_in image v) unread) (slot : ℕ) (f : F1) (first : first_named dsn.bytes v.slots.items ≡ Some slot) (is : slice_get v.slots.items slot ≡ Some (formats.F1 f)) where
     set_there : IsSetOn image v (set_on alone 0 dsn.bytes) (Some f)
     set_there = is_set alone 0 v here dsn.bytes slot f first is
@@ -135,6 +224,12 @@ module _ (image : List ℕ) (v : Vol) (dsn : Dsn) (mounted : IsMounted image v) 
         let x : DataSet = set_by image v f in
         subst (IsRefusedFor o) (sym (ap (λ (s : Option DataSet). on_found s (empty_set dsn attr (volume_in image v))) set_there.1))
         (empty_by (with_set (volume_in image v) dsn.bytes (emptied attr)) (may_empty dsn.bytes x.attr x.body) x.body o (told ∙ ap (λ (n : List ℕ). empty_refusal n x.attr x.body) set_named))
+
+    -- the same by an error
+    pub empty_refused : (attr : Attr) (e : StoreErr) → IsReason (Some e) (empty_refusal f.name (attr_of f) (body_here image v f)) → IsRefusedBy e (empty_on dsn attr (volume_in image v))
+    empty_refused attr (store.Refused r) told = empty_told attr (Some r) (sym told)
+    empty_refused attr store.Memory told = tt
+    empty_refused attr store.Device told = told
 
     pub extend_told : (r : Refusal) → Some r ≡ extend_refusal f.name (body_here image v f) → extend_on dsn (volume_in image v) ≡ Err r
     unfolding extend_on set_on data_set_of

@@ -2,17 +2,13 @@
 use Rattle.std.proofs.Common.{◌≡◌, ◌≢◌, ◌≤◌, ◌+◌, ⊎_elim, inr, ℕ, true, List, [], Option, Some, refl, sym, ap, subst, ◌∙◌, arith}
 use Rattle.std.specs.Prelude.{Result, Ok, Err, slice_get, unwrap_or}
 use Rattle.std.proofs.lemmas.Bool.{cases_eq}
-use Rattle.free_rebuild.specs.Repairs.{IsSafe, Repairs, image_named}
-use Rattle.free_rebuild.specs.Settled.{is_settled_vtoc}
-use Rattle.free_rebuild.proofs.SettledBool.{settled_vtoc}
-use Rattle.hall_core.specs.Facts.{Facts, ReportedCall}
-use Rattle.stop_model.specs.Counts.{Rose}
+use Rattle.free_rebuild.specs.Repairs.{image_named}
+use Rattle.mount_repair.specs.Repairs.{RepairsPack, StaysVolume}
+use Rattle.mount_repair.specs.declared.scanned.Scan.{Scan}
 use Rattle.stop_model.specs.Files.{File}
 use Rattle.stop_model.specs.Moments.{IsDurable, Meaning}
 use Rattle.stop_model.proofs.MomentLemmas.{elapses_none, elapses_then, elapses_weaker}
 use Rattle.vol_model.specs.declared.contents.Volume.{Volume}
-use Rattle.vtoc_index.specs.Index.{IsMounted}
-use Rattle.vtoc_index.specs.declared.vol.Vol.{Vol}
 use Rattle.shelf_machine.specs.Opening.{AreApart, AreSafe, IsSafeImage, OpensSafely, images_named}
 use Rattle.shelf_machine.proofs.ListPlaces.{set_itself}
 use Rattle.shelf_machine.proofs.Promises.{not_among, one_text}
@@ -44,7 +40,7 @@ repaired_none names volumes m all = record {
 module _ (names : List (List ℕ)) (volumes : List Volume) (apart : AreApart names) (serials : AreApart (serials_in volumes)) (k : ℕ) (name : List ℕ) (at : slice_get names k ≡ Some name)
     (old now : Meaning (List File)) (so_far : Repaired names volumes k old now) where
   -- what a stop in the next repair leaves
-  at_stop : (w : Volume) (files : List File) → slice_get volumes k ≡ Some w → IsSafe name w now.state files → AllStand (images_named files names) volumes × AreSafe names volumes old.state files
+  at_stop : (w : Volume) (files : List File) → slice_get volumes k ≡ Some w → StaysVolume name w now.state files → AllStand (images_named files names) volumes × AreSafe names volumes old.state files
   at_stop w files here stop = (
     subst (AllStand (images_named files names)) (set_itself volumes k w here) (one_set names now.state files volumes k name w so_far.all at other_images stop.stands),
     record {
@@ -76,7 +72,7 @@ module _ (names : List (List ℕ)) (volumes : List Volume) (apart : AreApart nam
       stayed j other u there is differs =
           subst (λ (i : List ℕ). IsSafeImage u (image_named old.state other) i) (sym (other_images j other there differs)) (so_far.safe.images j other u there is)
 
-  module _ {T E : Type 0} (v : Vol) (new : Meaning (List File)) (r : Result T E) (run : Repairs name v now new r) where
+  module _ {E : Type 0} (new : Meaning (List File)) (r : Result Scan E) (run : RepairsPack name now new r) where
     here : slice_get volumes k ≡ Some run.volume
     here = volume_here names volumes now.state so_far.all apart serials k name at run.volume run.before
 
@@ -91,7 +87,7 @@ module _ (names : List (List ℕ)) (volumes : List Volume) (apart : AreApart nam
     }
 
     -- and where it is done they have come to the next
-    pub repaired_more : IsSafe name run.volume now.state new.state → Repaired names volumes (k + 1) old new
+    pub repaired_more : StaysVolume name run.volume now.state new.state → Repaired names volumes (k + 1) old new
     repaired_more safe = record {
       all = (at_stop run.volume new.state here safe).0;
       safe = (at_stop run.volume new.state here safe).1;
@@ -101,60 +97,3 @@ module _ (names : List (List ℕ)) (volumes : List Volume) (apart : AreApart nam
           ∙ so_far.untouched j other (omega (arith, low)) there;
       opens = opens_more;
     }
-
--- ---- the calls of an opening
-
--- nothing is reported
-abbrev pub Unreported : Facts → Facts → Type 0
-Unreported old new = ReportedCall ⊥ old new
-
-pub unreported : (facts : Facts) → Unreported facts facts
-unreported facts = record { units = refl; references = refl; prints = refl; later = omega arith; device = λ never. absurd never; others = λ none. refl }
-
-pub reported_more : {P Q : Type 0} (a b c : Facts) → Unreported a b → ReportedCall P b c → (Q → P) → (P → Q) → ReportedCall Q a c
-reported_more a b c first second from to =
-    let stays : b.dev_faults ≡ a.dev_faults = first.others (λ never. never) in record {
-      units = second.units ∙ first.units;
-      references = second.references ∙ first.references;
-      prints = second.prints ∙ first.prints;
-      later = omega (arith, second.later, stays);
-      device = λ q. subst (λ (n : ℕ). Rose n c.dev_faults) stays (second.device (from q));
-      others = λ differs. second.others (λ p. differs (to p)) ∙ stays;
-    }
-
-pub reported_none : {P : Type 0} (a b c : Facts) → Unreported a b → ReportedCall P b c → ¬ P → Unreported a c
-reported_none a b c first second differs = reported_more a b c first second (λ never. absurd never) differs
-
--- ---- the repair of one pack
-
--- a pack that is settled isn't repaired
-pub repairs_none : {T E : Type 0} (name : List ℕ) (v : Vol) (m : Meaning (List File)) (x : T) → IsMounted (image_named m.state name) v → is_settled_vtoc (image_named m.state name) ≡ true → IsDurable m → Repairs {E = E} name v m m (Ok x)
-repairs_none name v m x mounted is durable =
-    let settled = settled_vtoc (image_named m.state name) is in record {
-      volume = settled.0;
-      before = settled.1;
-      safe = record {
-        stands = settled.1;
-        guarded = inr (λ track in_vtoc. refl);
-        tracks = record { size = refl; header = refl; tracks = λ track out. refl };
-        others = λ other differs. refl;
-      };
-      settled = settled;
-      index = mounted;
-      durable = durable;
-      printed = refl;
-      moments = elapses_none m _;
-    }
-
--- a repair that failed, whatever it answers
-pub repairs_failed : {T E F : Type 0} (name : List ℕ) (v : Vol) (m m' : Meaning (List File)) (e : E) (f : F) → Repairs {T = T} name v m m' (Err e) → Repairs {T = T} name v m m' (Err f)
-repairs_failed name v m m' e f run = record {
-  volume = run.volume;
-  before = run.before;
-  safe = tt;
-  settled = tt;
-  index = tt;
-  durable = tt;
-  printed = run.printed;
-  moments = run.moments;
-}

@@ -15,6 +15,7 @@ use Rattle.stop_model.proofs.MomentLemmas.{CountsNow, elapses_none, same_none}
 use Rattle.vol_model.specs.Shelf.{has_name, is_catalog, on_found, scratch_on}
 use Rattle.vol_model.specs.declared.answers.StoreErr.{StoreErr}
 use Rattle.vol_model.specs.declared.answers.StoreErr.TheVariants as store
+use Rattle.shelf_machine.specs.Refusals.{IsRefusedBy}
 use Rattle.vol_model.specs.declared.contents.DataSet.{DataSet}
 use Rattle.vol_model.specs.declared.contents.Shelf.{Shelf}
 use Rattle.vol_model.specs.declared.contents.Volume.{Volume}
@@ -71,11 +72,11 @@ module _ (image : List ℕ) (v : Vol) (dsn : Dsn) (mounted : IsMounted image v) 
       contradicts is = cc
 
 -- an operation that ends before anything is called
-module _ {T : Type 0} (name : List ℕ) (operation : Volume → Result Volume Refusal) (v : Vol) (m : Meaning (List File)) (counts : CountsNow m) (volume : Volume) (before : volume_of (image_named m.state name) ≡ Ok volume) where
-  abbrev undone : (e : StoreErr) → DoesOperation {T = T} name operation v m m (Err e)
+module _ {T : Type 0} (name : List ℕ) (operation : Volume → Result Volume Refusal) (v : Vol) (Changes : List ℕ → List ℕ → Type 0) (m : Meaning (List File)) (counts : CountsNow m) (volume : Volume) (before : volume_of (image_named m.state name) ≡ Ok volume) where
+  abbrev undone : (e : StoreErr) → DoesOperation {T = T} name operation v Changes m m (Err e)
   undone e = record { volume = volume; before = before; done = tt; settled = tt; printed = refl; moments = elapses_none m _ }
 
-  pub operates_refused : (why : Refusal) → operation volume ≡ Err why → Operates {T = T} name operation v m m (Err (store.Refused why))
+  pub operates_refused : (why : Refusal) → operation volume ≡ Err why → Operates {T = T} name operation v Changes m m (Err (store.Refused why))
   operates_refused why refused = record {
     does = undone (store.Refused why);
     refused = λ r is. refused ∙ ap (λ (x : Refusal). Err x) (same_refusal is);
@@ -86,9 +87,15 @@ module _ {T : Type 0} (name : List ℕ) (operation : Volume → Result Volume Re
       same_refusal : {a b : Refusal} → ◌≡◌ {A = Result T StoreErr} (Err (store.Refused a)) (Err (store.Refused b)) → a ≡ b
       same_refusal same = cc
 
+  -- for this reason
+  pub operates_error : (e : StoreErr) → IsRefusedBy e (operation volume) → Operates {T = T} name operation v Changes m m (Err e)
+  operates_error (store.Refused why) is = operates_refused why is
+  operates_error store.Memory is = record { does = undone store.Memory; refused = λ r other. absurd cc; idle = λ r other. same_none m counts; memory = λ other. same_none m counts }
+  operates_error store.Device is = absurd is
+
 -- an operation that isn't refused, and was called
-module _ {E : Type 0} (name : List ℕ) (operation : Volume → Result Volume Refusal) (v : Vol) (m m' : Meaning (List File)) where
-  pub operates_done : {T : Type 0} (x y : T) → DoesOperation {T = T} {E = E} name operation v m m' (Ok x) → Operates name operation v m m' (Ok y)
+module _ {E : Type 0} (name : List ℕ) (operation : Volume → Result Volume Refusal) (v : Vol) (Changes : List ℕ → List ℕ → Type 0) (m m' : Meaning (List File)) where
+  pub operates_done : {T : Type 0} (x y : T) → DoesOperation {T = T} {E = E} name operation v Changes m m' (Ok x) → Operates name operation v Changes m m' (Ok y)
   operates_done x y does = record {
     does = record { volume = does.volume; before = does.before; done = does.done; settled = does.settled; printed = does.printed; moments = does.moments };
     refused = λ r is. absurd cc;
@@ -96,7 +103,7 @@ module _ {E : Type 0} (name : List ℕ) (operation : Volume → Result Volume Re
     memory = λ is. absurd cc;
   }
 
-  pub operates_failed : {T : Type 0} (e : E) → ((r : Refusal) (w : Volume) → volume_of (image_named m.state name) ≡ Ok w → operation w ≡ Err r → ⊥) → DoesOperation {T = T} name operation v m m' (Err e) → Operates {T = T} name operation v m m' (Err store.Device)
+  pub operates_failed : {T : Type 0} (e : E) → ((r : Refusal) (w : Volume) → volume_of (image_named m.state name) ≡ Ok w → operation w ≡ Err r → ⊥) → DoesOperation {T = T} name operation v Changes m m' (Err e) → Operates {T = T} name operation v Changes m m' (Err store.Device)
   operates_failed e accepted does = record {
     does = record { volume = does.volume; before = does.before; done = tt; settled = tt; printed = does.printed; moments = does.moments };
     refused = λ r is. absurd cc;

@@ -1,6 +1,6 @@
 -- What the shelf of a mounted image has, by the index of the image.
-use Rattle.std.proofs.Common.{◌≡◌, ◌≢◌, ◌<◌, ◌+◌, not, ℕ, zero, suc, Bool, true, false, cond, List, [], ◌∷◌, length, get_or, map, Option, Some, None, refl, sym, ap, subst, ◌∙◌, arith}
-use Rattle.std.specs.Prelude.{◌||◌, ◌&&◌, ◌==◌, is_none, is_some, unwrap_or, Result, Ok, Err, option_and_then, position, slice_get}
+use Rattle.std.proofs.Common.{◌≡◌, ◌≢◌, ◌<◌, ◌+◌, not, ℕ, zero, suc, Bool, true, false, cond, inl, inr, List, [], ◌∷◌, length, get_or, map, Option, Some, None, refl, sym, ap, subst, ◌∙◌, arith}
+use Rattle.std.specs.Prelude.{◌⊎◌, ◌||◌, ◌&&◌, ◌==◌, is_none, is_some, unwrap_or, Result, Ok, Err, option_and_then, position, slice_get}
 use Rattle.std.specs.List.{cons_option, filter_map, find, flat_map, list_any, range_with_len}
 use Rattle.std.specs.Option.{option_map, option_map_or}
 use Rattle.std.specs.Str.{bytes_eq}
@@ -17,7 +17,9 @@ use Rattle.dscb_codec.specs.declared.F1.{F1}
 use Rattle.pack_spec.specs.declared.slot.VtocSlot.{VtocSlot}
 use Rattle.pack_spec.specs.Blocks.{blocks_at, has_no_block, last_of, owned_tracks, seq_body, seq_of, seq_unless}
 use Rattle.pack_spec.specs.Bodies.{body_of, catalog_of}
-use Rattle.seq_access.specs.Bodies.{body_in, data_in}
+use Rattle.pack_spec.specs.Directories.{part_body}
+use Rattle.pack_spec.proofs.PartBodies.{part_or_unread}
+use Rattle.seq_access.specs.Bodies.{data_in}
 use Rattle.vtoc_sets.specs.declared.sets.BodyKind.TheVariants as set_kinds
 use Rattle.pack_spec.specs.Rules.{has_extents, is_named, set_in}
 use Rattle.dadsm_ops.proofs.ChangedLists.{any_first}
@@ -32,6 +34,8 @@ use Rattle.vol_model.specs.declared.contents.Block.{Block}
 use Rattle.vol_model.specs.declared.contents.Body.{Body}
 use Rattle.vol_model.specs.declared.contents.Body.TheVariants.{Catalog, Other, Part, Seq, Unreadable}
 use Rattle.vol_model.specs.declared.contents.DataSet.{DataSet}
+use Rattle.vol_model.specs.declared.contents.Entry.{Entry}
+use Rattle.vol_model.specs.declared.contents.Place.{Place}
 use Rattle.vol_model.specs.declared.contents.Shelf.{Shelf}
 use Rattle.vol_model.specs.declared.contents.Volume.{Volume}
 use Rattle.vol_model.specs.Order.{in_order}
@@ -50,78 +54,14 @@ use Rattle.vol_model.specs.Writing.{begin_refusal, body_on, set_on, target_refus
 use Rattle.vol_model.proofs.Steps.{any_in_order}
 use Rattle.vtoc_index.specs.Index.{AreDscbs, first_named}
 use Rattle.vtoc_index.specs.declared.vol.Vol.{Vol}
-use Rattle.shelf_machine.specs.Reads.{HasVolume, IsSequentialOn, IsSetOn, IsUnread}
+use Rattle.shelf_machine.specs.Reads.{HasVolume, IsSetOn}
 use Rattle.vtoc_sets.specs.Sets.{extents_in, kind_by, volume_in}
 use Rattle.shelf_machine.specs.Known.{ListsUnread}
-use Rattle.shelf_machine.specs.Unread.{broken_at, broken_by, broken_in, track_in}
+use Rattle.shelf_machine.specs.Unread.{broken_at, broken_by, broken_in, is_walked, track_in}
 use Rattle.shelf_machine.specs.declared.unread.Unread.{Unread}
 use Rattle.shelf_machine.proofs.FoundByKey.{find_passes}
-use Rattle.shelf_machine.proofs.OrderedSets.{find_in_order}
-
--- the data sets in some slots of a VTOC
-abbrev sets_by : Geometry → List (List ℕ) → List VtocSlot → List VtocSlot → List DataSet
-sets_by g tracks slots some = map (data_set_of g tracks slots) (filter_map (λ s. set_in s.content) some)
-
-module _ (g : Geometry) (tracks : List (List ℕ)) (slots : List VtocSlot) (name : List ℕ) where
-  -- a slot that is no data set of the name is passed over
-  passed : (c : Result Dscb DscbErr) (rest : List F1) → is_named name c ≡ false → find (has_name name) (map (data_set_of g tracks slots) (cons_option (set_in c) rest)) ≡ find (has_name name) (map (data_set_of g tracks slots) rest)
-  unfolding data_set_of
-  passed (Ok formats.F0) rest not = refl
-  passed (Ok (formats.F1 f)) rest not = ap (λ (b : Bool). cond b (Some (data_set_of g tracks slots f)) (find (has_name name) (map (data_set_of g tracks slots) rest))) not
-  passed (Ok (formats.F3 f)) rest not = refl
-  passed (Ok (formats.F4 f)) rest not = refl
-  passed (Ok (formats.F5 f)) rest not = refl
-  passed (Err e) rest not = refl
-
-  taken : (c : Result Dscb DscbErr) (f : F1) (rest : List F1) → c ≡ Ok (formats.F1 f) → is_named name c ≡ true → find (has_name name) (map (data_set_of g tracks slots) (cons_option (set_in c) rest)) ≡ Some (data_set_of g tracks slots f)
-  unfolding data_set_of
-  taken c f rest is named =
-      ap (λ (x : Result Dscb DscbErr). find (has_name name) (map (data_set_of g tracks slots) (cons_option (set_in x) rest))) is
-      ∙ ap (λ (b : Bool). cond b (Some (data_set_of g tracks slots f)) (find (has_name name) (map (data_set_of g tracks slots) rest))) (ap (is_named name) (sym is) ∙ named)
-
-  found : (items : List Dscb) (some : List VtocSlot) (k : ℕ) (f : F1) → AreDscbs items some → slice_get items k ≡ Some (formats.F1 f) → is_named name (Ok (formats.F1 f)) ≡ true → ((j : ℕ) (d : Dscb) → j < k → is_named name (Ok (get_or items j d)) ≡ false)
-      → find (has_name name) (sets_by g tracks slots some) ≡ Some (data_set_of g tracks slots f)
-  found [] some k f are is named earlier = cc
-  found (d ∷ items) [] k f are is named earlier = cc
-  found (d ∷ items) (s ∷ some) zero f are is named earlier =
-      let content : s.content ≡ Ok d = cc in
-      let this : d ≡ formats.F1 f = cc in
-      let here : s.content ≡ Ok (formats.F1 f) = content ∙ ap (λ (x : Dscb). Ok x) this in
-      taken s.content f (filter_map (λ t. set_in t.content) some) here (ap (is_named name) here ∙ named)
-  found (d ∷ items) (s ∷ some) (suc k) f are is named earlier =
-      let content : s.content ≡ Ok d = cc in
-      let rest : AreDscbs items some = cc in
-      passed s.content (filter_map (λ t. set_in t.content) some) (ap (is_named name) content ∙ earlier 0 d (omega arith))
-      ∙ found items some k f rest is named (λ j e low. earlier (suc j) e (omega (arith, low)))
-
-  found_not : (items : List Dscb) (some : List VtocSlot) → AreDscbs items some → list_any (λ d. is_named name (Ok d)) items ≡ false → find (has_name name) (sets_by g tracks slots some) ≡ None
-  found_not [] [] are none = refl
-  found_not [] (s ∷ some) are none = cc
-  found_not (d ∷ items) [] are none = cc
-  found_not (d ∷ items) (s ∷ some) are none =
-      let content : s.content ≡ Ok d = cc in
-      let rest : AreDscbs items some = cc in
-      let parts = or_parts (is_named name (Ok d)) (list_any (λ x. is_named name (Ok x)) items) none in
-      passed s.content (filter_map (λ t. set_in t.content) some) (ap (is_named name) content ∙ parts.0) ∙ found_not items some rest parts.1
-
-  -- whether a data set has the name
-  named_alike : (items : List Dscb) (some : List VtocSlot) → AreDscbs items some → list_any (has_name name) (sets_by g tracks slots some) ≡ list_any (λ d. is_named name (Ok d)) items
-  unfolding data_set_of
-  named_alike [] [] are = refl
-  named_alike [] (s ∷ some) are = cc
-  named_alike (d ∷ items) [] are = cc
-  named_alike (d ∷ items) (s ∷ some) are =
-      let content : s.content ≡ Ok d = cc in
-      let rest : AreDscbs items some = cc in
-      ap (λ (c : Result Dscb DscbErr). list_any (has_name name) (map (data_set_of g tracks slots) (cons_option (set_in c) (filter_map (λ t. set_in t.content) some)))) content
-      ∙ one d (filter_map (λ t. set_in t.content) some) (named_alike items some rest)
-    where
-      one : (d : Dscb) (rest : List F1) → list_any (has_name name) (map (data_set_of g tracks slots) rest) ≡ list_any (λ x. is_named name (Ok x)) items → list_any (has_name name) (map (data_set_of g tracks slots) (cons_option (set_in (Ok d)) rest)) ≡ (is_named name (Ok d) || list_any (λ x. is_named name (Ok x)) items)
-      one formats.F0 rest same = same
-      one (formats.F1 f) rest same = ap (λ (b : Bool). bytes_eq f.name name || b) same
-      one (formats.F3 f) rest same = same
-      one (formats.F4 f) rest same = same
-      one (formats.F5 f) rest same = same
+use Rattle.mount_repair.proofs.OrderedSets.{find_in_order}
+use Rattle.mount_repair.proofs.SetsByName.{found, found_not, named_alike, sets_by}
 
 -- the body of a format 1 of an image
 abbrev pub body_here : List ℕ → Vol → F1 → Body
@@ -154,36 +94,64 @@ seq_cases P good bad g tracks extents lstar = by (has_no_block lstar)
 pub kind_whole : (g : Geometry) (tracks : List (List ℕ)) (extents : List Run) (lstar : List ℕ) → broken_at (seq_body g tracks extents lstar) ≡ None → kind_of (seq_body g tracks extents lstar) ≡ kinds.Seq
 kind_whole = seq_cases (λ b. broken_at b ≡ None → kind_of b ≡ kinds.Seq) (λ bs is. refl) (λ t is. absurd cc)
 
--- which sets are sequential
-pub sequential_by : (name : List ℕ) (attr : Attr) → kind_by name attr ≡ set_kinds.Seq → is_sequential name attr ≡ true
-sequential_by name attr = by (is_catalog name) (is_sequential name attr) (is_partitioned name attr)
-  where
-    by : (a b c : Bool) → cond a set_kinds.Catalog (cond b set_kinds.Seq (cond c set_kinds.Part set_kinds.Other)) ≡ set_kinds.Seq → b ≡ true
-    by true b c is = absurd cc
-    by false true c is = refl
-    by false false true is = absurd cc
-    by false false false is = absurd cc
+pub kind_part : (g : Geometry) (tracks : List (List ℕ)) (extents : List Run) (lstar : List ℕ) → broken_at (part_body g tracks extents lstar) ≡ None → kind_of (part_body g tracks extents lstar) ≡ kinds.Part
+kind_part g tracks extents lstar = part_or_unread g tracks extents lstar (λ b. broken_at b ≡ None → kind_of b ≡ kinds.Part) (λ dir end entries blocks is. refl) (λ t is. absurd cc)
 
-pub not_sequential : (name : List ℕ) (attr : Attr) → (kind_by name attr ≡ set_kinds.Seq → ⊥) → is_sequential name attr ≡ false
-not_sequential name attr differs = by (is_catalog name) refl (organization attr == 32) refl
-  where
-    by : (a : Bool) → is_catalog name ≡ a → (b : Bool) → (organization attr == 32) ≡ b → (not (is_catalog name) && organization attr == 32) ≡ false
-    by true catalog b is = ap (λ (t : Bool). not t && organization attr == 32) catalog
-    by false catalog false is = ap (λ (t : Bool). not t && organization attr == 32) catalog ∙ is
-    by false catalog true is = absurd (differs (
-        ap (λ (t : Bool). cond t set_kinds.Catalog (cond (not t && organization attr == 32) set_kinds.Seq (cond (not t && organization attr == 1) set_kinds.Part set_kinds.Other))) catalog
-        ∙ ap (λ (t : Bool). cond t set_kinds.Seq (cond (organization attr == 1) set_kinds.Part set_kinds.Other)) is))
+-- which sets are sequential or partitioned
+module _ (name : List ℕ) (attr : Attr) where
+  pub walked_by : (kind_by name attr ≡ set_kinds.Seq) ⊎ (kind_by name attr ≡ set_kinds.Part) → is_walked name attr ≡ true
+  walked_by = by (is_catalog name) (organization attr == 32) (organization attr == 1)
+    where
+      by : (a s p : Bool) → (cond a set_kinds.Catalog (cond (not a && s) set_kinds.Seq (cond (not a && p) set_kinds.Part set_kinds.Other)) ≡ set_kinds.Seq) ⊎ (cond a set_kinds.Catalog (cond (not a && s) set_kinds.Seq (cond (not a && p) set_kinds.Part set_kinds.Other)) ≡ set_kinds.Part)
+          → ((not a && s) || (not a && p)) ≡ true
+      by true s p (inl is) = absurd cc
+      by true s p (inr is) = absurd cc
+      by false true p is = refl
+      by false false true is = refl
+      by false false false (inl is) = absurd cc
+      by false false false (inr is) = absurd cc
 
--- the kind of a sequential set, by the list of those that can't be read
-module _ (name : List ℕ) (attr : Attr) (body : Body) (unread : List Unread) (seq : set_kinds.Seq ≡ kind_by name attr) (listed : track_in unread name ≡ broken_by name attr body) where
+  pub sequential_by : kind_by name attr ≡ set_kinds.Seq → is_sequential name attr ≡ true
+  sequential_by = by (is_catalog name) (organization attr == 32) (organization attr == 1)
+    where
+      by : (a s p : Bool) → cond a set_kinds.Catalog (cond (not a && s) set_kinds.Seq (cond (not a && p) set_kinds.Part set_kinds.Other)) ≡ set_kinds.Seq → (not a && s) ≡ true
+      by true s p is = absurd cc
+      by false true p is = refl
+      by false false true is = absurd cc
+      by false false false is = absurd cc
+
+  pub partitioned_by : kind_by name attr ≡ set_kinds.Part → is_partitioned name attr ≡ true
+  partitioned_by = by (is_catalog name) (organization attr == 32) (organization attr == 1)
+    where
+      by : (a s p : Bool) → cond a set_kinds.Catalog (cond (not a && s) set_kinds.Seq (cond (not a && p) set_kinds.Part set_kinds.Other)) ≡ set_kinds.Part → (not a && p) ≡ true
+      by true s p is = absurd cc
+      by false true p is = absurd cc
+      by false false true is = refl
+      by false false false is = absurd cc
+
+  pub not_walked : (kind_by name attr ≡ set_kinds.Seq → ⊥) → (kind_by name attr ≡ set_kinds.Part → ⊥) → is_walked name attr ≡ false
+  not_walked = by (is_catalog name) (organization attr == 32) (organization attr == 1)
+    where
+      by : (a s p : Bool) → (cond a set_kinds.Catalog (cond (not a && s) set_kinds.Seq (cond (not a && p) set_kinds.Part set_kinds.Other)) ≡ set_kinds.Seq → ⊥)
+          → (cond a set_kinds.Catalog (cond (not a && s) set_kinds.Seq (cond (not a && p) set_kinds.Part set_kinds.Other)) ≡ set_kinds.Part → ⊥) → ((not a && s) || (not a && p)) ≡ false
+      by true s p not_seq not_part = refl
+      by false true p not_seq not_part = absurd (not_seq refl)
+      by false false true not_seq not_part = absurd (not_part refl)
+      by false false false not_seq not_part = refl
+
+-- the kind of a set that is walked, by the list of those that can't be read
+module _ (name : List ℕ) (attr : Attr) (body : Body) (unread : List Unread) (walked : (kind_by name attr ≡ set_kinds.Seq) ⊎ (kind_by name attr ≡ set_kinds.Part)) (listed : track_in unread name ≡ broken_by name attr body) where
   listed_at : track_in unread name ≡ broken_at body
-  listed_at = listed ∙ ap (λ (b : Bool). cond b (broken_at body) None) (sequential_by name attr (sym seq))
+  listed_at = listed ∙ ap (λ (b : Bool). cond b (broken_at body) None) (walked_by name attr walked)
 
   pub kind_listed : (t : ℕ) → Some t ≡ track_in unread name → kinds.Unreadable t ≡ kind_of body
   kind_listed t is = sym (kind_broken body t (sym listed_at ∙ sym is))
 
   pub kind_unlisted : (g : Geometry) (tracks : List (List ℕ)) (extents : List Run) (lstar : List ℕ) → body ≡ seq_body g tracks extents lstar → None ≡ track_in unread name → kinds.Seq ≡ kind_of body
   kind_unlisted g tracks extents lstar whole is = sym (ap kind_of whole ∙ kind_whole g tracks extents lstar (ap broken_at (sym whole) ∙ sym listed_at ∙ sym is))
+
+  pub part_unlisted : (g : Geometry) (tracks : List (List ℕ)) (extents : List Run) (lstar : List ℕ) → body ≡ part_body g tracks extents lstar → None ≡ track_in unread name → kinds.Part ≡ kind_of body
+  part_unlisted g tracks extents lstar whole is = sym (ap kind_of whole ∙ kind_part g tracks extents lstar (ap broken_at (sym whole) ∙ sym listed_at ∙ sym is))
 
 -- a body that can't be read has no entry, and no block
 pub unread_by : (b : Body) (t : ℕ) → kinds.Unreadable t ≡ kind_of b → (entries_in b ≡ Err t) × (readable b ≡ Err t)
@@ -193,25 +161,48 @@ unread_by Catalog t is = absurd cc
 unread_by Other t is = absurd cc
 unread_by (Unreadable track) t is = let same : track ≡ t = cc in (ap (λ (k : ℕ). Err k) same, ap (λ (k : ℕ). Err k) same)
 
--- what is true of each body of a set
-set_cases : (P : Body → Type 0) → ((bs : List Block) → P (Seq bs)) → ((t : ℕ) → P (Unreadable t)) → P Other → (g : Geometry) (tracks : List (List ℕ)) (name : List ℕ) (attr : Attr) (extents : List Run) (lstar : List ℕ)
-    → P (body_of g tracks name attr extents lstar)
-unfolding body_of
-set_cases P good bad other g tracks name attr extents lstar = by (is_sequential name attr) (is_catalog name || is_partitioned name attr)
-  where
-    by : (a b : Bool) → P (cond a (seq_body g tracks extents lstar) (cond b (Unreadable 0) Other))
-    by true b = seq_cases P good bad g tracks extents lstar
-    by false true = bad 0
-    by false false = other
+pub unread_is : (b : Body) (t : ℕ) → kinds.Unreadable t ≡ kind_of b → b ≡ Unreadable t
+unread_is (Seq blocks) t is = absurd cc
+unread_is (Part dir end entries blocks) t is = absurd cc
+unread_is Catalog t is = absurd cc
+unread_is Other t is = absurd cc
+unread_is (Unreadable track) t is = let same : track ≡ t = cc in ap (λ (k : ℕ). Unreadable k) same
 
-pub read_by : (g : Geometry) (tracks : List (List ℕ)) (name : List ℕ) (attr : Attr) (extents : List Run) (lstar : List ℕ) → ((t : ℕ) → kind_of (body_of g tracks name attr extents lstar) ≢ kinds.Unreadable t)
-    → entries_in (body_of g tracks name attr extents lstar) ≡ Ok []
-read_by = set_cases (λ b. ((t : ℕ) → kind_of b ≢ kinds.Unreadable t) → entries_in b ≡ Ok []) (λ bs not. refl) (λ t not. absurd (not t refl)) (λ not. refl)
+-- what is true of each body of a set
+set_cases : (P : Body → Type 0) → ((bs : List Block) → P (Seq bs)) → ((dir : ℕ) (end : Place) (es : List Entry) (bs : List Block) → P (Part dir end es bs)) → ((t : ℕ) → P (Unreadable t)) → P Other
+    → (g : Geometry) (tracks : List (List ℕ)) (name : List ℕ) (attr : Attr) (extents : List Run) (lstar : List ℕ) → P (body_of g tracks name attr extents lstar)
+unfolding body_of
+set_cases P good part bad other g tracks name attr extents lstar = by (is_sequential name attr) (is_partitioned name attr) (is_catalog name)
+  where
+    by : (a b c : Bool) → P (cond a (seq_body g tracks extents lstar) (cond b (part_body g tracks extents lstar) (cond c (Unreadable 0) Other)))
+    by true b c = seq_cases P good bad g tracks extents lstar
+    by false true c = part_or_unread g tracks extents lstar P part bad
+    by false false true = bad 0
+    by false false false = other
+
+-- the body of a sequential set
+pub sequential_is : (g : Geometry) (tracks : List (List ℕ)) (name : List ℕ) (attr : Attr) (extents : List Run) (lstar : List ℕ) → is_sequential name attr ≡ true → body_of g tracks name attr extents lstar ≡ seq_body g tracks extents lstar
+unfolding body_of
+sequential_is g tracks name attr extents lstar is =
+    ap (λ (b : Bool). cond b (seq_body g tracks extents lstar) (cond (is_partitioned name attr) (part_body g tracks extents lstar) (cond (is_catalog name) (Unreadable 0) Other))) is
 
 -- one of another kind has no block
 pub no_block : (g : Geometry) (tracks : List (List ℕ)) (name : List ℕ) (attr : Attr) (extents : List Run) (lstar : List ℕ) → kind_of (body_of g tracks name attr extents lstar) ≢ kinds.Seq
-    → ((t : ℕ) → kind_of (body_of g tracks name attr extents lstar) ≢ kinds.Unreadable t) → readable (body_of g tracks name attr extents lstar) ≡ Ok []
-no_block = set_cases (λ b. kind_of b ≢ kinds.Seq → ((t : ℕ) → kind_of b ≢ kinds.Unreadable t) → readable b ≡ Ok []) (λ bs not_seq not. absurd (not_seq refl)) (λ t not_seq not. absurd (not t refl)) (λ not_seq not. refl)
+    → kind_of (body_of g tracks name attr extents lstar) ≢ kinds.Part → ((t : ℕ) → kind_of (body_of g tracks name attr extents lstar) ≢ kinds.Unreadable t) → readable (body_of g tracks name attr extents lstar) ≡ Ok []
+no_block = set_cases (λ b. kind_of b ≢ kinds.Seq → kind_of b ≢ kinds.Part → ((t : ℕ) → kind_of b ≢ kinds.Unreadable t) → readable b ≡ Ok []) (λ bs not_seq not_part not. absurd (not_seq refl)) (λ dir end es bs not_seq not_part not. absurd (not_part refl))
+    (λ t not_seq not_part not. absurd (not t refl)) (λ not_seq not_part not. refl)
+
+-- what isn't a partitioned set has no directory, and no entry that can be read
+pub record HasNoEntry (b : Body) : Type 0 where
+  pub entries : entries_in b ≡ Ok []
+  pub size : directory_size b ≡ 0
+
+pub no_entry : (b : Body) → kind_of b ≢ kinds.Part → ((t : ℕ) → kind_of b ≢ kinds.Unreadable t) → HasNoEntry b
+no_entry (Seq blocks) not_part not = record { entries = refl; size = refl }
+no_entry (Part dir end entries blocks) not_part not = absurd (not_part refl)
+no_entry Catalog not_part not = record { entries = refl; size = refl }
+no_entry Other not_part not = record { entries = refl; size = refl }
+no_entry (Unreadable track) not_part not = absurd (not track refl)
 
 -- a readable sequential body
 pub whole_body : (b : Body) → kinds.Seq ≡ kind_of b → (bs : List Block) × (b ≡ Seq bs)
@@ -225,15 +216,46 @@ whole_body (Unreadable track) is = absurd cc
 pub body_sequential : (g : Geometry) (tracks : List (List ℕ)) (name : List ℕ) (attr : Attr) (extents : List Run) (lstar : List ℕ) → kinds.Seq ≡ kind_of (body_of g tracks name attr extents lstar)
     → body_of g tracks name attr extents lstar ≡ seq_body g tracks extents lstar
 unfolding body_of
-body_sequential g tracks name attr extents lstar = by (is_sequential name attr) (is_catalog name || is_partitioned name attr)
+body_sequential g tracks name attr extents lstar = by (is_sequential name attr) (is_partitioned name attr) (is_catalog name)
   where
-    by : (a b : Bool) → kinds.Seq ≡ kind_of (cond a (seq_body g tracks extents lstar) (cond b (Unreadable 0) Other)) → cond a (seq_body g tracks extents lstar) (cond b (Unreadable 0) Other) ≡ seq_body g tracks extents lstar
-    by true b is = refl
-    by false true is = absurd cc
-    by false false is = absurd cc
+    part : Body
+    part = part_body g tracks extents lstar
 
-no_directory : (g : Geometry) (tracks : List (List ℕ)) (name : List ℕ) (attr : Attr) (extents : List Run) (lstar : List ℕ) → directory_size (body_of g tracks name attr extents lstar) ≡ 0
-no_directory = set_cases (λ b. directory_size b ≡ 0) (λ bs. refl) (λ t. refl) refl
+    by : (a b c : Bool) → kinds.Seq ≡ kind_of (cond a (seq_body g tracks extents lstar) (cond b part (cond c (Unreadable 0) Other))) → cond a (seq_body g tracks extents lstar) (cond b part (cond c (Unreadable 0) Other)) ≡ seq_body g tracks extents lstar
+    by true b c is = refl
+    by false true c is = absurd (part_or_unread g tracks extents lstar (λ x. kinds.Seq ≡ kind_of x → ⊥) (λ dir end es bs same. absurd cc) (λ t same. absurd cc) is)
+    by false false true is = absurd cc
+    by false false false is = absurd cc
+
+-- and that of a set with a directory is that of a partitioned one
+pub body_partitioned : (g : Geometry) (tracks : List (List ℕ)) (name : List ℕ) (attr : Attr) (extents : List Run) (lstar : List ℕ) → kinds.Part ≡ kind_of (body_of g tracks name attr extents lstar)
+    → (body_of g tracks name attr extents lstar ≡ part_body g tracks extents lstar) × (is_partitioned name attr ≡ true)
+unfolding body_of
+body_partitioned g tracks name attr extents lstar = by (is_sequential name attr) (is_partitioned name attr) (is_catalog name)
+  where
+    part : Body
+    part = part_body g tracks extents lstar
+
+    by : (a b c : Bool) → kinds.Part ≡ kind_of (cond a (seq_body g tracks extents lstar) (cond b part (cond c (Unreadable 0) Other))) → (cond a (seq_body g tracks extents lstar) (cond b part (cond c (Unreadable 0) Other)) ≡ part) × (b ≡ true)
+    by true b c is = absurd (seq_cases (λ x. kinds.Part ≡ kind_of x → ⊥) (λ bs same. absurd cc) (λ t same. absurd cc) g tracks extents lstar is)
+    by false true c is = (refl, refl)
+    by false false true is = absurd cc
+    by false false false is = absurd cc
+
+-- a readable partitioned body
+pub record IsWholePart (b : Body) : Type 0 where
+  pub dir : ℕ
+  pub end : Place
+  pub entries : List Entry
+  pub blocks : List Block
+  pub body : b ≡ Part dir end entries blocks
+
+pub whole_part : (b : Body) → kinds.Part ≡ kind_of b → IsWholePart b
+whole_part (Seq blocks) is = absurd cc
+whole_part (Part dir end entries blocks) is = record { dir = dir; end = end; entries = entries; blocks = blocks; body = refl }
+whole_part Catalog is = absurd cc
+whole_part Other is = absurd cc
+whole_part (Unreadable track) is = absurd cc
 
 module _ (shelf : Shelf) (n : ℕ) (v : Vol) (has : HasVolume shelf n v) where
   abbrev slots : List VtocSlot
@@ -276,9 +298,9 @@ module _ (shelf : Shelf) (n : ℕ) (v : Vol) (has : HasVolume shelf n v) where
   unfolding body_on data_set_of
   body_found name f set = sym (ap (λ (o : Option DataSet). option_map_or (λ (x : DataSet). x.body) o Other) set.1)
 
-  pub body_none : (name : List ℕ) → IsSetOn has.image v (set_on shelf n name) None → IsUnread None (body_on shelf n name)
+  pub body_none : (name : List ℕ) → IsSetOn has.image v (set_on shelf n name) None → body_on shelf n name ≡ Other
   unfolding body_on
-  body_none name set = subst (IsUnread None) (sym (ap (λ (o : Option DataSet). option_map_or (λ (x : DataSet). x.body) o Other) set)) refl
+  body_none name set = ap (λ (o : Option DataSet). option_map_or (λ (x : DataSet). x.body) o Other) set
 
   pub blocks_none : (name : List ℕ) → IsSetOn has.image v (set_on shelf n name) None → readable (body_on shelf n name) ≡ Ok []
   unfolding body_on
@@ -296,18 +318,6 @@ module _ (shelf : Shelf) (n : ℕ) (v : Vol) (has : HasVolume shelf n v) where
       → track_in unread f.name ≡ broken_by f.name (attr_of f) (body_here has.image v f)
   unfolding data_set_of
   known_set name f unread set lists = ap (track_in unread) (named name f set) ∙ lists name ∙ ap (option_and_then broken_in) set.1
-
-  -- it is a sequential one, or can't be broken
-  pub sequential_found : (name : List ℕ) (f : F1) → IsSetOn has.image v (set_on shelf n name) (Some f) → kind_by f.name (attr_of f) ≡ set_kinds.Seq
-      → body_here has.image v f ≡ body_in has.image v f → IsSequentialOn has.image v (set_on shelf n name) (Some f)
-  unfolding data_set_of
-  sequential_found name f set kind body = (set.0, sequential_by f.name (attr_of f) kind, set.1, body)
-
-  pub sequential_not : (name : List ℕ) (f : F1) → IsSetOn has.image v (set_on shelf n name) (Some f) → (kind_by f.name (attr_of f) ≡ set_kinds.Seq → ⊥) → IsSequentialOn has.image v (set_on shelf n name) None
-  unfolding data_set_of
-  sequential_not name f set differs =
-      ap (option_and_then broken_in) set.1
-      ∙ ap (λ (b : Bool). cond b (broken_at (body_here has.image v f)) None) (not_sequential f.name (attr_of f) differs)
 
   -- the catalog
   pub catalog_here : (b : Bool) → b ≡ list_any (λ d. is_named catalog_name (Ok d)) v.slots.items → nodes_in (catalog_on shelf n) ≡ cond b (Err 0) (Ok [])
@@ -342,11 +352,10 @@ module _ (shelf : Shelf) (n : ℕ) (v : Vol) (has : HasVolume shelf n v) where
   extent_none k name set = sym (ap (option_and_then (λ (x : DataSet). slice_get x.extents k)) set)
 
   pub info_found : (name : List ℕ) (f : F1) (info : SetInfo) → IsSetOn has.image v (set_on shelf n name) (Some f) → info.attr ≡ attr_of f → info.kind ≡ kind_of (body_here has.image v f)
-      → info.extents ≡ length (extents_in has.image v f) → info.tracks ≡ tracks_in (extents_in has.image v f) → info.dir ≡ 0 → Some info ≡ option_map set_info (set_on shelf n name)
+      → info.extents ≡ length (extents_in has.image v f) → info.tracks ≡ tracks_in (extents_in has.image v f) → info.dir ≡ directory_size (body_here has.image v f) → Some info ≡ option_map set_info (set_on shelf n name)
   unfolding set_info data_set_of
   info_found name f info set attr kind extents many dir =
-      let none = dir ∙ sym (no_directory v.geometry tracks f.name (attr_of f) (extents_in has.image v f) f.lstar) in
-      (λ i. Some (record { attr = attr i; kind = kind i; extents = extents i; tracks = many i; dir = none i })) ∙ sym (ap (option_map set_info) set.1)
+      (λ i. Some (record { attr = attr i; kind = kind i; extents = extents i; tracks = many i; dir = dir i })) ∙ sym (ap (option_map set_info) set.1)
 
   pub info_none : (name : List ℕ) → IsSetOn has.image v (set_on shelf n name) None → None ≡ option_map set_info (set_on shelf n name)
   info_none name set = sym (ap (option_map set_info) set)
@@ -371,9 +380,9 @@ module _ (shelf : Shelf) (n : ℕ) (none : slice_get shelf.volumes n ≡ None) w
   unfolding extent_on
   extent_missing k name = sym (ap (option_and_then (λ (x : DataSet). slice_get x.extents k)) (no_set_there name))
 
-  pub body_missing : (name : List ℕ) → IsUnread None (body_on shelf n name)
+  pub body_missing : (name : List ℕ) → body_on shelf n name ≡ Other
   unfolding body_on
-  body_missing name = subst (IsUnread None) (sym (ap (λ (o : Option DataSet). option_map_or (λ (x : DataSet). x.body) o Other) (no_set_there name))) refl
+  body_missing name = ap (λ (o : Option DataSet). option_map_or (λ (x : DataSet). x.body) o Other) (no_set_there name)
 
   pub blocks_missing : (name : List ℕ) → readable (body_on shelf n name) ≡ Ok []
   unfolding body_on

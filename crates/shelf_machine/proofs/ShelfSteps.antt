@@ -1,7 +1,7 @@
 -- An operation on the volume of one image, as one of the shelf of several.
 use Rattle.std.proofs.Common.{◌≡◌, ◌≢◌, ⊎_elim, inl, inr, ℕ, List, [], set, Option, Some, refl, sym, ap, subst, ◌∙◌}
 use Rattle.std.specs.Prelude.{◌⊎◌, Result, Ok, Err, slice_get, unwrap_or}
-use Rattle.dadsm_ops.specs.Operations.{ChangesVtoc, IsBeforeOrAfter, Operates}
+use Rattle.dadsm_ops.specs.Operations.{ChangesImage, IsBeforeOrAfter, Operates}
 use Rattle.free_rebuild.specs.Repairs.{image_named}
 use Rattle.stop_model.specs.Files.{File, file_of}
 use Rattle.stop_model.specs.Moments.{Elapses, Meaning, Same}
@@ -61,7 +61,7 @@ module _ (names : List (List ℕ)) (volumes : List Volume) (before : List File) 
 -- an operation on the volume of this number, which keeps its serial, on the image of this name
 module _ (names : List (List ℕ)) (volumes : List Volume) (m m' : Meaning (List File)) (stand : AllStand (images_named m.state names) volumes)
     (apart : AreApart names) (serials : AreApart (serials_in volumes)) (k : ℕ) (name : List ℕ) (at : slice_get names k ≡ Some name)
-    (op : Op) (number : volume_number op ≡ k) (keeps : (w after : Volume) → step_on op w ≡ Ok after → after.serial.bytes ≡ w.serial.bytes) (v : Vol) where
+    (op : Op) (number : volume_number op ≡ k) (keeps : (w after : Volume) → step_on op w ≡ Ok after → after.serial.bytes ≡ w.serial.bytes) (v : Vol) (Changes : List ℕ → List ℕ → Type 0) where
   abbrev shelf : Shelf
   shelf = record { volumes = volumes }
 
@@ -91,12 +91,12 @@ module _ (names : List (List ℕ)) (volumes : List Volume) (m m' : Meaning (List
       (λ after. inr (stands_after w after.0 here files others after.1 after.2))
       stands
 
-  module _ {T : Type 0} (r : Result T StoreErr) (run : Operates name (step_on op) v m m' r) where
+  module _ {T : Type 0} (r : Result T StoreErr) (run : Operates name (step_on op) v Changes m m' r) where
     here : slice_get volumes k ≡ Some run.does.volume
     here = volume_here names volumes m.state stand apart serials k name at run.does.volume run.does.before
 
     -- the shelf at a stop
-    shelf_at : (files : List File) → ChangesVtoc name v.geometry v.vtoc m.state files → IsBeforeOrAfter run.does.volume (step_on op run.does.volume) (image_named files name)
+    shelf_at : (files : List File) → ChangesImage name Changes m.state files → IsBeforeOrAfter run.does.volume (step_on op run.does.volume) (image_named files name)
         → (shelf_under names files ≡ shelf_under names m.state) ⊎ (step (shelf_under names m.state) op ≡ Ok (shelf_under names files))
     shelf_at files changes stands = stands_before_or_after run.does.volume here files changes.others stands
 
@@ -113,7 +113,7 @@ module _ (names : List (List ℕ)) (volumes : List Volume) (m m' : Meaning (List
     moments = elapses_seen (shelf_under names) (elapses_weaker run.does.moments (λ files p stop. (shelf_at files stop.0.changes stop.0.stands, stop.1)))
 
   -- so the operation is one of the shelf
-  pub applies : {T : Type 0} (r : Result T StoreErr) → Operates name (step_on op) v m m' r → Applies op (seen (shelf_under names) m) (seen (shelf_under names) m') (reported r)
+  pub applies : {T : Type 0} (r : Result T StoreErr) → Operates name (step_on op) v Changes m m' r → Applies op (seen (shelf_under names) m) (seen (shelf_under names) m') (reported r)
   applies (Ok x) run = record {
     answer = done_step;
     idle = λ none. ⊎_elim (λ refused. same_seen (shelf_under names) (idle (Ok x) run refused.0 refused.1)) (λ short. absurd (let wrong = short in cc)) none;
@@ -147,7 +147,7 @@ module _ (names : List (List ℕ)) (volumes : List Volume) (m m' : Meaning (List
   }
 
   -- where it is idle, nothing but the time changes in the files too
-  pub idle_files : {T : Type 0} (r : Result T StoreErr) → Operates name (step_on op) v m m' r → IsIdle (step (shelf_under names m.state) op) (reported r) → Same m m'
+  pub idle_files : {T : Type 0} (r : Result T StoreErr) → Operates name (step_on op) v Changes m m' r → IsIdle (step (shelf_under names m.state) op) (reported r) → Same m m'
   idle_files (Ok x) run none = ⊎_elim (λ refused. idle (Ok x) run refused.0 refused.1) (λ short. absurd (let wrong = short in cc)) none
   idle_files (Err (store.Refused why)) run none = run.idle why (run.refused why refl)
   idle_files (Err store.Memory) run none = run.memory refl

@@ -1,27 +1,27 @@
--- Which bodies of a volume can't be read, set by set.
-use Rattle.std.specs.Prelude.{ℕ, List, [], ◌∷◌, slice_get, Option, Some, None, option_and_then}
-use Rattle.std.specs.List.{flat_map}
-use Rattle.std.specs.Option.{option_map_or}
+-- Which bodies of a volume can't be read, by the kinds of its data sets.
+use Rattle.std.specs.Prelude.{ℕ, List, Option, Some, None, if◌then◌else◌}
+use Rattle.std.specs.List.{filter_map}
 use Rattle.ebcdic_names.specs.declared.names.Dsn.{Dsn}
-use Rattle.vol_model.specs.declared.contents.DataSet.{DataSet}
+use Rattle.mount_repair.specs.Sets.{names_and_kinds}
+use Rattle.vol_model.specs.declared.answers.Kind.{Kind}
+use Rattle.vol_model.specs.declared.answers.Kind.TheVariants.{Unreadable}
 use Rattle.vol_model.specs.declared.contents.Volume.{Volume}
-use Rattle.vol_model.specs.Shelf.{set_of}
-use Rattle.shelf_machine.specs.Unread.{broken_in}
+use Rattle.vol_model.specs.Shelf.{is_catalog}
 use Rattle.shelf_machine.specs.declared.unread.Unread.{Unread}
 
--- the entry of a data set that can't be read from a track on; none of another
-abbrev pub entry_of : Dsn → Option ℕ → List Unread
-entry_of dsn None = []
-entry_of dsn (Some track) = record { dsn = dsn; track = track } ∷ []
+-- the entry of a data set of this kind, if its body can't be read
+abbrev pub entry_of : Dsn → Kind → Option Unread
+entry_of dsn (Unreadable track) = Some (record { dsn = dsn; track = track })
+entry_of dsn kind = None
 
--- the entry of a name of a volume
-abbrev pub unread_named : Volume → Dsn → List Unread
-unread_named w dsn = entry_of dsn (option_and_then broken_in (set_of dsn.bytes w))
+-- that of one by its name and kind; the catalog has none
+abbrev pub unread_entry : Dsn × Kind → Option Unread
+unread_entry set = if is_catalog set.0.bytes then None else entry_of set.0 set.1
 
--- the entry of its k-th data set, from 0
-abbrev pub unread_at : Volume → ℕ → List Unread
-unread_at w k = option_map_or (λ (x : DataSet). unread_named w x.name) (slice_get w.sets k) []
+-- those of all
+abbrev pub unread_in : List (Dsn × Kind) → List Unread
+unread_in sets = filter_map unread_entry sets
 
--- those of all its data sets
+-- the data sets of a volume but SYSCTLG whose bodies can't be read
 abbrev pub all_unread : Volume → List Unread
-all_unread w = flat_map (λ (x : DataSet). unread_named w x.name) w.sets
+all_unread w = unread_in (names_and_kinds w)

@@ -1,6 +1,7 @@
 pub mod Opening
 pub mod Props
 pub mod Reads
+pub mod Fronts
 pub mod Pending
 pub mod Machine
 pub mod SparedShelves
@@ -15,7 +16,10 @@ pub mod Operating
 pub mod Parts
 pub mod Opened
 pub mod Unread
+pub mod LibraryProps
 pub mod Known
+pub mod Libraries
 pub mod Checking
 pub mod Blocks
 pub mod Refusals
+pub mod Entries

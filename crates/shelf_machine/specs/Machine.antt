@@ -1,11 +1,10 @@
 -- The shelf that the machine over several images holds, and what it promises besides.
-use Rattle.std.specs.Prelude.{◌≡◌, ℕ, ◌+◌, ◌*◌, ◌≤◌, Bool, true, false, List, [], ◌∷◌, ◌++◌, length, map, replicate, slice_get, vec_capacity, Option, Some, None, Result, Ok, Err}
+use Rattle.std.specs.Prelude.{◌≡◌, ℕ, ◌≤◌, Bool, true, false, List, [], ◌∷◌, ◌++◌, length, map, replicate, slice_get, Option, Some, None, Result, Ok, Err}
 use Rattle.ckd_image.specs.Device.{row_of}
 use Rattle.ckd_image.specs.declared.header.Geometry.{Geometry}
 use Rattle.hall_core.specs.Facts.{Attached, Facts, unit_of}
 use Rattle.stop_model.specs.Files.{File}
 use Rattle.stop_model.specs.Moments.{Meaning}
-use Rattle.pack_spec.specs.Label.{tracks_of}
 use Rattle.pack_spec.specs.Shelf.{UnitRefusal, shelf_of}
 use Rattle.vol_model.specs.Calls.{Bytes, Files, Known, Status}
 use Rattle.vol_model.specs.Writing.{OpenWriter, begun}
@@ -19,6 +18,9 @@ use Rattle.vtoc_index.specs.Kept.{IsKept}
 use Rattle.vtoc_index.specs.Names.{AreByName, name_at}
 use Rattle.shelf_machine.specs.Opening.{AreApart, AreSafe, images_named, names_of}
 use Rattle.free_rebuild.specs.Settled.{is_settled_vtoc}
+use Rattle.pds_directory.specs.Packed.{are_packed}
+pub use Rattle.mount_repair.specs.Sets.{HasRoom}
+use Rattle.shelf_machine.specs.Fronts.{behind_first}
 use Rattle.shelf_machine.specs.Pending.{puts_on}
 use Rattle.shelf_machine.specs.declared.writer.Writer.{Writer}
 
@@ -66,19 +68,22 @@ is_open_in None = false
 abbrev pub status_with : Bool → Option Writer → ℕ → Facts → List Vol → Status
 status_with is_sound writer done facts vols = record { is_sound = is_sound; is_open = is_open_in writer; done = done; base = base_of facts vols; dev_faults = facts.dev_faults; print_faults = facts.print_faults }
 
--- the writer and what it put, by the image of its pack; where none is open, some writer
-abbrev pub writer_in : List File → List Attached → List Vol → Option Writer → OpenWriter
-writer_in files attached vols (Some w) = record {
+-- a writer and all that it placed, by the image of its pack
+abbrev pub placed_in : List File → List Attached → List Vol → Writer → OpenWriter
+placed_in files attached vols w = record {
   target = record { v = w.v; dsn = w.dsn; mode = w.mode };
   puts = puts_on files attached vols w;
 }
+
+-- the writer and what was put by it: all that it placed, but for what goes in front; where none is open, some writer
+abbrev pub writer_in : List File → List Attached → List Vol → Option Writer → OpenWriter
+writer_in files attached vols (Some w) = record {
+  target = record { v = w.v; dsn = w.dsn; mode = w.mode };
+  puts = behind_first w.first (puts_on files attached vols w);
+}
 writer_in files attached vols None = begun (record { v = 0; dsn = record { bytes = replicate 44 0x40 }; mode = Fill })
 
--- an index has room for 16 free runs more than its pack can have: these are at most half as many as its tracks, rounded up
-abbrev pub HasRoom : Vol → Type 0
-HasRoom v = tracks_of v.geometry + 33 ≤ 2 * vec_capacity v.free
-
--- and so has each
+-- each index has room for free runs
 abbrev pub AreRoomy : List Vol → Type 0
 AreRoomy vols = (k : ℕ) (v : Vol) → slice_get vols k ≡ Some v → HasRoom v
 
@@ -95,10 +100,11 @@ abbrev pub AreInOrder : List Vol → Type 0
 AreInOrder vols = (k : ℕ) (v : Vol) → slice_get vols k ≡ Some v
     → AreByName (name_at v.slots.items) v.by_name.items
 
--- Each index is that of its unit's image, which is settled as far as its VTOC goes.
+-- Each index is that of its unit's image, which is settled: its VTOC is, and each directory that can be read is packed.
 pub record IsKeptSettled (image : List ℕ) (v : Vol) : Type 0 where
   pub kept : IsKept image v
   pub settled : is_settled_vtoc image ≡ true
+  pub packed : are_packed image ≡ true
 
 abbrev pub AreKept : List File → List Attached → List Vol → Type 0
 AreKept files attached vols = (k : ℕ) (v : Vol) → slice_get vols k ≡ Some v

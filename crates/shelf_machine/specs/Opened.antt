@@ -11,7 +11,7 @@ use Rattle.pack_spec.specs.declared.MountErr.TheVariants.{Memory, Device}
 use Rattle.vol_model.specs.Calls.{Files}
 use Rattle.vol_model.specs.declared.contents.Shelf.{Shelf}
 use Rattle.shelf_machine.specs.Machine.{LeavesJust, base_of}
-use Rattle.shelf_machine.specs.Opening.{AreSettledVtocs, images_named}
+use Rattle.shelf_machine.specs.Opening.{AreSettledImages, images_named}
 use Rattle.shelf_machine.specs.Parts.{PromisesSafety, hall_of, indexes_of, is_open, is_sound, meaning_of, status_of, units_in}
 use Rattle.shelf_machine.specs.declared.machine.HallShelf.{HallShelf}
 use Rattle.shelf_machine.specs.declared.open_err.OpenErr.{OpenErr}
@@ -34,14 +34,14 @@ pub record IsOpened {X : Type 0} {g : Ghosts X} (units : List ℕ) (machine : Ha
   pub done : (status_of machine).done ≡ 0
   pub base : (status_of machine).base ≡ base_of (g.facts (hall_of machine)) (indexes_of machine)
 
--- The shelf of the images is opened: they stand for it as before, durably, and are settled as far as their VTOCs go; and where stops left nothing else than was there, the images stayed safe.
+-- The shelf of the images is opened: they stand for it as before, durably, and are settled; and where stops left nothing else than was there, the images stayed safe.
 pub record OpensShelf {X : Type 0} {g : Ghosts X} (names : List (List ℕ)) (old : Meaning (List File))
     (machine : HallShelf X g) : Type 0 where
   pub shelf : Shelf
   pub before : shelf_of (images_named old.state names) ≡ Ok shelf
   pub after : shelf_of (images_named (g.meaning (hall_of machine)).state names) ≡ Ok shelf
   pub state : (meaning_of machine).state ≡ shelf
-  pub settled : AreSettledVtocs names (g.meaning (hall_of machine)).state
+  pub settled : AreSettledImages names (g.meaning (hall_of machine)).state
   pub durable : IsDurable (g.meaning (hall_of machine))
   pub promise : (t : ℕ) → t ≤ old.clock → LeavesJust old t old.state
       → PromisesSafety machine t (Files old.state)
@@ -62,7 +62,7 @@ pub record OpenCall {X : Type 0} {g : Ghosts X} (old : Facts) (result : Result (
   pub device : IsWhy Device result → Rose old.dev_faults (g.facts (hall_left result)).dev_faults
   pub others : ¬ IsWhy Device result → (g.facts (hall_left result)).dev_faults ≡ old.dev_faults
 
--- What a sound machine leaves of its images where it is closed: they are settled as far as their VTOCs go, and every stop leaves images of the shelf that it held.
+-- What a sound machine leaves of its images where it is closed: they are settled, and every stop leaves images of the shelf that it held.
 pub record LeavesSettled {X : Type 0} {g : Ghosts X} (machine : HallShelf X g) (names : List (List ℕ)) : Type 0 where
-  pub settled : AreSettledVtocs names (g.meaning (hall_of machine)).state
+  pub settled : AreSettledImages names (g.meaning (hall_of machine)).state
   pub durable : IsDurable (meaning_of machine)

@@ -1,11 +1,11 @@
--- What the opening of a shelf over the images of units leaves, in this project's profile: all are read, then their serials are compared, then each VTOC that isn't settled is repaired.
+-- What the opening of a shelf over the images of units leaves, in this project's profile: all are scanned, then their serials are compared, then each that isn't settled is repaired.
 use Rattle.std.specs.Prelude.{◌≡◌, ◌⊎◌, ℕ, ◌≤◌, List, length, map, position, slice_get, Some, None, Ok, Err}
 use Rattle.std.specs.List.{range_with_len}
 use Rattle.std.specs.Str.{bytes_eq}
 use Rattle.hall_core.specs.Facts.{Attached, unit_of}
 use Rattle.stop_model.specs.Files.{File, file_of}
 use Rattle.stop_model.specs.Moments.{Meaning, Elapses, Same}
-use Rattle.pack_spec.specs.Settled.{IsGuarded, IsSettledVtoc}
+use Rattle.pack_spec.specs.Settled.{IsGuarded, IsSettled}
 use Rattle.pack_spec.specs.Shelf.{UnitRefusal, shelf_of}
 use Rattle.vol_model.specs.declared.contents.Shelf.{Shelf}
 use Rattle.vol_model.specs.declared.contents.Volume.{Volume}
@@ -44,10 +44,10 @@ pub record AreSafe (names : List (List ℕ)) (volumes : List Volume)
   pub others : (other : List ℕ) → position (bytes_eq other) names ≡ None
       → file_of files other ≡ file_of before other
 
--- each image is settled as far as its VTOC goes
-abbrev pub AreSettledVtocs : List (List ℕ) → List File → Type 0
-AreSettledVtocs names files = (k : ℕ) (name : List ℕ) → slice_get names k ≡ Some name
-    → IsSettledVtoc (image_named files name)
+-- each image is settled
+abbrev pub AreSettledImages : List (List ℕ) → List File → Type 0
+AreSettledImages names files = (k : ℕ) (name : List ℕ) → slice_get names k ≡ Some name
+    → IsSettled (image_named files name)
 
 -- The opening of the shelf of images that stand for one: a stop leaves images that stand for the same shelf and are safe.
 pub record OpensSafely (names : List (List ℕ)) (shelf : Shelf) (old new : Meaning (List File)) : Type 0 where

@@ -1,16 +1,15 @@
 -- What an operation on the volume of one of several images leaves, by their shelf.
-use Rattle.std.specs.Prelude.{◌≡◌, ◌<◌, ◌^◌, true, false, ℕ, List, vec_capacity, Result}
-use Rattle.ebcdic_names.specs.declared.names.Dsn.{Dsn}
+use Rattle.std.specs.Prelude.{◌≡◌, true, ℕ, List, vec_capacity, Result}
 use Rattle.hall_core.specs.Facts.{Attached}
 use Rattle.stop_model.specs.Files.{File}
 use Rattle.stop_model.specs.Moments.{Meaning, IsDurable}
 use Rattle.stop_model.specs.Steps.{seen}
 use Rattle.vol_model.specs.Calls.{Applies, IsIdle, Keeps, sound_after}
-use Rattle.vol_model.specs.Shelf.{is_catalog, step}
+use Rattle.vol_model.specs.Shelf.{step}
 use Rattle.vol_model.specs.declared.answers.StoreErr.{StoreErr}
 use Rattle.vol_model.specs.declared.requests.Op.{Op}
-use Rattle.vol_model.specs.declared.requests.Request.{Request}
 use Rattle.vtoc_index.specs.declared.vol.Vol.{Vol}
+pub use Rattle.mount_repair.specs.Sets.{IsRoomed}
 use Rattle.shelf_machine.specs.Machine.{AreKept, KeepsSafe, LeavesJust, shelf_under}
 use Rattle.shelf_machine.specs.Reporting.{reported}
 
@@ -26,12 +25,6 @@ pub record OperatesOnShelf {T : Type 0} (op : Op) (names names' : List (List ℕ
   pub kept : sound_after (reported result) ≡ true → AreKept m'.state attached vols'
   pub durable : sound_after (reported result) ≡ true → IsDurable m'
 
--- A data set that can be made yet: without a directory, not the catalog, and with a secondary quantity of 3 bytes.
-pub record CanBeMade (dsn : Dsn) (request : Request) (dir : ℕ) : Type 0 where
-  pub flat : dir ≡ 0
-  pub catalog : is_catalog dsn.bytes ≡ false
-  pub quantities : request.secondary < 2 ^ 24
-
 -- The index is one of the same pack as another, with the same room for free runs.
 pub record IsSamePack (v v' : Vol) : Type 0 where
   pub unit : v'.unit ≡ v.unit
@@ -39,9 +32,3 @@ pub record IsSamePack (v v' : Vol) : Type 0 where
   pub geometry : v'.geometry ≡ v.geometry
   pub vtoc : v'.vtoc ≡ v.vtoc
   pub room : vec_capacity v'.free ≡ vec_capacity v.free
-
--- The index is as another, but for the room of its lists of free runs and of names.
-pub record IsRoomed (v v' : Vol) : Type 0 where
-  pub others : v' ≡ record v { free = v'.free; by_name = v'.by_name }
-  pub free : v'.free.items ≡ v.free.items
-  pub names : v'.by_name.items ≡ v.by_name.items

@@ -1,5 +1,5 @@
--- The packs of several units, as they are read, compared and repaired.
-use Rattle.std.specs.Prelude.{◌≡◌, ◌≢◌, ◌<◌, ℕ, List, position, slice_get, take, Some, None, Result, Ok, Err, OnOk}
+-- The packs of several units, as they are scanned, compared and repaired.
+use Rattle.std.specs.Prelude.{◌≡◌, ◌≢◌, ◌<◌, ℕ, List, map, position, slice_get, take, Some, None, Result, Ok, Err, OnOk}
 use Rattle.std.specs.Str.{bytes_eq}
 use Rattle.hall_core.specs.Facts.{Attached, Facts, ReportedCall, unit_of}
 use Rattle.stop_model.specs.Files.{File}
@@ -9,19 +9,37 @@ use Rattle.pack_spec.specs.declared.MountErr.{MountErr}
 use Rattle.pack_spec.specs.declared.MountErr.TheVariants.{Memory, Device, SameSerial}
 use Rattle.vol_model.specs.declared.contents.Shelf.{Shelf}
 use Rattle.free_rebuild.specs.Repairs.{image_named}
-use Rattle.vtoc_index.specs.Index.{IsMounted, IsOfUnit}
+use Rattle.mount_repair.specs.Scans.{IsScanOf, IsScanOn}
+use Rattle.mount_repair.specs.declared.scanned.Scan.{Scan}
+use Rattle.vtoc_index.specs.Index.{IsMounted}
 use Rattle.vtoc_index.specs.declared.vol.Vol.{Vol}
-use Rattle.shelf_machine.specs.Known.{geometries_of}
-use Rattle.shelf_machine.specs.Machine.{AreIndexes, AreInOrder, AreKept, AreRoomy, serials_of, units_of}
+use Rattle.shelf_machine.specs.Checking.{unread_in}
+use Rattle.shelf_machine.specs.Known.{AreFresh, buffers_of, geometries_of}
+use Rattle.shelf_machine.specs.Machine.{AreIndexes, AreInOrder, AreKept, serials_of, units_of}
 use Rattle.shelf_machine.specs.Opening.{OpensSafely, images_named}
+use Rattle.shelf_machine.specs.declared.known.Known.{Known}
 use Rattle.shelf_machine.specs.declared.stopped.Stopped.{Stopped}
 
--- Indexes of the packs on units, in order, with room for free runs, and their data sets in the order of their names.
-pub record AreRead (attached : List Attached) (units : List ℕ) (vols : List Vol) : Type 0 where
-  pub numbers : units_of vols ≡ units
-  pub each : (k : ℕ) (v : Vol) → slice_get vols k ≡ Some v → IsOfUnit attached v
-  pub room : AreRoomy vols
-  pub order : AreInOrder vols
+-- the indexes of scans
+abbrev pub indexes_of : List Scan → List Vol
+indexes_of scans = map (λ s. s.vol) scans
+
+-- Scans of the packs on units, in order.
+pub record AreScanned (attached : List Attached) (units : List ℕ) (scans : List Scan) : Type 0 where
+  pub numbers : units_of (indexes_of scans) ≡ units
+  pub each : (k : ℕ) (s : Scan) → slice_get scans k ≡ Some s → IsScanOn attached s.vol.unit s
+
+-- each scan is one of its unit's image, which stands for a volume
+abbrev pub AreScansOf : List File → List Attached → List Scan → Type 0
+AreScansOf files attached scans = (k : ℕ) (s : Scan) → slice_get scans k ≡ Some s
+    → IsScanOf (image_named files (unit_of attached s.vol.unit).name) s
+
+-- What is known of the bodies on packs that were scanned: which can't be read, and no track and no library.
+pub record AreKnown (scans : List Scan) (known : List Known) : Type 0 where
+  pub buffers : buffers_of known ≡ geometries_of (indexes_of scans)
+  pub fresh : AreFresh known
+  pub unread : (n : ℕ) (b : Known) → slice_get known n ≡ Some b → (s : Scan) × (slice_get scans n ≡ Some s)
+      × (b.unread.items ≡ unread_in s.volume.items)
 
 -- each index is that of its unit's image, which stands for a volume
 abbrev pub AreMounted : List File → List Attached → List Vol → Type 0

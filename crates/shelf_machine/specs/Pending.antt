@@ -8,32 +8,33 @@ use Rattle.ebcdic_names.specs.declared.names.Dsn.{Dsn}
 use Rattle.hall_core.specs.Facts.{Attached, unit_of}
 use Rattle.stop_model.specs.Files.{File}
 use Rattle.stop_model.specs.Moments.{ElapsesExactly, IsDurable, LeavesSame, LeftNow, Meaning}
-use Rattle.pack_spec.specs.Blocks.{last_of}
 use Rattle.pack_spec.specs.Label.{records_on}
 use Rattle.pack_spec.specs.Rules.{has_extents}
 use Rattle.pack_spec.specs.Slots.{slots_of_vtoc}
-use Rattle.vol_model.specs.declared.answers.Mode.TheVariants.{Fill}
+use Rattle.pack_spec.specs.Volume.{attr_of}
+use Rattle.vol_model.specs.declared.answers.Mode.{Mode}
 use Rattle.vol_model.specs.declared.contents.Body.TheVariants.{Seq}
 use Rattle.vol_model.specs.Places.{Content, is_before, placed}
-use Rattle.vol_model.specs.Shelf.{blocks_of, is_catalog}
+use Rattle.vol_model.specs.Shelf.{blocks_of, fits_mode, is_catalog, put_first}
 use Rattle.vtoc_index.specs.declared.vol.Vol.{Vol}
 use Rattle.vtoc_index.specs.Index.{first_named}
 use Rattle.free_rebuild.specs.Repairs.{image_named}
 use Rattle.seq_access.specs.declared.writer.Writer.{Writer as BlockWriter}
-use Rattle.seq_access.specs.Bodies.{HasBlocks, IsSequential, body_in, owned_in}
-use Rattle.seq_access.specs.Writing.{AreSpared, body_so_far, has_put, puts_in}
+use Rattle.seq_access.specs.Bodies.{HasBlocks, IsWritable, body_of_set, last_in, owned_in}
+use Rattle.seq_access.specs.Writing.{AreSpared, body_so_far, front_in, has_put, puts_in}
+use Rattle.shelf_machine.specs.Fronts.{BeginsWell, firsts}
 use Rattle.shelf_machine.specs.declared.writer.Writer.{Writer}
 
 -- A writer of blocks stands on the mounted image of an index by this format 1, said by clauses of which each has one proof: see `writes_by`.
 pub record IsWritingBy (image : List ℕ) (v : Vol) (f : F1) (w : BlockWriter) : Type 0 where
   pub extents : has_extents v.geometry (slots_of_vtoc image v.geometry v.vtoc) f ≡ true
-  pub sequential : IsSequential f
-  pub body : HasBlocks (body_in image v f) (blocks_of (body_in image v f))
-  pub so_far : HasBlocks (body_so_far image v f w) (blocks_of (body_in image v f)
-      ++ placed v.geometry.device (Seq (blocks_of (body_in image v f))) (puts_in image v f w))
-  pub begun : has_put w ≡ false → w.last ≡ last_of f.lstar
+  pub writable : IsWritable (body_of_set image v f)
+  pub front : HasBlocks (front_in image v f) (blocks_of (front_in image v f))
+  pub so_far : HasBlocks (body_so_far image v f w) (blocks_of (front_in image v f)
+      ++ placed v.geometry.device (Seq (blocks_of (front_in image v f))) (puts_in image v f w))
+  pub begun : has_put w ≡ false → w.last ≡ last_in image v f
   pub some : has_put w ≡ true → puts_in image v f w ≢ []
-  pub behind : is_before w.last (last_of f.lstar) ≡ false
+  pub behind : is_before w.last (last_in image v f) ≡ false
   pub ended : has_put w ≡ true → (track : ℕ) → slice_get (owned_in image v f) w.last.tt ≡ Some track
       → records_on image v.geometry None track ≡ records_on image v.geometry (Some w.last.r) track
 
@@ -42,16 +43,22 @@ abbrev pub puts_by : List ℕ → Vol → BlockWriter → Option Dscb → List C
 puts_by image v w (Some (formats.F1 f)) = puts_in image v f w
 puts_by image v w _ = []
 
--- A writer stands on an image by the format 1 in its slot.
+-- A writer stands on an image by the format 1 in its slot: that is a set of the kind that its mode needs, and what it put begins with what goes in front.
 pub record IsWriterOn (image : List ℕ) (v : Vol) (w : Writer) : Type 0 where
-  pub fills : w.mode ≡ Fill
+  pub fits : (f : F1) → slice_get v.slots.items w.inner.slot ≡ Some (formats.F1 f)
+      → fits_mode w.mode f.name (attr_of f) ≡ true
+  pub first : (f : F1) → slice_get v.slots.items w.inner.slot ≡ Some (formats.F1 f)
+      → put_first w.mode (body_of_set image v f) ≡ firsts w.first
+  pub begins : (f : F1) → slice_get v.slots.items w.inner.slot ≡ Some (formats.F1 f)
+      → BeginsWell w.first (puts_in image v f w.inner)
   pub writing : (f : F1) → slice_get v.slots.items w.inner.slot ≡ Some (formats.F1 f)
       → IsWritingBy image v f w.inner
 
--- what a stop leaves differs from what is read behind the last block of a writer's set alone, in the image of this name
+-- what a stop leaves differs from what is read behind the last record of a writer's set alone, in the image of this name
 abbrev pub LeavesSpared : List ℕ → Meaning (List File) → Vol → Writer → Type 0
 LeavesSpared name m v w = (f : F1) → slice_get v.slots.items w.inner.slot ≡ Some (formats.F1 f)
-    → (files : List File) → m.left files → AreSpared name v f m.state files
+    → (files : List File) → m.left files
+    → AreSpared name v f (last_in (image_named m.state name) v f) m.state files
 
 -- no write is pending but what this writer put, whether it is open or was abandoned; and none where there is no writer
 abbrev pub IsPendingBy : Meaning (List File) → List Attached → List Vol → Option Writer → Type 0
@@ -85,11 +92,11 @@ HasSlot vols None = Unit {0}
 HasSlot vols (Some w) = (w.v < length vols)
     × ((v : Vol) → slice_get vols w.v ≡ Some v → IsInSlot v w)
 
--- A writer that is open on the data set of this name on the pack of this number.
-pub record IsFor (v : ℕ) (dsn : Dsn) (w : Writer) : Type 0 where
+-- A writer that is open for this mode on the data set of this name on the pack of this number.
+pub record IsFor (v : ℕ) (dsn : Dsn) (mode : Mode) (w : Writer) : Type 0 where
   pub number : w.v ≡ v
   pub name : w.dsn ≡ dsn
-  pub fills : w.mode ≡ Fill
+  pub purpose : w.mode ≡ mode
   pub opened : w.is_open ≡ true
 
 -- what a writer put on its pack

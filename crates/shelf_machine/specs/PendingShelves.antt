@@ -6,9 +6,8 @@ use Rattle.hall_core.specs.Facts.{Attached, unit_of}
 use Rattle.stop_model.specs.Files.{File}
 use Rattle.stop_model.specs.Moments.{IsDurable, Meaning}
 use Rattle.stop_model.specs.Steps.{seen}
-use Rattle.vol_model.specs.Shelf.{blocks_of}
 use Rattle.vtoc_index.specs.declared.vol.Vol.{Vol}
-use Rattle.seq_access.specs.Bodies.{body_in}
+use Rattle.seq_access.specs.Bodies.{last_in}
 use Rattle.dadsm_ops.proofs.FoundSets.{set_found}
 use Rattle.shelf_machine.specs.Machine.{AreKept, shelf_under, units_of}
 use Rattle.shelf_machine.specs.Opening.{names_of}
@@ -33,7 +32,7 @@ pending_left m attached vols (Some w) kept slot pending j left =
     let found = set_found w.dsn.bytes v.slots.items w.inner.slot (slot.1 v at.1).0 in
     let by = p.0.writing found.f found.set in
     let name : List ℕ = (unit_of attached v.unit).name in
-    shelf_spared name m.state v found.f w.inner.slot found.set (kept w.v v at.1).kept by.extents (blocks_of (body_in (image_named m.state name) v found.f)) by.body j (p.1 found.f found.set j left) (names_of attached (units_of vols))
+    shelf_spared name m.state v found.f w.inner.slot found.set (kept w.v v at.1).kept by.extents (last_in (image_named m.state name) v found.f) (by.writable, refl) j (p.1 found.f found.set j left) (names_of attached (units_of vols))
 
 pub pending_durable : (m : Meaning (List File)) (attached : List Attached) (vols : List Vol) (w : Option Writer) → AreKept m.state attached vols → HasSlot vols w → IsPendingBy m attached vols w
     → IsDurable (seen (shelf_under (names_of attached (units_of vols))) m)

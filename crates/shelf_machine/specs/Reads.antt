@@ -1,18 +1,16 @@
 -- What reads of the shelf of several packs find, in this project's profile.
-use Rattle.std.specs.Prelude.{◌≡◌, ℕ, List, [], slice_get, Option, Some, None, Ok, Err, option_and_then}
+use Rattle.std.specs.Prelude.{◌≡◌, ℕ, List, [], slice_get, Option, Some, None, Ok, Err}
 use Rattle.dscb_codec.specs.declared.F1.{F1}
 use Rattle.pack_spec.specs.Slots.{slots_of_vtoc}
 use Rattle.pack_spec.specs.Volume.{data_set_of}
 use Rattle.vol_model.specs.declared.catalogs.CatBody.{CatBody}
-use Rattle.vol_model.specs.declared.contents.Body.{Body}
 use Rattle.vol_model.specs.declared.contents.DataSet.{DataSet}
 use Rattle.vol_model.specs.declared.contents.Shelf.{Shelf}
-use Rattle.vol_model.specs.Reading.{entries_in, nodes_in}
-use Rattle.seq_access.specs.Bodies.{IsSequential, IsSetIn, body_in, data_in}
+use Rattle.vol_model.specs.Reading.{nodes_in}
+use Rattle.seq_access.specs.Bodies.{IsSetIn, data_in}
 use Rattle.vtoc_index.specs.Index.{IsMounted}
 use Rattle.vtoc_index.specs.declared.vol.Vol.{Vol}
 use Rattle.vtoc_sets.specs.Sets.{volume_in}
-use Rattle.shelf_machine.specs.Unread.{broken_in}
 
 -- An index is that of an image, and the shelf has the image's volume under this number.
 pub record HasVolume (shelf : Shelf) (n : ℕ) (v : Vol) : Type 0 where
@@ -33,17 +31,6 @@ set_by image v f = data_set_of v.geometry (data_in image v) (slots_of_vtoc image
 abbrev pub IsSetOn : List ℕ → Vol → Option DataSet → Option F1 → Type 0
 IsSetOn image v set None = set ≡ None
 IsSetOn image v set (Some f) = IsSetIn image v f × (set ≡ Some (set_by image v f))
-
--- a data set of an image is the sequential one of a format 1, with this body, or it can't be broken
-abbrev pub IsSequentialOn : List ℕ → Vol → Option DataSet → Option F1 → Type 0
-IsSequentialOn image v set None = option_and_then broken_in set ≡ None
-IsSequentialOn image v set (Some f) = IsSetIn image v f × IsSequential f
-    × (set ≡ Some (set_by image v f)) × ((set_by image v f).body ≡ body_in image v f)
-
--- a body can't be read from this track on, or has no entry
-abbrev pub IsUnread : Option ℕ → Body → Type 0
-IsUnread (Some track) body = entries_in body ≡ Err track
-IsUnread None body = entries_in body ≡ Ok []
 
 -- a catalog can't be read from this track on, or isn't there
 abbrev pub IsUnreadCatalog : Option ℕ → Option CatBody → Type 0

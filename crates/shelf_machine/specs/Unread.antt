@@ -1,5 +1,5 @@
 -- The data sets of a pack whose bodies can't be read, as a list of their names.
-use Rattle.std.specs.Prelude.{ℕ, not, Bool, List, filter, find, Option, Some, None, if◌then◌else◌}
+use Rattle.std.specs.Prelude.{ℕ, ◌||◌, not, Bool, List, filter, find, Option, Some, None, if◌then◌else◌}
 use Rattle.std.specs.Option.{option_map}
 use Rattle.std.specs.Str.{bytes_eq}
 use Rattle.ebcdic_names.specs.declared.names.Dsn.{Dsn}
@@ -7,7 +7,7 @@ use Rattle.vol_model.specs.declared.contents.Attr.{Attr}
 use Rattle.vol_model.specs.declared.contents.Body.{Body}
 use Rattle.vol_model.specs.declared.contents.Body.TheVariants.{Unreadable}
 use Rattle.vol_model.specs.declared.contents.DataSet.{DataSet}
-use Rattle.vol_model.specs.Shelf.{is_sequential}
+use Rattle.vol_model.specs.Shelf.{is_partitioned, is_sequential}
 use Rattle.shelf_machine.specs.declared.unread.Unread.{Unread}
 
 -- an entry is that of the data set of this name
@@ -31,9 +31,13 @@ abbrev pub broken_at : Body → Option ℕ
 broken_at (Unreadable track) = Some track
 broken_at body = None
 
--- the same for the body of a set of this name and these attributes, where it is a sequential one
+-- the body of a set of this name and these attributes is walked: it is a sequential or a partitioned one
+abbrev pub is_walked : List ℕ → Attr → Bool
+is_walked name attr = is_sequential name attr || is_partitioned name attr
+
+-- the same for the body of a set of this name and these attributes, where it is walked
 abbrev pub broken_by : List ℕ → Attr → Body → Option ℕ
-broken_by name attr body = if is_sequential name attr then broken_at body else None
+broken_by name attr body = if is_walked name attr then broken_at body else None
 
 -- the same for a data set
 abbrev pub broken_in : DataSet → Option ℕ

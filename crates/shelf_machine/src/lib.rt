@@ -2,9 +2,12 @@
 #![tactic(auto)]
 
 mod blocks;
-mod checking;
 mod committing;
+mod entries;
+mod front;
 mod known;
+mod libraries;
+mod library;
 mod machine;
 mod open_err;
 mod opening;
@@ -19,7 +22,6 @@ mod unread;
 mod writer;
 mod writing;
 
-pub use checking::unread_sets;
 pub use machine::HallShelf;
 pub use open_err::OpenErr;
-pub use unread::Unread;
+pub use unread::{Unread, unread_of};

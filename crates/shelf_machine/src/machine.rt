@@ -8,12 +8,17 @@ ghost use Rattle.shelf_machine.specs.Machine.{AreInOrder, AreIndexes, AreKept, s
 ghost use Rattle.shelf_machine.specs.Opening.{names_of};
 ghost use Rattle.shelf_machine.specs.Pending.{HasSlot, IsPendingBy};
 
-use crate::committing::{commit_on, from_device};
+use crate::committing::{close_writer, left_of};
+use crate::front::{Front, NO_FRONT, front_of};
 use crate::known::{Known, follow};
+use crate::libraries::{entry_at, entry_named, hold_library, size_of};
 use crate::open_err::OpenErr;
 use crate::opening::open_packs;
 use crate::puts::put_block;
-use crate::reporting::{fault, is_sound_block, is_sound_into, is_sound_put, report};
+use crate::reporting::{
+    fault, is_sound_block, is_sound_closed, is_sound_front, is_sound_held, is_sound_into,
+    is_sound_put, report,
+};
 use crate::writer::Writer;
 use crate::writing::{abandoned, open_writer, operate_settled};
 use crate::{blocks, reads};
@@ -28,10 +33,10 @@ use vtoc_index::Vol;
 
 /// The machine over the images of packs on 1 to 255 units; its volumes have the order of the units, from number 0.
 ///
-/// It is sound as long as no call of its hall failed. Of the operations it does `Extend`, `Rename`, `Scratch` and
-/// `Empty`, and `Allocate` without a directory, of any name but SYSCTLG, where the secondary quantity is below 2^24; for
-/// every other, and for a writer of an area, it wants memory. `put` and `commit` never do: from its opening on there is
-/// room for the free runs of each pack.
+/// It is sound as long as no call of its hall failed. It does all operations on space, names, blocks and entries; for
+/// those on the catalog, and for the making of a SYSCTLG, it wants memory. `put` and `commit` never do: from its opening
+/// on there is room for the free runs of each pack. Of each pack it keeps the directory that was read last, until an
+/// operation on that pack.
 #[derive(Drop)]
 pub struct HallShelf<H: Hall> {
     hall: H,
@@ -57,13 +62,20 @@ pub struct HallShelf<H: Hall> {
 }
 
 impl<H: Hall> HallShelf<H> {
-    ghost use Rattle.std.specs.Prelude.{◌<◌, IfOk, IfErr, length};
+    ghost use Rattle.std.specs.Prelude.{◌<◌, ◌⊎◌, None, IfOk, IfErr, IsErrOf, OnOk, length};
     ghost use Rattle.shelf_machine.specs.Opening.{AreUnits, LeavesSafe};
     ghost use Rattle.shelf_machine.specs.Opened.{IsOpened, LeavesSettled, OpenCall, OpensShelf, RefusesShelf, hall_left};
-    ghost use Rattle.shelf_machine.specs.Parts.{hall_of, is_sound, pack_names};
+    ghost use Rattle.stop_model.specs.Moments.{Same};
+    ghost use Rattle.vol_model.specs.Calls.{Applies, CountsOne, Idles, IsIdle, IsUndone, Keeps, MachineCall, ReadCall, open_at_ok};
+    ghost use Rattle.vol_model.specs.Lawful.{IsLawfulOp};
+    ghost use Rattle.vol_model.specs.Shelf.{step};
+    ghost use Rattle.vol_model.specs.Writing.{begin_refusal, begun, body_on};
+    ghost use Rattle.shelf_machine.specs.Fronts.{IsFrontIn};
+    ghost use Rattle.shelf_machine.specs.Libraries.{HoldsLibrary, library_at};
+    ghost use Rattle.shelf_machine.specs.Parts.{PromisesFiles, PromisesSafety, hall_of, is_sound, known_of, meaning_of, pack_names, status_of, writer_of};
 
-    /// Opens the machine over the packs on these units: reads all and takes room for the free runs of each, compares
-    /// their serials, walks the records of each sequential data set, and then repairs each pack whose VTOC isn't settled.
+    /// Opens the machine over the packs on these units: scans all, which walks each sequential and partitioned data set,
+    /// compares their serials, and then repairs each pack that isn't settled.
     ///
     /// The error names the unit at which it stopped: the first whose pack breaks a rule of mounting, with the first rule
     /// that it breaks, or else the lowest whose serial an earlier one has (`SameSerial`). `Device` comes only where the
@@ -110,6 +122,115 @@ impl<H: Hall> HallShelf<H> {
             → LeavesSettled self (pack_names self) }
     {
         self.hall
+    }
+
+    // Holds the directory of a partitioned data set; false where the data set has none.
+    fn hold(&mut self, v: u8, dsn: &Dsn) -> Result<bool, ReadErr>
+        requires sound { IsTrue (is_sound self.old) }
+        ensures library { IsTrue H.tells → HoldsLibrary result (body_on (meaning_of self.old).state v dsn.now.bytes)
+            (library_at (known_of self.new) v) }
+        ensures idle { IsTrue H.tells → Idles (meaning_of self.old) (meaning_of self.new) (writer_of self.old)
+            (writer_of self.new) (λ t known. PromisesSafety self.old t known) (λ t known. PromisesSafety self.new t known)
+            (λ t files. PromisesFiles self.old t files) (λ t files. PromisesFiles self.new t files) }
+        ensures faults { ReadCall ReadErr.Device (status_of self.old) (status_of self.new) result }
+    {
+        let hall = &mut self.hall;
+        let held = hold_library(self.alloc, hall, &mut self.vols, &mut self.known, v, dsn);
+        self.is_sound = is_sound_held(&held);
+        held
+    }
+
+    // Holds the library of a data set that is to be emptied.
+    fn prepare(&mut self, op: &Op) -> Result<(), MachErr>
+        requires sound { IsTrue (is_sound self.old) }
+        ensures idle { IsTrue H.tells → Idles (meaning_of self.old) (meaning_of self.new) (writer_of self.old)
+            (writer_of self.new) (λ t known. PromisesSafety self.old t known) (λ t known. PromisesSafety self.new t known)
+            (λ t files. PromisesFiles self.old t files) (λ t files. PromisesFiles self.new t files) }
+        ensures error { IfErr result (λ e. (e ≡ MachErr.Memory) ⊎ (e ≡ MachErr.Device)) }
+        ensures faults { ReadCall MachErr.Device (status_of self.old) (status_of self.new) result }
+    {
+        let Op::Empty { v, dsn, .. } = op else {
+            return Ok(());
+        };
+        match self.hold(*v, dsn) {
+            Err(ReadErr::Memory) => Err(MachErr::Memory),
+            Err(ReadErr::Device) => Err(MachErr::Device),
+            _ => Ok(()),
+        }
+    }
+
+    // Reads where the blocks begin that are written to a data set.
+    fn front(&mut self, v: u8, dsn: &Dsn, mode: Mode) -> Result<Front, MachErr>
+        requires sound { IsTrue (is_sound self.old) }
+        ensures front { IsTrue H.tells → IfOk result (λ front. IsFrontIn mode front
+            (body_on (meaning_of self.old).state v dsn.now.bytes)) }
+        ensures idle { IsTrue H.tells → Idles (meaning_of self.old) (meaning_of self.new) (writer_of self.old)
+            (writer_of self.new) (λ t known. PromisesSafety self.old t known) (λ t known. PromisesSafety self.new t known)
+            (λ t files. PromisesFiles self.old t files) (λ t files. PromisesFiles self.new t files) }
+        ensures error { IfErr result (λ e. e ≡ MachErr.Device) }
+        ensures faults { ReadCall MachErr.Device (status_of self.old) (status_of self.new) result }
+    {
+        let Mode::Area = mode else {
+            return Ok(NO_FRONT);
+        };
+        let hall = &mut self.hall;
+        let front = front_of(hall, &mut self.vols, &mut self.known, v, dsn);
+        self.is_sound = is_sound_front(&front);
+        front
+    }
+
+    // Opens a writer that begins so.
+    fn start(&mut self, v: u8, dsn: &Dsn, mode: Mode, front: Front) -> Result<(), MachErr>
+        requires sound { IsTrue (is_sound self.old) }
+        requires well { IsTrue H.tells → begin_refusal (meaning_of self.old).state
+            (record { v = v; dsn = dsn.now; mode = mode }) ≡ None }
+        requires front { IsTrue H.tells → IsFrontIn mode front
+            (body_on (meaning_of self.old).state v dsn.now.bytes) }
+        ensures same { IsTrue H.tells → Same (meaning_of self.old) (meaning_of self.new) }
+        ensures writer { IsTrue H.tells → OnOk result (writer_of self.new
+            ≡ begun (record { v = v; dsn = dsn.now; mode = mode })) }
+        ensures promise { IsTrue H.tells → Keeps (meaning_of self.old).clock (λ t known. PromisesSafety self.old t known)
+            (λ t known. PromisesSafety self.new t known) }
+        ensures stays { IsTrue H.tells → IsUndone result
+            → Keeps (meaning_of self.old).clock (λ t files. PromisesFiles self.old t files)
+            (λ t files. PromisesFiles self.new t files) }
+        ensures error { IfErr result (λ e. (e ≡ MachErr.Memory) ⊎ (e ≡ MachErr.Device)) }
+        ensures count { (status_of self.new).done ≡ (status_of self.old).done }
+        ensures faults { MachineCall (open_at_ok result) (status_of self.old) (status_of self.new) result }
+    {
+        let hall = &mut self.hall;
+        match open_writer(hall, &mut self.vols, &mut self.writer, v, dsn, mode, front) {
+            Ok(true) => Ok(()),
+            Ok(false) => Err(MachErr::Memory),
+            Err(_) => Err(fault(&mut self.is_sound, MachErr::Device)),
+        }
+    }
+
+    // Does an operation. `Empty` of a partitioned set that can be read wants memory unless its library is held.
+    fn serve(&mut self, op: &Op) -> Result<(), MachErr>
+        requires sound { IsTrue (is_sound self.old) }
+        requires lawful { IsLawfulOp op.now }
+        ensures shelf { IsTrue H.tells → Applies op.now (meaning_of self.old) (meaning_of self.new) result }
+        ensures promise { IsTrue H.tells → Keeps (meaning_of self.old).clock (λ t known. PromisesSafety self.old t known)
+            (λ t known. PromisesSafety self.new t known) }
+        ensures stays { IsTrue H.tells → IsIdle (step (meaning_of self.old).state op.now) result
+            → Keeps (meaning_of self.old).clock (λ t files. PromisesFiles self.old t files)
+            (λ t files. PromisesFiles self.new t files) }
+        ensures count { CountsOne result (status_of self.old).done (status_of self.new).done }
+        ensures faults { MachineCall false (status_of self.old) (status_of self.new) result }
+        ensures print { IsErrOf result MachErr.Print → ⊥ }
+    {
+        let hall = &mut self.hall;
+        let ran = operate_settled(
+            self.alloc,
+            hall,
+            &mut self.vols,
+            &self.known,
+            &mut self.writer,
+            op,
+        );
+        follow(&mut self.known, op, ran.is_ok());
+        report(&mut self.is_sound, &mut self.done, ran)
     }
 }
 
@@ -161,30 +282,37 @@ impl<H: Hall> Machine for HallShelf<H> {
     }
 
     fn attr(&mut self, v: u8, dsn: &Dsn) -> Result<Option<SetInfo>, WorkErr> {
-        Ok(reads::info_on(&self.vols, &self.known, v, dsn))
+        let held = self.hold(v, dsn);
+        match size_of(held, &self.known, v) {
+            Ok(size) => Ok(reads::info_on(&self.vols, &self.known, v, dsn, size)),
+            Err(error) => Err(error),
+        }
     }
 
     fn extent(&mut self, v: u8, dsn: &Dsn, k: u8) -> Result<Option<Run>, WorkErr> {
         Ok(reads::extent_on(&self.vols, v, dsn, k))
     }
 
-    fn entry(&mut self, v: u8, dsn: &Dsn, _name: &Name8) -> Result<Option<Entry>, ReadErr> {
-        match reads::unread_on(&self.vols, &self.known, v, dsn) {
-            Some(track) => Err(ReadErr::Unreadable(track)),
-            None => Ok(None),
+    fn entry(&mut self, v: u8, dsn: &Dsn, name: &Name8) -> Result<Option<Entry>, ReadErr> {
+        match self.hold(v, dsn) {
+            Ok(true) => entry_named(self.alloc, &self.known, v, name),
+            Ok(false) => Ok(None),
+            Err(error) => Err(error),
         }
     }
 
-    fn entry_at(&mut self, v: u8, dsn: &Dsn, _k: u32) -> Result<Option<Entry>, ReadErr> {
-        match reads::unread_on(&self.vols, &self.known, v, dsn) {
-            Some(track) => Err(ReadErr::Unreadable(track)),
-            None => Ok(None),
+    fn entry_at(&mut self, v: u8, dsn: &Dsn, k: u32) -> Result<Option<Entry>, ReadErr> {
+        match self.hold(v, dsn) {
+            Ok(true) => entry_at(self.alloc, &self.known, v, k),
+            Ok(false) => Ok(None),
+            Err(error) => Err(error),
         }
     }
 
     fn read_block(&mut self, v: u8, dsn: &Dsn, from: Place) -> Result<Option<Block>, ReadErr> {
         let hall = &mut self.hall;
-        let read = blocks::read_block(self.alloc, hall, &self.vols, &mut self.known, v, dsn, from);
+        let vols = &mut self.vols;
+        let read = blocks::read_block(self.alloc, hall, vols, &mut self.known, v, dsn, from);
         self.is_sound = is_sound_block(&read);
         read
     }
@@ -211,29 +339,26 @@ impl<H: Hall> Machine for HallShelf<H> {
         block: &mut BlockBuf,
     ) -> Result<bool, CheckErr> {
         let hall = &mut self.hall;
-        let read = blocks::read_into(hall, &self.vols, &mut self.known, v, dsn, from, block);
+        let vols = &mut self.vols;
+        let read = blocks::read_into(hall, vols, &mut self.known, v, dsn, from, block);
         self.is_sound = is_sound_into(&read);
         read
     }
 
     fn apply(&mut self, op: &Op) -> Result<(), MachErr> {
-        let hall = &mut self.hall;
-        let ran = operate_settled(hall, &mut self.vols, &self.known, &mut self.writer, op);
-        follow(&mut self.known, op, ran.is_ok());
-        report(&mut self.is_sound, &mut self.done, ran)
+        match self.prepare(op) {
+            Ok(()) => self.serve(op),
+            Err(error) => Err(error),
+        }
     }
 
     fn begin(&mut self, v: u8, dsn: &Dsn, mode: Mode) -> Result<(), MachErr> {
         if let Some(refusal) = reads::write_refusal(&self.vols, &self.known, v, dsn, mode) {
             return Err(MachErr::Refused(refusal));
         }
-        let Mode::Fill = mode else {
-            return Err(MachErr::Memory);
-        };
-        match open_writer(&mut self.hall, &mut self.vols, &mut self.writer, v, dsn) {
-            Ok(true) => Ok(()),
-            Ok(false) => Err(MachErr::Memory),
-            Err(_) => Err(fault(&mut self.is_sound, MachErr::Device)),
+        match self.front(v, dsn, mode) {
+            Ok(front) => self.start(v, dsn, mode, front),
+            Err(error) => Err(error),
         }
     }
 
@@ -256,12 +381,19 @@ impl<H: Hall> Machine for HallShelf<H> {
     }
 
     fn commit(&mut self) -> Result<(), MachErr> {
-        let Some(writer) = self.writer else {
-            unreachable!();
+        let Some(mut writer) = self.writer else {
+            unreachable!()
         };
-        let ran = commit_on(&mut self.hall, &mut self.vols, &mut self.known, writer);
-        self.writer = None;
-        report(&mut self.is_sound, &mut self.done, from_device(ran))
+        let closed = close_writer(
+            &mut self.hall,
+            &mut self.vols,
+            &mut self.known,
+            &mut writer,
+            &mut self.done,
+        );
+        self.writer = left_of(&closed, writer);
+        self.is_sound = is_sound_closed(&closed);
+        closed
     }
 
     fn abandon(&mut self) {

@@ -1,32 +1,31 @@
-//! The packs of several units, read, compared, checked and repaired.
-ghost use Rattle.std.specs.Prelude.{◌≡◌, ◌≢◌, ◌<◌, ◌≤◌, ℕ, ◌++◌, ◌∷◌, [], length, position, Contains, Some, None, Ok, Err, IsTrue, IsErrOf, IfOk, IfErr, IfNone, IfSome, OnOk, OnErr};
+//! The packs of several units, scanned, compared and repaired.
+ghost use Rattle.std.specs.Prelude.{◌≡◌, ◌≢◌, ◌<◌, ◌≤◌, ℕ, ◌++◌, ◌∷◌, [], length, position, Contains, Some, None, Ok, Err, IsTrue, IfOk, IfErr, IfNone, IfSome, OnOk, slice_get, vec_capacity, vec_len};
 ghost use Rattle.std.specs.Str.{bytes_eq};
 ghost use Rattle.hall_core.specs.Facts.{unit_of};
 ghost use Rattle.hall_core.specs.Images.{image_in};
 ghost use Rattle.stop_model.specs.Moments.{IsDurable, Same};
-ghost use Rattle.free_rebuild.specs.Repairs.{Repairs};
+ghost use Rattle.mount_repair.specs.Repairs.{RepairsPack};
+ghost use Rattle.mount_repair.specs.Scans.{IsScanOf, IsScanOn, Scans};
 ghost use Rattle.pack_spec.specs.Volume.{volume_of};
-ghost use Rattle.vtoc_index.specs.Index.{IsMounted, IsOfUnit};
-ghost use Rattle.vtoc_index.specs.Names.{AreByName, name_at};
 ghost use Rattle.vtoc_index.specs.declared.vol.Vol.{Vol};
-ghost use Rattle.shelf_machine.specs.Known.{AreFresh, HaveBuffers, KnowsBodies};
-ghost use Rattle.shelf_machine.specs.Machine.{AreIndexes, AreInOrder, HasRoom, serials_of, shelf_under, units_of};
+ghost use Rattle.shelf_machine.specs.Checking.{unread_in};
+ghost use Rattle.shelf_machine.specs.Known.{AreFresh, HaveBuffers, IsFresh, KnowsBodies};
+ghost use Rattle.shelf_machine.specs.Machine.{AreIndexes, AreInOrder, serials_of, shelf_under, units_of};
 ghost use Rattle.shelf_machine.specs.Opening.{AreApart, AreUnits, LeavesSafe, names_of};
-ghost use Rattle.shelf_machine.specs.Operating.{IsRoomed};
-ghost use Rattle.shelf_machine.specs.Packs.{AreMounted, AreOfSamePacks, AreOpened, AreRead, RefusesImages, RepairsAll, StopCall, StopsAtTwice};
+ghost use Rattle.shelf_machine.specs.Packs.{AreKnown, AreOfSamePacks, AreOpened, AreScanned, AreScansOf, RefusesImages, RepairsAll, StopCall, StopsAtTwice, indexes_of};
 
-use crate::checking::check_all;
-use crate::known::Packs;
+use crate::known::{Known, Packs};
 use crate::stopped::Stopped;
+use crate::unread::unread_of;
 use ebcdic_names::Serial;
-use free_rebuild::{is_settled, rebuild};
 use hall_core::Hall;
-use pack_spec::layout::MOST_EXTENTS;
+use mount_repair::{Scan, repair, scan};
+use seq_access::ReadBuf;
 use std::alloc::{AllocError, Global};
-use vtoc_index::{MountErr, Vol, read_vtoc};
+use vtoc_index::{MountErr, Vol};
 
-// The packs on units: all are read, with room for their free runs, then their serials compared, then the bodies checked,
-// then each that isn't settled is repaired. Behind an error nothing was written, unless the device failed.
+// The packs on units: all are scanned, then their serials compared, then each that isn't settled is repaired. All memory is
+// taken before the first write. Behind an error nothing was written, unless the device failed.
 pub(crate) fn open_packs<H: Hall>(
     alloc: Global,
     hall: &mut H,
@@ -53,97 +52,76 @@ pub(crate) fn open_packs<H: Hall>(
         (H.meaning hall.old) (H.meaning hall.new) }
     ensures faults { StopCall (H.facts hall.old) (H.facts hall.new) result }
 {
-    let mut vols = read_all(alloc, hall, units)?;
-    if let Some(stopped) = same_serial(&vols) {
+    let scans = scan_all(alloc, hall, units)?;
+    if let Some(stopped) = same_serial(&scans) {
         return Err(stopped);
     }
-    let known = check_all(alloc, hall, &mut vols)?;
-    repair_all(hall, &mut vols)?;
+    let known = know_all(alloc, &scans)?;
+    let mut vols = room_for(alloc, &scans)?;
+    repair_all(hall, scans, &mut vols)?;
     Ok(Packs { vols, known })
 }
 
-// The indexes of the packs on units, in order, with room for free runs.
-fn read_all<H: Hall>(alloc: Global, hall: &mut H, units: &[u8]) -> Result<Vec<Vol>, Stopped>
+// The scans of the packs on units, in order.
+fn scan_all<H: Hall>(alloc: Global, hall: &mut H, units: &[u8]) -> Result<Vec<Scan>, Stopped>
     requires units { AreUnits (H.facts hall.old).units units.now }
-    ensures read { IfOk result (λ vols. AreRead (H.facts hall.old).units units.now vols.items) }
-    ensures mounted { IsTrue H.tells → IfOk result (λ vols. AreMounted (H.meaning hall.old).state
-        (H.facts hall.old).units vols.items) }
+    ensures scanned { IfOk result (λ scans. AreScanned (H.facts hall.old).units units.now scans.items) }
+    ensures images { IsTrue H.tells → IfOk result (λ scans. AreScansOf (H.meaning hall.old).state
+        (H.facts hall.old).units scans.items) }
     ensures refused { IsTrue H.tells → IfErr result (RefusesImages
         (names_of (H.facts hall.old).units units.now) (H.meaning hall.old).state) }
     ensures unit { IfErr result (λ s. s.unit < length units.now) }
-    ensures files { IsTrue H.tells → Same (H.meaning hall.old) (H.meaning hall.new) }
+    ensures same { IsTrue H.tells → Same (H.meaning hall.old) (H.meaning hall.new) }
     ensures faults { StopCall (H.facts hall.old) (H.facts hall.new) result }
 {
-    let mut vols = Vec::new(alloc);
+    let mut scans = Vec::new(alloc);
     for k in 0..units.len() {
-        let vol = read_pack(alloc, hall, units[k])?;
-        push(&mut vols, vol)?;
+        let scanned = scan_pack(alloc, hall, units[k])?;
+        push(&mut scans, scanned, units[k])?;
     }
-    Ok(vols)
+    Ok(scans)
 }
 
-// The index of the pack on a unit, with room for free runs.
-fn read_pack<H: Hall>(alloc: Global, hall: &mut H, unit: u8) -> Result<Vol, Stopped>
+// The scan of the pack on a unit.
+fn scan_pack<H: Hall>(alloc: Global, hall: &mut H, unit: u8) -> Result<Scan, Stopped>
     requires { unit < length (H.facts hall.old).units }
-    ensures mounted { let image = image_in (H.meaning hall.old) (H.facts hall.old) unit in
-        IsTrue H.tells → IfOk result (IsMounted image) }
+    ensures image { let image = image_in (H.meaning hall.old) (H.facts hall.old) unit in
+        IsTrue H.tells → IfOk result (IsScanOf image) }
     ensures refused { let image = image_in (H.meaning hall.old) (H.facts hall.old) unit in
         IsTrue H.tells → IfErr result (λ s. s.why ≢ MountErr.Memory → s.why ≢ MountErr.Device
         → volume_of image ≡ Err s.why) }
     ensures place { IfErr result (λ s. s.unit ≡ unit) }
-    ensures unit { IfOk result (λ vol. (vol.unit ≡ unit) × IsOfUnit (H.facts hall.old).units vol) }
-    ensures room { IfOk result HasRoom }
-    ensures names { IfOk result (λ vol. AreByName (name_at vol.slots.items) vol.by_name.items) }
-    ensures files { IsTrue H.tells → Same (H.meaning hall.old) (H.meaning hall.new) }
+    ensures unit { IfOk result (IsScanOn (H.facts hall.old).units unit) }
+    ensures same { IsTrue H.tells → Same (H.meaning hall.old) (H.meaning hall.new) }
     ensures faults { StopCall (H.facts hall.old) (H.facts hall.new) result }
 {
-    match read_vtoc(alloc, hall, unit) {
-        Ok(mut vol) => match reserve_runs(&mut vol) {
-            Ok(()) => Ok(vol),
-            Err(_) => Err(Stopped {
-                unit,
-                why: MountErr::Memory,
-            }),
-        },
+    match scan(alloc, hall, unit) {
+        Ok(scanned) => Ok(scanned),
         Err(why) => Err(Stopped { unit, why }),
     }
 }
 
-// Takes room for as many free runs as the pack can have, and for those that the extents of a removed
-// data set make.
-fn reserve_runs(vol: &mut Vol) -> Result<(), AllocError>
-    ensures index { IsRoomed vol.old vol.new }
-    ensures room { OnOk result (HasRoom vol.new) }
-{
-    let tracks = usize::from(vol.geometry.cylinders) * usize::from(vol.geometry.device.heads());
-    vol.free.reserve(tracks / 2 + usize::from(MOST_EXTENTS) + 1)
-}
-
-// Puts an index behind the others.
-fn push(vols: &mut Vec<Vol>, vol: Vol) -> Result<(), Stopped>
-    ensures done { OnOk result (vols.new.items ≡ vols.old.items ++ vol ∷ []) }
+// Puts an item behind the others; the unit is that of its pack.
+fn push<T: Drop>(items: &mut Vec<T>, item: T, unit: u8) -> Result<(), Stopped>
+    ensures done { OnOk result (items.new.items ≡ items.old.items ++ item ∷ []) }
     ensures memory { IfErr result (λ s. s.why ≡ MountErr.Memory) }
-    ensures place { IfErr result (λ s. s.unit ≡ vol.unit) }
+    ensures place { IfErr result (λ s. s.unit ≡ unit) }
 {
-    let unit = vol.unit;
-    match vols.push(vol) {
+    match items.push(item) {
         Ok(()) => Ok(()),
-        Err(_) => Err(Stopped {
-            unit,
-            why: MountErr::Memory,
-        }),
+        Err(_) => Err(no_memory(unit)),
     }
 }
 
 // The lowest pack whose serial an earlier one has, with the lowest of these.
-fn same_serial(vols: &[Vol]) -> Option<Stopped>
-    requires { length vols.now ≤ 255 }
-    ensures found { IfSome result (StopsAtTwice (serials_of vols.now)) }
-    ensures unit { IfSome result (λ s. s.unit < length vols.now) }
-    ensures apart { IfNone result (AreApart (serials_of vols.now)) }
+fn same_serial(scans: &[Scan]) -> Option<Stopped>
+    requires { length scans.now ≤ 255 }
+    ensures found { IfSome result (StopsAtTwice (serials_of (indexes_of scans.now))) }
+    ensures unit { IfSome result (λ s. s.unit < length scans.now) }
+    ensures apart { IfNone result (AreApart (serials_of (indexes_of scans.now))) }
 {
-    for k in 0..vols.len() {
-        if let Some(other) = place_of(&vols[..k], &vols[k].serial) {
+    for k in 0..scans.len() {
+        if let Some(other) = place_of(&scans[..k], &scans[k].vol.serial) {
             let unit = k as u8;
             let other = other as u8;
             return Some(Stopped {
@@ -156,65 +134,133 @@ fn same_serial(vols: &[Vol]) -> Option<Stopped>
 }
 
 // The first pack of this serial.
-fn place_of(vols: &[Vol], serial: &Serial) -> Option<usize>
-    ensures place { result ≡ position (λ (v : Vol). bytes_eq v.serial.bytes serial.now.bytes) vols.now }
-    ensures inside { IfSome result (λ k. k < length vols.now) }
+fn place_of(scans: &[Scan], serial: &Serial) -> Option<usize>
+    ensures place { result ≡ position (λ s. bytes_eq s.vol.serial.bytes serial.now.bytes) scans.now }
+    ensures inside { IfSome result (λ k. k < length scans.now) }
 {
-    vols.iter().position(|vol| has_serial(vol, serial))
+    scans.iter().position(|scanned| has_serial(scanned, serial))
 }
 
 // Whether a pack has this serial.
-fn has_serial(vol: &Vol, serial: &Serial) -> bool
-    ensures { result ≡ bytes_eq vol.now.serial.bytes serial.now.bytes }
+fn has_serial(scanned: &Scan, serial: &Serial) -> bool
+    ensures { result ≡ bytes_eq scanned.now.vol.serial.bytes serial.now.bytes }
 {
-    vol.serial == *serial
+    scanned.vol.serial == *serial
 }
 
-// Repairs each pack that isn't settled.
-fn repair_all<H: Hall>(hall: &mut H, vols: &mut Vec<Vol>) -> Result<(), Stopped>
-    requires indexes { AreIndexes (H.facts hall.old).units vols.old.items }
-    requires order { AreInOrder vols.old.items }
-    requires mounted { IsTrue H.tells → AreMounted (H.meaning hall.old).state
-        (H.facts hall.old).units vols.old.items }
+// What is known of the bodies on packs that were scanned.
+fn know_all(alloc: Global, scans: &[Scan]) -> Result<Vec<Known>, Stopped>
+    ensures known { IfOk result (λ known. AreKnown scans.now known.items) }
+    ensures memory { IfErr result (λ s. s.why ≡ MountErr.Memory) }
+    ensures unit { IfErr result (λ s. Contains (units_of (indexes_of scans.now)) s.unit) }
+{
+    let mut known = Vec::new(alloc);
+    for scanned in scans {
+        add_known(alloc, &mut known, scanned)?;
+    }
+    Ok(known)
+}
+
+// Puts what is known of a pack that was scanned behind the others.
+fn add_known(alloc: Global, known: &mut Vec<Known>, scanned: &Scan) -> Result<(), Stopped>
+    ensures known { OnOk result ((b : Known) × (known.new.items ≡ known.old.items ++ b ∷ [])
+        × IsFresh b × (b.buf.records.geometry ≡ scanned.now.vol.geometry)
+        × (b.unread.items ≡ unread_in scanned.now.volume.items)) }
+    ensures memory { IfErr result (λ s. s.why ≡ MountErr.Memory) }
+    ensures place { IfErr result (λ s. s.unit ≡ scanned.now.vol.unit) }
+{
+    match known_of(alloc, scanned) {
+        Ok(of) => push(known, of, scanned.vol.unit),
+        Err(_) => Err(no_memory(scanned.vol.unit)),
+    }
+}
+
+// What is known of the bodies on a pack that was scanned: no track is held, and no library.
+fn known_of(alloc: Global, scanned: &Scan) -> Result<Known, AllocError>
+    ensures unread { IfOk result (λ b. b.unread.items ≡ unread_in scanned.now.volume.items) }
+    ensures buffer { IfOk result (λ b. b.buf.records.geometry ≡ scanned.now.vol.geometry) }
+    ensures fresh { IfOk result IsFresh }
+{
+    let unread = unread_of(alloc, &scanned.volume)?;
+    let buf = ReadBuf::new(alloc, &scanned.vol.geometry)?;
+    Ok(Known {
+        unread,
+        buf,
+        library: None,
+    })
+}
+
+// Memory ran out at the pack on a unit.
+fn no_memory(unit: u8) -> Stopped
+    ensures { result ≡ record { unit = unit; why = MountErr.Memory } }
+{
+    Stopped {
+        unit,
+        why: MountErr::Memory,
+    }
+}
+
+// Room for the indexes of packs that were scanned.
+fn room_for(alloc: Global, scans: &[Scan]) -> Result<Vec<Vol>, Stopped>
+    ensures room { IfOk result (λ vols. (vols.items ≡ []) × (length scans.now ≤ vec_capacity vols)) }
+    ensures memory { IfErr result (λ s. s.why ≡ MountErr.Memory) }
+    ensures unit { IfErr result (λ s. Contains (units_of (indexes_of scans.now)) s.unit) }
+{
+    let Some(first) = scans.first() else {
+        return Ok(Vec::new(alloc));
+    };
+    match Vec::with_capacity(alloc, scans.len()) {
+        Ok(vols) => Ok(vols),
+        Err(_) => Err(no_memory(first.vol.unit)),
+    }
+}
+
+// Repairs each pack that isn't settled, and gives the indexes of all.
+fn repair_all<H: Hall>(hall: &mut H, scans: Vec<Scan>, vols: &mut Vec<Vol>) -> Result<(), Stopped>
+    requires indexes { AreIndexes (H.facts hall.old).units (indexes_of scans.items) }
+    requires order { AreInOrder (indexes_of scans.items) }
+    requires scanned { (k : ℕ) (s : Scan) → slice_get scans.items k ≡ Some s
+        → IsScanOn (H.facts hall.old).units s.vol.unit s }
+    requires images { IsTrue H.tells → AreScansOf (H.meaning hall.old).state
+        (H.facts hall.old).units scans.items }
+    requires room { (vols.old.items ≡ []) × (length scans.items ≤ vec_capacity vols.old) }
     requires durable { IsTrue H.tells → IsDurable (H.meaning hall.old) }
     ensures files { IsTrue H.tells → RepairsAll
-        (names_of (H.facts hall.old).units (units_of vols.old.items)) (H.facts hall.old).units
-        vols.new.items (H.meaning hall.old) (H.meaning hall.new) result }
-    ensures indexes { AreIndexes (H.facts hall.new).units vols.new.items }
+        (names_of (H.facts hall.old).units (units_of (indexes_of scans.items)))
+        (H.facts hall.old).units vols.new.items (H.meaning hall.old) (H.meaning hall.new) result }
+    ensures indexes { OnOk result (AreIndexes (H.facts hall.new).units vols.new.items) }
     ensures order { OnOk result (AreInOrder vols.new.items) }
-    ensures packs { AreOfSamePacks vols.old.items vols.new.items }
-    ensures unit { IfErr result (λ s. Contains (units_of vols.old.items) s.unit) }
+    ensures packs { OnOk result (AreOfSamePacks (indexes_of scans.items) vols.new.items) }
+    ensures unit { IfErr result (λ s. Contains (units_of (indexes_of scans.items)) s.unit) }
     ensures device { IfErr result (λ s. s.why ≡ MountErr.Device) }
     ensures faults { StopCall (H.facts hall.old) (H.facts hall.new) result }
 {
-    for k in 0..vols.len() {
-        repair(hall, &mut vols[k])?;
+    for scanned in scans {
+        let repaired = repair_pack(hall, scanned)?;
+        vols.push_reserved(repaired.vol);
     }
     Ok(())
 }
 
-// Repairs a pack, unless it is settled: then nothing is called.
-fn repair<H: Hall>(hall: &mut H, vol: &mut Vol) -> Result<(), Stopped>
-    requires unit { IsOfUnit (H.facts hall.old).units vol.old }
-    requires mounted { let image = image_in (H.meaning hall.old) (H.facts hall.old) vol.old.unit in
-        IsTrue H.tells → IsMounted image vol.old }
+// Repairs a pack that was scanned, unless it is settled: then nothing is called.
+fn repair_pack<H: Hall>(hall: &mut H, scanned: Scan) -> Result<Scan, Stopped>
+    requires unit { IsScanOn (H.facts hall.old).units scanned.vol.unit scanned }
+    requires scan { let image = image_in (H.meaning hall.old) (H.facts hall.old) scanned.vol.unit in
+        IsTrue H.tells → IsScanOf image scanned }
     requires durable { IsTrue H.tells → IsDurable (H.meaning hall.old) }
-    ensures files { IsTrue H.tells → Repairs (unit_of (H.facts hall.old).units vol.old.unit).name
-        vol.new (H.meaning hall.old) (H.meaning hall.new) result }
-    ensures names { AreByName (name_at vol.old.slots.items) vol.old.by_name.items
-        → OnOk result (AreByName (name_at vol.new.slots.items) vol.new.by_name.items) }
-    ensures others { vol.new ≡ record vol.old { slots = vol.new.slots; buf = vol.new.buf } }
-    ensures unit { IsOfUnit (H.facts hall.new).units vol.new }
-    ensures place { IfErr result (λ s. s.unit ≡ vol.old.unit) }
+    ensures files { IsTrue H.tells
+        → RepairsPack (unit_of (H.facts hall.old).units scanned.vol.unit).name
+        (H.meaning hall.old) (H.meaning hall.new) result }
+    ensures index { IfOk result (λ s. s.vol
+        ≡ record scanned.vol { slots = s.vol.slots; buf = s.vol.buf }) }
+    ensures unit { IfOk result (IsScanOn (H.facts hall.new).units scanned.vol.unit) }
+    ensures place { IfErr result (λ s. s.unit ≡ scanned.vol.unit) }
     ensures device { IfErr result (λ s. s.why ≡ MountErr.Device) }
     ensures faults { StopCall (H.facts hall.old) (H.facts hall.new) result }
 {
-    if is_settled(vol) {
-        return Ok(());
-    }
-    let unit = vol.unit;
-    match rebuild(hall, vol) {
-        Ok(()) => Ok(()),
+    let unit = scanned.vol.unit;
+    match repair(hall, scanned) {
+        Ok(repaired) => Ok(repaired),
         Err(_) => Err(Stopped {
             unit,
             why: MountErr::Device,

@@ -1,7 +1,8 @@
 //! Operations on the packs of a shelf.
-ghost use Rattle.std.specs.Prelude.{◌≡◌, true, slice_get, IsErrOf, IsTrue, OnOk, Some};
+ghost use Rattle.std.specs.Prelude.{◌≡◌, ◌≤◌, ◌<◌, ◌^◌, true, slice_get, IsErrOf, IsTrue, OnOk, Some};
 ghost use Rattle.hall_core.specs.Facts.{unit_of};
 ghost use Rattle.hall_core.specs.Images.{image_in};
+ghost use Rattle.vol_model.specs.Lawful.{IsLawfulOp};
 ghost use Rattle.vol_model.specs.Shelf.{empty_on, extend_on, scratch_on};
 ghost use Rattle.vol_model.specs.declared.refusals.Refusal.{Refusal};
 ghost use Rattle.vtoc_index.specs.Index.{IsMounted, IsOfUnit};
@@ -9,27 +10,28 @@ ghost use Rattle.vtoc_index.specs.Names.{AreByName, name_at};
 ghost use Rattle.pack_spec.specs.Settled.{IsSettledVtoc};
 ghost use Rattle.stop_model.specs.Moments.{IsDurable};
 ghost use Rattle.vol_model.specs.Calls.{IsUndone, sound_after};
-ghost use Rattle.dadsm_ops.specs.Operations.{Operates, StoreCall};
+ghost use Rattle.dadsm_ops.specs.Operations.{InVtoc, Operates, StoreCall};
 ghost use Rattle.vtoc_sets.specs.Sets.{volume_in};
+ghost use Rattle.shelf_machine.specs.Libraries.{IsLibraryIn};
 ghost use Rattle.shelf_machine.specs.Known.{HaveBuffers, IsServed, KnowsBodies, ListsBroken, geometries_of};
 ghost use Rattle.shelf_machine.specs.Machine.{AreIndexes, AreInOrder, AreKept, HasRoom, base_of, shelf_under, units_of};
 ghost use Rattle.shelf_machine.specs.Opening.{names_of};
-ghost use Rattle.shelf_machine.specs.Operating.{CanBeMade, IsSamePack, OperatesOnShelf};
+ghost use Rattle.shelf_machine.specs.Operating.{IsRoomed, IsSamePack, OperatesOnShelf};
 ghost use Rattle.shelf_machine.specs.Reporting.{reported};
 
+use crate::entries::{drop_on, enter_on};
 use crate::known::Known;
 use crate::refusals::{slot_to_empty, slot_to_extend};
 use dadsm_ops::{allocate, empty, extend, rename, scratch};
 use ebcdic_names::Dsn;
 use hall_core::{Device, Hall};
+use std::alloc::Global;
 use vol_model::{Attr, Op, Refusal, Request, StoreErr, is_catalog};
 use vtoc_index::{Vol, find};
 
-// A secondary quantity is below this, since its field has 3 bytes.
-const QUANTITIES: u32 = 0x0100_0000;
-
 // Does an operation on one of the packs. Each that isn't done yet wants memory, before anything is called.
 pub(crate) fn operate<H: Hall>(
+    alloc: Global,
     hall: &mut H,
     vols: &mut Vec<Vol>,
     known: &Vec<Known>,
@@ -40,6 +42,7 @@ pub(crate) fn operate<H: Hall>(
     requires kept { IsTrue H.tells
         → AreKept (H.meaning hall.old).state (H.facts hall.old).units vols.old.items }
     requires durable { IsTrue H.tells → IsDurable (H.meaning hall.old) }
+    requires lawful { IsLawfulOp op.now }
     requires buffers { HaveBuffers vols.old.items known.now.items }
     requires bodies { IsTrue H.tells → KnowsBodies
         (shelf_under (names_of (H.facts hall.old).units (units_of vols.old.items)) (H.meaning hall.old).state)
@@ -68,11 +71,18 @@ pub(crate) fn operate<H: Hall>(
         Op::Scratch { v, dsn } => scratch_on(hall, vols, *v, dsn),
         Op::Extend { v, dsn } => extend_on(hall, vols, known, *v, dsn),
         Op::Empty { v, dsn, attr } => empty_on(hall, vols, known, *v, dsn, attr),
+        Op::Enter {
+            v,
+            dsn,
+            entry,
+            replace,
+        } => enter_on(alloc, hall, vols, known, *v, dsn, entry, *replace),
+        Op::Drop { v, dsn, name } => drop_on(alloc, hall, vols, known, *v, dsn, name),
         _ => Err(StoreErr::Memory),
     }
 }
 
-// Makes a data set on the pack of this number.
+// Makes a data set on the pack of this number. The catalog wants memory yet.
 fn allocate_on<H: Hall>(
     hall: &mut H,
     vols: &mut Vec<Vol>,
@@ -87,6 +97,8 @@ fn allocate_on<H: Hall>(
     requires kept { IsTrue H.tells
         → AreKept (H.meaning hall.old).state (H.facts hall.old).units vols.old.items }
     requires durable { IsTrue H.tells → IsDurable (H.meaning hall.old) }
+    requires dir { dir ≤ 2000 }
+    requires quantities { request.now.secondary < 2 ^ 24 }
     ensures shelf { let names = names_of (H.facts hall.old).units (units_of vols.old.items) in
         let names' = names_of (H.facts hall.new).units (units_of vols.new.items) in
         IsTrue H.tells → OperatesOnShelf (Op.Allocate v dsn.now attr.now request.now dir) names names'
@@ -103,17 +115,10 @@ fn allocate_on<H: Hall>(
     if k >= vols.len() {
         return Err(StoreErr::Refused(Refusal::NoVolume));
     }
-    if !is_served(dsn, request, dir) {
+    if is_catalog(dsn) {
         return Err(StoreErr::Memory);
     }
     allocate(hall, &mut vols[k], dsn, attr, request, dir)
-}
-
-// Whether such a data set can be made yet: it has no directory and isn't the catalog, and its secondary quantity fits its field.
-fn is_served(dsn: &Dsn, request: &Request, dir: u32) -> bool
-    ensures { IsTrue result → CanBeMade dsn.now request.now dir }
-{
-    dir == 0 && !is_catalog(dsn) && request.secondary < QUANTITIES
 }
 
 // Gives a data set of the pack of this number another name.
@@ -183,7 +188,8 @@ fn scratch_set<H: Hall>(hall: &mut H, vol: &mut Vol, dsn: &Dsn) -> Result<(), St
     requires room { HasRoom vol.old }
     requires durable { IsTrue H.tells → IsDurable (H.meaning hall.old) }
     ensures files { IsTrue H.tells → Operates (unit_of (H.facts hall.old).units vol.old.unit).name
-        (scratch_on dsn.now) vol.new (H.meaning hall.old) (H.meaning hall.new) result }
+        (scratch_on dsn.now) vol.new (InVtoc vol.new) (H.meaning hall.old)
+        (H.meaning hall.new) result }
     ensures unit { IsOfUnit (H.facts hall.new).units vol.new }
     ensures names { OnOk result (AreByName (name_at vol.new.slots.items) vol.new.by_name.items) }
     ensures index { IsSamePack vol.old vol.new }
@@ -237,7 +243,8 @@ fn empty_on<H: Hall>(
     empty_set(hall, &mut vols[k], &known[k], dsn, attr)
 }
 
-// Empties a data set of a volume. An unreadable one is refused: by that which is known of the bodies.
+// Empties a data set of a volume. An unreadable one is refused: by that which is known of the bodies. A partitioned one wants
+// memory unless its library is the one that was read last.
 fn empty_set<H: Hall>(
     hall: &mut H,
     vol: &mut Vol,
@@ -251,19 +258,22 @@ fn empty_set<H: Hall>(
         IsTrue H.tells → IsMounted image vol.old }
     requires bodies { let image = image_in (H.meaning hall.old) (H.facts hall.old) vol.old.unit in
         IsTrue H.tells → ListsBroken (volume_in image vol.old) known.now.unread.items }
+    requires library { let image = image_in (H.meaning hall.old) (H.facts hall.old) vol.old.unit in
+        IsTrue H.tells → IsLibraryIn known.now.library (volume_in image vol.old) }
     requires durable { IsTrue H.tells → IsDurable (H.meaning hall.old) }
     ensures files { IsTrue H.tells → Operates (unit_of (H.facts hall.old).units vol.old.unit).name
-        (empty_on dsn.now attr.now) vol.new (H.meaning hall.old) (H.meaning hall.new) result }
+        (empty_on dsn.now attr.now) vol.new (InVtoc vol.new) (H.meaning hall.old)
+        (H.meaning hall.new) result }
     ensures unit { IsOfUnit (H.facts hall.new).units vol.new }
     ensures names { OnOk result (AreByName (name_at vol.new.slots.items) vol.new.by_name.items) }
     ensures index { IsSamePack vol.old vol.new }
     ensures refused { (r : Refusal) → IsErrOf result (StoreErr.Refused r) → vol.new ≡ vol.old }
-    ensures memory { ¬ IsErrOf result StoreErr.Memory }
+    ensures memory { IsErrOf result StoreErr.Memory → IsRoomed vol.old vol.new }
     ensures faults { StoreCall (H.facts hall.old) (H.facts hall.new) result }
 {
     let slot = match slot_to_empty(vol, known, dsn) {
         Ok(slot) => slot,
-        Err(refusal) => return Err(StoreErr::Refused(refusal)),
+        Err(error) => return Err(error),
     };
     match empty(hall, vol, slot, attr) {
         Ok(()) => Ok(()),
@@ -299,7 +309,8 @@ pub(crate) fn extend_on<H: Hall>(
         → slice_get vols.new.items v ≡ Some vol' → IsSamePack vol vol'
         × (IsUndone (reported result) → vol' ≡ vol)
         × (IsTrue H.tells → Operates (unit_of (H.facts hall.old).units vol.unit).name
-        (extend_on dsn.now) vol' (H.meaning hall.old) (H.meaning hall.new) result) }
+        (extend_on dsn.now) vol' (InVtoc vol') (H.meaning hall.old) (H.meaning hall.new)
+        result) }
     ensures memory { ¬ IsErrOf result StoreErr.Memory }
     ensures base { base_of (H.facts hall.new) vols.new.items
         ≡ base_of (H.facts hall.old) vols.old.items }
@@ -331,7 +342,8 @@ fn extend_set<H: Hall>(
     requires room { HasRoom vol.old }
     requires durable { IsTrue H.tells → IsDurable (H.meaning hall.old) }
     ensures files { IsTrue H.tells → Operates (unit_of (H.facts hall.old).units vol.old.unit).name
-        (extend_on dsn.now) vol.new (H.meaning hall.old) (H.meaning hall.new) result }
+        (extend_on dsn.now) vol.new (InVtoc vol.new) (H.meaning hall.old)
+        (H.meaning hall.new) result }
     ensures unit { IsOfUnit (H.facts hall.new).units vol.new }
     ensures names { OnOk result (AreByName (name_at vol.new.slots.items) vol.new.by_name.items) }
     ensures index { IsSamePack vol.old vol.new }

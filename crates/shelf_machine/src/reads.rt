@@ -8,7 +8,7 @@ ghost use Rattle.pack_spec.specs.Bodies.{body_of};
 ghost use Rattle.pack_spec.specs.Rules.{is_named};
 ghost use Rattle.pack_spec.specs.Volume.{attr_of};
 ghost use Rattle.vol_model.specs.Shelf.{catalog_name};
-ghost use Rattle.vol_model.specs.Reading.{catalog_on, extent_on, kind_of, name_on, set_info, volume_info};
+ghost use Rattle.vol_model.specs.Reading.{catalog_on, directory_size, extent_on, kind_of, name_on, set_info, volume_info};
 ghost use Rattle.vol_model.specs.declared.contents.Run.{Run};
 ghost use Rattle.vol_model.specs.Writing.{begin_refusal, body_on, set_on};
 ghost use Rattle.vtoc_index.specs.Index.{IsOfUnit};
@@ -16,7 +16,7 @@ ghost use Rattle.vtoc_index.specs.Names.{AreByName, name_at};
 ghost use Rattle.vol_model.specs.declared.contents.Shelf.{Shelf};
 ghost use Rattle.shelf_machine.specs.Machine.{AreIndexes, AreInOrder};
 ghost use Rattle.shelf_machine.specs.Known.{HaveBuffers, KnowsBodies, ListsUnread};
-ghost use Rattle.shelf_machine.specs.Reads.{HasVolume, HasVolumes, IsSequentialOn, IsSetOn, IsUnread, IsUnreadCatalog};
+ghost use Rattle.shelf_machine.specs.Reads.{HasVolume, HasVolumes, IsSetOn, IsUnreadCatalog};
 ghost use Rattle.shelf_machine.specs.Unread.{broken_by, track_in};
 
 use crate::known::Known;
@@ -68,20 +68,6 @@ pub(crate) fn set_in<'a>(vol: &'a Vol, dsn: &Dsn) -> Option<&'a F1>
     }
 }
 
-// The format 1 of the sequential data set of this name.
-pub(crate) fn sequential_in(vol: &Vol, dsn: &Dsn) -> Option<F1>
-    requires unit { (units : List Attached) × IsOfUnit units vol.now }
-    requires names { AreByName (name_at vol.now.slots.items) vol.now.by_name.items }
-    ensures { (shelf : Shelf) (n : ℕ) (has : HasVolume shelf n vol.now)
-        → IsSequentialOn has.image vol.now (set_on shelf n dsn.now.bytes) result }
-{
-    let set = set_in(vol, dsn)?;
-    match body_kind(set) {
-        BodyKind::Seq => Some(*set),
-        _ => None,
-    }
-}
-
 // The kind of a data set, by its format 1 and by those that can't be read.
 pub(crate) fn kind_in(known: &Known, set: &F1) -> Kind
     ensures { (g : Geometry) (tracks : List (List ℕ)) (extents : List Run) →
@@ -94,19 +80,24 @@ pub(crate) fn kind_in(known: &Known, set: &F1) -> Kind
             Some(track) => Kind::Unreadable(track),
             None => Kind::Seq,
         },
-        BodyKind::Part => Kind::Unreadable(0),
+        BodyKind::Part => match track_of(&known.unread, &Dsn { bytes: set.name }) {
+            Some(track) => Kind::Unreadable(track),
+            None => Kind::Part,
+        },
         BodyKind::Catalog => Kind::Unreadable(0),
         BodyKind::Other => Kind::Other,
     }
 }
 
-// A data set of a volume in short.
+// A data set of a volume in short, which has so many directory blocks.
 #[tactic(auto, unfolding(vol_model::specs::Reading::set_info))]
-fn info_in(vol: &Vol, known: &Known, dsn: &Dsn) -> Option<SetInfo>
+fn info_in(vol: &Vol, known: &Known, dsn: &Dsn, dir: u32) -> Option<SetInfo>
     requires unit { (units : List Attached) × IsOfUnit units vol.now }
     requires names { AreByName (name_at vol.now.slots.items) vol.now.by_name.items }
     ensures info { (shelf : Shelf) (n : ℕ) → HasVolume shelf n vol.now
-        → ListsUnread shelf n known.now.unread.items → result ≡ option_map set_info (set_on shelf n dsn.now.bytes) }
+        → ListsUnread shelf n known.now.unread.items
+        → dir ≡ directory_size (body_on shelf n dsn.now.bytes)
+        → result ≡ option_map set_info (set_on shelf n dsn.now.bytes) }
     ensures lawful { IfSome result (λ info. info.attr.secondary < 2 ^ 24) }
 {
     let set = set_in(vol, dsn)?;
@@ -116,21 +107,28 @@ fn info_in(vol: &Vol, known: &Known, dsn: &Dsn) -> Option<SetInfo>
         kind: kind_in(known, set),
         extents: space.extents,
         tracks: space.tracks,
-        dir: 0,
+        dir,
     })
 }
 
-// A data set in short.
-pub(crate) fn info_on(vols: &[Vol], known: &Vec<Known>, v: u8, dsn: &Dsn) -> Option<SetInfo>
+// A data set in short, which has so many directory blocks.
+pub(crate) fn info_on(
+    vols: &[Vol],
+    known: &Vec<Known>,
+    v: u8,
+    dsn: &Dsn,
+    dir: u32,
+) -> Option<SetInfo>
     requires units { (attached : List Attached) × AreIndexes attached vols.now }
     requires order { AreInOrder vols.now }
     requires buffers { HaveBuffers vols.now known.now.items }
     ensures info { (shelf : Shelf) → HasVolumes shelf vols.now → KnowsBodies shelf known.now.items
+        → dir ≡ directory_size (body_on shelf v dsn.now.bytes)
         → result ≡ option_map set_info (set_on shelf v dsn.now.bytes) }
     ensures lawful { IfSome result (λ info. info.attr.secondary < 2 ^ 24) }
 {
     let vol = volume_at(vols, v)?;
-    info_in(vol, &known[usize::from(v)], dsn)
+    info_in(vol, &known[usize::from(v)], dsn, dir)
 }
 
 // The k-th extent of a data set of a volume.
@@ -154,34 +152,8 @@ pub(crate) fn extent_on(vols: &[Vol], v: u8, dsn: &Dsn, k: u8) -> Option<Run>
     extent_in(vol, dsn, k)
 }
 
-// The track at which the content of a data set of a volume can't be read; `None` where it has no entry.
-fn unread_in(vol: &Vol, known: &Known, dsn: &Dsn) -> Option<u16>
-    requires unit { (units : List Attached) × IsOfUnit units vol.now }
-    requires names { AreByName (name_at vol.now.slots.items) vol.now.by_name.items }
-    ensures { (shelf : Shelf) (n : ℕ) → HasVolume shelf n vol.now
-        → ListsUnread shelf n known.now.unread.items → IsUnread result (body_on shelf n dsn.now.bytes) }
-{
-    let set = set_in(vol, dsn)?;
-    match kind_in(known, set) {
-        Kind::Unreadable(track) => Some(track),
-        _ => None,
-    }
-}
-
-// The track at which the content of a data set can't be read.
-pub(crate) fn unread_on(vols: &[Vol], known: &Vec<Known>, v: u8, dsn: &Dsn) -> Option<u16>
-    requires units { (attached : List Attached) × AreIndexes attached vols.now }
-    requires order { AreInOrder vols.now }
-    requires buffers { HaveBuffers vols.now known.now.items }
-    ensures { (shelf : Shelf) → HasVolumes shelf vols.now → KnowsBodies shelf known.now.items
-        → IsUnread result (body_on shelf v dsn.now.bytes) }
-{
-    let vol = volume_at(vols, v)?;
-    unread_in(vol, &known[usize::from(v)], dsn)
-}
-
 // Why blocks can't be written to a data set of a volume, if there is a reason.
-fn write_refusal_in(vol: &Vol, known: &Known, dsn: &Dsn, mode: Mode) -> Option<Refusal>
+pub(crate) fn write_refusal_in(vol: &Vol, known: &Known, dsn: &Dsn, mode: Mode) -> Option<Refusal>
     requires unit { (units : List Attached) × IsOfUnit units vol.now }
     requires names { AreByName (name_at vol.now.slots.items) vol.now.by_name.items }
     ensures { (shelf : Shelf) (n : ℕ) → HasVolume shelf n vol.now

@@ -1,10 +1,11 @@
 //! Why an operation on a data set of a volume is refused.
-ghost use Rattle.std.specs.Prelude.{◌≡◌, ℕ, List, IfErr, IfOk, IfSome, Err, None, Ok, false, Some, slice_get};
+ghost use Rattle.std.specs.Prelude.{◌≡◌, ◌≢◌, ℕ, List, IfErr, IfOk, IsErrOf, IfSome, Err, None, Ok, false, Some, slice_get};
 ghost use Rattle.ckd_image.specs.declared.header.Geometry.{Geometry};
 ghost use Rattle.dscb_codec.specs.declared.Dscb.{Dscb};
 ghost use Rattle.dadsm_ops.specs.Extending.{HoldsSet, IsReadable};
 ghost use Rattle.pack_spec.specs.Bodies.{body_of};
 ghost use Rattle.pack_spec.specs.Volume.{attr_of};
+ghost use Rattle.vol_model.specs.Reading.{kind_of};
 ghost use Rattle.vol_model.specs.Shelf.{empty_on, extend_on, is_catalog, may_empty, unreadable};
 ghost use Rattle.vol_model.specs.declared.contents.Attr.{Attr};
 ghost use Rattle.vol_model.specs.declared.contents.Run.{Run};
@@ -13,14 +14,16 @@ ghost use Rattle.vtoc_index.specs.Index.{IsMounted, first_named};
 ghost use Rattle.vtoc_index.specs.Names.{AreByName, name_at};
 ghost use Rattle.vtoc_sets.specs.Sets.{volume_in};
 ghost use Rattle.shelf_machine.specs.Known.{ListsBroken};
-ghost use Rattle.shelf_machine.specs.Refusals.{empty_refusal, extend_refusal};
+ghost use Rattle.shelf_machine.specs.Refusals.{IsPartTest, IsReason, IsRefusedBy, empty_refusal, extend_refusal};
+ghost use Rattle.shelf_machine.specs.Libraries.{IsLibraryFor, IsLibraryIn};
 ghost use Rattle.shelf_machine.specs.Unread.{broken_by, track_in};
 
 use crate::known::Known;
+use crate::libraries::vacancy;
 use crate::reads::kind_in;
 use dscb_codec::{Dscb, F1};
 use ebcdic_names::Dsn;
-use vol_model::{Kind, Refusal, is_catalog};
+use vol_model::{Kind, Refusal, StoreErr, is_catalog};
 use vtoc_index::{Vol, find};
 use vtoc_sets::{BodyKind, body_kind};
 
@@ -37,12 +40,12 @@ fn unread_refusal(known: &Known, set: &F1) -> Option<Refusal>
     }
 }
 
-// Whether a data set is of a kind that may be emptied. What a partitioned one has isn't read, so it counts as vacant.
+// Whether a data set is of a kind that may be emptied. One that is partitioned may, where it can't be read.
 #[tactic(auto, unfolding(pack_spec::specs::Volume::attr_of))]
 fn may_empty(set: &F1) -> bool
     ensures { (g : Geometry) (tracks : List (List ℕ)) (extents : List Run) →
         let body = body_of g tracks set.now.name (attr_of set.now) extents set.now.lstar in
-        result ≡ may_empty set.now.name (attr_of set.now) body }
+        kind_of body ≢ Kind.Part → result ≡ may_empty set.now.name (attr_of set.now) body }
 {
     match body_kind(set) {
         BodyKind::Seq => true,
@@ -52,17 +55,54 @@ fn may_empty(set: &F1) -> bool
     }
 }
 
-// Why a data set can't be emptied, if there is a reason.
-fn empty_refusal(known: &Known, set: &F1) -> Option<Refusal>
+// Whether a data set is a partitioned one that can be read, by its format 1 and by those that can't be read.
+fn is_part(known: &Known, set: &F1) -> bool
     ensures { (g : Geometry) (tracks : List (List ℕ)) (extents : List Run) →
         let body = body_of g tracks set.now.name (attr_of set.now) extents set.now.lstar in
         track_in known.now.unread.items set.now.name ≡ broken_by set.now.name (attr_of set.now) body
-        → result ≡ empty_refusal set.now.name (attr_of set.now) body }
+        → IsPartTest result body }
 {
-    if !may_empty(set) {
-        return Some(Refusal::WrongKind);
+    match kind_in(known, set) {
+        Kind::Part => true,
+        _ => false,
     }
-    unread_refusal(known, set)
+}
+
+// Why a partitioned data set that can be read can't be emptied, if there is a reason: `Memory` where its library isn't the
+// one that was read last.
+fn part_refusal(known: &Known, set: &F1) -> Option<StoreErr>
+    ensures reason { (g : Geometry) (tracks : List (List ℕ)) (extents : List Run) →
+        let body = body_of g tracks set.now.name (attr_of set.now) extents set.now.lstar in
+        kind_of body ≡ Kind.Part → IsLibraryFor known.now.library set.now.name body
+        → IsReason result (empty_refusal set.now.name (attr_of set.now) body) }
+    ensures device { IfSome result (λ e. e ≢ StoreErr.Device) }
+{
+    match vacancy(&known.library, set) {
+        Some(true) => None,
+        Some(false) => Some(StoreErr::Refused(Refusal::WrongKind)),
+        None => Some(StoreErr::Memory),
+    }
+}
+
+// Why a data set can't be emptied, if there is a reason: `Memory` for a partitioned one whose library isn't held.
+fn empty_refusal(known: &Known, set: &F1) -> Option<StoreErr>
+    ensures reason { (g : Geometry) (tracks : List (List ℕ)) (extents : List Run) →
+        let body = body_of g tracks set.now.name (attr_of set.now) extents set.now.lstar in
+        track_in known.now.unread.items set.now.name ≡ broken_by set.now.name (attr_of set.now) body
+        → IsLibraryFor known.now.library set.now.name body
+        → IsReason result (empty_refusal set.now.name (attr_of set.now) body) }
+    ensures device { IfSome result (λ e. e ≢ StoreErr.Device) }
+{
+    if is_part(known, set) {
+        return part_refusal(known, set);
+    }
+    if !may_empty(set) {
+        return Some(StoreErr::Refused(Refusal::WrongKind));
+    }
+    match unread_refusal(known, set) {
+        Some(refusal) => Some(StoreErr::Refused(refusal)),
+        None => None,
+    }
 }
 
 // Why a data set can't have more extents, whatever is free, if there is a reason.
@@ -80,7 +120,7 @@ fn extend_refusal(known: &Known, set: &F1) -> Option<Refusal>
 }
 
 // The slot of the data set of this name, and its format 1.
-fn slot_of(vol: &Vol, dsn: &Dsn) -> Option<(u32, F1)>
+pub(crate) fn slot_of(vol: &Vol, dsn: &Dsn) -> Option<(u32, F1)>
     requires { AreByName (name_at vol.now.slots.items) vol.now.by_name.items }
     ensures slot { IfSome result (λ p. first_named dsn.now.bytes vol.now.slots.items ≡ Some p.0) }
     ensures set { IfSome result (λ p. slice_get vol.now.slots.items p.0 ≡ Some (Dscb.F1 p.1)) }
@@ -94,21 +134,24 @@ fn slot_of(vol: &Vol, dsn: &Dsn) -> Option<(u32, F1)>
 }
 
 // The slot of the data set of this name, or why it can't be emptied.
-pub(crate) fn slot_to_empty(vol: &Vol, known: &Known, dsn: &Dsn) -> Result<u32, Refusal>
+pub(crate) fn slot_to_empty(vol: &Vol, known: &Known, dsn: &Dsn) -> Result<u32, StoreErr>
     requires { AreByName (name_at vol.now.slots.items) vol.now.by_name.items }
     ensures slot { IfOk result (λ slot. first_named dsn.now.bytes vol.now.slots.items ≡ Some slot) }
     ensures accepted { IfOk result (λ slot. (image : List ℕ) (attr : Attr) → IsMounted image vol.now
         → ListsBroken (volume_in image vol.now) known.now.unread.items
+        → IsLibraryIn known.now.library (volume_in image vol.now)
         → (after : Volume) × (empty_on dsn.now attr (volume_in image vol.now) ≡ Ok after)) }
-    ensures refused { IfErr result (λ r. (image : List ℕ) (attr : Attr) → IsMounted image vol.now
+    ensures refused { IfErr result (λ e. (image : List ℕ) (attr : Attr) → IsMounted image vol.now
         → ListsBroken (volume_in image vol.now) known.now.unread.items
-        → empty_on dsn.now attr (volume_in image vol.now) ≡ Err r) }
+        → IsLibraryIn known.now.library (volume_in image vol.now)
+        → IsRefusedBy e (empty_on dsn.now attr (volume_in image vol.now))) }
+    ensures device { ¬ IsErrOf result StoreErr.Device }
 {
     let Some((slot, set)) = slot_of(vol, dsn) else {
-        return Err(Refusal::NoSet);
+        return Err(StoreErr::Refused(Refusal::NoSet));
     };
     match empty_refusal(known, &set) {
-        Some(refusal) => Err(refusal),
+        Some(error) => Err(error),
         None => Ok(slot),
     }
 }

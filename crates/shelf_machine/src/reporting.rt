@@ -3,6 +3,7 @@ ghost use Rattle.std.specs.Prelude.{◌≡◌, false, true, IsErrOf};
 ghost use Rattle.vol_model.specs.Calls.{sound_after};
 ghost use Rattle.shelf_machine.specs.Reporting.{Reports};
 
+use crate::front::Front;
 use vol_model::{Block, CheckErr, MachErr, Place, ReadErr, StoreErr};
 
 // Ends the soundness of a machine, and gives the error that it answers.
@@ -41,6 +42,14 @@ pub(crate) fn is_sound_into(read: &Result<bool, CheckErr>) -> bool
     !matches!(read, Err(CheckErr::Device))
 }
 
+// Whether it is sound behind a call that was to hold a library.
+pub(crate) fn is_sound_held(held: &Result<bool, ReadErr>) -> bool
+    ensures failed { IsErrOf held.now ReadErr.Device → result ≡ false }
+    ensures others { ¬ IsErrOf held.now ReadErr.Device → result ≡ true }
+{
+    !matches!(held, Err(ReadErr::Device))
+}
+
 // Whether it is sound behind a read that gives a block.
 pub(crate) fn is_sound_block(read: &Result<Option<Block>, ReadErr>) -> bool
     ensures failed { IsErrOf read.now ReadErr.Device → result ≡ false }
@@ -54,4 +63,19 @@ pub(crate) fn is_sound_put(put: &Result<Place, MachErr>) -> bool
     ensures { result ≡ sound_after put.now }
 {
     !matches!(put, Err(MachErr::Device | MachErr::Print))
+}
+
+// Whether it is sound behind the closing of a writer.
+pub(crate) fn is_sound_closed(closed: &Result<(), MachErr>) -> bool
+    ensures { result ≡ sound_after closed.now }
+{
+    !matches!(closed, Err(MachErr::Device | MachErr::Print))
+}
+
+// Whether it is sound behind a read of where an area begins.
+pub(crate) fn is_sound_front(front: &Result<Front, MachErr>) -> bool
+    ensures failed { IsErrOf front.now MachErr.Device → result ≡ false }
+    ensures others { ¬ IsErrOf front.now MachErr.Device → result ≡ true }
+{
+    !matches!(front, Err(MachErr::Device))
 }

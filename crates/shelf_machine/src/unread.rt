@@ -1,16 +1,45 @@
 //! The data sets of a pack whose bodies can't be read.
-ghost use Rattle.std.specs.Prelude.{◌≡◌, map};
+ghost use Rattle.std.specs.Prelude.{◌≡◌, IfOk, map};
+ghost use Rattle.shelf_machine.specs.Checking.{unread_entry, unread_in};
 ghost use Rattle.shelf_machine.specs.Unread.{is_of, others_of, renamed_in, track_in};
 
 use ebcdic_names::Dsn;
+use std::alloc::{AllocError, Global};
+use vol_model::{Kind, is_catalog};
 
-/// A sequential data set whose body can't be read.
+/// A sequential or partitioned data set whose body can't be read.
 #[derive(Clone, Copy, Debug)]
 pub struct Unread {
     /// The name of the set.
     pub dsn: Dsn,
     /// The first relative track that breaks it, from 0.
     pub track: u16,
+}
+
+/// The data sets of a pack but SYSCTLG whose bodies can't be read, of all with the kinds of their bodies, in the same order.
+///
+/// The error comes if memory runs out.
+pub fn unread_of(alloc: Global, sets: &[(Dsn, Kind)]) -> Result<Vec<Unread>, AllocError>
+    ensures { IfOk result (λ unread. unread.items ≡ unread_in sets.now) }
+{
+    sets.iter().filter_map(unread_entry).collect(alloc)
+}
+
+// The entry of a data set, if its body can't be read; the catalog has none.
+fn unread_entry(set: &(Dsn, Kind)) -> Option<Unread>
+    ensures { result ≡ unread_entry set.now }
+{
+    let (dsn, kind) = set;
+    if is_catalog(dsn) {
+        return None;
+    }
+    match kind {
+        Kind::Unreadable(track) => Some(Unread {
+            dsn: *dsn,
+            track: *track,
+        }),
+        _ => None,
+    }
 }
 
 // The track that breaks the body of the data set of this name, where it is one of these.

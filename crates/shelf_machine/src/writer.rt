@@ -3,12 +3,14 @@ use ebcdic_names::Dsn;
 use vol_model::Mode;
 
 // A writer that is open, or was abandoned while its writes are pending: the number of the volume and the name of the
-// data set that it writes to, what for, and the writer of the set's blocks.
+// data set that it writes to, what for, the writer of the set's blocks, and whether an end-of-file block goes in front
+// of what is put.
 #[derive(Clone, Copy, Debug)]
 pub(crate) struct Writer {
     pub(crate) v: u8,
     pub(crate) dsn: Dsn,
     pub(crate) mode: Mode,
     pub(crate) inner: seq_access::Writer,
+    pub(crate) first: bool,
     pub(crate) is_open: bool,
 }

@@ -4,26 +4,30 @@ ghost use Rattle.hall_core.specs.Facts.{Attached, DeviceCall, ReportedCall};
 ghost use Rattle.stop_model.specs.Files.{File};
 ghost use Rattle.stop_model.specs.Moments.{IsDurable};
 ghost use Rattle.vol_model.specs.Calls.{sound_after};
-ghost use Rattle.vol_model.specs.Writing.{begin_refusal, begun};
+ghost use Rattle.vol_model.specs.Lawful.{IsLawfulOp};
+ghost use Rattle.vol_model.specs.Writing.{begin_refusal, begun, body_on};
 ghost use Rattle.vol_model.specs.declared.contents.Shelf.{Shelf};
 ghost use Rattle.vtoc_index.specs.Index.{IsOfUnit, first_named};
 ghost use Rattle.vtoc_index.specs.Names.{AreByName, name_at};
 ghost use Rattle.dadsm_ops.specs.Operations.{StoreCall};
-ghost use Rattle.shelf_machine.specs.Known.{AreHeld, ForgetsOn, HaveBuffers, IsServed, KnowsBodies, geometries_of};
-ghost use Rattle.shelf_machine.specs.Machine.{AreIndexes, AreInOrder, AreKept, base_of, is_open_in, shelf_under, units_of, writer_in};
+ghost use Rattle.shelf_machine.specs.Fronts.{IsFrontIn};
+ghost use Rattle.shelf_machine.specs.Known.{AreHeld, ForgetsOn, HasNoLibrary, HaveBuffers, IsServed, KnowsBodies, geometries_of};
+ghost use Rattle.shelf_machine.specs.Machine.{AreIndexes, AreInOrder, AreKept, base_of, is_open_in, placed_in, shelf_under, units_of, writer_in};
 ghost use Rattle.shelf_machine.specs.Opening.{names_of};
 ghost use Rattle.shelf_machine.specs.Operating.{OperatesOnShelf};
 ghost use Rattle.shelf_machine.specs.Pending.{HasSlot, IsBegunAt, IsBegunOn, IsFor, IsInSlot, IsPendingBy, Settles, closed};
 ghost use Rattle.shelf_machine.specs.Reads.{HasVolume};
-ghost use Rattle.shelf_machine.specs.Putting.{DidPut, PutsOn};
+ghost use Rattle.shelf_machine.specs.Putting.{DidPut, IsDue, PutsOn};
 ghost use Rattle.shelf_machine.specs.Reporting.{reported};
 
+use crate::front::Front;
 use crate::known::Known;
 use crate::operations::{extend_on, operate};
 use crate::writer::Writer;
 use ebcdic_names::Dsn;
 use hall_core::{Device, Hall};
 use seq_access::{PutErr, abandon, begin, put};
+use std::alloc::Global;
 use vol_model::{Mode, Op, Place, StoreErr, is_catalog};
 use vtoc_index::{Vol, find};
 
@@ -59,6 +63,7 @@ pub(crate) fn abandoned(writer: Option<Writer>) -> Option<Writer>
 
 // Does an operation on one of the packs, once nothing is pending.
 pub(crate) fn operate_settled<H: Hall>(
+    alloc: Global,
     hall: &mut H,
     vols: &mut Vec<Vol>,
     known: &Vec<Known>,
@@ -69,6 +74,7 @@ pub(crate) fn operate_settled<H: Hall>(
     requires order { AreInOrder vols.old.items }
     requires kept { IsTrue H.tells
         → AreKept (H.meaning hall.old).state (H.facts hall.old).units vols.old.items }
+    requires lawful { IsLawfulOp op.now }
     requires slot { HasSlot vols.old.items writer.old }
     requires pending { IsTrue H.tells → IsPendingBy (H.meaning hall.old) (H.facts hall.old).units
         vols.old.items writer.old }
@@ -90,7 +96,7 @@ pub(crate) fn operate_settled<H: Hall>(
     ensures faults { StoreCall (H.facts hall.old) (H.facts hall.new) result }
 {
     match settle(hall, writer) {
-        Ok(()) => operate(hall, vols, known, op),
+        Ok(()) => operate(alloc, hall, vols, known, op),
         Err(_) => Err(StoreErr::Device),
     }
 }
@@ -102,6 +108,8 @@ pub(crate) fn open_writer<H: Hall>(
     writer: &mut Option<Writer>,
     v: u8,
     dsn: &Dsn,
+    mode: Mode,
+    front: Front,
 ) -> Result<bool, Device>
     requires indexes { AreIndexes (H.facts hall.old).units vols.old.items }
     requires order { AreInOrder vols.old.items }
@@ -110,26 +118,27 @@ pub(crate) fn open_writer<H: Hall>(
     requires pending { IsTrue H.tells → IsPendingBy (H.meaning hall.old) (H.facts hall.old).units
         vols.old.items writer.old }
     requires slot { HasSlot vols.old.items writer.old }
+    requires well { let shelf = shelf_under (names_of (H.facts hall.old).units (units_of vols.old.items))
+        (H.meaning hall.old).state in
+        IsTrue H.tells → begin_refusal shelf (record { v = v; dsn = dsn.now; mode = mode }) ≡ None }
+    requires front { let shelf = shelf_under (names_of (H.facts hall.old).units (units_of vols.old.items))
+        (H.meaning hall.old).state in
+        IsTrue H.tells → IsFrontIn mode front (body_on shelf v dsn.now.bytes) }
     ensures files { IsTrue H.tells → Settles (H.meaning hall.old) (H.meaning hall.new) result }
     ensures opened { IfOk result (λ is. is ≡ is_open_in writer.new) }
     ensures slot { HasSlot vols.old.items writer.new }
-    ensures pending { let shelf = shelf_under (names_of (H.facts hall.old).units (units_of vols.old.items))
-        (H.meaning hall.old).state in
-        IsTrue H.tells → begin_refusal shelf (record { v = v; dsn = dsn.now; mode = Mode.Fill }) ≡ None
-        → IsPendingBy (H.meaning hall.new) (H.facts hall.new).units vols.old.items writer.new }
-    ensures writer { let shelf = shelf_under (names_of (H.facts hall.old).units (units_of vols.old.items))
-        (H.meaning hall.old).state in
-        IsTrue H.tells → begin_refusal shelf (record { v = v; dsn = dsn.now; mode = Mode.Fill }) ≡ None
-        → IfOk result (λ is. is ≡ true
+    ensures pending { IsTrue H.tells → IsPendingBy (H.meaning hall.new) (H.facts hall.new).units
+        vols.old.items writer.new }
+    ensures writer { IsTrue H.tells → IfOk result (λ is. is ≡ true
         → writer_in (H.meaning hall.new).state (H.facts hall.new).units vols.old.items writer.new
-        ≡ begun (record { v = v; dsn = dsn.now; mode = Mode.Fill })) }
+        ≡ begun (record { v = v; dsn = dsn.now; mode = mode })) }
     ensures failed { OnErr result (writer.new ≡ writer.old) }
     ensures indexes { vols.new.items ≡ vols.old.items }
     ensures faults { DeviceCall (H.facts hall.old) (H.facts hall.new) result }
 {
     match settle(hall, writer) {
         Ok(()) => {
-            *writer = writer_on(hall, vols, v, dsn);
+            *writer = writer_on(hall, vols, v, dsn, mode, front);
             Ok(writer.is_some())
         }
         Err(_) => Err(Device),
@@ -137,14 +146,22 @@ pub(crate) fn open_writer<H: Hall>(
 }
 
 // A writer behind the blocks of the data set of this name on the pack of this number, where there is one.
-fn writer_on<H: Hall>(hall: &mut H, vols: &mut Vec<Vol>, v: u8, dsn: &Dsn) -> Option<Writer>
+fn writer_on<H: Hall>(
+    hall: &mut H,
+    vols: &mut Vec<Vol>,
+    v: u8,
+    dsn: &Dsn,
+    mode: Mode,
+    front: Front,
+) -> Option<Writer>
     requires order { AreInOrder vols.old.items }
     ensures slot { HasSlot vols.old.items result }
-    ensures target { IfSome result (IsFor v dsn.now) }
+    ensures target { IfSome result (IsFor v dsn.now mode) }
     ensures begun { (files : List File) (attached : List Attached) → AreIndexes attached vols.old.items
         → AreKept files attached vols.old.items
-        → begin_refusal (shelf_under (names_of attached (units_of vols.old.items)) files)
-        (record { v = v; dsn = dsn.now; mode = Mode.Fill }) ≡ None
+        → let shelf = shelf_under (names_of attached (units_of vols.old.items)) files in
+        begin_refusal shelf (record { v = v; dsn = dsn.now; mode = mode }) ≡ None
+        → IsFrontIn mode front (body_on shelf v dsn.now.bytes)
         → IfSome result (IsBegunOn files attached vols.old.items) }
     ensures hall { hall.new ≡ hall.old }
     ensures indexes { vols.new.items ≡ vols.old.items }
@@ -153,16 +170,24 @@ fn writer_on<H: Hall>(hall: &mut H, vols: &mut Vec<Vol>, v: u8, dsn: &Dsn) -> Op
     if k >= vols.len() {
         return None;
     }
-    writer_at(hall, &mut vols[k], v, dsn)
+    writer_at(hall, &mut vols[k], v, dsn, mode, front)
 }
 
-// The same on this pack. Nothing is called for it, so no error comes.
-fn writer_at<H: Hall>(hall: &mut H, vol: &mut Vol, v: u8, dsn: &Dsn) -> Option<Writer>
+// The same on this pack.
+fn writer_at<H: Hall>(
+    hall: &mut H,
+    vol: &mut Vol,
+    v: u8,
+    dsn: &Dsn,
+    mode: Mode,
+    front: Front,
+) -> Option<Writer>
     requires names { AreByName (name_at vol.old.slots.items) vol.old.by_name.items }
     ensures slot { IfSome result (IsInSlot vol.old) }
-    ensures target { IfSome result (IsFor v dsn.now) }
+    ensures target { IfSome result (IsFor v dsn.now mode) }
     ensures begun { (shelf : Shelf) (n : ℕ) (has : HasVolume shelf n vol.old)
-        → begin_refusal shelf (record { v = n; dsn = dsn.now; mode = Mode.Fill }) ≡ None
+        → begin_refusal shelf (record { v = n; dsn = dsn.now; mode = mode }) ≡ None
+        → IsFrontIn mode front (body_on shelf n dsn.now.bytes)
         → IfSome result (IsBegunAt has.image vol.old) }
     ensures same { (hall.new ≡ hall.old) × (vol.new ≡ vol.old) }
 {
@@ -172,14 +197,15 @@ fn writer_at<H: Hall>(hall: &mut H, vol: &mut Vol, v: u8, dsn: &Dsn) -> Option<W
     let Some(slot) = find(vol, dsn) else {
         return None;
     };
-    let Ok(inner) = begin(hall, vol, slot) else {
+    let Ok(inner) = begin(hall, vol, slot, front.end) else {
         unreachable!()
     };
     Some(Writer {
         v,
         dsn: *dsn,
-        mode: Mode::Fill,
+        mode,
         inner,
+        first: front.first,
         is_open: true,
     })
 }
@@ -204,19 +230,22 @@ pub(crate) fn put_owned<H: Hall>(
         (H.facts hall.old).units vols.old.items known.old.items }
     requires key { length key.now ≤ 255 }
     requires payload { length payload.now ≤ 32760 }
+    requires due { IsDue writer.old (key.now, payload.now) }
     ensures files { let names = names_of (H.facts hall.old).units (units_of vols.old.items) in
         IsTrue H.tells → PutsOn names (H.facts hall.new).units vols.old.items vols.new.items
         known.new.items writer.new (H.meaning hall.old) (H.meaning hall.new) result }
     ensures did { let names = names_of (H.facts hall.old).units (units_of vols.old.items) in
         let files = (H.meaning hall.old).state in
         IsTrue H.tells → DidPut (shelf_under names files)
-        (writer_in files (H.facts hall.old).units vols.old.items (Some writer.old)) (key.now, payload.now)
-        (writer_in (H.meaning hall.new).state (H.facts hall.new).units vols.new.items (Some writer.new))
+        (placed_in files (H.facts hall.old).units vols.old.items writer.old) (key.now, payload.now)
+        (placed_in (H.meaning hall.new).state (H.facts hall.new).units vols.new.items writer.new)
         result }
     ensures indexes { AreIndexes (H.facts hall.new).units vols.new.items }
     ensures order { AreInOrder vols.old.items → AreInOrder vols.new.items }
     ensures slot { HasSlot vols.new.items (Some writer.new) }
-    ensures open { writer.new.is_open ≡ writer.old.is_open }
+    ensures same { writer.new ≡ record writer.old { inner = writer.new.inner } }
+    ensures placed { OnOk result (0 < writer.new.inner.blocks) }
+    ensures stands { OnErr result (writer.new ≡ writer.old) }
     ensures base { base_of (H.facts hall.new) vols.new.items
         ≡ base_of (H.facts hall.old) vols.old.items }
     ensures buffers { HaveBuffers vols.new.items known.new.items }
@@ -259,9 +288,10 @@ pub(crate) fn make_room<H: Hall>(
     ensures pending { IsTrue H.tells → sound_after (reported result) ≡ true
         → IsPendingBy (H.meaning hall.new) (H.facts hall.new).units vols.new.items (Some writer.new) }
     ensures puts { IsTrue H.tells → sound_after (reported result) ≡ true
-        → writer_in (H.meaning hall.new).state (H.facts hall.new).units vols.new.items (Some writer.new)
-        ≡ writer_in (H.meaning hall.old).state (H.facts hall.old).units vols.old.items (Some writer.old) }
-    ensures same { writer.new ≡ record writer.old { inner = writer.new.inner } }
+        → placed_in (H.meaning hall.new).state (H.facts hall.new).units vols.new.items writer.new
+        ≡ placed_in (H.meaning hall.old).state (H.facts hall.old).units vols.old.items writer.old }
+    ensures same { let inner = record (writer.old.inner) { slot = writer.new.inner.slot } in
+        writer.new ≡ record writer.old { inner = inner } }
     ensures memory { ¬ IsErrOf result StoreErr.Memory }
     ensures base { base_of (H.facts hall.new) vols.new.items
         ≡ base_of (H.facts hall.old) vols.old.items }
@@ -304,9 +334,10 @@ fn make_room_settled<H: Hall>(
     ensures pending { IsTrue H.tells → sound_after (reported result) ≡ true
         → IsPendingBy (H.meaning hall.new) (H.facts hall.new).units vols.new.items (Some writer.new) }
     ensures puts { IsTrue H.tells → sound_after (reported result) ≡ true
-        → writer_in (H.meaning hall.new).state (H.facts hall.new).units vols.new.items (Some writer.new)
-        ≡ writer_in (H.meaning hall.old).state (H.facts hall.old).units vols.old.items (Some writer.old) }
-    ensures same { writer.new ≡ record writer.old { inner = writer.new.inner } }
+        → placed_in (H.meaning hall.new).state (H.facts hall.new).units vols.new.items writer.new
+        ≡ placed_in (H.meaning hall.old).state (H.facts hall.old).units vols.old.items writer.old }
+    ensures same { let inner = record (writer.old.inner) { slot = writer.new.inner.slot } in
+        writer.new ≡ record writer.old { inner = inner } }
     ensures memory { ¬ IsErrOf result StoreErr.Memory }
     ensures base { base_of (H.facts hall.new) vols.new.items
         ≡ base_of (H.facts hall.old) vols.old.items }
@@ -348,4 +379,15 @@ pub(crate) fn forget_on(known: &mut Vec<Known>, k: usize)
     ensures { ForgetsOn k known.old.items known.new.items }
 {
     known[k].buf.forget();
+}
+
+// Forgets its library, too.
+pub(crate) fn forget_pack(known: &mut Vec<Known>, k: usize)
+    requires { k < length known.old.items }
+    ensures rest { ForgetsOn k known.old.items known.new.items }
+    ensures none { HasNoLibrary k known.new.items }
+{
+    let pack = &mut known[k];
+    pack.buf.forget();
+    pack.library = None;
 }

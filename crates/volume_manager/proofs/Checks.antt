@@ -4,13 +4,18 @@ use Rattle.std.specs.Prelude.{Option, Some, None, Result, Ok, slice_range, unwra
 use Rattle.std.specs.Option.{option_map}
 use Rattle.pack_spec.specs.declared.MountErr.{MountErr}
 use Rattle.pack_spec.specs.Label.{label_of}
-use Rattle.free_rebuild.specs.Settled.{is_settled_vtoc}
+use Rattle.ebcdic_names.specs.declared.names.Dsn.{Dsn}
+use Rattle.mount_repair.specs.Scans.{IsScanOf}
+use Rattle.mount_repair.specs.Settled.{is_settled}
+use Rattle.mount_repair.specs.declared.scanned.Scan.{Scan}
+use Rattle.mount_repair.proofs.SettledTests.{scan_settled}
 use Rattle.pack_spec.specs.Volume.{volume_of, volume_with}
 use Rattle.stop_model.specs.Files.{File, file_of}
 use Rattle.stop_model.specs.Moments.{Meaning}
-use Rattle.shelf_machine.specs.Checking.{all_unread}
+use Rattle.shelf_machine.specs.Checking.{all_unread, unread_in}
 use Rattle.shelf_machine.specs.declared.unread.Unread.{Unread}
 use Rattle.vol_model.specs.declared.contents.Volume.{Volume}
+use Rattle.vol_model.specs.declared.answers.Kind.{Kind}
 use Rattle.vtoc_index.specs.Index.{IsMounted}
 use Rattle.vtoc_index.specs.declared.vol.Vol.{Vol}
 use Rattle.vtoc_sets.specs.Sets.{volume_in}
@@ -37,21 +42,19 @@ unfolding volume_with
 serial_right image v volume mounted stands =
     sym (labelled (label_of image v.geometry) v.serial.bytes mounted.index.serial) ∙ ap (λ (w : Volume). w.serial.bytes) (volume_right image v volume mounted stands)
 
--- what is said of the index and of the bodies found is what the task says
-pub check_said : {image : List ℕ} {old new : Meaning (List File)} (v : Vol) (volume : Volume) (unread : List Unread) (result : ℕ) → IsMounted image v → volume_of image ≡ Ok volume → unread ≡ all_unread (volume_in image v)
-    → FollowsTask (Says (check_code (is_settled_vtoc image) unread) (check_text v.serial.bytes (is_settled_vtoc image) unread)) old new result → FollowsTask (check_task image volume) old new result
-check_said {image} {old} {new} v volume unread result mounted stands found does =
-    let settled = is_settled_vtoc image in
-    subst (λ (u : List Unread). FollowsTask (Says (check_code settled u) (check_text volume.serial.bytes settled u)) old new result)
-    (found ∙ ap all_unread (volume_right image v volume mounted stands))
-    (subst (λ (s : List ℕ). FollowsTask (Says (check_code settled unread) (check_text s settled unread)) old new result) (serial_right image v volume mounted stands) does)
+-- what a scan tells of an image is what the task says
+pub scan_said : {image : List ℕ} {old new : Meaning (List File)} (s : Scan) (result : ℕ) → IsScanOf image s
+    → FollowsTask (Says (check_code s.settled (unread_in s.volume.items)) (check_text s.vol.serial.bytes s.settled (unread_in s.volume.items))) old new result → FollowsTask (check_task image (volume_in image s.vol)) old new result
+scan_said {image} {old} {new} s result scan does =
+    let settled = is_settled image in
+    let volume = volume_in image s.vol in
+    subst (λ (l : List ℕ). FollowsTask (Says (check_code settled (all_unread volume)) (check_text l settled (all_unread volume))) old new result)
+    (serial_right image s.vol volume scan.mounted scan.mounted.volume)
+    (subst (λ (sets : List (Dsn × Kind)). FollowsTask (Says (check_code settled (unread_in sets)) (check_text s.vol.serial.bytes settled (unread_in sets))) old new result) scan.volume
+    (subst (λ (b : Bool). FollowsTask (Says (check_code b (unread_in s.volume.items)) (check_text s.vol.serial.bytes b (unread_in s.volume.items))) old new result) (scan_settled image s scan) does))
 
 -- the status of a check isn't that of want of memory
 pub ample : (settled : Bool) (unread : List Unread) → check_code settled unread ≢ 25
 ample true [] is = cc is
 ample true (u ∷ unread) is = cc is
 ample false unread is = cc is
-
--- the image of a unit is that of the file which is attached as it
-pub image_found : {file : List ℕ} {files : List File} {v : Vol} (found : IsPackIn file files v) (state : List File) (name : List ℕ) → state ≡ files → name ≡ file → unwrap_or (file_of state name) [] ≡ found.image
-image_found found state name same named = ap (λ (o : Option (List ℕ)). unwrap_or o []) (ap₂ file_of same named ∙ found.there)

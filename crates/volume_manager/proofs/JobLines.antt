@@ -1,5 +1,5 @@
 -- No line of the listing of jobs is empty.
-use Rattle.std.proofs.Common.{ℕ, ◌<◌, ◌+◌, ◌++◌, Bool, true, false, List, [], ◌∷◌, length, arith, length-append}
+use Rattle.std.proofs.Common.{ℕ, ◌<◌, ◌+◌, ◌++◌, Bool, true, false, List, [], ◌∷◌, length, map, arith, length-append}
 use Rattle.std.specs.Prelude.{codes, Option, Some, None, Result, Ok, Err, if◌then◌else◌, is_some}
 use Rattle.std.specs.Fmt.{decimal}
 use Rattle.std.specs.List.{AllByRecursion, flat_map, filter_map}
@@ -9,7 +9,6 @@ use Rattle.ckd_image.specs.Device.{row_of}
 use Rattle.ebcdic_names.specs.Names.{shown}
 use Rattle.ebcdic_names.specs.declared.names.Dsn.{Dsn}
 use Rattle.ebcdic_names.specs.declared.names.Name8.{Name8}
-use Rattle.ebcdic_names.specs.declared.names.Serial.{Serial}
 use Rattle.jcl_forms.specs.declared.disposition.DdStatus.{DdStatus}
 use Rattle.jcl_forms.specs.declared.disposition.DdStatus.TheVariants as status
 use Rattle.job_deck.specs.declared.faults.JclErr.{JclErr}
@@ -19,19 +18,37 @@ use Rattle.job_deck.specs.declared.job.DdWhat.{DdWhat}
 use Rattle.job_deck.specs.declared.job.DdWhat.TheVariants as what
 use Rattle.job_deck.specs.declared.job.Job.{Job}
 use Rattle.job_deck.specs.declared.job.Step.{Step}
+use Rattle.iebcopy_util.specs.Items as members
+use Rattle.iebcopy_util.specs.Items.{Course, copy_items, follow, iebcopy_items, items_if, member_item, missing, missing_item, order_if, orders_items, picks_in, refused_item, tasks_if, with_missing}
+use Rattle.iebcopy_util.specs.Copying.{member_copied}
+use Rattle.iebcopy_util.specs.Sets.{is_among, library, sets_of}
+use Rattle.iebcopy_util.specs.declared.copying.Copy.{Copy}
+use Rattle.iebcopy_util.specs.declared.orders.Choice.{Choice}
+use Rattle.iebcopy_util.specs.declared.orders.CopyOrder.{CopyOrder}
+use Rattle.iebcopy_util.specs.declared.orders.Order.{Order as CopyingOrder}
+use Rattle.iebcopy_util.specs.declared.orders.Order.TheVariants as copying
+use Rattle.iebcopy_util.specs.declared.requests.Pick.{Pick}
+use Rattle.iebcopy_util.specs.declared.sets.Sets.{Sets}
+use Rattle.iebcopy_util.specs.declared.tasks.RefusedSet.{RefusedSet}
+use Rattle.iebcopy_util.specs.declared.tasks.Task.{Task}
 use Rattle.iebgener_util.specs.Items as copies
-use Rattle.iebgener_util.specs.Items.{InputView, copy_item, iebgener_items, item_with, line_card, step_item, sysut1, sysut2}
-use Rattle.iebgener_util.specs.Requests.{edits_of}
+use Rattle.iebgener_util.specs.Items.{InputView, copy_item, iebgener_items, names_for, object_for, order_item, order_items, sysut1, sysut2}
 use Rattle.iebgener_util.specs.declared.copying.Output.{Output}
 use Rattle.iebgener_util.specs.declared.requests.Edit.{Edit}
-use Rattle.iebgener_util.specs.declared.requests.StatementFault.{StatementFault}
+use Rattle.iebgener_util.specs.declared.orders.Order.{Order}
+use Rattle.iebgener_util.specs.declared.orders.Order.TheVariants as order
+use Rattle.iebgener_util.specs.declared.requests.Names.{Names}
+use Rattle.iehlist_util.specs.Directories.{Directory, PdsListing, behind_last, directory_lines, directory_of, listed_first, pds_listing}
 use Rattle.iehlist_util.specs.Items as lists
 use Rattle.iehlist_util.specs.Items.{Listing, extent_lines, iehlist_items, listed_sets, listed_on, set_lines, volume_listing}
-use Rattle.iehlist_util.specs.Lines.{attribute_words, extent_line, left_in, right_in, set_line, space_words, volume_line, word_and_number}
+use Rattle.iehlist_util.specs.Lines.{attribute_words, directory_line, entry_line, extent_line, hex_byte, hex_number, left_in, right_in, set_line, space_words, user_word, volume_line, word_and_number}
 use Rattle.iehlist_util.specs.Requests as list_requests
+use Rattle.iehlist_util.specs.declared.requests.ListPds.{ListPds}
 use Rattle.iehlist_util.specs.declared.requests.ListVtoc.{ListVtoc}
+use Rattle.iehlist_util.specs.declared.requests.Request.{Request as ListRequest}
+use Rattle.iehlist_util.specs.declared.requests.Request.TheVariants as listed
 use Rattle.iehprogm_util.specs.Items as programs
-use Rattle.iehprogm_util.specs.Items.{iehprogm_items, data_set, is_unexpired, operation_word, request_item}
+use Rattle.iehprogm_util.specs.Items.{iehprogm_items, object_of, is_unexpired, operation_word, request_item}
 use Rattle.iehprogm_util.specs.Requests as program_requests
 use Rattle.iehprogm_util.specs.declared.requests.Request.{Request}
 use Rattle.job_runner.specs.declared.dispositions.Deletion.{Deletion}
@@ -45,6 +62,7 @@ use Rattle.job_runner.specs.Lines.{code_digits, code_line, job_line, kind_words,
 use Rattle.job_runner.specs.Parts.{behind_items, framed, says}
 use Rattle.job_runner.specs.Programs.{program_items, program_named}
 use Rattle.util_steps.specs.Items.{items_along}
+use Rattle.util_steps.specs.declared.calls.SetRef.{SetRef}
 use Rattle.util_syntax.specs.Items.{ItemView, fault, statement}
 use Rattle.util_syntax.specs.Lines.{card_number, next_word}
 use Rattle.util_syntax.specs.Listing.{item_line, jcl_line, named_line, object_text, outcome_text, syntax_line, syntax_words}
@@ -53,23 +71,24 @@ use Rattle.util_syntax.specs.Step.{same_name}
 use Rattle.util_syntax.specs.declared.listing.Object.{Object}
 use Rattle.util_syntax.specs.declared.listing.Object.TheVariants as object
 use Rattle.util_syntax.specs.declared.listing.Outcome.{Outcome}
-use Rattle.util_syntax.specs.declared.listing.Outcome.TheVariants.{Expires, Refused}
+use Rattle.util_syntax.specs.declared.listing.Outcome.TheVariants.{Expires, Refused, SameSet}
 use Rattle.util_syntax.specs.declared.operands.SynErr.{SynErr}
 use Rattle.util_syntax.specs.declared.step.DdIn.{DdIn}
 use Rattle.util_syntax.specs.declared.step.StepIn.{StepIn}
 use Rattle.vol_model.specs.Did.{Did, answered}
-use Rattle.vol_model.specs.Events.{Item, after_operations, code_of, events_of}
+use Rattle.vol_model.specs.Events.{Item, after_operations, code_of, events_of, shelf_behind}
 use Rattle.vol_model.specs.Reading.{set_info, volume_info}
 use Rattle.vol_model.specs.Shelf.{set_of}
 use Rattle.vol_model.specs.Writing.{did_apply, set_on}
 use Rattle.vol_model.specs.declared.answers.SetInfo.{SetInfo}
 use Rattle.vol_model.specs.declared.answers.VolumeInfo.{VolumeInfo}
 use Rattle.vol_model.specs.declared.contents.DataSet.{DataSet}
+use Rattle.vol_model.specs.declared.contents.Entry.{Entry}
 use Rattle.vol_model.specs.declared.contents.Run.{Run}
 use Rattle.vol_model.specs.declared.contents.Shelf.{Shelf}
 use Rattle.vol_model.specs.declared.contents.Volume.{Volume}
 use Rattle.vol_model.specs.declared.refusals.Refusal.{Refusal}
-use Rattle.vol_model.specs.declared.refusals.Refusal.TheVariants.{NoSet, NoVolume}
+use Rattle.vol_model.specs.declared.refusals.Refusal.TheVariants.{MemberExists, NoMember, NoSet, NoVolume}
 use Rattle.vol_model.specs.declared.requests.Op.TheVariants.{Scratch}
 use Rattle.vol_model.proofs.Stops.{HaveLines, have_items}
 
@@ -144,6 +163,14 @@ extent_some : (number : ℕ) (run : Run) → IsSome (extent_line number run)
 unfolding extent_line
 extent_some number run = ended (codes "  EXTENT" ++ next_word (right_in 2 number) ++ codes " START" ++ next_word (right_in 5 run.start) ++ codes " LENGTH" ++ next_word (right_in 5 run.len))
 
+directory_some : (name : List ℕ) (blocks members : ℕ) → IsSome (directory_line name blocks members)
+unfolding directory_line
+directory_some name blocks members = ended (codes "PDS" ++ next_word (shown name) ++ word_and_number (codes "DIRECTORY") blocks ++ word_and_number (codes "MEMBERS") members)
+
+entry_some : (e : Entry) → IsSome (entry_line e)
+unfolding entry_line
+entry_some e = ended (left_in 8 (shown e.name.bytes) ++ next_word (hex_number e.place.tt) ++ next_word (hex_byte e.place.r) ++ next_word (hex_byte e.flags) ++ user_word e.user)
+
 -- ---- utilities
 
 along : {X : Type 0} (item_of : Shelf → X → Item) → ((shelf : Shelf) (x : X) → AreSome (item_of shelf x).lines) → (shelf : Shelf) (xs : List X) → AreLined (items_along item_of shelf xs)
@@ -152,7 +179,7 @@ along item_of each shelf (x ∷ xs) = (each shelf x, along item_of each (after_o
 
 request_lined : (date : List ℕ) (shelf : Shelf) (card : ℕ) (request : Request) → AreSome (request_item date shelf card request).lines
 unfolding request_item
-request_lined date shelf card request = (item_some card (operation_word request) (object.Name (data_set request)) _, tt)
+request_lined date shelf card request = (item_some card (operation_word request) (object_of request) _, tt)
 
 requested_lined : (date : List ℕ) (shelf : Shelf) (card : ℕ) (request : Option Request) → AreSome (programs.requested_item date shelf card request).lines
 requested_lined date shelf card None = (syntax_some card _, tt)
@@ -196,16 +223,46 @@ listed_on_some : (format : Bool) (volume : Volume) (names : Option (List Dsn)) �
 listed_on_some format volume None = sets_some format volume.sets
 listed_on_some format volume (Some dsns) = listed_some format volume dsns
 
-listing_lined : (card : ℕ) (serial : Serial) (l : Listing) → AreSome l.lines → AreSome (lists.listing_item card serial l).lines
-listing_lined card serial l some = more_lines l.lines (item_line card (codes "LISTVTOC") (object.Volume serial) l.outcome ∷ []) some (item_some card (codes "LISTVTOC") (object.Volume serial) l.outcome, tt)
+entries_some : (es : List Entry) → AreSome (map entry_line es)
+entries_some [] = tt
+entries_some (e ∷ es) = (entry_some e, entries_some es)
+
+directory_lines_some : (name : List ℕ) (d : Directory) → AreSome (directory_lines name d)
+unfolding directory_lines
+directory_lines_some name d = (directory_some name d.blocks (length d.entries), entries_some d.entries)
+
+listed_first_some : (dsn : Dsn) (r : Result Directory Refusal) (others : PdsListing) → AreSome others.lines → AreSome (listed_first dsn r others).lines
+listed_first_some dsn (Ok d) others some = more_lines (directory_lines dsn.bytes d) others.lines (directory_lines_some dsn.bytes d) some
+listed_first_some dsn (Err r) others some = tt
+
+pds_some : (volume : Volume) (dsn : Dsn) (dsns : List Dsn) → AreSome (pds_listing volume dsn dsns).lines
+unfolding pds_listing
+pds_some volume dsn [] = listed_first_some dsn (directory_of dsn.bytes (set_of dsn.bytes volume)) (behind_last dsn) tt
+pds_some volume dsn (next ∷ dsns) = listed_first_some dsn (directory_of dsn.bytes (set_of dsn.bytes volume)) (pds_listing volume next dsns) (pds_some volume next dsns)
+
+listing_lined : (card : ℕ) (operation : List ℕ) (named : Object) (l : Listing) → AreSome l.lines → AreSome (lists.listing_item card operation named l).lines
+listing_lined card operation named l some = more_lines l.lines (item_line card operation named l.outcome ∷ []) some (item_some card operation named l.outcome, tt)
+
+no_volume_lined : (card : ℕ) (operation : List ℕ) (named : Object) → AreSome (lists.no_volume_item card operation named).lines
+no_volume_lined card operation named = listing_lined card operation named (record { lines = []; outcome = Refused NoVolume }) tt
 
 vtoc_lined : (card : ℕ) (request : ListVtoc) (found : Option Volume) → AreSome (lists.vtoc_item card request found).lines
-vtoc_lined card request None = listing_lined card (lists.named_serial request.volume) (record { lines = []; outcome = Refused NoVolume }) tt
-vtoc_lined card request (Some volume) = listing_lined card volume.serial (volume_listing request volume) (volume_some (volume_info volume), listed_on_some request.format volume request.names)
+vtoc_lined card request None = no_volume_lined card (codes "LISTVTOC") (object.Volume (lists.named_serial request.volume))
+vtoc_lined card request (Some volume) = listing_lined card (codes "LISTVTOC") (object.Volume volume.serial) (volume_listing request volume) (volume_some (volume_info volume), listed_on_some request.format volume request.names)
 
-list_requested : (shelf : Shelf) (card : ℕ) (request : Option ListVtoc) → AreSome (lists.requested_item shelf card request).lines
+pds_lined : (card : ℕ) (request : ListPds) (found : Option Volume) → AreSome (lists.pds_item card request found).lines
+pds_lined card request None = no_volume_lined card (codes "LISTPDS") (object.Name request.first)
+pds_lined card request (Some volume) =
+    let l = pds_listing volume request.first request.others in
+    listing_lined card (codes "LISTPDS") (object.Name l.answer.dsn) (record { lines = l.lines; outcome = l.answer.outcome }) (pds_some volume request.first request.others)
+
+list_asked : (shelf : Shelf) (card : ℕ) (request : ListRequest) → AreSome (lists.asked_item shelf card request).lines
+list_asked shelf card (listed.Vtoc request) = vtoc_lined card request (lists.volume_for shelf request.volume)
+list_asked shelf card (listed.Pds request) = pds_lined card request (lists.volume_for shelf request.volume)
+
+list_requested : (shelf : Shelf) (card : ℕ) (request : Option ListRequest) → AreSome (lists.requested_item shelf card request).lines
 list_requested shelf card None = (syntax_some card _, tt)
-list_requested shelf card (Some request) = vtoc_lined card request (lists.volume_for shelf request)
+list_requested shelf card (Some request) = list_asked shelf card request
 
 list_statement : (shelf : Shelf) (x : ItemView) → AreSome (lists.statement_item shelf x).lines
 list_statement shelf (fault card column kind) = (syntax_some card kind, tt)
@@ -219,30 +276,109 @@ iehlist_lined : (step : StepIn) (shelf : Shelf) → AreLined (iehlist_items step
 unfolding iehlist_items
 iehlist_lined step shelf = lists_if step.card shelf (statements_in (lookup (same_name sysin) step.dds))
 
-copy_lined : (shelf : Shelf) (card : ℕ) (input : InputView) (out : Output) (edits : List Edit) → AreSome (copy_item shelf card input out edits).lines
+copy_lined : (shelf : Shelf) (card : ℕ) (input : InputView) (out : Output) (names : Option Names) (before : List Order) (edits : List Edit) → AreSome (copy_item shelf card input out names before edits).lines
 unfolding copy_item
-copy_lined shelf card input out edits = (item_some card (codes "COPY") (object.Name out.to.dsn) _, tt)
+copy_lined shelf card input out names before edits = (item_some card (codes "COPY") (object_for out.to names) _, tt)
 
-edited_lined : (shelf : Shelf) (card : ℕ) (input : InputView) (out : Output) (edits : Result (List Edit) StatementFault) → AreSome (item_with shelf card input out edits).lines
-edited_lined shelf card input out (Err f) = (syntax_some f.card f.kind, tt)
-edited_lined shelf card input out (Ok edits) = copy_lined shelf card input out edits
+order_lined : (shelf : Shelf) (input : InputView) (out : Output) (before : List Order) (o : Order) → AreSome (order_item shelf input out before o).lines
+unfolding order_item
+order_lined shelf input out before (order.Write p) = copy_lined shelf p.card input out (names_for p.names out.member) before p.edits
+order_lined shelf input out before (order.Fault f) = (syntax_some f.card f.kind, tt)
 
-copies_if : (shelf : Shelf) (card : ℕ) (items : Option (List ItemView)) (input : Option InputView) (out : Option Output) → AreSome (copies.item_if shelf card items input out).lines
-copies_if shelf card None input out = (named_some card (codes "NO-DD") sysin, tt)
-copies_if shelf card (Some items) None out = (named_some card (codes "NO-DD") sysut1, tt)
-copies_if shelf card (Some items) (Some input) None = (named_some card (codes "NO-DD") sysut2, tt)
-copies_if shelf card (Some items) (Some input) (Some out) = edited_lined shelf (line_card card items) input out (edits_of true items)
+orders_lined : (input : InputView) (out : Output) (before : List Order) (shelf : Shelf) (os : List Order) → AreLined (order_items input out before shelf os)
+orders_lined input out before shelf [] = tt
+orders_lined input out before shelf (o ∷ os) =
+    (order_lined shelf input out before o, orders_lined input out (before ++ o ∷ []) (after_operations shelf (order_item shelf input out before o).operations) os)
+
+copies_if : (shelf : Shelf) (card : ℕ) (statements : Option (List ItemView)) (input : Option InputView) (out : Option Output) → AreLined (copies.items_if shelf card statements input out)
+copies_if shelf card None input out = ((named_some card (codes "NO-DD") sysin, tt), tt)
+copies_if shelf card (Some statements) None out = ((named_some card (codes "NO-DD") sysut1, tt), tt)
+copies_if shelf card (Some statements) (Some input) None = ((named_some card (codes "NO-DD") sysut2, tt), tt)
+copies_if shelf card (Some statements) (Some input) (Some out) = orders_lined input out [] shelf _
 
 iebgener_lined : (step : StepIn) (shelf : Shelf) → AreLined (iebgener_items step shelf)
-unfolding step_item
+unfolding iebgener_items
 iebgener_lined step shelf =
-    (copies_if shelf step.card (copies.statements_if (lookup (same_name sysin) step.dds)) (copies.input_in (lookup (same_name sysut1) step.dds)) (copies.set_in (lookup (same_name sysut2) step.dds)), tt)
+    copies_if shelf step.card (copies.statements_if (lookup (same_name sysin) step.dds)) (copies.input_in (lookup (same_name sysut1) step.dds)) (copies.set_in (lookup (same_name sysut2) step.dds))
+
+refused_lined : (card : ℕ) (dsn : Dsn) (o : Outcome) → AreLined (refused_item card dsn o ∷ [])
+refused_lined card dsn o = ((item_some card (codes "COPY") (object.Name dsn) o, tt), tt)
+
+member_lined : (card : ℕ) (out : SetRef) (t : Task) (did : Did (Option Copy) Outcome) → AreSome (member_item card out t did).lines
+unfolding member_item
+member_lined card out t did = (item_some card (codes "COPY") (object.Member out.dsn t.name) (members.outcome_of did.answer), tt)
+
+-- the items behind a member, where those of the other members have lines
+follow_lined : (answer : Result (Option Copy) Outcome) (more : List Copy → Course) → ((copies : List Copy) → AreLined (more copies).items) → AreLined (follow answer more).items
+follow_lined (Ok None) more each = each []
+follow_lined (Ok (Some c)) more each = each (c ∷ [])
+follow_lined (Err (Refused MemberExists)) more each = each []
+follow_lined (Err o) more each = tt
+
+members_lined : (shelf : Shelf) (card : ℕ) (out : SetRef) (copies : List Copy) (tasks : List Task) → AreLined (members.members shelf card out copies tasks).items
+members_lined shelf card out copies [] = tt
+members_lined shelf card out copies (t ∷ ts) =
+    let did = member_copied shelf out copies t in
+    (member_lined card out t did, follow_lined did.answer _ (λ more. members_lined (after_operations shelf did.operations) card out (copies ++ more) ts))
+
+missing_lined : (card : ℕ) (out : SetRef) (picks : List Pick) → AreLined (map (missing_item card out) picks)
+missing_lined card out [] = tt
+missing_lined card out (p ∷ ps) = ((item_some card (codes "COPY") (object.Member out.dsn p.name) (Refused NoMember), tt), missing_lined card out ps)
+
+with_missing_lined : (card : ℕ) (out : SetRef) (picks : List Pick) (course : Course) → AreLined course.items → AreLined (with_missing card out picks course)
+with_missing_lined card out picks course lined = more_items course.items _ lined (by_end course.goes_on)
+  where
+    by_end : (goes_on : Bool) → AreLined (if goes_on then map (missing_item card out) picks else [])
+    by_end true = missing_lined card out picks
+    by_end false = tt
+
+tasks_lined : (shelf : Shelf) (card : ℕ) (out : SetRef) (choice : Choice) (tasks : Result (List Task) RefusedSet) → AreLined (items_if shelf card out choice tasks)
+tasks_lined shelf card out choice (Err f) = refused_lined card f.dsn (Refused f.refusal)
+tasks_lined shelf card out choice (Ok tasks) = with_missing_lined card out (missing choice tasks) (members.members shelf card out [] tasks) (members_lined shelf card out [] tasks)
+
+copies_lined : (shelf : Shelf) (card : ℕ) (choice : Choice) (sets : Sets) → AreLined (copy_items shelf card choice sets)
+unfolding copy_items
+copies_lined shelf card choice sets = by_sets (is_among sets.out sets.inputs)
+  where
+    others : List Item
+    others = items_if shelf card sets.out choice (tasks_if shelf choice sets.out sets.inputs (library shelf sets.out))
+
+    by_sets : (same : Bool) → AreLined (if same then refused_item card sets.out.dsn SameSet ∷ [] else others)
+    by_sets true = refused_lined card sets.out.dsn SameSet
+    by_sets false = tasks_lined shelf card sets.out choice (tasks_if shelf choice sets.out sets.inputs (library shelf sets.out))
+
+copying_if : (step : StepIn) (shelf : Shelf) (o : CopyOrder) (sets : Result Sets Name8) → AreLined (order_if step shelf o sets).items
+copying_if step shelf o (Err name) = ((named_some step.card (codes "NO-DD") name, tt), tt)
+copying_if step shelf o (Ok sets) = copies_lined shelf o.card o.choice sets
+
+copying_lined : (step : StepIn) (shelf : Shelf) (o : CopyingOrder) → AreLined (members.order_items step shelf o).items
+unfolding members.order_items
+copying_lined step shelf (copying.Copy o) = copying_if step shelf o (sets_of step.dds o.dds)
+copying_lined step shelf (copying.Fault f) = ((syntax_some f.card f.kind, tt), tt)
+
+copyings_lined : (step : StepIn) (shelf : Shelf) (os : List CopyingOrder) → AreLined (orders_items step shelf os)
+copyings_lined step shelf [] = tt
+copyings_lined step shelf (o ∷ os) =
+    let course = members.order_items step shelf o in
+    let behind = shelf_behind shelf (events_of course.items) in
+    let rest : (goes_on : Bool) → AreLined (if goes_on then orders_items step behind os else []) = λ goes_on.
+    elim goes_on as (λ b. AreLined (if b then orders_items step behind os else [])) [ true ↦ copyings_lined step behind os | false ↦ tt ] in
+    more_items course.items _ (copying_lined step shelf o) (rest course.goes_on)
+
+copying_step : (step : StepIn) (shelf : Shelf) (statements : Option (List ItemView)) → AreLined (members.step_items step shelf statements)
+copying_step step shelf None = ((named_some step.card (codes "NO-DD") sysin, tt), tt)
+copying_step step shelf (Some statements) = copyings_lined step shelf _
+
+iebcopy_lined : (step : StepIn) (shelf : Shelf) → AreLined (iebcopy_items step shelf)
+unfolding iebcopy_items
+iebcopy_lined step shelf = copying_step step shelf (statements_in (lookup (same_name sysin) step.dds))
 
 program_lined : (p : Program) (step : StepIn) (shelf : Shelf) → AreLined (program_items p step shelf)
 program_lined program.Iefbr14 step shelf = tt
 program_lined program.Iehprogm step shelf = iehprogm_lined step shelf
 program_lined program.Iehlist step shelf = iehlist_lined step shelf
 program_lined program.Iebgener step shelf = iebgener_lined step shelf
+program_lined program.Iebcopy step shelf = iebcopy_lined step shelf
 
 -- ---- DDs
 

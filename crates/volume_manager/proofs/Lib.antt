@@ -10,4 +10,5 @@ mod Attaching
 mod Running
 mod Opening
 mod Bases
+mod Members
 mod Cases

@@ -10,7 +10,7 @@ use Rattle.stop_model.proofs.MomentLemmas.{CountsNow, OnlyNow}
 use Rattle.pack_spec.specs.declared.MountErr.{MountErr}
 use Rattle.pack_spec.specs.Shelf.{UnitRefusal, shelf_of, volume_then, volumes_from}
 use Rattle.pack_spec.specs.Volume.{volume_of}
-use Rattle.shelf_machine.specs.Opening.{AreSafe, AreSettledVtocs, IsSafeImage, OpensSafely, images_named}
+use Rattle.shelf_machine.specs.Opening.{AreSafe, AreSettledImages, IsSafeImage, OpensSafely, images_named}
 use Rattle.vol_model.specs.Events.{Item, StopsIn, after_operations, behind, code_of, events_of, listing, operations_of, shelf_behind}
 use Rattle.vol_model.specs.Runs.{Runs}
 use Rattle.vol_model.specs.Shelf.{on_volume, step, step_on, volume_number, with_volume}
@@ -140,7 +140,7 @@ pub record AllItemsRun (names : List (List ℕ)) (shelf : Shelf) (items : List I
   pub few : status ≤ 16
   pub listed : new.printed ≡ printed ++ listing (events_of items)
   pub stands : shelf_of (images_named new.state names) ≡ Ok (shelf_behind shelf (events_of items))
-  pub settled : AreSettledVtocs names new.state
+  pub settled : AreSettledImages names new.state
   pub safe : AreSafe names shelf.volumes before new.state
 
 module _ (names : List (List ℕ)) (shelf : Shelf) (items : List Item) (have : HaveLines (events_of items)) (t : ℕ) (before : List File)
@@ -174,7 +174,7 @@ module _ (names : List (List ℕ)) (shelf : Shelf) (items : List Item) (have : H
       (runs.moments.moments t (shown files) printed early (files, left, refl))
 
   -- all was done
-  pub has_worked : {T E : Type 0} {tells : Bool} {x : T} (code : ℕ) → IsTrue tells → CountsNow new → new.left new.state → AreSettledVtocs names new.state → code ≡ code_of items → code ≤ 16
+  pub has_worked : {T E : Type 0} {tells : Bool} {x : T} (code : ℕ) → IsTrue tells → CountsNow new → new.left new.state → AreSettledImages names new.state → code ≡ code_of items → code ≤ 16
       → Runs {E = E} tells (events_of items) (seen shown mid) (seen shown new) (Ok x) → AllItemsRun names shelf items before mid.printed new code
   has_worked code told counts left settled is few runs =
       let after : shown new.state ≡ shelf_behind shelf (events_of items) = runs.shelf ∙ ap (λ (s : Shelf). shelf_behind s (events_of items)) state in
@@ -203,7 +203,7 @@ done_synced {names} {shelf} {items} {before} synced ends done = record {
   few = done.few;
   listed = synced.printed ∙ done.listed;
   stands = ap (λ (all : List File). shelf_of (images_named all names)) synced.state ∙ done.stands;
-  settled = subst (λ (all : List File). AreSettledVtocs names all) (sym synced.state) done.settled;
+  settled = subst (λ (all : List File). AreSettledImages names all) (sym synced.state) done.settled;
   durable = synced.durable ends;
   safe = subst (λ (all : List File). AreSafe names shelf.volumes before all) (sym synced.state) done.safe;
 }

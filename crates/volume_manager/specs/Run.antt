@@ -1,21 +1,22 @@
 -- What a run of the program leaves.
-use Rattle.std.specs.Prelude.{◌≡◌, ◌≢◌, ◌⊎◌, ℕ, ◌≤◌, Bool, List, [], ◌∷◌, ◌++◌, map, take, Option, Some, None, Result, Ok, IsTrue}
+use Rattle.std.specs.Prelude.{◌≡◌, ◌≢◌, ◌⊎◌, ℕ, ◌≤◌, Bool, List, [], ◌∷◌, ◌++◌, map, take, Option, Some, None, Result, Ok, IsTrue, ⊤}
 use Rattle.card_text.specs.declared.cards.Card.{Card}
 use Rattle.command_words.specs.declared.action.NewPack.{NewPack}
 use Rattle.command_words.specs.Requests.{Request, Run, Init, Names, Check}
 use Rattle.deck_cards.specs.Deck.{deck}
 use Rattle.deck_cards.specs.declared.reader.DeckErr.{DeckErr}
 use Rattle.hall_core.specs.Facts.{Attached, Facts}
+use Rattle.member_laws.specs.Members.{StaysWhole}
 use Rattle.stop_model.specs.Counts.{Rose}
 use Rattle.stop_model.specs.Files.{File, IsPrefixOf}
 use Rattle.stop_model.specs.Moments.{Meaning, IsDurable, LeavesSame, LeftNow, Elapses}
 use Rattle.pack_init.specs.Init.{IsInitLeft, with_file}
 use Rattle.pack_spec.specs.New.{IsNewImage}
 use Rattle.pack_spec.specs.Shelf.{shelf_of}
-use Rattle.shelf_machine.specs.Opening.{AreSafe, AreSettledVtocs, images_named}
+use Rattle.shelf_machine.specs.Opening.{AreSafe, AreSettledImages, images_named}
 use Rattle.vol_model.specs.declared.contents.Shelf.{Shelf}
 use Rattle.vol_model.specs.Events as events
-use Rattle.vol_model.specs.Events.{Item, StandsIn, events_of, listing, shelf_behind}
+use Rattle.vol_model.specs.Events.{Item, StandsIn, events_of, listing, operations_of, shelf_behind}
 use Rattle.volume_manager.specs.Lines.{init_line}
 use Rattle.volume_manager.specs.Task.{IsSilent, Task, Says, Works, Makes, task_of}
 use Rattle.volume_manager.specs.Words.{IsRefused, IsRun}
@@ -53,7 +54,7 @@ pub record AllItemsDone (names : List (List ℕ)) (shelf : Shelf) (items : List 
   pub few : status ≤ 16
   pub listed : new.printed ≡ printed ++ listing (events_of items)
   pub stands : shelf_of (images_named new.state names) ≡ Ok (shelf_behind shelf (events_of items))
-  pub settled : AreSettledVtocs names new.state
+  pub settled : AreSettledImages names new.state
   pub durable : IsDurable new
   pub safe : AreSafe names shelf.volumes before new.state
 
@@ -210,9 +211,15 @@ pub record DoesTask (request : Option Request) (tells : Bool) (input : List ℕ)
   pub given : IsTrue tells → cards ≡ deck input
   pub follows : FollowsTask (task_of request cards old.state) old new status
 
--- What the program promises: the task is done or safe; where nothing was begun the files stay; a fault in a task without a deck prints nothing; and but for a fault of the device or of the printer no write is pending then.
+-- a member keeps its blocks over all operations of the items until it is dropped or replaced, or its set is scratched
+abbrev pub MembersStayWhole : Task → Type 0
+MembersStayWhole (Works names shelf items) = StaysWhole shelf (operations_of (events_of items))
+MembersStayWhole task = ⊤
+
+-- What the program promises: the task is done or safe, and keeps members whole; where nothing was begun the files stay; a fault in a task without a deck prints nothing; and but for a fault of the device or of the printer no write is pending then.
 pub record Headline (request : Option Request) (tells : Bool) (input : List ℕ) (old new : Meaning (List File)) (status : ℕ) : Type 0 where
   pub does : DoesTask request tells input old new status
+  pub members : MembersStayWhole (task_of request does.cards old.state)
   pub unbegun : IsUnbegun status → LeavesFiles old new
   pub silent : ¬ IsRun request → (status ≡ 22) ⊎ (status ≡ 25) → new.printed ≡ old.printed
   pub durable : IsFinal status ⊎ ((status ≡ 23) ⊎ (status ≡ 25)) → IsDurable new

@@ -10,7 +10,7 @@ use Rattle.stop_model.specs.Files.{File, file_of}
 use Rattle.stop_model.specs.Moments.{Meaning}
 use Rattle.pack_spec.specs.declared.MountErr.{MountErr}
 use Rattle.pack_spec.specs.declared.MountErr.TheVariants.{NoFile}
-use Rattle.free_rebuild.specs.Settled.{is_settled_vtoc}
+use Rattle.mount_repair.specs.Settled.{is_settled}
 use Rattle.pack_spec.specs.Shelf.{UnitRefusal, shelf_of}
 use Rattle.pack_spec.specs.Volume.{volume_of}
 use Rattle.vol_model.specs.declared.contents.Shelf.{Shelf}
@@ -50,7 +50,7 @@ check_code settled unread = 4
 -- whether the image that stands for a volume is settled, and which bodies of that can't be read
 abbrev pub check_task : List ℕ → Volume → Task
 check_task image volume =
-    let settled = is_settled_vtoc image in
+    let settled = is_settled image in
     let unread = all_unread volume in
     Says (check_code settled unread) (check_text volume.serial.bytes settled unread)
 

@@ -1,27 +1,25 @@
 //! Whether a pack is settled, and which bodies on it can't be read.
-ghost use Rattle.std.specs.Prelude.{◌≡◌, ◌≤◌, ◌⊎◌, [], List, ℕ, IsTrue};
-ghost use Rattle.free_rebuild.specs.Settled.{is_settled_vtoc};
-ghost use Rattle.hall_core.specs.Facts.{Attached};
+ghost use Rattle.std.specs.Prelude.{◌≡◌, ◌≤◌, ◌⊎◌, [], List, ℕ, IfOk, IsTrue};
+ghost use Rattle.mount_repair.specs.Scans.{IsScanOf};
+ghost use Rattle.shelf_machine.specs.Checking.{unread_in};
 ghost use Rattle.stop_model.specs.Counts.{Rose};
 ghost use Rattle.stop_model.specs.Files.{file_of};
-ghost use Rattle.vtoc_index.specs.Index.{IsMounted, IsOfUnit};
+ghost use Rattle.vtoc_sets.specs.Sets.{volume_in};
 ghost use Rattle.volume_manager.specs.Lines.{check_text};
 ghost use Rattle.volume_manager.specs.Run.{FileFacts, FollowsTask, LeavesFiles, NoCountFell, code_of};
-ghost use Rattle.volume_manager.specs.Task.{Says, check_code, check_task, task_on};
+ghost use Rattle.volume_manager.specs.Task.{check_code, check_task, task_on};
 
 use crate::end::{end, refuse};
-use crate::mount::mount;
+use crate::mount::scan_file;
 use crate::status::Status;
 use crate::text::check_text;
-use free_rebuild::is_settled;
 use hall_core::Hall;
-use shelf_machine::{Unread, unread_sets};
+use mount_repair::Scan;
+use shelf_machine::{Unread, unread_of};
 use std::alloc::{AllocError, Global};
-use vtoc_index::Vol;
 
-/// Prints whether the VTOC of the pack in a file is settled, and then each sequential data set whose body can't be read,
-/// with the first relative track that breaks it. The status is 0 where it is settled and nothing else is printed, and
-/// else 4.
+/// Prints whether the pack in a file is settled, and then each data set but SYSCTLG whose body can't be read, with the
+/// first relative track that breaks it. The status is 0 where it is settled and nothing else is printed, and else 4.
 pub fn check<H: Hall>(alloc: Global, hall: &mut H, file: &str) -> u8
     requires { (H.facts hall.old).units ≡ [] }
     ensures task { IsTrue H.tells → FollowsTask (task_on file.now check_task (file_of (H.meaning hall.old).state file.now))
@@ -31,21 +29,16 @@ pub fn check<H: Hall>(alloc: Global, hall: &mut H, file: &str) -> u8
         → (H.meaning hall.new).printed ≡ (H.meaning hall.old).printed }
     ensures facts { FileFacts file.now (H.facts hall.old) (H.facts hall.new) result }
 {
-    match mount(alloc, hall, file) {
-        Ok(mut vol) => match unread_sets(alloc, hall, &mut vol) {
-            Ok(unread) => say(alloc, hall, &vol, &unread),
-            Err(why) => refuse(alloc, hall, file, why),
-        },
+    match scan_file(alloc, hall, file) {
+        Ok(scanned) => say(alloc, hall, &scanned),
         Err(why) => refuse(alloc, hall, file, why),
     }
 }
 
-// Prints what is found on a pack, of which these bodies can't be read, and gives the status.
-fn say<H: Hall>(alloc: Global, hall: &mut H, vol: &Vol, unread: &[Unread]) -> u8
-    requires unit { (units : List Attached) × IsOfUnit units vol.now }
-    ensures task { IsTrue H.tells → (image : List ℕ) → IsMounted image vol.now
-        → FollowsTask (Says (check_code (is_settled_vtoc image) unread.now)
-        (check_text vol.now.serial.bytes (is_settled_vtoc image) unread.now))
+// Prints what a scan tells of its pack, and gives the status.
+fn say<H: Hall>(alloc: Global, hall: &mut H, scanned: &Scan) -> u8
+    ensures task { IsTrue H.tells → (image : List ℕ) → IsScanOf image scanned.now
+        → FollowsTask (check_task image (volume_in image scanned.now.vol))
         (H.meaning hall.old) (H.meaning hall.new) result }
     ensures files { IsTrue H.tells → LeavesFiles (H.meaning hall.old) (H.meaning hall.new) }
     ensures silent { result ≡ 25 → hall.new ≡ hall.old }
@@ -55,16 +48,29 @@ fn say<H: Hall>(alloc: Global, hall: &mut H, vol: &Vol, unread: &[Unread]) -> u8
     ensures references { (H.facts hall.new).references ≡ (H.facts hall.old).references }
     ensures units { (H.facts hall.new).units ≡ (H.facts hall.old).units }
 {
-    let settled = is_settled(vol);
-    match check_text(alloc, &vol.serial, settled, unread) {
-        Ok(text) => end(hall, &text, status(settled, unread)),
+    match found(alloc, scanned) {
+        Ok((text, status)) => end(hall, &text, status),
         Err(AllocError) => Status::Memory.code(),
     }
 }
 
+// The text on a pack that was scanned, and the status.
+fn found(alloc: Global, scanned: &Scan) -> Result<(Vec<u8>, Status), AllocError>
+    ensures text { let unread = unread_in scanned.now.volume.items in IfOk result (λ r. r.0.items
+        ≡ check_text scanned.now.vol.serial.bytes scanned.now.settled unread) }
+    ensures status { let unread = unread_in scanned.now.volume.items in
+        IfOk result (λ r. code_of r.1 ≡ check_code scanned.now.settled unread) }
+    ensures low { IfOk result (λ r. code_of r.1 ≤ 4) }
+{
+    let unread = unread_of(alloc, &scanned.volume)?;
+    let text = check_text(alloc, &scanned.vol.serial, scanned.settled, &unread)?;
+    Ok((text, status(scanned.settled, &unread)))
+}
+
 // The status for a pack that is settled or not, of which these bodies can't be read.
 fn status(settled: bool, unread: &[Unread]) -> Status
-    ensures { code_of result ≡ check_code settled unread.now }
+    ensures code { code_of result ≡ check_code settled unread.now }
+    ensures low { code_of result ≤ 4 }
 {
     if settled && unread.is_empty() {
         Status::Done

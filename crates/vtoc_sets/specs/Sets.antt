@@ -7,6 +7,7 @@ use Rattle.dscb_codec.specs.declared.Dscb.TheVariants as formats
 use Rattle.dscb_codec.specs.declared.F1.{F1}
 use Rattle.dscb_codec.specs.declared.F3.{F3}
 use Rattle.pack_spec.specs.Blocks.{seq_body}
+use Rattle.pack_spec.specs.Directories.{part_body}
 use Rattle.pack_spec.specs.Rules.{counted_extents, has_extents, is_f3}
 use Rattle.pack_spec.specs.Slots.{slots_of_vtoc}
 use Rattle.pack_spec.specs.Volume.{volume_by}
@@ -64,6 +65,6 @@ kind_by name attr =
 -- the body of a set of this kind with these extents and this LSTAR, where the data tracks are these
 abbrev pub body_by : BodyKind → Geometry → List (List ℕ) → List Run → List ℕ → Body
 body_by kinds.Seq g tracks extents lstar = seq_body g tracks extents lstar
-body_by kinds.Part g tracks extents lstar = bodies.Unreadable 0
+body_by kinds.Part g tracks extents lstar = part_body g tracks extents lstar
 body_by kinds.Catalog g tracks extents lstar = bodies.Unreadable 0
 body_by kinds.Other g tracks extents lstar = bodies.Other

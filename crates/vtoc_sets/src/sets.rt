@@ -86,7 +86,7 @@ pub enum BodyKind {
 
 /// What the body of a data set is, by its format 1.
 ///
-/// A directory and a catalog aren't read yet, so their bodies can't be read from their first track on.
+/// A catalog isn't read yet, so its body can't be read from its first track on.
 #[tactic(auto, unfolding(pack_spec::specs::Bodies::body_of))]
 pub fn body_kind(set: &F1) -> BodyKind
     ensures kind { result ≡ kind_by set.now.name (attr_of set.now) }

@@ -1,4 +1,4 @@
-use Rattle.std.proofs.Common.{◌≡◌, ◌≤◌, ◌+◌, ◌∙◌, ℕ, List, ap, subst, sym}
+use Rattle.std.proofs.Common.{◌≡◌, ◌≤◌, ◌+◌, ◌∙◌, ℕ, List, false, ap, subst, sym}
 use Rattle.std.specs.Prelude.{Err, Ok, Result, vec_len}
 use Rattle.std.specs.Vec.{vec_capacity}
 use Rattle.std.proofs.lemmas.Result.{err_from_is_err_and}
@@ -6,15 +6,17 @@ use Rattle.hall_core.specs.Facts.{unit_of}
 use Rattle.hall_core.specs.declared.steps.Device.{Device}
 use Rattle.stop_model.proofs.MomentLemmas.{same_none}
 use Rattle.pack_spec.specs.Settled.{IsSettledVtoc}
+use Rattle.pack_spec.specs.Volume.{volume_of}
 use Rattle.space_alloc.specs.Units.{listed}
 use Rattle.vol_model.specs.declared.answers.StoreErr.{StoreErr}
 use Rattle.vol_model.specs.declared.answers.StoreErr.TheVariants.{Refused}
 use Rattle.vol_model.specs.declared.refusals.Refusal.{Refusal}
-use Rattle.vol_model.specs.Shelf.{allocate_on}
+use Rattle.vol_model.specs.Places.{tracks_in}
+use Rattle.vol_model.specs.Shelf.{allocate_on, lacks_room}
 use Rattle.vtoc_index.specs.Index.{IsMounted}
 use Rattle.vtoc_index.specs.Names.{AreByName, name_at}
 use Rattle.vtoc_index.specs.declared.vol.Vol.{Vol}
-use Rattle.dadsm_ops.specs.Allocating.{HasPlan, IsAbsent}
+use Rattle.dadsm_ops.specs.Allocating.{AreTracksOf, HasDirectory, HasPlan, InNewSet, IsAbsent, new_tracks}
 use Rattle.dadsm_ops.specs.Operations.{DoesOperation, Operates, image_named}
 use Rattle.dadsm_ops.proofs.NewIndex.{order_changed}
 use Rattle.dadsm_ops.proofs.Operating.{operates_none}
@@ -33,8 +35,8 @@ returns-in_err-extents-clause-files g c told =
     let p = err_from_is_err_and c.from_residual.result c.from_residual.ensures.1 in
     let r : Refusal = c.in_err-extents.field-0.0 in
     let given : c.from_residual.result ≡ Err (Refused r) = p.1 ∙ ap (λ (e : StoreErr). Err e) p.2 in
-    subst (λ (x : Result (Unit {0}) StoreErr). Operates name operation v m m x) (sym given)
-    (operates_none name operation v m _ r mounted.volume (c.in_err-extents.ensures.refused _ _ mounted mounted.volume) (same_none m (g.met.H.Hall.counts_now hall)))
+    subst (λ (x : Result (Unit {0}) StoreErr). Operates name operation v (InNewSet c.args.request.now c.args.dir v) m m x) (sym given)
+    (operates_none name operation v (InNewSet c.args.request.now c.args.dir v) m _ r mounted.volume (c.in_err-extents.ensures.refused _ _ mounted mounted.volume) (same_none m (g.met.H.Hall.counts_now hall)))
 
 pub returns-in_default-clause-files : goal.returns-in_default-clause-files
 returns-in_default-clause-files g c told =
@@ -42,7 +44,7 @@ returns-in_default-clause-files g c told =
     let v = c.args.vol.now in
     let m = g.H.Hall.meaning hall in
     let name : List ℕ = (unit_of (g.H.Hall.facts hall).units v.unit).name in
-    operates_memory name (allocate_on c.args.dsn.now c.args.attr.now c.args.request.now c.args.dir) c.reserve_name.new.vol m _ (c.requires.mounted told).volume (same_none m (g.met.H.Hall.counts_now hall))
+    operates_memory name (allocate_on c.args.dsn.now c.args.attr.now c.args.request.now c.args.dir) c.reserve_name.new.vol (InNewSet c.args.request.now c.args.dir c.reserve_name.new.vol) m _ (c.requires.mounted told).volume (same_none m (g.met.H.Hall.counts_now hall))
 
 pub returns-in_default-clause-unit : goal.returns-in_default-clause-unit
 returns-in_default-clause-unit g c = unit_reordered (g.H.Hall.facts c.args.hall.now).units c.args.vol.now c.reserve_name.new.vol c.reserve_name.ensures.others c.requires.unit
@@ -66,11 +68,18 @@ carry_out-requires-clause-absent g c = subst (λ (x : Vol). IsAbsent c.args.dsn.
 pub carry_out-requires-clause-room : goal.carry_out-requires-clause-room
 carry_out-requires-clause-room g c = subst (λ (x : Vol). vec_len x.free + 6 ≤ vec_capacity x.free) (sym c.reserve_name.ensures.others) c.requires.room
 
+pub carry_out-requires-clause-tracks : goal.carry_out-requires-clause-tracks
+carry_out-requires-clause-tracks g c = subst (λ (x : Vol). AreTracksOf x.geometry (listed c.in_ok-extents.extents)) (sym c.reserve_name.ensures.others) c.in_ok-extents.ensures.tracks
+
+pub carry_out-requires-clause-tracks_room : goal.carry_out-requires-clause-tracks_room
+carry_out-requires-clause-tracks_room g c =
+    subst (λ (x : Vol). lacks_room x.geometry.device c.args.dsn.now.bytes c.args.dir (tracks_in (listed c.in_ok-extents.extents)) ≡ false) (sym c.reserve_name.ensures.others) c.in_ok-extents.ensures.room
+
 pub carry_out-requires-clause-plan : goal.carry_out-requires-clause-plan
 carry_out-requires-clause-plan g c told =
     let m = g.H.Hall.meaning c.args.hall.now in
     let units = (g.H.Hall.facts c.args.hall.now).units in
-    subst (λ (x : Vol). HasPlan (image_named m.state (unit_of units x.unit).name) c.args.dsn.now c.args.attr.now c.args.request.now (listed c.in_ok-extents.extents)) (sym c.reserve_name.ensures.others)
+    subst (λ (x : Vol). HasPlan (image_named m.state (unit_of units x.unit).name) c.args.dsn.now c.args.attr.now c.args.request.now c.args.dir (listed c.in_ok-extents.extents)) (sym c.reserve_name.ensures.others)
     (c.in_ok-extents.ensures.plan _ (c.requires.mounted told))
 
 pub carry_out-requires-clause-mounted : goal.carry_out-requires-clause-mounted
@@ -100,8 +109,8 @@ returns-in-Ok-carry_out-clause-files g c told =
     let q = c.args.request.now in
     let name : List ℕ = (unit_of units v.unit).name in
     let by : (unit_of units c.reserve_name.new.vol.unit).name ≡ name = ap (λ (x : Vol). (unit_of units x.unit).name) c.reserve_name.ensures.others in
-    let does = subst (λ (s : List ℕ). DoesOperation {T = Unit {0}} {E = Device} s (allocate_on dsn attr q 0) w m n (Ok tt)) by (c.in-Ok-carry_out.ensures.files told) in
-    operates_planned name dsn attr q c.args.dir c.requires.dir w m n (listed c.in_ok-extents.extents) (c.in_ok-extents.ensures.plan _ (c.requires.mounted told)) c.requires.catalog tt does
+    let does = subst (λ (s : List ℕ). DoesOperation {T = Unit {0}} {E = Device} s (allocate_on dsn attr q c.args.dir) w (InNewSet q c.args.dir w) m n (Ok tt)) by (c.in-Ok-carry_out.ensures.files told) in
+    operates_planned name dsn attr q c.args.dir w (InNewSet q c.args.dir w) m n (listed c.in_ok-extents.extents) (c.in_ok-extents.ensures.plan _ (c.requires.mounted told)) tt does
 
 pub returns-in-Err-clause-files : goal.returns-in-Err-clause-files
 returns-in-Err-clause-files g c told =
@@ -116,8 +125,8 @@ returns-in-Err-clause-files g c told =
     let q = c.args.request.now in
     let name : List ℕ = (unit_of units v.unit).name in
     let by : (unit_of units c.reserve_name.new.vol.unit).name ≡ name = ap (λ (x : Vol). (unit_of units x.unit).name) c.reserve_name.ensures.others in
-    let does = subst (λ (s : List ℕ). DoesOperation {T = Unit {0}} {E = Device} s (allocate_on dsn attr q 0) w m n c.carry_out.result) by (c.carry_out.ensures.files told) in
-    operates_failed name dsn attr q c.args.dir c.requires.dir w m n (listed c.in_ok-extents.extents) (c.in_ok-extents.ensures.plan _ (c.requires.mounted told)) c.requires.catalog does
+    let does = subst (λ (s : List ℕ). DoesOperation {T = Unit {0}} {E = Device} s (allocate_on dsn attr q c.args.dir) w (InNewSet q c.args.dir w) m n c.carry_out.result) by (c.carry_out.ensures.files told) in
+    operates_failed name dsn attr q c.args.dir w (InNewSet q c.args.dir w) m n (listed c.in_ok-extents.extents) (c.in_ok-extents.ensures.plan _ (c.requires.mounted told)) does
 
 pub returns-in-Ok-carry_out-clause-index : goal.returns-in-Ok-carry_out-clause-index
 returns-in-Ok-carry_out-clause-index g c =
@@ -139,3 +148,15 @@ returns-in-Ok-carry_out-clause-room g c = c.carry_out.ensures.room ∙ ap (λ (x
 
 pub returns-in-Err-clause-room : goal.returns-in-Err-clause-room
 returns-in-Err-clause-room g c = c.carry_out.ensures.room ∙ ap (λ (x : Vol). vec_capacity x.free) c.reserve_name.ensures.others
+
+-- ---- the directory
+
+pub returns-in-Ok-carry_out-clause-directory : goal.returns-in-Ok-carry_out-clause-directory
+returns-in-Ok-carry_out-clause-directory g c told =
+    let units = (g.H.Hall.facts c.args.hall.now).units in
+    let m = g.H.Hall.meaning c.args.hall.now in
+    let n = g.H.Hall.meaning c.carry_out.new.hall in
+    let w = c.carry_out.new.vol in
+    let q = c.args.request.now in
+    let by : (unit_of units c.reserve_name.new.vol.unit).name ≡ (unit_of units c.args.vol.now.unit).name = ap (λ (x : Vol). (unit_of units x.unit).name) c.reserve_name.ensures.others in
+    subst (λ (s : List ℕ). HasDirectory (image_named n.state s) w.geometry (new_tracks q c.args.dir (volume_of (image_named m.state s))) c.args.dir) by (c.in-Ok-carry_out.ensures.directory told)

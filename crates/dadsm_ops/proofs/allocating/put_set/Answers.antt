@@ -60,10 +60,10 @@ returns-in_err-put_through-clause-files g c told =
     let n = g.H.Hall.meaning c.put_through.new.hall in
     let f : F1 = c.new_f1-set.result in
     let attrs = c.new_attr.ensures dsn.bytes c.requires.catalog ∙ attr_asked dsn.bytes attr q c.requires.catalog in
-    let is = set_is f dsn.bytes v.serial.bytes _ v.geometry _ runs c.args.pointer c.new_f1-set.ensures (asked attr q) (extent_type q.unit) attrs c.extent_type.ensures in
+    let is = set_is f dsn.bytes v.serial.bytes _ v.geometry _ runs c.args.pointer c.args.dir c.new_f1-set.ensures (asked attr q) (extent_type q.unit) attrs c.extent_type.ensures in
     let put = subst (λ x. PutsThrough {T = Unit {0}} {E = Device} (unit_of (g.H.Hall.facts x).units v.unit).name v slot (formats.F1 f) v' (g.H.Hall.meaning x) n (Err c.in_err-put_through.field-0.0)) c.in_ok-slot.ensures.hall (c.in_err-put_through.ensures.files told) in
-    decides_not name (allocate_on dsn attr q 0) v' m n c.from_residual-in_err-put_through.result c.from_residual-in_err-put_through.ensures.0
-    (put_decides name v v' slot m n units c.requires.unit (c.requires.mounted told) c.in_ok-slot.ensures.found (c.requires.marked told) dsn attr q runs c.args.pointer c.requires.catalog c.requires.quantities (c.requires.third told) (c.requires.plan told) f is
+    decides_not name (allocate_on dsn attr q c.args.dir) v' m n c.from_residual-in_err-put_through.result c.from_residual-in_err-put_through.ensures.0
+    (put_decides name v v' slot m n units c.requires.unit (c.requires.mounted told) c.in_ok-slot.ensures.found (c.requires.marked told) dsn attr q c.args.dir runs c.args.pointer c.requires.dir c.requires.catalog c.requires.quantities (c.requires.third told) (c.requires.plan told) (c.requires.body told) f is
     (Err c.in_err-put_through.field-0.0) v' tt tt tt put)
 
 pub returns-clause-files : goal.returns-clause-files
@@ -82,13 +82,13 @@ returns-clause-files g c told =
     let n = g.H.Hall.meaning c.put_through.new.hall in
     let f : F1 = c.new_f1-set.result in
     let attrs = c.new_attr.ensures dsn.bytes c.requires.catalog ∙ attr_asked dsn.bytes attr q c.requires.catalog in
-    let is = set_is f dsn.bytes v.serial.bytes _ v.geometry _ runs c.args.pointer c.new_f1-set.ensures (asked attr q) (extent_type q.unit) attrs c.extent_type.ensures in
+    let is = set_is f dsn.bytes v.serial.bytes _ v.geometry _ runs c.args.pointer c.args.dir c.new_f1-set.ensures (asked attr q) (extent_type q.unit) attrs c.extent_type.ensures in
     let put = subst (λ x. PutsThrough {T = Unit {0}} {E = Device} (unit_of (g.H.Hall.facts x).units v.unit).name v slot (formats.F1 f) v' (g.H.Hall.meaning x) n (Ok tt)) c.in_ok-slot.ensures.hall (c.in_ok-put_through.ensures.files told) in
     let freed = c.take_runs.new.vol in
     let last = entered_changes v' freed w c.take_runs.ensures.others c.enter_name.ensures.others in
     let taken = subst (λ (x : Vol). AreWithout x.free.items runs freed.free.items) c.put_through.ensures.others c.take_runs.ensures.runs in
     let without = subst (λ (x : Vol). AreWithout v.free.items runs x.free.items) (sym c.enter_name.ensures.others) taken in
-    put_decides name v v' slot m n units c.requires.unit (c.requires.mounted told) c.in_ok-slot.ensures.found (c.requires.marked told) dsn attr q runs c.args.pointer c.requires.catalog c.requires.quantities (c.requires.third told) (c.requires.plan told) f is
+    put_decides name v v' slot m n units c.requires.unit (c.requires.mounted told) c.in_ok-slot.ensures.found (c.requires.marked told) dsn attr q c.args.dir runs c.args.pointer c.requires.dir c.requires.catalog c.requires.quantities (c.requires.third told) (c.requires.plan told) (c.requires.body told) f is
     (Ok tt) w (both_changed v v' w c.put_through.ensures.others last) (index_with v' w last (image_named n.state name)) without put
 
 pub returns-clause-unit : goal.returns-clause-unit
@@ -107,7 +107,7 @@ returns-clause-names g c =
     let slot = c.in_ok-slot.slot in
     let f : F1 = c.new_f1-set.result in
     let v' = c.put_through.new.vol in
-    let named = set_named f c.args.dsn.now.bytes v.serial.bytes _ v.geometry _ (listed c.args.extents.now) c.args.pointer c.new_f1-set.ensures in
+    let named = set_named f c.args.dsn.now.bytes v.serial.bytes _ v.geometry _ (listed c.args.extents.now) c.args.pointer c.args.dir c.new_f1-set.ensures in
     let freed = c.take_runs.new.vol in
     let put = subst (λ (x : Vol). AreByName (name_at v.slots.items) x.by_name.items) (sym c.put_through.ensures.others) c.requires.names in
     let ordered = subst (λ (x : Vol). AreByName (name_at v.slots.items) x.by_name.items) (sym c.take_runs.ensures.others) put in

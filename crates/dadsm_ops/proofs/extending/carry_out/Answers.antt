@@ -16,13 +16,14 @@ use Rattle.free_rebuild.proofs.NameLemmas.{names_kept}
 use Rattle.free_rebuild.proofs.RunCounts.{low_tracks}
 use Rattle.dadsm_ops.specs.Allocating.{Decides, open_slots}
 use Rattle.dadsm_ops.specs.Extending.{HasExtension, HoldAdded, IsReadable, added_type, further_slots}
-use Rattle.dadsm_ops.specs.Operations.{image_named}
+use Rattle.dadsm_ops.specs.Operations.{InVtoc, image_named}
 use Rattle.dadsm_ops.proofs.ExtendedNames.{set_marked}
 use Rattle.dadsm_ops.proofs.ExtendedIndex.{changes_then, only_slots, same_vtoc}
 use Rattle.dadsm_ops.proofs.ExtensionPlans.{further_room, readable_stays, still_extended}
 use Rattle.dadsm_ops.proofs.NewIndex.{room_kept, room_then, slots_changed, vtoc_then}
 use Rattle.dadsm_ops.proofs.NewSetCalls.{decided_marked, name_kept, open_marked, still_marked}
 use Rattle.dadsm_ops.proofs.UpdateEnds.{ends, ends_deciding, ends_marking, ends_writing}
+use Rattle.dadsm_ops.proofs.Updating.{vtoc_goes_on}
 use Rattle.dadsm_ops.proofs.extending.carry_out.Goals as goal
 
 -- ---- how it ends
@@ -32,7 +33,7 @@ returns-in_err-mark-clause-files g c dsn is told =
     let v0 = c.args.vol.now in
     let name : List ℕ = (unit_of (g.H.Hall.facts c.args.hall.now).units v0.unit).name in
     ends_marking name (extend_on dsn) v0 c.mark.new.vol (g.H.Hall.meaning c.args.hall.now) (c.requires.mounted told)
-    (slots_changed v0 c.mark.new.vol c.mark.ensures.others) c.from_residual.result c.from_residual.ensures.0 (c.mark.ensures.files told)
+    (slots_changed v0 c.mark.new.vol c.mark.ensures.others) (InVtoc c.mark.new.vol) (vtoc_goes_on c.mark.new.vol _) c.from_residual.result c.from_residual.ensures.0 (c.mark.ensures.files told)
 
 pub returns-in_err-pointer-clause-files : goal.returns-in_err-pointer-clause-files
 returns-in_err-pointer-clause-files g c dsn is told =
@@ -47,7 +48,7 @@ returns-in_err-pointer-clause-files g c dsn is told =
     let two = slots_changed v1 v2 c.put_added.ensures.others in
     let by1 = name_kept (g.H.Hall.facts c.args.hall.now).units f1.units v0 v1 c.in_ok-mark.ensures.faults.units one in
     let more = subst (λ (n : List ℕ). Marks {T = List ℕ} {E = Device} n v2 m1 m2 c.put_added.result) by1 (c.put_added.ensures.files told) in
-    ends_writing name (extend_on dsn) v0 v2 (g.H.Hall.meaning c.args.hall.now) (c.requires.mounted told) (vtoc_then v0 v1 v2 one two)
+    ends_writing name (extend_on dsn) v0 v2 (g.H.Hall.meaning c.args.hall.now) (c.requires.mounted told) (vtoc_then v0 v1 v2 one two) (InVtoc v2) (vtoc_goes_on v2 _)
     (c.in_ok-mark.ensures.files told) c.from_residual-in_err-pointer.result c.from_residual-in_err-pointer.ensures.0 more
 
 pub returns-in_err-put_extended-clause-files : goal.returns-in_err-put_extended-clause-files
@@ -69,7 +70,7 @@ returns-in_err-put_extended-clause-files g c dsn is told =
     let by2 = name_kept f1.units f2.units v1 v2 c.in_ok-pointer.ensures.faults.units two ∙ by1 in
     let more = subst (λ (n : List ℕ). Marks {T = List ℕ} {E = Device} n v2 m1 m2 (Ok c.in_ok-pointer.pointer)) by1 (c.in_ok-pointer.ensures.files told) in
     let decides = subst (λ (n : List ℕ). Decides {T = Unit {0}} {E = Device} n (extend_on dsn) v3 m2 m3 c.put_extended.result) by2 (c.put_extended.ensures.files dsn is told) in
-    ends_deciding name (extend_on dsn) v0 v3 (g.H.Hall.meaning c.args.hall.now) (c.requires.mounted told) (vtoc_then v0 v1 v3 one (vtoc_then v1 v2 v3 two (same_vtoc v2 v3 c.put_extended.ensures.index)))
+    ends_deciding name (extend_on dsn) v0 v3 (g.H.Hall.meaning c.args.hall.now) (c.requires.mounted told) (vtoc_then v0 v1 v3 one (vtoc_then v1 v2 v3 two (same_vtoc v2 v3 c.put_extended.ensures.index))) (InVtoc v3) (vtoc_goes_on v3 _)
     (c.in_ok-mark.ensures.files told) more c.from_residual-in_err-put_extended.result c.from_residual-in_err-put_extended.ensures.0 decides
 
 pub returns-clause-files : goal.returns-clause-files
@@ -98,7 +99,7 @@ returns-clause-files g c dsn is told =
     let more = subst (λ (n : List ℕ). Marks {T = List ℕ} {E = Device} n v2 m1 m2 (Ok c.in_ok-pointer.pointer)) by1 (c.in_ok-pointer.ensures.files told) in
     let decides = subst (λ (n : List ℕ). Decides {T = Unit {0}} {E = Device} n (extend_on dsn) v3 m2 m3 (Ok tt)) by2 (c.in_ok-put_extended.ensures.files dsn is told) in
     let concludes = subst (λ (n : List ℕ). Concludes {T = Unit {0}} {E = Device} n v4 m3 m4 c.conclude.result) by3 (c.conclude.ensures.files told) in
-    ends name (extend_on dsn) v0 v4 (g.H.Hall.meaning c.args.hall.now) (c.requires.mounted told) (vtoc_then v0 v1 v4 one (vtoc_then v1 v2 v4 two (vtoc_then v2 v3 v4 three four)))
+    ends name (extend_on dsn) v0 v4 (g.H.Hall.meaning c.args.hall.now) (c.requires.mounted told) (vtoc_then v0 v1 v4 one (vtoc_then v1 v2 v4 two (vtoc_then v2 v3 v4 three four))) (InVtoc v4) (vtoc_goes_on v4 _)
     (c.in_ok-mark.ensures.files told) more c.conclude.result decides concludes
 
 pub returns-clause-index : goal.returns-clause-index

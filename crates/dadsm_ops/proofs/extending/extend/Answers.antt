@@ -8,7 +8,7 @@ use Rattle.vol_model.specs.declared.answers.StoreErr.{StoreErr}
 use Rattle.vol_model.specs.declared.answers.StoreErr.TheVariants.{Refused}
 use Rattle.vol_model.specs.declared.refusals.Refusal.{Refusal}
 use Rattle.vol_model.specs.Shelf.{extend_on}
-use Rattle.dadsm_ops.specs.Operations.{Operates, image_named}
+use Rattle.dadsm_ops.specs.Operations.{InVtoc, Operates, image_named}
 use Rattle.dadsm_ops.proofs.ExtendedNames.{dsn_at, named_at, plain_at}
 use Rattle.dadsm_ops.proofs.ExtendedOperates.{operates_extended, operates_unextended, refused_at}
 use Rattle.dadsm_ops.proofs.Operating.{operates_none}
@@ -30,8 +30,8 @@ returns-in_err-extents-clause-files g c dsn is told =
     let given : c.from_residual.result ≡ Err (Refused r) = p.1 ∙ ap (λ (e : StoreErr). Err e) p.2 in
     let is_refused = refused_at v c.args.slot set there (plain_at v.slots.items c.args.slot c.requires.set set there) dsn (dsn_at v.slots.items c.args.slot set there dsn is) r c.in_err-extents.ensures.refused (image_named m.state name) mounted
     (c.requires.body told set.name (named_at v.slots.items c.args.slot set there)) in
-    subst (λ (x : Result (Unit {0}) StoreErr). Operates name (extend_on dsn) v m m x) (sym given)
-    (operates_none name (extend_on dsn) v m _ r mounted.volume is_refused (same_none m (g.met.H.Hall.counts_now hall)))
+    subst (λ (x : Result (Unit {0}) StoreErr). Operates name (extend_on dsn) v (InVtoc v) m m x) (sym given)
+    (operates_none name (extend_on dsn) v (InVtoc v) m _ r mounted.volume is_refused (same_none m (g.met.H.Hall.counts_now hall)))
 
 -- ---- what is planned is carried out
 

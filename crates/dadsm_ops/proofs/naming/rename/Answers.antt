@@ -9,7 +9,7 @@ use Rattle.hall_core.specs.Facts.{unit_of}
 use Rattle.vtoc_index.specs.Names.{AreByName, name_at}
 use Rattle.vtoc_index.specs.declared.vol.Vol.{Vol}
 use Rattle.dadsm_ops.specs.Naming.{IsToRename}
-use Rattle.dadsm_ops.specs.Operations.{Operates}
+use Rattle.dadsm_ops.specs.Operations.{InVtoc, Operates}
 use Rattle.dadsm_ops.proofs.Operating.{operates_none}
 use Rattle.dadsm_ops.proofs.Renaming.{is_renamed, renames, renames_not}
 use Rattle.dadsm_ops.proofs.Reordering.{order_changes, put_changes, unit_reordered}
@@ -24,8 +24,8 @@ returns-in_err-slot-clause-files g c told =
     let mounted = c.requires.mounted told in
     let p = err_from_is_err_and c.from_residual.result c.from_residual.ensures.1 in
     let given : c.from_residual.result ≡ Err (Refused c.in_err-slot.field-0.0) = p.1 ∙ ap (λ (e : StoreErr). Err e) p.2 in
-    subst (λ (r : Result (Unit {0}) StoreErr). Operates name (rename_on c.args.old.now c.args.new.now) v m m r) (sym given)
-    (operates_none name (rename_on c.args.old.now c.args.new.now) v m _ c.in_err-slot.field-0.0 mounted.volume (c.in_err-slot.ensures.refused _ _ mounted mounted.volume) (same_none m (g.met.H.Hall.counts_now hall)))
+    subst (λ (r : Result (Unit {0}) StoreErr). Operates name (rename_on c.args.old.now c.args.new.now) v (InVtoc v) m m r) (sym given)
+    (operates_none name (rename_on c.args.old.now c.args.new.now) v (InVtoc v) m _ c.in_err-slot.field-0.0 mounted.volume (c.in_err-slot.ensures.refused _ _ mounted mounted.volume) (same_none m (g.met.H.Hall.counts_now hall)))
 
 pub returns-in-Ok-clause-files : goal.returns-in-Ok-clause-files
 returns-in-Ok-clause-files g c told =

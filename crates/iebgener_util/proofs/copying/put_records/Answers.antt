@@ -1,28 +1,42 @@
-use Rattle.std.proofs.Common.{refl, sym, ◌∙◌, ap}
-use Rattle.record_blocks.specs.declared.formats.Format.{Format}
-use Rattle.vol_model.specs.Shelf.{blocks_of}
-use Rattle.iebgener_util.specs.declared.editor.Editor.{Editor}
+use Rattle.std.proofs.Common.{◌≡◌, refl, sym, ap, ◌∙◌}
+use Rattle.std.specs.Prelude.{Ok, Err}
+use Rattle.iebgener_util.specs.declared.record_writer.RecordWriter.{RecordWriter}
+use Rattle.iebgener_util.specs.Advancing.{forgetting}
 use Rattle.iebgener_util.specs.Editor.{coming_edited}
-use Rattle.iebgener_util.specs.Items.{Found, format_of, records_of}
-use Rattle.iebgener_util.specs.Reading.{set_records}
-use Rattle.iebgener_util.proofs.BeginLemmas.{coming_begun}
-use Rattle.iebgener_util.proofs.RecordLemmas.{advances_as}
+use Rattle.iebgener_util.specs.Items.{blocks_in, records_of}
+use Rattle.iebgener_util.proofs.BeginLemmas.{begun_with}
+use Rattle.iebgener_util.proofs.NextLemmas.{stopped_forgets}
+use Rattle.iebgener_util.proofs.PutLemmas.{fault_alike}
+use Rattle.iebgener_util.proofs.RecordLemmas.{advances_as, advances_from}
 use Rattle.iebgener_util.proofs.copying.put_records.Goals as goal
 
-pub returns-in-Cards-clause-advances : goal.returns-in-Cards-clause-advances
-returns-in-Cards-clause-advances g c told found reads same =
-    let e : Editor = record { writer = c.in-Ok.writer; lrecl = c.args.output.now.lrecl; edits = c.has_edits.result; groups = c.args.task.now.edits } in
-    let is = rw c.in-Cards.is at reads in
-    advances_as c.take_cards.result
-    (sym (coming_begun e c.args.output.now c.args.task.now.edits.now c.in-Ok.ensures.blocks c.in-Ok.ensures.format refl c.has_edits.ensures refl found) ∙ ap (λ (f : Found). coming_edited e (records_of f)) is)
-    refl (c.take_cards.ensures.advances told)
+pub returns-in_err-take_input-clause-advances : goal.returns-in_err-take_input-clause-advances
+returns-in_err-take_input-clause-advances g c told found reads same =
+    let e = c.editor_for-editor.result in
+    let made = c.editor_for-editor.ensures in
+    let writer = c.in-Ok.ensures in
+    let all : blocks_in c.args.output.now c.args.task.now.before.now c.args.task.now.edits.now found ≡ coming_edited e (records_of found) =
+    sym (begun_with e c.in-Ok.writer c.args.output.now c.args.task.now.before.now c.args.task.now.edits.now made.writer writer.blocks writer.format made.lrecl made.edits made.groups made.passed made.orders found) in
+    let none = ap (λ (w : RecordWriter). w.start) made.writer ∙ writer.start in
+    advances_as (forgetting c.from_residual.result) all refl
+    (stopped_forgets _ c.from_residual.result c.from_residual.ensures.0 (c.in_err-take_input.ensures.advances told found reads same))
+
+pub returns-in-Ok-2-clause-advances : goal.returns-in-Ok-2-clause-advances
+returns-in-Ok-2-clause-advances g c told found reads same =
+    let e = c.editor_for-editor.result in
+    let made = c.editor_for-editor.ensures in
+    let writer = c.in-Ok.ensures in
+    let all : blocks_in c.args.output.now c.args.task.now.before.now c.args.task.now.edits.now found ≡ coming_edited e (records_of found) =
+    sym (begun_with e c.in-Ok.writer c.args.output.now c.args.task.now.before.now c.args.task.now.edits.now made.writer writer.blocks writer.format made.lrecl made.edits made.groups made.passed made.orders found) in
+    let none = ap (λ (w : RecordWriter). w.start) made.writer ∙ writer.start in
+    advances_from (Ok (Ok tt)) none refl (advances_as (Ok (Ok tt)) all refl (rw c.in-Ok-2.is at (c.in_ok-take_input.ensures.advances told found reads same)))
 
 pub returns-clause-advances : goal.returns-clause-advances
 returns-clause-advances g c told found reads same =
-    let e : Editor = record { writer = c.in-Ok.writer; lrecl = c.args.output.now.lrecl; edits = c.has_edits.result; groups = c.args.task.now.edits } in
-    let is = rw c.in-From.is at reads in
-    let bs = blocks_of is.0.body in
-    advances_as c.take_set.result
-    (sym (coming_begun e c.args.output.now c.args.task.now.edits.now c.in-Ok.ensures.blocks c.in-Ok.ensures.format refl c.has_edits.ensures refl found) ∙ ap (λ (f : Found). coming_edited e (records_of f)) is.1
-    ∙ ap (λ (f : Format). coming_edited e (set_records f bs)) (sym (same ∙ ap format_of is.1)))
-    refl (c.take_set.ensures.advances told bs is.2)
+    let e = c.editor_for-editor.result in
+    let made = c.editor_for-editor.ensures in
+    let writer = c.in-Ok.ensures in
+    let all : blocks_in c.args.output.now c.args.task.now.before.now c.args.task.now.edits.now found ≡ coming_edited e (records_of found) =
+    sym (begun_with e c.in-Ok.writer c.args.output.now c.args.task.now.before.now c.args.task.now.edits.now made.writer writer.blocks writer.format made.lrecl made.edits made.groups made.passed made.orders found) in
+    let none = ap (λ (w : RecordWriter). w.start) made.writer ∙ writer.start in
+    advances_as (Ok (Err c.in-Err-2.fault)) all refl (fault_alike c.in-Err-2.fault (rw c.in-Err-2.is at (c.in_ok-take_input.ensures.advances told found reads same)))

@@ -14,7 +14,7 @@ invariant-loop-fault g l =
     let w = g.M.Machine.writer in
     let s = g.M.Machine.status in
     record {
-      so_far : IsTrue g.M.Machine.tells → (records : List (List ℕ)) (broken : Bool) → Advanced g.M.Machine.tells_prints (coming_of (blocks_to_come l.fn.writer records) broken) (coming_of (blocks_to_come l.writer records) broken) (w l.fn.machine) (w l.machine) (m l.fn.machine) (m l.machine) (s l.fn.machine).done (s l.machine).done;
+      so_far : IsTrue g.M.Machine.tells → (records : List (List ℕ)) (broken : Bool) → Advanced g.M.Machine.tells_prints (coming_of (blocks_to_come l.fn.writer records) broken) (coming_of (blocks_to_come l.writer records) broken) (w l.fn.machine) (w l.machine) l.fn.writer.start l.writer.start (m l.fn.machine) (m l.machine) (s l.fn.machine).done (s l.machine).done;
       format : format_of l.writer.packer ≡ format_of l.fn.writer.packer;
       later : IsTrue g.M.Machine.tells → (m l.fn.machine).clock ≤ (m l.machine).clock;
       promise : IsTrue g.M.Machine.tells → Keeps (m l.fn.machine).clock (g.M.Machine.promise l.fn.machine) (g.M.Machine.promise l.machine);

@@ -3,10 +3,10 @@ use Rattle.std.specs.Prelude.{Ok, Err}
 use Rattle.record_blocks.specs.Blocks.{piece}
 use Rattle.record_blocks.specs.Deblocking.{remaining_reading}
 use Rattle.record_blocks.specs.Reading.{Reading, reading, with_segment}
-use Rattle.iebgener_util.specs.Editor.{coming_read}
+use Rattle.iebgener_util.specs.Editor.{coming_read, records_left}
 use Rattle.iebgener_util.proofs.AdvanceLemmas.{advanced_none, advanced_then, advances_then}
-use Rattle.iebgener_util.proofs.PutLemmas.{broken_advances, fault_alike, stops_alike, works_as}
-use Rattle.iebgener_util.proofs.ReadLemmas.{block_breaks, block_ends, block_fault, block_goes_on, reading_breaks, then_blocks}
+use Rattle.iebgener_util.proofs.PutLemmas.{fault_alike, stops_alike}
+use Rattle.iebgener_util.proofs.ReadLemmas.{block_breaks, block_ends, block_fault, block_goes_on, read_as, reading_breaks, then_blocks}
 use Rattle.iebgener_util.proofs.RecordLemmas.{advances_as}
 use Rattle.iebgener_util.proofs.reading.take_block.Goals as goal
 
@@ -33,10 +33,10 @@ returns-in-Err-clause-advances g c told others =
     let j = c.loop-bytes.joiner in
     let left = remaining_reading c.loop-bytes.deblock in
     let broken = c.in-Err.ensures.0 in
-    advances_then (c.loop-bytes.invariant.so_far told others) c.break_off.result
-    (broken_advances c.break_off.result c.break_off.ensures.broken
-    (works_as (g.M.Machine.writer c.loop-bytes.machine) c.break_off.result
-    (ap (coming_read e j) (block_breaks left others c.in-Err.field-0 broken) ∙ reading_breaks e j _ (block_fault j c.in-Err.field-0)) (c.break_off.ensures.works told)))
+    advances_then (c.loop-bytes.invariant.so_far told others) c.break_input.result
+    (advances_as c.break_input.result
+    (ap (coming_read e j) (block_breaks left others c.in-Err.field-0 broken) ∙ reading_breaks e j _ (block_fault j c.in-Err.field-0))
+    (read_as c.break_input.new.editor j others) (c.break_input.ensures.advances told (records_left j others)))
 
 pub returns-in_err-fault-clause-advances : goal.returns-in_err-fault-clause-advances
 returns-in_err-fault-clause-advances g c told others =

@@ -16,7 +16,7 @@ invariant-loop-bytes g l =
     let w = g.M.Machine.writer in
     let s = g.M.Machine.status in
     record {
-      so_far : IsTrue g.M.Machine.tells → (others : Reading) → Advanced g.M.Machine.tells_prints (coming_read l.fn.editor l.fn.joiner (then_blocks (reading l.fn.format l.block) others)) (coming_read l.editor l.joiner (then_blocks (remaining_reading l.deblock) others)) (w l.fn.machine) (w l.machine) (m l.fn.machine) (m l.machine) (s l.fn.machine).done (s l.machine).done;
+      so_far : IsTrue g.M.Machine.tells → (others : Reading) → Advanced g.M.Machine.tells_prints (coming_read l.fn.editor l.fn.joiner (then_blocks (reading l.fn.format l.block) others)) (coming_read l.editor l.joiner (then_blocks (remaining_reading l.deblock) others)) (w l.fn.machine) (w l.machine) l.fn.editor.writer.start l.editor.writer.start (m l.fn.machine) (m l.machine) (s l.fn.machine).done (s l.machine).done;
       idle : is_waiting l.editor.writer.packer ≡ false;
       later : IsTrue g.M.Machine.tells → (m l.fn.machine).clock ≤ (m l.machine).clock;
       promise : IsTrue g.M.Machine.tells → Keeps (m l.fn.machine).clock (g.M.Machine.promise l.fn.machine) (g.M.Machine.promise l.machine);

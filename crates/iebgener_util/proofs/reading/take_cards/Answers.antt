@@ -1,11 +1,11 @@
-use Rattle.std.proofs.Common.{refl, ◌∙◌, arith, rules, false}
+use Rattle.std.proofs.Common.{refl, ◌∙◌, arith, rules}
 use Rattle.std.specs.Prelude.{Ok, Err}
 use Rattle.iebgener_util.specs.Editor.{coming_edited}
 use Rattle.iebgener_util.specs.Reading.{card_records}
 use Rattle.iebgener_util.proofs.AdvanceLemmas.{advanced_none, advanced_then, advances_then}
 use Rattle.iebgener_util.proofs.BeginLemmas.{cards_first, cards_none, no_cards}
 use Rattle.iebgener_util.proofs.PutLemmas.{fault_alike, stops_alike}
-use Rattle.iebgener_util.proofs.ReadLemmas.{nothing_edited}
+use Rattle.iebgener_util.proofs.EditorLemmas.{none_to_come}
 use Rattle.iebgener_util.proofs.RecordLemmas.{advances_as}
 use Rattle.iebgener_util.proofs.reading.take_cards.Goals as goal
 
@@ -22,7 +22,7 @@ pub returns-in-None-clause-advances : goal.returns-in-None-clause-advances
 returns-in-None-clause-advances g c told =
     let e = c.loop-parts.editor in
     let none = no_cards c.loop-parts.rest.now c.in-None.ensures.cases in
-    advances_then (c.loop-parts.invariant.so_far told) c.finish.result (advances_as c.finish.result (cards_none e c.loop-parts.rest.now none ∙ nothing_edited e false) refl (c.finish.ensures.advances told))
+    advances_then (c.loop-parts.invariant.so_far told) c.finish.result (advances_as c.finish.result (cards_none e c.loop-parts.rest.now none ∙ none_to_come e) refl (c.finish.ensures.advances told))
 
 pub returns-in_err-take_card-clause-advances : goal.returns-in_err-take_card-clause-advances
 returns-in_err-take_card-clause-advances g c told =

@@ -14,7 +14,7 @@ invariant-loop-parts g l =
     let w = g.M.Machine.writer in
     let s = g.M.Machine.status in
     record {
-      so_far : IsTrue g.M.Machine.tells → Advanced g.M.Machine.tells_prints (coming_edited l.fn.editor (card_records l.cards)) (coming_edited l.editor (card_records l.rest)) (w l.fn.machine) (w l.machine) (m l.fn.machine) (m l.machine) (s l.fn.machine).done (s l.machine).done;
+      so_far : IsTrue g.M.Machine.tells → Advanced g.M.Machine.tells_prints (coming_edited l.fn.editor (card_records l.cards)) (coming_edited l.editor (card_records l.rest)) (w l.fn.machine) (w l.machine) l.fn.editor.writer.start l.editor.writer.start (m l.fn.machine) (m l.machine) (s l.fn.machine).done (s l.machine).done;
       idle : is_waiting l.editor.writer.packer ≡ false;
       later : IsTrue g.M.Machine.tells → (m l.fn.machine).clock ≤ (m l.machine).clock;
       promise : IsTrue g.M.Machine.tells → Keeps (m l.fn.machine).clock (g.M.Machine.promise l.fn.machine) (g.M.Machine.promise l.machine);

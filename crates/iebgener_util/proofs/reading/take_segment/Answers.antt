@@ -7,7 +7,6 @@ use Rattle.record_blocks.specs.Reading.{with_segment}
 use Rattle.iebgener_util.specs.Editing.{with_record}
 use Rattle.iebgener_util.specs.Editor.{coming_edited, coming_read, records_left}
 use Rattle.iebgener_util.proofs.AdvanceLemmas.{advanced_none}
-use Rattle.iebgener_util.proofs.PutLemmas.{broken_advances, works_as}
 use Rattle.iebgener_util.proofs.ReadLemmas.{joins_fault, joins_part, joins_whole, read_as, reading_breaks}
 use Rattle.iebgener_util.proofs.RecordLemmas.{advances_as}
 use Rattle.iebgener_util.proofs.reading.take_segment.Goals as goal
@@ -51,16 +50,18 @@ pub returns-in-Err-BadSegment-clause-advances : goal.returns-in-Err-BadSegment-c
 returns-in-Err-BadSegment-clause-advances g c told r =
     let e = c.args.editor.now in
     let s = piece c.args.code c.args.bytes.now in
+    let k = c.push.new.self in
     let cause = rw c.in-Err-BadSegment.field-0-is at c.in-Err-BadSegment.ensures.err in
-    broken_advances c.break_off.result c.break_off.ensures.broken
-    (works_as (g.M.Machine.writer c.args.machine.now) c.break_off.result
-    (ap (λ (o : Option Joiner). coming_read e o (with_segment s r)) c.in-Some.is ∙ reading_breaks e (Some c.in-Some.joiner) (with_segment s r) (joins_fault c.in-Some.joiner s r BadSegment cause)) (c.break_off.ensures.works told))
+    advances_as c.break_input.result
+    (ap (λ (o : Option Joiner). coming_read e o (with_segment s r)) c.in-Some.is ∙ reading_breaks e (Some c.in-Some.joiner) (with_segment s r) (joins_fault c.in-Some.joiner s r BadSegment cause))
+    (read_as c.break_input.new.editor (Some k) r) (c.break_input.ensures.advances told (records_left (Some k) r))
 
 pub returns-in-Err-TooLong-clause-advances : goal.returns-in-Err-TooLong-clause-advances
 returns-in-Err-TooLong-clause-advances g c told r =
     let e = c.args.editor.now in
     let s = piece c.args.code c.args.bytes.now in
+    let k = c.push.new.self in
     let cause = rw c.in-Err-TooLong.field-0-is at c.in-Err-TooLong.ensures.err in
-    broken_advances c.break_off-in-Err-TooLong.result c.break_off-in-Err-TooLong.ensures.broken
-    (works_as (g.M.Machine.writer c.args.machine.now) c.break_off-in-Err-TooLong.result
-    (ap (λ (o : Option Joiner). coming_read e o (with_segment s r)) c.in-Some.is ∙ reading_breaks e (Some c.in-Some.joiner) (with_segment s r) (joins_fault c.in-Some.joiner s r _ cause)) (c.break_off-in-Err-TooLong.ensures.works told))
+    advances_as c.break_input-in-Err-TooLong.result
+    (ap (λ (o : Option Joiner). coming_read e o (with_segment s r)) c.in-Some.is ∙ reading_breaks e (Some c.in-Some.joiner) (with_segment s r) (joins_fault c.in-Some.joiner s r _ cause))
+    (read_as c.break_input-in-Err-TooLong.new.editor (Some k) r) (c.break_input-in-Err-TooLong.ensures.advances told (records_left (Some k) r))

@@ -1,45 +1,28 @@
-use Rattle.std.proofs.Common.{◌≡◌, Option, Some, None, sym, subst}
+use Rattle.std.proofs.Common.{refl, sym, ap, ◌∙◌, subst}
+use Rattle.std.specs.Prelude.{Err, Result}
+use Rattle.std.proofs.lemmas.Result.{err_from_is_err_and}
 use Rattle.hall_core.specs.Images.{image_in}
-use Rattle.track_records.specs.Reads.{IsBroken}
-use Rattle.track_records.specs.declared.error.TrackErr.{TrackErr}
-use Rattle.track_records.specs.declared.error.TrackErr.TheVariants as errors
-use Rattle.vtoc_index.proofs.HeldLemmas.{broken_none}
-use Rattle.seq_access.proofs.DataPlaces.{blocks_none}
-use Rattle.seq_access.proofs.Checked.{at_record_0, blocks_read, broken, not_blocks, read_as}
+use Rattle.pack_spec.specs.Blocks.{blocks_at}
+use Rattle.vol_model.specs.declared.answers.CheckErr.{CheckErr}
+use Rattle.seq_access.specs.Bodies.{ChecksTrack, data_in, owned_in}
+use Rattle.seq_access.proofs.Checked.{blocks_read, no_records, not_blocks, unread_track}
 use Rattle.seq_access.proofs.checking.check_track.Goals as goal
 
-nothing : {X : Type 0} {o : Option X} {x : X} → o ≡ Some x → o ≡ None → ⊥
-nothing is none = cc
+pub returns-in_err-count-clause-track : goal.returns-in_err-count-clause-track
+returns-in_err-count-clause-track g c told =
+    let v = c.args.vol.now in
+    let f = c.args.set.now in
+    let image = image_in (g.H.Hall.meaning c.args.hall.now) (g.H.Hall.facts c.args.hall.now) v.unit in
+    let p = err_from_is_err_and c.from_residual.result c.from_residual.ensures.1 in
+    subst (λ (r : Result (Unit {0}) CheckErr). ChecksTrack r c.args.k (blocks_at v.geometry (data_in image v) (owned_in image v f) c.args.last c.args.k)) (sym (p.1 ∙ ap Err p.2))
+    (unread_track c.in_err-count.field-0.0 c.args.k _ _ _ (c.in_err-count.ensures.records told) (no_records image v f c.args.last c.args.k))
 
-pub returns-in_default-clause-none : goal.returns-in_default-clause-none
-returns-in_default-clause-none g c told is =
-    let set = c.requires.set told in
-    blocks_none _ c.args.vol.now c.args.set.now set c.args.last c.args.k (sym (c.in_default.ensures.track _ set.set))
-
-pub returns-then-is_record_0-clause-none : goal.returns-then-is_record_0-clause-none
-returns-then-is_record_0-clause-none g c told is =
-    let set = c.requires.set told in
-    at_record_0 _ c.args.vol.now c.args.set.now set c.args.last c.args.k c.in-Some.track (sym (c.in-Some.ensures.track _ set.set)) c.in-Some.ensures.inside (sym c.if-is_record_0.ensures)
-
-pub returns-then-are_blocks-clause-blocks : goal.returns-then-are_blocks-clause-blocks
-returns-then-are_blocks-clause-blocks g c told none =
-    let set = c.requires.set told in
+pub returns-then-are_blocks-clause-track : goal.returns-then-are_blocks-clause-track
+returns-then-are_blocks-clause-track g c told =
     let image = image_in (g.H.Hall.meaning c.args.hall.now) (g.H.Hall.facts c.args.hall.now) c.args.vol.now.unit in
-    let read = read_as image _ _ _ _ c.in-Some.track _ c.requires.unit.buffer.0 c.upto_last.ensures (c.in-Ok.ensures.read told) in
-    nothing (blocks_read image c.args.vol.now c.args.set.now set c.args.last c.args.k c.in-Some.track (sym (c.in-Some.ensures.track _ set.set)) c.in-Some.ensures.inside c.read_records.new.buf.records (sym c.if-is_record_0.ensures) read (sym c.if-are_blocks.ensures)) none
+    blocks_read image c.args.vol.now c.args.set.now c.args.last c.args.k c.read_track.new.vol.buf.records (c.in_ok-count.ensures.records told) c.if-are_blocks.ensures
 
-pub returns-else-are_blocks-clause-none : goal.returns-else-are_blocks-clause-none
-returns-else-are_blocks-clause-none g c told is =
-    let set = c.requires.set told in
+pub returns-else-are_blocks-clause-track : goal.returns-else-are_blocks-clause-track
+returns-else-are_blocks-clause-track g c told =
     let image = image_in (g.H.Hall.meaning c.args.hall.now) (g.H.Hall.facts c.args.hall.now) c.args.vol.now.unit in
-    let read = read_as image _ _ _ _ c.in-Some.track _ c.requires.unit.buffer.0 c.upto_last.ensures (c.in-Ok.ensures.read told) in
-    not_blocks image c.args.vol.now c.args.set.now set c.args.last c.args.k c.in-Some.track (sym (c.in-Some.ensures.track _ set.set)) c.in-Some.ensures.inside c.read_records.new.buf.records read (sym c.if-are_blocks.ensures)
-
-pub returns-in-Err-BadCount-clause-none : goal.returns-in-Err-BadCount-clause-none
-returns-in-Err-BadCount-clause-none g c told is =
-    let set = c.requires.set told in
-    let image = image_in (g.H.Hall.meaning c.args.hall.now) (g.H.Hall.facts c.args.hall.now) c.args.vol.now.unit in
-    let at : IsBroken image c.args.vol.now.buf.geometry c.upto_last.result c.in-Some.track (errors.BadCount c.in-Err-BadCount.field-0-0) =
-    subst (λ (e : TrackErr). IsBroken image c.args.vol.now.buf.geometry c.upto_last.result c.in-Some.track e) c.in-Err-BadCount.field-0-is (c.in-Err-BadCount.ensures.broken told) in
-    let none = read_as image _ _ _ _ c.in-Some.track _ c.requires.unit.buffer.0 c.upto_last.ensures (broken_none image c.args.vol.now.buf.geometry c.upto_last.result c.in-Some.track c.in-Err-BadCount.field-0-0 at) in
-    broken image c.args.vol.now c.args.set.now set c.args.last c.args.k c.in-Some.track (sym (c.in-Some.ensures.track _ set.set)) c.in-Some.ensures.inside none
+    (refl, not_blocks image c.args.vol.now c.args.set.now c.args.last c.args.k c.read_track.new.vol.buf.records (c.in_ok-count.ensures.records told) c.if-are_blocks.ensures)

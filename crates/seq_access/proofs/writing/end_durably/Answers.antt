@@ -16,7 +16,7 @@ returns-in_err-balance-clause-files g c told is before set left here =
     let m0 = g.H.Hall.meaning c.args.hall.now in
     let m1 = g.H.Hall.meaning c.last_balance.new.hall in
     let name : List ℕ = (unit_of (g.H.Hall.facts c.args.hall.now).units v.unit).name in
-    leaves_all name v is.f m0 m1 m1 c.last_balance.result c.from_residual.result (spares_same name v is.f m0 m1 c.last_balance.result (c.last_balance.ensures.same told)) (IfOk-from_err c.from_residual.result _ c.from_residual.ensures.0) refl refl (no_time m1) before set left here
+    leaves_all name v is.f _ m0 m1 m1 c.last_balance.result c.from_residual.result (spares_same name v is.f _ m0 m1 c.last_balance.result (c.last_balance.ensures.same told)) (IfOk-from_err c.from_residual.result _ c.from_residual.ensures.0) refl refl (no_time m1) before set left here
 
 pub put_end-requires-clause-writing : goal.put_end-requires-clause-writing
 put_end-requires-clause-writing g c told =
@@ -47,7 +47,7 @@ returns-in_err-put_end-clause-files g c told is before set left here =
     let n1 : List ℕ = (unit_of f1.units v1.unit).name in
     let names : n1 ≡ n0 = ap (λ (v : Vol). (unit_of f1.units v.unit).name) others ∙ ap (λ (us : List Attached). (unit_of us v0.unit).name) units in
     let spares = spares_from (image_in m0 f0 v0.unit) (image_in m1 f1 v1.unit) v0 v1 c.args.writer image others (c.last_balance.ensures.mounted told) is n0 n1 m0 m1 m2 c.put_end.result names quiet (c.put_end.ensures.spares told) in
-    leaves_all n0 v0 is.f m0 m2 m2 c.put_end.result c.from_residual-in_err-put_end.result spares (IfOk-from_err c.from_residual-in_err-put_end.result _ c.from_residual-in_err-put_end.ensures.0) refl refl (no_time m2) before set left here
+    leaves_all n0 v0 is.f _ m0 m2 m2 c.put_end.result c.from_residual-in_err-put_end.result spares (IfOk-from_err c.from_residual-in_err-put_end.result _ c.from_residual-in_err-put_end.ensures.0) refl refl (no_time m2) before set left here
 
 pub returns-in_err-make_durable-clause-files : goal.returns-in_err-make_durable-clause-files
 returns-in_err-make_durable-clause-files g c told is before set left here =
@@ -68,7 +68,7 @@ returns-in_err-make_durable-clause-files g c told is before set left here =
     let names : n1 ≡ n0 = ap (λ (v : Vol). (unit_of f1.units v.unit).name) others ∙ ap (λ (us : List Attached). (unit_of us v0.unit).name) units in
     let spares = spares_from (image_in m0 f0 v0.unit) (image_in m1 f1 v1.unit) v0 v1 c.args.writer image others (c.last_balance.ensures.mounted told) is n0 n1 m0 m1 m2 c.put_end.result names quiet (c.put_end.ensures.spares told) in
     let sync = c.make_durable.ensures.files told in
-    leaves_all n0 v0 is.f m0 m2 m3 c.put_end.result c.from_residual-in_err-make_durable.result spares (IfOk-from_err c.from_residual-in_err-make_durable.result _ c.from_residual-in_err-make_durable.ensures.0) sync.state sync.printed (sync_time m2 m3 c.make_durable.result sync) before set left here
+    leaves_all n0 v0 is.f _ m0 m2 m3 c.put_end.result c.from_residual-in_err-make_durable.result spares (IfOk-from_err c.from_residual-in_err-make_durable.result _ c.from_residual-in_err-make_durable.ensures.0) sync.state sync.printed (sync_time m2 m3 c.make_durable.result sync) before set left here
 
 pub returns-clause-files : goal.returns-clause-files
 returns-clause-files g c told is before set left here =
@@ -90,7 +90,7 @@ returns-clause-files g c told is before set left here =
     let spares = spares_from (image_in m0 f0 v0.unit) (image_in m1 f1 v1.unit) v0 v1 c.args.writer image others (c.last_balance.ensures.mounted told) is n0 n1 m0 m1 m2 c.put_end.result names quiet (c.put_end.ensures.spares told) in
     let sync = c.make_durable.ensures.files told in
     let done = c.in_ok-make_durable.ensures.files told in
-    leaves_all n0 v0 is.f m0 m2 m3 c.put_end.result _ spares done.done sync.state sync.printed (sync_time m2 m3 c.make_durable.result sync) before set left here
+    leaves_all n0 v0 is.f _ m0 m2 m3 c.put_end.result _ spares done.done sync.state sync.printed (sync_time m2 m3 c.make_durable.result sync) before set left here
 
 pub returns-clause-blocks : goal.returns-clause-blocks
 returns-clause-blocks g c told is =

@@ -18,7 +18,7 @@ pub returns-then-writer-gt0-clause-ended : goal.returns-then-writer-gt0-clause-e
 returns-then-writer-gt0-clause-ended g c told is = ended_put _ c.args.vol.now c.args.writer is (has_some c.args.writer c.if-writer-gt0.true)
 
 pub returns-then-writer-gt0-clause-spares : goal.returns-then-writer-gt0-clause-spares
-returns-then-writer-gt0-clause-spares g c told is = spares_none _ c.args.vol.now is.f _ _
+returns-then-writer-gt0-clause-spares g c told is = spares_none _ c.args.vol.now is.f _ _ _
 
 pub returns-in_err-seal-clause-spares : goal.returns-in_err-seal-clause-spares
 returns-in_err-seal-clause-spares g c told is =
@@ -29,7 +29,7 @@ returns-in_err-seal-clause-spares g c told is =
     let image = image_in old facts v.unit in
     let h = c.requires.held told in
     let held : HoldsLast image v is.f c.args.writer.last = subst (λ (f : F1). HoldsLast image v f c.args.writer.last) (same_set v c.args.writer.slot h.1.f is.f h.1.slot is.slot) h.2 in
-    spares_as (unit_of facts.units v.unit).name v is.f old new _ _ (spares_sealed facts.units image v c.args.writer is held (has_none c.args.writer c.if-writer-gt0.false) h.0 c.requires.unit.buffer.0 c.requires.roomy (unit_of facts.units v.unit).name (unit_of facts.units v.buf.unit).name old new _ refl
+    spares_as (unit_of facts.units v.unit).name v is.f _ old new _ _ (spares_sealed facts.units image v c.args.writer is held (has_none c.args.writer c.if-writer-gt0.false) h.0 c.requires.unit.buffer.0 c.requires.roomy (unit_of facts.units v.unit).name (unit_of facts.units v.buf.unit).name old new _ refl
     (ap (λ (n : ℕ). (unit_of facts.units n).name) c.requires.unit.buffer.1) (c.in_err-seal.ensures.files told))
 
 pub returns-in_err-seal-clause-same : goal.returns-in_err-seal-clause-same
@@ -44,7 +44,7 @@ returns-clause-spares g c told is =
     let image = image_in old facts v.unit in
     let h = c.requires.held told in
     let held : HoldsLast image v is.f c.args.writer.last = subst (λ (f : F1). HoldsLast image v f c.args.writer.last) (same_set v c.args.writer.slot h.1.f is.f h.1.slot is.slot) h.2 in
-    spares_as (unit_of facts.units v.unit).name v is.f old new _ _ (spares_sealed facts.units image v c.args.writer is held (has_none c.args.writer c.if-writer-gt0.false) h.0 c.requires.unit.buffer.0 c.requires.roomy (unit_of facts.units v.unit).name (unit_of facts.units v.buf.unit).name old new _ refl
+    spares_as (unit_of facts.units v.unit).name v is.f _ old new _ _ (spares_sealed facts.units image v c.args.writer is held (has_none c.args.writer c.if-writer-gt0.false) h.0 c.requires.unit.buffer.0 c.requires.roomy (unit_of facts.units v.unit).name (unit_of facts.units v.buf.unit).name old new _ refl
     (ap (λ (n : ℕ). (unit_of facts.units n).name) c.requires.unit.buffer.1) (c.in_ok-seal.ensures.files told))
 
 pub returns-clause-ended : goal.returns-clause-ended

@@ -29,7 +29,7 @@ pub returns-then-writer-eq65535-clause-mounted : goal.returns-then-writer-eq6553
 returns-then-writer-eq65535-clause-mounted g c told others = (c.requires.held told).1.set.mounted
 
 pub returns-then-writer-eq65535-clause-spares : goal.returns-then-writer-eq65535-clause-spares
-returns-then-writer-eq65535-clause-spares g c told is = spares_none _ c.args.vol.now is.f _ _
+returns-then-writer-eq65535-clause-spares g c told is = spares_none _ c.args.vol.now is.f _ _ _
 
 pub returns-in_default-clause-need : goal.returns-in_default-clause-need
 returns-in_default-clause-need g c told of =
@@ -45,10 +45,10 @@ pub returns-in_default-clause-mounted : goal.returns-in_default-clause-mounted
 returns-in_default-clause-mounted g c told others = (c.requires.held told).1.set.mounted
 
 pub returns-in_default-clause-spares : goal.returns-in_default-clause-spares
-returns-in_default-clause-spares g c told is = spares_none _ c.args.vol.now is.f _ _
+returns-in_default-clause-spares g c told is = spares_none _ c.args.vol.now is.f _ _ _
 
 pub returns-in_err-end_last-clause-spares : goal.returns-in_err-end_last-clause-spares
-returns-in_err-end_last-clause-spares g c told is = spares_as _ c.args.vol.now is.f _ _ _ _ (c.in_err-end_last.ensures.spares told is)
+returns-in_err-end_last-clause-spares g c told is = spares_as _ c.args.vol.now is.f _ _ _ _ _ (c.in_err-end_last.ensures.spares told is)
 
 pub returns-clause-owned : goal.returns-clause-owned
 returns-clause-owned g c told =
@@ -81,7 +81,7 @@ returns-clause-ended g c told is =
     (ended_with image image' v c.clear.new.self is.f is.old c.args.writer (call.ended told is) (ap (λ (x : Buffer). x.records) c.clear.ensures))
 
 pub returns-clause-spares : goal.returns-clause-spares
-returns-clause-spares g c told is = spares_as _ c.args.vol.now is.f _ _ _ _ (c.in_ok-end_last.ensures.spares told is)
+returns-clause-spares g c told is = spares_as _ c.args.vol.now is.f _ _ _ _ _ (c.in_ok-end_last.ensures.spares told is)
 
 pub returns-clause-mounted : goal.returns-clause-mounted
 returns-clause-mounted g c told others =

@@ -11,7 +11,7 @@ use Rattle.stop_model.proofs.MomentLemmas.{same_then}
 use Rattle.vol_model.specs.declared.contents.Place.{Place}
 use Rattle.vtoc_index.specs.declared.vol.Vol.{Vol}
 use Rattle.vtoc_index.specs.Index.{IsMounted, IsOfUnit}
-use Rattle.seq_access.specs.Bodies.{owned_in}
+use Rattle.seq_access.specs.Bodies.{last_in, owned_in}
 use Rattle.seq_access.specs.Writing.{HoldsLast, IsEnded, IsReady, IsWriting, Spares, sizes}
 use Rattle.vtoc_index.proofs.Images.{same_image}
 use Rattle.seq_access.proofs.Checked.{call_then}
@@ -31,7 +31,7 @@ pub set_at-requires-clause-set : goal.set_at-requires-clause-set
 set_at-requires-clause-set g c told = let is = c.requires.writing told in (is.f, is.slot)
 
 pub returns-in_err-set-clause-spares : goal.returns-in_err-set-clause-spares
-returns-in_err-set-clause-spares g c told is = spares_same _ c.args.vol.now is.f _ _ _ (c.in_err-set.ensures.same told)
+returns-in_err-set-clause-spares g c told is = spares_same _ c.args.vol.now is.f _ _ _ _ (c.in_err-set.ensures.same told)
 
 pub hold_last-requires-clause-unit : goal.hold_last-requires-clause-unit
 hold_last-requires-clause-unit g c = subst (λ (us : List Attached). IsOfUnit us c.args.vol.now) (sym c.in_ok-set.ensures.faults.units) c.requires.unit
@@ -49,10 +49,10 @@ hold_last-requires-clause-there g c told =
     there_now _ _ v v c.args.writer c.in_ok-set.set kept c.in_ok-set.ensures.set (c.requires.writing told) (omega arith) (omega arith) (omega (arith, c.if-writer-eq0.false))
 
 pub returns-in_err-hold_last-clause-spares : goal.returns-in_err-hold_last-clause-spares
-returns-in_err-hold_last-clause-spares g c told is = spares_same _ c.args.vol.now is.f _ _ _ (same_then (c.in_ok-set.ensures.same told) (c.in_err-hold_last.ensures.same told))
+returns-in_err-hold_last-clause-spares g c told is = spares_same _ c.args.vol.now is.f _ _ _ _ (same_then (c.in_ok-set.ensures.same told) (c.in_err-hold_last.ensures.same told))
 
 pub returns-then-fits_behind-clause-spares : goal.returns-then-fits_behind-clause-spares
-returns-then-fits_behind-clause-spares g c told is = spares_same _ c.args.vol.now is.f _ _ _ (same_then (c.in_ok-set.ensures.same told) (c.in_ok-hold_last.ensures.same told))
+returns-then-fits_behind-clause-spares g c told is = spares_same _ c.args.vol.now is.f _ _ _ _ (same_then (c.in_ok-set.ensures.same told) (c.in_ok-hold_last.ensures.same told))
 
 pub returns-then-writer-eq0-clause-ready : goal.returns-then-writer-eq0-clause-ready
 returns-then-writer-eq0-clause-ready g c told =
@@ -72,7 +72,7 @@ returns-then-writer-eq0-clause-ready g c told =
     (same_set v c.args.writer.slot is.f c.in_ok-set.set is.slot c.in_ok-set.ensures.set)))
 
 pub returns-then-writer-eq0-clause-spares : goal.returns-then-writer-eq0-clause-spares
-returns-then-writer-eq0-clause-spares g c told is = spares_same _ c.args.vol.now is.f _ _ _ (c.in_ok-set.ensures.same told)
+returns-then-writer-eq0-clause-spares g c told is = spares_same _ c.args.vol.now is.f _ _ _ _ (c.in_ok-set.ensures.same told)
 
 pub returns-then-writer-eq0-clause-roomy : goal.returns-then-writer-eq0-clause-roomy
 returns-then-writer-eq0-clause-roomy g c =
@@ -236,9 +236,9 @@ returns-clause-spares g c told is =
     let units : f2.units ≡ f0.units = second.faults.units ∙ first.faults.units in
     let kept = image_kept m0 m2 f0 f2 v v1 same units second.others in
     let at : IsBehind is v1 = behind m0 m1 f0 f1 v v1 w c.in_ok-set.set is first.set (first.same told) first.faults.units second.others (second.held told) (second.mounted told) in
-    let P : List ℕ → Vol → List Attached → Type 0 = λ i x us. (j : IsWriting i x w) → Spares (unit_of us x.unit).name x j.f m2 m3 r in
+    let P : List ℕ → Vol → List Attached → Type 0 = λ i x us. (j : IsWriting i x w) → Spares (unit_of us x.unit).name x j.f (last_in i x j.f) m2 m3 r in
     let there : P image (record v { buf = v1.buf }) f0.units = subst (λ (us : List Attached). P image (record v { buf = v1.buf }) us) units (subst (λ (x : Vol). P image x f2.units) second.others (subst (λ (i : List ℕ). P i v1 f2.units) kept (c.go_on.ensures.spares told))) in
-    spares_then (unit_of f0.units v.unit).name v is.f m0 m2 m3 r same (spares_with (unit_of f0.units v.unit).name v is.f v1.buf m2 m3 r (there (writing_with image v v1.buf w is at.mounted)))
+    spares_then (unit_of f0.units v.unit).name v is.f _ m0 m2 m3 r same (spares_with (unit_of f0.units v.unit).name v is.f _ v1.buf m2 m3 r (there (writing_with image v v1.buf w is at.mounted)))
 
 pub returns-clause-fits : goal.returns-clause-fits
 returns-clause-fits g c =

@@ -2,7 +2,10 @@ use Rattle.std.proofs.Common.{◌≡◌, ◌∙◌, List, ℕ, length, ap, arith
 use Rattle.ckd_image.specs.Header.{is_track_size}
 use Rattle.ckd_image.specs.declared.header.Geometry.{Geometry}
 use Rattle.hall_core.specs.Facts.{unit_of}
+use Rattle.hall_core.specs.Images.{image_in}
+use Rattle.vol_model.specs.declared.contents.Place.{Place}
 use Rattle.vtoc_index.specs.declared.vol.Vol.{Vol}
+use Rattle.seq_access.proofs.NextBodies.{next_same}
 use Rattle.seq_access.proofs.PutCalls.{call_mounted, call_puts, call_spares}
 use Rattle.seq_access.proofs.PutSteps.{fits_few, fits_room}
 use Rattle.seq_access.proofs.SparedCalls.{spares_as}
@@ -12,10 +15,17 @@ pub returns-in_err-place-clause-spares : goal.returns-in_err-place-clause-spares
 returns-in_err-place-clause-spares g c told is =
     let v0 = c.args.vol.now in
     let name : List ℕ = (unit_of (g.H.Hall.facts c.args.hall.now).units v0.unit).name in
-    spares_as name v0 is.f (g.H.Hall.meaning c.args.hall.now) (g.H.Hall.meaning c.make_ready.new.hall) c.make_ready.result _ (c.make_ready.ensures.spares told is)
+    spares_as name v0 is.f _ (g.H.Hall.meaning c.args.hall.now) (g.H.Hall.meaning c.make_ready.new.hall) c.make_ready.result _ (c.make_ready.ensures.spares told is)
 
 pub returns-in_err-place-clause-mounted : goal.returns-in_err-place-clause-mounted
 returns-in_err-place-clause-mounted g c told not = c.make_ready.ensures.mounted told (λ device. not (search rules))
+
+pub returns-in_err-place-clause-need : goal.returns-in_err-place-clause-need
+returns-in_err-place-clause-need g c told of is =
+    let v0 = c.args.vol.now in
+    let image = image_in (g.H.Hall.meaning c.args.hall.now) (g.H.Hall.facts c.args.hall.now) v0.unit in
+    let need = c.make_ready.ensures.need told (search rules) is (c.args.key.now, c.args.payload.now) refl in
+    omega (arith, need, ap (λ (p : Place). p.tt) (next_same image v0 c.args.writer.now is (omega arith) (c.args.key.now, c.args.payload.now)))
 
 pub append-requires-clause-few : goal.append-requires-clause-few
 append-requires-clause-few g c = fits_few c.make_ready.new.vol.buf c.args.vol.now.geometry.device (length c.args.key.now) (length c.args.payload.now) c.in_ok-place.ensures.fits

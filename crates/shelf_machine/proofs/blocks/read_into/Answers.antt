@@ -1,4 +1,4 @@
-use Rattle.std.proofs.Common.{◌≡◌, ◌∙◌, ℕ, Some, None, sym, ap, subst, arith}
+use Rattle.std.proofs.Common.{◌≡◌, ◌∙◌, ℕ, Some, None, set, sym, ap, subst, arith}
 use Rattle.std.specs.Prelude.{slice_get}
 use Rattle.std.proofs.lemmas.Option.{slice_get-get_or}
 use Rattle.vol_model.specs.Reading.{ReadsInto, readable}
@@ -9,7 +9,7 @@ use Rattle.shelf_machine.specs.Opening.{names_of}
 use Rattle.shelf_machine.specs.declared.known.Known.{Known}
 use Rattle.shelf_machine.proofs.Holding.{has_volumes, kept_mounted}
 use Rattle.shelf_machine.proofs.KnownLemmas.{as_many, buffers_set, held_set, knows_set, on_image, one_geometry}
-use Rattle.shelf_machine.proofs.ListPlaces.{not_there}
+use Rattle.shelf_machine.proofs.ListPlaces.{not_there, set_itself}
 use Rattle.shelf_machine.proofs.ReadBlocks.{nothing_into}
 use Rattle.shelf_machine.proofs.ShelfReads.{blocks_missing}
 use Rattle.shelf_machine.proofs.blocks.read_into.Goals as goal
@@ -30,81 +30,88 @@ returns-then-k-len-clause-block g c told =
 pub read_into_on-requires-clause-unit : goal.read_into_on-requires-clause-unit
 read_into_on-requires-clause-unit g c =
     let vols = c.args.vols.now.items in
-    let at : slice_get vols c.from-k.result ≡ Some c.index.result.now =
-    slice_get-get_or vols c.from-k.result c.index.result.now (omega (arith, c.if-k-len.false, c.len.ensures)) ∙ ap (λ (w : Vol). Some w) (sym c.index.ensures) in
-    c.requires.indexes.each c.from-k.result c.index.result.now at
+    let at : slice_get vols c.from-k.result ≡ Some c.index_mut.result.now =
+    slice_get-get_or vols c.from-k.result c.index_mut.result.now (omega (arith, c.if-k-len.false, c.len.ensures)) ∙ ap (λ (w : Vol). Some w) (sym c.index_mut.ensures.value) in
+    c.requires.indexes.each c.from-k.result c.index_mut.result.now at
 
 pub read_into_on-requires-clause-names : goal.read_into_on-requires-clause-names
 read_into_on-requires-clause-names g c =
     let vols = c.args.vols.now.items in
-    let at : slice_get vols c.from-k.result ≡ Some c.index.result.now =
-    slice_get-get_or vols c.from-k.result c.index.result.now (omega (arith, c.if-k-len.false, c.len.ensures)) ∙ ap (λ (w : Vol). Some w) (sym c.index.ensures) in
-    c.requires.order c.from-k.result c.index.result.now at
+    let at : slice_get vols c.from-k.result ≡ Some c.index_mut.result.now =
+    slice_get-get_or vols c.from-k.result c.index_mut.result.now (omega (arith, c.if-k-len.false, c.len.ensures)) ∙ ap (λ (w : Vol). Some w) (sym c.index_mut.ensures.value) in
+    c.requires.order c.from-k.result c.index_mut.result.now at
 
 pub read_into_on-requires-clause-buffer : goal.read_into_on-requires-clause-buffer
 read_into_on-requires-clause-buffer g c =
     let vols = c.args.vols.now.items in
-    let at : slice_get vols c.from-k.result ≡ Some c.index.result.now =
-    slice_get-get_or vols c.from-k.result c.index.result.now (omega (arith, c.if-k-len.false, c.len.ensures)) ∙ ap (λ (w : Vol). Some w) (sym c.index.ensures) in
+    let at : slice_get vols c.from-k.result ≡ Some c.index_mut.result.now =
+    slice_get-get_or vols c.from-k.result c.index_mut.result.now (omega (arith, c.if-k-len.false, c.len.ensures)) ∙ ap (λ (w : Vol). Some w) (sym c.index_mut.ensures.value) in
     let known = c.args.known.now.items in
-    let there : slice_get known c.from-k.result ≡ Some c.index_mut.result.now =
-    slice_get-get_or known c.from-k.result c.index_mut.result.now (omega (arith, c.if-k-len.false, c.len.ensures, as_many vols known c.requires.buffers)) ∙ ap (λ (b : Known). Some b) (sym c.index_mut.ensures.value) in
-    one_geometry vols known c.from-k.result c.index.result.now c.index_mut.result.now c.requires.buffers at there
+    let there : slice_get known c.from-k.result ≡ Some c.index_mut-2.result.now =
+    slice_get-get_or known c.from-k.result c.index_mut-2.result.now (omega (arith, c.if-k-len.false, c.len.ensures, as_many vols known c.requires.buffers)) ∙ ap (λ (b : Known). Some b) (sym c.index_mut-2.ensures.value) in
+    one_geometry vols known c.from-k.result c.index_mut.result.now c.index_mut-2.result.now c.requires.buffers at there
 
 pub read_into_on-requires-clause-known : goal.read_into_on-requires-clause-known
 read_into_on-requires-clause-known g c told =
     let files = (g.H.Hall.meaning c.args.hall.now).state in
     let units = (g.H.Hall.facts c.args.hall.now).units in
     let vols = c.args.vols.now.items in
-    let at : slice_get vols c.from-k.result ≡ Some c.index.result.now =
-    slice_get-get_or vols c.from-k.result c.index.result.now (omega (arith, c.if-k-len.false, c.len.ensures)) ∙ ap (λ (w : Vol). Some w) (sym c.index.ensures) in
+    let at : slice_get vols c.from-k.result ≡ Some c.index_mut.result.now =
+    slice_get-get_or vols c.from-k.result c.index_mut.result.now (omega (arith, c.if-k-len.false, c.len.ensures)) ∙ ap (λ (w : Vol). Some w) (sym c.index_mut.ensures.value) in
     let known = c.args.known.now.items in
-    let there : slice_get known c.from-k.result ≡ Some c.index_mut.result.now =
-    slice_get-get_or known c.from-k.result c.index_mut.result.now (omega (arith, c.if-k-len.false, c.len.ensures, as_many vols known c.requires.buffers)) ∙ ap (λ (b : Known). Some b) (sym c.index_mut.ensures.value) in
-    on_image files units vols known c.from-k.result c.index.result.now c.index_mut.result.now c.requires.indexes (c.requires.kept told) (c.requires.known told) (c.requires.held told) at there
+    let there : slice_get known c.from-k.result ≡ Some c.index_mut-2.result.now =
+    slice_get-get_or known c.from-k.result c.index_mut-2.result.now (omega (arith, c.if-k-len.false, c.len.ensures, as_many vols known c.requires.buffers)) ∙ ap (λ (b : Known). Some b) (sym c.index_mut-2.ensures.value) in
+    on_image files units vols known c.from-k.result c.index_mut.result.now c.index_mut-2.result.now c.requires.indexes (c.requires.kept told) (c.requires.known told) (c.requires.held told) at there
 
 pub returns-clause-block : goal.returns-clause-block
 returns-clause-block g c told =
     let files = (g.H.Hall.meaning c.args.hall.now).state in
     let units = (g.H.Hall.facts c.args.hall.now).units in
     let vols = c.args.vols.now.items in
-    let at : slice_get vols c.from-k.result ≡ Some c.index.result.now =
-    slice_get-get_or vols c.from-k.result c.index.result.now (omega (arith, c.if-k-len.false, c.len.ensures)) ∙ ap (λ (w : Vol). Some w) (sym c.index.ensures) in
+    let at : slice_get vols c.from-k.result ≡ Some c.index_mut.result.now =
+    slice_get-get_or vols c.from-k.result c.index_mut.result.now (omega (arith, c.if-k-len.false, c.len.ensures)) ∙ ap (λ (w : Vol). Some w) (sym c.index_mut.ensures.value) in
     let known = c.args.known.now.items in
-    let there : slice_get known c.from-k.result ≡ Some c.index_mut.result.now =
-    slice_get-get_or known c.from-k.result c.index_mut.result.now (omega (arith, c.if-k-len.false, c.len.ensures, as_many vols known c.requires.buffers)) ∙ ap (λ (b : Known). Some b) (sym c.index_mut.ensures.value) in
+    let there : slice_get known c.from-k.result ≡ Some c.index_mut-2.result.now =
+    slice_get-get_or known c.from-k.result c.index_mut-2.result.now (omega (arith, c.if-k-len.false, c.len.ensures, as_many vols known c.requires.buffers)) ∙ ap (λ (b : Known). Some b) (sym c.index_mut-2.ensures.value) in
     let shelf = shelf_under (names_of units (units_of vols)) files in
-    let on = on_image files units vols known c.from-k.result c.index.result.now c.index_mut.result.now c.requires.indexes (c.requires.kept told) (c.requires.known told) (c.requires.held told) at there in
+    let on = on_image files units vols known c.from-k.result c.index_mut.result.now c.index_mut-2.result.now c.requires.indexes (c.requires.kept told) (c.requires.known told) (c.requires.held told) at there in
     subst (λ (j : ℕ). ReadsInto c.read_into_on.result (readable (body_on shelf j c.args.dsn.now.bytes)) c.args.from c.read_into_on.new.block) c.from-k.ensures (c.read_into_on.ensures.block told on)
 
 pub returns-clause-buffers : goal.returns-clause-buffers
 returns-clause-buffers g c =
     let vols = c.args.vols.now.items in
-    let at : slice_get vols c.from-k.result ≡ Some c.index.result.now =
-    slice_get-get_or vols c.from-k.result c.index.result.now (omega (arith, c.if-k-len.false, c.len.ensures)) ∙ ap (λ (w : Vol). Some w) (sym c.index.ensures) in
+    let at : slice_get vols c.from-k.result ≡ Some c.index_mut.result.now =
+    slice_get-get_or vols c.from-k.result c.index_mut.result.now (omega (arith, c.if-k-len.false, c.len.ensures)) ∙ ap (λ (w : Vol). Some w) (sym c.index_mut.ensures.value) in
     let known = c.args.known.now.items in
-    let there : slice_get known c.from-k.result ≡ Some c.index_mut.result.now =
-    slice_get-get_or known c.from-k.result c.index_mut.result.now (omega (arith, c.if-k-len.false, c.len.ensures, as_many vols known c.requires.buffers)) ∙ ap (λ (b : Known). Some b) (sym c.index_mut.ensures.value) in
-    buffers_set known c.from-k.result c.index_mut.result.now c.read_into_on.new.known there vols c.index.result.now c.requires.buffers at c.read_into_on.ensures.buffer
+    let there : slice_get known c.from-k.result ≡ Some c.index_mut-2.result.now =
+    slice_get-get_or known c.from-k.result c.index_mut-2.result.now (omega (arith, c.if-k-len.false, c.len.ensures, as_many vols known c.requires.buffers)) ∙ ap (λ (b : Known). Some b) (sym c.index_mut-2.ensures.value) in
+    buffers_set known c.from-k.result c.index_mut-2.result.now c.read_into_on.new.known there vols c.index_mut.result.now c.requires.buffers at c.read_into_on.ensures.buffer
 
 pub returns-clause-known : goal.returns-clause-known
 returns-clause-known g c shelf knows =
     let vols = c.args.vols.now.items in
-    let at : slice_get vols c.from-k.result ≡ Some c.index.result.now =
-    slice_get-get_or vols c.from-k.result c.index.result.now (omega (arith, c.if-k-len.false, c.len.ensures)) ∙ ap (λ (w : Vol). Some w) (sym c.index.ensures) in
+    let at : slice_get vols c.from-k.result ≡ Some c.index_mut.result.now =
+    slice_get-get_or vols c.from-k.result c.index_mut.result.now (omega (arith, c.if-k-len.false, c.len.ensures)) ∙ ap (λ (w : Vol). Some w) (sym c.index_mut.ensures.value) in
     let known = c.args.known.now.items in
-    let there : slice_get known c.from-k.result ≡ Some c.index_mut.result.now =
-    slice_get-get_or known c.from-k.result c.index_mut.result.now (omega (arith, c.if-k-len.false, c.len.ensures, as_many vols known c.requires.buffers)) ∙ ap (λ (b : Known). Some b) (sym c.index_mut.ensures.value) in
-    knows_set known c.from-k.result c.index_mut.result.now c.read_into_on.new.known there shelf knows (ap (λ u. u.items) c.read_into_on.ensures.unread)
+    let there : slice_get known c.from-k.result ≡ Some c.index_mut-2.result.now =
+    slice_get-get_or known c.from-k.result c.index_mut-2.result.now (omega (arith, c.if-k-len.false, c.len.ensures, as_many vols known c.requires.buffers)) ∙ ap (λ (b : Known). Some b) (sym c.index_mut-2.ensures.value) in
+    knows_set known c.from-k.result c.index_mut-2.result.now c.read_into_on.new.known there shelf knows (ap (λ u. u.items) c.read_into_on.ensures.unread) c.read_into_on.ensures.library
 
 pub returns-clause-held : goal.returns-clause-held
 returns-clause-held g c told =
     let files = (g.H.Hall.meaning c.args.hall.now).state in
     let units = (g.H.Hall.facts c.args.hall.now).units in
     let vols = c.args.vols.now.items in
-    let at : slice_get vols c.from-k.result ≡ Some c.index.result.now =
-    slice_get-get_or vols c.from-k.result c.index.result.now (omega (arith, c.if-k-len.false, c.len.ensures)) ∙ ap (λ (w : Vol). Some w) (sym c.index.ensures) in
+    let at : slice_get vols c.from-k.result ≡ Some c.index_mut.result.now =
+    slice_get-get_or vols c.from-k.result c.index_mut.result.now (omega (arith, c.if-k-len.false, c.len.ensures)) ∙ ap (λ (w : Vol). Some w) (sym c.index_mut.ensures.value) in
     let known = c.args.known.now.items in
-    let there : slice_get known c.from-k.result ≡ Some c.index_mut.result.now =
-    slice_get-get_or known c.from-k.result c.index_mut.result.now (omega (arith, c.if-k-len.false, c.len.ensures, as_many vols known c.requires.buffers)) ∙ ap (λ (b : Known). Some b) (sym c.index_mut.ensures.value) in
-    held_set known c.from-k.result c.index_mut.result.now c.read_into_on.new.known there files units vols c.index.result.now (c.requires.held told) at (c.read_into_on.ensures.held told)
+    let there : slice_get known c.from-k.result ≡ Some c.index_mut-2.result.now =
+    slice_get-get_or known c.from-k.result c.index_mut-2.result.now (omega (arith, c.if-k-len.false, c.len.ensures, as_many vols known c.requires.buffers)) ∙ ap (λ (b : Known). Some b) (sym c.index_mut-2.ensures.value) in
+    held_set known c.from-k.result c.index_mut-2.result.now c.read_into_on.new.known there files units vols c.index_mut.result.now (c.requires.held told) at (c.read_into_on.ensures.held told)
+
+pub returns-clause-vols : goal.returns-clause-vols
+returns-clause-vols g c =
+    let vols = c.args.vols.now.items in
+    let at : slice_get vols c.from-k.result ≡ Some c.index_mut.result.now =
+    slice_get-get_or vols c.from-k.result c.index_mut.result.now (omega (arith, c.if-k-len.false, c.len.ensures)) ∙ ap (λ (w : Vol). Some w) (sym c.index_mut.ensures.value) in
+    ap (set vols c.from-k.result) c.read_into_on.ensures.vol ∙ set_itself vols c.from-k.result c.index_mut.result.now at

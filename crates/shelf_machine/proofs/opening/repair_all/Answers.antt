@@ -1,87 +1,98 @@
-use Rattle.std.proofs.Common.{◌<◌, ℕ, Some, length, set, refl, sym, ap, subst, ◌∙◌, arith}
-use Rattle.std.specs.Prelude.{Contains, Err, IfErr}
+use Rattle.std.proofs.Common.{◌≡◌, ◌<◌, ℕ, List, length, get_or, vec_capacity, Some, sym, ap, subst, ◌∙◌, refl, arith}
+use Rattle.std.specs.Prelude.{Contains, Err, IfErr, slice_get}
+use Rattle.std.proofs.lemmas.Iterator.Adapters.{YieldsList-from_vec}
+use Rattle.std.proofs.lemmas.Iterator.Consumers.{YieldsList-end, YieldsList-turn}
+use Rattle.std.proofs.lemmas.List.{length_push}
 use Rattle.std.proofs.lemmas.Option.{slice_get-get_or}
 use Rattle.std.proofs.lemmas.Result.{err_from_is_err_and}
-use Rattle.shelf_machine.specs.Machine.{units_of}
+use Rattle.hall_core.specs.Facts.{Attached}
+use Rattle.mount_repair.specs.Scans.{IsScanOn}
+use Rattle.mount_repair.specs.declared.scanned.Scan.{Scan}
+use Rattle.vtoc_index.specs.declared.vol.Vol.{Vol}
+use Rattle.shelf_machine.specs.Machine.{AreInOrder, units_of}
 use Rattle.shelf_machine.specs.Opening.{names_of}
-use Rattle.shelf_machine.specs.Packs.{RepairsAll}
+use Rattle.shelf_machine.specs.Packs.{RepairsAll, indexes_of}
 use Rattle.shelf_machine.specs.declared.stopped.Stopped.{Stopped}
-use Rattle.shelf_machine.proofs.Holding.{held_stand}
-use Rattle.shelf_machine.proofs.Operating.{indexes_after}
-use Rattle.shelf_machine.proofs.RepairLoops.{packs_after, repairs_done, repairs_next, repairs_stopped, same_pack, same_size, unit_there}
-use Rattle.shelf_machine.proofs.Repairing.{repaired_none, unreported}
+use Rattle.shelf_machine.proofs.KnownPacks.{scan_unit}
+use Rattle.shelf_machine.proofs.ReadingPacks.{mounted_scans}
+use Rattle.shelf_machine.proofs.RepairLoops.{OpenedSoFar, none_more_scans, opened_done, opened_next, opened_none, opened_stopped, repairs_done, scan_still}
 use Rattle.shelf_machine.proofs.opening.repair_all.Goals as goal
 
-pub loop-k-init : goal.loop-k-init
-loop-k-init g c = record {
-  facts = unreported _;
-  packs = record { units = refl; serials = refl; geometries = refl };
-  indexes = c.requires.indexes;
-  order = c.requires.order;
-  mounted = c.requires.mounted;
-  settled = λ told j v low at. absurd (omega (arith, low));
-  durable = c.requires.durable;
-  run = λ told. repaired_none _ _ _ (held_stand _ _ _ (c.requires.mounted told));
-}
+-- the next scan stands at the number of those that were taken
+at_next : (scans : List Scan) (n : ℕ) (s : Scan) → (n < length scans) × (s ≡ get_or scans n s) → slice_get scans n ≡ Some s
+at_next scans n s turn = slice_get-get_or scans n s turn.0 ∙ ap (λ (x : Scan). Some x) (sym turn.1)
 
-pub repair-requires-clause-unit : goal.repair-requires-clause-unit
-repair-requires-clause-unit g c =
-    let l = c.loop-k in
-    let low : l.k < length l.vols.items = omega (arith, c.loop-k-test.true, c.len-k-end.ensures, same_size c.args.vols.now.items l.vols.items l.invariant.packs) in
-    l.invariant.indexes.each l.k _ (slice_get-get_or l.vols.items l.k c.index_mut.result.now low ∙ ap Some (sym c.index_mut.ensures.value))
+pub loop-scanned-init : goal.loop-scanned-init
+loop-scanned-init g c = (
+  opened_none g.H.Hall.tells (g.H.Hall.facts c.args.hall.now) (g.H.Hall.meaning c.args.hall.now) c.args.scans.items c.args.vols.now.items c.requires.room.0 c.requires.indexes c.requires.order
+      (λ told. mounted_scans (g.H.Hall.meaning c.args.hall.now).state (g.H.Hall.facts c.args.hall.now).units c.args.scans.items (c.requires.images told)) c.requires.durable,
+  c.requires.room.1,
+)
 
-pub repair-requires-clause-mounted : goal.repair-requires-clause-mounted
-repair-requires-clause-mounted g c told =
-    let l = c.loop-k in
-    let low : l.k < length l.vols.items = omega (arith, c.loop-k-test.true, c.len-k-end.ensures, same_size c.args.vols.now.items l.vols.items l.invariant.packs) in
-    l.invariant.mounted told l.k _ (slice_get-get_or l.vols.items l.k c.index_mut.result.now low ∙ ap Some (sym c.index_mut.ensures.value))
+pub repair_pack-requires-clause-unit : goal.repair_pack-requires-clause-unit
+repair_pack-requires-clause-unit g c =
+    let l = c.loop-scanned in
+    let scans = c.args.scans.items in
+    let vec = c.into_iter-scanned-iterator.ensures.into_iter_gives in
+    let turn = YieldsList-turn (YieldsList-from_vec {s = c.into_iter-scanned-iterator.result} scans vec.0 (vec.1 ∙ c.args.scans.ok.0)) l.yielded l.scanned-iterator l.yielded_by c.next.result c.next.new.self c.in-Some.scanned c.in-Some.is c.next.ensures.steps in
+    subst (λ (us : List Attached). IsScanOn us c.in-Some.scanned.vol.unit c.in-Some.scanned) (sym l.invariant.0.repairs.facts.units)
+    (c.requires.scanned (length l.yielded) c.in-Some.scanned (at_next scans (length l.yielded) c.in-Some.scanned turn))
 
-pub returns-in_err-repair-clause-files : goal.returns-in_err-repair-clause-files
-returns-in_err-repair-clause-files g c told =
-    let l = c.loop-k in
-    let low : l.k < length l.vols.items = omega (arith, c.loop-k-test.true, c.len-k-end.ensures, same_size c.args.vols.now.items l.vols.items l.invariant.packs) in
-    let there = slice_get-get_or l.vols.items l.k c.index_mut.result.now low ∙ ap Some (sym c.index_mut.ensures.value) in
-    let old = g.H.Hall.facts c.args.hall.now in
+pub repair_pack-requires-clause-scan : goal.repair_pack-requires-clause-scan
+repair_pack-requires-clause-scan g c told =
+    let l = c.loop-scanned in
+    let scans = c.args.scans.items in
+    let vec = c.into_iter-scanned-iterator.ensures.into_iter_gives in
+    let turn = YieldsList-turn (YieldsList-from_vec {s = c.into_iter-scanned-iterator.result} scans vec.0 (vec.1 ∙ c.args.scans.ok.0)) l.yielded l.scanned-iterator l.yielded_by c.next.result c.next.new.self c.in-Some.scanned c.in-Some.is c.next.ensures.steps in
+    scan_still g.H.Hall.tells _ _ _ _ scans l.vols.items (length l.yielded) l.invariant.0 c.in-Some.scanned (at_next scans (length l.yielded) c.in-Some.scanned turn) told (c.requires.images told)
+
+pub returns-in_err-repaired-clause-files : goal.returns-in_err-repaired-clause-files
+returns-in_err-repaired-clause-files g c told =
+    let l = c.loop-scanned in
+    let scans = c.args.scans.items in
+    let vec = c.into_iter-scanned-iterator.ensures.into_iter_gives in
+    let turn = YieldsList-turn (YieldsList-from_vec {s = c.into_iter-scanned-iterator.result} scans vec.0 (vec.1 ∙ c.args.scans.ok.0)) l.yielded l.scanned-iterator l.yielded_by c.next.result c.next.new.self c.in-Some.scanned c.in-Some.is c.next.ensures.steps in
     let p = err_from_is_err_and c.from_residual.result c.from_residual.ensures.1 in
-    subst (λ r. RepairsAll (names_of old.units (units_of c.args.vols.now.items)) old.units (set l.vols.items l.k c.repair.new.vol) (g.H.Hall.meaning c.args.hall.now) (g.H.Hall.meaning c.repair.new.hall) r) (sym p.1)
-    (repairs_stopped g.H.Hall.tells old (g.H.Hall.facts l.hall) (g.H.Hall.meaning c.args.hall.now) (g.H.Hall.meaning l.hall) c.args.vols.now.items l.vols.items l.k l.invariant told c.requires.indexes (c.requires.mounted told)
-    c.index_mut.result.now c.repair.new.vol (g.H.Hall.meaning c.repair.new.hall) c.repair.result p.0 _ there (c.repair.ensures.files told))
+    subst (λ r. RepairsAll {T = Unit} {E = Stopped} (names_of (g.H.Hall.facts c.args.hall.now).units (units_of (indexes_of scans))) (g.H.Hall.facts c.args.hall.now).units l.vols.items (g.H.Hall.meaning c.args.hall.now) (g.H.Hall.meaning c.repair_pack.new.hall) r) (sym p.1)
+    (opened_stopped g.H.Hall.tells _ _ _ _ scans l.vols.items (length l.yielded) l.invariant.0 c.in-Some.scanned (at_next scans (length l.yielded) c.in-Some.scanned turn) told c.requires.indexes
+    (mounted_scans (g.H.Hall.meaning c.args.hall.now).state (g.H.Hall.facts c.args.hall.now).units scans (c.requires.images told)) (g.H.Hall.meaning c.repair_pack.new.hall) c.repair_pack.result p.0 l.vols.items (c.repair_pack.ensures.files told))
 
-pub returns-in_err-repair-clause-indexes : goal.returns-in_err-repair-clause-indexes
-returns-in_err-repair-clause-indexes g c =
-    let l = c.loop-k in
-    let low : l.k < length l.vols.items = omega (arith, c.loop-k-test.true, c.len-k-end.ensures, same_size c.args.vols.now.items l.vols.items l.invariant.packs) in
-    let there = slice_get-get_or l.vols.items l.k c.index_mut.result.now low ∙ ap Some (sym c.index_mut.ensures.value) in
-    indexes_after (g.H.Hall.facts l.hall) (g.H.Hall.facts c.repair.new.hall) l.vols.items l.k c.index_mut.result.now c.repair.new.vol there (same_pack _ _ c.in_err-repair.ensures.others) c.in_err-repair.ensures.faults.units
-    l.invariant.indexes c.in_err-repair.ensures.unit
+pub returns-in_err-repaired-clause-unit : goal.returns-in_err-repaired-clause-unit
+returns-in_err-repaired-clause-unit g c =
+    let l = c.loop-scanned in
+    let scans = c.args.scans.items in
+    let vec = c.into_iter-scanned-iterator.ensures.into_iter_gives in
+    let turn = YieldsList-turn (YieldsList-from_vec {s = c.into_iter-scanned-iterator.result} scans vec.0 (vec.1 ∙ c.args.scans.ok.0)) l.yielded l.scanned-iterator l.yielded_by c.next.result c.next.new.self c.in-Some.scanned c.in-Some.is c.next.ensures.steps in
+    let p = err_from_is_err_and c.from_residual.result c.from_residual.ensures.1 in
+    subst (λ r. IfErr r (λ (s : Stopped). Contains (units_of (indexes_of scans)) s.unit)) (sym (p.1 ∙ ap Err p.2))
+    (subst (λ (n : ℕ). Contains (units_of (indexes_of scans)) n) (sym c.in_err-repaired.ensures.place) (scan_unit scans (length l.yielded) c.in-Some.scanned (at_next scans (length l.yielded) c.in-Some.scanned turn)))
 
-pub returns-in_err-repair-clause-packs : goal.returns-in_err-repair-clause-packs
-returns-in_err-repair-clause-packs g c =
-    let l = c.loop-k in
-    let low : l.k < length l.vols.items = omega (arith, c.loop-k-test.true, c.len-k-end.ensures, same_size c.args.vols.now.items l.vols.items l.invariant.packs) in
-    let there = slice_get-get_or l.vols.items l.k c.index_mut.result.now low ∙ ap Some (sym c.index_mut.ensures.value) in
-    packs_after c.args.vols.now.items l.vols.items l.k c.index_mut.result.now c.repair.new.vol there (same_pack _ _ c.in_err-repair.ensures.others) l.invariant.packs
-
-pub loop-k-preserved : goal.loop-k-preserved
-loop-k-preserved g c =
-    let l = c.loop-k in
-    let low : l.k < length l.vols.items = omega (arith, c.loop-k-test.true, c.len-k-end.ensures, same_size c.args.vols.now.items l.vols.items l.invariant.packs) in
-    let there = slice_get-get_or l.vols.items l.k c.index_mut.result.now low ∙ ap Some (sym c.index_mut.ensures.value) in
-    let done = c.in_ok-repair.ensures in
-    repairs_next g.H.Hall.tells (g.H.Hall.facts c.args.hall.now) (g.H.Hall.facts l.hall) (g.H.Hall.meaning c.args.hall.now) (g.H.Hall.meaning l.hall) c.args.vols.now.items l.vols.items l.k l.invariant
-    (g.H.Hall.facts c.repair.new.hall) (g.H.Hall.meaning c.repair.new.hall) c.index_mut.result.now c.repair.new.vol _ c.requires.indexes c.requires.mounted there done.others done.unit done.names done.faults done.files
+pub loop-scanned-preserved : goal.loop-scanned-preserved
+loop-scanned-preserved g c =
+    let l = c.loop-scanned in
+    let scans = c.args.scans.items in
+    let vec = c.into_iter-scanned-iterator.ensures.into_iter_gives in
+    let turn = YieldsList-turn (YieldsList-from_vec {s = c.into_iter-scanned-iterator.result} scans vec.0 (vec.1 ∙ c.args.scans.ok.0)) l.yielded l.scanned-iterator l.yielded_by c.next.result c.next.new.self c.in-Some.scanned c.in-Some.is c.next.ensures.steps in
+    let repaired = c.in_ok-repaired.ensures in (
+      subst (OpenedSoFar g.H.Hall.tells (g.H.Hall.facts c.args.hall.now) (g.H.Hall.facts c.repair_pack.new.hall) (g.H.Hall.meaning c.args.hall.now) (g.H.Hall.meaning c.repair_pack.new.hall) scans c.push_reserved.new.self.items) (sym (length_push l.yielded c.in-Some.scanned))
+          (opened_next g.H.Hall.tells _ _ _ _ scans l.vols.items (length l.yielded) l.invariant.0 c.in-Some.scanned (at_next scans (length l.yielded) c.in-Some.scanned turn) _ _ c.in_ok-repaired.repaired c.push_reserved.new.self.items c.requires.indexes
+          (λ told. mounted_scans (g.H.Hall.meaning c.args.hall.now).state (g.H.Hall.facts c.args.hall.now).units scans (c.requires.images told)) repaired.index repaired.unit repaired.faults repaired.files c.push_reserved.ensures.items),
+      omega (arith, l.invariant.1, c.push_reserved.ensures.capacity),
+    )
 
 pub returns-clause-files : goal.returns-clause-files
 returns-clause-files g c told =
-    let l = c.loop-k in
-    repairs_done g.H.Hall.tells (g.H.Hall.facts c.args.hall.now) (g.H.Hall.facts l.hall) (g.H.Hall.meaning c.args.hall.now) (g.H.Hall.meaning l.hall) c.args.vols.now.items l.vols.items l.k l.invariant told c.requires.indexes (c.requires.mounted told)
-    tt (omega (arith, c.loop-k-test.false, c.len-k-end.ensures, same_size c.args.vols.now.items l.vols.items l.invariant.packs))
+    let l = c.loop-scanned in
+    let scans = c.args.scans.items in
+    let vec = c.into_iter-scanned-iterator.ensures.into_iter_gives in
+    let end = YieldsList-end (YieldsList-from_vec {s = c.into_iter-scanned-iterator.result} scans vec.0 (vec.1 ∙ c.args.scans.ok.0)) l.yielded l.scanned-iterator l.yielded_by c.next.result c.next.new.self c.in-None.is c.next.ensures.steps in
+    opened_done g.H.Hall.tells _ _ _ _ scans l.vols.items (length l.yielded) l.invariant.0 (omega (arith, end.1)) told c.requires.indexes
+    (mounted_scans (g.H.Hall.meaning c.args.hall.now).state (g.H.Hall.facts c.args.hall.now).units scans (c.requires.images told)) tt
 
-pub returns-in_err-repair-clause-unit : goal.returns-in_err-repair-clause-unit
-returns-in_err-repair-clause-unit g c =
-    let l = c.loop-k in
-    let low : l.k < length l.vols.items = omega (arith, c.loop-k-test.true, c.len-k-end.ensures, same_size c.args.vols.now.items l.vols.items l.invariant.packs) in
-    let there = slice_get-get_or l.vols.items l.k c.index_mut.result.now low ∙ ap Some (sym c.index_mut.ensures.value) in
-    let p = err_from_is_err_and c.from_residual.result c.from_residual.ensures.1 in
-    subst (λ r. IfErr r (λ (s : Stopped). Contains (units_of c.args.vols.now.items) s.unit)) (sym (p.1 ∙ ap Err p.2))
-    (subst (λ (n : ℕ). Contains (units_of c.args.vols.now.items) n) (sym c.in_err-repair.ensures.place) (unit_there c.args.vols.now.items l.vols.items l.k c.index_mut.result.now there l.invariant.packs))
+pub returns-clause-order : goal.returns-clause-order
+returns-clause-order g c =
+    let l = c.loop-scanned in
+    let scans = c.args.scans.items in
+    let vec = c.into_iter-scanned-iterator.ensures.into_iter_gives in
+    let end = YieldsList-end (YieldsList-from_vec {s = c.into_iter-scanned-iterator.result} scans vec.0 (vec.1 ∙ c.args.scans.ok.0)) l.yielded l.scanned-iterator l.yielded_by c.next.result c.next.new.self c.in-None.is c.next.ensures.steps in
+    subst AreInOrder (none_more_scans scans (length l.yielded) l.vols.items (omega (arith, end.1))) l.invariant.0.repairs.order

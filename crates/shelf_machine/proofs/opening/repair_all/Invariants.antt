@@ -1,6 +1,8 @@
-use Rattle.shelf_machine.proofs.RepairLoops.{RepairsSoFar}
+use Rattle.std.proofs.Common.{◌≤◌, length, vec_capacity}
+use Rattle.shelf_machine.proofs.RepairLoops.{OpenedSoFar}
 use Rattle.shelf_machine.proofs.opening.repair_all.Given as goal
 
-abbrev pub invariant-loop-k : goal.invariant-loop-k
-invariant-loop-k g l =
-    RepairsSoFar g.H.Hall.tells (g.H.Hall.facts l.initial.hall) (g.H.Hall.facts l.hall) (g.H.Hall.meaning l.initial.hall) (g.H.Hall.meaning l.hall) l.initial.vols.items l.vols.items l.k
+abbrev pub invariant-loop-scanned : goal.invariant-loop-scanned
+invariant-loop-scanned g l =
+    OpenedSoFar g.H.Hall.tells (g.H.Hall.facts l.initial.hall) (g.H.Hall.facts l.hall) (g.H.Hall.meaning l.initial.hall) (g.H.Hall.meaning l.hall) l.fn.scans.items l.vols.items (length l.yielded)
+    × (length l.fn.scans.items ≤ vec_capacity l.vols)

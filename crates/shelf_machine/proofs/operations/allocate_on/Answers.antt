@@ -2,6 +2,8 @@ use Rattle.std.proofs.Common.{◌≡◌, Some, None, sym, ap, ◌∙◌, arith}
 use Rattle.std.specs.Prelude.{IsErrOf, slice_get}
 use Rattle.std.proofs.lemmas.Option.{slice_get-get_or}
 use Rattle.free_rebuild.proofs.SettledBool.{settled_vtoc}
+use Rattle.dadsm_ops.specs.Allocating.{InNewSet}
+use Rattle.hall_core.specs.Facts.{unit_of}
 use Rattle.vol_model.specs.Shelf.{step_on}
 use Rattle.vol_model.specs.declared.answers.StoreErr.TheVariants as store
 use Rattle.vol_model.specs.declared.requests.Op.TheVariants.{Allocate}
@@ -12,6 +14,7 @@ use Rattle.shelf_machine.proofs.ListPlaces.{map_set_same, not_there}
 use Rattle.shelf_machine.proofs.OneVolume.{kept_idle, name_roomed, order_kept}
 use Rattle.shelf_machine.specs.Operating.{IsRoomed, IsSamePack}
 use Rattle.shelf_machine.proofs.Operating.{allocate_keeps, base_same, indexes_after, operates, operates_nowhere, order_after}
+use Rattle.shelf_machine.proofs.PackedImages.{new_still}
 use Rattle.shelf_machine.proofs.operations.allocate_on.Given.{Over}
 use Rattle.shelf_machine.proofs.operations.allocate_on.Goals as goal
 
@@ -68,9 +71,11 @@ returns-clause-shelf g c told =
     operates (Allocate c.args.v c.args.dsn.now c.args.attr.now c.args.request.now c.args.dir) (allocate_keeps c.args.v c.args.dsn.now c.args.attr.now c.args.request.now c.args.dir)
     (g.H.Hall.facts c.args.hall.now) (g.H.Hall.facts c.allocate.new.hall) c.args.vols.now.items c.from-k.result (sym c.from-k.ensures)
     c.index_mut.result.now c.allocate.new.vol (there g c) (alike g c) c.allocate.ensures.faults.units c.requires.indexes
-    (g.H.Hall.meaning c.args.hall.now) (g.H.Hall.meaning c.allocate.new.hall) c.allocate.result
+    (InNewSet c.args.request.now c.args.dir c.allocate.new.vol) (g.H.Hall.meaning c.args.hall.now) (g.H.Hall.meaning c.allocate.new.hall) c.allocate.result
     (g.met.H.Hall.counts_now c.args.hall.now) (g.met.H.Hall.leaves_state c.args.hall.now) (c.requires.kept told) (c.requires.durable told) (c.allocate.ensures.files told)
     (kept_idle c.index_mut.result.now c.allocate.new.vol c.allocate.result (λ why is. (c.allocate.ensures.refused why is).1) (roomed g c))
+    (new_still (unit_of (g.H.Hall.facts c.args.hall.now).units c.index_mut.result.now.unit).name (g.H.Hall.meaning c.args.hall.now) (g.H.Hall.meaning c.allocate.new.hall) c.allocate.new.vol
+    c.args.dsn.now c.args.attr.now c.args.request.now c.args.dir c.allocate.result (c.allocate.ensures.directory told) (c.allocate.ensures.files told))
 
 pub returns-clause-indexes : goal.returns-clause-indexes
 returns-clause-indexes g c =

@@ -1,15 +1,19 @@
 use Rattle.std.proofs.Common.{◌≡◌, Some, None, refl, sym, ap, ◌∙◌, arith}
 use Rattle.std.specs.Prelude.{slice_get}
 use Rattle.std.proofs.lemmas.Option.{slice_get-get_or}
-use Rattle.vol_model.specs.Shelf.{step_on}
+use Rattle.dadsm_ops.specs.Operations.{InVtoc}
+use Rattle.hall_core.specs.Facts.{unit_of}
+use Rattle.vol_model.specs.Shelf.{empty_on, step_on}
+use Rattle.pds_directory.proofs.PackedTracks as directories
 use Rattle.vol_model.specs.declared.requests.Op.TheVariants.{Empty}
 use Rattle.vtoc_index.proofs.KeptLemmas.{mounted_of}
 use Rattle.vtoc_index.specs.declared.vol.Vol.{Vol}
-use Rattle.shelf_machine.proofs.KnownLemmas.{at_index, known_low, lists_held}
+use Rattle.shelf_machine.proofs.KnownLemmas.{at_index, known_low, library_held, lists_held}
 use Rattle.shelf_machine.proofs.ListPlaces.{map_set_same, not_there}
 use Rattle.shelf_machine.proofs.OneVolume.{kept_idle, order_kept}
 use Rattle.shelf_machine.specs.Operating.{IsSamePack}
 use Rattle.shelf_machine.proofs.Operating.{base_same, indexes_after, operates, operates_nowhere, order_after, empty_keeps}
+use Rattle.shelf_machine.proofs.PackedImages.{vtoc_still}
 use Rattle.shelf_machine.proofs.operations.empty_on.Given.{Over}
 use Rattle.shelf_machine.proofs.operations.empty_on.Goals as goal
 
@@ -46,9 +50,11 @@ returns-clause-shelf g c told =
     operates (Empty c.args.v c.args.dsn.now c.args.attr.now) (empty_keeps c.args.v c.args.dsn.now c.args.attr.now)
     (g.H.Hall.facts c.args.hall.now) (g.H.Hall.facts c.empty_set.new.hall) c.args.vols.now.items c.from-k.result (sym c.from-k.ensures)
     c.index_mut.result.now c.empty_set.new.vol (there g c) (alike g c) c.empty_set.ensures.faults.units c.requires.indexes
-    (g.H.Hall.meaning c.args.hall.now) (g.H.Hall.meaning c.empty_set.new.hall) c.empty_set.result
+    (InVtoc c.empty_set.new.vol) (g.H.Hall.meaning c.args.hall.now) (g.H.Hall.meaning c.empty_set.new.hall) c.empty_set.result
     (g.met.H.Hall.counts_now c.args.hall.now) (g.met.H.Hall.leaves_state c.args.hall.now) (c.requires.kept told) (c.requires.durable told) (c.empty_set.ensures.files told)
-    (kept_idle c.index_mut.result.now c.empty_set.new.vol c.empty_set.result (λ why is. c.empty_set.ensures.refused why is) (λ is. absurd (c.empty_set.ensures.memory is)))
+    (kept_idle c.index_mut.result.now c.empty_set.new.vol c.empty_set.result (λ why is. c.empty_set.ensures.refused why is) (λ is. c.empty_set.ensures.memory is))
+    (vtoc_still (unit_of (g.H.Hall.facts c.args.hall.now).units c.index_mut.result.now.unit).name (g.H.Hall.meaning c.args.hall.now) (g.H.Hall.meaning c.empty_set.new.hall) c.empty_set.new.vol (empty_on c.args.dsn.now c.args.attr.now) c.empty_set.result
+    (directories.empty_keeps c.args.dsn.now c.args.attr.now) (c.empty_set.ensures.files told))
 
 pub returns-clause-indexes : goal.returns-clause-indexes
 returns-clause-indexes g c =
@@ -59,7 +65,7 @@ pub returns-clause-order : goal.returns-clause-order
 returns-clause-order g c sound =
     order_after (g.H.Hall.facts c.args.hall.now) (g.H.Hall.facts c.empty_set.new.hall) c.args.vols.now.items c.from-k.result
     c.index_mut.result.now c.empty_set.new.vol (there g c) (alike g c) c.empty_set.ensures.faults.units c.requires.order
-    (order_kept c.index_mut.result.now c.empty_set.new.vol c.empty_set.result (λ why is. c.empty_set.ensures.refused why is) (λ is. absurd (c.empty_set.ensures.memory is))
+    (order_kept c.index_mut.result.now c.empty_set.new.vol c.empty_set.result (λ why is. c.empty_set.ensures.refused why is) (λ is. c.empty_set.ensures.memory is)
     c.empty_set.ensures.names (c.requires.order c.from-k.result c.index_mut.result.now (there g c)) sound)
 
 pub returns-clause-base : goal.returns-clause-base
@@ -86,4 +92,9 @@ known_here g c =
 pub empty_set-requires-clause-bodies : goal.empty_set-requires-clause-bodies
 empty_set-requires-clause-bodies g c told =
     lists_held (g.H.Hall.meaning c.args.hall.now).state (g.H.Hall.facts c.args.hall.now).units c.args.vols.now.items c.args.known.now.items c.from-k.result
+    c.index_mut.result.now c.index.result.now c.requires.indexes (c.requires.kept told) (c.requires.bodies told) (here g c) (known_here g c)
+
+pub empty_set-requires-clause-library : goal.empty_set-requires-clause-library
+empty_set-requires-clause-library g c told =
+    library_held (g.H.Hall.meaning c.args.hall.now).state (g.H.Hall.facts c.args.hall.now).units c.args.vols.now.items c.args.known.now.items c.from-k.result
     c.index_mut.result.now c.index.result.now c.requires.indexes (c.requires.kept told) (c.requires.bodies told) (here g c) (known_here g c)

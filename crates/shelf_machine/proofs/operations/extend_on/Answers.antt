@@ -1,7 +1,7 @@
 use Rattle.std.proofs.Common.{◌≡◌, IsTrue, Some, None, set, refl, sym, ap, subst, ◌∙◌, arith}
 use Rattle.std.specs.Prelude.{Err, IsErrOf, Ok, Result, slice_get}
 use Rattle.std.proofs.lemmas.Option.{slice_get-get_or}
-use Rattle.dadsm_ops.specs.Operations.{Operates}
+use Rattle.dadsm_ops.specs.Operations.{InVtoc, Operates}
 use Rattle.hall_core.specs.Facts.{unit_of}
 use Rattle.free_rebuild.proofs.SettledBool.{settled_vtoc}
 use Rattle.vol_model.specs.Calls.{IsUndone}
@@ -9,6 +9,7 @@ use Rattle.vol_model.specs.Shelf.{extend_on, step_on}
 use Rattle.vol_model.specs.declared.answers.StoreErr.{StoreErr}
 use Rattle.vol_model.specs.declared.answers.StoreErr.TheVariants as store
 use Rattle.vol_model.specs.declared.refusals.Refusal.{Refusal}
+use Rattle.pds_directory.proofs.PackedTracks as directories
 use Rattle.vol_model.specs.declared.requests.Op.TheVariants.{Extend}
 use Rattle.vtoc_index.proofs.KeptLemmas.{mounted_of}
 use Rattle.vtoc_index.specs.declared.vol.Vol.{Vol}
@@ -18,6 +19,7 @@ use Rattle.shelf_machine.proofs.OneVolume.{kept_idle, order_kept}
 use Rattle.shelf_machine.specs.Operating.{IsSamePack}
 use Rattle.shelf_machine.specs.Reporting.{reported}
 use Rattle.shelf_machine.proofs.Operating.{base_same, indexes_after, operates, operates_nowhere, order_after, extend_keeps}
+use Rattle.shelf_machine.proofs.PackedImages.{vtoc_still}
 use Rattle.shelf_machine.proofs.operations.extend_on.Given.{Over}
 use Rattle.shelf_machine.proofs.operations.extend_on.Goals as goal
 
@@ -60,9 +62,11 @@ returns-clause-shelf g c told =
     operates (Extend c.args.v c.args.dsn.now) (extend_keeps c.args.v c.args.dsn.now)
     (g.H.Hall.facts c.args.hall.now) (g.H.Hall.facts c.extend_set.new.hall) c.args.vols.now.items c.from-k.result (sym c.from-k.ensures)
     c.index_mut.result.now c.extend_set.new.vol (there g c) (alike g c) c.extend_set.ensures.faults.units c.requires.indexes
-    (g.H.Hall.meaning c.args.hall.now) (g.H.Hall.meaning c.extend_set.new.hall) c.extend_set.result
+    (InVtoc c.extend_set.new.vol) (g.H.Hall.meaning c.args.hall.now) (g.H.Hall.meaning c.extend_set.new.hall) c.extend_set.result
     (g.met.H.Hall.counts_now c.args.hall.now) (g.met.H.Hall.leaves_state c.args.hall.now) (c.requires.kept told) (c.requires.durable told) (c.extend_set.ensures.files told)
     (kept_idle c.index_mut.result.now c.extend_set.new.vol c.extend_set.result (λ why is. c.extend_set.ensures.refused why is) (λ is. absurd (c.extend_set.ensures.memory is)))
+    (vtoc_still (unit_of (g.H.Hall.facts c.args.hall.now).units c.index_mut.result.now.unit).name (g.H.Hall.meaning c.args.hall.now) (g.H.Hall.meaning c.extend_set.new.hall) c.extend_set.new.vol (extend_on c.args.dsn.now) c.extend_set.result
+    (directories.extend_keeps c.args.dsn.now) (c.extend_set.ensures.files told))
 
 pub returns-clause-indexes : goal.returns-clause-indexes
 returns-clause-indexes g c =
@@ -126,9 +130,9 @@ returns-clause-pack g c vol vol' at at' =
     let here : was ≡ vol = some_vol (sym (there g c) ∙ ap (slice_get vols) c.from-k.ensures ∙ at) in
     let here' : is ≡ vol' = some_vol (sym (get_set vols c.from-k.result was is (there g c)) ∙ ap (slice_get (set vols c.from-k.result is)) c.from-k.ensures ∙ at') in
     subst (λ (u : Vol). IsSamePack u vol' × (IsUndone (reported c.extend_set.result) → vol' ≡ u)
-    × (IsTrue g.H.Hall.tells → Operates (unit_of (g.H.Hall.facts c.args.hall.now).units u.unit).name (extend_on c.args.dsn.now) vol' (g.H.Hall.meaning c.args.hall.now) (g.H.Hall.meaning c.extend_set.new.hall) c.extend_set.result)) here
+    × (IsTrue g.H.Hall.tells → Operates (unit_of (g.H.Hall.facts c.args.hall.now).units u.unit).name (extend_on c.args.dsn.now) vol' (InVtoc vol') (g.H.Hall.meaning c.args.hall.now) (g.H.Hall.meaning c.extend_set.new.hall) c.extend_set.result)) here
     (subst (λ (u : Vol). IsSamePack was u × (IsUndone (reported c.extend_set.result) → u ≡ was)
-    × (IsTrue g.H.Hall.tells → Operates (unit_of (g.H.Hall.facts c.args.hall.now).units was.unit).name (extend_on c.args.dsn.now) u (g.H.Hall.meaning c.args.hall.now) (g.H.Hall.meaning c.extend_set.new.hall) c.extend_set.result)) here' (
+    × (IsTrue g.H.Hall.tells → Operates (unit_of (g.H.Hall.facts c.args.hall.now).units was.unit).name (extend_on c.args.dsn.now) u (InVtoc u) (g.H.Hall.meaning c.args.hall.now) (g.H.Hall.meaning c.extend_set.new.hall) c.extend_set.result)) here' (
       alike g c,
       same_undone was is c.extend_set.result (λ why r. c.extend_set.ensures.refused why r) c.extend_set.ensures.memory,
       c.extend_set.ensures.files,

@@ -1,4 +1,5 @@
 use Rattle.std.proofs.Common.{arith}
+use Rattle.dadsm_ops.specs.Operations.{InVtoc}
 use Rattle.hall_core.specs.Facts.{unit_of}
 use Rattle.hall_core.specs.Images.{image_in}
 use Rattle.vol_model.specs.Shelf.{extend_on}
@@ -14,7 +15,7 @@ returns-in-Err-clause-files g c told =
     let m = g.H.Hall.meaning c.args.hall.now in
     let image = image_in m (g.H.Hall.facts c.args.hall.now) v.unit in
     let mounted = c.requires.mounted told in
-    operates_refused (unit_of (g.H.Hall.facts c.args.hall.now).units v.unit).name (extend_on c.args.dsn.now) v m (g.met.H.Hall.counts_now c.args.hall.now) (volume_in image v) mounted.volume c.in-Err.refusal
+    operates_refused (unit_of (g.H.Hall.facts c.args.hall.now).units v.unit).name (extend_on c.args.dsn.now) v (InVtoc v) m (g.met.H.Hall.counts_now c.args.hall.now) (volume_in image v) mounted.volume c.in-Err.refusal
     (c.in-Err.ensures.refused image mounted (c.requires.bodies told))
 
 pub extend-requires-clause-body : goal.extend-requires-clause-body

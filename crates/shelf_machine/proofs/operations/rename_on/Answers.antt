@@ -1,7 +1,10 @@
 use Rattle.std.proofs.Common.{◌≡◌, vec_capacity, Some, None, sym, ap, ◌∙◌, arith}
 use Rattle.std.specs.Prelude.{slice_get}
 use Rattle.std.proofs.lemmas.Option.{slice_get-get_or}
-use Rattle.vol_model.specs.Shelf.{step_on}
+use Rattle.dadsm_ops.specs.Operations.{InVtoc}
+use Rattle.hall_core.specs.Facts.{unit_of}
+use Rattle.vol_model.specs.Shelf.{rename_on, step_on}
+use Rattle.pds_directory.proofs.PackedTracks as directories
 use Rattle.vol_model.specs.declared.requests.Op.TheVariants.{Rename}
 use Rattle.vtoc_index.proofs.KeptLemmas.{mounted_of}
 use Rattle.vtoc_index.specs.declared.vol.Vol.{Vol}
@@ -9,6 +12,7 @@ use Rattle.shelf_machine.proofs.ListPlaces.{map_set_same, not_there}
 use Rattle.shelf_machine.proofs.OneVolume.{kept_idle, order_kept}
 use Rattle.shelf_machine.specs.Operating.{IsSamePack}
 use Rattle.shelf_machine.proofs.Operating.{base_same, indexes_after, operates, operates_nowhere, order_after, rename_keeps}
+use Rattle.shelf_machine.proofs.PackedImages.{vtoc_still}
 use Rattle.shelf_machine.proofs.operations.rename_on.Given.{Over}
 use Rattle.shelf_machine.proofs.operations.rename_on.Goals as goal
 
@@ -51,9 +55,11 @@ returns-clause-shelf g c told =
     operates (Rename c.args.v c.args.old.now c.args.new.now) (rename_keeps c.args.v c.args.old.now c.args.new.now)
     (g.H.Hall.facts c.args.hall.now) (g.H.Hall.facts c.rename.new.hall) c.args.vols.now.items c.from-k.result (sym c.from-k.ensures)
     c.index_mut.result.now c.rename.new.vol (there g c) (alike g c) c.rename.ensures.faults.units c.requires.indexes
-    (g.H.Hall.meaning c.args.hall.now) (g.H.Hall.meaning c.rename.new.hall) c.rename.result
+    (InVtoc c.rename.new.vol) (g.H.Hall.meaning c.args.hall.now) (g.H.Hall.meaning c.rename.new.hall) c.rename.result
     (g.met.H.Hall.counts_now c.args.hall.now) (g.met.H.Hall.leaves_state c.args.hall.now) (c.requires.kept told) (c.requires.durable told) (c.rename.ensures.files told)
     (kept_idle c.index_mut.result.now c.rename.new.vol c.rename.result (λ why is. (c.rename.ensures.refused why is).1) (λ is. absurd (c.rename.ensures.memory is)))
+    (vtoc_still (unit_of (g.H.Hall.facts c.args.hall.now).units c.index_mut.result.now.unit).name (g.H.Hall.meaning c.args.hall.now) (g.H.Hall.meaning c.rename.new.hall) c.rename.new.vol (rename_on c.args.old.now c.args.new.now) c.rename.result
+    (directories.rename_keeps c.args.old.now c.args.new.now) (c.rename.ensures.files told))
 
 pub returns-clause-indexes : goal.returns-clause-indexes
 returns-clause-indexes g c =

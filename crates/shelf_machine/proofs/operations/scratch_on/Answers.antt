@@ -1,7 +1,10 @@
 use Rattle.std.proofs.Common.{◌≡◌, Some, None, sym, ap, ◌∙◌, arith}
 use Rattle.std.specs.Prelude.{slice_get}
 use Rattle.std.proofs.lemmas.Option.{slice_get-get_or}
-use Rattle.vol_model.specs.Shelf.{step_on}
+use Rattle.dadsm_ops.specs.Operations.{InVtoc}
+use Rattle.hall_core.specs.Facts.{unit_of}
+use Rattle.vol_model.specs.Shelf.{scratch_on, step_on}
+use Rattle.pds_directory.proofs.PackedTracks as directories
 use Rattle.vol_model.specs.declared.requests.Op.TheVariants.{Scratch}
 use Rattle.vtoc_index.proofs.KeptLemmas.{mounted_of}
 use Rattle.vtoc_index.specs.declared.vol.Vol.{Vol}
@@ -9,6 +12,7 @@ use Rattle.shelf_machine.proofs.ListPlaces.{map_set_same, not_there}
 use Rattle.shelf_machine.proofs.OneVolume.{kept_idle, order_kept}
 use Rattle.shelf_machine.specs.Operating.{IsSamePack}
 use Rattle.shelf_machine.proofs.Operating.{base_same, indexes_after, operates, operates_nowhere, order_after, scratch_keeps}
+use Rattle.shelf_machine.proofs.PackedImages.{vtoc_still}
 use Rattle.shelf_machine.proofs.operations.scratch_on.Given.{Over}
 use Rattle.shelf_machine.proofs.operations.scratch_on.Goals as goal
 
@@ -48,9 +52,11 @@ returns-clause-shelf g c told =
     operates (Scratch c.args.v c.args.dsn.now) (scratch_keeps c.args.v c.args.dsn.now)
     (g.H.Hall.facts c.args.hall.now) (g.H.Hall.facts c.scratch_set.new.hall) c.args.vols.now.items c.from-k.result (sym c.from-k.ensures)
     c.index_mut.result.now c.scratch_set.new.vol (there g c) (alike g c) c.scratch_set.ensures.faults.units c.requires.indexes
-    (g.H.Hall.meaning c.args.hall.now) (g.H.Hall.meaning c.scratch_set.new.hall) c.scratch_set.result
+    (InVtoc c.scratch_set.new.vol) (g.H.Hall.meaning c.args.hall.now) (g.H.Hall.meaning c.scratch_set.new.hall) c.scratch_set.result
     (g.met.H.Hall.counts_now c.args.hall.now) (g.met.H.Hall.leaves_state c.args.hall.now) (c.requires.kept told) (c.requires.durable told) (c.scratch_set.ensures.files told)
     (kept_idle c.index_mut.result.now c.scratch_set.new.vol c.scratch_set.result (λ why is. c.scratch_set.ensures.refused why is) (λ is. absurd (c.scratch_set.ensures.memory is)))
+    (vtoc_still (unit_of (g.H.Hall.facts c.args.hall.now).units c.index_mut.result.now.unit).name (g.H.Hall.meaning c.args.hall.now) (g.H.Hall.meaning c.scratch_set.new.hall) c.scratch_set.new.vol (scratch_on c.args.dsn.now) c.scratch_set.result
+    (directories.scratch_keeps c.args.dsn.now) (c.scratch_set.ensures.files told))
 
 pub returns-clause-indexes : goal.returns-clause-indexes
 returns-clause-indexes g c =

@@ -1,83 +1,77 @@
--- A put is one of the shelf: alone, or behind what is done where a track is wanted.
-use Rattle.std.proofs.Common.{◌≡◌, Some, Err, sym, ◌∙◌, subst}
-use Rattle.std.specs.Prelude.{IsErrOf, Result}
-use Rattle.seq_access.specs.declared.writer.PutErr.{PutErr}
-use Rattle.seq_access.specs.declared.writer.PutErr.TheVariants.{Device, NeedExtent}
+-- A put places what is due in front of its block, and then the block.
+use Rattle.std.proofs.Common.{◌≡◌, List, [], ◌∷◌, ◌++◌, Err, refl, sym, ap, ◌∙◌}
+use Rattle.vol_model.specs.Places.{Content}
+use Rattle.vol_model.specs.Writing.{place_on}
 use Rattle.vol_model.specs.declared.answers.MachErr.{MachErr}
+use Rattle.vol_model.specs.declared.answers.MachErr.TheVariants.{Print}
 use Rattle.vol_model.specs.declared.contents.Place.{Place}
-use Rattle.shelf_machine.specs.Machine.{units_of, writer_in}
-use Rattle.shelf_machine.specs.Opening.{names_of}
-use Rattle.shelf_machine.specs.PutBlocks.{PutsBlock, shelf_on}
-use Rattle.shelf_machine.specs.Putting.{DidPut, PutsOn}
-use Rattle.shelf_machine.proofs.Machines.{same_base}
-use Rattle.shelf_machine.proofs.PutBlocks.{puts_after, puts_alone, still_wanted}
+use Rattle.shelf_machine.specs.Machine.{placed_in}
+use Rattle.shelf_machine.specs.PutBlocks.{due_on, shelf_on}
+use Rattle.shelf_machine.specs.declared.writer.Writer.{Writer}
+use Rattle.shelf_machine.proofs.FilledSets.{places_well}
+use Rattle.shelf_machine.proofs.PlacedAll.{places_one, places_stop, places_then}
+use Rattle.shelf_machine.proofs.PutBehind.{place, place_same, puts_all, stands_behind, stands_first}
 use Rattle.shelf_machine.proofs.puts.put_block.Goals as goal
 
--- where a track is wanted the device didn't fail
-not_failed : (r : Result Place PutErr) → r ≡ Err NeedExtent → ¬ IsErrOf r Device
-not_failed r is failed = absurd (let wrong : ◌≡◌ {A = Result Place PutErr} (Err NeedExtent) (Err Device) = sym is ∙ failed in cc)
+pub place_block-requires-clause-order : goal.place_block-requires-clause-order
+place_block-requires-clause-order g c = c.in-Ok.ensures.order refl
 
-pub put_behind_more-requires-clause-order : goal.put_behind_more-requires-clause-order
-put_behind_more-requires-clause-order g c = c.put_owned-put.ensures.order c.requires.order
+pub place_block-requires-clause-pending : goal.place_block-requires-clause-pending
+place_block-requires-clause-pending g c told = (c.in-Ok.ensures.shelf told).pending refl
 
-pub put_behind_more-requires-clause-pending : goal.put_behind_more-requires-clause-pending
-put_behind_more-requires-clause-pending g c told = (c.put_owned-put.ensures.files told).pending (not_failed c.put_owned-put.result (c.wants_extent.ensures.wanted c.if-wants_extent.true))
-
-pub put_behind_more-requires-clause-wanted : goal.put_behind_more-requires-clause-wanted
-put_behind_more-requires-clause-wanted g c told =
+pub returns-in-Ok-clause-shelf : goal.returns-in-Ok-clause-shelf
+returns-in-Ok-clause-shelf g c told =
     let us = (g.H.Hall.facts c.args.hall.now).units in
-    let us1 = (g.H.Hall.facts c.put_owned-put.new.hall).units in
+    let mid = (g.H.Hall.facts c.place_first.new.hall).units in
+    let us' = (g.H.Hall.facts c.place_block.new.hall).units in
     let vols = c.args.vols.now.items in
-    let vols1 = c.put_owned-put.new.vols.items in
-    let known1 = c.put_owned-put.new.known.items in
+    let vols1 = c.place_first.new.vols.items in
+    let vols' = c.place_block.new.vols.items in
+    let known1 = c.place_first.new.known.items in
+    let known' = c.place_block.new.known.items in
     let w = c.args.writer.now in
-    let w1 = c.put_owned-put.new.writer in
+    let w1 = c.place_first.new.writer in
+    let w' = c.place_block.new.writer in
     let m = g.H.Hall.meaning c.args.hall.now in
-    let m1 = g.H.Hall.meaning c.put_owned-put.new.hall in
-    let is : c.put_owned-put.result ≡ Err NeedExtent = c.wants_extent.ensures.wanted c.if-wants_extent.true in
-    let base = same_base (g.H.Hall.facts c.args.hall.now) (g.H.Hall.facts c.put_owned-put.new.hall) vols vols1 c.put_owned-put.ensures.base in
-    let put = subst (λ (r : Result Place PutErr). PutsOn (names_of us (units_of vols)) us1 vols vols1 known1 w1 m m1 r) is (c.put_owned-put.ensures.files told) in
-    let did = subst (λ (r : Result Place PutErr). DidPut (shelf_on m.state us vols) (writer_in m.state us vols (Some w)) (c.args.key.now, c.args.payload.now) (writer_in m1.state us1 vols1 (Some w1)) r) is (c.put_owned-put.ensures.did told) in
-    still_wanted (c.args.key.now, c.args.payload.now) us us1 vols vols1 known1 w w1 m m1 base.attached base.numbers put did
-
-pub returns-then-wants_extent-clause-shelf : goal.returns-then-wants_extent-clause-shelf
-returns-then-wants_extent-clause-shelf g c told =
-    let us = (g.H.Hall.facts c.args.hall.now).units in
-    let us1 = (g.H.Hall.facts c.put_owned-put.new.hall).units in
-    let us2 = (g.H.Hall.facts c.put_behind_more.new.hall).units in
-    let vols = c.args.vols.now.items in
-    let vols1 = c.put_owned-put.new.vols.items in
-    let vols2 = c.put_behind_more.new.vols.items in
-    let known1 = c.put_owned-put.new.known.items in
-    let w = c.args.writer.now in
-    let w1 = c.put_owned-put.new.writer in
-    let m = g.H.Hall.meaning c.args.hall.now in
-    let m1 = g.H.Hall.meaning c.put_owned-put.new.hall in
-    let m2 = g.H.Hall.meaning c.put_behind_more.new.hall in
-    let is : c.put_owned-put.result ≡ Err NeedExtent = c.wants_extent.ensures.wanted c.if-wants_extent.true in
-    let base = same_base (g.H.Hall.facts c.args.hall.now) (g.H.Hall.facts c.put_owned-put.new.hall) vols vols1 c.put_owned-put.ensures.base in
-    let put = subst (λ (r : Result Place PutErr). PutsOn (names_of us (units_of vols)) us1 vols vols1 known1 w1 m m1 r) is (c.put_owned-put.ensures.files told) in
-    let did = subst (λ (r : Result Place PutErr). DidPut (shelf_on m.state us vols) (writer_in m.state us vols (Some w)) (c.args.key.now, c.args.payload.now) (writer_in m1.state us1 vols1 (Some w1)) r) is (c.put_owned-put.ensures.did told) in
-    puts_after (c.args.key.now, c.args.payload.now) us us1 us2 vols vols1 vols2 known1 c.put_behind_more.new.known.items w w1 c.put_behind_more.new.writer m m1 m2 c.args.done.now c.put_behind_more.new.done c.put_behind_more.result
-    base.attached base.numbers put did.1 (c.put_behind_more.ensures.shelf told)
-
-pub returns-clause-shelf : goal.returns-clause-shelf
-returns-clause-shelf g c told =
-    let us = (g.H.Hall.facts c.args.hall.now).units in
-    let us1 = (g.H.Hall.facts c.put_owned-put.new.hall).units in
-    let vols = c.args.vols.now.items in
-    let vols1 = c.put_owned-put.new.vols.items in
-    let known1 = c.put_owned-put.new.known.items in
-    let w = c.args.writer.now in
-    let w1 = c.put_owned-put.new.writer in
-    let m = g.H.Hall.meaning c.args.hall.now in
-    let m1 = g.H.Hall.meaning c.put_owned-put.new.hall in
+    let m1 = g.H.Hall.meaning c.place_first.new.hall in
+    let m' = g.H.Hall.meaning c.place_block.new.hall in
     let n = c.args.done.now in
-    let put = c.put_owned-put.ensures in
-    let base = same_base (g.H.Hall.facts c.args.hall.now) (g.H.Hall.facts c.put_owned-put.new.hall) vols vols1 put.base in
-    subst (λ (r : Result Place MachErr). PutsBlock (c.args.key.now, c.args.payload.now) us us1 vols vols1 known1 w w1 m m1 n n r) (sym c.answer_put.ensures)
-    (puts_alone (c.args.key.now, c.args.payload.now) us us1 vols vols1 known1 w w1 m m1 n c.put_owned-put.result base.attached base.numbers (c.wants_extent.ensures.others c.if-wants_extent.false)
-    (put.files told) (put.did told) (put.known (shelf_on m.state us vols) (c.requires.bodies told)))
+    let k = c.place_first.new.done in
+    let l = c.place_block.new.done in
+    let block : Content = (c.args.key.now, c.args.payload.now) in
+    let r = c.place_block.result in
+    let between = placed_in m1.state mid vols1 w1 in
+    let y : Place = place_on (shelf_on m1.state mid vols1) between.target between.puts block in
+    let first = c.in-Ok.ensures.shelf told in
+    let run = c.place_block.ensures.shelf told in
+    let front : List Content = due_on m.state us vols w in
+    let well = places_well m us vols c.requires.indexes (c.requires.kept told) w c.requires.slot (c.requires.pending told) c.place_first.ensures.low in
+    let all = places_then front (block ∷ []) (tt {0}) y us mid us' vols vols1 vols' known1 known' w w1 w' m m1 m' n k l (tt {0}) r c.place_block.ensures.memory first (places_one block mid us' vols1 vols' known' w1 w' m1 m' k l r run) in
+    puts_all us mid us' vols vols1 vols' known' w w1 w' m m1 m' n l block y r well
+    (place_same us mid us' vols vols1 vols' known' w w1 w' m m1 m' n l block well (shelf_on m1.state mid vols1) between first.does.state.0 first.done)
+    (ap (λ (x : Writer). x.first) c.place_block.ensures.same ∙ ap (λ (x : Writer). x.first) c.place_first.ensures.same)
+    c.place_block.ensures.print all
+    (stands_behind us mid us' vols vols1 vols' known' w w1 w' m m1 m' n l block r between c.place_block.ensures.print first.done run.records)
 
-pub returns-clause-order : goal.returns-clause-order
-returns-clause-order g c sound = c.put_owned-put.ensures.order c.requires.order
+pub returns-in-Err-clause-shelf : goal.returns-in-Err-clause-shelf
+returns-in-Err-clause-shelf g c told =
+    let us = (g.H.Hall.facts c.args.hall.now).units in
+    let mid = (g.H.Hall.facts c.place_first.new.hall).units in
+    let vols = c.args.vols.now.items in
+    let vols1 = c.place_first.new.vols.items in
+    let known1 = c.place_first.new.known.items in
+    let w = c.args.writer.now in
+    let w1 = c.place_first.new.writer in
+    let m = g.H.Hall.meaning c.args.hall.now in
+    let m1 = g.H.Hall.meaning c.place_first.new.hall in
+    let n = c.args.done.now in
+    let k = c.place_first.new.done in
+    let block : Content = (c.args.key.now, c.args.payload.now) in
+    let e = c.in-Err.error in
+    let well = places_well m us vols c.requires.indexes (c.requires.kept told) w c.requires.slot (c.requires.pending told) c.place_first.ensures.low in
+    let y : Place = place us mid mid vols vols1 vols1 known1 w w1 w1 m m1 m1 n k block in
+    let all = places_stop (due_on m.state us vols w) (block ∷ []) (tt {0}) y us mid mid vols vols1 vols1 known1 known1 w w1 w1 m m1 m1 n k k e (λ is. c.in-Err.ensures.memory (ap (λ (x : MachErr). Err x) is)) (c.in-Err.ensures.shelf told) in
+    puts_all us mid mid vols vols1 vols1 known1 w w1 w1 m m1 m1 n k block y (Err e) well refl
+    (ap (λ (x : Writer). x.first) c.place_first.ensures.same)
+    (λ is. c.in-Err.ensures.print (let same : e ≡ Print = cc in ap (λ (x : MachErr). Err x) same)) all
+    (stands_first us mid mid vols vols1 vols1 known1 w w1 w1 m m1 m1 n k block e (c.in-Err.ensures.stands told))

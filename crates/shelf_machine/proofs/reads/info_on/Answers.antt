@@ -11,7 +11,7 @@ pub info_in-requires-clause-names : goal.info_in-requires-clause-names
 info_in-requires-clause-names c = c.requires.order c.args.v c.in_ok-vol.vol.now (sym c.in_ok-vol.ensures)
 
 pub returns-in_err-vol-clause-info : goal.returns-in_err-vol-clause-info
-returns-in_err-vol-clause-info c shelf has knows = c.from_residual.ensures ∙ info_missing shelf c.args.v (has.none c.args.v (sym c.in_err-vol.ensures)) c.args.dsn.now.bytes
+returns-in_err-vol-clause-info c shelf has knows dir = c.from_residual.ensures ∙ info_missing shelf c.args.v (has.none c.args.v (sym c.in_err-vol.ensures)) c.args.dsn.now.bytes
 
 -- what is known of the pack of this number
 here : (c : goal.After-info_in) → slice_get c.args.known.now.items c.args.v ≡ Some c.index.result.now
@@ -20,4 +20,4 @@ here c =
     (known_low c.args.vols.now c.args.known.now.items c.args.v c.in_ok-vol.vol.now c.requires.buffers (sym c.in_ok-vol.ensures)) c.index.ensures
 
 pub returns-clause-info : goal.returns-clause-info
-returns-clause-info c shelf has knows = c.info_in.ensures.info shelf c.args.v (has.each c.args.v c.in_ok-vol.vol.now (sym c.in_ok-vol.ensures)) (knows c.args.v c.index.result.now (here c))
+returns-clause-info c shelf has knows dir = c.info_in.ensures.info shelf c.args.v (has.each c.args.v c.in_ok-vol.vol.now (sym c.in_ok-vol.ensures)) (knows c.args.v c.index.result.now (here c)).lists dir

@@ -1,3 +1,4 @@
+use Rattle.dadsm_ops.specs.Operations.{InVtoc}
 use Rattle.std.proofs.Common.{◌≡◌, IsTrue, true, Some, refl, sym, ap, subst, ◌∙◌, arith}
 use Rattle.std.specs.Prelude.{Err, IsErrOf, Result, slice_get}
 use Rattle.std.proofs.lemmas.Result.{err_from_is_err_and}
@@ -57,7 +58,7 @@ still g c told sound v v' at at' =
     let w = c.args.writer.now in
     let undone = undone_by (Unit {0}) c.in_err-extend_on.field-0.0 (sound_now g c sound) in
     let pack = c.in_err-extend_on.ensures.pack v v' at at' in
-    let state = state_undone (unit_of us v.unit).name (extend_on w.dsn) v' m m' c.in_err-extend_on.field-0.0 (pack.2 told) undone in
+    let state = state_undone (unit_of us v.unit).name (extend_on w.dsn) v' (InVtoc v') m m' c.in_err-extend_on.field-0.0 (pack.2 told) undone in
     stands_undone us (g.H.Hall.facts c.extend_on.new.hall).units v v' m.state m'.state w c.extend_on.ensures.faults.units pack.0.unit state (pack.1 undone) (c.requires.pending told v at).0
 
 pub returns-in_err-extend_on-clause-pending : goal.returns-in_err-extend_on-clause-pending

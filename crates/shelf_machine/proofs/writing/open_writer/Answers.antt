@@ -14,28 +14,28 @@ pub returns-in-Ok-clause-files : goal.returns-in-Ok-clause-files
 returns-in-Ok-clause-files g c told = rw c.writer_on.ensures.hall (settled_as c.in-Ok.field-0 _ (c.in-Ok.ensures.files told))
 
 pub returns-in-Ok-clause-opened : goal.returns-in-Ok-clause-opened
-returns-in-Ok-clause-opened g c = c.is_some.ensures ∙ open_some c.args.v c.args.dsn.now c.writer_on.result c.writer_on.ensures.target
+returns-in-Ok-clause-opened g c = c.is_some.ensures ∙ open_some c.args.v c.args.dsn.now c.args.mode c.writer_on.result c.writer_on.ensures.target
 
 pub returns-in-Ok-clause-pending : goal.returns-in-Ok-clause-pending
-returns-in-Ok-clause-pending g c told none =
+returns-in-Ok-clause-pending g c told =
     let vols = c.args.vols.now.items in
     let r = c.writer_on.result in
     let files = (g.H.Hall.meaning c.args.hall.now).state in
     let us = (g.H.Hall.facts c.args.hall.now).units in
-    let begun = c.writer_on.ensures.begun files us c.requires.indexes (c.requires.kept told) none in
+    let begun = c.writer_on.ensures.begun files us c.requires.indexes (c.requires.kept told) (c.requires.well told) (c.requires.front told) in
     rw c.writer_on.ensures.hall (pending_begun (g.H.Hall.meaning c.settle.new.hall) (g.H.Hall.facts c.settle.new.hall).units vols r (c.in-Ok.ensures.files told).done
     (both_same (λ (fs : List File) (u : List Attached). IfSome r (IsBegunOn fs u vols)) (c.settle.ensures.files told).state c.settle.ensures.faults.units begun))
 
 pub returns-in-Ok-clause-writer : goal.returns-in-Ok-clause-writer
-returns-in-Ok-clause-writer g c told none is =
+returns-in-Ok-clause-writer g c told is =
     let vols = c.args.vols.now.items in
     let r = c.writer_on.result in
     let files = (g.H.Hall.meaning c.args.hall.now).state in
     let us = (g.H.Hall.facts c.args.hall.now).units in
-    let begun = c.writer_on.ensures.begun files us c.requires.indexes (c.requires.kept told) none in
-    rw c.writer_on.ensures.hall (writer_begun (g.H.Hall.meaning c.settle.new.hall).state (g.H.Hall.facts c.settle.new.hall).units vols c.args.v c.args.dsn.now r c.writer_on.ensures.slot c.writer_on.ensures.target
+    let begun = c.writer_on.ensures.begun files us c.requires.indexes (c.requires.kept told) (c.requires.well told) (c.requires.front told) in
+    rw c.writer_on.ensures.hall (writer_begun (g.H.Hall.meaning c.settle.new.hall).state (g.H.Hall.facts c.settle.new.hall).units vols c.args.v c.args.dsn.now c.args.mode r c.writer_on.ensures.slot c.writer_on.ensures.target
     (both_same (λ (fs : List File) (u : List Attached). IfSome r (IsBegunOn fs u vols)) (c.settle.ensures.files told).state c.settle.ensures.faults.units begun)
-    (sym (open_some c.args.v c.args.dsn.now r c.writer_on.ensures.target) ∙ sym c.is_some.ensures ∙ is))
+    (sym (open_some c.args.v c.args.dsn.now c.args.mode r c.writer_on.ensures.target) ∙ sym c.is_some.ensures ∙ is))
 
 pub returns-in-Err-clause-files : goal.returns-in-Err-clause-files
 returns-in-Err-clause-files g c told = unsettled_as c.in-Err.field-0 _ (c.in-Err.ensures.files told)
@@ -44,7 +44,7 @@ pub returns-in-Err-clause-slot : goal.returns-in-Err-clause-slot
 returns-in-Err-clause-slot g c = subst (HasSlot c.args.vols.now.items) (sym c.in-Err.ensures.failed) c.requires.slot
 
 pub returns-in-Err-clause-pending : goal.returns-in-Err-clause-pending
-returns-in-Err-clause-pending g c told none =
+returns-in-Err-clause-pending g c told =
     let vols = c.args.vols.now.items in
     let mid = g.H.Hall.meaning c.settle.new.hall in
     let us' = (g.H.Hall.facts c.settle.new.hall).units in

@@ -6,7 +6,7 @@ use Rattle.hall_core.specs.Facts.{unit_of}
 use Rattle.vtoc_index.specs.declared.vol.Vol.{Vol}
 use Rattle.dadsm_ops.proofs.FoundSets.{set_found}
 use Rattle.shelf_machine.specs.Known.{ForgetsOn}
-use Rattle.shelf_machine.specs.Machine.{shelf_under, units_of, writer_in}
+use Rattle.shelf_machine.specs.Machine.{placed_in, shelf_under, units_of}
 use Rattle.shelf_machine.specs.Opening.{names_of}
 use Rattle.shelf_machine.specs.Putting.{DidPut, PutsOn}
 use Rattle.shelf_machine.specs.declared.writer.Writer.{Writer}
@@ -73,7 +73,7 @@ returns-clause-files g c told =
     subst (λ (k : ℕ). PutsOn (names_of old.units (units_of vols)) new.units vols (set vols k c.put.new.vol) c.forget_on.new.known.items w' m m' c.put.result) (sym number)
     (owned_puts old vols m (c.requires.kept told) w c.index_mut.result.now (at g c) c.requires.slot (c.requires.pending told) new c.requires.indexes m'
     (g.met.H.Hall.counts_now c.args.hall.now) (g.met.H.Hall.leaves_state c.args.hall.now) c.put.ensures.faults.units
-    (c.args.key.now, c.args.payload.now) c.put.new.vol c.put.ensures.others c.put.new.writer c.put.result (puts g c told)
+    (c.args.key.now, c.args.payload.now) c.requires.due c.put.new.vol c.put.ensures.others c.put.new.writer c.put.result (puts g c told)
     c.args.known.now.items c.forget_on.new.known.items (subst (λ (k : ℕ). ForgetsOn k c.args.known.now.items c.forget_on.new.known.items) number c.forget_on.ensures) (c.requires.held told))
 
 pub returns-clause-did : goal.returns-clause-did
@@ -86,11 +86,11 @@ returns-clause-did g c told =
     let w : Writer = c.args.writer.now in
     let w' : Writer = record w { inner = c.put.new.writer } in
     let number = c.from-k.ensures in
-    subst (λ (k : ℕ). DidPut (shelf_under (names_of old.units (units_of vols)) m.state) (writer_in m.state old.units vols (Some w)) (c.args.key.now, c.args.payload.now)
-    (writer_in m'.state new.units (set vols k c.put.new.vol) (Some w')) c.put.result) (sym number)
+    subst (λ (k : ℕ). DidPut (shelf_under (names_of old.units (units_of vols)) m.state) (placed_in m.state old.units vols w) (c.args.key.now, c.args.payload.now)
+    (placed_in m'.state new.units (set vols k c.put.new.vol) w') c.put.result) (sym number)
     (owned_did old vols m (c.requires.kept told) w c.index_mut.result.now (at g c) c.requires.slot (c.requires.pending told) new c.requires.indexes m'
     (g.met.H.Hall.counts_now c.args.hall.now) (g.met.H.Hall.leaves_state c.args.hall.now) c.put.ensures.faults.units
-    (c.args.key.now, c.args.payload.now) c.put.new.vol c.put.ensures.others c.put.new.writer c.put.result (puts g c told))
+    (c.args.key.now, c.args.payload.now) c.requires.due c.put.new.vol c.put.ensures.others c.put.new.writer c.put.result (puts g c told))
 
 pub returns-clause-indexes : goal.returns-clause-indexes
 returns-clause-indexes g c =

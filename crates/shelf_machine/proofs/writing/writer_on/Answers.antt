@@ -24,11 +24,11 @@ pub writer_at-requires : goal.writer_at-requires
 writer_at-requires g c = record { names = c.requires.order c.from-k.result c.index_mut.result.now (here g c) }
 
 pub returns-clause-slot : goal.returns-clause-slot
-returns-clause-slot g c = slot_opened c.args.v c.args.dsn.now c.args.vols.now.items c.index_mut.result.now (there g c) c.writer_at.result c.writer_at.ensures.target c.writer_at.ensures.slot
+returns-clause-slot g c = slot_opened c.args.v c.args.dsn.now c.args.mode c.args.vols.now.items c.index_mut.result.now (there g c) c.writer_at.result c.writer_at.ensures.target c.writer_at.ensures.slot
 
 pub returns-clause-begun : goal.returns-clause-begun
-returns-clause-begun g c files attached indexes kept none =
-    begun_on c.args.v c.args.dsn.now c.args.vols.now.items c.index_mut.result.now (there g c) files attached c.writer_at.result indexes kept c.writer_at.ensures.target c.writer_at.ensures.begun none
+returns-clause-begun g c files attached indexes kept none begins =
+    begun_on c.args.v c.args.dsn.now c.args.mode c.args.vols.now.items c.index_mut.result.now (there g c) files attached c.writer_at.result c.args.front indexes kept c.writer_at.ensures.target c.writer_at.ensures.begun none begins
 
 pub returns-clause-indexes : goal.returns-clause-indexes
 returns-clause-indexes g c =

@@ -2,6 +2,7 @@ use Rattle.std.proofs.Common.{◌≡◌, ◌∙◌, ⊎_elim, map, sym, ap, subs
 use Rattle.stop_model.proofs.MomentLemmas.{same_none}
 use Rattle.stop_model.specs.Moments.{IsDurable, Same}
 use Rattle.volume_manager.specs.Run.{IsFinal}
+use Rattle.volume_manager.proofs.Members.{with_members}
 use Rattle.volume_manager.proofs.Running.{deck_refused, deck_run, refused_causes, refused_units, run_causes, run_durable, run_units}
 use Rattle.volume_manager.proofs.Tasks.{durable_left}
 use Rattle.volume_manager.proofs.run.run_deck.Goals as goal
@@ -14,12 +15,11 @@ returns-in-Ok-clause-headline g c told =
     let which = c.run.ensures.facts.which in
     let durable = g.met.H.Hall.none_pending hall told c.requires.none in
     let final : IsFinal c.run.result → IsDurable (M c.run.new.hall) = run_durable c.args.date names _ c.run.result durable (c.run.ensures.task told) in
-    record {
-      does = deck_run c.args.date names _ g.C.Cards.tells (g.C.Cards.left c.args.cards.now) c.run.result (λ tells. c.in-Ok.ensures.cards tells ∙ ap Ok (sym c.deref.ensures.value)) (c.run.ensures.task told);
-      unbegun = λ unbegun. c.run.ensures.refused told (omega (arith, unbegun, which));
-      silent = λ other. absurd (other tt);
-      durable = ⊎_elim final (⊎_elim (λ (read : c.run.result ≡ 23). absurd (omega (arith, read, which))) (c.run.ensures.durable told));
-    }
+    with_members _ _ _ _ _ _
+    (deck_run c.args.date names _ g.C.Cards.tells (g.C.Cards.left c.args.cards.now) c.run.result (λ tells. c.in-Ok.ensures.cards tells ∙ ap Ok (sym c.deref.ensures.value)) (c.run.ensures.task told))
+    (λ unbegun. c.run.ensures.refused told (omega (arith, unbegun, which)))
+    (λ other. absurd (other tt))
+    (⊎_elim final (⊎_elim (λ (read : c.run.result ≡ 23). absurd (omega (arith, read, which))) (c.run.ensures.durable told)))
 
 pub returns-in-Err-clause-headline : goal.returns-in-Err-clause-headline
 returns-in-Err-clause-headline g c told =
@@ -28,13 +28,11 @@ returns-in-Err-clause-headline g c told =
     let names = map (λ f. f.now) c.args.files.now in
     let durable = g.met.H.Hall.none_pending hall told c.requires.none in
     let same : Same (M hall) (M hall) = same_none _ (g.met.H.Hall.counts_now hall) in
-    record {
-      does = deck_refused _ c.args.date names g.C.Cards.tells (g.C.Cards.left c.args.cards.now) c.in-Err.why c.refuse_deck.result c.in-Err.ensures.causes durable (g.met.H.Hall.only_now hall)
-          (λ quiet. subst (λ h. Same (M hall) (M h)) (sym (c.refuse_deck.ensures.silent quiet)) same) c.refuse_deck.ensures.read c.refuse_deck.ensures.memory (c.refuse_deck.ensures.task told);
-      unbegun = λ unbegun. c.refuse_deck.ensures.files told;
-      silent = λ other. absurd (other tt);
-      durable = λ which. durable_left (M hall) (M c.refuse_deck.new.hall) (c.refuse_deck.ensures.files told) durable;
-    }
+    with_members _ _ _ _ _ _
+    (deck_refused _ c.args.date names g.C.Cards.tells (g.C.Cards.left c.args.cards.now) c.in-Err.why c.refuse_deck.result c.in-Err.ensures.causes durable (g.met.H.Hall.only_now hall) (λ quiet. subst (λ h. Same (M hall) (M h)) (sym (c.refuse_deck.ensures.silent quiet)) same) c.refuse_deck.ensures.read c.refuse_deck.ensures.memory (c.refuse_deck.ensures.task told))
+    (λ unbegun. c.refuse_deck.ensures.files told)
+    (λ other. absurd (other tt))
+    (λ which. durable_left (M hall) (M c.refuse_deck.new.hall) (c.refuse_deck.ensures.files told) durable)
 
 pub returns-in-Ok-clause-causes : goal.returns-in-Ok-clause-causes
 returns-in-Ok-clause-causes g c =

@@ -7,6 +7,7 @@ use Rattle.stop_model.proofs.MomentLemmas.{same_none}
 use Rattle.volume_manager.specs.Lines.{words_line}
 use Rattle.volume_manager.specs.Run.{Headline}
 use Rattle.volume_manager.proofs.FileTasks.{answered_check, answered_init, answered_names, answered_nothing, answered_words}
+use Rattle.volume_manager.proofs.Members.{with_members}
 use Rattle.volume_manager.proofs.Tasks.{durable_left, files_printed, files_same, text_said}
 use Rattle.volume_manager.proofs.Words.{asked_run}
 use Rattle.volume_manager.proofs.Works.{not_final}
@@ -16,13 +17,11 @@ pub returns-in-Err-clause-headline : goal.returns-in-Err-clause-headline
 returns-in-Err-clause-headline g c told =
     let hall = c.args.hall.now in
     let same = same_none _ (g.met.H.Hall.counts_now hall) in
-    record {
-      does = answered_nothing _ g.C.Cards.tells (g.C.Cards.left c.args.cards.now) c.code.result (g.met.H.Hall.none_pending hall told c.requires) (g.met.H.Hall.only_now hall) same
-          (not_final c.code.result 25 c.code.ensures (omega arith) (omega arith));
-      unbegun = λ unbegun. files_same same;
-      silent = λ other which. refl;
-      durable = λ which. g.met.H.Hall.none_pending hall told c.requires;
-    }
+    with_members _ _ _ _ _ _
+    (answered_nothing _ g.C.Cards.tells (g.C.Cards.left c.args.cards.now) c.code.result (g.met.H.Hall.none_pending hall told c.requires) (g.met.H.Hall.only_now hall) same (not_final c.code.result 25 c.code.ensures (omega arith) (omega arith)))
+    (λ unbegun. files_same same)
+    (λ other which. refl)
+    (λ which. g.met.H.Hall.none_pending hall told c.requires)
 
 pub returns-in-Ok-None-clause-headline : goal.returns-in-Ok-None-clause-headline
 unfolding words_line
@@ -30,46 +29,42 @@ returns-in-Ok-None-clause-headline g c told =
     let hall = c.args.hall.now in
     let asked = sym c.in-Ok-None.ensures.request ∙ ap (option_map request_in) c.in-Ok-None.field-0-is in
     let prints = c.end.ensures.text told in
-    record {
-      does = answered_words _ g.C.Cards.tells (g.C.Cards.left c.args.cards.now) c.end.result asked (text_said 20 c.end.result (λ is. cc) (same_none _ (g.met.H.Hall.counts_now hall)) prints c.end.ensures.status);
-      unbegun = λ unbegun. files_printed prints;
-      silent = λ other which. absurd (omega (arith, which, c.end.ensures.status));
-      durable = λ which. durable_left (g.H.Hall.meaning hall) (g.H.Hall.meaning c.end.new.hall) (files_printed prints) (g.met.H.Hall.none_pending hall told c.requires);
-    }
+    with_members _ _ _ _ _ _
+    (answered_words _ g.C.Cards.tells (g.C.Cards.left c.args.cards.now) c.end.result asked (text_said 20 c.end.result (λ is. cc) (same_none _ (g.met.H.Hall.counts_now hall)) prints c.end.ensures.status))
+    (λ unbegun. files_printed prints)
+    (λ other which. absurd (omega (arith, which, c.end.ensures.status)))
+    (λ which. durable_left (g.H.Hall.meaning hall) (g.H.Hall.meaning c.end.new.hall) (files_printed prints) (g.met.H.Hall.none_pending hall told c.requires))
 
 pub returns-in-Ok-Some-Names-clause-headline : goal.returns-in-Ok-Some-Names-clause-headline
 returns-in-Ok-Some-Names-clause-headline g c told =
     let hall = c.args.hall.now in
     let asked = sym c.in-Ok-Some-Names.ensures.request ∙ ap (option_map request_in) (c.in-Ok-Some-Names.field-0-is ∙ ap Some c.in-Ok-Some-Names.field-0-0-is) in
-    record {
-      does = answered_names _ c.in-Ok-Some-Names.file.now g.C.Cards.tells (g.C.Cards.left c.args.cards.now) c.names.result asked (c.names.ensures.task told);
-      unbegun = λ unbegun. c.names.ensures.files told;
-      silent = λ other which. c.names.ensures.silent told which;
-      durable = λ which. durable_left (g.H.Hall.meaning hall) (g.H.Hall.meaning c.names.new.hall) (c.names.ensures.files told) (g.met.H.Hall.none_pending hall told c.requires);
-    }
+    with_members _ _ _ _ _ _
+    (answered_names _ c.in-Ok-Some-Names.file.now g.C.Cards.tells (g.C.Cards.left c.args.cards.now) c.names.result asked (c.names.ensures.task told))
+    (λ unbegun. c.names.ensures.files told)
+    (λ other which. c.names.ensures.silent told which)
+    (λ which. durable_left (g.H.Hall.meaning hall) (g.H.Hall.meaning c.names.new.hall) (c.names.ensures.files told) (g.met.H.Hall.none_pending hall told c.requires))
 
 pub returns-in-Ok-Some-Init-clause-headline : goal.returns-in-Ok-Some-Init-clause-headline
 returns-in-Ok-Some-Init-clause-headline g c told =
     let asked = sym c.in-Ok-Some-Init.ensures.request ∙ ap (option_map request_in) (c.in-Ok-Some-Init.field-0-is ∙ ap Some c.in-Ok-Some-Init.field-0-0-is) in
     let which = c.init.ensures.facts.which in
     let durable = c.init.ensures.durable told in
-    record {
-      does = answered_init _ c.in-Ok-Some-Init.pack c.in-Ok-Some-Init.file.now g.C.Cards.tells (g.C.Cards.left c.args.cards.now) c.init.result asked (c.init.ensures.task told);
-      unbegun = λ unbegun. c.init.ensures.refused told (omega (arith, unbegun, which));
-      silent = λ other which. c.init.ensures.silent told which;
-      durable = ⊎_elim (λ final. durable (inl final)) (⊎_elim (λ (read : c.init.result ≡ 23). absurd (omega (arith, read, which))) (λ short. durable (inr short)));
-    }
+    with_members _ _ _ _ _ _
+    (answered_init _ c.in-Ok-Some-Init.pack c.in-Ok-Some-Init.file.now g.C.Cards.tells (g.C.Cards.left c.args.cards.now) c.init.result asked (c.init.ensures.task told))
+    (λ unbegun. c.init.ensures.refused told (omega (arith, unbegun, which)))
+    (λ other which. c.init.ensures.silent told which)
+    (⊎_elim (λ final. durable (inl final)) (⊎_elim (λ (read : c.init.result ≡ 23). absurd (omega (arith, read, which))) (λ short. durable (inr short))))
 
 pub returns-in-Ok-Some-Check-clause-headline : goal.returns-in-Ok-Some-Check-clause-headline
 returns-in-Ok-Some-Check-clause-headline g c told =
     let hall = c.args.hall.now in
     let asked = sym c.in-Ok-Some-Check.ensures.request ∙ ap (option_map request_in) (c.in-Ok-Some-Check.field-0-is ∙ ap Some c.in-Ok-Some-Check.field-0-0-is) in
-    record {
-      does = answered_check _ c.in-Ok-Some-Check.file.now g.C.Cards.tells (g.C.Cards.left c.args.cards.now) c.check.result asked (c.check.ensures.task told);
-      unbegun = λ unbegun. c.check.ensures.files told;
-      silent = λ other which. c.check.ensures.silent told which;
-      durable = λ which. durable_left (g.H.Hall.meaning hall) (g.H.Hall.meaning c.check.new.hall) (c.check.ensures.files told) (g.met.H.Hall.none_pending hall told c.requires);
-    }
+    with_members _ _ _ _ _ _
+    (answered_check _ c.in-Ok-Some-Check.file.now g.C.Cards.tells (g.C.Cards.left c.args.cards.now) c.check.result asked (c.check.ensures.task told))
+    (λ unbegun. c.check.ensures.files told)
+    (λ other which. c.check.ensures.silent told which)
+    (λ which. durable_left (g.H.Hall.meaning hall) (g.H.Hall.meaning c.check.new.hall) (c.check.ensures.files told) (g.met.H.Hall.none_pending hall told c.requires))
 
 pub run_deck-requires-clause-date : goal.run_deck-requires-clause-date
 run_deck-requires-clause-date g c =

@@ -4,7 +4,7 @@ use Rattle.job_runner.specs.Jobs.{jobs_work}
 use Rattle.job_runner.specs.declared.jobs.Ran.{Ran}
 use Rattle.pack_spec.specs.Shelf.{shelf_of}
 use Rattle.shelf_machine.specs.Machine.{shelf_under}
-use Rattle.shelf_machine.specs.Opening.{AreSafe, AreSettledVtocs, images_named}
+use Rattle.shelf_machine.specs.Opening.{AreSafe, AreSettledImages, images_named}
 use Rattle.shelf_machine.specs.Parts.{hall_of, indexes_of, pack_names}
 use Rattle.stop_model.specs.Files.{File}
 use Rattle.stop_model.specs.Moments.{IsDurable, Meaning}
@@ -56,7 +56,7 @@ returns-clause-items g c told shelf t before stood state early begun promise =
           subst (λ (r : Result Ran Stop). Runs g.H.Hall.tells (events_of items) (seen (shelf_under names) old') (seen (shelf_under names) new') r) w.in-Ok.is runs in
           let total = w.in-Ok.ensures.works told in
           let settled = c.close-hall.ensures.settled (search rules) told in
-          let all = subst (λ (n : List (List ℕ)). AreSettledVtocs n new'.state) named settled.settled in
+          let all = subst (λ (n : List (List ℕ)). AreSettledImages n new'.state) named settled.settled in
           let is = total.ran.code ∙ ap (λ (s : Shelf). code_of (jobs_work c.args.date c.args.jobs.now s).items) state in
           let done = has_worked names shelf items have t before (shelf_under names) shows old' new' early begun state safe code told counts (g.met.H.Hall.leaves_state (hall_of new)) all is w.in-Ok.ensures.small ran_ok in
           let synced = at_sync w.finish-status.result (M w.finish-status.new.hall) (w.finish-status.ensures.files told) w.status-is (ap M w.hall-is) in

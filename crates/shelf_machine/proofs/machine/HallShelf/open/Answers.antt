@@ -1,7 +1,7 @@
 use Rattle.std.proofs.Common.{◌≡◌, List, ℕ, sym, ap, subst, ◌∙◌}
 use Rattle.hall_core.specs.Facts.{Attached}
 use Rattle.shelf_machine.specs.Machine.{AreIndexes, AreKept, KeepsSafe, shelf_or_none, shelf_under, units_of}
-use Rattle.shelf_machine.specs.Opening.{AreSettledVtocs, names_of}
+use Rattle.shelf_machine.specs.Opening.{AreSettledImages, names_of}
 use Rattle.shelf_machine.proofs.HallShelves.{kept_settled}
 use Rattle.shelf_machine.proofs.KnownLemmas.{fresh_held}
 use Rattle.shelf_machine.proofs.Openings.{opened_safe}
@@ -40,7 +40,7 @@ returns-in-Ok-clause-shelf g c told =
       before = run.before;
       after = run.after;
       state = ap (λ (ns : List (List ℕ)). shelf_under ns m'.state) names ∙ ap shelf_or_none run.after;
-      settled = subst (λ (ns : List (List ℕ)). AreSettledVtocs ns m'.state) numbers (kept_settled m'.state attached vols run.kept);
+      settled = subst (λ (ns : List (List ℕ)). AreSettledImages ns m'.state) numbers (kept_settled m'.state attached vols run.kept);
       durable = run.durable;
       promise = λ t early just. subst (λ (ns : List (List ℕ)). KeepsSafe ns vols m' t m.state) (sym names)
           (opened_safe attached vols (names_of attached c.args.units.now) m m' run.shelf numbers opened.indexes run.kept run.before run.after run.safe t early just);

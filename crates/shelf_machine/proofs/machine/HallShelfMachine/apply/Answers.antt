@@ -1,50 +1,60 @@
-use Rattle.std.proofs.Common.{sym, ap, subst, ◌∙◌}
-use Rattle.shelf_machine.specs.Machine.{is_open_in}
-use Rattle.shelf_machine.specs.Pending.{HasSlot, IsPendingBy}
-use Rattle.vol_model.specs.Calls.{sound_after}
-use Rattle.shelf_machine.proofs.KnownLemmas.{held_after, knows_applied}
-use Rattle.shelf_machine.proofs.Machines.{by_files}
-use Rattle.shelf_machine.proofs.ReportLemmas.{applies_reported, idle_reported, machine_call, not_print, still_sound}
+use Rattle.std.proofs.Common.{⊎_elim, ℕ, sym, subst}
+use Rattle.vol_model.specs.Calls.{CountsOne, IsIdle}
+use Rattle.vol_model.specs.declared.contents.Shelf.{Shelf}
+use Rattle.vol_model.specs.Shelf.{step}
+use Rattle.stop_model.proofs.MomentLemmas.{counts_now_seen}
+use Rattle.shelf_machine.specs.Machine.{shelf_under}
+use Rattle.shelf_machine.specs.Parts.{meaning_of, pack_names}
+use Rattle.shelf_machine.specs.PendingShelves.{pending_durable}
+use Rattle.shelf_machine.proofs.MachineLibraries.{call_behind, keeps_behind, stopped_call, stopped_count, stopped_shelf}
+use Rattle.shelf_machine.proofs.Settling.{applies_behind}
 use Rattle.shelf_machine.proofs.machine.HallShelfMachine.apply.Goals as goal
 
-pub invariant_of-self : goal.invariant_of-self
-invariant_of-self g c = record {
-  indexes = c.operate_settled-ran.ensures.indexes;
-  order = λ sound. c.operate_settled-ran.ensures.order (still_sound c.report.ensures c.requires.sound sound);
-  kept = λ sound told. (c.operate_settled-ran.ensures.shelf told).kept (still_sound c.report.ensures c.requires.sound sound);
-  slot = λ sound. subst (HasSlot c.operate_settled-ran.new.vols.items) (sym (c.operate_settled-ran.ensures.writer (still_sound c.report.ensures c.requires.sound sound))) tt;
-  pending = λ sound told.
-      let still = still_sound c.report.ensures c.requires.sound sound in
-      subst (IsPendingBy (g.H.Hall.meaning c.operate_settled-ran.new.hall) (g.H.Hall.facts c.operate_settled-ran.new.hall).units c.operate_settled-ran.new.vols.items) (sym (c.operate_settled-ran.ensures.writer still))
-      ((c.operate_settled-ran.ensures.shelf told).durable still);
-  buffers = c.follow.ensures.buffers ∙ c.args.self.now.buffers ∙ sym c.operate_settled-ran.ensures.geometries;
-  bodies = λ sound told. knows_applied c.operate_settled-ran.result _ c.is_ok.result c.is_ok.ensures.value c.follow.ensures (c.operate_settled-ran.ensures.shelf told).applies c.operate_settled-ran.ensures.served
-      (still_sound c.report.ensures c.requires.sound sound) (c.args.self.now.bodies c.requires.sound told);
-  held = λ sound told. held_after (g.H.Hall.meaning c.operate_settled-ran.new.hall).state (g.H.Hall.facts c.operate_settled-ran.new.hall).units c.operate_settled-ran.new.vols.items c.follow.ensures;
-}
+pub returns-in-Ok-clause-shelf : goal.returns-in-Ok-clause-shelf
+returns-in-Ok-clause-shelf g c told =
+    let was = c.args.self.now in
+    applies_behind c.args.op.now (meaning_of was) (meaning_of c.prepare.new.self)
+    (pending_durable (g.H.Hall.meaning was.hall) (g.H.Hall.facts was.hall).units was.vols.items was.writer (was.kept c.requires.sound told) (was.slot c.requires.sound) (was.pending c.requires.sound told))
+    (c.in-Ok.ensures.idle told).same (meaning_of c.serve.new.self) c.serve.result (c.serve.ensures.shelf told)
 
-pub returns-clause-shelf : goal.returns-clause-shelf
-returns-clause-shelf g c told = applies_reported c.report.ensures (c.operate_settled-ran.ensures.shelf told).applies
+pub returns-in-Ok-clause-promise : goal.returns-in-Ok-clause-promise
+returns-in-Ok-clause-promise g c told = keeps_behind (c.in-Ok.ensures.idle told).same.time.later (c.in-Ok.ensures.idle told).promise_kept (c.serve.ensures.promise told)
 
-pub returns-clause-promise : goal.returns-clause-promise
-returns-clause-promise g c told = by_files (c.operate_settled-ran.ensures.shelf told).safe
+pub returns-in-Ok-clause-stays : goal.returns-in-Ok-clause-stays
+returns-in-Ok-clause-stays g c told idle =
+    keeps_behind (c.in-Ok.ensures.idle told).same.time.later (c.in-Ok.ensures.idle told).stays_kept
+    (c.serve.ensures.stays told (subst (λ (s : Shelf). IsIdle (step s c.args.op.now) c.serve.result) (sym (c.in-Ok.ensures.idle told).same.state) idle))
 
-pub returns-clause-stays : goal.returns-clause-stays
-returns-clause-stays g c told idle = (c.operate_settled-ran.ensures.shelf told).idle (idle_reported c.report.ensures _ idle)
+pub returns-in-Ok-clause-count : goal.returns-in-Ok-clause-count
+returns-in-Ok-clause-count g c = subst (λ (n : ℕ). CountsOne c.serve.result n c.serve.new.self.done) c.in-Ok.ensures.faults.done c.serve.ensures.count
 
-pub returns-clause-faults : goal.returns-clause-faults
-returns-clause-faults g c =
-    machine_call c.report.ensures (g.H.Hall.facts c.args.self.now.hall) (g.H.Hall.facts c.operate_settled-ran.new.hall) c.args.self.now.vols.items c.operate_settled-ran.new.vols.items c.args.self.now.writer c.operate_settled-ran.new.writer
-    c.requires.sound (λ still. ap is_open_in (c.operate_settled-ran.ensures.writer (ap sound_after (sym c.report.ensures.answer) ∙ still))) c.operate_settled-ran.ensures.base c.operate_settled-ran.ensures.faults
+pub returns-in-Ok-clause-faults : goal.returns-in-Ok-clause-faults
+returns-in-Ok-clause-faults g c = call_behind _ _ _ c.in-Ok.field-0 c.serve.result c.in-Ok.ensures.faults c.serve.ensures.faults
 
-pub returns-clause-print : goal.returns-clause-print
-returns-clause-print g c is = not_print c.report.ensures is
+pub returns-in-Ok-clause-print : goal.returns-in-Ok-clause-print
+returns-in-Ok-clause-print g c is = c.serve.ensures.print is
 
-pub operate_settled-ran-requires-clause-order : goal.operate_settled-ran-requires-clause-order
-operate_settled-ran-requires-clause-order g c = c.args.self.now.order c.requires.sound
+pub serve-requires : goal.serve-requires
+serve-requires g c = record { sound = (c.in-Ok.ensures.faults.others (λ is. absurd cc)).0; lawful = c.requires.lawful }
 
-pub operate_settled-ran-requires-clause-slot : goal.operate_settled-ran-requires-clause-slot
-operate_settled-ran-requires-clause-slot g c = c.args.self.now.slot c.requires.sound
+pub returns-in-Err-clause-shelf : goal.returns-in-Err-clause-shelf
+returns-in-Err-clause-shelf g c told =
+    let was = c.args.self.now in
+    stopped_shelf c.in-Err.error c.in-Err.ensures.error c.args.op.now (meaning_of was) (meaning_of c.prepare.new.self)
+    (pending_durable (g.H.Hall.meaning was.hall) (g.H.Hall.facts was.hall).units was.vols.items was.writer (was.kept c.requires.sound told) (was.slot c.requires.sound) (was.pending c.requires.sound told))
+    (c.in-Err.ensures.idle told).same (counts_now_seen (shelf_under (pack_names c.prepare.new.self)) (g.H.Hall.meaning c.prepare.new.self.hall) (g.met.H.Hall.counts_now c.prepare.new.self.hall))
 
-pub operate_settled-ran-requires-clause-bodies : goal.operate_settled-ran-requires-clause-bodies
-operate_settled-ran-requires-clause-bodies g c = c.args.self.now.bodies c.requires.sound
+pub returns-in-Err-clause-promise : goal.returns-in-Err-clause-promise
+returns-in-Err-clause-promise g c told = (c.in-Err.ensures.idle told).promise_kept
+
+pub returns-in-Err-clause-stays : goal.returns-in-Err-clause-stays
+returns-in-Err-clause-stays g c told idle = (c.in-Err.ensures.idle told).stays_kept
+
+pub returns-in-Err-clause-count : goal.returns-in-Err-clause-count
+returns-in-Err-clause-count g c = stopped_count c.in-Err.error c.in-Err.ensures.error (Unit {0}) c.args.self.now.done c.prepare.new.self.done c.in-Err.ensures.faults.done
+
+pub returns-in-Err-clause-faults : goal.returns-in-Err-clause-faults
+returns-in-Err-clause-faults g c = stopped_call c.in-Err.error c.in-Err.ensures.error _ _ c.requires.closed c.in-Err.ensures.faults
+
+pub returns-in-Err-clause-print : goal.returns-in-Err-clause-print
+returns-in-Err-clause-print g c is = ⊎_elim (λ memory. cc) (λ device. cc) c.in-Err.ensures.error

@@ -1,72 +1,35 @@
-use Rattle.std.proofs.Common.{◌≡◌, List, sym, subst, ◌∙◌}
-use Rattle.hall_core.specs.Facts.{Attached}
-use Rattle.stop_model.specs.Files.{File}
-use Rattle.shelf_machine.specs.Known.{AreHeld, KnowsBodies}
-use Rattle.shelf_machine.specs.Machine.{AreInOrder, AreIndexes, AreKept, shelf_under, units_of, writer_in}
-use Rattle.vol_model.specs.declared.answers.Mode.{Mode}
-use Rattle.vol_model.specs.Writing.{begun}
-use Rattle.shelf_machine.specs.Opening.{names_of}
-use Rattle.shelf_machine.specs.PendingShelves.{pending_left}
-use Rattle.shelf_machine.proofs.BeginCalls.{fills_well, promise_at, same_at}
+use Rattle.std.proofs.Common.{◌≡◌, None, sym, subst, ◌∙◌}
+use Rattle.stop_model.proofs.MomentLemmas.{same_then}
+use Rattle.vol_model.specs.declared.contents.Shelf.{Shelf}
+use Rattle.vol_model.specs.Writing.{begin_refusal}
+use Rattle.shelf_machine.specs.Machine.{AreInOrder}
+use Rattle.shelf_machine.proofs.BeginCalls.{opens_well}
 use Rattle.shelf_machine.proofs.HallShelves.{machine_volumes}
-use Rattle.shelf_machine.proofs.Machines.{same_here}
-use Rattle.shelf_machine.proofs.ReadMachines.{both_same}
+use Rattle.shelf_machine.proofs.MachineLibraries.{keeps_behind}
 use Rattle.shelf_machine.proofs.machine.HallShelfMachine.begin.Goals as goal
-
-pub returns-in-Some-clause-answer : goal.returns-in-Some-clause-answer
-returns-in-Some-clause-answer g c told = sym (c.in-Some.ensures _ (machine_volumes c.args.self.now c.deref.result.now c.deref.ensures.value c.requires.sound told) (c.args.self.now.bodies c.requires.sound told))
-
-pub returns-in-Some-clause-same : goal.returns-in-Some-clause-same
-returns-in-Some-clause-same g c told = same_here _ _ (g.met.H.Hall.counts_now c.args.self.now.hall)
 
 pub write_refusal-requires-clause-order : goal.write_refusal-requires-clause-order
 write_refusal-requires-clause-order g c = subst AreInOrder (sym c.deref.ensures.value) (c.args.self.now.order c.requires.sound)
 
-pub open_writer-requires-clause-order : goal.open_writer-requires-clause-order
-open_writer-requires-clause-order g c = c.args.self.now.order c.requires.sound
+pub returns-in-Some-clause-answer : goal.returns-in-Some-clause-answer
+returns-in-Some-clause-answer g c told = sym (c.in-Some.ensures _ (machine_volumes c.args.self.now c.deref.result.now c.deref.ensures.value c.requires.sound told) (c.args.self.now.bodies c.requires.sound told))
 
-pub invariant_of-self-in-Ok-1 : goal.invariant_of-self-in-Ok-1
-invariant_of-self-in-Ok-1 g c =
+pub start-requires-clause-well : goal.start-requires-clause-well
+start-requires-clause-well g c told =
     let was = c.args.self.now in
-    let vols = was.vols.items in
-    let run = c.open_writer.ensures in
-    rw c.open_writer.ensures.indexes (record {
-      indexes = subst (λ (us : List Attached). AreIndexes us vols) (sym run.faults.units) was.indexes;
-      order = λ sound. was.order c.requires.sound;
-      kept = λ sound told. both_same (λ (fs : List File) (us : List Attached). AreKept fs us vols) (run.files told).state run.faults.units (was.kept c.requires.sound told);
-      slot = λ sound. run.slot;
-      pending = λ sound told. run.pending told (fills_well _ c.args.v c.args.dsn.now c.args.mode c.write_refusal.result (c.write_refusal.ensures _ (machine_volumes c.args.self.now c.deref.result.now c.deref.ensures.value c.requires.sound told) (c.args.self.now.bodies c.requires.sound told)) c.in_default.is c.in-Fill.is);
-      buffers = was.buffers;
-      bodies = λ sound told. both_same (λ (fs : List File) (us : List Attached). KnowsBodies (shelf_under (names_of us (units_of vols)) fs) was.known.items) (run.files told).state run.faults.units (was.bodies c.requires.sound told);
-      held = λ sound told. both_same (λ (fs : List File) (us : List Attached). AreHeld fs us vols was.known.items) (run.files told).state run.faults.units (was.held c.requires.sound told);
-    })
+    let well = sym (c.write_refusal.ensures _ (machine_volumes was c.deref.result.now c.deref.ensures.value c.requires.sound told) (was.bodies c.requires.sound told)) ∙ c.in_default.is in
+    subst (λ (s : Shelf). begin_refusal s (record { v = c.args.v; dsn = c.args.dsn.now; mode = c.args.mode }) ≡ None) (sym (c.front.ensures.idle told).same.state) well
 
-pub returns-in-Ok-true-clause-answer : goal.returns-in-Ok-true-clause-answer
-returns-in-Ok-true-clause-answer g c told = sym (c.write_refusal.ensures _ (machine_volumes c.args.self.now c.deref.result.now c.deref.ensures.value c.requires.sound told) (c.args.self.now.bodies c.requires.sound told)) ∙ c.in_default.is
+pub returns-in-Ok-clause-answer : goal.returns-in-Ok-clause-answer
+returns-in-Ok-clause-answer g c told =
+    let was = c.args.self.now in
+    opens_well c.start.result (sym (c.write_refusal.ensures _ (machine_volumes was c.deref.result.now c.deref.ensures.value c.requires.sound told) (was.bodies c.requires.sound told)) ∙ c.in_default.is) c.start.ensures.error
 
-pub returns-in-Ok-true-clause-same : goal.returns-in-Ok-true-clause-same
-returns-in-Ok-true-clause-same g c told = rw c.open_writer.ensures.indexes (same_at (g.H.Hall.facts c.args.self.now.hall).units (g.H.Hall.facts c.open_writer.new.hall).units (units_of c.args.self.now.vols.items) c.open_writer.ensures.faults.units c.args.self.now.vols.items (g.H.Hall.meaning c.args.self.now.hall) (g.H.Hall.meaning c.open_writer.new.hall)
-    (pending_left (g.H.Hall.meaning c.args.self.now.hall) (g.H.Hall.facts c.args.self.now.hall).units c.args.self.now.vols.items c.args.self.now.writer (c.args.self.now.kept c.requires.sound told) (c.args.self.now.slot c.requires.sound) (c.args.self.now.pending c.requires.sound told))
-    (g.met.H.Hall.leaves_state c.args.self.now.hall) (g.met.H.Hall.leaves_state c.open_writer.new.hall) _ (c.open_writer.ensures.files told))
+pub returns-in-Ok-clause-same : goal.returns-in-Ok-clause-same
+returns-in-Ok-clause-same g c told = same_then (c.in-Ok.ensures.idle told).same (c.start.ensures.same told)
 
-pub returns-in-Ok-true-clause-promise : goal.returns-in-Ok-true-clause-promise
-returns-in-Ok-true-clause-promise g c told = rw c.open_writer.ensures.indexes (promise_at (g.H.Hall.facts c.args.self.now.hall).units (g.H.Hall.facts c.open_writer.new.hall).units (units_of c.args.self.now.vols.items) c.open_writer.ensures.faults.units c.args.self.now.vols.items (g.H.Hall.meaning c.args.self.now.hall) (g.H.Hall.meaning c.open_writer.new.hall)
-    (g.met.H.Hall.counts_now c.args.self.now.hall) _ (c.open_writer.ensures.files told))
+pub returns-in-Ok-clause-promise : goal.returns-in-Ok-clause-promise
+returns-in-Ok-clause-promise g c told = keeps_behind (c.in-Ok.ensures.idle told).same.time.later (c.in-Ok.ensures.idle told).promise_kept (c.start.ensures.promise told)
 
-pub returns-in-Ok-false-clause-same : goal.returns-in-Ok-false-clause-same
-returns-in-Ok-false-clause-same g c told = rw c.open_writer.ensures.indexes (same_at (g.H.Hall.facts c.args.self.now.hall).units (g.H.Hall.facts c.open_writer.new.hall).units (units_of c.args.self.now.vols.items) c.open_writer.ensures.faults.units c.args.self.now.vols.items (g.H.Hall.meaning c.args.self.now.hall) (g.H.Hall.meaning c.open_writer.new.hall)
-    (pending_left (g.H.Hall.meaning c.args.self.now.hall) (g.H.Hall.facts c.args.self.now.hall).units c.args.self.now.vols.items c.args.self.now.writer (c.args.self.now.kept c.requires.sound told) (c.args.self.now.slot c.requires.sound) (c.args.self.now.pending c.requires.sound told))
-    (g.met.H.Hall.leaves_state c.args.self.now.hall) (g.met.H.Hall.leaves_state c.open_writer.new.hall) _ (c.open_writer.ensures.files told))
-
-pub returns-in-Ok-false-clause-promise : goal.returns-in-Ok-false-clause-promise
-returns-in-Ok-false-clause-promise g c told = rw c.open_writer.ensures.indexes (promise_at (g.H.Hall.facts c.args.self.now.hall).units (g.H.Hall.facts c.open_writer.new.hall).units (units_of c.args.self.now.vols.items) c.open_writer.ensures.faults.units c.args.self.now.vols.items (g.H.Hall.meaning c.args.self.now.hall) (g.H.Hall.meaning c.open_writer.new.hall)
-    (g.met.H.Hall.counts_now c.args.self.now.hall) _ (c.open_writer.ensures.files told))
-
-pub returns-in-Err-clause-promise : goal.returns-in-Err-clause-promise
-returns-in-Err-clause-promise g c told = rw c.open_writer.ensures.indexes (promise_at (g.H.Hall.facts c.args.self.now.hall).units (g.H.Hall.facts c.open_writer.new.hall).units (units_of c.args.self.now.vols.items) c.open_writer.ensures.faults.units c.args.self.now.vols.items (g.H.Hall.meaning c.args.self.now.hall) (g.H.Hall.meaning c.open_writer.new.hall)
-    (g.met.H.Hall.counts_now c.args.self.now.hall) _ (c.open_writer.ensures.files told))
-
-pub returns-in-Ok-true-clause-writer : goal.returns-in-Ok-true-clause-writer
-returns-in-Ok-true-clause-writer g c told =
-    rw c.open_writer.ensures.indexes (subst (λ (m : Mode). writer_in (g.H.Hall.meaning c.open_writer.new.hall).state (g.H.Hall.facts c.open_writer.new.hall).units c.args.self.now.vols.items c.open_writer.new.writer ≡ begun (record { v = c.args.v; dsn = c.args.dsn.now; mode = m }))
-    (sym c.in-Fill.is) (c.in-Ok-true.ensures.writer told (fills_well _ c.args.v c.args.dsn.now c.args.mode c.write_refusal.result (c.write_refusal.ensures _ (machine_volumes c.args.self.now c.deref.result.now c.deref.ensures.value c.requires.sound told) (c.args.self.now.bodies c.requires.sound told)) c.in_default.is c.in-Fill.is) c.in-Ok-true.field-0-test))
+pub returns-in-Ok-clause-stays : goal.returns-in-Ok-clause-stays
+returns-in-Ok-clause-stays g c told undone = keeps_behind (c.in-Ok.ensures.idle told).same.time.later (c.in-Ok.ensures.idle told).stays_kept (c.start.ensures.stays told undone)

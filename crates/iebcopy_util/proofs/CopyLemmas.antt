@@ -1,0 +1,127 @@
+-- The copy of a member, case by case.
+use Rattle.std.proofs.Common.{◌≡◌, ℕ, suc, Bool, true, false, cond, ◌&&◌, ◌||◌, List, [], ◌∷◌, length, refl, sym, ◌∙◌, ap, arith}
+use Rattle.std.proofs.lemmas.Bool.Decides.{nat_tests}
+use Rattle.std.specs.Prelude.{Option, Some, None, Result, Ok, Err, IsErr, ◌==◌, if◌then◌else◌, find, is_some, slice_get}
+use Rattle.std.specs.Str.{bytes_eq}
+use Rattle.stop_model.specs.Moments.{Meaning}
+use Rattle.vol_model.specs.declared.answers.SetInfo.{SetInfo}
+use Rattle.vol_model.specs.declared.answers.Stop.{Stop}
+use Rattle.vol_model.specs.declared.contents.Attr.{Attr}
+use Rattle.vol_model.specs.declared.contents.Block.{Block}
+use Rattle.vol_model.specs.declared.contents.DataSet.{DataSet}
+use Rattle.vol_model.specs.declared.contents.Entry.{Entry}
+use Rattle.vol_model.specs.declared.contents.Shelf.{Shelf}
+use Rattle.vol_model.specs.declared.contents.Place.{Place}
+use Rattle.vol_model.specs.declared.refusals.Refusal.{Refusal}
+use Rattle.vol_model.specs.declared.refusals.Refusal.TheVariants.{Unreadable}
+use Rattle.vol_model.specs.Did.{Did, and_then, answered}
+use Rattle.vol_model.specs.Reading.{FirstOf, Picks, blocks_from, set_info}
+use Rattle.vol_model.specs.Runs.{Works}
+use Rattle.vol_model.specs.Shelf.{blocks_of, has_member}
+use Rattle.vol_model.specs.Writing.{body_on}
+use Rattle.vol_model.proofs.Working.{works_ends, works_none, works_stops, works_then}
+use Rattle.util_steps.specs.declared.calls.SetRef.{SetRef}
+use Rattle.util_steps.specs.Copying.{source}
+use Rattle.util_steps.proofs.Progress.{all_from_start}
+use Rattle.util_syntax.specs.declared.listing.Outcome.{Outcome}
+use Rattle.util_syntax.specs.declared.listing.Outcome.TheVariants as outcome
+use Rattle.iebcopy_util.specs.declared.copying.Copy.{Copy}
+use Rattle.iebcopy_util.specs.declared.copying.Found.{Found}
+use Rattle.iebcopy_util.specs.declared.tasks.Task.{Task}
+use Rattle.iebcopy_util.specs.Copying.{can_move, copied_again, entered, found_of, is_blank}
+use Rattle.iebcopy_util.specs.Sets.{entries_of, library}
+use Rattle.iebcopy_util.specs.Steps.{FindsBlock}
+use Rattle.iebcopy_util.proofs.SetLemmas.{is_library, library_blocks, library_body}
+
+-- ---- what is found of the output
+
+found_first : (name : List ℕ) (e : Entry) (es : List Entry) (t : Bool) → is_some (find (λ (x : Entry). bytes_eq x.name.bytes name) es) ≡ has_member name es → is_some (cond t (Some e) (find (λ (x : Entry). bytes_eq x.name.bytes name) es)) ≡ (t || has_member name es)
+found_first name e es true rest = refl
+found_first name e es false rest = rest
+
+-- an entry of a name is found where there is one
+found_some : (name : List ℕ) (es : List Entry) → is_some (find (λ (x : Entry). bytes_eq x.name.bytes name) es) ≡ has_member name es
+found_some name [] = refl
+found_some name (e ∷ es) = found_first name e es (bytes_eq e.name.bytes name) (found_some name es)
+
+pub entry_told : (name : List ℕ) (r : Result (List Entry) ℕ) (es : List Entry) (found : Option Entry) → r ≡ Ok es → Picks (Ok found) r (λ (l : List Entry). find (λ (x : Entry). bytes_eq x.name.bytes name) l) → is_some found ≡ has_member name es
+entry_told name (Ok l) es found is picks = let same : l ≡ es = cc in ap is_some picks ∙ found_some name l ∙ ap (has_member name) same
+entry_told name (Err t) es found is picks = let never : ⊥ = cc in absurd never
+
+pub some_length : {X : Type 0} (xs : List X) (x : X) → slice_get xs 0 ≡ Some x → (length xs == 0) ≡ false
+some_length [] x is = cc
+some_length (y ∷ xs) x is = grind (arith, nat_tests)
+
+pub none_length : {X : Type 0} (xs : List X) → slice_get xs 0 ≡ None → (length xs == 0) ≡ true
+none_length [] is = refl
+none_length (y ∷ xs) is = cc
+
+and_false : (a : Bool) → (a && false) ≡ false
+and_false true = refl
+and_false false = refl
+
+module _ (s : Shelf) (out : SetRef) (x : DataSet) (is : library s out ≡ Ok x) where
+  blocks_there : (bs : List Block) → source s out ≡ Ok bs → bs ≡ blocks_of x.body
+  blocks_there bs at =
+      let here = library_blocks s out x (is_library s out x is) in
+      let same = sym at ∙ here in
+      let found : bs ≡ blocks_of (body_on s out.v out.dsn.bytes) = cc in
+      found ∙ ap blocks_of (library_body s out x (is_library s out x is))
+
+  -- there is a block
+  pub has_blocks : (a : Bool) (b : Block) → ((bs : List Block) × (source s out ≡ Ok bs) × FirstOf true (blocks_from (record { tt = 0; r = 0 }) bs) b) → (a && (length (blocks_of x.body) == 0)) ≡ false
+  has_blocks a b found =
+      let some : found.0 ≡ b ∷ found.2.0 = sym (all_from_start found.0) ∙ found.2.1 in
+      ap (λ (l : List Block). a && (length l == 0)) (sym (blocks_there found.0 found.1)) ∙ ap (λ (l : List Block). a && (length l == 0)) some ∙ one a (length found.2.0)
+    where
+      one : (t : Bool) (n : ℕ) → (t && (suc n == 0)) ≡ false
+      one t n = ap (λ (u : Bool). t && u) (not_zero n) ∙ and_false t
+        where
+          not_zero : (k : ℕ) → (suc k == 0) ≡ false
+          not_zero k = grind (arith, nat_tests)
+
+  -- there is none
+  pub has_none : (b : Block) → ((bs : List Block) × (source s out ≡ Ok bs) × FirstOf false (blocks_from (record { tt = 0; r = 0 }) bs) b) → (length (blocks_of x.body) == 0) ≡ true
+  has_none b found = ap (λ (l : List Block). length l == 0) (sym (blocks_there found.0 found.1)) ∙ ap (λ (l : List Block). length l == 0) (sym (all_from_start found.0) ∙ found.2)
+
+-- what was looked for is what is found of the output
+pub found_told : (t : Task) (x : DataSet) (info : SetInfo) (blank vacant has : Bool) → info ≡ set_info x → blank ≡ (info.attr.recfm == 0 && vacant) → vacant ≡ (length (entries_of x.body) == 0 && length (blocks_of x.body) == 0) → has ≡ has_member t.name.bytes (entries_of x.body)
+    → (let f : Found = record { attr = info.attr; is_blank = blank; has_name = has } in f) ≡ found_of t x
+unfolding set_info
+found_told t x info blank vacant has told b v h =
+    let attr : info.attr ≡ x.attr = ap (λ (n : SetInfo). n.attr) told in
+    let is : blank ≡ is_blank x = b ∙ ap (λ (a : Attr). a.recfm == 0 && vacant) attr ∙ ap (λ (u : Bool). x.attr.recfm == 0 && u) v in
+    ap (λ (a : Attr). record { attr = a; is_blank = blank; has_name = has }) attr ∙ ap (λ (u : Bool). record { attr = x.attr; is_blank = u; has_name = has }) is
+    ∙ ap (λ (u : Bool). record { attr = x.attr; is_blank = is_blank x; has_name = u }) h
+
+-- ---- a copy is entered
+
+abbrev pub entered_then : SetRef → Task → Copy → Option Copy → Shelf → Did (Option Copy) Outcome
+entered_then out t c given s = and_then s (entered s out t c) (λ x u. answered (Ok given))
+
+module _ (out : SetRef) (t : Task) (c : Copy) (given : Option Copy) {tells : Bool} {old new : Meaning Shelf} {n m : ℕ} where
+  pub enter_stopped : (q : Result (Result (Unit {0}) Outcome) Stop) (r : Result (Result (Option Copy) Outcome) Stop) → IsErr r → Works tells (entered old.state out t c) old new n m q → Works tells (entered_then out t c given old.state) old new n m r
+  enter_stopped q r failed works = works_stops (entered old.state out t c) (λ (x : Unit {0}) (u : Shelf). answered (Ok given)) q r failed works
+
+  pub enter_refused : (e : Outcome) → Works tells (entered old.state out t c) old new n m (Ok (Err e)) → Works tells (entered_then out t c given old.state) old new n m (Ok (Err e))
+  enter_refused e works = works_ends (entered old.state out t c) (λ (x : Unit {0}) (u : Shelf). answered (Ok given)) e works
+
+  pub enter_done : (x : Unit {0}) → Works tells (entered old.state out t c) old new n m (Ok (Ok x)) → Works tells (entered_then out t c given old.state) old new n m (Ok (Ok given))
+  enter_done x works = works_then (entered old.state out t c) (λ (x : Unit {0}) (u : Shelf). answered (Ok given)) x (Ok (Ok given)) works (works_none tells new m (Ok given))
+
+-- TTRs of a member that was copied before can be moved, or not
+pub again_moved : (s : Shelf) (out : SetRef) (t : Task) (c : Copy) → can_move c.from t.entry ≡ true → copied_again s out t c ≡ and_then s (entered s out t c) (λ x u. answered (Ok None))
+unfolding copied_again
+again_moved s out t c is = ap (λ (b : Bool). if b then and_then s (entered s out t c) (λ x u. answered {X = Option Copy} (Ok None)) else answered (Err outcome.BadTtr)) is
+
+pub again_bad : (s : Shelf) (out : SetRef) (t : Task) (c : Copy) → can_move c.from t.entry ≡ false → copied_again s out t c ≡ answered (Err outcome.BadTtr)
+unfolding copied_again
+again_bad s out t c is = ap (λ (b : Bool). if b then and_then s (entered s out t c) (λ x u. answered {X = Option Copy} (Ok None)) else answered (Err outcome.BadTtr)) is
+
+-- a set that can be read isn't refused where it is read
+pub read_refused : (body : Result (List Block) ℕ) (bs : List Block) (r : Refusal) (place : Place) (b : Block) → body ≡ Ok bs → FindsBlock (Err r) body place b → ⊥
+read_refused body bs (Unreadable track) place b is found = let same = sym is ∙ found in cc
+read_refused body bs _ place b is found = found
+
+pub never_refused : (s : Shelf) (out : SetRef) (x : DataSet) (r : Refusal) (place : Place) (b : Block) → library s out ≡ Ok x → FindsBlock (Err r) (source s out) place b → ⊥
+never_refused s out x r place b is found = read_refused (source s out) _ r place b (library_blocks s out x (is_library s out x is)) found

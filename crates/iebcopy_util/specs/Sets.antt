@@ -1,0 +1,107 @@
+-- The data sets of a copy: those of its DDs, and what a shelf has of them.
+use Rattle.std.specs.Prelude.{◌≡◌, ℕ, ◌==◌, Bool, ◌&&◌, if◌then◌else◌, List, [], ◌∷◌, slice_get, Option, Some, None, Result, Ok, Err, ok_or}
+use Rattle.std.specs.List.{list_any}
+use Rattle.std.specs.Map.{lookup}
+use Rattle.std.specs.Str.{bytes_eq}
+use Rattle.ebcdic_names.specs.declared.names.Dsn.{Dsn}
+use Rattle.ebcdic_names.specs.declared.names.Name8.{Name8}
+use Rattle.vol_model.specs.declared.answers.Kind.{Kind}
+use Rattle.vol_model.specs.declared.answers.Kind.TheVariants as kinds
+use Rattle.vol_model.specs.declared.answers.SetInfo.{SetInfo}
+use Rattle.vol_model.specs.declared.contents.Body.{Body}
+use Rattle.vol_model.specs.declared.contents.Body.TheVariants as bodies
+use Rattle.vol_model.specs.declared.contents.DataSet.{DataSet}
+use Rattle.vol_model.specs.declared.contents.Entry.{Entry}
+use Rattle.vol_model.specs.declared.contents.Shelf.{Shelf}
+use Rattle.vol_model.specs.declared.contents.Volume.{Volume}
+use Rattle.vol_model.specs.declared.refusals.Refusal.{Refusal}
+use Rattle.vol_model.specs.declared.refusals.Refusal.TheVariants.{NoSet, NoVolume, Unreadable, WrongKind}
+use Rattle.vol_model.specs.Reading.{set_info}
+use Rattle.vol_model.specs.Shelf.{is_partitioned, set_of, unreadable}
+use Rattle.util_steps.specs.declared.calls.SetRef.{SetRef}
+use Rattle.util_syntax.specs.declared.step.DdIn.{DdIn}
+use Rattle.util_syntax.specs.declared.step.DdIn.TheVariants.{Set}
+use Rattle.util_syntax.specs.Step.{same_name}
+use Rattle.iebcopy_util.specs.declared.requests.CopyDds.{CopyDds}
+use Rattle.iebcopy_util.specs.declared.requests.InputDd.{InputDd}
+use Rattle.iebcopy_util.specs.declared.sets.Input.{Input}
+use Rattle.iebcopy_util.specs.declared.sets.Sets.{Sets}
+
+-- ---- DDs
+
+-- the data set of a DD; a member that it names isn't meant
+abbrev pub set_in : Option DdIn → Option SetRef
+set_in (Some (Set v dsn member append dcb)) = Some (record { v = v; dsn = dsn })
+set_in _ = None
+
+-- the data set of the DD of this name, or that name
+abbrev pub set_named : List (Name8 × DdIn) → Name8 → Result SetRef Name8
+set_named dds name = ok_or (set_in (lookup (same_name name) dds)) name
+
+-- an input in front of others
+abbrev pub with_input : Bool → Result SetRef Name8 → Result (List Input) Name8 → Result (List Input) Name8
+with_input replace (Err name) others = Err name
+with_input replace (Ok set) (Err name) = Err name
+with_input replace (Ok set) (Ok inputs) = Ok (record { set = set; replace = replace } ∷ inputs)
+
+-- the data sets of inputs, or the name of the first DD that isn't there
+abbrev pub inputs_named : List (Name8 × DdIn) → List InputDd → Result (List Input) Name8
+inputs_named dds [] = Ok []
+inputs_named dds (i ∷ is) = with_input i.replace (set_named dds i.dd) (inputs_named dds is)
+
+-- both, or the name that is met first
+abbrev pub sets_with : Bool → Result SetRef Name8 → Result (List Input) Name8 → Result Sets Name8
+sets_with inputs_first (Ok out) (Ok inputs) = Ok (record { out = out; inputs = inputs })
+sets_with inputs_first (Ok out) (Err name) = Err name
+sets_with inputs_first (Err name) (Ok inputs) = Err name
+sets_with inputs_first (Err name) (Err other) = Err (if inputs_first then other else name)
+
+-- the data sets of a copy, or the name of the first DD that isn't one, in the order of the card
+unfoldable pub sets_of : List (Name8 × DdIn) → CopyDds → Result Sets Name8
+sets_of dds copy = sets_with copy.inputs_first (set_named dds copy.out) (inputs_named dds copy.inputs)
+
+-- two data sets are one
+abbrev pub is_same : SetRef → SetRef → Bool
+is_same a b = a.v == b.v && bytes_eq a.dsn.bytes b.dsn.bytes
+
+-- one of the inputs is this data set
+unfoldable pub is_among : SetRef → List Input → Bool
+is_among out inputs = list_any (λ (i : Input). is_same i.set out) inputs
+
+-- ---- libraries
+
+abbrev pub unless_refused : DataSet → Option Refusal → Result DataSet Refusal
+unless_refused x None = Ok x
+unless_refused x (Some r) = Err r
+
+abbrev pub library_if_there : List ℕ → Option DataSet → Result DataSet Refusal
+library_if_there name None = Err NoSet
+library_if_there name (Some x) = if is_partitioned name x.attr then unless_refused x (unreadable x.body) else Err WrongKind
+
+abbrev pub library_if_mounted : Dsn → Option Volume → Result DataSet Refusal
+library_if_mounted dsn None = Err NoVolume
+library_if_mounted dsn (Some volume) = library_if_there dsn.bytes (set_of dsn.bytes volume)
+
+-- a partitioned data set that can be read, or why it is none
+unfoldable pub library : Shelf → SetRef → Result DataSet Refusal
+library shelf s = library_if_mounted s.dsn (slice_get shelf.volumes s.v)
+
+-- the directory of a partitioned body
+abbrev pub entries_of : Body → List Entry
+entries_of (bodies.Part dir end entries blocks) = entries
+entries_of body = []
+
+-- ---- what a machine tells of a set in short
+
+abbrev pub info_unless : SetInfo → Kind → Result SetInfo Refusal
+info_unless info (kinds.Unreadable track) = Err (Unreadable track)
+info_unless info kind = Ok info
+
+-- what is told of a set, if it is partitioned and can be read
+abbrev pub info_if : List ℕ → SetInfo → Result SetInfo Refusal
+info_if name info = if is_partitioned name info.attr then info_unless info info.kind else Err WrongKind
+
+-- a set is found, with what is told of it in short, or refused
+abbrev pub FindsLibrary : Result SetInfo Refusal → Result DataSet Refusal → Type 0
+FindsLibrary (Ok info) found = (x : DataSet) × (found ≡ Ok x) × (info ≡ set_info x)
+FindsLibrary (Err r) found = found ≡ Err r

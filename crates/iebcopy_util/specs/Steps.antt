@@ -1,0 +1,106 @@
+-- What the parts of a copy leave, and where a copy ends for want of memory.
+use Rattle.std.specs.Prelude.{◌≡◌, ◌⊎◌, ℕ, Bool, true, false, List, [], ◌∷◌, ◌++◌, ◌&&◌, Option, Some, None, Result, Ok, Err, IfOk, IsErrOf, IsTrue}
+use Rattle.std.specs.List.{AllByRecursion}
+use Rattle.stop_model.specs.Moments.{Meaning}
+use Rattle.vol_model.specs.declared.answers.Stop.{Stop}
+use Rattle.vol_model.specs.declared.answers.Stop.TheVariants.{Memory}
+use Rattle.vol_model.specs.declared.contents.Block.{Block}
+use Rattle.vol_model.specs.declared.contents.DataSet.{DataSet}
+use Rattle.vol_model.specs.declared.contents.Place.{Place}
+use Rattle.vol_model.specs.declared.contents.Shelf.{Shelf}
+use Rattle.vol_model.specs.declared.refusals.Refusal.{Refusal}
+use Rattle.vol_model.specs.declared.refusals.Refusal.TheVariants.{Unreadable}
+use Rattle.vol_model.specs.declared.requests.Op.{Op}
+use Rattle.vol_model.specs.declared.requests.Op.TheVariants.{Extend}
+use Rattle.vol_model.specs.Events.{Item, after_operations, code_of, events_of}
+use Rattle.vol_model.specs.Places.{Content, is_end_of_file}
+use Rattle.vol_model.specs.Reading.{FirstOf, blocks_from}
+use Rattle.vol_model.specs.Runs.{Counts, Runs}
+use Rattle.vol_model.specs.Shelf.{put_first}
+use Rattle.util_steps.specs.Copying.{behind_place, has_data}
+use Rattle.iebcopy_util.specs.declared.copying.Found.{Found}
+use Rattle.iebcopy_util.specs.declared.members.Ending.{Ending}
+use Rattle.iebcopy_util.specs.declared.tasks.Task.{Task}
+use Rattle.iebcopy_util.specs.declared.walking.Walk.{Walk}
+use Rattle.iebcopy_util.specs.Copying.{found_of}
+use Rattle.iebcopy_util.specs.Items.{Course}
+use Rattle.vol_model.specs.Writing.{OpenWriter, place_on, target_body, with_puts}
+
+-- ---- want of memory
+
+-- an extension, behind which a writing isn't done yet
+abbrev pub is_extension : Op → Bool
+is_extension (Extend v dsn) = true
+is_extension _ = false
+
+-- the last of operations is no extension
+abbrev pub IsClosed : List Op → Type 0
+IsClosed [] = Unit {0}
+IsClosed (op ∷ []) = is_extension op ≡ false
+IsClosed (op ∷ next ∷ ops) = IsClosed (next ∷ ops)
+
+-- Some first operations were done, and no writing in part: its extensions are done with its blocks.
+pub record HasPart (ops : List Op) (old new : Shelf) : Type 0 where
+  pub done : List Op
+  pub left : List Op
+  pub whole : ops ≡ done ++ left
+  pub state : new ≡ after_operations old done
+  pub closed : IsClosed done
+
+-- A run in items ended in one of them with no writing done in part, or at the end of one, where its writing is done or refused.
+abbrev pub EndsWhole : List Item → Shelf → Shelf → Type 0
+EndsWhole [] old new = new ≡ old
+EndsWhole (item ∷ items) old new = HasPart item.operations old new ⊎ EndsWhole items (after_operations old item.operations) new
+
+-- ---- items
+
+-- Items are done one after another, and what is answered has `Answers`; where memory ran out on a roomy machine, no writing is done in part.
+pub record DoesItems {T : Type 0} (tells roomy : Bool) (items : List Item) (Answers : T → Type 0) (old new : Meaning Shelf) (n m : ℕ) (result : Result T Stop) : Type 0 where
+  pub runs : Runs tells (events_of items) old new result
+  pub answer : IfOk result Answers
+  pub count : Counts (events_of items) n m result
+  pub memory : IsTrue roomy → IsErrOf result Memory → EndsWhole items old.state new.state
+
+-- the highest code of items, and whether more of their kind follow
+abbrev pub EndsCourse : Course → Ending → Type 0
+EndsCourse course ending = (ending.code ≡ code_of course.items) × (ending.goes_on ≡ course.goes_on)
+
+-- ---- the output
+
+-- an output is found as a library, with what is looked for, or refused
+abbrev pub LooksAt : Result Found Refusal → Task → Result DataSet Refusal → Type 0
+LooksAt (Ok found) t library = (x : DataSet) × (library ≡ Ok x) × (found ≡ found_of t x)
+LooksAt (Err r) t library = library ≡ Err r
+
+-- ---- blocks
+
+-- the first block at or after a place, or none, or the refusal of a set that can't be read
+abbrev pub FindsBlock : Result Bool Refusal → Result (List Block) ℕ → Place → Block → Type 0
+FindsBlock (Ok more) body place b = (bs : List Block) × (body ≡ Ok bs) × FirstOf more (blocks_from place bs) b
+FindsBlock (Err (Unreadable track)) body place b = body ≡ Err track
+FindsBlock (Err _) body place b = ⊥
+
+-- each of these blocks is found at its place among others
+abbrev pub AreFound : List Block → List Block → Type 0
+AreFound bs found = AllByRecursion (λ (b : Block). (rest : List Block) × (blocks_from b.place bs ≡ b ∷ rest)) found
+
+-- the place of a content that is put by a writer
+abbrev pub put_place : Shelf → OpenWriter → Content → Place
+put_place shelf w c = place_on shelf w.target (put_first w.target.mode (target_body shelf w.target) ++ w.puts) c
+
+-- the places of contents that are put one after another
+abbrev pub put_places : Shelf → OpenWriter → List Content → List Place
+put_places shelf w [] = []
+put_places shelf w (c ∷ cs) = put_place shelf w c ∷ put_places shelf (with_puts w (c ∷ [])) cs
+
+-- of the blocks of a member that are left the first is taken, and the place behind it is answered; none at the member's end
+abbrev pub TakesBlock : Result (Option Place) Refusal → List Block → Walk → Walk → Type 0
+TakesBlock (Ok (Some next)) left old new = (b : Block) × (rest : List Block) × (left ≡ b ∷ rest) × (is_end_of_file b ≡ false) × (next ≡ behind_place b.place) × (new.places.items ≡ old.places.items ++ b.place ∷ []) × (new.has_data ≡ (old.has_data && has_data b))
+TakesBlock (Ok None) left old new = (new ≡ old) × ((left ≡ []) ⊎ ((b : Block) × (rest : List Block) × (left ≡ b ∷ rest) × (is_end_of_file b ≡ true)))
+TakesBlock (Err r) left old new = ⊥
+
+-- of the blocks that are left the place of the first is answered, and the place behind it
+abbrev pub TakesLast : Result (Option (Place × Place)) Refusal → List Block → Type 0
+TakesLast (Ok (Some both)) left = (b : Block) × (rest : List Block) × (left ≡ b ∷ rest) × (both.0 ≡ b.place) × (both.1 ≡ behind_place b.place)
+TakesLast (Ok None) left = left ≡ []
+TakesLast (Err r) left = ⊥

@@ -1,0 +1,133 @@
+//! The blocks of a member, put to a library as a whole.
+ghost use Rattle.std.specs.Prelude.{◌≡◌, ◌≤◌, ◌+◌, ◌++◌, ◌∷◌, [], false, true, Ok, List, length, map, vec_capacity, vec_len, IsTrue, IsFalse, IsErrOf, IfOk, OnOk};
+ghost use Rattle.vol_model.specs.declared.contents.Block.{Block};
+ghost use Rattle.vol_model.specs.Calls.{Keeps};
+ghost use Rattle.vol_model.specs.Places.{content};
+ghost use Rattle.vol_model.specs.Reading.{blocks_from};
+ghost use Rattle.vol_model.specs.Runs.{RunCall, Works};
+ghost use Rattle.vol_model.specs.Writing.{begun, with_puts};
+ghost use Rattle.util_steps.specs.Copying.{did_all, did_block, did_blocks, filled, source, target};
+ghost use Rattle.iebcopy_util.specs.Copying.{places};
+ghost use Rattle.iebcopy_util.specs.Steps.{AreFound, put_place, put_places};
+
+use crate::calls::{begin, commit, put, read};
+use util_steps::{Fault, SetRef};
+use vol_model::{BlockBuf, Machine, Mode, Place, Stop};
+
+// Puts the block at a place of a library, and gives the place of its copy.
+fn put_at<M: Machine>(
+    machine: &mut M,
+    buf: &mut BlockBuf,
+    from: &SetRef,
+    place: Place,
+) -> Result<Result<Place, Fault>, Stop>
+    requires sound { IsTrue (M.status machine.old).is_sound }
+    requires opened { IsTrue (M.status machine.old).is_open }
+    ensures works { IsTrue M.tells → (bs rest : List Block) (b : Block) → source (M.meaning machine.old).state from.now ≡ Ok bs → blocks_from place bs ≡ b ∷ rest → Works M.tells_prints (did_block (M.meaning machine.old).state (M.writer machine.old) b) (M.meaning machine.old) (M.meaning machine.new) (M.status machine.old).done (M.status machine.new).done result }
+    ensures writer { IsTrue M.tells → (bs rest : List Block) (b : Block) → source (M.meaning machine.old).state from.now ≡ Ok bs → blocks_from place bs ≡ b ∷ rest → IfOk result (λ answer. OnOk answer (M.writer machine.new ≡ with_puts (M.writer machine.old) (content b ∷ []))) }
+    ensures memory { IsTrue M.roomy → IsErrOf result Stop.Memory → ⊥ }
+    ensures later { IsTrue M.tells → (M.meaning machine.old).clock ≤ (M.meaning machine.new).clock }
+    ensures promise { IsTrue M.tells → Keeps (M.meaning machine.old).clock (M.promise machine.old) (M.promise machine.new) }
+    ensures faults { RunCall true (M.status machine.old) (M.status machine.new) result }
+{
+    match read(machine, from, place, buf)? {
+        Ok(true) => put(machine, buf),
+        Ok(false) => Ok(Err(Fault::BadRecord)),
+        Err(refusal) => Ok(Err(Fault::Refused(refusal))),
+    }
+}
+
+// Puts the blocks at these places of a library, and adds the places of their copies, for which
+// there is room.
+fn put_copies<M: Machine>(
+    machine: &mut M,
+    buf: &mut BlockBuf,
+    from: &SetRef,
+    at: &[Place],
+    to: &mut Vec<Place>,
+) -> Result<Result<(), Fault>, Stop>
+    requires sound { IsTrue (M.status machine.old).is_sound }
+    requires opened { IsTrue (M.status machine.old).is_open }
+    requires room { vec_len to.old + length at.now ≤ vec_capacity to.old }
+    ensures works { IsTrue M.tells → (bs member : List Block) → source (M.meaning machine.old).state from.now ≡ Ok bs → at.now ≡ places member → AreFound bs member → Works M.tells_prints (did_blocks (M.meaning machine.old).state (M.writer machine.old) member) (M.meaning machine.old) (M.meaning machine.new) (M.status machine.old).done (M.status machine.new).done result }
+    ensures writer { IsTrue M.tells → (bs member : List Block) → source (M.meaning machine.old).state from.now ≡ Ok bs → at.now ≡ places member → AreFound bs member → IfOk result (λ answer. OnOk answer (M.writer machine.new ≡ with_puts (M.writer machine.old) (map content member))) }
+    ensures to { IsTrue M.tells → (bs member : List Block) → source (M.meaning machine.old).state from.now ≡ Ok bs → at.now ≡ places member → AreFound bs member → IfOk result (λ answer. OnOk answer (to.new.items ≡ to.old.items ++ put_places (M.meaning machine.old).state (M.writer machine.old) (map content member))) }
+    ensures memory { IsTrue M.roomy → IsErrOf result Stop.Memory → ⊥ }
+    ensures later { IsTrue M.tells → (M.meaning machine.old).clock ≤ (M.meaning machine.new).clock }
+    ensures promise { IsTrue M.tells → Keeps (M.meaning machine.old).clock (M.promise machine.old) (M.promise machine.new) }
+    ensures faults { RunCall true (M.status machine.old) (M.status machine.new) result }
+{
+    let mut rest = at;
+    loop {
+        let (first, behind) = match rest.split_first() {
+            Some(parts) => parts,
+            None => return Ok(Ok(())),
+        };
+        match put_at(machine, buf, from, *first)? {
+            Ok(place) => {
+                to.push(place).unwrap();
+                rest = behind;
+            }
+            Err(fault) => return Ok(Err(fault)),
+        }
+    }
+}
+
+// Writes the blocks at these places of a library by a writer that has just begun, and closes it.
+fn write_copies<M: Machine>(
+    machine: &mut M,
+    buf: &mut BlockBuf,
+    from: &SetRef,
+    at: &[Place],
+    to: &mut Vec<Place>,
+) -> Result<Result<(), Fault>, Stop>
+    requires sound { IsTrue (M.status machine.old).is_sound }
+    requires opened { IsTrue (M.status machine.old).is_open }
+    requires room { vec_len to.old + length at.now ≤ vec_capacity to.old }
+    ensures works { IsTrue M.tells → (bs member : List Block) → source (M.meaning machine.old).state from.now ≡ Ok bs → at.now ≡ places member → AreFound bs member → M.writer machine.old ≡ begun (M.writer machine.old).target → Works M.tells_prints (did_all (M.meaning machine.old).state (M.writer machine.old).target member) (M.meaning machine.old) (M.meaning machine.new) (M.status machine.old).done (M.status machine.new).done result }
+    ensures to { IsTrue M.tells → (bs member : List Block) → source (M.meaning machine.old).state from.now ≡ Ok bs → at.now ≡ places member → AreFound bs member → IfOk result (λ answer. OnOk answer (to.new.items ≡ to.old.items ++ put_places (M.meaning machine.old).state (M.writer machine.old) (map content member))) }
+    ensures memory { IsTrue M.roomy → IsErrOf result Stop.Memory → ⊥ }
+    ensures later { IsTrue M.tells → (M.meaning machine.old).clock ≤ (M.meaning machine.new).clock }
+    ensures promise { IsTrue M.tells → Keeps (M.meaning machine.old).clock (M.promise machine.old) (M.promise machine.new) }
+    ensures faults { RunCall false (M.status machine.old) (M.status machine.new) result }
+{
+    match put_copies(machine, buf, from, at, to) {
+        Ok(Ok(())) => commit(machine),
+        Ok(Err(fault)) => {
+            machine.abandon();
+            Ok(Err(fault))
+        }
+        Err(Stop::Memory) => {
+            machine.abandon();
+            Err(Stop::Memory)
+        }
+        Err(Stop::Device) => Err(Stop::Device),
+        Err(Stop::Print) => Err(Stop::Print),
+    }
+}
+
+/// Writes the blocks at these places of a library to another as a whole, and adds the places of
+/// their copies, for which there is room.
+pub fn write_area<M: Machine>(
+    machine: &mut M,
+    buf: &mut BlockBuf,
+    from: &SetRef,
+    out: &SetRef,
+    at: &[Place],
+    to: &mut Vec<Place>,
+) -> Result<Result<(), Fault>, Stop>
+    requires sound { IsTrue (M.status machine.old).is_sound }
+    requires closed { IsFalse (M.status machine.old).is_open }
+    requires room { vec_len to.old + length at.now ≤ vec_capacity to.old }
+    ensures works { IsTrue M.tells → (bs member : List Block) → source (M.meaning machine.old).state from.now ≡ Ok bs → at.now ≡ places member → AreFound bs member → Works M.tells_prints (filled (M.meaning machine.old).state out.now Mode.Area member) (M.meaning machine.old) (M.meaning machine.new) (M.status machine.old).done (M.status machine.new).done result }
+    ensures to { IsTrue M.tells → (bs member : List Block) → source (M.meaning machine.old).state from.now ≡ Ok bs → at.now ≡ places member → AreFound bs member → IfOk result (λ answer. OnOk answer (to.new.items ≡ to.old.items ++ put_places (M.meaning machine.old).state (begun (target out.now Mode.Area)) (map content member))) }
+    ensures memory { IsTrue M.tells → IsTrue M.roomy → IsErrOf result Stop.Memory → (M.meaning machine.new).state ≡ (M.meaning machine.old).state }
+    ensures later { IsTrue M.tells → (M.meaning machine.old).clock ≤ (M.meaning machine.new).clock }
+    ensures promise { IsTrue M.tells → Keeps (M.meaning machine.old).clock (M.promise machine.old) (M.promise machine.new) }
+    ensures faults { RunCall false (M.status machine.old) (M.status machine.new) result }
+{
+    if let Err(fault) = begin(machine, out)? {
+        return Ok(Err(fault));
+    }
+    write_copies(machine, buf, from, at, to)
+}

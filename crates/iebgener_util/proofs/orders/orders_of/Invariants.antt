@@ -1,0 +1,10 @@
+use Rattle.std.proofs.Common.{◌≡◌, ◌++◌, drop, map}
+use Rattle.std.specs.Prelude.{None}
+use Rattle.util_syntax.specs.Items.{item_view}
+use Rattle.iebgener_util.specs.declared.orders.State.TheVariants.{Begun}
+use Rattle.iebgener_util.specs.Orders.{orders_of}
+use Rattle.iebgener_util.proofs.orders.orders_of.Given as goal
+
+-- the orders so far, and those of the statements that are left, are those of all
+abbrev pub invariant-loop-item : goal.invariant-loop-item
+invariant-loop-item l = orders_of l.exec (Begun None) (map item_view l.items) ≡ l.orders.items ++ orders_of l.exec l.state (map item_view (drop l.item-index l.items))

@@ -1,0 +1,11 @@
+pub mod Ordered
+pub mod Changes
+pub mod MoreBlocks
+pub mod OtherEntries
+pub mod OnVolumes
+pub mod FoundSets
+pub mod StaysOrdered
+pub mod OneSet
+pub mod AllSets
+pub mod EachStep
+pub mod Whole

@@ -1,0 +1,15 @@
+pub mod DeviceCalls
+pub mod Lists
+pub mod MovedSets
+pub mod OrderedSets
+pub mod OtherBuffers
+pub mod OtherSets
+pub mod PackLoops
+pub mod PackSteps
+pub mod Rebuilt
+pub mod RepairSteps
+pub mod SetsByName
+pub mod SettledScans
+pub mod SettledTests
+pub mod WalkedBodies
+pub mod WalkedSets

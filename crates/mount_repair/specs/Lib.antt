@@ -1,0 +1,5 @@
+pub mod Sets
+pub mod Scans
+pub mod Walks
+pub mod Repairs
+pub mod Settled

@@ -1,0 +1,6 @@
+use Rattle.pds_directory.proofs.EndWalks.{Seeks}
+use Rattle.pds_directory.proofs.ends.find_end.Given as goal
+
+abbrev pub invariant-loop-k : goal.invariant-loop-k
+invariant-loop-k g l =
+    Seeks g.H.Hall.tells (g.H.Hall.facts l.initial.hall) (g.H.Hall.facts l.hall) (g.H.Hall.meaning l.initial.hall) (g.H.Hall.meaning l.hall) l.initial.vol l.vol l.set l.k

@@ -1,0 +1,5 @@
+pub mod Spelling
+pub mod Entries
+pub mod Directories
+pub mod Reading
+pub mod Packed

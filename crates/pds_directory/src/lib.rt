@@ -1,0 +1,22 @@
+//! The directories of partitioned data sets: read, and their blocks spelled (System Control Blocks GC28-6628).
+#![tactic(auto)]
+
+mod decoding;
+mod dir;
+mod encoding;
+mod ends;
+mod entry;
+mod packed;
+mod reading;
+mod records;
+mod tracks;
+
+pub use decoding::{DirBlock, read_block};
+pub use dir::Dir;
+pub use encoding::block_bytes;
+pub use ends::{find_end, read_up_to};
+pub use entry::{DirEntry, copy_of};
+pub use packed::is_packed;
+pub use reading::read_dir;
+pub use records::is_directory_record;
+pub use tracks::track_at;

@@ -1,0 +1,47 @@
+-- A call that leaves the index of a pack and its image as they were, and one behind it.
+use Rattle.std.proofs.Common.{◌≡◌, ℕ, List, sym, ap, subst, ◌∙◌, arith}
+use Rattle.std.specs.Prelude.{Result, Ok, Err}
+use Rattle.free_rebuild.specs.Repairs.{image_named}
+use Rattle.hall_core.specs.Facts.{Attached, DeviceCall, Facts, unit_of}
+use Rattle.stop_model.specs.Counts.{Rose}
+use Rattle.stop_model.specs.Files.{File}
+use Rattle.stop_model.specs.Moments.{Meaning}
+use Rattle.vtoc_index.specs.Index.{IsOfUnit}
+use Rattle.vtoc_index.specs.declared.vol.Vol.{Vol}
+use Rattle.mount_repair.proofs.OtherBuffers.{image_at}
+
+module _ (m m' : Meaning (List File)) (old new : Facts) (v v' : Vol) (state : m'.state ≡ m.state) (units : new.units ≡ old.units) (same : v' ≡ v) where
+  image_still : image_at m' new v' ≡ image_at m old v
+  image_still =
+      ap (λ (fs : List File). image_named fs (unit_of new.units v'.unit).name) state
+      ∙ ap (λ (us : List Attached). image_named m.state (unit_of us v'.unit).name) units
+      ∙ ap (λ (w : Vol). image_named m.state (unit_of old.units w.unit).name) same
+
+  -- what holds of the image and the index holds of them then, and the other way round
+  pub stays : (P : List ℕ → Vol → Type 0) → P (image_at m old v) v → P (image_at m' new v') v'
+  stays P is = subst (λ (i : List ℕ). P i v') (sym image_still) (subst (P (image_at m old v)) (sym same) is)
+
+  pub stayed : (P : List ℕ → Vol → Type 0) → P (image_at m' new v') v' → P (image_at m old v) v
+  stayed P is = subst (P (image_at m old v)) same (subst (λ (i : List ℕ). P i v') image_still is)
+
+pub unit_stays : (old new : List Attached) (v v' : Vol) → new ≡ old → v' ≡ v → IsOfUnit old v → IsOfUnit new v'
+unit_stays old new v v' units same is = subst (λ (us : List Attached). IsOfUnit us v') (sym units) (subst (IsOfUnit old) (sym same) is)
+
+-- two calls of a device
+pub device_behind : {T S E F : Type 0} (a b c : Facts) (x : T) (r : Result S F) → DeviceCall {E = E} a b (Ok x) → DeviceCall b c r → DeviceCall a c r
+device_behind a b c x (Ok y) first second = record {
+  units = second.units ∙ first.units;
+  references = second.references ∙ first.references;
+  prints = second.prints ∙ first.prints;
+  later = omega (arith, second.later, first.later);
+  done = second.done ∙ first.done;
+  failed = tt;
+}
+device_behind a b c x (Err e) first second = record {
+  units = second.units ∙ first.units;
+  references = second.references ∙ first.references;
+  prints = second.prints ∙ first.prints;
+  later = omega (arith, second.later, first.later);
+  done = tt;
+  failed = subst (λ (n : ℕ). Rose n c.dev_faults) first.done second.failed;
+}

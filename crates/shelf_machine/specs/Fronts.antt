@@ -1,0 +1,42 @@
+-- What goes in front of the blocks that a writer puts, in this project's profile.
+use Rattle.std.specs.Prelude.{◌≡◌, ◌++◌, Bool, true, false, List, [], ◌∷◌, Option, Some, None}
+use Rattle.seq_access.specs.Writing.{EndsAt}
+use Rattle.vol_model.specs.declared.answers.Mode.{Mode}
+use Rattle.vol_model.specs.declared.answers.Mode.TheVariants as modes
+use Rattle.vol_model.specs.declared.contents.Body.{Body}
+use Rattle.vol_model.specs.declared.contents.Body.TheVariants as bodies
+use Rattle.vol_model.specs.Places.{Content, end_of_file, is_open_ended}
+use Rattle.shelf_machine.specs.declared.front.Front.{Front}
+
+-- the contents in front, by whether an end-of-file block is due there
+abbrev pub firsts : Bool → List Content
+firsts true = end_of_file ∷ []
+firsts false = []
+
+-- those that aren't placed yet, by what is
+abbrev pub due : Bool → List Content → List Content
+due first [] = firsts first
+due first (c ∷ cs) = []
+
+-- what is placed, but for that in front
+abbrev pub behind_first : Bool → List Content → List Content
+behind_first true (c ∷ cs) = cs
+behind_first true [] = []
+behind_first false cs = cs
+
+-- what is placed begins with that in front
+abbrev pub BeginsWell : Bool → List Content → Type 0
+BeginsWell true (c ∷ cs) = c ≡ end_of_file
+BeginsWell true [] = Unit {0}
+BeginsWell false cs = Unit {0}
+
+-- a partitioned body ends its directory here, and its last block asks for an end-of-file block or not
+abbrev pub IsFrontOf : Front → Body → Type 0
+IsFrontOf front (bodies.Part dir end entries blocks) = (front.end ≡ Some end)
+    × (front.first ≡ is_open_ended blocks)
+IsFrontOf front body = Unit {0}
+
+-- a writer for this mode begins so behind a body
+abbrev pub IsFrontIn : Mode → Front → Body → Type 0
+IsFrontIn modes.Fill front body = front ≡ record { end = None; first = false }
+IsFrontIn modes.Area front body = IsFrontOf front body
