@@ -34,20 +34,21 @@ use Rattle.seq_access.proofs.SparedCalls.{differ_none}
 use Rattle.seq_access.proofs.SparedFiles.{on_ok}
 use Rattle.seq_access.proofs.WritersKept.{set_by}
 use Rattle.shelf_machine.specs.Committing.{CommitsOn}
-use Rattle.shelf_machine.specs.Known.{AreHeld, ForgetsOn, HasNoLibrary, KnowsBodies}
+use Rattle.shelf_machine.specs.Known.{AreHeld, ForgetsOn, KnowsBodies}
 use Rattle.shelf_machine.specs.Machine.{AreIndexes, AreKept, KeepsSafe, shelf_under, units_of}
 use Rattle.shelf_machine.specs.Opening.{names_of}
 use Rattle.shelf_machine.specs.Operating.{IsSamePack}
 use Rattle.shelf_machine.specs.Pending.{IsInSlot, IsWriterOn, IsWritingBy, LeavesSpared, Settles, puts_on}
 use Rattle.shelf_machine.specs.Reads.{HasVolume, IsSetOn}
 use Rattle.shelf_machine.specs.SparedShelves.{shelf_spared}
+use Rattle.shelf_machine.specs.Standing.{DirectoriesStay}
 use Rattle.shelf_machine.specs.declared.known.Known.{Known}
 use Rattle.shelf_machine.specs.declared.writer.Writer.{Writer}
 use Rattle.shelf_machine.proofs.EmptyFills.{may_fill, none_put, step_same}
 use Rattle.shelf_machine.proofs.FilledBodies.{knows_written}
-use Rattle.shelf_machine.proofs.ForgottenTracks.{held_still, knows_still}
+use Rattle.shelf_machine.proofs.ForgottenTracks.{held_forgot, held_still, knows_still, pack_still}
 use Rattle.shelf_machine.proofs.Holding.{held_stand, kept_mounted, serials_apart, volume_held, volume_there, volumes_held}
-use Rattle.shelf_machine.proofs.ListPlaces.{get_map, set_itself}
+use Rattle.shelf_machine.proofs.ListPlaces.{get_map}
 use Rattle.shelf_machine.proofs.Operating.{kept_after, name_there, names_same}
 use Rattle.shelf_machine.proofs.PackedBlocks.{committed_packed}
 use Rattle.shelf_machine.proofs.PackedImages.{image_packed, packed_image}
@@ -59,6 +60,7 @@ use Rattle.shelf_machine.proofs.ReadMachines.{both_same}
 use Rattle.shelf_machine.proofs.Settling.{keeps_time}
 use Rattle.shelf_machine.proofs.ShelfReads.{is_set}
 use Rattle.shelf_machine.proofs.ShelfSteps.{stands_after, stands_before_or_after}
+use Rattle.shelf_machine.proofs.StayingBlocks.{committed_stays}
 use Rattle.shelf_machine.proofs.WriteSteps.{step_written, to_set, write_keeps_serial, written_number}
 
 -- what follows where a call is done
@@ -95,7 +97,7 @@ only_fill modes.Area body cs none = absurd (ends_some (put_first modes.Area body
 
 module _ (old new : Facts) (vols : List Vol) (indexes : AreIndexes old.units vols) (m m' : Meaning (List File)) (counts : CountsNow m) (left : m.left m.state) (kept : AreKept m.state old.units vols)
     (w : Writer) (v : Vol) (at : slice_get vols w.v ≡ Some v) (slot : IsInSlot v w) (units : new.units ≡ old.units) (on : IsWriterOn (image_named m.state (unit_of old.units v.unit).name) v w)
-    (spared : LeavesSpared (unit_of old.units v.unit).name m v w) (known known' : List Known) (forgot : ForgetsOn w.v known known') (none_held : HasNoLibrary w.v known') (held : AreHeld m.state old.units vols known)
+    (spared : LeavesSpared (unit_of old.units v.unit).name m v w) (known known' : List Known) (forgot : ForgetsOn w.v known known') (held : AreHeld m.state old.units vols known)
     (knows : KnowsBodies (shelf_under (names_of old.units (units_of vols)) m.state) known) (cs : List Content) where
   abbrev name : List ℕ
   name = (unit_of old.units v.unit).name
@@ -138,7 +140,7 @@ module _ (old new : Facts) (vols : List Vol) (indexes : AreIndexes old.units vol
         kept = kept';
         durable = durable;
         held = held';
-        bodies = on_done r (λ is. knows_written w.v w.dsn w.mode (blocks_for shelf t cs) shelf (shelf_under names m'.state) known' is none_held (knows_still w.v known known' forgot shelf knows)) stepped;
+        bodies = on_done r (λ is. knows_written w.v w.dsn w.mode (blocks_for shelf t cs) shelf (shelf_under names m'.state) known' is (knows_still w.v known known' forgot shelf knows)) stepped;
       } in
       subst (λ (ns : List (List ℕ)). CommitsOn op names ns new.units vols vols' known' m m' r) (sym same) run
 
@@ -171,8 +173,15 @@ module _ (old new : Facts) (vols : List Vol) (indexes : AreIndexes old.units vol
         stands_after names (volumes_held m.state old.units vols) m m' (held_stand m.state old.units vols mounted) indexes.names (serials_apart m.state old.units vols mounted indexes.serials) w.v name (name_there old.units vols w.v v at)
         op (written_number w.v w.dsn w.mode (blocks_for shelf t cs)) keeps_serial v (λ before after. Unit {0}) (volume_in image v) done.after volume_is m'.state others_stay (sym stepped_is ∙ done.step) done.stands
 
-    held_now : AreHeld m'.state new.units (set vols w.v v') known'
-    held_now = subst (λ (us : List Attached). AreHeld m'.state us (set vols w.v v') known') (sym units) (held_still m.state m'.state old.units vols known known' w.v v v' at indexes.names others_stay forgot held)
+    directories_stay : IsCommitted name (write_on w.mode w.dsn cs (volume_in image v)) v' m.state m' → DirectoriesStay image (image_named m'.state name) (volume_in image v) (volume_in (image_named m'.state name) v')
+    directories_stay =
+        committed_stays name (write_on w.mode w.dsn cs (volume_in image v)) v' m.state m' (volume_in image v) (kept_mounted m.state old.units vols kept w.v v at).volume
+        (λ after is. write_keeps w.mode w.dsn cs (volume_in image v) after is)
+
+    held_now : IsCommitted name (write_on w.mode w.dsn cs (volume_in image v)) v' m.state m' → AreHeld m'.state new.units (set vols w.v v') known'
+    held_now done = subst (λ (us : List Attached). AreHeld m'.state us (set vols w.v v') known') (sym units)
+        (held_still m.state m'.state old.units vols known known' w.v v v' at indexes.names same.unit others_stay forgot.others
+        (pack_still image (image_named m'.state name) v v' known known' w.v forgot (directories_stay done) (λ a is. held w.v v a at is)) held)
 
     kept_now : IsCommitted name (write_on w.mode w.dsn cs (volume_in image v)) v' m.state m' → AreKept m'.state new.units (set vols w.v v')
     kept_now done = kept_after old new vols w.v v v' at same units m.state m'.state indexes kept others_stay (record {
@@ -190,7 +199,7 @@ module _ (old new : Facts) (vols : List Vol) (indexes : AreIndexes old.units vol
         (keeps_safe_by names vols indexes.names w.v name (name_there old.units vols w.v v at) v v' at same.geometry same.vtoc
         (IsLeftInCommit name (volume_in image v) (write_on w.mode w.dsn cs (volume_in image v)) m.state) m m' counts left commits.moments
         (λ files stop. stop.guarded (settled_guarded image (settled_vtoc image (kept w.v v at).settled))) (λ files stop. stop.others))
-        (on_done r kept_now commits.done) (on_done r (λ done. done.durable) commits.done) (on_ok r held_now)
+        (on_done r kept_now commits.done) (on_done r (λ done. done.durable) commits.done) (on_done r held_now commits.done)
 
   abbrev last : Place
   last = last_in image v found.f
@@ -253,5 +262,4 @@ module _ (old new : Facts) (vols : List Vol) (indexes : AreIndexes old.units vol
             ∙ step_same shelf w.v w.dsn (volume_in image v) has.there well
 
         held_here : AreHeld m'.state old.units vols known'
-        held_here = subst (λ (vs : List Vol). AreHeld m'.state old.units vs known') (set_itself vols w.v v at)
-            (held_still m.state m'.state old.units vols known known' w.v v v at indexes.names (λ other apart. ap (λ (fs : List File). file_of fs other) s.state) forgot held)
+        held_here = subst (λ (fs : List File). AreHeld fs old.units vols known') (sym s.state) (held_forgot m.state old.units vols w.v known known' forgot held)

@@ -1,7 +1,7 @@
 -- Which data sets can't be read behind an operation on the shelf.
 use Rattle.std.proofs.Common.{◌≡◌, ◌≢◌, ⊎_elim, inl, inr, ℕ, Bool, true, false, cond, not, ◌&&◌, ◌||◌, List, [], ◌∷◌, map, set, Option, Some, None, refl, sym, ap, subst, ◌∙◌}
 use Rattle.std.specs.Prelude.{◌⊎◌, ◌==◌, nat_lt, option_and_then, slice_get, Result, Ok, Err, filter, find, if◌then◌else◌}
-use Rattle.std.specs.Option.{option_map, option_map_or}
+use Rattle.std.specs.Option.{option_map}
 use Rattle.std.proofs.lemmas.Bool.{cases_Bool}
 use Rattle.std.proofs.lemmas.Bool.Decides.{eqb_tells}
 use Rattle.std.proofs.lemmas.Slice.Eq.{bytes_eq-Decides}
@@ -26,10 +26,9 @@ use Rattle.vol_model.specs.Places.{directory_end, tracks_in}
 use Rattle.vol_model.specs.Shelf.{allocate_on, with_directory, with_entries, emptied, empty_on, empty_set, extend_on, has_name, has_set, if_room, is_catalog, is_partitioned, is_sequential, lacks_room, may_empty, new_attr, new_body, on_choice, on_found, on_volume, organization, refuse, rename_on, rename_refusal, renamed, scratch_on, set_of, step, step_on, unless_refused, volume_number, with_extents, with_name, with_new, with_set, with_volume, without_blocks}
 use Rattle.vol_model.specs.Slots.{slots_needed}
 use Rattle.vol_model.specs.Space.{choice}
-use Rattle.vol_model.specs.Writing.{body_on, set_on}
-use Rattle.shelf_machine.specs.Known.{IsLibraryOf, IsLibraryOn, IsServed, ListsBroken, ListsUnread, followed, library_after}
+use Rattle.vol_model.specs.Writing.{set_on}
+use Rattle.shelf_machine.specs.Known.{IsServed, ListsBroken, ListsUnread, followed}
 use Rattle.shelf_machine.specs.Unread.{broken_at, broken_in, is_of, is_walked, others_of, renamed_in, track_in}
-use Rattle.shelf_machine.specs.declared.library.Library.{Library}
 use Rattle.shelf_machine.specs.declared.unread.Unread.{Unread}
 use Rattle.shelf_machine.proofs.DirectorySteps.{drop_is, enter_is}
 use Rattle.shelf_machine.proofs.FoundByKey.{find_passes, found_changed, found_new, found_old, found_other, none_found, others_none, others_same}
@@ -352,17 +351,3 @@ elsewhere op shelf after done n differs = by (slice_get shelf.volumes (volume_nu
     by : (o : Option Volume) → on_volume shelf (volume_number op) (step_on op) o ≡ Ok after → slice_get after.volumes n ≡ slice_get shelf.volumes n
     by None is = absurd cc
     by (Some w) is = with_it (step_on op w) is
-
--- a library stays that of its data set where its volume stays
-pub library_still : (shelf after : Shelf) (n : ℕ) → slice_get after.volumes n ≡ slice_get shelf.volumes n → (l : Option Library) → IsLibraryOn shelf n l → IsLibraryOn after n l
-unfolding body_on set_on
-library_still shelf after n same None is = tt
-library_still shelf after n same (Some l) is =
-    subst (IsLibraryOf l) (ap (λ (o : Option Volume). option_map_or (λ (x : DataSet). x.body) (option_and_then (set_of l.dsn.bytes) o) bodies.Other) (sym same)) is
-
--- and so it follows an operation that is done
-pub library_kept : (op : Op) (shelf after : Shelf) → step shelf op ≡ Ok after → (n : ℕ) (l : Option Library) → IsLibraryOn shelf n l → IsLibraryOn after n (library_after true op n l)
-library_kept op shelf after done n l is = elim (eqb_tells (volume_number op) n) [
-  | inl e ↦ subst (λ (b : Bool). IsLibraryOn after n (cond b None l)) (sym e.0) tt
-  | inr e ↦ subst (λ (b : Bool). IsLibraryOn after n (cond b None l)) (sym e.0) (library_still shelf after n (elsewhere op shelf after done n e.1) l is)
-]

@@ -1,5 +1,5 @@
 -- What is known of the bodies on several packs, kept through the calls of a machine.
-use Rattle.std.proofs.Common.{◌≡◌, ◌<◌, ◌≤◌, ◌+◌, ⊎_elim, ℕ, zero, suc, Bool, true, false, List, get_or, length, set, Option, Some, None, refl, sym, ap, subst, ◌∙◌, arith}
+use Rattle.std.proofs.Common.{◌≡◌, ◌<◌, ◌≤◌, ◌+◌, ⊎_elim, ℕ, zero, suc, Bool, true, false, List, get_or, length, set, Option, Some, refl, sym, ap, subst, ◌∙◌, arith}
 use Rattle.std.specs.Prelude.{OnOk, Result, Ok, Err, is_ok, option_and_then, slice_get}
 use Rattle.std.proofs.lemmas.Bool.{cases_eq}
 use Rattle.std.proofs.lemmas.List.{length-map}
@@ -8,46 +8,54 @@ use Rattle.free_rebuild.specs.Repairs.{image_named}
 use Rattle.hall_core.specs.Facts.{Attached, unit_of}
 use Rattle.seq_access.specs.Reading.{AreRead, HoldsTrack}
 use Rattle.seq_access.specs.declared.read_buf.Reach.{Reach}
-use Rattle.seq_access.specs.declared.read_buf.ReadBuf.{ReadBuf}
+use Rattle.seq_access.specs.declared.read_buf.Reach.TheVariants.{Nothing}
 use Rattle.stop_model.specs.Files.{File}
 use Rattle.stop_model.specs.Moments.{Meaning}
 use Rattle.ckd_image.specs.declared.header.Geometry.{Geometry}
 use Rattle.vol_model.specs.Calls.{Applies, sound_after}
 use Rattle.vol_model.specs.declared.answers.StoreErr.{StoreErr}
 use Rattle.vol_model.specs.declared.answers.StoreErr.TheVariants as store
-use Rattle.std.specs.Option.{option_map_or}
-use Rattle.vol_model.specs.declared.contents.Body.TheVariants.{Other}
-use Rattle.vol_model.specs.declared.contents.DataSet.{DataSet}
 use Rattle.vol_model.specs.declared.contents.Shelf.{Shelf}
 use Rattle.vol_model.specs.declared.contents.Volume.{Volume}
 use Rattle.vol_model.specs.declared.requests.Op.{Op}
 use Rattle.vol_model.specs.Shelf.{set_of}
-use Rattle.vol_model.specs.Writing.{body_on, set_on}
+use Rattle.vol_model.specs.Writing.{set_on}
 use Rattle.vtoc_index.specs.declared.vol.Vol.{Vol}
 use Rattle.vtoc_sets.specs.Sets.{volume_in}
 use Rattle.shelf_machine.specs.Blocks.{IsOnImage}
 use Rattle.shelf_machine.specs.Machine.{AreIndexes, AreKept, shelf_or_none, shelf_under, units_of}
 use Rattle.shelf_machine.specs.Opening.{images_named, names_of}
 use Rattle.pack_spec.specs.Shelf.{shelf_of}
-use Rattle.shelf_machine.specs.Known.{AllFollow, AreFresh, AreHeld, Follows, HaveBuffers, IsLibraryOf, IsLibraryOn, IsServed, KnowsBodies, KnowsPack, ListsBroken, ListsUnread, buffers_of, followed_if, library_after}
+use Rattle.shelf_machine.specs.Known.{AllFollow, AreFresh, AreHeld, Follows, HaveBuffers, HoldLibraries, HoldsPack, IsFresh, IsServed, KnowsBodies, ListsBroken, ListsUnread, buffers_of, followed_if}
 use Rattle.shelf_machine.specs.Reporting.{reported}
 use Rattle.shelf_machine.specs.declared.known.Known.{Known}
-use Rattle.shelf_machine.specs.Libraries.{IsLibraryIn}
-use Rattle.shelf_machine.specs.declared.library.Library.{Library}
 use Rattle.shelf_machine.specs.Unread.{broken_in}
 use Rattle.shelf_machine.specs.declared.unread.Unread.{Unread}
-use Rattle.shelf_machine.proofs.Following.{library_kept, lists_after}
+use Rattle.shelf_machine.proofs.Following.{lists_after}
 use Rattle.shelf_machine.proofs.Holding.{kept_mounted, volume_there}
 use Rattle.shelf_machine.proofs.ListPlaces.{get_map, get_other, get_set, map_set_same, within}
 
 -- a buffer that holds nothing holds its track
-pub fresh_held : (files : List File) (attached : List Attached) (vols : List Vol) (known : List Known) → AreFresh known → AreHeld files attached vols known
-fresh_held files attached vols known fresh n v b at there = subst (λ (r : Reach). AreRead (image_named files (unit_of attached v.unit).name) r b.buf.records) (sym (fresh n b there).reach) tt
+pub nothing_held : (image : List ℕ) (b : Known) → b.buf.reach ≡ Nothing → HoldsTrack image b.buf
+nothing_held image b none = subst (λ (r : Reach). AreRead image r b.buf.records) (sym none) tt
 
--- and so do all behind an operation
-pub held_after : (files : List File) (attached : List Attached) (vols : List Vol) {op : Op} {is_done : Bool} {old new : List Known} → AllFollow op is_done old new → AreHeld files attached vols new
-held_after files attached vols follow n v b at there =
-    subst (λ (r : ReadBuf). HoldsTrack (image_named files (unit_of attached v.unit).name) r) (sym (follow.each n b there).2.buffer) tt
+-- where neither a track nor a library is held
+pub fresh_pack : (image : List ℕ) (v : Vol) (b : Known) → IsFresh b → HoldsPack image v b
+fresh_pack image v b fresh = record {
+  track = nothing_held image b fresh.reach;
+  libraries = subst (HoldLibraries image v) (sym fresh.libraries) (λ n l there. absurd cc);
+}
+
+pub fresh_held : (files : List File) (attached : List Attached) (vols : List Vol) (known : List Known) → AreFresh known → AreHeld files attached vols known
+fresh_held files attached vols known fresh n v b at there = fresh_pack (image_named files (unit_of attached v.unit).name) v b (fresh n b there)
+
+-- what is held is held behind an operation, too
+pub held_after : (files : List File) (attached : List Attached) (vols : List Vol) {op : Op} {is_done : Bool} {old new : List Known} → AllFollow op is_done old new → AreHeld files attached vols old → AreHeld files attached vols new
+held_after files attached vols follow held n v b at there =
+    let one = follow.each n b there in
+    let was = held n v one.0 at one.1 in
+    let image : List ℕ = image_named files (unit_of attached v.unit).name in
+    subst (HoldsPack image v) (sym one.2.rest) (record { track = was.track; libraries = was.libraries })
 
 -- a pack and its buffer have one geometry
 pub one_geometry : (vols : List Vol) (known : List Known) (n : ℕ) (v : Vol) (b : Known) → HaveBuffers vols known → slice_get vols n ≡ Some v → slice_get known n ≡ Some b → b.buf.records.geometry ≡ v.geometry
@@ -67,18 +75,10 @@ as_many vols known have =
 -- ---- an operation
 
 module _ (op : Op) (is_done : Bool) (shelf after : Shelf) (old new : List Known) (follow : AllFollow op is_done old new) (knows : KnowsBodies shelf old) where
-  pub knows_followed : ((n : ℕ) (unread : List Unread) → ListsUnread shelf n unread → ListsUnread after n (followed_if is_done op n unread))
-      → ((n : ℕ) (l : Option Library) → IsLibraryOn shelf n l → IsLibraryOn after n (library_after is_done op n l)) → KnowsBodies after new
-  knows_followed lists libraries n b there =
+  pub knows_followed : ((n : ℕ) (unread : List Unread) → ListsUnread shelf n unread → ListsUnread after n (followed_if is_done op n unread)) → KnowsBodies after new
+  knows_followed lists n b there =
       let one = follow.each n b there in
-      let was = knows n one.0 one.1 in
-      record {
-        lists = subst (ListsUnread after n) (sym one.2.unread) (lists n one.0.unread.items was.lists);
-        library = subst (IsLibraryOn after n) (sym one.2.library) (libraries n one.0.library was.library);
-      }
-
-same_libraries : (shelf after : Shelf) → after ≡ shelf → (n : ℕ) (l : Option Library) → IsLibraryOn shelf n l → IsLibraryOn after n l
-same_libraries shelf after same n l is = subst (λ (s : Shelf). IsLibraryOn s n l) (sym same) is
+      subst (ListsUnread after n) (sym one.2.unread) (lists n one.0.unread.items (knows n one.0 one.1))
 
 same_lists : (op : Op) (shelf after : Shelf) → after ≡ shelf → (n : ℕ) (unread : List Unread) → ListsUnread shelf n unread → ListsUnread after n unread
 same_lists op shelf after same n unread lists = subst (λ (s : Shelf). ListsUnread s n unread) (sym same) lists
@@ -86,11 +86,11 @@ same_lists op shelf after same n unread lists = subst (λ (s : Shelf). ListsUnre
 pub knows_applied : {T : Type 0} (ran : Result T StoreErr) (op : Op) (is_done : Bool) {old new : Meaning Shelf} {known known' : List Known} → is_done ≡ is_ok ran → AllFollow op is_done known known' → Applies op old new (reported ran)
     → OnOk ran (IsServed op) → sound_after (reported ran) ≡ true → KnowsBodies old.state known → KnowsBodies new.state known'
 knows_applied (Ok x) op is_done {old} {new} {known} {known'} is follow run served sound knows =
-    knows_followed op true old.state new.state known known' (subst (λ (b : Bool). AllFollow op b known known') is follow) knows (λ n unread lists. lists_after op served old.state new.state run.answer n unread lists) (λ n l is. library_kept op old.state new.state run.answer n l is)
+    knows_followed op true old.state new.state known known' (subst (λ (b : Bool). AllFollow op b known known') is follow) knows (λ n unread lists. lists_after op served old.state new.state run.answer n unread lists)
 knows_applied (Err (store.Refused r)) op is_done {old} {new} {known} {known'} is follow run served sound knows =
-    knows_followed op false old.state new.state known known' (subst (λ (b : Bool). AllFollow op b known known') is follow) knows (λ n unread lists. same_lists op old.state new.state run.answer.1 n unread lists) (same_libraries old.state new.state run.answer.1)
+    knows_followed op false old.state new.state known known' (subst (λ (b : Bool). AllFollow op b known known') is follow) knows (λ n unread lists. same_lists op old.state new.state run.answer.1 n unread lists)
 knows_applied (Err store.Memory) op is_done {old} {new} {known} {known'} is follow run served sound knows =
-    knows_followed op false old.state new.state known known' (subst (λ (b : Bool). AllFollow op b known known') is follow) knows (λ n unread lists. same_lists op old.state new.state run.answer n unread lists) (same_libraries old.state new.state run.answer)
+    knows_followed op false old.state new.state known known' (subst (λ (b : Bool). AllFollow op b known known') is follow) knows (λ n unread lists. same_lists op old.state new.state run.answer n unread lists)
 knows_applied (Err store.Device) op is_done is follow run served sound knows = absurd cc
 
 -- ---- pack by pack
@@ -113,7 +113,7 @@ module _ (op : Op) (is_done : Bool) (old : List Known) where
 
   pub follow_next : (now : List Known) (k : ℕ) (a b : Known) → FollowSoFar op is_done old now k → slice_get now k ≡ Some a → Follows op is_done k a b → FollowSoFar op is_done old (set now k b) (k + 1)
   follow_next now k a b so_far there follows = record {
-    buffers = map_set_same (λ (x : Known). x.buf.records.geometry) now k a b there (ap (λ (r : ReadBuf). r.records.geometry) follows.buffer) ∙ so_far.buffers;
+    buffers = map_set_same (λ (x : Known). x.buf.records.geometry) now k a b there (ap (λ (x : Known). x.buf.records.geometry) follows.rest) ∙ so_far.buffers;
     done = λ n x low at. ⊎_elim
         (λ same.
         let this : b ≡ x = some_known (sym (get_set now k a b there) ∙ ap (slice_get (set now k b)) (sym same) ∙ at) in
@@ -153,23 +153,26 @@ module _ (known : List Known) (k : ℕ) (b b' : Known) (there : slice_get known 
   buffers_set vols v have at same =
       map_set_same (λ (x : Known). x.buf.records.geometry) known k b b' there (same ∙ sym (one_geometry vols known k v b have at there)) ∙ have
 
-  pub knows_put : (shelf : Shelf) → KnowsBodies shelf known → KnowsPack shelf k b' → KnowsBodies shelf (set known k b')
-  knows_put shelf knows here = each_set (KnowsPack shelf) knows here
+  pub knows_put : (shelf : Shelf) → KnowsBodies shelf known → ListsUnread shelf k b'.unread.items → KnowsBodies shelf (set known k b')
+  knows_put shelf knows here = each_set (λ n b. ListsUnread shelf n b.unread.items) knows here
 
-  pub knows_set : (shelf : Shelf) → KnowsBodies shelf known → b'.unread.items ≡ b.unread.items → b'.library ≡ b.library → KnowsBodies shelf (set known k b')
-  knows_set shelf knows same library = knows_put shelf knows (record {
-    lists = subst (ListsUnread shelf k) (sym same) (knows k b there).lists;
-    library = subst (IsLibraryOn shelf k) (sym library) (knows k b there).library;
-  })
+  pub knows_set : (shelf : Shelf) → KnowsBodies shelf known → b'.unread.items ≡ b.unread.items → KnowsBodies shelf (set known k b')
+  knows_set shelf knows same = knows_put shelf knows (subst (ListsUnread shelf k) (sym same) (knows k b there))
 
-  pub held_set : (files : List File) (attached : List Attached) (vols : List Vol) (v : Vol) → AreHeld files attached vols known → slice_get vols k ≡ Some v → HoldsTrack (image_named files (unit_of attached v.unit).name) b'.buf
+  pub held_set : (files : List File) (attached : List Attached) (vols : List Vol) (v : Vol) → AreHeld files attached vols known → slice_get vols k ≡ Some v → HoldsPack (image_named files (unit_of attached v.unit).name) v b'
       → AreHeld files attached vols (set known k b')
-  held_set files attached vols v held at here n w x there' is = each_set (λ m y. (u : Vol) → slice_get vols m ≡ Some u → HoldsTrack (image_named files (unit_of attached u.unit).name) y.buf)
+  held_set files attached vols v held at here n w x there' is = each_set (λ m y. (u : Vol) → slice_get vols m ≡ Some u → HoldsPack (image_named files (unit_of attached u.unit).name) u y)
       (λ m y is u at. held m u y at is)
-      (λ u at'. subst (λ (t : Vol). HoldsTrack (image_named files (unit_of attached t.unit).name) b'.buf) (some_vol (sym at ∙ at')) here) n x is w there'
+      (λ u at'. subst (λ (t : Vol). HoldsPack (image_named files (unit_of attached t.unit).name) t b') (some_vol (sym at ∙ at')) here) n x is w there'
     where
       some_vol : {s t : Vol} → Some s ≡ Some t → s ≡ t
       some_vol same = cc
+
+  -- another track of it is held
+  pub held_track : (files : List File) (attached : List Attached) (vols : List Vol) (v : Vol) → AreHeld files attached vols known → slice_get vols k ≡ Some v → b'.libraries.items ≡ b.libraries.items
+      → HoldsTrack (image_named files (unit_of attached v.unit).name) b'.buf → AreHeld files attached vols (set known k b')
+  held_track files attached vols v held at same track =
+      held_set files attached vols v held at (record { track = track; libraries = subst (HoldLibraries (image_named files (unit_of attached v.unit).name) v) (sym same) (held k v b at there).libraries })
 
 -- what is known of the image of an index
 abbrev pub on_image : (files : List File) (attached : List Attached) (vols : List Vol) (known : List Known) (k : ℕ) (v : Vol) (b : Known) → AreIndexes attached vols → AreKept files attached vols
@@ -180,16 +183,10 @@ on_image files attached vols known k v b indexes kept knows held at there = reco
   number = k;
   mounted = kept_mounted files attached vols kept k v at;
   there = volume_there files attached vols (kept_mounted files attached vols kept) indexes.serials k v at;
-  lists = (knows k b there).lists;
-  library = (knows k b there).library;
-  held = held k v b at there;
+  lists = knows k b there;
+  libraries = (held k v b at there).libraries;
+  held = (held k v b at there).track;
 }
-
--- a library of a shelf is one of its volume's
-library_in : (shelf : Shelf) (n : ℕ) (w : Volume) → slice_get shelf.volumes n ≡ Some w → (library : Option Library) → IsLibraryOn shelf n library → IsLibraryIn library w
-unfolding body_on set_on
-library_in shelf n w there None is = tt
-library_in shelf n w there (Some l) is = subst (IsLibraryOf l) (ap (λ (o : Option Volume). option_map_or (λ (x : DataSet). x.body) (option_and_then (set_of l.dsn.bytes) o) Other) there) is
 
 -- the list of a pack has the sets of its image's volume that can't be read
 pub lists_held : (files : List File) (attached : List Attached) (vols : List Vol) (known : List Known) (k : ℕ) (v : Vol) (b : Known) → AreIndexes attached vols → AreKept files attached vols
@@ -197,15 +194,8 @@ pub lists_held : (files : List File) (attached : List Attached) (vols : List Vol
     → ListsBroken (volume_in (image_named files (unit_of attached v.unit).name) v) b.unread.items
 unfolding set_on
 lists_held files attached vols known k v b indexes kept knows at there name =
-    (knows k b there).lists name
+    knows k b there name
     ∙ ap (λ (o : Option Volume). option_and_then broken_in (option_and_then (set_of name) o)) (volume_there files attached vols (kept_mounted files attached vols kept) indexes.serials k v at)
-
--- and its library is that of one of them
-pub library_held : (files : List File) (attached : List Attached) (vols : List Vol) (known : List Known) (k : ℕ) (v : Vol) (b : Known) → AreIndexes attached vols → AreKept files attached vols
-    → KnowsBodies (shelf_under (names_of attached (units_of vols)) files) known → slice_get vols k ≡ Some v → slice_get known k ≡ Some b
-    → IsLibraryIn b.library (volume_in (image_named files (unit_of attached v.unit).name) v)
-library_held files attached vols known k v b indexes kept knows at there =
-    library_in (shelf_under (names_of attached (units_of vols)) files) k (volume_in (image_named files (unit_of attached v.unit).name) v) (volume_there files attached vols (kept_mounted files attached vols kept) indexes.serials k v at) b.library (knows k b there).library
 
 -- ---- the repair
 

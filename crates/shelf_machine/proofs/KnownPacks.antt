@@ -5,7 +5,6 @@ use Rattle.std.proofs.lemmas.List.{length-map}
 use Rattle.ckd_image.specs.declared.header.Geometry.{Geometry}
 use Rattle.free_rebuild.specs.Repairs.{image_named}
 use Rattle.hall_core.specs.Facts.{Attached, unit_of}
-use Rattle.mount_repair.specs.Sets.{names_and_kinds}
 use Rattle.mount_repair.specs.declared.scanned.Scan.{Scan}
 use Rattle.mount_repair.proofs.Lists.{of_push, take_all, take_push}
 use Rattle.stop_model.specs.Files.{File}
@@ -14,7 +13,7 @@ use Rattle.vol_model.specs.Shelf.{set_of}
 use Rattle.vol_model.specs.Writing.{set_on}
 use Rattle.vtoc_index.specs.declared.vol.Vol.{Vol}
 use Rattle.shelf_machine.specs.Checking.{unread_in}
-use Rattle.shelf_machine.specs.Known.{AreFresh, IsFresh, IsLibraryOn, KnowsBodies, buffers_of, geometries_of}
+use Rattle.shelf_machine.specs.Known.{AreFresh, IsFresh, KnowsBodies, buffers_of, geometries_of}
 use Rattle.shelf_machine.specs.Machine.{serials_of, shelf_under, units_of}
 use Rattle.shelf_machine.specs.Opening.{AreApart, names_of}
 use Rattle.shelf_machine.specs.Packs.{AreKnown, AreScanned, AreScansOf, indexes_of}
@@ -81,15 +80,12 @@ module _ (scans : List Scan) (known : List Known) (k : ℕ) (so_far : KnownSoFar
 pub known_bodies : (files : List File) (attached : List Attached) (units : List ℕ) (scans : List Scan) (known : List Known) → AreKnown scans known → AreScanned attached units scans → AreScansOf files attached scans → AreApart (serials_of (indexes_of scans))
     → KnowsBodies (shelf_under (names_of attached (units_of (indexes_of scans))) files) known
 unfolding set_on
-known_bodies files attached units scans known are scanned images apart n b at = record {
-  lists = λ name.
-      let one = are.unread n b at in
-      let s : Scan = one.0 in
-      let image : List ℕ = image_named files (unit_of attached s.vol.unit).name in
-      let here : slice_get (indexes_of scans) n ≡ Some s.vol = get_map (λ (x : Scan). x.vol) scans n s one.1 in
-      let there = volume_there files attached (indexes_of scans) (mounted_scans files attached scans images) apart n s.vol here in
-      let scan = images n s one.1 in
-      ap (λ (l : List Unread). track_in l name) (one.2 ∙ ap unread_in scan.volume) ∙ lists_all image s.vol scan.mounted (scanned.each n s one.1).names name
-      ∙ sym (ap (λ (o : Option Volume). option_and_then broken_in (option_and_then (set_of name) o)) there);
-  library = subst (IsLibraryOn (shelf_under (names_of attached (units_of (indexes_of scans))) files) n) (sym (are.fresh n b at).library) tt;
-}
+known_bodies files attached units scans known are scanned images apart n b at name =
+    let one = are.unread n b at in
+    let s : Scan = one.0 in
+    let image : List ℕ = image_named files (unit_of attached s.vol.unit).name in
+    let here : slice_get (indexes_of scans) n ≡ Some s.vol = get_map (λ (x : Scan). x.vol) scans n s one.1 in
+    let there = volume_there files attached (indexes_of scans) (mounted_scans files attached scans images) apart n s.vol here in
+    let scan = images n s one.1 in
+    ap (λ (l : List Unread). track_in l name) (one.2 ∙ ap unread_in scan.volume) ∙ lists_all image s.vol scan.mounted (scanned.each n s one.1).names name
+    ∙ sym (ap (λ (o : Option Volume). option_and_then broken_in (option_and_then (set_of name) o)) there)

@@ -61,3 +61,14 @@ pub mod FreeRooms
 pub mod LibraryEntries
 pub mod EntryChanges
 pub mod DirectorySteps
+pub mod StandingDirectories
+pub mod StayingDirectories
+pub mod StayingBlocks
+pub mod StayingEntries
+pub mod FirstTracks
+pub mod StayingNewSets
+pub mod HeldOperations
+pub mod HeldNewSets
+pub mod FoundElements
+pub mod HeldEntries
+pub mod OperationsLater

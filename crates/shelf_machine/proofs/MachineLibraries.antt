@@ -1,5 +1,5 @@
 -- What a machine answers of directories, by the libraries that it holds.
-use Rattle.std.proofs.Common.{◌≡◌, Bool, true, false, List, [], Option, None, sym, ap, subst, ◌∙◌, ◌≤◌, ⊎_elim, arith, ℕ, refl}
+use Rattle.std.proofs.Common.{◌≡◌, false, List, [], Option, Some, None, sym, ap, subst, ◌∙◌, ◌≤◌, ⊎_elim, arith, ℕ, refl}
 use Rattle.std.specs.Prelude.{◌⊎◌, IfErr, IfOk, IsErrOf, Result, Ok, Err}
 use Rattle.hall_core.specs.Facts.{Attached}
 use Rattle.stop_model.specs.Files.{File}
@@ -17,7 +17,7 @@ use Rattle.vol_model.specs.declared.answers.ReadErr.TheVariants as errors
 use Rattle.vol_model.specs.declared.contents.Body.{Body}
 use Rattle.vol_model.specs.declared.contents.Entry.{Entry}
 use Rattle.vol_model.specs.Reading.{Picks, directory_size, entries_in}
-use Rattle.shelf_machine.specs.Libraries.{HoldsLibrary, IsAnswered, entries_held, size_by, size_held}
+use Rattle.shelf_machine.specs.Libraries.{HoldsLibrary, IsAnswered, IsHeld, entries_held, size_by, size_held}
 use Rattle.shelf_machine.specs.Machine.{ByFiles, KeepsSafe, LeavesJust, shelf_under, units_of, writer_in}
 use Rattle.shelf_machine.specs.Opening.{names_of}
 use Rattle.shelf_machine.specs.declared.library.Library.{Library}
@@ -28,35 +28,35 @@ use Rattle.shelf_machine.proofs.Settling.{applies_behind, applies_failed}
 use Rattle.shelf_machine.proofs.ReadMachines.{idles_read}
 
 -- the size of a directory
-pub size_is : (held : Result Bool ReadErr) (body : Body) (library : Option Library) → HoldsLibrary held body library → IsAnswered held → size_by held (size_held library) ≡ directory_size body
-size_is (Ok true) body library is answered = ap size_held is.1 ∙ sym (ap directory_size is.2)
-size_is (Ok false) body library is answered = sym is.1
-size_is (Err (errors.Unreadable t)) body library is answered = sym is.1
-size_is (Err errors.Memory) body library is answered = absurd answered
-size_is (Err errors.Device) body library is answered = absurd answered
+pub size_is : (held : Result (Option ℕ) ReadErr) (body : Body) (libraries : ℕ → Option Library) → HoldsLibrary held body libraries → IsAnswered held → size_by held (λ at. size_held (libraries at)) ≡ directory_size body
+size_is (Ok (Some at)) body libraries is answered = ap size_held is.1 ∙ sym (ap directory_size is.2)
+size_is (Ok None) body libraries is answered = sym is.1
+size_is (Err (errors.Unreadable t)) body libraries is answered = sym is.1
+size_is (Err errors.Memory) body libraries is answered = absurd answered
+size_is (Err errors.Device) body libraries is answered = absurd answered
 
 -- what is answered is no fault of the device
-pub answered_sound : (held : Result Bool ReadErr) → IsAnswered held → ¬ IsErrOf held errors.Device
+pub answered_sound : (held : Result (Option ℕ) ReadErr) → IsAnswered held → ¬ IsErrOf held errors.Device
 answered_sound (Ok b) answered is = absurd cc
 answered_sound (Err (errors.Unreadable t)) answered is = absurd cc
 answered_sound (Err errors.Memory) answered is = absurd answered
 answered_sound (Err errors.Device) answered is = absurd answered
 
 -- an entry of the library that is held
-pub picks_entry : (r : Result (Option Entry) ReadErr) (body : Body) (library : Option Library) (pick : List Entry → Option Entry) → HoldsLibrary (Ok true) body library
+pub picks_entry : (r : Result (Option Entry) ReadErr) (body : Body) (library : Option Library) (pick : List Entry → Option Entry) → IsHeld library body
     → IfOk r (λ found. found ≡ pick (entries_held library)) → IfErr r (λ e. e ≡ errors.Memory) → Picks r (entries_in body) pick
 picks_entry (Ok x) body library pick held is memory = subst (λ q. Picks (Ok x) q pick) (sym (ap entries_in held.2)) (is ∙ ap (λ (o : Option Library). pick (entries_held o)) held.1)
 picks_entry (Err e) body library pick held is memory = subst (λ (x : ReadErr). Picks {X = Entry} {L = List Entry} (Err x) (entries_in body) pick) (sym memory) tt
 
 -- none where there is none
-pub picks_nothing : (body : Body) (library : Option Library) (pick : List Entry → Option Entry) → HoldsLibrary (Ok false) body library → pick [] ≡ None → Picks (Ok None) (entries_in body) pick
-picks_nothing body library pick none empty = subst (λ q. Picks (Ok None) q pick) (sym none.0) (sym empty)
+pub picks_nothing : (body : Body) (libraries : ℕ → Option Library) (pick : List Entry → Option Entry) → HoldsLibrary (Ok None) body libraries → pick [] ≡ None → Picks (Ok None) (entries_in body) pick
+picks_nothing body libraries pick none empty = subst (λ q. Picks (Ok None) q pick) (sym none.0) (sym empty)
 
 -- and where it can't be read
-pub picks_unread : (e : ReadErr) (body : Body) (library : Option Library) (pick : List Entry → Option Entry) → HoldsLibrary (Err e) body library → Picks {X = Entry} {L = List Entry} (Err e) (entries_in body) pick
-picks_unread (errors.Unreadable t) body library pick is = is.0
-picks_unread errors.Memory body library pick is = tt
-picks_unread errors.Device body library pick is = tt
+pub picks_unread : (e : ReadErr) (body : Body) (libraries : ℕ → Option Library) (pick : List Entry → Option Entry) → HoldsLibrary (Err e) body libraries → Picks {X = Entry} {L = List Entry} (Err e) (entries_in body) pick
+picks_unread (errors.Unreadable t) body libraries pick is = is.0
+picks_unread errors.Memory body libraries pick is = tt
+picks_unread errors.Device body libraries pick is = tt
 
 -- memory that runs out is no fault of the device
 pub not_device : {T : Type 0} (r : Result T ReadErr) → IfErr r (λ e. e ≡ errors.Memory) → IsErrOf r errors.Device → ⊥

@@ -145,7 +145,8 @@ module _ (before after : List ℕ) (v : Vol) (f : F1) (set : IsSetIn before (bar
           ∙ first_of_some g b t xs end.r last.r low_r now ∙ sym (first_of_some g a t xs end.r last.r low_r was)
           ∙ ap (λ (o : Option ℕ). records_in g a o t) (sym up)
 
-  agree : (k : ℕ) (x : DataSet) (end : Place) → slice_get u.sets k ≡ Some x → end_by x.body ≡ Some end → AgreeUpto g a b (owned_tracks x.extents) end
+  -- each directory has the same records up to its end
+  pub agree : (k : ℕ) (x : DataSet) (end : Place) → slice_get u.sets k ≡ Some x → end_by x.body ≡ Some end → AgreeUpto g a b (owned_tracks x.extents) end
   agree k x end there is = elim (eqb_tells k place.0) [
     | inl w ↦ same w.1
     | inr w ↦ other k x end there w.1

@@ -25,12 +25,12 @@ use Rattle.vol_model.specs.Places.{directory_end, is_before}
 use Rattle.vol_model.specs.Shelf.{allocate_on, is_catalog, is_partitioned, is_sequential, new_body}
 use Rattle.vol_model.specs.Space.{is_in}
 use Rattle.vtoc_index.specs.declared.vol.Vol.{Vol}
-use Rattle.free_rebuild.specs.Operations.{DoesOperation}
+use Rattle.free_rebuild.specs.Operations.{DoesOperation, IsDone}
 use Rattle.free_rebuild.specs.Repairs.{image_named}
 use Rattle.dadsm_ops.specs.Allocating.{DifferBeside, HasDirectory, InNewSet, directory_runs, new_tracks}
 use Rattle.dadsm_ops.specs.Formatting.{IsFormatted}
 use Rattle.dadsm_ops.proofs.FormattedBodies.{new_on}
-use Rattle.pds_directory.proofs.PackedTracks.{AddsSet, ComesFrom, allocate_adds, end_by, new_packed, on_pack, outside, owned_by, owned_some, packed_all, packed_if, packed_one, read_bytes}
+use Rattle.pds_directory.proofs.PackedTracks.{AddsSet, AgreeUpto, ComesFrom, allocate_adds, end_by, new_packed, on_pack, outside, owned_by, owned_some, packed_all, packed_if, packed_one, read_bytes}
 use Rattle.shelf_machine.proofs.PackedVtoc.{IsPackedImage, mounted_place, on_both, packed_of, settled_both, settled_parts}
 
 none_owned : (k t : ℕ) → slice_get (owned_tracks []) k ≡ Some t → ⊥
@@ -92,12 +92,15 @@ module _ (before after : List ℕ) (w w' : Volume) (stands : volume_of before �
             let chosen = (choice_new w q.unit q.contig q.primary adds.runs adds.chosen).once t (once t) in
             omega (arith, chosen, owned_by w once number x there m t own, owned_some adds.runs k t is)
 
-    old_packed : ArePacked before w → (y : DataSet) → ComesFrom w.sets y → HasPacked g b y.extents y.body
-    old_packed packed y from =
+    -- so the tracks of another set have the same records
+    pub agree_old : (y : DataSet) (from : ComesFrom w.sets y) (end : Place) → AgreeUpto g a b (owned_tracks from.set.extents) end
+    agree_old y from end j t low own =
         let once = (lawful_volume before w stands).owned in
-        packed_one before after w stands y from (λ end is j t low own.
         read_bytes g w.vtoc before after (upto_last end j) t
-        (differ.tracks t (not_in t (outside w once from.number from.set from.there j t own)) (not_new from.number from.set from.there j t own))) packed
+        (differ.tracks t (not_in t (outside w once from.number from.set from.there j t own)) (not_new from.number from.set from.there j t own))
+
+    old_packed : ArePacked before w → (y : DataSet) → ComesFrom w.sets y → HasPacked g b y.extents y.body
+    old_packed packed y from = packed_one before after w stands y from (λ end is. agree_old y from end) packed
 
     module _ (directory : HasDirectory after g adds.runs dir) where
       new_is_packed : (k : ℕ) (y : DataSet) → slice_get w'.sets k ≡ Some y → y.extents ≡ adds.runs → y.body ≡ new_body g.device dsn.bytes attr dir → HasPacked g b y.extents y.body
@@ -126,6 +129,18 @@ module _ (before after : List ℕ) (w w' : Volume) (stands : volume_of before �
         | inr old ↦ old_packed packed y old
       ])
 
+-- by the contract of an allocation that is done, the images differ beside the tracks of the new set's directory
+pub differ_new : (name : List ℕ) (dsn : Dsn) (attr : Attr) (q : Request) (dir : ℕ) (v' : Vol) (before : List File) (new : Meaning (List File)) (w : Volume) → volume_of (image_named before name) ≡ Ok w
+    → (done : IsDone name (allocate_on dsn attr q dir w) v' (InNewSet q dir v') before new) → (adds : AddsSet dsn attr q dir w done.after)
+    → DifferBeside w.geometry w.vtoc (directory_runs dir adds.runs) (image_named before name) (image_named new.state name)
+differ_new name dsn attr q dir v' before new w stands done adds =
+    let image : List ℕ = image_named before name in
+    let image' : List ℕ = image_named new.state name in
+    let place = mounted_place image' v' done.after done.index done.stands in
+    subst (λ (g : Geometry). DifferBeside g w.vtoc (directory_runs dir adds.runs) image image') (sym place.0 ∙ adds.geometry)
+    (subst (λ (r : Run). DifferBeside v'.geometry r (directory_runs dir adds.runs) image image') (sym place.1 ∙ adds.vtoc)
+    (subst (λ (rs : List Run). DifferBeside v'.geometry v'.vtoc rs image image') (tracks_are image image' w done.after stands done.stands dsn attr q dir adds) done.changes.image))
+
 -- by the contract of an allocation
 module _ {T E : Type 0} (name : List ℕ) (dsn : Dsn) (attr : Attr) (q : Request) (dir : ℕ) (v' : Vol) (old new : Meaning (List File)) (result : Result T E)
     (directory : OnOk result (HasDirectory (image_named new.state name) v'.geometry (new_tracks q dir (volume_of (image_named old.state name))) dir))
@@ -151,17 +166,11 @@ module _ {T E : Type 0} (name : List ℕ) (dsn : Dsn) (attr : Attr) (q : Request
       let adds = allocate_adds dsn attr q dir w w' done.step in
       let place = mounted_place image' v' w' done.index done.stands in
       let geometry : v'.geometry ≡ w.geometry = sym place.0 ∙ adds.geometry in
-      let vtoc : v'.vtoc ≡ w.vtoc = sym place.1 ∙ adds.vtoc in
       let runs = tracks_are image image' w w' does.before done.stands dsn attr q dir adds in
-      let differ : DifferBeside w.geometry w.vtoc (directory_runs dir adds.runs) image image' =
-      subst (λ (g : Geometry). DifferBeside g w.vtoc (directory_runs dir adds.runs) image image') geometry
-      (subst (λ (r : Run). DifferBeside v'.geometry r (directory_runs dir adds.runs) image image') vtoc
-      (subst (λ (rs : List Run). DifferBeside v'.geometry v'.vtoc rs image image') runs done.changes.image))
-      in
       let has : HasDirectory image' w.geometry adds.runs dir =
       at_runs w.geometry adds.runs (subst (λ (g : Geometry). HasDirectory image' g (directory_runs dir adds.runs) dir) geometry (subst (λ (rs : List Run). HasDirectory image' v'.geometry rs dir) runs written))
       in
-      (w', done.stands, packed_new_set image image' w w' does.before done.stands dsn attr q dir adds differ has (packed_of image w does.before was))) does.done directory
+      (w', done.stands, packed_new_set image image' w w' does.before done.stands dsn attr q dir adds (differ_new name dsn attr q dir v' old.state new w does.before done adds) has (packed_of image w does.before was))) does.done directory
 
   pub new_set_settled : OnOk result (IsSettled image → IsSettled image')
   new_set_settled = on_both result (λ settles packs was.

@@ -18,7 +18,7 @@ use Rattle.vol_model.specs.Writing.{OpenWriter, Wanted, room_for}
 use Rattle.vtoc_index.specs.declared.vol.Vol.{Vol}
 use Rattle.seq_access.specs.declared.writer.PutErr.{PutErr}
 use Rattle.seq_access.specs.declared.writer.PutErr.TheVariants.{Device, NeedExtent, TooLong}
-use Rattle.shelf_machine.specs.Known.{AllFollow, IsServed, KnowsBodies}
+use Rattle.shelf_machine.specs.Known.{AllFollow, AreHeld, IsServed, KnowsBodies}
 use Rattle.shelf_machine.specs.Machine.{KeepsSafe, placed_in, shelf_under, units_of}
 use Rattle.shelf_machine.specs.Opening.{names_of}
 use Rattle.shelf_machine.specs.Operating.{OperatesOnShelf}
@@ -155,14 +155,15 @@ module _ (c : Content) (attached mid : List Attached) (vols vols1 : List Vol) (k
   knows_now sound = knows_applied ran (Extend w.v w.dsn) done is_done follow run.applies (extends_served ran w.v w.dsn) sound knows
 
   -- it isn't done
-  pub puts_unextended : (e : StoreErr) (n : ℕ) → ran ≡ Err e → e ≢ store.Memory → (sound_after (reported ran) ≡ true → IsPendingBy m1 mid vols1 (Some w1)) → PlacesBlock c attached mid vols vols1 known1 w w1 m m1 n n (Err (room_answer e))
-  puts_unextended e n is other pending = record {
+  pub puts_unextended : (e : StoreErr) (n : ℕ) → ran ≡ Err e → e ≢ store.Memory → (sound_after (reported ran) ≡ true → IsPendingBy m1 mid vols1 (Some w1)) → (sound_after (reported ran) ≡ true → AreHeld m1.state mid vols1 known)
+      → PlacesBlock c attached mid vols vols1 known1 w w1 m m1 n n (Err (room_answer e))
+  puts_unextended e n is other pending held = record {
     does = by_does e other (subst (λ (r : Result (Unit {0}) StoreErr). Applies (Extend w.v w.dsn) old now (reported r)) is run.applies);
     records = by_records e is;
     safe = run.safe;
     kept = λ sound. run.kept (still sound);
     pending = λ sound. pending (still sound);
-    held = λ sound. held_after m1.state mid vols1 follow;
+    held = λ sound. held_after m1.state mid vols1 follow (held (still sound));
     bodies = λ sound. knows_now (still sound);
   }
     where

@@ -23,11 +23,11 @@ use Rattle.shelf_machine.specs.Pending.{IsWriterOn, LeavesSpared}
 use Rattle.shelf_machine.specs.Putting.{PutsOn}
 use Rattle.shelf_machine.specs.declared.known.Known.{Known}
 use Rattle.shelf_machine.specs.declared.writer.Writer.{Writer}
-use Rattle.shelf_machine.proofs.ForgottenTracks.{held_still}
+use Rattle.shelf_machine.proofs.ForgottenTracks.{held_still, pack_still}
 use Rattle.shelf_machine.proofs.ListPlaces.{get_set}
 use Rattle.shelf_machine.proofs.Operating.{kept_after, name_there}
 use Rattle.shelf_machine.proofs.Promises.{keeps_safe_by}
-use Rattle.shelf_machine.proofs.Putting.{LeavesBehind, guarded_left, kept_still, shelf_moments, shelf_stays, spared_still}
+use Rattle.shelf_machine.proofs.Putting.{LeavesBehind, directories_still, guarded_left, kept_still, shelf_moments, shelf_stays, spared_still}
 
 some_vol : {a b : Vol} → Some a ≡ Some b → a ≡ b
 some_vol same = cc
@@ -61,5 +61,6 @@ module _ (old new : Facts) (vols : List Vol) (indexes : AreIndexes old.units vol
         subst (λ (x : Vol). IsWriterOn (image_named m'.state (unit_of new.units x.unit).name) x w' × LeavesSpared (unit_of new.units x.unit).name m' x w') same
         (subst (λ (us : List Attached). IsWriterOn (image_named m'.state (unit_of us v.unit).name) v' w' × LeavesSpared (unit_of us v.unit).name m' v' w') (sym units)
         (stands none, spared_still name m v (kept w.v v at) w on spared f there m' leaves names b w' slot));
-    held = λ none. subst (λ (us : List Attached). AreHeld m'.state us (set vols w.v v') known') (sym units) (held_still m.state m'.state old.units vols known known' w.v v v' at indexes.names leaves.here.others forgot held);
+    held = λ none. subst (λ (us : List Attached). AreHeld m'.state us (set vols w.v v') known') (sym units) (held_still m.state m'.state old.units vols known known' w.v v v' at indexes.names refl leaves.here.others forgot.others
+        (pack_still (image_named m.state name) (image_named m'.state name) v v' known known' w.v forgot (directories_still name m v (kept w.v v at) w on spared f there m' leaves names) (λ a is. held w.v v a at is)) held);
   }

@@ -16,20 +16,24 @@ use Rattle.vol_model.specs.Shelf.{put_first}
 use Rattle.vtoc_index.specs.declared.vol.Vol.{Vol}
 use Rattle.vtoc_index.specs.Index.{IsMounted}
 use Rattle.vtoc_index.proofs.KeptLemmas.{kept_of, mounted_of}
+use Rattle.vtoc_sets.specs.Sets.{volume_in}
 use Rattle.seq_access.specs.declared.writer.Writer.{Writer as BlockWriter}
-use Rattle.seq_access.specs.Bodies.{IsLastOf, body_of_set, last_in}
+use Rattle.seq_access.specs.Bodies.{IsLastOf, IsSetIn, body_of_set, last_in}
 use Rattle.seq_access.specs.Writing.{AreSpared, HasSetBy, IsWriting, Spares, puts_in}
 use Rattle.seq_access.proofs.SparedCalls.{differ_by, differ_none}
+use Rattle.seq_access.proofs.SparedSets.{bare}
 use Rattle.seq_access.proofs.WritersKept.{puts_with, set_by, writing_with}
 use Rattle.shelf_machine.specs.Fronts.{BeginsWell}
 use Rattle.shelf_machine.specs.Machine.{IsKeptSettled, shelf_under}
 use Rattle.shelf_machine.specs.Pending.{IsWriterOn, IsWritingBy, LeavesSpared}
 use Rattle.shelf_machine.specs.SparedShelves.{guarded_still, last_same, settled_still, shelf_spared, spared_rebased}
+use Rattle.shelf_machine.specs.Standing.{DirectoriesStay}
 use Rattle.shelf_machine.specs.declared.writer.Writer.{Writer}
 use Rattle.shelf_machine.proofs.PackedBlocks.{pending_image}
 use Rattle.shelf_machine.proofs.PackedImages.{image_packed, packed_image}
 use Rattle.shelf_machine.proofs.Pendings.{by_writing, writing_of}
 use Rattle.shelf_machine.proofs.Promises.{settled_guarded}
+use Rattle.shelf_machine.proofs.StayingBlocks.{pending_stays, pending_volume}
 
 -- What a call leaves that spared the images: what is read, what a stop leaves and what one in it left differ behind the last record of the set alone.
 pub record LeavesBehind (name : List ℕ) (v : Vol) (f : F1) (m m' : Meaning (List File)) : Type 0 where
@@ -112,6 +116,14 @@ module _ (name : List ℕ) (m : Meaning (List File)) (v : Vol) (kept : IsKeptSet
       packed = image_packed (image_named m'.state name)
           (pending_image image (image_named m'.state name) v f (record { set = set_here; slot = w.inner.slot; dscb = there }) last leaves.here.image ends (packed_image image kept.packed));
     }
+
+    -- the directories stay
+    pub directories_still : DirectoriesStay image (image_named m'.state name) (volume_in image v) (volume_in (image_named m'.state name) v)
+    directories_still =
+        let image' : List ℕ = image_named m'.state name in
+        let is_set : IsSetIn image (bare v) f = record { set = set_here; slot = w.inner.slot; dscb = there } in
+        subst (DirectoriesStay image image' (volume_in image v)) (sym (pending_volume image image' v f is_set last leaves.here.image ends))
+        (pending_stays image image' v f is_set last leaves.here.image ends (volume_in image v) set_here.mounted.volume)
 
     -- and what a stop leaves differs from what is read now behind that block alone
     pub spared_still : (b : Buffer) (w' : Writer) → w'.inner.slot ≡ w.inner.slot → LeavesSpared name m' (record v { buf = b }) w'

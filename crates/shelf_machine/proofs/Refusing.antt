@@ -1,21 +1,18 @@
 -- Why a data set of an image isn't emptied, or gets no extents.
 use Rattle.std.proofs.Common.{◌≡◌, ◌≢◌, ◌∙◌, arith, eqb, inl, inr, not, ◌&&◌, ◌||◌, ℕ, suc, Bool, true, false, cond, List, [], ◌∷◌, Option, Some, None, refl, sym, ap, subst}
 use Rattle.std.specs.Prelude.{◌==◌, ◌⊎◌, length, Result, Ok, Err, slice_get}
-use Rattle.std.specs.Option.{option_map_or}
-use Rattle.std.specs.Str.{bytes_eq}
 use Rattle.std.proofs.lemmas.Bool.Decides.{eqb_tells, nat_tests}
-use Rattle.std.proofs.lemmas.Slice.Eq.{bytes_eq-Decides}
 use Rattle.dadsm_ops.proofs.VacantSets.{vacant_front}
 use Rattle.dadsm_ops.specs.Emptying.{MayEmpty}
 use Rattle.pack_spec.specs.Blocks.{last_of}
 use Rattle.pack_spec.specs.Bodies.{body_of}
+use Rattle.pds_directory.specs.Directories.{IsReadablePart, part_in}
 use Rattle.seq_access.proofs.PartReading.{no_members}
 use Rattle.vol_model.specs.declared.contents.Block.{Block}
 use Rattle.vol_model.specs.declared.contents.Entry.{Entry}
 use Rattle.vol_model.specs.declared.contents.Place.{Place}
 use Rattle.vol_model.specs.Places.{is_before}
-use Rattle.shelf_machine.specs.Known.{IsLibraryOf}
-use Rattle.shelf_machine.specs.Libraries.{IsLibraryFor, IsLibraryIn, is_vacant_by, vacancy}
+use Rattle.shelf_machine.specs.Libraries.{IsVacancyOf}
 use Rattle.shelf_machine.specs.declared.library.Library.{Library}
 use Rattle.dadsm_ops.specs.Extending.{HoldsSet, IsReadable}
 use Rattle.dscb_codec.specs.declared.Dscb.{Dscb}
@@ -44,13 +41,15 @@ use Rattle.vol_model.specs.Writing.{set_on}
 use Rattle.vtoc_index.specs.Index.{IsMounted, first_named}
 use Rattle.vtoc_index.specs.Names.{name_at}
 use Rattle.vtoc_index.specs.declared.vol.Vol.{Vol}
-use Rattle.vtoc_sets.specs.Sets.{kind_by, volume_in}
+use Rattle.pds_directory.specs.Directories.{data_in}
+use Rattle.vtoc_sets.specs.Sets.{extents_in, kind_by, volume_in}
 use Rattle.vtoc_sets.specs.declared.sets.BodyKind.TheVariants as kinds
-use Rattle.shelf_machine.specs.Known.{ListsBroken}
+use Rattle.shelf_machine.specs.Known.{HoldLibraries, ListsBroken}
 use Rattle.shelf_machine.specs.Reads.{HasVolume, IsSetOn, set_by}
 use Rattle.shelf_machine.specs.Refusals.{IsReason, IsRefusedBy, empty_refusal, extend_refusal}
 use Rattle.shelf_machine.specs.Unread.{broken_by, track_in}
 use Rattle.shelf_machine.specs.declared.unread.Unread.{Unread}
+use Rattle.shelf_machine.proofs.HeldLibraries.{whole_kind}
 use Rattle.shelf_machine.proofs.Scratching.{name_found}
 use Rattle.shelf_machine.proofs.ShelfSteps.{one_volume}
 use Rattle.shelf_machine.proofs.ShelfReads.{body_here, body_partitioned, is_set, known_set, named, no_set, refused_not, sequential_by}
@@ -121,31 +120,29 @@ may_part name attr body = by (is_catalog name) (eqb_tells (organization attr) 1)
     by false (inr other) v is = absurd (let both : false ≡ true = sym other.0 ∙ is in cc)
     by false (inl one) v is = grind (arith, nat_tests, one.1)
 
-module _ (g : Geometry) (tracks : List (List ℕ)) (name : List ℕ) (attr : Attr) (extents : List Run) (lstar : List ℕ) (library : Option Library)
-    (its : IsLibraryFor library name (body_of g tracks name attr extents lstar)) (part : answers.Part ≡ kind_of (body_of g tracks name attr extents lstar)) where
+module _ (g : Geometry) (tracks : List (List ℕ)) (name : List ℕ) (attr : Attr) (extents : List Run) (lstar : List ℕ) (vacant : Bool)
+    (its : IsVacancyOf (Some vacant) (body_of g tracks name attr extents lstar) lstar) (part : answers.Part ≡ kind_of (body_of g tracks name attr extents lstar)) where
   abbrev whole : Body
   whole = body_of g tracks name attr extents lstar
 
-  vacancy_is : (o : Option Library) → IsLibraryFor o name whole → (b : Bool) → Some b ≡ vacancy o name lstar → is_vacant whole ≡ b
-  vacancy_is None is b told = absurd cc
-  vacancy_is (Some l) is b told = by (bytes_eq l.dsn.bytes name) refl told
-    where
-      by : (t : Bool) → bytes_eq l.dsn.bytes name ≡ t → Some b ≡ cond t (Some (is_vacant_by l lstar)) None → is_vacant whole ≡ b
-      by false other at = absurd cc
-      by true same at =
-          let of = is ((bytes_eq-Decides l.dsn.bytes name).0 same) in
-          let this : b ≡ is_vacant_by l lstar = cc in
-          ap is_vacant of
-          ∙ sym (vacant_is g tracks extents lstar l.blocks l.end l.entries.items (blocks_of whole) (sym (body_partitioned g tracks name attr extents lstar part).0 ∙ of))
-          ∙ sym this
+  vacancy_is : is_vacant whole ≡ vacant
+  vacancy_is =
+      let l : Library = its.0 in
+      ap is_vacant its.1
+      ∙ sym (vacant_is g tracks extents lstar (length l.dir.places.items) l.dir.end l.entries.items (blocks_of whole) (sym (body_partitioned g tracks name attr extents lstar part).0 ∙ its.1))
+      ∙ sym its.2
 
-  pub vacancy_none : Some true ≡ vacancy library name lstar → empty_refusal name attr whole ≡ None
-  vacancy_none told =
-      ap (λ (b : Bool). cond b (unreadable whole) (Some WrongKind)) (may_part name attr whole (body_partitioned g tracks name attr extents lstar part).1 ∙ vacancy_is library its true told)
-      ∙ sym (refused_not whole (λ t is. let both : answers.Part ≡ answers.Unreadable t = part ∙ is in absurd cc))
+  vacancy_told : empty_refusal name attr whole ≡ cond vacant (unreadable whole) (Some WrongKind)
+  vacancy_told = ap (λ (b : Bool). cond b (unreadable whole) (Some WrongKind)) (may_part name attr whole (body_partitioned g tracks name attr extents lstar part).1 ∙ vacancy_is)
 
-  pub vacancy_some : Some false ≡ vacancy library name lstar → empty_refusal name attr whole ≡ Some WrongKind
-  vacancy_some told = ap (λ (b : Bool). cond b (unreadable whole) (Some WrongKind)) (may_part name attr whole (body_partitioned g tracks name attr extents lstar part).1 ∙ vacancy_is library its false told)
+  pub vacancy_none : vacant ≡ true → empty_refusal name attr whole ≡ None
+  vacancy_none is =
+      vacancy_told
+      ∙ ap (λ (b : Bool). cond b (unreadable whole) (Some WrongKind)) is
+      ∙ sym (refused_not whole (λ t bad. let both : answers.Part ≡ answers.Unreadable t = part ∙ bad in absurd cc))
+
+  pub vacancy_some : vacant ≡ false → empty_refusal name attr whole ≡ Some WrongKind
+  vacancy_some is = vacancy_told ∙ ap (λ (b : Bool). cond b (unreadable whole) (Some WrongKind)) is
 
 -- why a set isn't emptied, by the test of its kind
 pub empty_tested : (name : List ℕ) (attr : Attr) (body : Body) (b : Bool) → b ≡ may_empty name attr body → empty_refusal name attr body ≡ cond b (unreadable body) (Some WrongKind)
@@ -197,15 +194,6 @@ module _ (image : List ℕ) (v : Vol) (dsn : Dsn) (mounted : IsMounted image v) 
   unfolding extend_on set_on
   extend_none none = ap (λ (o : Option DataSet). on_found o (extend_set dsn (volume_in image v))) (no_set alone 0 v here dsn.bytes none)
 
-  -- the library that is held of the volume, if it is that of the data set
-  pub library_for : (slot : ℕ) (f : F1) → first_named dsn.bytes v.slots.items ≡ Some slot → slice_get v.slots.items slot ≡ Some (formats.F1 f) → (library : Option Library) → IsLibraryIn library (volume_in image v) → IsLibraryFor library f.name (body_here image v f)
-  unfolding set_on data_set_of
-  library_for slot f first is None held = tt
-  library_for slot f first is (Some l) held = λ same.
-      let set = is_set alone 0 v here dsn.bytes slot f first is in
-      let there : set_of l.dsn.bytes (volume_in image v) ≡ Some (set_by image v f) = ap (λ (n : List ℕ). set_of n (volume_in image v)) (same ∙ named alone 0 v here dsn.bytes f set) ∙ set.1 in
-      subst (IsLibraryOf l) (ap (λ (o : Option DataSet). option_map_or (λ (x : DataSet). x.body) o bodies.Other) there) held
-
   module _ (unread : List Unread) (lists : ListsBroken (volume_in image v) unread) (slot : ℕ) (f : F1) (first : first_named dsn.bytes v.slots.items ≡ Some slot) (is : slice_get v.slots.items slot ≡ Some (formats.F1 f)) where
     set_there : IsSetOn image v (set_on alone 0 dsn.bytes) (Some f)
     set_there = is_set alone 0 v here dsn.bytes slot f first is
@@ -217,6 +205,20 @@ module _ (image : List ℕ) (v : Vol) (dsn : Dsn) (mounted : IsMounted image v) 
     pub set_listed : track_in unread f.name ≡ broken_by f.name (attr_of f) (body_here image v f)
     unfolding set_on
     set_listed = known_set alone 0 v here dsn.bytes f unread set_there lists
+
+    -- a partitioned one that can be read
+    part_there : kind_of (body_here image v f) ≡ answers.Part → IsReadablePart image v f
+    part_there kind =
+        let both = body_partitioned v.geometry (data_in image v) f.name (attr_of f) (extents_in image v f) f.lstar (sym kind) in
+        record {
+          part = record { set = set_there.0.set; slot = slot; dscb = is; partitioned = both.1 };
+          readable = whole_kind (part_in image v f) (ap kind_of (sym both.0) ∙ kind);
+        }
+
+    pub vacancy_there : (o : Option Bool) (libraries : List Library) → ((i : List ℕ) → IsReadablePart i v f → HoldLibraries i v libraries → IsVacancyOf o (part_in i v f) f.lstar)
+        → HoldLibraries image v libraries → kind_of (body_here image v f) ≡ answers.Part → IsVacancyOf o (body_here image v f) f.lstar
+    vacancy_there o libraries told held kind =
+        subst (λ (b : Body). IsVacancyOf o b f.lstar) (sym (body_partitioned v.geometry (data_in image v) f.name (attr_of f) (extents_in image v f) f.lstar (sym kind)).0) (told image (part_there kind) held)
 
     pub empty_told : (attr : Attr) (o : Option Refusal) → o ≡ empty_refusal f.name (attr_of f) (body_here image v f) → IsRefusedFor o (empty_on dsn attr (volume_in image v))
     unfolding empty_on set_on data_set_of

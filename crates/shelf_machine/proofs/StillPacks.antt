@@ -2,7 +2,7 @@
 use Rattle.std.proofs.Common.{◌≡◌, ℕ, List, sym, ap, subst, ◌∙◌, arith}
 use Rattle.std.specs.Prelude.{Result, Ok, Err}
 use Rattle.free_rebuild.specs.Repairs.{image_named}
-use Rattle.hall_core.specs.Facts.{Attached, DeviceCall, Facts, unit_of}
+use Rattle.hall_core.specs.Facts.{Attached, DeviceCall, Facts, NotedCall, ReportedCall, unit_of}
 use Rattle.stop_model.specs.Counts.{Rose}
 use Rattle.stop_model.specs.Files.{File}
 use Rattle.stop_model.specs.Moments.{Meaning}
@@ -44,4 +44,15 @@ device_behind a b c x (Err e) first second = record {
   later = omega (arith, second.later, first.later);
   done = tt;
   failed = subst (λ (n : ℕ). Rose n c.dev_faults) first.done second.failed;
+}
+
+-- a fault that is noted behind other calls
+pub noted_reported : (P S : Type 0) (f0 f1 f2 : Facts) → P → ReportedCall S f0 f1 → NotedCall f1 f2 → Rose f1.dev_faults f2.dev_faults → ReportedCall P f0 f2
+noted_reported P S f0 f1 f2 here call noted rose = record {
+  units = noted.units ∙ call.units;
+  references = noted.references ∙ call.references;
+  prints = noted.prints ∙ call.prints;
+  later = omega (arith, noted.later, call.later);
+  device = λ _. omega (arith, rose, call.later);
+  others = λ no. absurd (no here);
 }

@@ -11,17 +11,17 @@ use Rattle.vol_model.specs.Reading.{kind_of}
 use Rattle.vtoc_index.specs.Index.{IsMounted}
 use Rattle.vtoc_index.specs.declared.vol.Vol.{Vol}
 use Rattle.vtoc_sets.specs.Sets.{volume_in}
-use Rattle.shelf_machine.specs.Known.{IsLibraryOn, ListsUnread}
+use Rattle.shelf_machine.specs.Known.{HoldLibraries, ListsUnread}
 use Rattle.shelf_machine.specs.declared.known.Known.{Known}
 
--- A shelf has the volume of the image under some number; the list has its sets that can't be read, the library is one of its, and the buffer holds its track.
+-- A shelf has the volume of the image under some number; the list has its sets that can't be read, the libraries are those of its sets, and the buffer holds its track.
 pub record IsOnImage (image : List ℕ) (v : Vol) (b : Known) : Type 0 where
   pub shelf : Shelf
   pub number : ℕ
   pub mounted : IsMounted image v
   pub there : slice_get shelf.volumes number ≡ Some (volume_in image v)
   pub lists : ListsUnread shelf number b.unread.items
-  pub library : IsLibraryOn shelf number b.library
+  pub libraries : HoldLibraries image v b.libraries.items
   pub held : HoldsTrack image b.buf
 
 -- A data set of an image is a partitioned one with this body, which can be read.

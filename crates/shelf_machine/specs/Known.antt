@@ -1,5 +1,5 @@
 -- What is known of the bodies on several packs, in this project's profile.
-use Rattle.std.specs.Prelude.{◌≡◌, ◌≢◌, ◌⊎◌, ℕ, ◌==◌, Bool, true, false, List, map, slice_get, Option, Some, None, option_and_then, if◌then◌else◌}
+use Rattle.std.specs.Prelude.{◌≡◌, ◌≢◌, ℕ, ◌==◌, Bool, true, false, List, [], length, map, slice_get, Some, option_and_then, if◌then◌else◌}
 use Rattle.ckd_image.specs.declared.header.Geometry.{Geometry}
 use Rattle.free_rebuild.specs.Repairs.{image_named}
 use Rattle.hall_core.specs.Facts.{Attached, unit_of}
@@ -12,9 +12,11 @@ use Rattle.vol_model.specs.declared.contents.Shelf.{Shelf}
 use Rattle.vol_model.specs.declared.contents.Volume.{Volume}
 use Rattle.vol_model.specs.declared.requests.Op.{Op}
 use Rattle.vol_model.specs.declared.requests.Op.TheVariants.{Allocate, Drop, Empty, Enter, Extend, Rename, Scratch}
-use Rattle.vol_model.specs.Shelf.{blocks_of, set_of, volume_number}
-use Rattle.vol_model.specs.Writing.{body_on, set_on}
+use Rattle.vol_model.specs.Shelf.{blocks_of, set_of}
+use Rattle.vol_model.specs.Writing.{set_on}
 use Rattle.vtoc_index.specs.declared.vol.Vol.{Vol}
+use Rattle.vtoc_sets.specs.Sets.{volume_in}
+use Rattle.shelf_machine.specs.Standing.{IsDirectoryAt}
 use Rattle.shelf_machine.specs.Unread.{broken_in, others_of, renamed_in, track_in}
 use Rattle.shelf_machine.specs.declared.known.Known.{Known}
 use Rattle.shelf_machine.specs.declared.library.Library.{Library}
@@ -28,23 +30,17 @@ ListsBroken w unread = (name : List ℕ) → track_in unread name ≡ option_and
 abbrev pub ListsUnread : Shelf → ℕ → List Unread → Type 0
 ListsUnread shelf n unread = (name : List ℕ) → track_in unread name ≡ option_and_then broken_in (set_on shelf n name)
 
--- a library is that of a partitioned data set with this body
-abbrev pub IsLibraryOf : Library → Body → Type 0
-IsLibraryOf l body = body ≡ Part l.blocks l.end l.entries.items (blocks_of body)
-
--- the library that was read last, if there is one, is that of a data set on the volume of this number
-abbrev pub IsLibraryOn : Shelf → ℕ → Option Library → Type 0
-IsLibraryOn shelf n None = Unit {0}
-IsLibraryOn shelf n (Some l) = IsLibraryOf l (body_on shelf n l.dsn.bytes)
-
--- Of the volume of this number just those sets are listed whose bodies can't be read, and the library that was read last is one of its.
-pub record KnowsPack (shelf : Shelf) (n : ℕ) (b : Known) : Type 0 where
-  pub lists : ListsUnread shelf n b.unread.items
-  pub library : IsLibraryOn shelf n b.library
-
 -- and so for each pack of which something is known
 abbrev pub KnowsBodies : Shelf → List Known → Type 0
-KnowsBodies shelf known = (n : ℕ) (b : Known) → slice_get known n ≡ Some b → KnowsPack shelf n b
+KnowsBodies shelf known = (n : ℕ) (b : Known) → slice_get known n ≡ Some b → ListsUnread shelf n b.unread.items
+
+-- a library is that of a partitioned data set with this body
+abbrev pub IsLibraryOf : Library → Body → Type 0
+IsLibraryOf l body = body ≡ Part (length l.dir.places.items) l.dir.end l.entries.items (blocks_of body)
+
+-- the directories of libraries stand on the image of an index
+abbrev pub HoldLibraries : List ℕ → Vol → List Library → Type 0
+HoldLibraries image v libraries = (n : ℕ) (l : Library) → slice_get libraries n ≡ Some l → IsDirectoryAt image (volume_in image v) l.start l.dir
 
 -- the geometries of packs, and those of buffers
 abbrev pub geometries_of : List Vol → List Geometry
@@ -57,16 +53,21 @@ buffers_of known = map (λ (b : Known). b.buf.records.geometry) known
 abbrev pub HaveBuffers : List Vol → List Known → Type 0
 HaveBuffers vols known = buffers_of known ≡ geometries_of vols
 
--- each buffer holds its track of the pack's image
+-- A buffer holds its track of the image of an index, and the libraries are those of its data sets.
+pub record HoldsPack (image : List ℕ) (v : Vol) (b : Known) : Type 0 where
+  pub track : HoldsTrack image b.buf
+  pub libraries : HoldLibraries image v b.libraries.items
+
+-- and so for each pack
 abbrev pub AreHeld : List File → List Attached → List Vol → List Known → Type 0
 AreHeld files attached vols known = (n : ℕ) (v : Vol) (b : Known) → slice_get vols n ≡ Some v
     → slice_get known n ≡ Some b
-    → HoldsTrack (image_named files (unit_of attached v.unit).name) b.buf
+    → HoldsPack (image_named files (unit_of attached v.unit).name) v b
 
 -- No track is held, and no library.
 pub record IsFresh (b : Known) : Type 0 where
   pub reach : b.buf.reach ≡ Nothing
-  pub library : b.library ≡ None
+  pub libraries : b.libraries.items ≡ []
 
 -- and so of all packs
 abbrev pub AreFresh : List Known → Type 0
@@ -84,16 +85,10 @@ abbrev pub followed_if : Bool → Op → ℕ → List Unread → List Unread
 followed_if true op n unread = followed op n unread
 followed_if false op n unread = unread
 
--- the library that was read last on the pack of this number, behind an operation: one that is done on the pack leaves none
-abbrev pub library_after : Bool → Op → ℕ → Option Library → Option Library
-library_after true op n library = if volume_number op == n then None else library
-library_after false op n library = library
-
--- What is known of the pack of this number behind an operation.
+-- Which data sets of the pack of this number can't be read is known behind an operation, too.
 pub record Follows (op : Op) (is_done : Bool) (n : ℕ) (old new : Known) : Type 0 where
   pub unread : new.unread.items ≡ followed_if is_done op n old.unread.items
-  pub library : new.library ≡ library_after is_done op n old.library
-  pub buffer : new.buf ≡ record old.buf { reach = Nothing }
+  pub rest : new ≡ record old { unread = new.unread }
 
 -- What is known of all packs behind an operation.
 pub record AllFollow (op : Op) (is_done : Bool) (old new : List Known) : Type 0 where
@@ -101,17 +96,18 @@ pub record AllFollow (op : Op) (is_done : Bool) (old new : List Known) : Type 0 
   pub each : (n : ℕ) (b : Known) → slice_get new n ≡ Some b
       → (a : Known) × (slice_get old n ≡ Some a) × Follows op is_done n a b
 
--- No track is held any more of the pack of this number, and its library may be forgotten, too; the rest of what is known stays.
+-- Which data sets can't be read is known as before, and the buffers have the same geometries.
+pub record KeepsLists (old new : List Known) : Type 0 where
+  pub buffers : buffers_of new ≡ buffers_of old
+  pub unread : (n : ℕ) (b : Known) → slice_get new n ≡ Some b → (a : Known) × (slice_get old n ≡ Some a) × (b.unread.items ≡ a.unread.items)
+
+-- No track is held any more of the pack of this number; the rest of what is known stays.
 pub record ForgetsOn (k : ℕ) (old new : List Known) : Type 0 where
   pub buffers : buffers_of new ≡ buffers_of old
-  pub unread : (n : ℕ) (b : Known) → slice_get new n ≡ Some b → (a : Known) × (slice_get old n ≡ Some a)
-      × (b.unread.items ≡ a.unread.items) × ((b.library ≡ a.library) ⊎ (b.library ≡ None))
+  pub rest : (n : ℕ) (b : Known) → slice_get new n ≡ Some b → (a : Known) × (slice_get old n ≡ Some a)
+      × (b.unread.items ≡ a.unread.items) × (b.libraries.items ≡ a.libraries.items)
   pub others : (n : ℕ) → n ≢ k → slice_get new n ≡ slice_get old n
   pub here : (b : Known) → slice_get new k ≡ Some b → b.buf.reach ≡ Nothing
-
--- no library of the pack of this number is held
-abbrev pub HasNoLibrary : ℕ → List Known → Type 0
-HasNoLibrary k known = (b : Known) → slice_get known k ≡ Some b → b.library ≡ None
 
 -- the operations that are done on packs yet
 abbrev pub IsServed : Op → Type 0

@@ -17,8 +17,10 @@ pub mod Parts
 pub mod Opened
 pub mod Unread
 pub mod LibraryProps
+pub mod Standing
 pub mod Known
 pub mod Libraries
+pub mod NewSets
 pub mod Checking
 pub mod Blocks
 pub mod Refusals

@@ -16,11 +16,8 @@ use Rattle.track_records.specs.Buffers.{Buffer}
 use Rattle.vtoc_index.specs.declared.vol.Vol.{Vol}
 use Rattle.vol_model.specs.declared.contents.Body.{Body}
 use Rattle.vol_model.specs.declared.contents.Body.TheVariants as bodies
-use Rattle.vol_model.specs.declared.contents.Shelf.{Shelf}
 use Rattle.shelf_machine.specs.Fronts.{BeginsWell}
-use Rattle.shelf_machine.specs.Known.{IsLibraryOn}
 use Rattle.shelf_machine.specs.Pending.{HasSlot, IsPendingBy}
-use Rattle.shelf_machine.specs.declared.library.Library.{Library}
 use Rattle.shelf_machine.specs.declared.writer.Writer.{Writer}
 
 pub AreApartFrom-prop : (low : ℕ) (rs : List Run) → IsProp (AreApartFrom low rs)
@@ -61,9 +58,4 @@ pub HasSlot-prop : (vols : List Vol) (w : Option Writer) → IsProp (HasSlot vol
 HasSlot-prop vols None = Prim.hlevel props
 HasSlot-prop vols (Some w) = Prim.hlevel props
 
--- and so has that a library is that of a data set of a shelf
-pub IsLibraryOn-prop : (shelf : Shelf) (n : ℕ) (l : Option Library) → IsProp (IsLibraryOn shelf n l)
-IsLibraryOn-prop shelf n None = Prim.hlevel props
-IsLibraryOn-prop shelf n (Some l) = Prim.hlevel props
-
-pub ruleset shelf_props = (AreApartFrom-prop, EndBy-prop, AreRead-prop, IsPendingBy-prop, HasSlot-prop, IsLibraryOn-prop, kept_props)
+pub ruleset shelf_props = (AreApartFrom-prop, EndBy-prop, AreRead-prop, IsPendingBy-prop, HasSlot-prop, kept_props)

@@ -14,10 +14,10 @@ ghost use Rattle.shelf_machine.specs.Opening.{names_of};
 ghost use Rattle.shelf_machine.specs.Pending.{HasSlot, IsPendingBy};
 ghost use Rattle.shelf_machine.specs.PutBlocks.{shelf_on};
 
-use crate::known::Known;
+use crate::known::{Known, forget_on};
 use crate::puts::place_ends;
 use crate::writer::Writer;
-use crate::writing::{abandoned, forget_pack};
+use crate::writing::abandoned;
 use hall_core::{Device, Hall};
 use seq_access::commit;
 use vol_model::MachErr;
@@ -117,7 +117,7 @@ fn commit_on<H: Hall>(
     ensures faults { DeviceCall (H.facts hall.old) (H.facts hall.new) result }
 {
     let k = usize::from(writer.v);
-    forget_pack(known, k);
+    forget_on(known, k);
     if writer.inner.blocks == 0 {
         hall.sync()?;
         return Ok(());

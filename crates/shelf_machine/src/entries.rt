@@ -1,13 +1,16 @@
 //! Entries of the directories on the packs of a shelf.
-ghost use Rattle.std.specs.Prelude.{◌≡◌, ◌≢◌, ℕ, List, true, slice_get, Err, IfErr, IfOk, IsTrue, Result, Some};
+ghost use Rattle.std.specs.Prelude.{◌≡◌, ◌≢◌, ℕ, List, true, slice_get, Err, IfErr, IfOk, IsTrue, OnErr, Result, Some};
 ghost use Rattle.dscb_codec.specs.declared.Dscb.{Dscb};
 ghost use Rattle.dscb_codec.specs.declared.F1.{F1};
 ghost use Rattle.free_rebuild.specs.Operations.{StoreCall};
 ghost use Rattle.free_rebuild.specs.Repairs.{image_named};
 ghost use Rattle.hall_core.specs.Facts.{Attached, unit_of};
 ghost use Rattle.hall_core.specs.Images.{image_in};
-ghost use Rattle.pds_directory.specs.Directories.{IsReadablePart};
+ghost use Rattle.chain_spec.specs.Kept.{joined, kept};
+ghost use Rattle.pack_spec.specs.Directories.{name_number};
+ghost use Rattle.pds_directory.specs.Directories.{IsLawfulDir, IsReadablePart, entries_read};
 ghost use Rattle.pds_directory.specs.Packed.{are_packed};
+ghost use Rattle.seq_access.specs.declared.read_buf.Reach.{Reach};
 ghost use Rattle.stop_model.specs.Moments.{IsDurable};
 ghost use Rattle.vol_model.specs.Calls.{sound_after};
 ghost use Rattle.vol_model.specs.Lawful.{IsLawfulEntry};
@@ -21,18 +24,22 @@ ghost use Rattle.vtoc_index.specs.Index.{IsMounted, IsOfUnit, first_named};
 ghost use Rattle.vtoc_index.specs.Kept.{IsKept};
 ghost use Rattle.vtoc_index.specs.Names.{AreByName, name_at};
 ghost use Rattle.vtoc_sets.specs.Sets.{volume_in};
-ghost use Rattle.shelf_machine.specs.Entries.{ChangesEntries};
-ghost use Rattle.shelf_machine.specs.Known.{HaveBuffers, KnowsBodies, ListsBroken, geometries_of};
+ghost use Rattle.shelf_machine.specs.Entries.{ChangesEntries, IsPutBack, answer_to};
+ghost use Rattle.shelf_machine.specs.Known.{AreHeld, HaveBuffers, HoldLibraries, KeepsLists, KnowsBodies, ListsBroken, geometries_of};
 ghost use Rattle.shelf_machine.specs.Machine.{AreIndexes, AreInOrder, AreKept, base_of, shelf_under, units_of};
 ghost use Rattle.shelf_machine.specs.Opening.{names_of};
 ghost use Rattle.shelf_machine.specs.Operating.{IsSamePack, OperatesOnShelf};
 ghost use Rattle.shelf_machine.specs.Reporting.{reported};
 
 use crate::known::Known;
+use crate::libraries::{keep, take_library};
+use crate::library::Library;
 use crate::reads::write_refusal_in;
 use crate::refusals::slot_of;
+use dscb_codec::F1;
 use ebcdic_names::{Dsn, Name8};
 use hall_core::Hall;
+use pds_directory::{Dir, DirEntry};
 use std::alloc::Global;
 use stow_ops::{drop_entry, enter};
 use vol_model::{Entry, Mode, Refusal, StoreErr};
@@ -43,7 +50,7 @@ pub(crate) fn enter_on<H: Hall>(
     alloc: Global,
     hall: &mut H,
     vols: &mut Vec<Vol>,
-    known: &Vec<Known>,
+    known: &mut Vec<Known>,
     v: u8,
     dsn: &Dsn,
     entry: &Entry,
@@ -54,11 +61,13 @@ pub(crate) fn enter_on<H: Hall>(
     requires kept { IsTrue H.tells
         → AreKept (H.meaning hall.old).state (H.facts hall.old).units vols.old.items }
     requires durable { IsTrue H.tells → IsDurable (H.meaning hall.old) }
-    requires buffers { HaveBuffers vols.old.items known.now.items }
+    requires buffers { HaveBuffers vols.old.items known.old.items }
     requires bodies { IsTrue H.tells → KnowsBodies
         (shelf_under (names_of (H.facts hall.old).units (units_of vols.old.items)) (H.meaning hall.old).state)
-        known.now.items }
+        known.old.items }
     requires entry { IsLawfulEntry entry.now }
+    requires held { IsTrue H.tells → AreHeld (H.meaning hall.old).state
+        (H.facts hall.old).units vols.old.items known.old.items }
     ensures shelf { let names = names_of (H.facts hall.old).units (units_of vols.old.items) in
         let names' = names_of (H.facts hall.new).units (units_of vols.new.items) in
         IsTrue H.tells → OperatesOnShelf (Op.Enter v dsn.now entry.now replace) names names'
@@ -69,13 +78,24 @@ pub(crate) fn enter_on<H: Hall>(
     ensures base { base_of (H.facts hall.new) vols.new.items
         ≡ base_of (H.facts hall.old) vols.old.items }
     ensures geometries { geometries_of vols.new.items ≡ geometries_of vols.old.items }
+    ensures held { IsTrue H.tells → sound_after (reported result) ≡ true → AreHeld (H.meaning hall.new).state
+        (H.facts hall.new).units vols.new.items known.new.items }
+    ensures known { KeepsLists known.old.items known.new.items }
     ensures faults { StoreCall (H.facts hall.old) (H.facts hall.new) result }
 {
     let k = usize::from(v);
     if k >= vols.len() {
         return Err(StoreErr::Refused(Refusal::NoVolume));
     }
-    enter_set(alloc, hall, &mut vols[k], &known[k], dsn, entry, replace)
+    enter_set(
+        alloc,
+        hall,
+        &mut vols[k],
+        &mut known[k],
+        dsn,
+        entry,
+        replace,
+    )
 }
 
 // Puts an entry into the directory of a data set of a volume.
@@ -83,7 +103,7 @@ fn enter_set<H: Hall>(
     alloc: Global,
     hall: &mut H,
     vol: &mut Vol,
-    known: &Known,
+    known: &mut Known,
     dsn: &Dsn,
     entry: &Entry,
     replace: bool,
@@ -93,7 +113,10 @@ fn enter_set<H: Hall>(
     requires mounted { let image = image_in (H.meaning hall.old) (H.facts hall.old) vol.old.unit in
         IsTrue H.tells → IsMounted image vol.old }
     requires bodies { let image = image_in (H.meaning hall.old) (H.facts hall.old) vol.old.unit in
-        IsTrue H.tells → ListsBroken (volume_in image vol.old) known.now.unread.items }
+        IsTrue H.tells → ListsBroken (volume_in image vol.old) known.old.unread.items }
+    requires buffer { known.old.buf.records.geometry ≡ vol.old.geometry }
+    requires libraries { let image = image_in (H.meaning hall.old) (H.facts hall.old) vol.old.unit in
+        IsTrue H.tells → HoldLibraries image vol.old known.old.libraries.items }
     requires packed { let image = image_in (H.meaning hall.old) (H.facts hall.old) vol.old.unit in
         IsTrue H.tells → are_packed image ≡ true }
     requires durable { IsTrue H.tells → IsDurable (H.meaning hall.old) }
@@ -106,12 +129,29 @@ fn enter_set<H: Hall>(
         → (e : StoreErr) → result ≡ Err e → e ≢ StoreErr.Device
         → IsKept (image_named (H.meaning hall.old).state name) vol.new }
     ensures others { vol.new ≡ record vol.old { buf = vol.new.buf } }
+    ensures libraries { let image' = image_in (H.meaning hall.new) (H.facts hall.new) vol.old.unit in
+        IsTrue H.tells → sound_after (reported result) ≡ true
+        → HoldLibraries image' vol.new known.new.libraries.items }
+    ensures unread { known.new.unread ≡ known.old.unread }
+    ensures buffer { known.new.buf.records.geometry ≡ vol.old.geometry }
+    ensures reach { known.new.buf.reach ≡ Reach.Nothing }
     ensures faults { StoreCall (H.facts hall.old) (H.facts hall.new) result }
 {
-    match slot_of_library(vol, known, dsn) {
-        Ok(slot) => enter(alloc, hall, vol, slot, entry, replace),
-        Err(refusal) => Err(StoreErr::Refused(refusal)),
-    }
+    known.buf.forget();
+    let (slot, set) = match slot_of_library(vol, known, dsn) {
+        Ok(found) => found,
+        Err(refusal) => return Err(StoreErr::Refused(refusal)),
+    };
+    let Library {
+        start,
+        mut dir,
+        entries,
+    } = match take_library(alloc, hall, vol, known, slot, &set) {
+        Ok(library) => library,
+        Err(error) => return Err(error),
+    };
+    let entered = enter(alloc, hall, vol, slot, &mut dir, entry, replace);
+    put_back(&mut known.libraries, start, dir, entries, entered)
 }
 
 // Takes the entry of a name out of the directory of a data set on the pack of this number.
@@ -119,7 +159,7 @@ pub(crate) fn drop_on<H: Hall>(
     alloc: Global,
     hall: &mut H,
     vols: &mut Vec<Vol>,
-    known: &Vec<Known>,
+    known: &mut Vec<Known>,
     v: u8,
     dsn: &Dsn,
     name: &Name8,
@@ -129,10 +169,12 @@ pub(crate) fn drop_on<H: Hall>(
     requires kept { IsTrue H.tells
         → AreKept (H.meaning hall.old).state (H.facts hall.old).units vols.old.items }
     requires durable { IsTrue H.tells → IsDurable (H.meaning hall.old) }
-    requires buffers { HaveBuffers vols.old.items known.now.items }
+    requires buffers { HaveBuffers vols.old.items known.old.items }
     requires bodies { IsTrue H.tells → KnowsBodies
         (shelf_under (names_of (H.facts hall.old).units (units_of vols.old.items)) (H.meaning hall.old).state)
-        known.now.items }
+        known.old.items }
+    requires held { IsTrue H.tells → AreHeld (H.meaning hall.old).state
+        (H.facts hall.old).units vols.old.items known.old.items }
     ensures shelf { let names = names_of (H.facts hall.old).units (units_of vols.old.items) in
         let names' = names_of (H.facts hall.new).units (units_of vols.new.items) in
         IsTrue H.tells → OperatesOnShelf (Op.Drop v dsn.now name.now) names names'
@@ -143,13 +185,16 @@ pub(crate) fn drop_on<H: Hall>(
     ensures base { base_of (H.facts hall.new) vols.new.items
         ≡ base_of (H.facts hall.old) vols.old.items }
     ensures geometries { geometries_of vols.new.items ≡ geometries_of vols.old.items }
+    ensures held { IsTrue H.tells → sound_after (reported result) ≡ true → AreHeld (H.meaning hall.new).state
+        (H.facts hall.new).units vols.new.items known.new.items }
+    ensures known { KeepsLists known.old.items known.new.items }
     ensures faults { StoreCall (H.facts hall.old) (H.facts hall.new) result }
 {
     let k = usize::from(v);
     if k >= vols.len() {
         return Err(StoreErr::Refused(Refusal::NoVolume));
     }
-    drop_from(alloc, hall, &mut vols[k], &known[k], dsn, name)
+    drop_from(alloc, hall, &mut vols[k], &mut known[k], dsn, name)
 }
 
 // Takes the entry of a name out of the directory of a data set of a volume.
@@ -157,7 +202,7 @@ fn drop_from<H: Hall>(
     alloc: Global,
     hall: &mut H,
     vol: &mut Vol,
-    known: &Known,
+    known: &mut Known,
     dsn: &Dsn,
     name: &Name8,
 ) -> Result<(), StoreErr>
@@ -166,7 +211,10 @@ fn drop_from<H: Hall>(
     requires mounted { let image = image_in (H.meaning hall.old) (H.facts hall.old) vol.old.unit in
         IsTrue H.tells → IsMounted image vol.old }
     requires bodies { let image = image_in (H.meaning hall.old) (H.facts hall.old) vol.old.unit in
-        IsTrue H.tells → ListsBroken (volume_in image vol.old) known.now.unread.items }
+        IsTrue H.tells → ListsBroken (volume_in image vol.old) known.old.unread.items }
+    requires buffer { known.old.buf.records.geometry ≡ vol.old.geometry }
+    requires libraries { let image = image_in (H.meaning hall.old) (H.facts hall.old) vol.old.unit in
+        IsTrue H.tells → HoldLibraries image vol.old known.old.libraries.items }
     requires packed { let image = image_in (H.meaning hall.old) (H.facts hall.old) vol.old.unit in
         IsTrue H.tells → are_packed image ≡ true }
     requires durable { IsTrue H.tells → IsDurable (H.meaning hall.old) }
@@ -178,23 +226,82 @@ fn drop_from<H: Hall>(
         → (e : StoreErr) → result ≡ Err e → e ≢ StoreErr.Device
         → IsKept (image_named (H.meaning hall.old).state name) vol.new }
     ensures others { vol.new ≡ record vol.old { buf = vol.new.buf } }
+    ensures libraries { let image' = image_in (H.meaning hall.new) (H.facts hall.new) vol.old.unit in
+        IsTrue H.tells → sound_after (reported result) ≡ true
+        → HoldLibraries image' vol.new known.new.libraries.items }
+    ensures unread { known.new.unread ≡ known.old.unread }
+    ensures buffer { known.new.buf.records.geometry ≡ vol.old.geometry }
+    ensures reach { known.new.buf.reach ≡ Reach.Nothing }
     ensures faults { StoreCall (H.facts hall.old) (H.facts hall.new) result }
 {
-    match slot_of_library(vol, known, dsn) {
-        Ok(slot) => drop_entry(alloc, hall, vol, slot, name),
-        Err(refusal) => Err(StoreErr::Refused(refusal)),
+    known.buf.forget();
+    let (slot, set) = match slot_of_library(vol, known, dsn) {
+        Ok(found) => found,
+        Err(refusal) => return Err(StoreErr::Refused(refusal)),
+    };
+    let Library {
+        start,
+        mut dir,
+        entries,
+    } = match take_library(alloc, hall, vol, known, slot, &set) {
+        Ok(library) => library,
+        Err(error) => return Err(error),
+    };
+    let dropped = drop_entry(alloc, hall, vol, slot, &mut dir, name);
+    put_back(&mut known.libraries, start, dir, entries, dropped)
+}
+
+// Puts a library back behind the others, with the entries that it had or those that a change of it gave, and gives what the
+// change answered.
+fn put_back(
+    libraries: &mut Vec<Library>,
+    start: u16,
+    dir: Dir,
+    entries: Vec<DirEntry>,
+    changed: Result<Vec<DirEntry>, StoreErr>,
+) -> Result<(), StoreErr>
+    requires lawful { IsLawfulDir dir }
+    requires now { IfOk changed (λ list. list.items ≡ kept name_number (joined (entries_read dir))) }
+    requires before { OnErr changed (entries.items ≡ kept name_number (joined (entries_read dir))) }
+    ensures answer { result ≡ answer_to changed }
+    ensures libraries { IsPutBack start dir libraries.old.items libraries.new.items }
+{
+    match changed {
+        Ok(entries) => {
+            keep(
+                libraries,
+                Library {
+                    start,
+                    dir,
+                    entries,
+                },
+            );
+            Ok(())
+        }
+        Err(error) => {
+            keep(
+                libraries,
+                Library {
+                    start,
+                    dir,
+                    entries,
+                },
+            );
+            Err(error)
+        }
     }
 }
 
-// The slot of the partitioned data set of this name, whose body can be read, or why it has no directory to change.
-fn slot_of_library(vol: &Vol, known: &Known, dsn: &Dsn) -> Result<u32, Refusal>
+// The slot of the partitioned data set of this name, whose body can be read, and its format 1, or why it has no directory to
+// change.
+fn slot_of_library(vol: &Vol, known: &Known, dsn: &Dsn) -> Result<(u32, F1), Refusal>
     requires unit { (units : List Attached) × IsOfUnit units vol.now }
     requires names { AreByName (name_at vol.now.slots.items) vol.now.by_name.items }
-    ensures slot { IfOk result (λ slot. first_named dsn.now.bytes vol.now.slots.items ≡ Some slot) }
-    ensures part { IfOk result (λ slot. (image : List ℕ) (f : F1)
-        → slice_get vol.now.slots.items slot ≡ Some (Dscb.F1 f) → IsMounted image vol.now
+    ensures slot { IfOk result (λ p. first_named dsn.now.bytes vol.now.slots.items ≡ Some p.0) }
+    ensures set { IfOk result (λ p. slice_get vol.now.slots.items p.0 ≡ Some (Dscb.F1 p.1)) }
+    ensures part { IfOk result (λ p. (image : List ℕ) → IsMounted image vol.now
         → ListsBroken (volume_in image vol.now) known.now.unread.items
-        → (f.name ≡ dsn.now.bytes) × IsReadablePart image vol.now f) }
+        → (p.1.name ≡ dsn.now.bytes) × IsReadablePart image vol.now p.1) }
     ensures refused { IfErr result (λ r. (image : List ℕ)
         (operation : ℕ → List Entry → Result Volume Refusal) → IsMounted image vol.now
         → ListsBroken (volume_in image vol.now) known.now.unread.items
@@ -204,7 +311,7 @@ fn slot_of_library(vol: &Vol, known: &Known, dsn: &Dsn) -> Result<u32, Refusal>
         return Err(refusal);
     }
     match slot_of(vol, dsn) {
-        Some((slot, _)) => Ok(slot),
+        Some(found) => Ok(found),
         None => Err(Refusal::NoSet),
     }
 }

@@ -96,7 +96,7 @@ fn front_on<H: Hall>(
     ensures buffer { known.new.buf.records.geometry ≡ vol.old.geometry }
     ensures vol { vol.new ≡ vol.old }
     ensures unread { known.new.unread ≡ known.old.unread }
-    ensures library { known.new.library ≡ known.old.library }
+    ensures libraries { known.new.libraries ≡ known.old.libraries }
     ensures held { let image = image_in (H.meaning hall.old) (H.facts hall.old) vol.old.unit in
         IsTrue H.tells → HoldsTrack image known.new.buf }
     ensures same { IsTrue H.tells → Same (H.meaning hall.old) (H.meaning hall.new) }

@@ -1,20 +1,23 @@
-//! The directories of the partitioned data sets of several packs. Of each pack the one that was read last is held.
-ghost use Rattle.std.specs.Prelude.{◌≡◌, IsTrue, IsErrOf, IfErr, IfOk, IfSome, Some, find, slice_get};
+//! The directories of the partitioned data sets of several packs, each held from its first reading on.
+ghost use Rattle.std.specs.Prelude.{◌≡◌, ◌==◌, ◌++◌, ℕ, List, [], ◌∷◌, length, IsTrue, IsErrOf, IfErr, IfOk, IfSome, None, OnErr, Some, find, position, slice_get};
 ghost use Rattle.std.specs.List.{AllByRecursion};
 ghost use Rattle.std.specs.Option.{option_copied};
-ghost use Rattle.hall_core.specs.Facts.{DeviceCall, ReportedCall};
+ghost use Rattle.hall_core.specs.Facts.{Attached, DeviceCall, ReportedCall};
 ghost use Rattle.hall_core.specs.Images.{image_in};
 ghost use Rattle.stop_model.specs.Moments.{Same};
-ghost use Rattle.pds_directory.specs.Directories.{IsLawfulDir, IsPartIn};
+ghost use Rattle.pds_directory.specs.Directories.{IsLawfulDir, IsPartIn, IsReadablePart, owned_in};
 ghost use Rattle.seq_access.specs.Bodies.{end_in, part_in};
 ghost use Rattle.seq_access.specs.Reading.{HoldsTrack};
 ghost use Rattle.vol_model.specs.Lawful.{IsLawfulEntry};
 ghost use Rattle.vol_model.specs.Writing.{body_on};
+ghost use Rattle.vol_model.specs.declared.answers.StoreErr.{StoreErr};
+ghost use Rattle.vol_model.specs.declared.refusals.Refusal.{Refusal};
 ghost use Rattle.vtoc_index.specs.Index.{IsOfUnit};
 ghost use Rattle.vtoc_index.specs.Names.{AreByName, name_at};
+ghost use Rattle.dadsm_ops.specs.Operations.{StoreCall};
 ghost use Rattle.shelf_machine.specs.Blocks.{IsOnImage, IsPartOn};
-ghost use Rattle.shelf_machine.specs.Known.{AreHeld, HaveBuffers, IsLibraryOn, KnowsBodies};
-ghost use Rattle.shelf_machine.specs.Libraries.{HoldsLibrary, HoldsPart, IsAnswered, IsLent, IsMadeFrom, IsOfDir, ReadsLibrary, end_named, entries_held, entry_has, is_named, is_vacant_by, library_at, size_by, size_held, vacancy};
+ghost use Rattle.shelf_machine.specs.Known.{AreHeld, HaveBuffers, HoldLibraries, KnowsBodies};
+ghost use Rattle.shelf_machine.specs.Libraries.{AreOthers, HoldsLibrary, HoldsPart, IsAnswered, IsKeptBehind, IsLent, IsLibraryAt, IsMadeFrom, IsVacancyOf, ReadsLibrary, entries_held, entry_has, is_vacant_by, library_at, library_from, size_by, size_held};
 ghost use Rattle.shelf_machine.specs.Machine.{AreIndexes, AreInOrder, AreKept, shelf_under, units_of};
 ghost use Rattle.shelf_machine.specs.Opening.{names_of};
 
@@ -25,15 +28,16 @@ use crate::refusals::slot_of;
 use dscb_codec::{Dscb, F1};
 use ebcdic_names::{Dsn, Name8};
 use hall_core::{Device, Hall};
-use pds_directory::{Dir, DirEntry, copy_of, find_end, read_dir};
+use pds_directory::{Dir, DirEntry, copy_of, find_end, read_dir, track_at};
 use seq_access::{Reach, ReadBuf, is_before, last_of};
 use sorted_chain::kept;
 use std::alloc::Global;
 use std::mem;
-use vol_model::{Entry, Kind, Place, ReadErr, WorkErr};
+use vol_model::{Entry, Kind, Place, ReadErr, StoreErr, WorkErr};
 use vtoc_index::Vol;
 
-// Holds the directory of a partitioned data set; false where the data set has none.
+// Holds the directory of a partitioned data set: its number among those that are held of the pack; `None` where the data
+// set has none.
 pub(crate) fn hold_library<H: Hall>(
     alloc: Global,
     hall: &mut H,
@@ -41,7 +45,7 @@ pub(crate) fn hold_library<H: Hall>(
     known: &mut Vec<Known>,
     v: u8,
     dsn: &Dsn,
-) -> Result<bool, ReadErr>
+) -> Result<Option<usize>, ReadErr>
     requires indexes { AreIndexes (H.facts hall.old).units vols.old.items }
     requires order { AreInOrder vols.old.items }
     requires buffers { HaveBuffers vols.old.items known.old.items }
@@ -53,7 +57,7 @@ pub(crate) fn hold_library<H: Hall>(
         (H.facts hall.old).units vols.old.items known.old.items }
     ensures library { let shelf = shelf_under (names_of (H.facts hall.old).units
         (units_of vols.old.items)) (H.meaning hall.old).state in IsTrue H.tells
-        → HoldsLibrary result (body_on shelf v dsn.now.bytes) (library_at known.new.items v) }
+        → HoldsLibrary result (body_on shelf v dsn.now.bytes) (λ at. library_at known.new.items v at) }
     ensures vols { vols.new.items ≡ vols.old.items }
     ensures buffers { HaveBuffers vols.old.items known.new.items }
     ensures known { IsTrue H.tells → KnowsBodies (shelf_under (names_of (H.facts hall.old).units
@@ -66,7 +70,7 @@ pub(crate) fn hold_library<H: Hall>(
 {
     let k = usize::from(v);
     if k >= vols.len() {
-        return Ok(false);
+        return Ok(None);
     }
     hold_on(alloc, hall, &mut vols[k], &mut known[k], dsn)
 }
@@ -78,7 +82,7 @@ fn hold_on<H: Hall>(
     vol: &mut Vol,
     known: &mut Known,
     dsn: &Dsn,
-) -> Result<bool, ReadErr>
+) -> Result<Option<usize>, ReadErr>
     requires unit { IsOfUnit (H.facts hall.old).units vol.old }
     requires names { AreByName (name_at vol.old.slots.items) vol.old.by_name.items }
     requires buffer { known.old.buf.records.geometry ≡ vol.old.geometry }
@@ -86,10 +90,11 @@ fn hold_on<H: Hall>(
         IsTrue H.tells → IsOnImage image vol.old known.old }
     ensures library { let image = image_in (H.meaning hall.old) (H.facts hall.old) vol.old.unit in
         IsTrue H.tells → (on : IsOnImage image vol.old known.old)
-        → HoldsLibrary result (body_on on.shelf on.number dsn.now.bytes) known.new.library }
+        → HoldsLibrary result (body_on on.shelf on.number dsn.now.bytes)
+        (λ at. slice_get known.new.libraries.items at) }
     ensures known { let image = image_in (H.meaning hall.old) (H.facts hall.old) vol.old.unit in
-        IsTrue H.tells → (on : IsOnImage image vol.old known.old)
-        → IsLibraryOn on.shelf on.number known.new.library }
+        IsTrue H.tells → IsOnImage image vol.old known.old
+        → HoldLibraries image vol.old known.new.libraries.items }
     ensures unread { known.new.unread ≡ known.old.unread }
     ensures vol { vol.new ≡ vol.old }
     ensures buffer { known.new.buf.records.geometry ≡ vol.old.geometry }
@@ -100,15 +105,15 @@ fn hold_on<H: Hall>(
         (H.facts hall.new) }
 {
     let Some((slot, set)) = slot_of(vol, dsn) else {
-        return Ok(false);
+        return Ok(None);
     };
     match kind_in(known, &set) {
-        Kind::Part => match hold_part(alloc, hall, vol, known, slot, &set, dsn) {
-            Ok(()) => Ok(true),
+        Kind::Part => match hold_part(alloc, hall, vol, known, slot, &set) {
+            Ok(at) => Ok(Some(at)),
             Err(error) => Err(error),
         },
         Kind::Unreadable(track) => Err(ReadErr::Unreadable(track)),
-        _ => Ok(false),
+        _ => Ok(None),
     }
 }
 
@@ -120,22 +125,19 @@ fn hold_part<H: Hall>(
     known: &mut Known,
     slot: u32,
     set: &F1,
-    dsn: &Dsn,
-) -> Result<(), ReadErr>
+) -> Result<usize, ReadErr>
     requires unit { IsOfUnit (H.facts hall.old).units vol.old }
     requires buffer { known.old.buf.records.geometry ≡ vol.old.geometry }
     requires slot { slice_get vol.old.slots.items slot ≡ Some (Dscb.F1 set.now) }
     requires known { let image = image_in (H.meaning hall.old) (H.facts hall.old) vol.old.unit in
         IsTrue H.tells → IsOnImage image vol.old known.old }
     requires part { let image = image_in (H.meaning hall.old) (H.facts hall.old) vol.old.unit in
-        IsTrue H.tells → (on : IsOnImage image vol.old known.old)
-        → IsPartOn image vol.old set.now (body_on on.shelf on.number dsn.now.bytes) }
+        IsTrue H.tells → IsReadablePart image vol.old set.now }
     ensures library { let image = image_in (H.meaning hall.old) (H.facts hall.old) vol.old.unit in
-        IsTrue H.tells → (on : IsOnImage image vol.old known.old)
-        → HoldsPart result (body_on on.shelf on.number dsn.now.bytes) known.new.library }
+        IsTrue H.tells → HoldsPart result (part_in image vol.old set.now)
+        known.new.libraries.items }
     ensures known { let image = image_in (H.meaning hall.old) (H.facts hall.old) vol.old.unit in
-        IsTrue H.tells → (on : IsOnImage image vol.old known.old)
-        → IsLibraryOn on.shelf on.number known.new.library }
+        IsTrue H.tells → HoldLibraries image vol.old known.new.libraries.items }
     ensures unread { known.new.unread ≡ known.old.unread }
     ensures vol { vol.new ≡ vol.old }
     ensures buffer { known.new.buf.records.geometry ≡ vol.old.geometry }
@@ -145,29 +147,108 @@ fn hold_part<H: Hall>(
     ensures faults { ReportedCall (IsErrOf result ReadErr.Device) (H.facts hall.old)
         (H.facts hall.new) }
 {
-    if is_held(&known.library, dsn) {
-        return Ok(());
+    let Some(start) = track_at(vol, set, 0) else {
+        hall.differs(vol.unit, vol.vtoc.start);
+        return Err(ReadErr::Device);
+    };
+    if let Some(at) = place_of(&known.libraries, start) {
+        return Ok(at);
     }
-    match read_library(alloc, hall, vol, &mut known.buf, slot, set, *dsn) {
-        Ok(library) => {
-            known.library = Some(library);
-            Ok(())
-        }
+    match read_library(alloc, hall, vol, &mut known.buf, slot, set, start) {
+        Ok(library) => add(&mut known.libraries, library),
         Err(error) => Err(error),
     }
 }
 
-// Whether the library that was read last is that of a data set.
-fn is_held(library: &Option<Library>, dsn: &Dsn) -> bool
-    ensures { result ≡ is_named library.now dsn.now.bytes }
+// The number of the library, among these, of the data set that begins on a track.
+fn place_of(libraries: &[Library], start: u16) -> Option<usize>
+    ensures { result ≡ position (λ (l : Library). l.start == start) libraries.now }
 {
-    match library {
-        Some(library) => library.dsn.bytes == dsn.bytes,
-        None => false,
+    libraries.iter().position(|library| library.start == start)
+}
+
+// Puts a library behind others, and gives its number among them.
+fn add(libraries: &mut Vec<Library>, library: Library) -> Result<usize, ReadErr>
+    ensures added { IfOk result (λ at. (at ≡ length libraries.old.items)
+        × (libraries.new.items ≡ libraries.old.items ++ library ∷ [])) }
+    ensures failed { OnErr result (libraries.new.items ≡ libraries.old.items) }
+    ensures memory { IfErr result (λ e. e ≡ ReadErr.Memory) }
+{
+    let at = libraries.len();
+    match libraries.push(library) {
+        Ok(()) => Ok(at),
+        Err(_) => Err(ReadErr::Memory),
     }
 }
 
-// Reads the directory of a partitioned data set, whose format 1 stands in this slot. The buffer holds no track then.
+// Takes the library of a partitioned data set, whose format 1 stands in this slot, out of those that are held, or reads it.
+pub(crate) fn take_library<H: Hall>(
+    alloc: Global,
+    hall: &mut H,
+    vol: &mut Vol,
+    known: &mut Known,
+    slot: u32,
+    set: &F1,
+) -> Result<Library, StoreErr>
+    requires unit { IsOfUnit (H.facts hall.old).units vol.old }
+    requires buffer { known.old.buf.records.geometry ≡ vol.old.geometry }
+    requires slot { slice_get vol.old.slots.items slot ≡ Some (Dscb.F1 set.now) }
+    requires part { let image = image_in (H.meaning hall.old) (H.facts hall.old) vol.old.unit in
+        IsTrue H.tells → IsReadablePart image vol.old set.now }
+    requires libraries { let image = image_in (H.meaning hall.old) (H.facts hall.old) vol.old.unit in
+        IsTrue H.tells → HoldLibraries image vol.old known.old.libraries.items }
+    ensures library { let image = image_in (H.meaning hall.old) (H.facts hall.old) vol.old.unit in
+        IsTrue H.tells → IfOk result (IsLibraryAt image vol.old set.now) }
+    ensures others { IfOk result (λ l. AreOthers l.start known.old.libraries.items
+        known.new.libraries.items) }
+    ensures failed { OnErr result (known.new.libraries ≡ known.old.libraries) }
+    ensures refused { (r : Refusal) → ¬ IsErrOf result (StoreErr.Refused r) }
+    ensures unread { known.new.unread ≡ known.old.unread }
+    ensures vol { vol.new ≡ vol.old }
+    ensures buffer { known.new.buf.records.geometry ≡ vol.old.geometry }
+    ensures reach { known.old.buf.reach ≡ Reach.Nothing → known.new.buf.reach ≡ Reach.Nothing }
+    ensures same { IsTrue H.tells → Same (H.meaning hall.old) (H.meaning hall.new) }
+    ensures faults { StoreCall (H.facts hall.old) (H.facts hall.new) result }
+{
+    let Some(start) = track_at(vol, set, 0) else {
+        hall.differs(vol.unit, vol.vtoc.start);
+        return Err(StoreErr::Device);
+    };
+    if let Some(library) = take(&mut known.libraries, start) {
+        return Ok(library);
+    }
+    match read_library(alloc, hall, vol, &mut known.buf, slot, set, start) {
+        Ok(library) => Ok(library),
+        Err(ReadErr::Memory) => Err(StoreErr::Memory),
+        Err(ReadErr::Device) => Err(StoreErr::Device),
+        Err(ReadErr::Unreadable(_)) => {
+            hall.differs(vol.unit, vol.vtoc.start);
+            Err(StoreErr::Device)
+        }
+    }
+}
+
+// Takes the library of the data set that begins on a track out of others.
+fn take(libraries: &mut Vec<Library>, start: u16) -> Option<Library>
+    ensures taken { result ≡ library_from libraries.old.items start }
+    ensures others { AreOthers start libraries.old.items libraries.new.items }
+    ensures none { result ≡ None → libraries.new ≡ libraries.old }
+{
+    let at = place_of(libraries, start)?;
+    let library = libraries.remove(at);
+    libraries.retain(|other| other.start != start);
+    Some(library)
+}
+
+// Puts a library behind others; where memory runs out it is forgotten, and will be read again.
+pub(crate) fn keep(libraries: &mut Vec<Library>, library: Library)
+    ensures { IsKeptBehind library libraries.old.items libraries.new.items }
+{
+    let _ = libraries.push(library);
+}
+
+// Reads the directory of a partitioned data set that begins on a track, whose format 1 stands in this slot. The buffer holds
+// no track then.
 fn read_library<H: Hall>(
     alloc: Global,
     hall: &mut H,
@@ -175,7 +256,7 @@ fn read_library<H: Hall>(
     buf: &mut ReadBuf,
     slot: u32,
     set: &F1,
-    dsn: Dsn,
+    start: u16,
 ) -> Result<Library, ReadErr>
     requires unit { IsOfUnit (H.facts hall.old).units vol.old }
     requires buffer { buf.old.records.geometry ≡ vol.old.geometry }
@@ -183,8 +264,9 @@ fn read_library<H: Hall>(
     requires part { let image = image_in (H.meaning hall.old) (H.facts hall.old) vol.old.unit in
         IsTrue H.tells → IsPartIn image vol.old set.now }
     ensures library { let image = image_in (H.meaning hall.old) (H.facts hall.old) vol.old.unit in
-        IsTrue H.tells → ReadsLibrary result (part_in image vol.old set.now) }
-    ensures named { IfOk result (λ l. l.dsn ≡ dsn) }
+        IsTrue H.tells → slice_get (owned_in image vol.old set.now) 0 ≡ Some start
+        → ReadsLibrary result image vol.old set.now }
+    ensures start { IfOk result (λ l. l.start ≡ start) }
     ensures vol { vol.new ≡ vol.old }
     ensures buffer { buf.new.records.geometry ≡ vol.old.geometry }
     ensures reach { buf.new.reach ≡ Reach.Nothing }
@@ -195,7 +277,7 @@ fn read_library<H: Hall>(
     lend(vol, buf);
     let read = read_dir(alloc, hall, vol, slot);
     take_back(vol, buf);
-    library_from(alloc, read, dsn)
+    library_from(alloc, read, start)
 }
 
 // Lends a buffer of reads to an index, empty, and keeps the index's.
@@ -215,32 +297,29 @@ fn take_back(vol: &mut Vol, buf: &mut ReadBuf)
     mem::swap(&mut vol.buf, &mut buf.records);
 }
 
-// The library of a directory, where it was read, of a data set of this name.
-fn library_from(alloc: Global, read: Result<Dir, ReadErr>, dsn: Dsn) -> Result<Library, ReadErr>
+// The library of a directory, where it was read, of a data set that begins on this track.
+fn library_from(alloc: Global, read: Result<Dir, ReadErr>, start: u16) -> Result<Library, ReadErr>
     requires { IfOk read IsLawfulDir }
-    ensures library { IsMadeFrom read result }
-    ensures named { IfOk result (λ l. l.dsn ≡ dsn) }
+    ensures library { IsMadeFrom read start result }
     ensures device { IsErrOf result ReadErr.Device → IsErrOf read ReadErr.Device }
     ensures failed { IsErrOf read ReadErr.Device → IsErrOf result ReadErr.Device }
 {
     match read {
-        Ok(dir) => library_of(alloc, dir, dsn),
+        Ok(dir) => library_of(alloc, dir, start),
         Err(error) => Err(error),
     }
 }
 
 // The library of a directory that was read.
-fn library_of(alloc: Global, dir: Dir, dsn: Dsn) -> Result<Library, ReadErr>
+fn library_of(alloc: Global, dir: Dir, start: u16) -> Result<Library, ReadErr>
     requires { IsLawfulDir dir }
-    ensures library { IfOk result (IsOfDir dir) }
-    ensures named { IfOk result (λ l. l.dsn ≡ dsn) }
+    ensures library { IfOk result (λ l. (l.dir ≡ dir) × (l.start ≡ start)) }
     ensures memory { IfErr result (λ e. e ≡ ReadErr.Memory) }
 {
     match kept(alloc, &dir.blocks) {
         Ok(entries) => Ok(Library {
-            dsn,
-            blocks: dir.places.len() as u32,
-            end: dir.end,
+            start,
+            dir,
             entries,
         }),
         Err(_) => Err(ReadErr::Memory),
@@ -271,7 +350,7 @@ pub(crate) fn end_of<H: Hall>(
     ensures same { IsTrue H.tells → Same (H.meaning hall.old) (H.meaning hall.new) }
     ensures faults { DeviceCall (H.facts hall.old) (H.facts hall.new) result }
 {
-    if let Some(end) = held_end(&known.library, set) {
+    if let Some(end) = held_end(vol, &known.libraries, set) {
         return Ok(end);
     }
     lend(vol, &mut known.buf);
@@ -280,74 +359,78 @@ pub(crate) fn end_of<H: Hall>(
     found
 }
 
-// The place of the directory's end, if the library that was read last is that of this set.
-fn held_end(library: &Option<Library>, set: &F1) -> Option<Place>
-    ensures { result ≡ end_named library.now set.now.name }
+// The library of a partitioned data set, if it is held.
+fn held_of<'a>(vol: &Vol, libraries: &'a [Library], set: &F1) -> Option<&'a Library>
+    requires unit { (units : List Attached) × IsOfUnit units vol.now }
+    ensures { IfSome (option_copied result) (λ l. (image : List ℕ)
+        → IsReadablePart image vol.now set.now → HoldLibraries image vol.now libraries.now
+        → IsLibraryAt image vol.now set.now l) }
 {
-    match library {
-        Some(library) => {
-            if library.dsn.bytes == set.name {
-                Some(library.end)
-            } else {
-                None
-            }
-        }
-        None => None,
-    }
+    let start = track_at(vol, set, 0)?;
+    held_from(libraries, start)
 }
 
-// Whether a partitioned data set has no entry and no block, if the library that was read last is its.
-pub(crate) fn vacancy(library: &Option<Library>, set: &F1) -> Option<bool>
-    ensures { result ≡ vacancy library.now set.now.name set.now.lstar }
+// That of the data set that begins on a track.
+fn held_from(libraries: &[Library], start: u16) -> Option<&Library>
+    ensures { option_copied result ≡ library_from libraries.now start }
 {
-    match library {
-        Some(library) => {
-            if library.dsn.bytes == set.name {
-                Some(is_vacant(library, set))
-            } else {
-                None
-            }
-        }
-        None => None,
-    }
+    libraries.iter().find(|library| library.start == start)
+}
+
+// The place of the directory's end, if the library is held.
+fn held_end(vol: &Vol, libraries: &[Library], set: &F1) -> Option<Place>
+    requires unit { (units : List Attached) × IsOfUnit units vol.now }
+    ensures { IfSome result (λ end. (image : List ℕ) → IsReadablePart image vol.now set.now
+        → HoldLibraries image vol.now libraries.now → end ≡ end_in image vol.now set.now) }
+{
+    let library = held_of(vol, libraries, set)?;
+    Some(library.dir.end)
+}
+
+// Whether a partitioned data set, whose body can be read, has no entry and no block, if its library is held.
+pub(crate) fn vacancy(vol: &Vol, libraries: &[Library], set: &F1) -> Option<bool>
+    requires unit { (units : List Attached) × IsOfUnit units vol.now }
+    ensures { (image : List ℕ) → IsReadablePart image vol.now set.now
+        → HoldLibraries image vol.now libraries.now
+        → IsVacancyOf result (part_in image vol.now set.now) set.now.lstar }
+{
+    let library = held_of(vol, libraries, set)?;
+    Some(is_vacant(library, set))
 }
 
 // The same of its library.
 fn is_vacant(library: &Library, set: &F1) -> bool
     ensures { result ≡ is_vacant_by library.now set.now.lstar }
 {
-    library.entries.len() == 0 && !is_before(library.end, last_of(set))
+    library.entries.len() == 0 && !is_before(library.dir.end, last_of(set))
 }
 
-// The library that is held of the pack of this number.
-fn library_at(known: &Vec<Known>, v: u8) -> Option<&Library>
-    ensures { option_copied result ≡ library_at known.now.items v }
+// The library of a number, of those that are held of the pack of this number.
+fn library_at(known: &Vec<Known>, v: u8, at: usize) -> Option<&Library>
+    ensures { option_copied result ≡ library_at known.now.items v at }
 {
     match known.get(usize::from(v)) {
-        Some(pack) => match &pack.library {
-            Some(library) => Some(library),
-            None => None,
-        },
+        Some(pack) => pack.libraries.get(at),
         None => None,
     }
 }
 
-// The number of its blocks; 0 where none is held.
-fn blocks_at(known: &Vec<Known>, v: u8) -> u32
-    ensures { result ≡ size_held (library_at known.now.items v) }
+// The number of its blocks; 0 where there is none.
+fn blocks_at(known: &Vec<Known>, v: u8, at: usize) -> u32
+    ensures { result ≡ size_held (library_at known.now.items v at) }
 {
-    match library_at(known, v) {
-        Some(library) => library.blocks,
+    match library_at(known, v, at) {
+        Some(library) => library.dir.places.len() as u32,
         None => 0,
     }
 }
 
-// Its entries; none where none is held.
-fn entries_at(known: &Vec<Known>, v: u8) -> &[DirEntry]
-    ensures entries { result.now ≡ entries_held (library_at known.now.items v) }
+// Its entries; none where there is none.
+fn entries_at(known: &Vec<Known>, v: u8, at: usize) -> &[DirEntry]
+    ensures entries { result.now ≡ entries_held (library_at known.now.items v at) }
     ensures lawful { AllByRecursion IsLawfulEntry result.now }
 {
-    match library_at(known, v) {
+    match library_at(known, v, at) {
         Some(library) => &library.entries,
         None => &[],
     }
@@ -356,37 +439,39 @@ fn entries_at(known: &Vec<Known>, v: u8) -> &[DirEntry]
 // The number of blocks of the directory of a data set of the pack of this number, by the answer of the call that was to
 // hold it.
 pub(crate) fn size_of(
-    held: Result<bool, ReadErr>,
+    held: Result<Option<usize>, ReadErr>,
     known: &Vec<Known>,
     v: u8,
 ) -> Result<u32, WorkErr>
-    ensures size { IfOk result (λ size. size ≡ size_by held (size_held (library_at known.now.items v))) }
+    ensures size { IfOk result (λ size. size
+        ≡ size_by held (λ at. size_held (library_at known.now.items v at))) }
     ensures read { IfOk result (λ size. IsAnswered held) }
     ensures device { IsErrOf result WorkErr.Device → IsErrOf held ReadErr.Device }
     ensures failed { IsErrOf held ReadErr.Device → IsErrOf result WorkErr.Device }
 {
     match held {
-        Ok(true) => Ok(blocks_at(known, v)),
-        Ok(false) => Ok(0),
+        Ok(Some(at)) => Ok(blocks_at(known, v, at)),
+        Ok(None) => Ok(0),
         Err(ReadErr::Unreadable(_)) => Ok(0),
         Err(ReadErr::Memory) => Err(WorkErr::Memory),
         Err(ReadErr::Device) => Err(WorkErr::Device),
     }
 }
 
-// The entry of this name in the library that is held of the pack of this number.
+// The entry of this name in the library of a number, of those that are held of the pack of this number.
 pub(crate) fn entry_named(
     alloc: Global,
     known: &Vec<Known>,
     v: u8,
+    at: usize,
     name: &Name8,
 ) -> Result<Option<Entry>, ReadErr>
     ensures entry { IfOk result (λ found. found ≡ find (entry_has name.now.bytes)
-        (entries_held (library_at known.now.items v))) }
+        (entries_held (library_at known.now.items v at))) }
     ensures lawful { IfOk result (λ found. IfSome found IsLawfulEntry) }
     ensures memory { IfErr result (λ e. e ≡ ReadErr.Memory) }
 {
-    let entries = entries_at(known, v);
+    let entries = entries_at(known, v, at);
     match find_named(entries, name) {
         Some(entry) => copied(alloc, entry),
         None => Ok(None),
@@ -398,14 +483,15 @@ pub(crate) fn entry_at(
     alloc: Global,
     known: &Vec<Known>,
     v: u8,
+    at: usize,
     k: u32,
 ) -> Result<Option<Entry>, ReadErr>
     ensures entry { IfOk result (λ found. found
-        ≡ slice_get (entries_held (library_at known.now.items v)) k) }
+        ≡ slice_get (entries_held (library_at known.now.items v at)) k) }
     ensures lawful { IfOk result (λ found. IfSome found IsLawfulEntry) }
     ensures memory { IfErr result (λ e. e ≡ ReadErr.Memory) }
 {
-    let entries = entries_at(known, v);
+    let entries = entries_at(known, v, at);
     match entries.get(k as usize) {
         Some(entry) => copied(alloc, entry),
         None => Ok(None),

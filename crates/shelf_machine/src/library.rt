@@ -1,21 +1,14 @@
 //! The directory of a partitioned data set, as it was read.
-ghost use Rattle.std.specs.List.{AllByRecursion};
-ghost use Rattle.vol_model.specs.Lawful.{IsLawfulEntry};
-ghost use Rattle.shelf_machine.specs.LibraryProps.{library_props};
+ghost use Rattle.shelf_machine.specs.LibraryProps.{IsLawfulLibrary, library_props};
 
-use ebcdic_names::Dsn;
-use pds_directory::DirEntry;
-use vol_model::Place;
+use pds_directory::{Dir, DirEntry};
 
-// The directory of the partitioned data set of this name.
+// The directory of the partitioned data set that begins on this track, and its entries that count, in the order of their
+// names.
 #[derive(Drop)]
 pub(crate) struct Library {
-    pub(crate) dsn: Dsn,
-    // The number of its blocks.
-    pub(crate) blocks: u32,
-    // The place of its end-of-file record.
-    pub(crate) end: Place,
-    // The entries that count, in the order of their names.
+    pub(crate) start: u16,
+    pub(crate) dir: Dir,
     pub(crate) entries: Vec<DirEntry>,
-    pub(crate) ghost lawful: { AllByRecursion IsLawfulEntry entries.items } by { Prim.hlevel library_props },
+    pub(crate) ghost lawful: { IsLawfulLibrary dir entries.items } by { Prim.hlevel library_props },
 }

@@ -35,8 +35,8 @@ use vtoc_index::Vol;
 ///
 /// It is sound as long as no call of its hall failed. It does all operations on space, names, blocks and entries; for
 /// those on the catalog, and for the making of a SYSCTLG, it wants memory. `put` and `commit` never do: from its opening
-/// on there is room for the free runs of each pack. Of each pack it keeps the directory that was read last, until an
-/// operation on that pack.
+/// on there is room for the free runs of each pack. It keeps each directory that it has read, as its own operations change
+/// it.
 #[derive(Drop)]
 pub struct HallShelf<H: Hall> {
     hall: H,
@@ -124,11 +124,12 @@ impl<H: Hall> HallShelf<H> {
         self.hall
     }
 
-    // Holds the directory of a partitioned data set; false where the data set has none.
-    fn hold(&mut self, v: u8, dsn: &Dsn) -> Result<bool, ReadErr>
+    // Holds the directory of a partitioned data set, and gives its number among those of its pack; `None` where the data set
+    // has none.
+    fn hold(&mut self, v: u8, dsn: &Dsn) -> Result<Option<usize>, ReadErr>
         requires sound { IsTrue (is_sound self.old) }
         ensures library { IsTrue H.tells → HoldsLibrary result (body_on (meaning_of self.old).state v dsn.now.bytes)
-            (library_at (known_of self.new) v) }
+            (λ at. library_at (known_of self.new) v at) }
         ensures idle { IsTrue H.tells → Idles (meaning_of self.old) (meaning_of self.new) (writer_of self.old)
             (writer_of self.new) (λ t known. PromisesSafety self.old t known) (λ t known. PromisesSafety self.new t known)
             (λ t files. PromisesFiles self.old t files) (λ t files. PromisesFiles self.new t files) }
@@ -225,7 +226,7 @@ impl<H: Hall> HallShelf<H> {
             self.alloc,
             hall,
             &mut self.vols,
-            &self.known,
+            &mut self.known,
             &mut self.writer,
             op,
         );
@@ -295,16 +296,16 @@ impl<H: Hall> Machine for HallShelf<H> {
 
     fn entry(&mut self, v: u8, dsn: &Dsn, name: &Name8) -> Result<Option<Entry>, ReadErr> {
         match self.hold(v, dsn) {
-            Ok(true) => entry_named(self.alloc, &self.known, v, name),
-            Ok(false) => Ok(None),
+            Ok(Some(at)) => entry_named(self.alloc, &self.known, v, at, name),
+            Ok(None) => Ok(None),
             Err(error) => Err(error),
         }
     }
 
     fn entry_at(&mut self, v: u8, dsn: &Dsn, k: u32) -> Result<Option<Entry>, ReadErr> {
         match self.hold(v, dsn) {
-            Ok(true) => entry_at(self.alloc, &self.known, v, k),
-            Ok(false) => Ok(None),
+            Ok(Some(at)) => entry_at(self.alloc, &self.known, v, at, k),
+            Ok(None) => Ok(None),
             Err(error) => Err(error),
         }
     }

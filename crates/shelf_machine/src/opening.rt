@@ -186,7 +186,7 @@ fn known_of(alloc: Global, scanned: &Scan) -> Result<Known, AllocError>
     Ok(Known {
         unread,
         buf,
-        library: None,
+        libraries: Vec::new(alloc),
     })
 }
 

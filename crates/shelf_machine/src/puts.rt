@@ -329,6 +329,8 @@ fn place_behind_more<H: Hall>(
         vols.old.items (Some writer.old) }
     requires bodies { IsTrue H.tells → KnowsBodies (shelf_on (H.meaning hall.old).state
         (H.facts hall.old).units vols.old.items) known.old.items }
+    requires held { IsTrue H.tells → AreHeld (H.meaning hall.old).state
+        (H.facts hall.old).units vols.old.items known.old.items }
     requires wanted { IsTrue H.tells → room_on (H.meaning hall.old).state (H.facts hall.old).units
         vols.old.items writer.old (key.now, payload.now) ≡ Wanted }
     requires key { length key.now ≤ 255 }
@@ -363,7 +365,7 @@ fn place_behind_more<H: Hall>(
     }
 }
 
-// What is known behind an extension of the set of a writer, done or not: no track is held.
+// Which data sets can't be read behind an extension of the set of a writer, done or not.
 fn follow_extension(known: &mut Vec<Known>, writer: Writer, is_done: bool)
     ensures follow { AllFollow (Op.Extend writer.v writer.dsn) is_done known.old.items known.new.items }
     ensures low { writer.inner.last.tt < 65536 }

@@ -3,6 +3,7 @@ ghost use Rattle.std.specs.Prelude.{◌≡◌, ◌≢◌, ℕ, List, IfErr, IfOk
 ghost use Rattle.ckd_image.specs.declared.header.Geometry.{Geometry};
 ghost use Rattle.dscb_codec.specs.declared.Dscb.{Dscb};
 ghost use Rattle.dadsm_ops.specs.Extending.{HoldsSet, IsReadable};
+ghost use Rattle.hall_core.specs.Facts.{Attached};
 ghost use Rattle.pack_spec.specs.Bodies.{body_of};
 ghost use Rattle.pack_spec.specs.Volume.{attr_of};
 ghost use Rattle.vol_model.specs.Reading.{kind_of};
@@ -10,12 +11,12 @@ ghost use Rattle.vol_model.specs.Shelf.{empty_on, extend_on, is_catalog, may_emp
 ghost use Rattle.vol_model.specs.declared.contents.Attr.{Attr};
 ghost use Rattle.vol_model.specs.declared.contents.Run.{Run};
 ghost use Rattle.vol_model.specs.declared.contents.Volume.{Volume};
-ghost use Rattle.vtoc_index.specs.Index.{IsMounted, first_named};
+ghost use Rattle.vtoc_index.specs.Index.{IsMounted, IsOfUnit, first_named};
 ghost use Rattle.vtoc_index.specs.Names.{AreByName, name_at};
 ghost use Rattle.vtoc_sets.specs.Sets.{volume_in};
-ghost use Rattle.shelf_machine.specs.Known.{ListsBroken};
+ghost use Rattle.shelf_machine.specs.Known.{HoldLibraries, ListsBroken};
 ghost use Rattle.shelf_machine.specs.Refusals.{IsPartTest, IsReason, IsRefusedBy, empty_refusal, extend_refusal};
-ghost use Rattle.shelf_machine.specs.Libraries.{IsLibraryFor, IsLibraryIn};
+ghost use Rattle.shelf_machine.specs.Libraries.{IsVacancyOf};
 ghost use Rattle.shelf_machine.specs.Unread.{broken_by, track_in};
 
 use crate::known::Known;
@@ -68,16 +69,16 @@ fn is_part(known: &Known, set: &F1) -> bool
     }
 }
 
-// Why a partitioned data set that can be read can't be emptied, if there is a reason: `Memory` where its library isn't the
-// one that was read last.
-fn part_refusal(known: &Known, set: &F1) -> Option<StoreErr>
+// Why a partitioned data set that can be read can't be emptied, if there is a reason: `Memory` where it isn't known whether
+// it has an entry or a block.
+fn part_refusal(set: &F1, vacancy: Option<bool>) -> Option<StoreErr>
     ensures reason { (g : Geometry) (tracks : List (List ℕ)) (extents : List Run) →
         let body = body_of g tracks set.now.name (attr_of set.now) extents set.now.lstar in
-        kind_of body ≡ Kind.Part → IsLibraryFor known.now.library set.now.name body
+        kind_of body ≡ Kind.Part → IsVacancyOf vacancy body set.now.lstar
         → IsReason result (empty_refusal set.now.name (attr_of set.now) body) }
     ensures device { IfSome result (λ e. e ≢ StoreErr.Device) }
 {
-    match vacancy(&known.library, set) {
+    match vacancy {
         Some(true) => None,
         Some(false) => Some(StoreErr::Refused(Refusal::WrongKind)),
         None => Some(StoreErr::Memory),
@@ -85,16 +86,16 @@ fn part_refusal(known: &Known, set: &F1) -> Option<StoreErr>
 }
 
 // Why a data set can't be emptied, if there is a reason: `Memory` for a partitioned one whose library isn't held.
-fn empty_refusal(known: &Known, set: &F1) -> Option<StoreErr>
+fn empty_refusal(known: &Known, set: &F1, vacancy: Option<bool>) -> Option<StoreErr>
     ensures reason { (g : Geometry) (tracks : List (List ℕ)) (extents : List Run) →
         let body = body_of g tracks set.now.name (attr_of set.now) extents set.now.lstar in
         track_in known.now.unread.items set.now.name ≡ broken_by set.now.name (attr_of set.now) body
-        → IsLibraryFor known.now.library set.now.name body
+        → (kind_of body ≡ Kind.Part → IsVacancyOf vacancy body set.now.lstar)
         → IsReason result (empty_refusal set.now.name (attr_of set.now) body) }
     ensures device { IfSome result (λ e. e ≢ StoreErr.Device) }
 {
     if is_part(known, set) {
-        return part_refusal(known, set);
+        return part_refusal(set, vacancy);
     }
     if !may_empty(set) {
         return Some(StoreErr::Refused(Refusal::WrongKind));
@@ -135,22 +136,24 @@ pub(crate) fn slot_of(vol: &Vol, dsn: &Dsn) -> Option<(u32, F1)>
 
 // The slot of the data set of this name, or why it can't be emptied.
 pub(crate) fn slot_to_empty(vol: &Vol, known: &Known, dsn: &Dsn) -> Result<u32, StoreErr>
-    requires { AreByName (name_at vol.now.slots.items) vol.now.by_name.items }
+    requires unit { (units : List Attached) × IsOfUnit units vol.now }
+    requires names { AreByName (name_at vol.now.slots.items) vol.now.by_name.items }
     ensures slot { IfOk result (λ slot. first_named dsn.now.bytes vol.now.slots.items ≡ Some slot) }
     ensures accepted { IfOk result (λ slot. (image : List ℕ) (attr : Attr) → IsMounted image vol.now
         → ListsBroken (volume_in image vol.now) known.now.unread.items
-        → IsLibraryIn known.now.library (volume_in image vol.now)
+        → HoldLibraries image vol.now known.now.libraries.items
         → (after : Volume) × (empty_on dsn.now attr (volume_in image vol.now) ≡ Ok after)) }
     ensures refused { IfErr result (λ e. (image : List ℕ) (attr : Attr) → IsMounted image vol.now
         → ListsBroken (volume_in image vol.now) known.now.unread.items
-        → IsLibraryIn known.now.library (volume_in image vol.now)
+        → HoldLibraries image vol.now known.now.libraries.items
         → IsRefusedBy e (empty_on dsn.now attr (volume_in image vol.now))) }
     ensures device { ¬ IsErrOf result StoreErr.Device }
 {
     let Some((slot, set)) = slot_of(vol, dsn) else {
         return Err(StoreErr::Refused(Refusal::NoSet));
     };
-    match empty_refusal(known, &set) {
+    let vacancy = vacancy(vol, &known.libraries, &set);
+    match empty_refusal(known, &set, vacancy) {
         Some(error) => Err(error),
         None => Ok(slot),
     }

@@ -43,7 +43,7 @@ pub(crate) fn is_sound_into(read: &Result<bool, CheckErr>) -> bool
 }
 
 // Whether it is sound behind a call that was to hold a library.
-pub(crate) fn is_sound_held(held: &Result<bool, ReadErr>) -> bool
+pub(crate) fn is_sound_held(held: &Result<Option<usize>, ReadErr>) -> bool
     ensures failed { IsErrOf held.now ReadErr.Device → result ≡ false }
     ensures others { ¬ IsErrOf held.now ReadErr.Device → result ≡ true }
 {

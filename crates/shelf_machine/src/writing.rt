@@ -11,7 +11,7 @@ ghost use Rattle.vtoc_index.specs.Index.{IsOfUnit, first_named};
 ghost use Rattle.vtoc_index.specs.Names.{AreByName, name_at};
 ghost use Rattle.dadsm_ops.specs.Operations.{StoreCall};
 ghost use Rattle.shelf_machine.specs.Fronts.{IsFrontIn};
-ghost use Rattle.shelf_machine.specs.Known.{AreHeld, ForgetsOn, HasNoLibrary, HaveBuffers, IsServed, KnowsBodies, geometries_of};
+ghost use Rattle.shelf_machine.specs.Known.{AreHeld, HaveBuffers, IsServed, KeepsLists, KnowsBodies, geometries_of};
 ghost use Rattle.shelf_machine.specs.Machine.{AreIndexes, AreInOrder, AreKept, base_of, is_open_in, placed_in, shelf_under, units_of, writer_in};
 ghost use Rattle.shelf_machine.specs.Opening.{names_of};
 ghost use Rattle.shelf_machine.specs.Operating.{OperatesOnShelf};
@@ -21,7 +21,7 @@ ghost use Rattle.shelf_machine.specs.Putting.{DidPut, IsDue, PutsOn};
 ghost use Rattle.shelf_machine.specs.Reporting.{reported};
 
 use crate::front::Front;
-use crate::known::Known;
+use crate::known::{Known, forget_on};
 use crate::operations::{extend_on, operate};
 use crate::writer::Writer;
 use ebcdic_names::Dsn;
@@ -66,7 +66,7 @@ pub(crate) fn operate_settled<H: Hall>(
     alloc: Global,
     hall: &mut H,
     vols: &mut Vec<Vol>,
-    known: &Vec<Known>,
+    known: &mut Vec<Known>,
     writer: &mut Option<Writer>,
     op: &Op,
 ) -> Result<(), StoreErr>
@@ -78,10 +78,12 @@ pub(crate) fn operate_settled<H: Hall>(
     requires slot { HasSlot vols.old.items writer.old }
     requires pending { IsTrue H.tells → IsPendingBy (H.meaning hall.old) (H.facts hall.old).units
         vols.old.items writer.old }
-    requires buffers { HaveBuffers vols.old.items known.now.items }
+    requires buffers { HaveBuffers vols.old.items known.old.items }
     requires bodies { IsTrue H.tells → KnowsBodies
         (shelf_under (names_of (H.facts hall.old).units (units_of vols.old.items)) (H.meaning hall.old).state)
-        known.now.items }
+        known.old.items }
+    requires held { IsTrue H.tells → AreHeld (H.meaning hall.old).state
+        (H.facts hall.old).units vols.old.items known.old.items }
     ensures shelf { let names = names_of (H.facts hall.old).units (units_of vols.old.items) in
         let names' = names_of (H.facts hall.new).units (units_of vols.new.items) in
         IsTrue H.tells → OperatesOnShelf op.now names names' (H.facts hall.new).units
@@ -93,6 +95,9 @@ pub(crate) fn operate_settled<H: Hall>(
         ≡ base_of (H.facts hall.old) vols.old.items }
     ensures geometries { geometries_of vols.new.items ≡ geometries_of vols.old.items }
     ensures served { OnOk result (IsServed op.now) }
+    ensures held { IsTrue H.tells → sound_after (reported result) ≡ true → AreHeld (H.meaning hall.new).state
+        (H.facts hall.new).units vols.new.items known.new.items }
+    ensures known { KeepsLists known.old.items known.new.items }
     ensures faults { StoreCall (H.facts hall.old) (H.facts hall.new) result }
 {
     match settle(hall, writer) {
@@ -263,7 +268,7 @@ pub(crate) fn put_owned<H: Hall>(
 pub(crate) fn make_room<H: Hall>(
     hall: &mut H,
     vols: &mut Vec<Vol>,
-    known: &Vec<Known>,
+    known: &mut Vec<Known>,
     writer: &mut Writer,
 ) -> Result<(), StoreErr>
     requires indexes { AreIndexes (H.facts hall.old).units vols.old.items }
@@ -273,10 +278,12 @@ pub(crate) fn make_room<H: Hall>(
     requires slot { HasSlot vols.old.items (Some writer.old) }
     requires pending { IsTrue H.tells → IsPendingBy (H.meaning hall.old) (H.facts hall.old).units
         vols.old.items (Some writer.old) }
-    requires buffers { HaveBuffers vols.old.items known.now.items }
+    requires buffers { HaveBuffers vols.old.items known.old.items }
     requires bodies { IsTrue H.tells → KnowsBodies
         (shelf_under (names_of (H.facts hall.old).units (units_of vols.old.items)) (H.meaning hall.old).state)
-        known.now.items }
+        known.old.items }
+    requires held { IsTrue H.tells → AreHeld (H.meaning hall.old).state
+        (H.facts hall.old).units vols.old.items known.old.items }
     ensures shelf { let names = names_of (H.facts hall.old).units (units_of vols.old.items) in
         let names' = names_of (H.facts hall.new).units (units_of vols.new.items) in
         IsTrue H.tells → OperatesOnShelf (Op.Extend writer.old.v writer.old.dsn) names names'
@@ -296,6 +303,9 @@ pub(crate) fn make_room<H: Hall>(
     ensures base { base_of (H.facts hall.new) vols.new.items
         ≡ base_of (H.facts hall.old) vols.old.items }
     ensures geometries { geometries_of vols.new.items ≡ geometries_of vols.old.items }
+    ensures held { IsTrue H.tells → sound_after (reported result) ≡ true → AreHeld (H.meaning hall.new).state
+        (H.facts hall.new).units vols.new.items known.new.items }
+    ensures known { KeepsLists known.old.items known.new.items }
     ensures faults { StoreCall (H.facts hall.old) (H.facts hall.new) result }
 {
     match hall.sync() {
@@ -308,7 +318,7 @@ pub(crate) fn make_room<H: Hall>(
 fn make_room_settled<H: Hall>(
     hall: &mut H,
     vols: &mut Vec<Vol>,
-    known: &Vec<Known>,
+    known: &mut Vec<Known>,
     writer: &mut Writer,
 ) -> Result<(), StoreErr>
     requires indexes { AreIndexes (H.facts hall.old).units vols.old.items }
@@ -319,10 +329,12 @@ fn make_room_settled<H: Hall>(
     requires slot { HasSlot vols.old.items (Some writer.old) }
     requires pending { IsTrue H.tells → IsPendingBy (H.meaning hall.old) (H.facts hall.old).units
         vols.old.items (Some writer.old) }
-    requires buffers { HaveBuffers vols.old.items known.now.items }
+    requires buffers { HaveBuffers vols.old.items known.old.items }
     requires bodies { IsTrue H.tells → KnowsBodies
         (shelf_under (names_of (H.facts hall.old).units (units_of vols.old.items)) (H.meaning hall.old).state)
-        known.now.items }
+        known.old.items }
+    requires held { IsTrue H.tells → AreHeld (H.meaning hall.old).state
+        (H.facts hall.old).units vols.old.items known.old.items }
     ensures shelf { let names = names_of (H.facts hall.old).units (units_of vols.old.items) in
         let names' = names_of (H.facts hall.new).units (units_of vols.new.items) in
         IsTrue H.tells → OperatesOnShelf (Op.Extend writer.old.v writer.old.dsn) names names'
@@ -342,6 +354,9 @@ fn make_room_settled<H: Hall>(
     ensures base { base_of (H.facts hall.new) vols.new.items
         ≡ base_of (H.facts hall.old) vols.old.items }
     ensures geometries { geometries_of vols.new.items ≡ geometries_of vols.old.items }
+    ensures held { IsTrue H.tells → sound_after (reported result) ≡ true → AreHeld (H.meaning hall.new).state
+        (H.facts hall.new).units vols.new.items known.new.items }
+    ensures known { KeepsLists known.old.items known.new.items }
     ensures faults { StoreCall (H.facts hall.old) (H.facts hall.new) result }
 {
     extend_on(hall, vols, known, writer.v, &writer.dsn)?;
@@ -371,23 +386,4 @@ fn find_slot<H: Hall>(hall: &mut H, vol: &Vol, writer: &mut Writer) -> Result<()
     };
     writer.inner.slot = slot;
     Ok(())
-}
-
-// Forgets the track that is held of the pack of this number.
-pub(crate) fn forget_on(known: &mut Vec<Known>, k: usize)
-    requires { k < length known.old.items }
-    ensures { ForgetsOn k known.old.items known.new.items }
-{
-    known[k].buf.forget();
-}
-
-// Forgets its library, too.
-pub(crate) fn forget_pack(known: &mut Vec<Known>, k: usize)
-    requires { k < length known.old.items }
-    ensures rest { ForgetsOn k known.old.items known.new.items }
-    ensures none { HasNoLibrary k known.new.items }
-{
-    let pack = &mut known[k];
-    pack.buf.forget();
-    pack.library = None;
 }

@@ -76,7 +76,7 @@ module _ (v : Vol) (f : F1) (before after : List ℕ) (part : IsPartIn before v 
   abbrev old : List Entry
   old = kept name_number (joined (entries_read dir))
 
-  body_after : (es : List Entry) → reads name_number store ≡ Some es → part_in after v f ≡ bodies.Part n (end_in before v f) es (members_in before v f)
+  pub body_after : (es : List Entry) → reads name_number store ≡ Some es → part_in after v f ≡ bodies.Part n (end_in before v f) es (members_in before v f)
   body_after es read =
       body_by v f after es has.whole (ap (reads name_number) has.stored ∙ read)
       ∙ ap₂ (λ (m : ℕ) (p : Place). bodies.Part m p es (members_in after v f)) (as_many (directory_in after v f) (directory_in before v f) has.places ∙ count) has.end

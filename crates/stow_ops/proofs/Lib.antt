@@ -10,7 +10,6 @@ pub mod EntryLists
 pub mod FoundBlocks
 pub mod FoundSets
 pub mod HeldBlocks
-pub mod OperationsLater
 pub mod OtherBuffers
 pub mod OtherDirectories
 pub mod OwnedSets
@@ -18,6 +17,7 @@ pub mod PackingOperates
 pub mod PlacesHeld
 pub mod PlanStores
 pub mod PlanWrites
+pub mod ReadDirs
 pub mod ReadLists
 pub mod SameSlots
 pub mod StoreOperates
@@ -27,4 +27,5 @@ pub mod WholeBytes
 pub mod WritesAt
 pub mod WrittenBlocks
 pub mod WrittenDirectories
+pub mod WrittenEntries
 pub mod WrittenStores

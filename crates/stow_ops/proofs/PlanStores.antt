@@ -90,7 +90,7 @@ module _ (image : List ℕ) (v : Vol) (f : F1) (dir : Dir) (entries : List Entry
   pub long : blocks ≤ length (store_in image v f)
   long = omega (arith, fits, ap length read.read.places ∙ length-map (directory_in image v f) (λ (b : Block). b.place), length-map (directory_in image v f) stored_in)
 
-  store_last : stores (length writes) ≡ stored plan.cut ++ drop blocks (store_in image v f)
+  pub store_last : stores (length writes) ≡ stored plan.cut ++ drop blocks (store_in image v f)
   store_last = ap (λ (ws : List (ℕ × List Entry)). after_writes blocks ws (store_in image v f)) (all_taken writes) ∙ plan.packs (store_in image v f) long
 
   kept_entries : kept name_number (joined plan.cut) ≡ entries

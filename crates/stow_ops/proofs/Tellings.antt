@@ -1,16 +1,13 @@
 -- What a hall that tells its content can't come to, and what is noted of any other.
-use Rattle.std.proofs.Common.{◌≡◌, arith, ℕ, Bool, true, false, List, Option, Some, None, refl, ap, ◌∙◌, option_and_then}
+use Rattle.std.proofs.Common.{◌≡◌, arith, ℕ, Bool, true, false, List, Option, Some, None, refl, ◌∙◌, option_and_then}
 use Rattle.std.specs.Prelude.{IsFalse, IsTrue, is_some, slice_get, Err, Ok}
 use Rattle.std.specs.Option.{option_map}
 use Rattle.dscb_codec.specs.declared.Dscb.{Dscb}
 use Rattle.dscb_codec.specs.declared.Dscb.TheVariants as formats
 use Rattle.dscb_codec.specs.declared.F1.{F1}
-use Rattle.hall_core.specs.Facts.{DeviceCall, Facts, NotedCall, ReportedCall}
+use Rattle.hall_core.specs.Facts.{DeviceCall, Facts, NotedCall}
 use Rattle.stop_model.specs.Counts.{Rose}
 use Rattle.pack_spec.specs.Rules.{set_in}
-use Rattle.vol_model.specs.declared.contents.Body.{Body}
-use Rattle.vol_model.specs.declared.contents.Body.TheVariants as bodies
-use Rattle.vol_model.specs.Shelf.{unreadable}
 use Rattle.vtoc_index.specs.Names.{name_at}
 
 -- what holds where it tells can't be, so it doesn't tell
@@ -29,20 +26,6 @@ named_set ds slot some = by (slice_get ds slot) refl some
     by (Some (formats.F3 f)) is e = cc
     by (Some (formats.F4 f)) is e = cc
     by (Some (formats.F5 f)) is e = cc
-
-pub can_be_read : (b : Body) (k : ℕ) → unreadable b ≡ None → b ≡ bodies.Unreadable k → ⊥
-can_be_read b k read is = let some = ap unreadable is in cc
-
--- a fault that is noted behind other calls
-pub noted_reported : (P S : Type 0) (f0 f1 f2 : Facts) → P → ReportedCall S f0 f1 → NotedCall f1 f2 → Rose f1.dev_faults f2.dev_faults → ReportedCall P f0 f2
-noted_reported P S f0 f1 f2 here call noted rose = record {
-  units = noted.units ∙ call.units;
-  references = noted.references ∙ call.references;
-  prints = noted.prints ∙ call.prints;
-  later = omega (arith, noted.later, call.later);
-  device = λ _. omega (arith, rose, call.later);
-  others = λ no. absurd (no here);
-}
 
 pub noted_first : {T E : Type 0} (e : E) (f0 f1 : Facts) → NotedCall f0 f1 → Rose f0.dev_faults f1.dev_faults → DeviceCall {T = T} f0 f1 (Err e)
 noted_first e f0 f1 noted rose = record {

@@ -1,5 +1,5 @@
 -- The directory of a partitioned data set as a store of blocks, what a write of one of them leaves of it, and what writes in their safe order do, in this project's profile.
-use Rattle.std.specs.Prelude.{◌≡◌, ◌≢◌, ◌⊎◌, ℕ, suc, ◌+◌, ◌-◌, ◌^◌, ◌<◌, ◌==◌, Bool, true, false, List, length, map, nat_eq, nat_lt, take, slice_get, slice_set, Option, Some, None, Result, Ok, OnErr, OnOk}
+use Rattle.std.specs.Prelude.{◌≡◌, ◌≢◌, ◌⊎◌, ℕ, suc, ◌+◌, ◌-◌, ◌^◌, ◌<◌, ◌==◌, Bool, true, false, List, [], ◌∷◌, length, map, nat_eq, nat_lt, set, take, slice_get, slice_set, Option, Some, None, Result, Ok, OnErr, OnOk}
 use Rattle.std.specs.List.{AllByRecursion, list_any}
 use Rattle.chain_spec.specs.Cut.{IsCut}
 use Rattle.chain_spec.specs.Kept.{Rises, joined, kept}
@@ -120,6 +120,11 @@ pub record CanBeWritten (places blocks : ℕ) (writes : List (ℕ × List Entry)
   pub places_are : AllByRecursion (λ (w : ℕ × List Entry). w.0 < places) writes
   pub few : AllByRecursion (λ (w : ℕ × List Entry). w.0 < blocks) writes
   pub entries : AllByRecursion (λ (w : ℕ × List Entry). AreForBlock w.1 (nat_eq (w.0 + 1) blocks)) writes
+
+-- blocks of entries, with those of these writes put in their places
+abbrev pub with_writes : List (ℕ × List Entry) → List (List Entry) → List (List Entry)
+with_writes [] blocks = blocks
+with_writes (w ∷ ws) blocks = with_writes ws (set blocks w.0 w.1)
 
 -- A directory was read that is packed, and one of its entries is to change, so that it has these.
 pub record IsToHave (image : List ℕ) (v : Vol) (f : F1) (dir : Dir) (entries : List Entry) : Type 0 where

@@ -1,5 +1,5 @@
 //! An entry put into a directory, or taken out.
-ghost use Rattle.std.specs.Prelude.{◌≡◌, true, is_some, slice_get, IfOk, IsErrOf, IsTrue, OnOk, Some};
+ghost use Rattle.std.specs.Prelude.{◌≡◌, true, is_some, slice_get, IfOk, IsErrOf, IsTrue, OnErr, OnOk, Some};
 ghost use Rattle.chain_spec.specs.Kept.{joined, kept};
 ghost use Rattle.dscb_codec.specs.declared.F1.{F1};
 ghost use Rattle.hall_core.specs.Facts.{unit_of};
@@ -11,12 +11,11 @@ ghost use Rattle.vol_model.specs.Shelf.{drop_on, enter_on};
 ghost use Rattle.vol_model.specs.declared.answers.StoreErr.{StoreErr};
 ghost use Rattle.vtoc_index.specs.Index.{IsMounted, IsOfUnit};
 ghost use Rattle.vtoc_index.specs.Names.{name_at};
-ghost use Rattle.pds_directory.specs.Directories.{IsPacked, IsReadablePart, directory_in, entries_read};
+ghost use Rattle.pds_directory.specs.Directories.{IsLawfulDir, IsPacked, IsReadIn, IsReadablePart, directory_in, entries_read};
 ghost use Rattle.free_rebuild.specs.Operations.{Operates, StoreCall};
 ghost use Rattle.stow_ops.specs.Stores.{DifferOn, directory_tracks};
 
 use crate::entries::{with_entry, without_entry};
-use crate::reading::read;
 use crate::storing::store;
 use dscb_codec::Dscb;
 use ebcdic_names::Name8;
@@ -30,11 +29,13 @@ use vtoc_index::Vol;
 /// Puts an entry into the directory of the partitioned data set whose format 1 a slot holds, in the
 /// order of the names; one of its name goes, if it is to be replaced.
 ///
-/// The body of the set can be read, and its directory is packed. The index is that of the image of
-/// its unit, and no write is pending. Of the directory's blocks those that change are written in one
-/// write each, which is made durable before the next: from the last to the first where the entries
-/// take more bytes than before, else from the first to the last. A stop leaves an image that stands
-/// for the volume without the change, or with it.
+/// The body of the set can be read, and its directory is packed. `dir` is that directory, as `read_dir`
+/// gave it or as an earlier call left it. It becomes the directory as it stands after the change, whose
+/// entries are answered; after an error it is as before. The index is that of the image of its unit, and
+/// no write is pending. Of the directory's blocks those that change are written in one write each, which
+/// is made durable before the next: from the last to the first where the entries take more bytes than
+/// before, else from the first to the last. A stop leaves an image that stands for the volume without
+/// the change, or with it.
 ///
 /// It is refused, in this order, where an entry has the name and isn't to be replaced
 /// (`MemberExists`), and where the entries need more blocks than the directory has (`DirFull`). All
@@ -45,9 +46,10 @@ pub fn enter<H: Hall>(
     hall: &mut H,
     vol: &mut Vol,
     slot: u32,
+    dir: &mut Dir,
     entry: &Entry,
     replace: bool,
-) -> Result<(), StoreErr>
+) -> Result<Vec<DirEntry>, StoreErr>
     requires unit { IsOfUnit (H.facts hall.old).units vol.old }
     requires set { is_some (name_at vol.old.slots.items slot) ≡ true }
     requires entry { IsLawfulEntry entry.now }
@@ -57,6 +59,10 @@ pub fn enter<H: Hall>(
     requires packed { let image = image_in (H.meaning hall.old) (H.facts hall.old) vol.old.unit in
         IsTrue H.tells → (f : F1) → slice_get vol.old.slots.items slot ≡ Some (Dscb.F1 f)
         → IsPacked (directory_in image vol.old f) }
+    requires dir { IsLawfulDir dir.old }
+    requires read { let image = image_in (H.meaning hall.old) (H.facts hall.old) vol.old.unit in
+        IsTrue H.tells → (f : F1) → slice_get vol.old.slots.items slot ≡ Some (Dscb.F1 f)
+        → IsReadIn image vol.old f dir.old }
     requires durable { IsTrue H.tells → IsDurable (H.meaning hall.old) }
     ensures files { let image = image_in (H.meaning hall.old) (H.facts hall.old) vol.old.unit in
         IsTrue H.tells → (f : F1) → slice_get vol.old.slots.items slot ≡ Some (Dscb.F1 f)
@@ -67,30 +73,39 @@ pub fn enter<H: Hall>(
     ensures packed { let image' = image_in (H.meaning hall.new) (H.facts hall.new) vol.old.unit in
         IsTrue H.tells → (f : F1) → slice_get vol.old.slots.items slot ≡ Some (Dscb.F1 f)
         → OnOk result (IsPacked (directory_in image' vol.new f)) }
+    ensures dir { let image' = image_in (H.meaning hall.new) (H.facts hall.new) vol.old.unit in
+        IsTrue H.tells → (f : F1) → slice_get vol.old.slots.items slot ≡ Some (Dscb.F1 f)
+        → OnOk result (IsReadIn image' vol.new f dir.new) }
+    ensures lawful { IsLawfulDir dir.new }
+    ensures entries { IfOk result (λ entries. entries.items
+        ≡ kept name_number (joined (entries_read dir.new))) }
+    ensures stays { OnErr result (dir.new ≡ dir.old) }
     ensures mounted { let image' = image_in (H.meaning hall.new) (H.facts hall.new) vol.old.unit in
         IsTrue H.tells → ¬ IsErrOf result StoreErr.Device → IsMounted image' vol.new }
     ensures others { vol.new ≡ record vol.old { buf = vol.new.buf } }
     ensures unit { IsOfUnit (H.facts hall.new).units vol.new }
     ensures faults { StoreCall (H.facts hall.old) (H.facts hall.new) result }
 {
-    let dir = read(alloc, hall, vol, slot)?;
-    let entries = with_entry(alloc, kept_of(alloc, &dir)?, entry, replace)?;
-    store(alloc, hall, vol, slot, &dir, &entries)
+    let entries = with_entry(alloc, kept_of(alloc, dir)?, entry, replace)?;
+    store(alloc, hall, vol, slot, dir, &entries)?;
+    Ok(entries)
 }
 
 /// Takes the entry of a name out of the directory of the partitioned data set whose format 1 a slot
 /// holds.
 ///
-/// The conditions are those of `enter`, and so is what is written, and what a stop leaves. It is
-/// refused where no entry has the name (`NoMember`). All memory is taken before the first write.
-/// `Device` comes only where the count of its faults rose; then the index may be that of no image.
+/// The conditions are those of `enter`, and so is what `dir` is and becomes, what is answered, what is
+/// written, and what a stop leaves. It is refused where no entry has the name (`NoMember`). All memory
+/// is taken before the first write. `Device` comes only where the count of its faults rose; then the
+/// index may be that of no image.
 pub fn drop_entry<H: Hall>(
     alloc: Global,
     hall: &mut H,
     vol: &mut Vol,
     slot: u32,
+    dir: &mut Dir,
     name: &Name8,
-) -> Result<(), StoreErr>
+) -> Result<Vec<DirEntry>, StoreErr>
     requires unit { IsOfUnit (H.facts hall.old).units vol.old }
     requires set { is_some (name_at vol.old.slots.items slot) ≡ true }
     requires part { let image = image_in (H.meaning hall.old) (H.facts hall.old) vol.old.unit in
@@ -99,6 +114,10 @@ pub fn drop_entry<H: Hall>(
     requires packed { let image = image_in (H.meaning hall.old) (H.facts hall.old) vol.old.unit in
         IsTrue H.tells → (f : F1) → slice_get vol.old.slots.items slot ≡ Some (Dscb.F1 f)
         → IsPacked (directory_in image vol.old f) }
+    requires dir { IsLawfulDir dir.old }
+    requires read { let image = image_in (H.meaning hall.old) (H.facts hall.old) vol.old.unit in
+        IsTrue H.tells → (f : F1) → slice_get vol.old.slots.items slot ≡ Some (Dscb.F1 f)
+        → IsReadIn image vol.old f dir.old }
     requires durable { IsTrue H.tells → IsDurable (H.meaning hall.old) }
     ensures files { let image = image_in (H.meaning hall.old) (H.facts hall.old) vol.old.unit in
         IsTrue H.tells → (f : F1) → slice_get vol.old.slots.items slot ≡ Some (Dscb.F1 f)
@@ -109,15 +128,22 @@ pub fn drop_entry<H: Hall>(
     ensures packed { let image' = image_in (H.meaning hall.new) (H.facts hall.new) vol.old.unit in
         IsTrue H.tells → (f : F1) → slice_get vol.old.slots.items slot ≡ Some (Dscb.F1 f)
         → OnOk result (IsPacked (directory_in image' vol.new f)) }
+    ensures dir { let image' = image_in (H.meaning hall.new) (H.facts hall.new) vol.old.unit in
+        IsTrue H.tells → (f : F1) → slice_get vol.old.slots.items slot ≡ Some (Dscb.F1 f)
+        → OnOk result (IsReadIn image' vol.new f dir.new) }
+    ensures lawful { IsLawfulDir dir.new }
+    ensures entries { IfOk result (λ entries. entries.items
+        ≡ kept name_number (joined (entries_read dir.new))) }
+    ensures stays { OnErr result (dir.new ≡ dir.old) }
     ensures mounted { let image' = image_in (H.meaning hall.new) (H.facts hall.new) vol.old.unit in
         IsTrue H.tells → ¬ IsErrOf result StoreErr.Device → IsMounted image' vol.new }
     ensures others { vol.new ≡ record vol.old { buf = vol.new.buf } }
     ensures unit { IsOfUnit (H.facts hall.new).units vol.new }
     ensures faults { StoreCall (H.facts hall.old) (H.facts hall.new) result }
 {
-    let dir = read(alloc, hall, vol, slot)?;
-    let entries = without_entry(kept_of(alloc, &dir)?, name)?;
-    store(alloc, hall, vol, slot, &dir, &entries)
+    let entries = without_entry(kept_of(alloc, dir)?, name)?;
+    store(alloc, hall, vol, slot, dir, &entries)?;
+    Ok(entries)
 }
 
 // The entries of a directory that count.

@@ -8,7 +8,6 @@ mod changing;
 mod entries;
 mod laws;
 mod packings;
-mod reading;
 mod repacking;
 mod storing;
 

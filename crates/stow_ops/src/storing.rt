@@ -1,10 +1,12 @@
 //! The entries of a directory written, block by block.
-ghost use Rattle.std.specs.Prelude.{◌≡◌, ◌⊎◌, ◌≤◌, ◌<◌, ◌+◌, None, List, true, is_some, length, map, nat_eq, slice_get, vec_items, IfOk, IsErrOf, IsTrue, OnOk, Result, Some};
+ghost use Rattle.std.specs.Prelude.{◌≡◌, ◌⊎◌, ◌≤◌, ◌<◌, ◌+◌, ℕ, None, List, true, is_some, length, map, nat_eq, slice_get, vec_items, IfOk, IsErrOf, IsTrue, OnErr, OnOk, Result, Some};
 ghost use Rattle.std.specs.List.{AllByRecursion};
 ghost use Rattle.dscb_codec.specs.declared.F1.{F1};
 ghost use Rattle.hall_core.specs.Facts.{DeviceCall, unit_of};
 ghost use Rattle.hall_core.specs.Images.{image_in};
 ghost use Rattle.stop_model.specs.Moments.{IsDurable};
+ghost use Rattle.chain_spec.specs.Kept.{joined, kept};
+ghost use Rattle.pack_spec.specs.Directories.{name_number};
 ghost use Rattle.sorted_chain.specs.Plan.{write_of};
 ghost use Rattle.vol_model.specs.Slots.{directory_needed};
 ghost use Rattle.vol_model.specs.declared.contents.Block.{Block};
@@ -16,14 +18,14 @@ ghost use Rattle.vtoc_index.specs.Names.{name_at};
 ghost use Rattle.pds_directory.specs.Directories.{IsLawfulDir, IsOfRecord, IsPacked, IsPartIn, IsReadIn, IsReadablePart, broken_in, directory_in, entries_read};
 ghost use Rattle.pds_directory.specs.Entries.{AreForBlock};
 ghost use Rattle.free_rebuild.specs.Operations.{Operates, StoreCall};
-ghost use Rattle.stow_ops.specs.Stores.{AreForDir, CanBeWritten, CarriesOut, DifferOn, IsDirPlan, IsLeft, IsToHave, MakesEntries, WritesBlock, directory_tracks};
+ghost use Rattle.stow_ops.specs.Stores.{AreForDir, CanBeWritten, CarriesOut, DifferOn, IsDirPlan, IsLeft, IsToHave, MakesEntries, WritesBlock, directory_tracks, with_writes};
 
 use crate::blocks::write_block;
 use dscb_codec::{Dscb, F1};
 use hall_core::{Device, Hall};
 use pds_directory::{Dir, DirEntry};
 use sorted_chain::{Plan, plan};
-use std::alloc::Global;
+use std::alloc::{AllocError, Global};
 use vol_model::{Entry, Refusal, StoreErr};
 use vtoc_index::Vol;
 
@@ -32,33 +34,41 @@ pub(crate) const ROOM: u16 = 254;
 
 pub(crate) const END_LEN: u16 = 12;
 
-// Makes these the entries of a directory that was read, one of whose entries changes.
+// Makes these the entries of a directory that was read, one of whose entries changes. All memory is
+// taken before the first write.
 pub(crate) fn store<H: Hall>(
     alloc: Global,
     hall: &mut H,
     vol: &mut Vol,
     slot: u32,
-    dir: &Dir,
+    dir: &mut Dir,
     entries: &[DirEntry],
 ) -> Result<(), StoreErr>
     requires unit { IsOfUnit (H.facts hall.old).units vol.old }
     requires set { is_some (name_at vol.old.slots.items slot) ≡ true }
-    requires dir { IsLawfulDir dir.now }
+    requires dir { IsLawfulDir dir.old }
     requires entries { AreForDir entries.now }
     requires change { let image = image_in (H.meaning hall.old) (H.facts hall.old) vol.old.unit in
         IsTrue H.tells → (f : F1) → slice_get vol.old.slots.items slot ≡ Some (Dscb.F1 f)
-        → IsToHave image vol.old f dir.now entries.now }
+        → IsToHave image vol.old f dir.old entries.now }
     requires durable { IsTrue H.tells → IsDurable (H.meaning hall.old) }
     ensures files { let image = image_in (H.meaning hall.old) (H.facts hall.old) vol.old.unit in
         IsTrue H.tells → (f : F1) (operation : Volume → Result Volume Refusal)
         → slice_get vol.old.slots.items slot ≡ Some (Dscb.F1 f)
-        → MakesEntries operation image f (length dir.now.places.items) entries.now
+        → MakesEntries operation image f (length dir.old.places.items) entries.now
         → Operates (unit_of (H.facts hall.old).units vol.old.unit).name operation vol.new
         (DifferOn vol.old.geometry (directory_tracks image vol.old f)) (H.meaning hall.old)
         (H.meaning hall.new) result }
     ensures packed { let image' = image_in (H.meaning hall.new) (H.facts hall.new) vol.old.unit in
         IsTrue H.tells → (f : F1) → slice_get vol.old.slots.items slot ≡ Some (Dscb.F1 f)
         → OnOk result (IsPacked (directory_in image' vol.new f)) }
+    ensures dir { let image' = image_in (H.meaning hall.new) (H.facts hall.new) vol.old.unit in
+        IsTrue H.tells → (f : F1) → slice_get vol.old.slots.items slot ≡ Some (Dscb.F1 f)
+        → OnOk result (IsReadIn image' vol.new f dir.new) }
+    ensures lawful { IsLawfulDir dir.new }
+    ensures entries { OnOk result
+        (entries.now ≡ kept name_number (joined (entries_read dir.new))) }
+    ensures stays { OnErr result (dir.new ≡ dir.old) }
     ensures refused { (r : Refusal) → IsErrOf result (StoreErr.Refused r)
         → (hall.new ≡ hall.old) × (vol.new ≡ vol.old) }
     ensures memory { IsErrOf result StoreErr.Memory → (hall.new ≡ hall.old) × (vol.new ≡ vol.old) }
@@ -68,10 +78,40 @@ pub(crate) fn store<H: Hall>(
 {
     let set = set_at(vol, slot);
     let plan = planned(alloc, dir, entries)?;
+    let Ok(blocks) = empty_blocks(alloc, plan.blocks) else {
+        return Err(StoreErr::Memory);
+    };
     match carry_out(hall, vol, &set, dir, &plan) {
-        Ok(()) => Ok(()),
+        Ok(()) => {
+            dir.blocks = written(plan.writes, blocks);
+            Ok(())
+        }
         Err(Device) => Err(StoreErr::Device),
     }
+}
+
+// So many blocks without entries.
+fn empty_blocks(alloc: Global, count: u32) -> Result<Vec<Vec<DirEntry>>, AllocError>
+    ensures { IfOk result (λ blocks. length blocks.items ≡ count) }
+{
+    let mut blocks = Vec::new(alloc);
+    for _ in 0..count {
+        blocks.push(Vec::new(alloc))?;
+    }
+    Ok(blocks)
+}
+
+// Blocks, with those of these writes put in their places.
+fn written(writes: Vec<(u32, Vec<DirEntry>)>, mut blocks: Vec<Vec<DirEntry>>) -> Vec<Vec<DirEntry>>
+    requires { AllByRecursion (λ (w : ℕ × List Entry). w.0 < length blocks.items)
+        (map write_of (vec_items writes)) }
+    ensures { map vec_items result.items
+        ≡ with_writes (map write_of (vec_items writes)) (map vec_items blocks.items) }
+{
+    for (at, block) in writes {
+        blocks[at as usize] = block;
+    }
+    blocks
 }
 
 // The format 1 in a slot.

@@ -13,6 +13,9 @@ commit_on-requires-clause-order g c = c.in-Ok.ensures.order refl
 pub commit_on-requires-clause-pending : goal.commit_on-requires-clause-pending
 commit_on-requires-clause-pending g c told = (c.in-Ok.ensures.shelf told).pending refl
 
+pub commit_on-requires-clause-held : goal.commit_on-requires-clause-held
+commit_on-requires-clause-held g c told = (c.in-Ok.ensures.shelf told).held refl
+
 pub returns-in-Ok-commit_on-clause-shelf : goal.returns-in-Ok-commit_on-clause-shelf
 returns-in-Ok-commit_on-clause-shelf g c told =
     let us = (g.H.Hall.facts c.args.hall.now).units in

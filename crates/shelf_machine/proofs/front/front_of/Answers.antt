@@ -1,4 +1,4 @@
-use Rattle.std.proofs.Common.{◌≡◌, ◌∙◌, ℕ, Some, None, set, sym, ap, subst, arith}
+use Rattle.std.proofs.Common.{◌≡◌, ◌∙◌, ℕ, Some, None, sym, ap, subst, arith}
 use Rattle.std.specs.Prelude.{slice_get, IfOk}
 use Rattle.std.proofs.lemmas.Option.{slice_get-get_or}
 use Rattle.vol_model.specs.Writing.{body_on}
@@ -8,8 +8,8 @@ use Rattle.shelf_machine.specs.Machine.{shelf_under, units_of}
 use Rattle.shelf_machine.specs.Opening.{names_of}
 use Rattle.shelf_machine.specs.declared.known.Known.{Known}
 use Rattle.shelf_machine.proofs.Holding.{has_volumes, kept_mounted}
-use Rattle.shelf_machine.proofs.KnownLemmas.{as_many, buffers_set, held_set, knows_set, on_image, one_geometry}
-use Rattle.shelf_machine.proofs.ListPlaces.{not_there, set_itself}
+use Rattle.shelf_machine.proofs.KnownLemmas.{as_many, buffers_set, held_track, knows_set, on_image, one_geometry}
+use Rattle.shelf_machine.proofs.ListPlaces.{not_there}
 use Rattle.shelf_machine.proofs.ReadFronts.{missing_kind, no_front, none as NO_FRONT}
 use Rattle.shelf_machine.proofs.front.front_of.Goals as goal
 
@@ -93,7 +93,7 @@ returns-clause-known g c shelf knows =
     let known = c.args.known.now.items in
     let there : slice_get known c.from-k.result ≡ Some c.index_mut-2.result.now =
     slice_get-get_or known c.from-k.result c.index_mut-2.result.now (omega (arith, c.if-k-len.false, c.len.ensures, as_many vols known c.requires.buffers)) ∙ ap (λ (b : Known). Some b) (sym c.index_mut-2.ensures.value) in
-    knows_set known c.from-k.result c.index_mut-2.result.now c.front_on.new.known there shelf knows (ap (λ u. u.items) c.front_on.ensures.unread) c.front_on.ensures.library
+    knows_set known c.from-k.result c.index_mut-2.result.now c.front_on.new.known there shelf knows (ap (λ u. u.items) c.front_on.ensures.unread)
 
 pub returns-clause-held : goal.returns-clause-held
 returns-clause-held g c told =
@@ -105,4 +105,4 @@ returns-clause-held g c told =
     let known = c.args.known.now.items in
     let there : slice_get known c.from-k.result ≡ Some c.index_mut-2.result.now =
     slice_get-get_or known c.from-k.result c.index_mut-2.result.now (omega (arith, c.if-k-len.false, c.len.ensures, as_many vols known c.requires.buffers)) ∙ ap (λ (b : Known). Some b) (sym c.index_mut-2.ensures.value) in
-    held_set known c.from-k.result c.index_mut-2.result.now c.front_on.new.known there files units vols c.index_mut.result.now (c.requires.held told) at (c.front_on.ensures.held told)
+    held_track known c.from-k.result c.index_mut-2.result.now c.front_on.new.known there files units vols c.index_mut.result.now (c.requires.held told) at (ap (λ ls. ls.items) c.front_on.ensures.libraries) (c.front_on.ensures.held told)

@@ -1,13 +1,15 @@
-use Rattle.std.proofs.Common.{◌∙◌, ℕ, ap}
+use Rattle.std.proofs.Common.{◌∙◌, ℕ, List, ap, subst, sym}
 use Rattle.hall_core.specs.Images.{image_in}
-use Rattle.shelf_machine.proofs.HeldLibraries.{geometry_back, given_back, held_end, lent_end, lent_readable, lent_unit, nothing_held, readable_by}
+use Rattle.shelf_machine.specs.Known.{HoldLibraries}
+use Rattle.shelf_machine.specs.declared.library.Library.{Library}
+use Rattle.shelf_machine.proofs.HeldLibraries.{geometry_back, given_back, lent_end, lent_readable, lent_unit, nothing_held, readable_by}
 use Rattle.shelf_machine.proofs.libraries.end_of.Goals as goal
 
 pub returns-in-Some-clause-end : goal.returns-in-Some-clause-end
 returns-in-Some-clause-end g c told =
     let on = c.requires.known told in
     let image = image_in (g.H.Hall.meaning c.args.hall.now) (g.H.Hall.facts c.args.hall.now) c.args.vol.now.unit in
-    held_end on.shelf on.number image c.args.vol.now c.args.set.now c.args.known.now.library c.in-Some.end on.library (c.requires.part told on).content c.in-Some.ensures
+    c.in-Some.ensures image (readable_by image c.args.vol.now c.args.set.now _ (c.requires.part told on)) (subst (λ (ls : List Library). HoldLibraries image c.args.vol.now ls) (sym c.deref.ensures.value) on.libraries)
 
 pub returns-in-Some-clause-held : goal.returns-in-Some-clause-held
 returns-in-Some-clause-held g c told = (c.requires.known told).held

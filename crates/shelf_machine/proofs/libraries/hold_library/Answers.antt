@@ -4,14 +4,13 @@ use Rattle.std.proofs.lemmas.Option.{slice_get-get_or}
 use Rattle.vol_model.specs.Reading.{directory_size, entries_in}
 use Rattle.vol_model.specs.Writing.{body_on}
 use Rattle.vtoc_index.specs.declared.vol.Vol.{Vol}
-use Rattle.shelf_machine.specs.Known.{ListsUnread}
 use Rattle.shelf_machine.specs.Libraries.{HoldsLibrary}
 use Rattle.shelf_machine.specs.Machine.{shelf_under, units_of}
 use Rattle.shelf_machine.specs.Opening.{names_of}
 use Rattle.shelf_machine.specs.declared.known.Known.{Known}
 use Rattle.shelf_machine.specs.declared.library.Library.{Library}
 use Rattle.shelf_machine.proofs.Holding.{has_volumes, kept_mounted}
-use Rattle.shelf_machine.proofs.KnownLemmas.{as_many, buffers_set, held_set, knows_put, on_image, one_geometry}
+use Rattle.shelf_machine.proofs.KnownLemmas.{as_many, buffers_set, held_set, knows_set, on_image, one_geometry}
 use Rattle.shelf_machine.proofs.ListPlaces.{get_set, not_there, set_itself}
 use Rattle.shelf_machine.proofs.ShelfReads.{body_missing}
 use Rattle.shelf_machine.proofs.libraries.hold_library.Goals as goal
@@ -78,9 +77,10 @@ returns-clause-library g c told =
     let shelf = shelf_under (names_of units (units_of vols)) files in
     let on = on_image files units vols known c.from-k.result c.index_mut.result.now c.index_mut-2.result.now c.requires.indexes (c.requires.kept told) (c.requires.known told) (c.requires.held told) at there in
     let now = get_set known c.from-k.result c.index_mut-2.result.now c.hold_on.new.known there in
-    subst (λ (l : Option Library). HoldsLibrary c.hold_on.result (body_on shelf c.args.v c.args.dsn.now.bytes) l)
-    (sym (ap (option_and_then (λ (b : Known). b.library)) (ap (slice_get (set known c.from-k.result c.hold_on.new.known)) (sym c.from-k.ensures) ∙ now)))
-    (subst (λ (j : ℕ). HoldsLibrary c.hold_on.result (body_on shelf j c.args.dsn.now.bytes) c.hold_on.new.known.library) c.from-k.ensures (c.hold_on.ensures.library told on))
+    let found = λ (o : Option Known) (at : ℕ). option_and_then (λ (b : Known). slice_get b.libraries.items at) o in
+    subst (λ (ls : ℕ → Option Library). HoldsLibrary c.hold_on.result (body_on shelf c.args.v c.args.dsn.now.bytes) ls)
+    (sym (ap found (ap (slice_get (set known c.from-k.result c.hold_on.new.known)) (sym c.from-k.ensures) ∙ now)))
+    (subst (λ (j : ℕ). HoldsLibrary c.hold_on.result (body_on shelf j c.args.dsn.now.bytes) (λ (at : ℕ). slice_get c.hold_on.new.known.libraries.items at)) c.from-k.ensures (c.hold_on.ensures.library told on))
 
 pub returns-clause-vols : goal.returns-clause-vols
 returns-clause-vols g c =
@@ -110,12 +110,7 @@ returns-clause-known g c told =
     let there : slice_get known c.from-k.result ≡ Some c.index_mut-2.result.now =
     slice_get-get_or known c.from-k.result c.index_mut-2.result.now (omega (arith, c.if-k-len.false, c.len.ensures, as_many vols known c.requires.buffers)) ∙ ap (λ (b : Known). Some b) (sym c.index_mut-2.ensures.value) in
     let shelf = shelf_under (names_of units (units_of vols)) files in
-    let on = on_image files units vols known c.from-k.result c.index_mut.result.now c.index_mut-2.result.now c.requires.indexes (c.requires.kept told) (c.requires.known told) (c.requires.held told) at there in
-    knows_put known c.from-k.result c.index_mut-2.result.now c.hold_on.new.known there shelf (c.requires.known told)
-    (record {
-      lists = subst (λ us. ListsUnread shelf c.from-k.result us) (sym (ap (λ u. u.items) c.hold_on.ensures.unread)) on.lists;
-      library = c.hold_on.ensures.known told on;
-    })
+    knows_set known c.from-k.result c.index_mut-2.result.now c.hold_on.new.known there shelf (c.requires.known told) (ap (λ u. u.items) c.hold_on.ensures.unread)
 
 pub returns-clause-held : goal.returns-clause-held
 returns-clause-held g c told =
@@ -127,4 +122,5 @@ returns-clause-held g c told =
     let known = c.args.known.now.items in
     let there : slice_get known c.from-k.result ≡ Some c.index_mut-2.result.now =
     slice_get-get_or known c.from-k.result c.index_mut-2.result.now (omega (arith, c.if-k-len.false, c.len.ensures, as_many vols known c.requires.buffers)) ∙ ap (λ (b : Known). Some b) (sym c.index_mut-2.ensures.value) in
-    held_set known c.from-k.result c.index_mut-2.result.now c.hold_on.new.known there files units vols c.index_mut.result.now (c.requires.held told) at (c.hold_on.ensures.held told)
+    let on = on_image files units vols known c.from-k.result c.index_mut.result.now c.index_mut-2.result.now c.requires.indexes (c.requires.kept told) (c.requires.known told) (c.requires.held told) at there in
+    held_set known c.from-k.result c.index_mut-2.result.now c.hold_on.new.known there files units vols c.index_mut.result.now (c.requires.held told) at (record { track = c.hold_on.ensures.held told; libraries = c.hold_on.ensures.known told on })

@@ -1,6 +1,6 @@
 use Rattle.std.proofs.Common.{◌∙◌, ℕ, ap}
 use Rattle.hall_core.specs.Images.{image_in}
-use Rattle.shelf_machine.proofs.HeldLibraries.{geometry_back, given_back, lent_at, lent_library, lent_parts, lent_unit, named_at}
+use Rattle.shelf_machine.proofs.HeldLibraries.{geometry_back, given_back, lent_at, lent_library, lent_parts, lent_unit, made_start, named_at}
 use Rattle.mount_repair.proofs.DeviceCalls.{reported_more, unreported}
 use Rattle.shelf_machine.proofs.libraries.read_library.Goals as goal
 
@@ -20,13 +20,13 @@ pub library_from-requires : goal.library_from-requires
 library_from-requires g c = c.read_dir-read.ensures.lawful
 
 pub returns-clause-library : goal.returns-clause-library
-returns-clause-library g c told =
+returns-clause-library g c told first =
     lent_library c.args.vol.now c.lend.new.vol c.args.buf.now c.lend.new.buf c.lend.ensures (λ (n : ℕ). image_in (g.H.Hall.meaning c.args.hall.now) (g.H.Hall.facts c.args.hall.now) n) c.args.set.now
-    c.read_dir-read.result c.library_from.result c.library_from.ensures.library
+    c.args.start first c.read_dir-read.result c.library_from.result c.library_from.ensures.library
     (c.read_dir-read.ensures.dir told c.args.set.now (lent_at c.args.vol.now c.lend.new.vol c.args.buf.now c.lend.new.buf c.lend.ensures c.args.slot c.args.set.now c.requires.slot))
 
-pub returns-clause-named : goal.returns-clause-named
-returns-clause-named g c = c.library_from.ensures.named
+pub returns-clause-start : goal.returns-clause-start
+returns-clause-start g c = made_start c.read_dir-read.result c.args.start c.library_from.result c.library_from.ensures.library
 
 pub returns-clause-vol : goal.returns-clause-vol
 returns-clause-vol g c =

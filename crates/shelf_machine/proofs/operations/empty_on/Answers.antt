@@ -8,7 +8,9 @@ use Rattle.pds_directory.proofs.PackedTracks as directories
 use Rattle.vol_model.specs.declared.requests.Op.TheVariants.{Empty}
 use Rattle.vtoc_index.proofs.KeptLemmas.{mounted_of}
 use Rattle.vtoc_index.specs.declared.vol.Vol.{Vol}
-use Rattle.shelf_machine.proofs.KnownLemmas.{at_index, known_low, library_held, lists_held}
+use Rattle.shelf_machine.proofs.ForgottenTracks.{keeps_lists, knows_still, same_lists}
+use Rattle.shelf_machine.proofs.HeldOperations.{held_vtoc, libraries_forgot}
+use Rattle.shelf_machine.proofs.KnownLemmas.{as_many, at_index, known_low, lists_held}
 use Rattle.shelf_machine.proofs.ListPlaces.{map_set_same, not_there}
 use Rattle.shelf_machine.proofs.OneVolume.{kept_idle, order_kept}
 use Rattle.shelf_machine.specs.Operating.{IsSamePack}
@@ -79,22 +81,42 @@ returns-clause-geometries g c = map_set_same (λ (v : Vol). v.geometry) c.args.v
 pub index-requires : goal.index-requires
 index-requires g c =
     let at : slice_get c.args.vols.now.items c.from-k.result ≡ Some c.index_mut.result.now = slice_get-get_or c.args.vols.now.items c.from-k.result _ (omega (arith, c.if-k-len.false, c.len.ensures)) ∙ ap (λ (w : Vol). Some w) (sym c.index_mut.ensures.value) in
-    let low = known_low c.args.vols.now.items c.args.known.now.items c.from-k.result c.index_mut.result.now c.requires.buffers at in
-    omega (arith, low, c.args.known.now.ok)
+    let low = known_low c.args.vols.now.items c.forget_on.new.known.items c.from-k.result c.index_mut.result.now (c.forget_on.ensures.buffers ∙ c.requires.buffers) at in
+    omega (arith, low, c.forget_on.new.known.ok)
 
 -- what is known of the pack of this number
-known_here : (g : Over) (c : goal.After-index g) → slice_get c.args.known.now.items c.from-k.result ≡ Some c.index.result.now
+known_here : (g : Over) (c : goal.After-index g) → slice_get c.forget_on.new.known.items c.from-k.result ≡ Some c.index.result.now
 known_here g c =
     let there = here g c in
-    at_index c.args.known.now.items c.from-k.result c.from-k.result c.index.result.now refl
-    (known_low c.args.vols.now.items c.args.known.now.items c.from-k.result c.index_mut.result.now c.requires.buffers there) c.index.ensures
+    at_index c.forget_on.new.known.items c.from-k.result c.from-k.result c.index.result.now refl
+    (known_low c.args.vols.now.items c.forget_on.new.known.items c.from-k.result c.index_mut.result.now (c.forget_on.ensures.buffers ∙ c.requires.buffers) there) c.index.ensures
 
 pub empty_set-requires-clause-bodies : goal.empty_set-requires-clause-bodies
 empty_set-requires-clause-bodies g c told =
-    lists_held (g.H.Hall.meaning c.args.hall.now).state (g.H.Hall.facts c.args.hall.now).units c.args.vols.now.items c.args.known.now.items c.from-k.result
-    c.index_mut.result.now c.index.result.now c.requires.indexes (c.requires.kept told) (c.requires.bodies told) (here g c) (known_here g c)
+    lists_held (g.H.Hall.meaning c.args.hall.now).state (g.H.Hall.facts c.args.hall.now).units c.args.vols.now.items c.forget_on.new.known.items c.from-k.result
+    c.index_mut.result.now c.index.result.now c.requires.indexes (c.requires.kept told) (knows_still c.from-k.result c.args.known.now.items c.forget_on.new.known.items c.forget_on.ensures _ (c.requires.bodies told)) (here g c) (known_here g c)
 
 pub empty_set-requires-clause-library : goal.empty_set-requires-clause-library
 empty_set-requires-clause-library g c told =
-    library_held (g.H.Hall.meaning c.args.hall.now).state (g.H.Hall.facts c.args.hall.now).units c.args.vols.now.items c.args.known.now.items c.from-k.result
-    c.index_mut.result.now c.index.result.now c.requires.indexes (c.requires.kept told) (c.requires.bodies told) (here g c) (known_here g c)
+    libraries_forgot (g.H.Hall.meaning c.args.hall.now).state (g.H.Hall.facts c.args.hall.now).units c.args.vols.now.items c.args.known.now.items c.forget_on.new.known.items c.from-k.result
+    c.index_mut.result.now c.index.result.now c.forget_on.ensures (c.requires.held told) (here g c) (known_here g c)
+
+pub forget_on-requires : goal.forget_on-requires
+forget_on-requires g c =
+    let many = as_many c.args.vols.now.items c.args.known.now.items c.requires.buffers in
+    omega (arith, many, c.if-k-len.false, c.len.ensures)
+
+pub returns-then-k-len-clause-held : goal.returns-then-k-len-clause-held
+returns-then-k-len-clause-held g c told sound = c.requires.held told
+
+pub returns-then-k-len-clause-known : goal.returns-then-k-len-clause-known
+returns-then-k-len-clause-known g c = same_lists c.args.known.now.items
+
+pub returns-clause-held : goal.returns-clause-held
+returns-clause-held g c told sound =
+    held_vtoc (g.H.Hall.facts c.args.hall.now) (g.H.Hall.facts c.empty_set.new.hall) c.args.vols.now.items c.from-k.result c.index_mut.result.now c.empty_set.new.vol (there g c) (alike g c) c.empty_set.ensures.faults.units c.requires.indexes
+    c.args.known.now.items c.forget_on.new.known.items (empty_on c.args.dsn.now c.args.attr.now) (g.H.Hall.meaning c.args.hall.now) (g.H.Hall.meaning c.empty_set.new.hall) (c.requires.held told) c.empty_set.result
+    (mounted_of _ _ (c.requires.kept told c.from-k.result c.index_mut.result.now (there g c)).kept) (directories.empty_keeps c.args.dsn.now c.args.attr.now) (c.empty_set.ensures.files told) c.forget_on.ensures sound
+
+pub returns-clause-known : goal.returns-clause-known
+returns-clause-known g c = keeps_lists c.from-k.result c.args.known.now.items c.forget_on.new.known.items c.forget_on.ensures

@@ -8,6 +8,9 @@ use Rattle.pds_directory.proofs.PackedTracks as directories
 use Rattle.vol_model.specs.declared.requests.Op.TheVariants.{Rename}
 use Rattle.vtoc_index.proofs.KeptLemmas.{mounted_of}
 use Rattle.vtoc_index.specs.declared.vol.Vol.{Vol}
+use Rattle.shelf_machine.proofs.ForgottenTracks.{keeps_lists, same_lists}
+use Rattle.shelf_machine.proofs.HeldOperations.{held_vtoc}
+use Rattle.shelf_machine.proofs.KnownLemmas.{as_many}
 use Rattle.shelf_machine.proofs.ListPlaces.{map_set_same, not_there}
 use Rattle.shelf_machine.proofs.OneVolume.{kept_idle, order_kept}
 use Rattle.shelf_machine.specs.Operating.{IsSamePack}
@@ -80,3 +83,23 @@ returns-clause-base g c =
 
 pub returns-clause-geometries : goal.returns-clause-geometries
 returns-clause-geometries g c = map_set_same (λ (v : Vol). v.geometry) c.args.vols.now.items c.from-k.result c.index_mut.result.now c.rename.new.vol (there g c) (alike g c).geometry
+
+pub forget_on-requires : goal.forget_on-requires
+forget_on-requires g c =
+    let many = as_many c.args.vols.now.items c.args.known.now.items c.requires.buffers in
+    omega (arith, many, c.if-k-len.false, c.len.ensures)
+
+pub returns-then-k-len-clause-held : goal.returns-then-k-len-clause-held
+returns-then-k-len-clause-held g c told sound = c.requires.held told
+
+pub returns-then-k-len-clause-known : goal.returns-then-k-len-clause-known
+returns-then-k-len-clause-known g c = same_lists c.args.known.now.items
+
+pub returns-clause-held : goal.returns-clause-held
+returns-clause-held g c told sound =
+    held_vtoc (g.H.Hall.facts c.args.hall.now) (g.H.Hall.facts c.rename.new.hall) c.args.vols.now.items c.from-k.result c.index_mut.result.now c.rename.new.vol (there g c) (alike g c) c.rename.ensures.faults.units c.requires.indexes
+    c.args.known.now.items c.forget_on.new.known.items (rename_on c.args.old.now c.args.new.now) (g.H.Hall.meaning c.args.hall.now) (g.H.Hall.meaning c.rename.new.hall) (c.requires.held told) c.rename.result
+    (mounted_of _ _ (c.requires.kept told c.from-k.result c.index_mut.result.now (there g c)).kept) (directories.rename_keeps c.args.old.now c.args.new.now) (c.rename.ensures.files told) c.forget_on.ensures sound
+
+pub returns-clause-known : goal.returns-clause-known
+returns-clause-known g c = keeps_lists c.from-k.result c.args.known.now.items c.forget_on.new.known.items c.forget_on.ensures

@@ -38,6 +38,9 @@ place_behind_more-requires-clause-bodies g c told =
 pub place_behind_more-requires-clause-pending : goal.place_behind_more-requires-clause-pending
 place_behind_more-requires-clause-pending g c told = (c.put_owned-put.ensures.files told).pending (not_failed c.put_owned-put.result (c.wants_extent.ensures.wanted c.if-wants_extent.true))
 
+pub place_behind_more-requires-clause-held : goal.place_behind_more-requires-clause-held
+place_behind_more-requires-clause-held g c told = (c.put_owned-put.ensures.files told).held (not_failed c.put_owned-put.result (c.wants_extent.ensures.wanted c.if-wants_extent.true))
+
 pub place_behind_more-requires-clause-wanted : goal.place_behind_more-requires-clause-wanted
 place_behind_more-requires-clause-wanted g c told =
     let us = (g.H.Hall.facts c.args.hall.now).units in

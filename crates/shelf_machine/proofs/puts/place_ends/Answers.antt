@@ -14,6 +14,9 @@ place_last-requires-clause-order g c = c.in-Ok.ensures.order refl
 pub place_last-requires-clause-pending : goal.place_last-requires-clause-pending
 place_last-requires-clause-pending g c told = (c.in-Ok.ensures.shelf told).pending refl
 
+pub place_last-requires-clause-held : goal.place_last-requires-clause-held
+place_last-requires-clause-held g c told = (c.in-Ok.ensures.shelf told).held refl
+
 pub returns-in-Ok-clause-shelf : goal.returns-in-Ok-clause-shelf
 returns-in-Ok-clause-shelf g c told =
     let us = (g.H.Hall.facts c.args.hall.now).units in

@@ -19,6 +19,9 @@ place_block-requires-clause-order g c = c.in-Ok.ensures.order refl
 pub place_block-requires-clause-pending : goal.place_block-requires-clause-pending
 place_block-requires-clause-pending g c told = (c.in-Ok.ensures.shelf told).pending refl
 
+pub place_block-requires-clause-held : goal.place_block-requires-clause-held
+place_block-requires-clause-held g c told = (c.in-Ok.ensures.shelf told).held refl
+
 pub returns-in-Ok-clause-shelf : goal.returns-in-Ok-clause-shelf
 returns-in-Ok-clause-shelf g c told =
     let us = (g.H.Hall.facts c.args.hall.now).units in

@@ -20,4 +20,4 @@ here c =
     (known_low c.args.vols.now c.args.known.now.items c.args.v c.in_ok-vol.vol.now c.requires.buffers (sym c.in_ok-vol.ensures)) c.index.ensures
 
 pub returns-clause-info : goal.returns-clause-info
-returns-clause-info c shelf has knows dir = c.info_in.ensures.info shelf c.args.v (has.each c.args.v c.in_ok-vol.vol.now (sym c.in_ok-vol.ensures)) (knows c.args.v c.index.result.now (here c)).lists dir
+returns-clause-info c shelf has knows dir = c.info_in.ensures.info shelf c.args.v (has.each c.args.v c.in_ok-vol.vol.now (sym c.in_ok-vol.ensures)) (knows c.args.v c.index.result.now (here c)) dir

@@ -17,7 +17,7 @@ here c =
     (known_low c.args.vols.now c.args.known.now.items c.args.v c.in-Some.vol.now c.requires.buffers (sym c.in-Some.ensures)) c.index.ensures
 
 pub returns-in-Some : goal.returns-in-Some
-returns-in-Some c shelf has knows = c.write_refusal_in.ensures shelf c.args.v (has.each c.args.v c.in-Some.vol.now (sym c.in-Some.ensures)) (knows c.args.v c.index.result.now (here c)).lists
+returns-in-Some c shelf has knows = c.write_refusal_in.ensures shelf c.args.v (has.each c.args.v c.in-Some.vol.now (sym c.in-Some.ensures)) (knows c.args.v c.index.result.now (here c))
 
 pub returns-in-None : goal.returns-in-None
 returns-in-None c shelf has knows = begin_missing shelf c.args.v (has.none c.args.v (sym c.in-None.ensures)) c.args.dsn.now c.args.mode

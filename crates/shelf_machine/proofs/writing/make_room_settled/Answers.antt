@@ -77,6 +77,9 @@ returns-in_err-extend_on-clause-puts g c told sound =
     writer_again (g.H.Hall.facts c.args.hall.now).units (g.H.Hall.facts c.extend_on.new.hall).units vols vols' (g.H.Hall.meaning c.args.hall.now) (g.H.Hall.meaning c.extend_on.new.hall) w w refl (as_many vols vols' c.extend_on.ensures.geometries)
     refl refl c.requires.slot.0 (still g c told sound)
 
+pub returns-in_err-extend_on-clause-held : goal.returns-in_err-extend_on-clause-held
+returns-in_err-extend_on-clause-held g c told sound = c.in_err-extend_on.ensures.held told (sound_now g c sound)
+
 -- ---- it is done
 
 pub find_slot-requires-clause-unit : goal.find_slot-requires-clause-unit
@@ -151,3 +154,6 @@ returns-in-Ok-clause-puts g c told sound =
     let same = in_slot_same w w' w'.inner.slot c.in-Ok.ensures.others in
     rw c.in-Ok.ensures.hall (writer_again (g.H.Hall.facts c.args.hall.now).units (g.H.Hall.facts c.extend_on.new.hall).units vols vols' (g.H.Hall.meaning c.args.hall.now) (g.H.Hall.meaning c.extend_on.new.hall) w w'
     same.0 (as_many vols vols' c.extend_on.ensures.geometries) same.1 same.2 c.requires.slot.0 (stands g c told))
+
+pub returns-in-Ok-clause-held : goal.returns-in-Ok-clause-held
+returns-in-Ok-clause-held g c told sound = rw c.in-Ok.ensures.hall (c.in_ok-extend_on.ensures.held told refl)

@@ -1,16 +1,16 @@
 use Rattle.std.proofs.lemmas.Result.{err_from_is_err_and}
-use Rattle.std.proofs.Common.{◌≡◌, ◌&&◌, ◌∙◌, ℕ, Bool, true, false, not, List, Result, Ok, Err, Some, length, refl, sym, ap, subst, ⊎_elim}
-use Rattle.std.specs.Prelude.{OnOk, slice_get}
+use Rattle.std.proofs.Common.{◌≡◌, ◌&&◌, ◌∙◌, ℕ, Bool, true, false, not, List, Result, Err, refl, sym, ap, subst, ⊎_elim}
+use Rattle.std.specs.Prelude.{IsErrOf}
 use Rattle.chain_spec.specs.Kept.{joined, kept}
-use Rattle.dscb_codec.specs.declared.Dscb.TheVariants as formats
-use Rattle.dscb_codec.specs.declared.F1.{F1}
 use Rattle.hall_core.specs.Facts.{unit_of}
 use Rattle.hall_core.specs.Images.{image_in}
 use Rattle.pack_spec.specs.Directories.{name_number}
+use Rattle.pack_spec.specs.Volume.{volume_by}
 use Rattle.sorted_chain.specs.Plan.{ChangesOne}
 use Rattle.vol_model.specs.declared.answers.StoreErr.{StoreErr}
 use Rattle.vol_model.specs.declared.answers.StoreErr.TheVariants as errors
 use Rattle.vol_model.specs.declared.contents.Entry.{Entry}
+use Rattle.vol_model.specs.declared.contents.Volume.{Volume}
 use Rattle.vol_model.specs.declared.refusals.Refusal.{Refusal}
 use Rattle.vol_model.specs.Shelf.{enter_on, has_member, with_entry}
 use Rattle.vtoc_index.specs.declared.vol.Vol.{Vol}
@@ -20,14 +20,14 @@ use Rattle.pds_directory.specs.Directories.{IsReadIn, entries_read}
 use Rattle.free_rebuild.specs.Operations.{Operates}
 use Rattle.stow_ops.specs.Stores.{AreForDir, DifferOn, directory_tracks}
 use Rattle.stow_ops.proofs.ChangedEntries.{entered_changes, entered_with, no_member, stands_member}
-use Rattle.stow_ops.proofs.ChangingSteps.{but_device, have_now, index_now, index_read, makes_now, not_now, on_both, operated_now, packed_now, slot_same}
+use Rattle.stow_ops.proofs.ChangingSteps.{but_device, done_as, failed_as, index_by, not_operated}
 use Rattle.stow_ops.proofs.FoundSets.{enter_refused, makes_enter}
-use Rattle.stow_ops.proofs.ReadLists.{enter_for, read_named, read_rises}
+use Rattle.stow_ops.proofs.ReadLists.{enter_for, packed_read, read_named, read_rises}
 use Rattle.stow_ops.proofs.Tellings.{named_set}
 use Rattle.stow_ops.proofs.changing.enter.Goals as goal
 
 pub with_entry-requires : goal.with_entry-requires
-with_entry-requires g c = record { rise = read_rises c.in_ok-dir.dir c.in_ok-dir.ensures.lawful c.in_ok-kept_of.field-0.items c.in_ok-kept_of.ensures.kept }
+with_entry-requires g c = record { rise = read_rises c.args.dir.now c.requires.dir c.in_ok-kept_of.field-0.items c.in_ok-kept_of.ensures.kept }
 
 none_there : (b : Bool) → (b && false) ≡ false
 none_there true = refl
@@ -36,27 +36,20 @@ none_there false = refl
 not_memory : (r : Refusal) → errors.Refused r ≡ errors.Memory → ⊥
 not_memory r same = cc
 
-pub returns-in_err-dir-clause-files : goal.returns-in_err-dir-clause-files
-returns-in_err-dir-clause-files g c = λ told f is.
-    let v : Vol = c.args.vol.now in
-    let m0 = g.H.Hall.meaning c.args.hall.now in
-    let name : List ℕ = (unit_of (g.H.Hall.facts c.args.hall.now).units v.unit).name in
-    let image : List ℕ = image_in m0 (g.H.Hall.facts c.args.hall.now) v.unit in
-    let p = err_from_is_err_and c.from_residual.result c.from_residual.ensures.1 in
-    let given : c.from_residual.result ≡ Err c.in_err-dir.field-0.0 = p.1 ∙ ap (λ (e : StoreErr). Err e) p.2 in
-    subst (λ (r : Result (Unit {0}) StoreErr). Operates name (enter_on (record { bytes = f.name }) c.args.entry.now c.args.replace) c.read.new.vol (DifferOn v.geometry (directory_tracks image v f)) m0 (g.H.Hall.meaning c.read.new.hall) r) (sym given)
-    (not_now (g.H.Hall.facts c.args.hall.now).units (g.H.Hall.facts c.read.new.hall).units m0 (g.H.Hall.meaning c.read.new.hall) v c.read.new.vol (c.read.ensures.same told) c.read.ensures.faults.units c.read.ensures.others (c.requires.durable told) f (enter_on (record { bytes = f.name }) c.args.entry.now c.args.replace) c.read.new.vol c.in_err-dir.field-0.0 (c.requires.part told f is) (λ r why. absurd (c.in_err-dir.ensures.refused r (ap Err why))))
-
 pub returns-in_err-kept_of-clause-files : goal.returns-in_err-kept_of-clause-files
 returns-in_err-kept_of-clause-files g c = λ told f is.
     let v : Vol = c.args.vol.now in
     let m0 = g.H.Hall.meaning c.args.hall.now in
     let name : List ℕ = (unit_of (g.H.Hall.facts c.args.hall.now).units v.unit).name in
     let image : List ℕ = image_in m0 (g.H.Hall.facts c.args.hall.now) v.unit in
-    let p = err_from_is_err_and c.from_residual-in_err-kept_of.result c.from_residual-in_err-kept_of.ensures.1 in
-    let given : c.from_residual-in_err-kept_of.result ≡ Err c.in_err-kept_of.field-0.0 = p.1 ∙ ap (λ (e : StoreErr). Err e) p.2 in
-    subst (λ (r : Result (Unit {0}) StoreErr). Operates name (enter_on (record { bytes = f.name }) c.args.entry.now c.args.replace) c.read.new.vol (DifferOn v.geometry (directory_tracks image v f)) m0 (g.H.Hall.meaning c.read.new.hall) r) (sym given)
-    (not_now (g.H.Hall.facts c.args.hall.now).units (g.H.Hall.facts c.read.new.hall).units m0 (g.H.Hall.meaning c.read.new.hall) v c.read.new.vol (c.read.ensures.same told) c.read.ensures.faults.units c.read.ensures.others (c.requires.durable told) f (enter_on (record { bytes = f.name }) c.args.entry.now c.args.replace) c.read.new.vol c.in_err-kept_of.field-0.0 (c.requires.part told f is) (λ r why. absurd (not_memory r (sym why ∙ c.in_err-kept_of.ensures.memory c.in_err-kept_of.field-0.0 refl))))
+    let part = c.requires.part told f is in
+    let operation : Volume → Result Volume Refusal = enter_on (record { bytes = f.name }) c.args.entry.now c.args.replace in
+    let changes : List ℕ → List ℕ → Type 0 = DifferOn v.geometry (directory_tracks image v f) in
+    let p = err_from_is_err_and c.from_residual.result c.from_residual.ensures.1 in
+    let given : c.from_residual.result ≡ Err c.in_err-kept_of.field-0.0 = p.1 ∙ ap (λ (e : StoreErr). Err e) p.2 in
+    subst (λ r. Operates name operation v changes m0 m0 r) (sym given)
+    (not_operated name operation v changes m0 (g.met.H.Hall.counts_now c.args.hall.now) (c.in_err-kept_of.field-0.0) (volume_by image v.geometry v.vtoc) part.part.set.mounted.volume
+    (λ r why. absurd (not_memory r (sym why ∙ c.in_err-kept_of.ensures.memory c.in_err-kept_of.field-0.0 refl))))
 
 pub returns-in_err-entries-clause-files : goal.returns-in_err-entries-clause-files
 returns-in_err-entries-clause-files g c = λ told f is.
@@ -65,47 +58,59 @@ returns-in_err-entries-clause-files g c = λ told f is.
     let name : List ℕ = (unit_of (g.H.Hall.facts c.args.hall.now).units v.unit).name in
     let image : List ℕ = image_in m0 (g.H.Hall.facts c.args.hall.now) v.unit in
     let part = c.requires.part told f is in
-    let read : IsReadIn image v f c.in_ok-dir.dir = c.in_ok-dir.ensures.dir told f is in
-    let old : List Entry = c.in_ok-kept_of.field-0.items in
-    let list : old ≡ kept name_number (joined (entries_read c.in_ok-dir.dir)) = c.in_ok-kept_of.ensures.kept in
+    let operation : Volume → Result Volume Refusal = enter_on (record { bytes = f.name }) c.args.entry.now c.args.replace in
+    let changes : List ℕ → List ℕ → Type 0 = DifferOn v.geometry (directory_tracks image v f) in
     let p = err_from_is_err_and c.from_residual-in_err-entries.result c.from_residual-in_err-entries.ensures.1 in
     let given : c.from_residual-in_err-entries.result ≡ Err c.in_err-entries.field-0.0 = p.1 ∙ ap (λ (e : StoreErr). Err e) p.2 in
-    subst (λ (r : Result (Unit {0}) StoreErr). Operates name (enter_on (record { bytes = f.name }) c.args.entry.now c.args.replace) c.read.new.vol (DifferOn v.geometry (directory_tracks image v f)) m0 (g.H.Hall.meaning c.read.new.hall) r) (sym given)
-    (not_now (g.H.Hall.facts c.args.hall.now).units (g.H.Hall.facts c.read.new.hall).units (g.H.Hall.meaning c.args.hall.now) (g.H.Hall.meaning c.read.new.hall) c.args.vol.now c.read.new.vol (c.read.ensures.same told) c.read.ensures.faults.units c.read.ensures.others (c.requires.durable told) f (enter_on (record { bytes = f.name }) c.args.entry.now c.args.replace) c.read.new.vol c.in_err-entries.field-0.0 part (λ r why.
-    let refused = c.in_err-entries.ensures.refused r (ap Err why) in
-    let rise = read_rises c.in_ok-dir.dir c.in_ok-dir.ensures.lawful old list in
-    let member : has_member c.args.entry.now.name.bytes old ≡ true = stands_member c.args.entry.now old old rise c.in_err-entries.ensures.named (read_named c.in_ok-dir.dir c.in_ok-dir.ensures.lawful old list) refused.2.0 refused.2.1 in
-    enter_refused image v f part.part c.in_ok-dir.dir read c.args.entry.now c.args.replace refused.1 (subst (λ (es : List Entry). has_member c.args.entry.now.name.bytes es ≡ true) list member) ∙ ap Err (sym refused.0)))
-
-pub store-requires-clause-entries : goal.store-requires-clause-entries
-store-requires-clause-entries g c = subst AreForDir (sym c.deref.ensures.value) (enter_for c.in_ok-dir.dir c.in_ok-dir.ensures.lawful c.in_ok-kept_of.field-0.items c.in_ok-kept_of.ensures.kept c.args.entry.now c.in_ok-entries.entries.items c.requires.entry c.in_ok-entries.ensures.named c.in_ok-entries.ensures.entered)
-
-pub store-requires-clause-change : goal.store-requires-clause-change
-store-requires-clause-change g c = λ told f there.
-    let is : slice_get c.args.vol.now.slots.items c.args.slot ≡ Some (formats.F1 f) = sym (slot_same (g.H.Hall.facts c.args.hall.now).units (g.H.Hall.facts c.read.new.hall).units (g.H.Hall.meaning c.args.hall.now) (g.H.Hall.meaning c.read.new.hall) c.args.vol.now c.read.new.vol (c.read.ensures.same told) c.read.ensures.faults.units c.read.ensures.others c.args.slot) ∙ there in
-    let part = c.requires.part told f is in
-    let changes : ChangesOne name_number (kept name_number (joined (entries_read c.in_ok-dir.dir))) c.deref.result.now =
-    subst (λ (es : List Entry). ChangesOne name_number (kept name_number (joined (entries_read c.in_ok-dir.dir))) es) (sym c.deref.ensures.value)
-    (subst (λ (es : List Entry). ChangesOne name_number es c.in_ok-entries.entries.items) c.in_ok-kept_of.ensures.kept (entered_changes c.args.entry.now c.in_ok-kept_of.field-0.items c.in_ok-entries.entries.items (read_rises c.in_ok-dir.dir c.in_ok-dir.ensures.lawful c.in_ok-kept_of.field-0.items c.in_ok-kept_of.ensures.kept) c.in_ok-entries.ensures.entered)) in
-    have_now (g.H.Hall.facts c.args.hall.now).units (g.H.Hall.facts c.read.new.hall).units (g.H.Hall.meaning c.args.hall.now) (g.H.Hall.meaning c.read.new.hall) c.args.vol.now c.read.new.vol (c.read.ensures.same told) c.read.ensures.faults.units c.read.ensures.others f c.in_ok-dir.dir c.deref.result.now part (c.read.ensures.mounted told) (c.in_ok-dir.ensures.dir told f is) c.in_ok-dir.ensures.lawful (c.requires.packed told f is) changes
-
-on_unit : {T E : Type 0} (r : Result T E) → OnOk r (Unit {0})
-on_unit (Ok x) = tt
-on_unit (Err e) = tt
-
-pub returns-clause-files : goal.returns-clause-files
-returns-clause-files g c = λ told f is.
-    let v : Vol = c.args.vol.now in
-    let image : List ℕ = image_in (g.H.Hall.meaning c.args.hall.now) (g.H.Hall.facts c.args.hall.now) v.unit in
-    let part = c.requires.part told f is in
-    let dir : Dir = c.in_ok-dir.dir in
-    let read : IsReadIn image v f dir = c.in_ok-dir.ensures.dir told f is in
+    subst (λ r. Operates name operation v changes m0 m0 r) (sym given)
+    (not_operated name operation v changes m0 (g.met.H.Hall.counts_now c.args.hall.now) (c.in_err-entries.field-0.0) (volume_by image v.geometry v.vtoc) part.part.set.mounted.volume
+    (λ r why.
+    let dir : Dir = c.args.dir.now in
     let old : List Entry = c.in_ok-kept_of.field-0.items in
     let list : old ≡ kept name_number (joined (entries_read dir)) = c.in_ok-kept_of.ensures.kept in
-    let rise = read_rises dir c.in_ok-dir.ensures.lawful old list in
-    let named = c.in_ok-entries.ensures.named in
-    let all = read_named dir c.in_ok-dir.ensures.lawful old list in
+    let refused = c.in_err-entries.ensures.refused r (ap Err why) in
+    let rise = read_rises dir c.requires.dir old list in
+    let member : has_member c.args.entry.now.name.bytes old ≡ true = stands_member c.args.entry.now old old rise c.in_err-entries.ensures.named (read_named dir c.requires.dir old list) refused.2.0 refused.2.1 in
+    enter_refused image v f part.part dir (c.requires.read told f is) c.args.entry.now c.args.replace refused.1 (subst (λ (es : List Entry). has_member c.args.entry.now.name.bytes es ≡ true) list member) ∙ ap Err (sym refused.0)))
+
+pub store-requires-clause-entries : goal.store-requires-clause-entries
+store-requires-clause-entries g c = subst AreForDir (sym c.deref.ensures.value) (enter_for c.args.dir.now c.requires.dir c.in_ok-kept_of.field-0.items c.in_ok-kept_of.ensures.kept c.args.entry.now c.in_ok-entries.entries.items c.requires.entry c.in_ok-entries.ensures.named c.in_ok-entries.ensures.entered)
+
+pub store-requires-clause-change : goal.store-requires-clause-change
+store-requires-clause-change g c = λ told f is.
+    let image : List ℕ = image_in (g.H.Hall.meaning c.args.hall.now) (g.H.Hall.facts c.args.hall.now) c.args.vol.now.unit in
+    let dir : Dir = c.args.dir.now in
+    let old : List Entry = c.in_ok-kept_of.field-0.items in
+    let list : old ≡ kept name_number (joined (entries_read dir)) = c.in_ok-kept_of.ensures.kept in
+    let rise = read_rises dir c.requires.dir old list in
+    record {
+      part = c.requires.part told f is;
+      read = c.requires.read told f is;
+      packed = packed_read image c.args.vol.now f dir (c.requires.read told f is) c.requires.dir (c.requires.packed told f is);
+      changes = subst (λ (es : List Entry). ChangesOne name_number (kept name_number (joined (entries_read dir))) es) (sym c.deref.ensures.value)
+          (subst (λ (es : List Entry). ChangesOne name_number es c.in_ok-entries.entries.items) list (entered_changes c.args.entry.now old c.in_ok-entries.entries.items rise c.in_ok-entries.ensures.entered));
+    }
+
+as_other : {T U : Type 0} {e d : StoreErr} → IsErrOf {T = T} (Err e) d → IsErrOf {T = U} (Err e) d
+as_other is = cc
+
+pub returns-in_err-store-clause-files : goal.returns-in_err-store-clause-files
+returns-in_err-store-clause-files g c = λ told f is.
+    let v : Vol = c.args.vol.now in
+    let m0 = g.H.Hall.meaning c.args.hall.now in
+    let name : List ℕ = (unit_of (g.H.Hall.facts c.args.hall.now).units v.unit).name in
+    let image : List ℕ = image_in m0 (g.H.Hall.facts c.args.hall.now) v.unit in
+    let part = c.requires.part told f is in
+    let operation : Volume → Result Volume Refusal = enter_on (record { bytes = f.name }) c.args.entry.now c.args.replace in
+    let changes : List ℕ → List ℕ → Type 0 = DifferOn v.geometry (directory_tracks image v f) in
+    let dir : Dir = c.args.dir.now in
+    let read : IsReadIn image v f dir = c.requires.read told f is in
+    let old : List Entry = c.in_ok-kept_of.field-0.items in
+    let list : old ≡ kept name_number (joined (entries_read dir)) = c.in_ok-kept_of.ensures.kept in
+    let rise = read_rises dir c.requires.dir old list in
     let new : List Entry = c.in_ok-entries.entries.items in
+    let named = c.in_ok-entries.ensures.named in
+    let all = read_named dir c.requires.dir old list in
     let after : c.deref.result.now ≡ with_entry c.args.entry.now (kept name_number (joined (entries_read dir))) =
     c.deref.ensures.value ∙ entered_with c.args.entry.now old new rise named all c.in_ok-entries.ensures.entered ∙ ap (with_entry c.args.entry.now) list in
     let free : (not c.args.replace && has_member c.args.entry.now.name.bytes old) ≡ false = ⊎_elim
@@ -115,30 +120,59 @@ returns-clause-files g c = λ told f is.
     let allowed : (not c.args.replace && has_member c.args.entry.now.name.bytes (kept name_number (joined (entries_read dir)))) ≡ false =
     subst (λ (es : List Entry). (not c.args.replace && has_member c.args.entry.now.name.bytes es) ≡ false) list free in
     let makes = makes_enter image v f part.part dir read c.args.entry.now c.args.replace c.deref.result.now after allowed in
-    operated_now (g.H.Hall.facts c.args.hall.now).units (g.H.Hall.facts c.read.new.hall).units (g.H.Hall.meaning c.args.hall.now) (g.H.Hall.meaning c.read.new.hall) c.args.vol.now c.read.new.vol (c.read.ensures.same told) c.read.ensures.faults.units c.read.ensures.others (c.requires.durable told) f (enter_on (record { bytes = f.name }) c.args.entry.now c.args.replace) c.store.new.vol (g.H.Hall.meaning c.store.new.hall) c.store.result
-    (c.store.ensures.files told f (enter_on (record { bytes = f.name }) c.args.entry.now c.args.replace) (slot_same (g.H.Hall.facts c.args.hall.now).units (g.H.Hall.facts c.read.new.hall).units (g.H.Hall.meaning c.args.hall.now) (g.H.Hall.meaning c.read.new.hall) c.args.vol.now c.read.new.vol (c.read.ensures.same told) c.read.ensures.faults.units c.read.ensures.others c.args.slot ∙ is) (makes_now (g.H.Hall.facts c.args.hall.now).units (g.H.Hall.facts c.read.new.hall).units (g.H.Hall.meaning c.args.hall.now) (g.H.Hall.meaning c.read.new.hall) c.args.vol.now c.read.new.vol (c.read.ensures.same told) c.read.ensures.faults.units c.read.ensures.others (enter_on (record { bytes = f.name }) c.args.entry.now c.args.replace) f (length dir.places.items) c.deref.result.now makes))
+    let p = err_from_is_err_and c.from_residual-in_err-store.result c.from_residual-in_err-store.ensures.1 in
+    let given : c.from_residual-in_err-store.result ≡ Err c.in_err-store.field-0.0 = p.1 ∙ ap (λ (e : StoreErr). Err e) p.2 in
+    subst (λ r. Operates name operation c.store.new.vol changes m0 (g.H.Hall.meaning c.store.new.hall) r) (sym given)
+    (failed_as name operation c.store.new.vol changes m0 (g.H.Hall.meaning c.store.new.hall) c.in_err-store.field-0.0 (c.in_err-store.ensures.files told f operation is makes))
 
-pub returns-clause-packed : goal.returns-clause-packed
-returns-clause-packed g c = λ told f is.
-    on_both {P = Unit {0}} c.store.result
-    (λ _ packed. packed_now (g.H.Hall.facts c.args.hall.now).units (g.H.Hall.facts c.read.new.hall).units (g.H.Hall.meaning c.args.hall.now) (g.H.Hall.meaning c.read.new.hall) c.args.vol.now c.read.new.vol (c.read.ensures.same told) c.read.ensures.faults.units c.read.ensures.others (g.H.Hall.facts c.store.new.hall).units (g.H.Hall.meaning c.store.new.hall) c.store.new.vol c.store.ensures.faults.units c.store.ensures.others f packed)
-    (on_unit c.store.result)
-    (c.store.ensures.packed told f (slot_same (g.H.Hall.facts c.args.hall.now).units (g.H.Hall.facts c.read.new.hall).units (g.H.Hall.meaning c.args.hall.now) (g.H.Hall.meaning c.read.new.hall) c.args.vol.now c.read.new.vol (c.read.ensures.same told) c.read.ensures.faults.units c.read.ensures.others c.args.slot ∙ is))
+pub returns-clause-files : goal.returns-clause-files
+returns-clause-files g c = λ told f is.
+    let v : Vol = c.args.vol.now in
+    let m0 = g.H.Hall.meaning c.args.hall.now in
+    let name : List ℕ = (unit_of (g.H.Hall.facts c.args.hall.now).units v.unit).name in
+    let image : List ℕ = image_in m0 (g.H.Hall.facts c.args.hall.now) v.unit in
+    let part = c.requires.part told f is in
+    let operation : Volume → Result Volume Refusal = enter_on (record { bytes = f.name }) c.args.entry.now c.args.replace in
+    let changes : List ℕ → List ℕ → Type 0 = DifferOn v.geometry (directory_tracks image v f) in
+    let dir : Dir = c.args.dir.now in
+    let read : IsReadIn image v f dir = c.requires.read told f is in
+    let old : List Entry = c.in_ok-kept_of.field-0.items in
+    let list : old ≡ kept name_number (joined (entries_read dir)) = c.in_ok-kept_of.ensures.kept in
+    let rise = read_rises dir c.requires.dir old list in
+    let new : List Entry = c.in_ok-entries.entries.items in
+    let named = c.in_ok-entries.ensures.named in
+    let all = read_named dir c.requires.dir old list in
+    let after : c.deref.result.now ≡ with_entry c.args.entry.now (kept name_number (joined (entries_read dir))) =
+    c.deref.ensures.value ∙ entered_with c.args.entry.now old new rise named all c.in_ok-entries.ensures.entered ∙ ap (with_entry c.args.entry.now) list in
+    let free : (not c.args.replace && has_member c.args.entry.now.name.bytes old) ≡ false = ⊎_elim
+    (λ replaced. ap (λ (b : Bool). not b && has_member c.args.entry.now.name.bytes old) replaced)
+    (λ none. ap (λ (b : Bool). not c.args.replace && b) (no_member c.args.entry.now old new rise named all none) ∙ none_there (not c.args.replace))
+    c.in_ok-entries.ensures.replaced in
+    let allowed : (not c.args.replace && has_member c.args.entry.now.name.bytes (kept name_number (joined (entries_read dir)))) ≡ false =
+    subst (λ (es : List Entry). (not c.args.replace && has_member c.args.entry.now.name.bytes es) ≡ false) list free in
+    let makes = makes_enter image v f part.part dir read c.args.entry.now c.args.replace c.deref.result.now after allowed in
+    done_as name operation c.store.new.vol changes m0 (g.H.Hall.meaning c.store.new.hall) c.in_ok-store.field-0 c.in_ok-entries.entries (c.in_ok-store.ensures.files told f operation is makes)
 
 pub returns-clause-mounted : goal.returns-clause-mounted
 returns-clause-mounted g c = λ told other.
     let set = named_set c.args.vol.now.slots.items c.args.slot c.requires.set in
-    let f : F1 = set.0 in
-    let m0 = g.H.Hall.meaning c.args.hall.now in
-    let does : Operates (unit_of (g.H.Hall.facts c.args.hall.now).units c.args.vol.now.unit).name (enter_on (record { bytes = f.name }) c.args.entry.now c.args.replace) c.store.new.vol (DifferOn c.args.vol.now.geometry (directory_tracks (image_in m0 (g.H.Hall.facts c.args.hall.now) c.args.vol.now.unit) c.args.vol.now f)) m0 (g.H.Hall.meaning c.store.new.hall) c.store.result = (returns-clause-files g c told f set.1) in
-    let before = index_read (g.H.Hall.facts c.args.hall.now).units (g.H.Hall.facts c.read.new.hall).units (g.H.Hall.meaning c.args.hall.now) (g.H.Hall.meaning c.read.new.hall) c.args.vol.now c.read.new.vol (c.read.ensures.same told) c.read.ensures.faults.units c.read.ensures.others (c.read.ensures.mounted told) in
-    but_device c.store.result other
-    (on_both {Q = Unit {0}} c.store.result
-    (λ done _. index_now (g.H.Hall.facts c.args.hall.now).units (g.H.Hall.facts c.read.new.hall).units (g.H.Hall.meaning c.args.hall.now) (g.H.Hall.meaning c.read.new.hall) c.args.vol.now c.read.new.vol (c.read.ensures.same told) c.read.ensures.faults.units c.read.ensures.others (g.H.Hall.facts c.store.new.hall).units (g.H.Hall.meaning c.store.new.hall) c.store.new.vol c.store.ensures.faults.units c.store.ensures.others f ((enter_on (record { bytes = f.name }) c.args.entry.now c.args.replace) does.does.volume) done)
-    does.does.done (on_unit c.store.result))
-    (λ is. let same = c.store.ensures.memory is in
-    subst (λ h. IsMounted (image_in (g.H.Hall.meaning h) (g.H.Hall.facts h) c.args.vol.now.unit) c.store.new.vol) (sym same.0)
-    (subst (λ (u : Vol). IsMounted (image_in (g.H.Hall.meaning c.read.new.hall) (g.H.Hall.facts c.read.new.hall) c.args.vol.now.unit) u) (sym same.1) before))
-    (λ q is. let same = c.store.ensures.refused q is in
-    subst (λ h. IsMounted (image_in (g.H.Hall.meaning h) (g.H.Hall.facts h) c.args.vol.now.unit) c.store.new.vol) (sym same.0)
-    (subst (λ (u : Vol). IsMounted (image_in (g.H.Hall.meaning c.read.new.hall) (g.H.Hall.facts c.read.new.hall) c.args.vol.now.unit) u) (sym same.1) before))
+    let does = returns-clause-files g c told set.0 set.1 in
+    index_by (g.H.Hall.facts c.args.hall.now).units (g.H.Hall.facts c.store.new.hall).units (g.H.Hall.meaning c.store.new.hall) c.args.vol.now c.store.new.vol c.in_ok-store.ensures.faults.units does.does.done.index
+
+pub returns-in_err-kept_of-clause-mounted : goal.returns-in_err-kept_of-clause-mounted
+returns-in_err-kept_of-clause-mounted g c = λ told other. let set = named_set c.args.vol.now.slots.items c.args.slot c.requires.set in (c.requires.part told set.0 set.1).part.set.mounted
+
+pub returns-in_err-entries-clause-mounted : goal.returns-in_err-entries-clause-mounted
+returns-in_err-entries-clause-mounted g c = λ told other. let set = named_set c.args.vol.now.slots.items c.args.slot c.requires.set in (c.requires.part told set.0 set.1).part.set.mounted
+
+pub returns-in_err-store-clause-mounted : goal.returns-in_err-store-clause-mounted
+returns-in_err-store-clause-mounted g c = λ told other.
+    let set = named_set c.args.vol.now.slots.items c.args.slot c.requires.set in
+    let before = (c.requires.part told set.0 set.1).part.set.mounted in
+    let p = err_from_is_err_and c.from_residual-in_err-store.result c.from_residual-in_err-store.ensures.1 in
+    let given : c.from_residual-in_err-store.result ≡ Err c.in_err-store.field-0.0 = p.1 ∙ ap (λ (e : StoreErr). Err e) p.2 in
+    let as_before = λ (same : (c.store.new.hall ≡ c.args.hall.now) × (c.store.new.vol ≡ c.args.vol.now)). subst (λ h. IsMounted (image_in (g.H.Hall.meaning h) (g.H.Hall.facts h) c.args.vol.now.unit) c.store.new.vol) (sym same.0)
+    (subst (λ (u : Vol). IsMounted (image_in (g.H.Hall.meaning c.args.hall.now) (g.H.Hall.facts c.args.hall.now) c.args.vol.now.unit) u) (sym same.1) before) in
+    but_device {T = Unit {0}} (Err c.in_err-store.field-0.0) (λ is. other (given ∙ as_other is)) tt
+    (λ is. as_before (c.in_err-store.ensures.memory is))
+    (λ q is. as_before (c.in_err-store.ensures.refused q is))

@@ -36,3 +36,6 @@ returns-clause-idle g c told =
     rw c.front_of-front.ensures.vols (idles_read (g.H.Hall.facts was.hall).units (g.H.Hall.facts c.front_of-front.new.hall).units (units_of was.vols.items) c.front_of-front.ensures.faults.units was.vols.items
     (g.H.Hall.meaning was.hall) (g.H.Hall.meaning c.front_of-front.new.hall) (g.met.H.Hall.counts_now was.hall) (c.front_of-front.ensures.same told)
     (writer_same _ _ _ _ was.vols.items was.writer (c.front_of-front.ensures.same told).state c.front_of-front.ensures.faults.units))
+
+pub front_of-front-requires-clause-held : goal.front_of-front-requires-clause-held
+front_of-front-requires-clause-held g c told = c.args.self.now.held c.requires.sound told

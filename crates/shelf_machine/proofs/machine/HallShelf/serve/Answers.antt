@@ -2,6 +2,7 @@ use Rattle.std.proofs.Common.{sym, ap, subst, ◌∙◌}
 use Rattle.shelf_machine.specs.Machine.{is_open_in}
 use Rattle.shelf_machine.specs.Pending.{HasSlot, IsPendingBy}
 use Rattle.vol_model.specs.Calls.{sound_after}
+use Rattle.shelf_machine.proofs.ForgottenTracks.{knows_kept}
 use Rattle.shelf_machine.proofs.KnownLemmas.{held_after, knows_applied}
 use Rattle.shelf_machine.proofs.Machines.{by_files}
 use Rattle.shelf_machine.proofs.ReportLemmas.{applies_reported, idle_reported, machine_call, not_print, still_sound}
@@ -17,10 +18,11 @@ invariant_of-self g c = record {
       let still = still_sound c.report.ensures c.requires.sound sound in
       subst (IsPendingBy (g.H.Hall.meaning c.operate_settled-ran.new.hall) (g.H.Hall.facts c.operate_settled-ran.new.hall).units c.operate_settled-ran.new.vols.items) (sym (c.operate_settled-ran.ensures.writer still))
       ((c.operate_settled-ran.ensures.shelf told).durable still);
-  buffers = c.follow.ensures.buffers ∙ c.args.self.now.buffers ∙ sym c.operate_settled-ran.ensures.geometries;
+  buffers = c.follow.ensures.buffers ∙ c.operate_settled-ran.ensures.known.buffers ∙ c.args.self.now.buffers ∙ sym c.operate_settled-ran.ensures.geometries;
   bodies = λ sound told. knows_applied c.operate_settled-ran.result _ c.is_ok.result c.is_ok.ensures.value c.follow.ensures (c.operate_settled-ran.ensures.shelf told).applies c.operate_settled-ran.ensures.served
-      (still_sound c.report.ensures c.requires.sound sound) (c.args.self.now.bodies c.requires.sound told);
-  held = λ sound told. held_after (g.H.Hall.meaning c.operate_settled-ran.new.hall).state (g.H.Hall.facts c.operate_settled-ran.new.hall).units c.operate_settled-ran.new.vols.items c.follow.ensures;
+      (still_sound c.report.ensures c.requires.sound sound) (knows_kept c.args.self.now.known.items c.operate_settled-ran.new.known.items c.operate_settled-ran.ensures.known _ (c.args.self.now.bodies c.requires.sound told));
+  held = λ sound told. held_after (g.H.Hall.meaning c.operate_settled-ran.new.hall).state (g.H.Hall.facts c.operate_settled-ran.new.hall).units c.operate_settled-ran.new.vols.items c.follow.ensures
+      (c.operate_settled-ran.ensures.held told (still_sound c.report.ensures c.requires.sound sound));
 }
 
 pub returns-clause-shelf : goal.returns-clause-shelf
@@ -48,3 +50,6 @@ operate_settled-ran-requires-clause-slot g c = c.args.self.now.slot c.requires.s
 
 pub operate_settled-ran-requires-clause-bodies : goal.operate_settled-ran-requires-clause-bodies
 operate_settled-ran-requires-clause-bodies g c = c.args.self.now.bodies c.requires.sound
+
+pub operate_settled-ran-requires-clause-held : goal.operate_settled-ran-requires-clause-held
+operate_settled-ran-requires-clause-held g c = c.args.self.now.held c.requires.sound

@@ -1,4 +1,4 @@
-use Rattle.std.proofs.Common.{◌≡◌, ◌∙◌, Option, sym, ap, subst}
+use Rattle.std.proofs.Common.{◌≡◌, ◌∙◌, ℕ, Option, sym, ap, subst}
 use Rattle.std.specs.Prelude.{Err, option_map}
 use Rattle.vol_model.specs.declared.answers.ReadErr.TheVariants as errors
 use Rattle.vol_model.specs.declared.answers.SetInfo.{SetInfo}
@@ -21,7 +21,7 @@ returns-in-Ok-clause-value g c told =
     let now = c.hold-held.new.self in
     let sound = (c.hold-held.ensures.faults.others (answered_sound c.hold-held.result c.in-Ok.ensures.read)).0 in
     let same : (meaning_of now).state ≡ (meaning_of c.args.self.now).state = (c.hold-held.ensures.idle told).same.state in
-    let size = c.in-Ok.ensures.size ∙ size_is c.hold-held.result (body_on (meaning_of c.args.self.now).state c.args.v c.args.dsn.now.bytes) (library_at (known_of now) c.args.v) (c.hold-held.ensures.library told) c.in-Ok.ensures.read
+    let size = c.in-Ok.ensures.size ∙ size_is c.hold-held.result (body_on (meaning_of c.args.self.now).state c.args.v c.args.dsn.now.bytes) (λ (at : ℕ). library_at (known_of now) c.args.v at) (c.hold-held.ensures.library told) c.in-Ok.ensures.read
     ∙ ap (λ (s : Shelf). directory_size (body_on s c.args.v c.args.dsn.now.bytes)) (sym same) in
     c.info_on.ensures.info (meaning_of now).state (machine_volumes now c.deref.result.now c.deref.ensures.value sound told) (now.bodies sound told) size
     ∙ ap (λ (s : Shelf). option_map set_info (set_on s c.args.v c.args.dsn.now.bytes)) same

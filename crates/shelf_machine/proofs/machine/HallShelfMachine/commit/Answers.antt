@@ -11,6 +11,9 @@ pub close_writer-closed-requires-clause-pending : goal.close_writer-closed-requi
 close_writer-closed-requires-clause-pending g c told =
     subst (IsPendingBy (g.H.Hall.meaning c.args.self.now.hall) (g.H.Hall.facts c.args.self.now.hall).units c.args.self.now.vols.items) c.in-Some.is (c.args.self.now.pending c.requires.sound told)
 
+pub close_writer-closed-requires-clause-held : goal.close_writer-closed-requires-clause-held
+close_writer-closed-requires-clause-held g c told = c.args.self.now.held c.requires.sound told
+
 pub invariant_of-self : goal.invariant_of-self
 invariant_of-self g c =
     let run = c.close_writer-closed.ensures in

@@ -11,6 +11,9 @@ pub put_block-put-requires-clause-pending : goal.put_block-put-requires-clause-p
 put_block-put-requires-clause-pending g c told =
     subst (IsPendingBy (g.H.Hall.meaning c.args.self.now.hall) (g.H.Hall.facts c.args.self.now.hall).units c.args.self.now.vols.items) c.in-Some.is (c.args.self.now.pending c.requires.sound told)
 
+pub put_block-put-requires-clause-held : goal.put_block-put-requires-clause-held
+put_block-put-requires-clause-held g c told = c.args.self.now.held c.requires.sound told
+
 pub invariant_of-self : goal.invariant_of-self
 invariant_of-self g c =
     let put = c.put_block-put.ensures in
