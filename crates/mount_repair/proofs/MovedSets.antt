@@ -14,6 +14,7 @@ use Rattle.pack_spec.specs.Volume.{attr_of, data_set_of}
 use Rattle.pack_spec.proofs.BodyKinds.{partitioned_body}
 use Rattle.pack_spec.proofs.PartBodies.{part_end, part_is, part_or_unread}
 use Rattle.pds_directory.specs.Directories.{IsPartIn, IsRead, IsReadIn, IsReadablePart, data_in, directory_in, end_in, entries_read, members_in, owned_in, part_in}
+use Rattle.pds_directory.specs.declared.dir.Dir.{Dir}
 use Rattle.pds_directory.proofs.PackedDirectories.{directory_in_is}
 use Rattle.stow_ops.specs.Packing.{IsPackingOf}
 use Rattle.stow_ops.specs.declared.packings.Packing.{Packing}
@@ -30,7 +31,9 @@ use Rattle.vtoc_index.specs.Names.{AreByName, name_at}
 use Rattle.vtoc_index.specs.declared.vol.Vol.{Vol}
 use Rattle.vtoc_index.proofs.NameOrder.{name_there, place_named}
 use Rattle.vtoc_sets.specs.Sets.{extents_in, volume_in}
+use Rattle.mount_repair.specs.Scans.{IsLibraryIn}
 use Rattle.mount_repair.specs.Sets.{IsPackedSet, set_by}
+use Rattle.mount_repair.specs.declared.library.Library.{Library}
 use Rattle.mount_repair.proofs.SetsByName.{kth_set, name_here, set_there}
 use Rattle.mount_repair.proofs.SettledScans.{format_there}
 
@@ -152,11 +155,11 @@ module _ (a b : List ℕ) (v u : Vol) (mounted : IsMounted a v) (mounted' : IsMo
         readable = ap unreadable (part_same part.part.partitioned) ∙ part.readable;
       }
 
-      pub packing_moved : (p : Packing) → IsPackingOf a v x p → IsPackingOf b w y p
-      packing_moved p packing =
-          let read = packing.read in
-          let n : ℕ = length packing.dir.places.items in
-          let es : List Entry = kept name_number (joined (entries_read packing.dir)) in
+      -- what was read of its directory
+      read_moved : (dir : Dir) → IsReadIn a v x dir → IsReadIn b w y dir
+      read_moved dir read =
+          let n : ℕ = length dir.places.items in
+          let es : List Entry = kept name_number (joined (entries_read dir)) in
           let now : part_in b w y ≡ Part n (end_in a v x) es (members_in a v x) = part_same part.part.partitioned ∙ read.body in
           let end : end_in b w y ≡ end_in a v x = end_is b w y n (end_in a v x) es (members_in a v x) now in
           let members : members_in b w y ≡ members_in a v x =
@@ -169,14 +172,23 @@ module _ (a b : List ℕ) (v u : Vol) (mounted : IsMounted a v) (mounted' : IsMo
           ∙ ap (λ (ts : List ℕ). directory_upto v.geometry (data_in a v) ts (end_in a v x)) (ap owned_tracks (own_extents a v x))
           ∙ sym (directory_of a v x n (end_in a v x) es (members_in a v x) read.body) in
           record {
-            dir = packing.dir;
-            is = packing.is;
-            read = record {
-              body = now ∙ ap₂ (λ (p : Place) (ms : List Block). Part n p es ms) (sym end) (sym members);
-              read = subst (λ (bs : List Block). IsRead bs packing.dir) (sym blocks) read.read;
-              end = read.end ∙ sym end;
-            };
+            body = now ∙ ap₂ (λ (p : Place) (ms : List Block). Part n p es ms) (sym end) (sym members);
+            read = subst (λ (bs : List Block). IsRead bs dir) (sym blocks) read.read;
+            end = read.end ∙ sym end;
           }
         where
           blocks_by : Place → List Block
           blocks_by p = flat_map (λ o. unwrap_or o []) (part_tracks v.geometry (data_in b w) (owned_in b w y) p (read_to p y.lstar))
+
+      pub packing_moved : (p : Packing) → IsPackingOf a v x p → IsPackingOf b w y p
+      packing_moved p packing = record { dir = packing.dir; is = packing.is; read = read_moved packing.dir packing.read }
+
+      -- its library
+      pub library_moved : (l : Library) → slice_get (owned_in a v x) 0 ≡ Some l.start → IsReadIn a v x l.dir → IsLibraryIn b w slot l
+      library_moved l start read = record {
+        set = y;
+        there = there;
+        part = part_moved;
+        start = ap (λ (ts : List ℕ). slice_get ts 0) owned_same ∙ start;
+        read = read_moved l.dir read;
+      }

@@ -16,8 +16,9 @@ use Rattle.vtoc_index.specs.Names.{AreByName, name_at}
 use Rattle.vtoc_index.specs.declared.vol.Vol.{Vol}
 use Rattle.vtoc_sets.specs.Sets.{volume_in}
 use Rattle.mount_repair.specs.Repairs.{KeepsVtoc, MountsPack, PacksDirs, RepairsPack, StaysVolume}
-use Rattle.mount_repair.specs.Scans.{AreUnpacked, IsScanOf}
+use Rattle.mount_repair.specs.Scans.{AreLibraries, AreUnpacked, IsListed, IsScanOf, KeepsLibraries}
 use Rattle.mount_repair.specs.Sets.{names_and_kinds}
+use Rattle.mount_repair.specs.declared.library.Library.{Library}
 use Rattle.mount_repair.specs.declared.scanned.Scan.{Scan}
 use Rattle.mount_repair.specs.declared.scanned.Unpacked.{Unpacked}
 use Rattle.mount_repair.proofs.DeviceCalls.{Unreported, reported_none, unreported}
@@ -28,12 +29,13 @@ use Rattle.mount_repair.proofs.SettledScans.{all_packed, settled_of}
 abbrev pub name_of : Facts → Vol → List ℕ
 name_of facts v = (unit_of facts.units v.unit).name
 
--- So many directories are packed; the index is as before, but for its buffer.
+-- So many directories are packed, and the libraries of data sets that aren't listed are kept; the index is as before, but for its buffer.
 pub record PackedSoFar (E : Type 0) (tells : Bool) (old now : Facts) (m m' : Meaning (List File)) (before v : Vol) (all : List Unpacked) (k : ℕ) : Type 0 where
   pub facts : Unreported old now
   pub others : v ≡ record before { buf = v.buf }
   pub unit : IsOfUnit now.units v
   pub packs : IsTrue tells → PacksDirs {T = Unit {0}} {E = E} (name_of old before) v (drop k all) m m' (Ok tt)
+  pub libraries : IsTrue tells → KeepsLibraries (image_named m.state (name_of old before)) before all (image_named m'.state (name_of old before)) v
 
 pub packed_none : (E : Type 0) (tells : Bool) (facts : Facts) (m : Meaning (List File)) (v : Vol) (all : List Unpacked) → IsOfUnit facts.units v → (IsTrue tells → IsMounted (image_named m.state (name_of facts v)) v) → (IsTrue tells → IsDurable m)
     → (IsTrue tells → AreUnpacked (image_named m.state (name_of facts v)) v all) → PackedSoFar E tells facts facts m m v v all 0
@@ -42,6 +44,7 @@ packed_none E tells facts m v all unit mounted durable unpacked = record {
   others = refl;
   unit = unit;
   packs = λ told. packs_none (name_of facts v) v all m tt (mounted told) (durable told) (unpacked told);
+  libraries = λ told slot l out was. was;
 }
 
 -- the first of those that are left
@@ -55,6 +58,31 @@ none_left [] zero low = refl
 none_left [] (suc k) low = refl
 none_left (x ∷ all) zero low = absurd (omega (arith, low))
 none_left (x ∷ all) (suc k) low = none_left all k (omega (arith, low))
+
+-- what the one in a place lists, all list
+listed_among : (all : List Unpacked) (k : ℕ) (u : Unpacked) (slot : ℕ) → slice_get all k ≡ Some u → IsListed (u ∷ []) slot → IsListed all slot
+listed_among all k u slot at listed = by listed.0 listed.1 listed.2 listed.3
+  where
+    by : (j : ℕ) (w : Unpacked) → slice_get (u ∷ []) j ≡ Some w → w.slot ≡ slot → IsListed all slot
+    by zero w there here = let same : u ≡ w = cc in (k, u, at, ap (λ (d : Unpacked). d.slot) same ∙ here)
+    by (suc j) w there here = absurd cc
+
+-- behind it no directory is listed, and the libraries are there still
+pub libraries_left : (image image' : List ℕ) (v v' : Vol) (all : List Unpacked) (libraries : List Library) → KeepsLibraries image v all image' v' → AreLibraries image v all libraries → AreLibraries image' v' [] libraries
+libraries_left image image' v v' all libraries keeps was k l there =
+    let is = was k l there in (is.0, λ listed. none_listed listed.0 listed.1 listed.2, keeps is.0 l is.1 is.2)
+  where
+    none_listed : (j : ℕ) (u : Unpacked) → slice_get [] j ≡ Some u → ⊥
+    none_listed j u at = cc
+
+-- the same by other names of the pack's file, which are this
+pub libraries_left_as : (name from to : List ℕ) (v v' : Vol) (m m' : Meaning (List File)) (all listed : List Unpacked) (libraries : List Library) → from ≡ name → to ≡ name → listed ≡ all
+    → KeepsLibraries (image_named m.state from) v listed (image_named m'.state to) v' → AreLibraries (image_named m.state name) v all libraries → AreLibraries (image_named m'.state name) v' [] libraries
+libraries_left_as name from to v v' m m' all listed libraries is_from is_to same keeps was =
+    libraries_left (image_named m.state name) (image_named m'.state name) v v' all libraries
+    (subst (λ (n : List ℕ). KeepsLibraries (image_named m.state n) v all (image_named m'.state name) v') is_from
+    (subst (λ (n : List ℕ). KeepsLibraries (image_named m.state from) v all (image_named m'.state n) v') is_to
+    (subst (λ (us : List Unpacked). KeepsLibraries (image_named m.state from) v us (image_named m'.state to) v') same keeps))) was
 
 module _ (E : Type 0) (tells : Bool) (old now : Facts) (m m' : Meaning (List File)) (before v : Vol) (all : List Unpacked) (k : ℕ) (so_far : PackedSoFar E tells old now m m' before v all k) where
   -- the pack has its name still
@@ -73,14 +101,24 @@ module _ (E : Type 0) (tells : Bool) (old now : Facts) (m m' : Meaning (List Fil
     others_next : v' ≡ record before { buf = v'.buf }
     others_next = others ∙ ap (λ (w : Vol). record w { buf = v'.buf }) so_far.others
 
+    -- by the name of the first
+    kept_next : next.units ≡ now.units → (u : Unpacked) → KeepsLibraries (image_named m'.state (name_of now v)) v (u ∷ []) (image_named m''.state (name_of next v)) v'
+        → KeepsLibraries (image_named m'.state (name_of old before)) v (u ∷ []) (image_named m''.state (name_of old before)) v'
+    kept_next units u keeps =
+        let named : name_of next v ≡ name_of old before = ap (λ (us : List Attached). (unit_of us v.unit).name) units ∙ name_kept in
+        subst (λ (n : List ℕ). KeepsLibraries (image_named m'.state n) v (u ∷ []) (image_named m''.state (name_of old before)) v') name_kept
+        (subst (λ (n : List ℕ). KeepsLibraries (image_named m'.state (name_of now v)) v (u ∷ []) (image_named m''.state n) v') named keeps)
+
     -- one more is packed
-    pub packed_next : {P F : Type 0} → IsOfUnit next.units v' → ReportedCall P now next → ¬ P → (IsTrue tells → PacksDirs {T = Unit {0}} {E = F} (name_of now v) v' (drop (k + 1) all) m' m'' (Ok tt)) → PackedSoFar E tells old next m m'' before v' all (k + 1)
-    packed_next {F = F} unit call done run = record {
+    pub packed_next : {P F : Type 0} (u : Unpacked) → slice_get all k ≡ Some u → IsOfUnit next.units v' → ReportedCall P now next → ¬ P → (IsTrue tells → PacksDirs {T = Unit {0}} {E = F} (name_of now v) v' (drop (k + 1) all) m' m'' (Ok tt))
+        → (IsTrue tells → KeepsLibraries (image_named m'.state (name_of now v)) v (u ∷ []) (image_named m''.state (name_of next v)) v') → PackedSoFar E tells old next m m'' before v' all (k + 1)
+    packed_next {F = F} u at unit call done run keeps = record {
       facts = reported_none old now next so_far.facts call done;
       others = others_next;
       unit = unit;
       packs = λ told. packs_next (name_of old before) v v' (drop k all) (drop (k + 1) all) m m' m'' tt (so_far.packs told) tt tt
           (subst (λ (n : List ℕ). PacksDirs {T = Unit {0}} {E = F} n v' (drop (k + 1) all) m' m'' (Ok tt)) name_kept (run told));
+      libraries = λ told slot l out was. kept_next call.units u (keeps told) slot l (λ listed. out (listed_among all k u slot at listed)) (so_far.libraries told slot l out was);
     }
 
     -- or isn't
@@ -94,6 +132,12 @@ module _ (E : Type 0) (tells : Bool) (old now : Facts) (m m' : Meaning (List Fil
   -- all are packed
   pub packed_all : length all ≤ k → IsTrue tells → PacksDirs {T = Unit {0}} {E = E} (name_of old before) v [] m m' (Ok tt)
   packed_all low told = subst (λ (l : List Unpacked). PacksDirs {T = Unit {0}} {E = E} (name_of old before) v l m m' (Ok tt)) (none_left all k low) (so_far.packs told)
+
+  -- and the libraries of the others are kept
+  pub kept_all : IsTrue tells → KeepsLibraries (image_named m.state (name_of old before)) before all (image_named m'.state (name_of now before)) v
+  kept_all told =
+      let named : name_of old before ≡ name_of now before = ap (λ (us : List Attached). (unit_of us before.unit).name) (sym so_far.facts.units) in
+      subst (λ (n : List ℕ). KeepsLibraries (image_named m.state (name_of old before)) before all (image_named m'.state n) v) named (so_far.libraries told)
 
 -- ---- the repair of a pack
 
@@ -140,8 +184,9 @@ module _ {T D : Type 0} (name : List ℕ) (v v' : Vol) (rest : List Unpacked) (m
 
   -- all is done
   pub repairs_done : {U E F : Type 0} (y : U) (before after : Scan) → rest ≡ [] → PacksDirs {T = U} {E = E} name v' rest mid m' (Ok y) → AreByName (name_at v'.slots.items) v'.by_name.items → IsScanOf (image_named m.state name) before
-      → after.vol ≡ v' → after.volume ≡ before.volume → after.settled ≡ true → after.unpacked.items ≡ [] → RepairsPack {E = F} name m m' (Ok after)
-  repairs_done y before after none run order scan vol volume is_settled nothing =
+      → AreLibraries (image_named m'.state name) v' [] before.libraries.items
+      → after.vol ≡ v' → after.volume ≡ before.volume → after.settled ≡ true → after.libraries ≡ before.libraries → after.unpacked.items ≡ [] → RepairsPack {E = F} name m m' (Ok after)
+  repairs_done y before after none run order scan libraries vol volume is_settled held nothing =
       let image : List ℕ = image_named m'.state name in
       let same : run.volume ≡ first.volume = one_volume (sym run.before ∙ first.safe.stands) in
       let keeps : KeepsVtoc name first.volume mid.state m'.state = subst (λ (w : Volume). KeepsVtoc name w mid.state m'.state) same run.keeps in
@@ -160,6 +205,9 @@ module _ {T D : Type 0} (name : List ℕ) (v v' : Vol) (rest : List Unpacked) (m
             volume = ap vec_items volume ∙ scan.volume ∙ ap names_and_kinds (was ∙ sym now) ∙ ap (λ (w : Vol). names_and_kinds (volume_in image w)) (sym vol);
             settled = (λ is. settled, λ is. is_settled);
             unpacked = subst (λ (w : Vol). AreUnpacked image w after.unpacked.items) (sym vol) (subst (AreUnpacked image v') (sym nothing) left);
+            libraries = subst (λ (w : Vol). AreLibraries image w after.unpacked.items after.libraries.items) (sym vol)
+                (subst (λ (us : List Unpacked). AreLibraries image v' us after.libraries.items) (sym nothing)
+                (subst (AreLibraries image v' []) (ap vec_items (sym held)) libraries));
           };
           durable = run.durable;
         };
@@ -172,9 +220,10 @@ module _ {T D : Type 0} (name : List ℕ) (v v' : Vol) (rest : List Unpacked) (m
   repairs_stopped_as {U = U} name' e f same run = repairs_stopped e f (subst (λ (n : List ℕ). PacksDirs {T = U} n v' rest mid m' (Err e)) same run)
 
   pub repairs_done_as : {U E F : Type 0} (name' : List ℕ) (y : U) (before after : Scan) → name' ≡ name → rest ≡ [] → PacksDirs {T = U} {E = E} name' v' rest mid m' (Ok y) → AreByName (name_at v'.slots.items) v'.by_name.items → IsScanOf (image_named m.state name) before
-      → after.vol ≡ v' → after.volume ≡ before.volume → after.settled ≡ true → after.unpacked.items ≡ [] → RepairsPack {E = F} name m m' (Ok after)
-  repairs_done_as {U = U} {E = E} name' y before after same none run order scan vol volume is_settled nothing =
-      repairs_done y before after none (subst (λ (n : List ℕ). PacksDirs {T = U} {E = E} n v' rest mid m' (Ok y)) same run) order scan vol volume is_settled nothing
+      → AreLibraries (image_named m'.state name) v' [] before.libraries.items
+      → after.vol ≡ v' → after.volume ≡ before.volume → after.settled ≡ true → after.libraries ≡ before.libraries → after.unpacked.items ≡ [] → RepairsPack {E = F} name m m' (Ok after)
+  repairs_done_as {U = U} {E = E} name' y before after same none run order scan libraries vol volume is_settled held nothing =
+      repairs_done y before after none (subst (λ (n : List ℕ). PacksDirs {T = U} {E = E} n v' rest mid m' (Ok y)) same run) order scan libraries vol volume is_settled held nothing
 
 -- ---- the mounting of a pack
 

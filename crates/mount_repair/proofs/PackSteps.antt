@@ -1,4 +1,4 @@
--- One directory is packed, and the others that aren't are left.
+-- One directory is packed, the others that aren't are left, and the libraries of the other data sets are kept.
 use Rattle.std.proofs.Common.{◌≡◌, ◌≢◌, ⊎_elim, inl, inr, ℕ, zero, suc, List, [], ◌∷◌, Option, Some, None, refl, sym, ap, subst, ◌∙◌, arith}
 use Rattle.std.specs.Prelude.{◌⊎◌, Result, Ok, Err, OnOk, slice_get}
 use Rattle.std.proofs.lemmas.Bool.Decides.{eqb_tells}
@@ -25,10 +25,11 @@ use Rattle.vtoc_index.specs.declared.vol.Vol.{Vol}
 use Rattle.vtoc_index.proofs.NameOrder.{one_slot}
 use Rattle.vtoc_sets.specs.Sets.{volume_in}
 use Rattle.mount_repair.specs.Repairs.{KeepsVtoc, PacksDirs}
-use Rattle.mount_repair.specs.Scans.{AreUnpacked, CanBePacked, IsListed}
+use Rattle.mount_repair.specs.Scans.{AreUnpacked, CanBePacked, IsLibraryIn, IsListed, KeepsLibraries}
 use Rattle.mount_repair.specs.Sets.{IsPackedSet, set_by}
+use Rattle.mount_repair.specs.declared.library.Library.{Library}
 use Rattle.mount_repair.specs.declared.scanned.Unpacked.{Unpacked}
-use Rattle.mount_repair.proofs.MovedSets.{packed_moved, packed_set, packing_moved, part_moved, set_after, set_before}
+use Rattle.mount_repair.proofs.MovedSets.{library_moved, packed_moved, packed_set, packing_moved, part_moved, set_after, set_before}
 use Rattle.mount_repair.proofs.OtherSets.{same_vtoc, upto_other}
 use Rattle.mount_repair.proofs.RepairSteps.{one_volume}
 use Rattle.mount_repair.proofs.SetsByName.{name_here}
@@ -49,16 +50,13 @@ some_set same = cc
 some_dir : {x y : Unpacked} → Some x ≡ Some y → x ≡ y
 some_dir same = cc
 
-module _ (name : List ℕ) (v : Vol) (b : Buffer) (u : Unpacked) (rest : List Unpacked) (old new : Meaning (List File)) (mounted : IsMounted (image_named old.state name) v) (order : AreByName (name_at v.slots.items) v.by_name.items)
-    (unpacked : AreUnpacked (image_named old.state name) v (u ∷ rest)) where
+module _ (name : List ℕ) (v : Vol) (b : Buffer) (u : Unpacked) (old new : Meaning (List File)) (mounted : IsMounted (image_named old.state name) v) (order : AreByName (name_at v.slots.items) v.by_name.items)
+    (can : CanBePacked (image_named old.state name) v u) where
   abbrev pub image : List ℕ
   image = image_named old.state name
 
   abbrev pub w : Vol
   w = record v { buf = b }
-
-  abbrev pub can : CanBePacked image v u
-  can = unpacked.each 0 u refl
 
   abbrev pub f : F1
   f = can.set
@@ -85,8 +83,8 @@ module _ (name : List ℕ) (v : Vol) (b : Buffer) (u : Unpacked) (rest : List Un
   moments_kept : {T E : Type 0} (r : Result T E) → (run : DoesOperation name same_volume w Changes old new r) → Elapses old new (λ files p. KeepsVtoc name run.volume old.state files × (p ≡ old.printed))
   moments_kept r run = elapses_weaker run.moments (λ files p stop. (keeps_at run.volume run.before files stop.0, stop.1))
 
-  pub pack_failed : {T U E F : Type 0} (e : E) (x : F) → DoesOperation {T = T} name same_volume w Changes old new (Err e) → PacksDirs {T = U} name w rest old new (Err x)
-  pack_failed e x run = record {
+  pub pack_failed : {T U E F : Type 0} (e : E) (x : F) (rest : List Unpacked) → DoesOperation {T = T} name same_volume w Changes old new (Err e) → PacksDirs {T = U} name w rest old new (Err x)
+  pack_failed e x rest run = record {
     volume = run.volume;
     before = run.before;
     keeps = tt;
@@ -98,7 +96,7 @@ module _ (name : List ℕ) (v : Vol) (b : Buffer) (u : Unpacked) (rest : List Un
     moments = moments_kept (Err e) run;
   }
 
-  module _ {T E : Type 0} (x : T) (run : DoesOperation {E = E} name same_volume w Changes old new (Ok x)) (packed : IsPacked (directory_in (image_named new.state name) w f)) where
+  module _ {T E : Type 0} (x : T) (run : DoesOperation {E = E} name same_volume w Changes old new (Ok x)) where
     abbrev image' : List ℕ
     image' = image_named new.state name
 
@@ -110,10 +108,6 @@ module _ (name : List ℕ) (v : Vol) (b : Buffer) (u : Unpacked) (rest : List Un
 
     same : volume_in image' w ≡ volume_in image v
     same = one_volume (sym run.done.index.volume ∙ stands_still ∙ sym run.before ∙ mounted.volume)
-
-    -- the packed set
-    partitioned_is : IsPackedSet image' w f
-    partitioned_is = packed_set image' w f own.partitioned (λ readable. packed)
 
     -- a slot is that of the packed set, or its directory stands as before
     place_of : (slot : ℕ) (y : F1) → slice_get v.slots.items slot ≡ Some (formats.F1 y) → (m : ℕ) × (slice_get (fs image v f own) m ≡ Some y)
@@ -139,77 +133,95 @@ module _ (name : List ℕ) (v : Vol) (b : Buffer) (u : Unpacked) (rest : List Un
           packing = packing_moved image image' v w mounted run.done.index order order same was.set after.0 after.2 upto y.slot after.1 was.part y.packing was.packing;
         }
 
-    packed_still : (slot : ℕ) (y : F1) (is : slice_get v.slots.items slot ≡ Some (formats.F1 y)) → IsPackedSet image v y → IsPackedSet image' w y
-    packed_still slot y is was = ⊎_elim
-        (λ at. subst (IsPackedSet image' w) (this_set slot y is at.1) partitioned_is)
-        (λ apart.
-        let before = set_before image image' v w mounted run.done.index order order same slot y is in
-        let one : before.0 ≡ y = some_format (sym before.1 ∙ is) in
-        let sets : set_by image' w y ≡ set_by image v y = before.2 ∙ ap (set_by image v) one in
-        packed_moved image image' v w mounted run.done.index order order same y y sets (upto_other image image' v f own differs (place_of slot y is).0 y (place_of slot y is).1 apart.1) was)
-        (eqb_tells (place_of slot y is).0 (among image v f own).0)
+    library_still : (slot : ℕ) (l : Library) → slot ≢ u.slot → IsLibraryIn image v slot l → IsLibraryIn image' w slot l
+    library_still slot l apart was =
+        let after = set_after image image' v w mounted run.done.index order order same slot was.set was.there in
+        let upto = upto_other image image' v f own differs (place_of slot was.set was.there).0 was.set (place_of slot was.set was.there).1 (other_place slot was.set was.there apart) in
+        library_moved image image' v w mounted run.done.index order order same was.set after.0 after.2 upto slot after.1 was.part l was.start was.read
 
-    left_after : AreUnpacked image' w rest
-    left_after = record {
-      each = λ k y there. can_still y (λ slots. zero_suc (unpacked.apart 0 (suc k) u y refl there (sym slots))) (unpacked.each (suc k) y there);
-      apart = λ j k y z first second slots. suc_same (unpacked.apart (suc j) (suc k) y z first second slots);
-      others = λ slot y is. ⊎_elim (λ was. inl (packed_still slot y is was)) (λ listed. by_place slot y is listed.0 listed.1 listed.2 listed.3) (unpacked.others slot y is);
-    }
-      where
-        zero_suc : {k : ℕ} → 0 ≡ suc k → ⊥
-        zero_suc same = omega (arith, same)
+    -- the libraries of the other data sets are there still
+    pub libraries_kept : KeepsLibraries image v (u ∷ []) image' w
+    libraries_kept slot l out was = library_still slot l (λ at. out (0, u, refl, sym at)) was
 
-        suc_same : {j k : ℕ} → suc j ≡ suc k → j ≡ k
-        suc_same same = omega (arith, same)
+    module _ (packed : IsPacked (directory_in image' w f)) (rest : List Unpacked) (unpacked : AreUnpacked image v (u ∷ rest)) where
+      -- the packed set
+      partitioned_is : IsPackedSet image' w f
+      partitioned_is = packed_set image' w f own.partitioned (λ readable. packed)
 
-        by_place : (slot : ℕ) (y : F1) → slice_get v.slots.items slot ≡ Some (formats.F1 y) → (k : ℕ) (z : Unpacked) → slice_get (u ∷ rest) k ≡ Some z → z.slot ≡ slot → IsPackedSet image' w y ⊎ IsListed rest slot
-        by_place slot y is zero z there here =
-            let this : u ≡ z = some_dir there in
-            let at : u.slot ≡ slot = ap (λ (d : Unpacked). d.slot) this ∙ here in
-            inl (subst (IsPackedSet image' w) (some_format (sym can.slot ∙ ap (slice_get v.slots.items) at ∙ is)) partitioned_is)
-        by_place slot y is (suc k) z there here = inr (k, z, there, here)
+      packed_still : (slot : ℕ) (y : F1) (is : slice_get v.slots.items slot ≡ Some (formats.F1 y)) → IsPackedSet image v y → IsPackedSet image' w y
+      packed_still slot y is was = ⊎_elim
+          (λ at. subst (IsPackedSet image' w) (this_set slot y is at.1) partitioned_is)
+          (λ apart.
+          let before = set_before image image' v w mounted run.done.index order order same slot y is in
+          let one : before.0 ≡ y = some_format (sym before.1 ∙ is) in
+          let sets : set_by image' w y ≡ set_by image v y = before.2 ∙ ap (set_by image v) one in
+          packed_moved image image' v w mounted run.done.index order order same y y sets (upto_other image image' v f own differs (place_of slot y is).0 y (place_of slot y is).1 apart.1) was)
+          (eqb_tells (place_of slot y is).0 (among image v f own).0)
 
-    pub pack_done : {U F : Type 0} (y : U) → PacksDirs {E = F} name w rest old new (Ok y)
-    unfolding volume_with
-    pack_done y = record {
-      volume = run.volume;
-      before = run.before;
-      keeps = record {
-        stands = stands_still;
-        guarded = guarded_kept image image' v f own differs;
-        vtoc = subst (λ (z : Volume). HaveSameVtoc z image image') (one_volume (sym mounted.volume ∙ run.before)) (same_vtoc image image' v f own differs);
-        others = run.done.changes.others;
-      };
-      settled = run.settled;
-      index = run.done.index;
-      left = left_after;
-      durable = run.done.durable;
-      printed = run.printed;
-      moments = moments_kept (Ok x) run;
-    }
+      left_after : AreUnpacked image' w rest
+      left_after = record {
+        each = λ k y there. can_still y (λ slots. zero_suc (unpacked.apart 0 (suc k) u y refl there (sym slots))) (unpacked.each (suc k) y there);
+        apart = λ j k y z first second slots. suc_same (unpacked.apart (suc j) (suc k) y z first second slots);
+        others = λ slot y is. ⊎_elim (λ was. inl (packed_still slot y is was)) (λ listed. by_place slot y is listed.0 listed.1 listed.2 listed.3) (unpacked.others slot y is);
+      }
+        where
+          zero_suc : {k : ℕ} → 0 ≡ suc k → ⊥
+          zero_suc same = omega (arith, same)
+
+          suc_same : {j k : ℕ} → suc j ≡ suc k → j ≡ k
+          suc_same same = omega (arith, same)
+
+          by_place : (slot : ℕ) (y : F1) → slice_get v.slots.items slot ≡ Some (formats.F1 y) → (k : ℕ) (z : Unpacked) → slice_get (u ∷ rest) k ≡ Some z → z.slot ≡ slot → IsPackedSet image' w y ⊎ IsListed rest slot
+          by_place slot y is zero z there here =
+              let this : u ≡ z = some_dir there in
+              let at : u.slot ≡ slot = ap (λ (d : Unpacked). d.slot) this ∙ here in
+              inl (subst (IsPackedSet image' w) (some_format (sym can.slot ∙ ap (slice_get v.slots.items) at ∙ is)) partitioned_is)
+          by_place slot y is (suc k) z there here = inr (k, z, there, here)
+
+      pub pack_done : {U F : Type 0} (y : U) → PacksDirs {E = F} name w rest old new (Ok y)
+      unfolding volume_with
+      pack_done y = record {
+        volume = run.volume;
+        before = run.before;
+        keeps = record {
+          stands = stands_still;
+          guarded = guarded_kept image image' v f own differs;
+          vtoc = subst (λ (z : Volume). HaveSameVtoc z image image') (one_volume (sym mounted.volume ∙ run.before)) (same_vtoc image image' v f own differs);
+          others = run.done.changes.others;
+        };
+        settled = run.settled;
+        index = run.done.index;
+        left = left_after;
+        durable = run.done.durable;
+        printed = run.printed;
+        moments = moments_kept (Ok x) run;
+      }
 
 -- by the contract of the packing
-module _ (name : List ℕ) (v v' : Vol) (u : Unpacked) (rest : List Unpacked) (old new : Meaning (List File)) (others : v' ≡ record v { buf = v'.buf }) (mounted : IsMounted (image_named old.state name) v) (order : AreByName (name_at v.slots.items) v.by_name.items)
-    (unpacked : AreUnpacked (image_named old.state name) v (u ∷ rest)) where
+module _ (name : List ℕ) (v v' : Vol) (u : Unpacked) (old new : Meaning (List File)) (others : v' ≡ record v { buf = v'.buf }) (mounted : IsMounted (image_named old.state name) v) (order : AreByName (name_at v.slots.items) v.by_name.items)
+    (can : CanBePacked (image_named old.state name) v u) where
   abbrev changes_of : F1 → List ℕ → List ℕ → Type 0
   changes_of x = DifferOn v.geometry (directory_tracks (image_named old.state name) v x)
 
   abbrev in_slot : F1 → Type 0
   in_slot x = slice_get v.slots.items u.slot ≡ Some (formats.F1 x)
 
-  abbrev first : F1
-  first = f name v v'.buf u rest old new mounted order unpacked
+  abbrev does_by : {T E : Type 0} → Result T E → Vol → Type 0
+  does_by {T = T} {E = E} r w = DoesOperation {T = T} {E = E} name same_volume w (changes_of can.set) old new r
 
-  first_at : in_slot first
-  first_at = (can name v v'.buf u rest old new mounted order unpacked).slot
+  pub one_failed : {T U E F : Type 0} (e : E) (x : F) (rest : List Unpacked) → ((y : F1) → in_slot y → DoesOperation {T = T} name same_volume v' (changes_of y) old new (Err e)) → PacksDirs {T = U} name v' rest old new (Err x)
+  one_failed {T = T} {U = U} e x rest run =
+      let does = subst (does_by {T = T} (Err e)) others (run can.set can.slot) in
+      subst (λ (w : Vol). PacksDirs {T = U} name w rest old new (Err x)) (sym others) (pack_failed name v v'.buf u old new mounted order can e x rest does)
 
-  pub one_failed : {T U E F : Type 0} (e : E) (x : F) → ((y : F1) → in_slot y → DoesOperation {T = T} name same_volume v' (changes_of y) old new (Err e)) → PacksDirs {T = U} name v' rest old new (Err x)
-  one_failed {T = T} {U = U} e x run =
-      let does = subst (λ (w : Vol). DoesOperation {T = T} name same_volume w (changes_of first) old new (Err e)) others (run first first_at) in
-      subst (λ (w : Vol). PacksDirs {T = U} name w rest old new (Err x)) (sym others) (pack_failed name v v'.buf u rest old new mounted order unpacked e x does)
+  module _ {T E : Type 0} (x : T) (run : (z : F1) → in_slot z → DoesOperation {E = E} name same_volume v' (changes_of z) old new (Ok x)) where
+    done : does_by {E = E} (Ok x) (record v { buf = v'.buf })
+    done = subst (does_by {E = E} (Ok x)) others (run can.set can.slot)
 
-  pub one_done : {T U E F : Type 0} (x : T) (y : U) → ((z : F1) → in_slot z → DoesOperation {E = E} name same_volume v' (changes_of z) old new (Ok x)) → ((z : F1) → in_slot z → IsPacked (directory_in (image_named new.state name) v' z)) → PacksDirs {E = F} name v' rest old new (Ok y)
-  one_done {E = E} {F = F} x y run packed =
-      let does = subst (λ (w : Vol). DoesOperation {E = E} name same_volume w (changes_of first) old new (Ok x)) others (run first first_at) in
-      let is = subst (λ (w : Vol). IsPacked (directory_in (image_named new.state name) w first)) others (packed first first_at) in
-      subst (λ (w : Vol). PacksDirs {E = F} name w rest old new (Ok y)) (sym others) (pack_done name v v'.buf u rest old new mounted order unpacked x does is y)
+    pub one_done : {U F : Type 0} (y : U) (rest : List Unpacked) → AreUnpacked (image_named old.state name) v (u ∷ rest) → ((z : F1) → in_slot z → IsPacked (directory_in (image_named new.state name) v' z)) → PacksDirs {E = F} name v' rest old new (Ok y)
+    one_done {F = F} y rest unpacked packed =
+        let is = subst (λ (w : Vol). IsPacked (directory_in (image_named new.state name) w can.set)) others (packed can.set can.slot) in
+        subst (λ (w : Vol). PacksDirs {E = F} name w rest old new (Ok y)) (sym others) (pack_done name v v'.buf u old new mounted order can x done is rest unpacked y)
+
+    pub one_keeps : KeepsLibraries (image_named old.state name) v (u ∷ []) (image_named new.state name) v'
+    one_keeps = subst (λ (w : Vol). KeepsLibraries (image_named old.state name) v (u ∷ []) (image_named new.state name) w) (sym others) (libraries_kept name v v'.buf u old new mounted order can x done)

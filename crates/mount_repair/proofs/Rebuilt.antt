@@ -1,4 +1,4 @@
--- The repair of a VTOC, and what it leaves of the directories that aren't packed.
+-- The repair of a VTOC, and what it leaves of the directories, packed or not.
 use Rattle.std.proofs.Common.{◌≡◌, ⊎_elim, inl, inr, ℕ, true, List, Ok, refl, sym, ap, subst, ◌∙◌}
 use Rattle.std.specs.Prelude.{◌⊎◌, ◌==◌}
 use Rattle.std.specs.List.{list_any}
@@ -22,10 +22,11 @@ use Rattle.vtoc_index.specs.Names.{AreByName, name_at}
 use Rattle.vtoc_index.specs.declared.vol.Vol.{Vol}
 use Rattle.vtoc_sets.specs.Sets.{volume_in}
 use Rattle.hall_core.specs.Facts.{Attached, Facts, unit_of}
-use Rattle.mount_repair.specs.Scans.{AreSound, AreUnpacked, CanBePacked}
+use Rattle.mount_repair.specs.Scans.{AreLibraries, AreSound, AreUnpacked, CanBePacked, IsLibraryIn}
 use Rattle.mount_repair.specs.Sets.{IsPackedSet, set_by}
+use Rattle.mount_repair.specs.declared.library.Library.{Library}
 use Rattle.mount_repair.specs.declared.scanned.Unpacked.{Unpacked}
-use Rattle.mount_repair.proofs.MovedSets.{moved, packed_moved, packing_moved, part_moved, set_after, set_before}
+use Rattle.mount_repair.proofs.MovedSets.{library_moved, moved, packed_moved, packing_moved, part_moved, set_after, set_before}
 use Rattle.mount_repair.proofs.RepairSteps.{one_volume}
 
 -- a VTOC that is settled isn't repaired
@@ -68,6 +69,15 @@ module _ (a b : List ℕ) (v u : Vol) (mounted : IsMounted a v) (mounted' : IsMo
         packing = packing_moved a b v u mounted mounted' order order' same was.set now.0 now.2 (upto was.set) d.slot now.1 was.part d.packing was.packing;
       }
 
+  library_still : (slot : ℕ) (l : Library) → IsLibraryIn a v slot l → IsLibraryIn b (moved v u) slot l
+  library_still slot l was =
+      let now = set_after a b v u mounted mounted' order order' same slot was.set was.there in
+      library_moved a b v u mounted mounted' order order' same was.set now.0 now.2 (upto was.set) slot now.1 was.part l was.start was.read
+
+  -- the same libraries are there
+  pub libraries_moved : (libraries : List Library) → AreLibraries a v unpacked libraries → AreLibraries b (moved v u) unpacked libraries
+  libraries_moved libraries was k l there = let is = was k l there in (is.0, is.1, library_still is.0 l is.2)
+
   -- the same directories aren't packed
   pub unpacked_moved : AreUnpacked a v unpacked → AreUnpacked b (moved v u) unpacked
   unpacked_moved was = record {
@@ -79,13 +89,29 @@ module _ (a b : List ℕ) (v u : Vol) (mounted : IsMounted a v) (mounted' : IsMo
   }
 
 -- by the contract of the repair
-pub rebuilt : {T E : Type 0} (name : List ℕ) (v v' : Vol) (m m' : Meaning (List File)) (x : T) (unpacked : List Unpacked) → v' ≡ record v { slots = v'.slots; buf = v'.buf } → IsMounted (image_named m.state name) v
-    → AreByName (name_at v.slots.items) v.by_name.items → AreByName (name_at v'.slots.items) v'.by_name.items → Repairs {E = E} name v' m m' (Ok x) → AreUnpacked (image_named m.state name) v unpacked → AreUnpacked (image_named m'.state name) v' unpacked
-rebuilt name v v' m m' x unpacked others mounted order order' run was =
-    let a : List ℕ = image_named m.state name in
-    let b : List ℕ = image_named m'.state name in
-    subst (λ (w : Vol). AreUnpacked b w unpacked) (sym others)
-    (unpacked_moved a b v v' mounted (subst (IsMounted b) others run.index) order (subst (λ (l : List ℕ). AreByName (name_at v'.slots.items) l) (ap (λ (w : Vol). w.by_name.items) others) order') run.volume run.before run.safe.stands run.safe.tracks unpacked was)
+module _ {T E : Type 0} (name : List ℕ) (v v' : Vol) (m m' : Meaning (List File)) (x : T) (unpacked : List Unpacked) (others : v' ≡ record v { slots = v'.slots; buf = v'.buf }) (mounted : IsMounted (image_named m.state name) v)
+    (order : AreByName (name_at v.slots.items) v.by_name.items) (order' : AreByName (name_at v'.slots.items) v'.by_name.items) (run : Repairs {E = E} name v' m m' (Ok x)) where
+  abbrev a : List ℕ
+  a = image_named m.state name
+
+  abbrev b : List ℕ
+  b = image_named m'.state name
+
+  mounted_now : IsMounted b (moved v v')
+  mounted_now = subst (IsMounted b) others run.index
+
+  order_now : AreByName (name_at v'.slots.items) v.by_name.items
+  order_now = subst (λ (l : List ℕ). AreByName (name_at v'.slots.items) l) (ap (λ (w : Vol). w.by_name.items) others) order'
+
+  pub rebuilt : AreUnpacked a v unpacked → AreUnpacked b v' unpacked
+  rebuilt was =
+      subst (λ (w : Vol). AreUnpacked b w unpacked) (sym others)
+      (unpacked_moved a b v v' mounted mounted_now order order_now run.volume run.before run.safe.stands run.safe.tracks unpacked was)
+
+  pub libraries_rebuilt : (libraries : List Library) → AreLibraries a v unpacked libraries → AreLibraries b v' unpacked libraries
+  libraries_rebuilt libraries was =
+      subst (λ (w : Vol). AreLibraries b w unpacked libraries) (sym others)
+      (libraries_moved a b v v' mounted mounted_now order order_now run.volume run.before run.safe.stands run.safe.tracks unpacked libraries was)
 
 -- what is listed stays sound
 pub sound_rebuilt : (v v' : Vol) (us : List Unpacked) → v'.by_name.items ≡ v.by_name.items → AreByName (name_at v.slots.items) v.by_name.items → AreByName (name_at v'.slots.items) v'.by_name.items → AreSound v.slots.items us → AreSound v'.slots.items us

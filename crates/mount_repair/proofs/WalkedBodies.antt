@@ -7,11 +7,10 @@ use Rattle.dscb_codec.specs.declared.Dscb.TheVariants as formats
 use Rattle.dscb_codec.specs.declared.F1.{F1}
 use Rattle.pack_spec.specs.Rules.{set_in}
 use Rattle.pack_spec.specs.Settled.{HasPacked}
-use Rattle.pack_spec.specs.Volume.{attr_of, data_set_of}
+use Rattle.pack_spec.specs.Volume.{data_set_of}
 use Rattle.pack_spec.specs.declared.MountErr.{MountErr}
 use Rattle.pds_directory.specs.declared.dir.Dir.{Dir}
-use Rattle.pds_directory.specs.Directories.{IsPartIn, IsReadIn, IsReadUnless, IsReadablePart, ReadsDir, broken_in, data_in, directory_in, part_in}
-use Rattle.pds_directory.specs.Packed.{is_packed as is_packed_directory}
+use Rattle.pds_directory.specs.Directories.{IsPartIn, IsReadIn, IsReadUnless, ReadsDir, broken_in, data_in, directory_in, owned_in, part_in}
 use Rattle.pds_directory.proofs.PackedTests.{packed_is, packed_of}
 use Rattle.seq_access.specs.Bodies.{Checks, FindsBroken}
 use Rattle.vol_model.specs.declared.answers.CheckErr.{CheckErr}
@@ -26,14 +25,17 @@ use Rattle.vol_model.specs.declared.contents.Body.TheVariants.{Seq, Part, Catalo
 use Rattle.vol_model.specs.declared.contents.Entry.{Entry}
 use Rattle.vol_model.specs.declared.contents.Place.{Place}
 use Rattle.vol_model.specs.Reading.{kind_of}
-use Rattle.vol_model.specs.Shelf.{is_partitioned, unreadable}
+use Rattle.vol_model.specs.Shelf.{unreadable}
 use Rattle.stow_ops.specs.Packing.{IsSomePacking}
+use Rattle.vtoc_index.specs.Index.{IsMounted}
 use Rattle.vtoc_index.specs.Names.{name_at}
 use Rattle.vtoc_index.specs.declared.vol.Vol.{Vol}
+use Rattle.vtoc_sets.specs.Sets.{HasSet}
 use Rattle.mount_repair.specs.Scans.{AreSound}
 use Rattle.ebcdic_names.specs.declared.names.Dsn.{Dsn}
 use Rattle.mount_repair.specs.Sets.{IsPackedSet, body_at, name_and_kind, set_by}
-use Rattle.mount_repair.specs.Walks.{IsKindUnread, IsKindWalked, Notes, NotesDir, is_noted, is_packed, lists, passes}
+use Rattle.mount_repair.specs.Walks.{Holds, HoldsFrom, IsKindUnread, IsKindWalked, Notes, NotesDir, NotesLibrary, holds_none, holds_one, is_noted, is_packed, keeps_none, keeps_one, lists, passes}
+use Rattle.mount_repair.specs.declared.library.Library.{Library}
 use Rattle.mount_repair.specs.declared.scanned.Unpacked.{Unpacked}
 use Rattle.mount_repair.proofs.Lists.{of_push}
 use Rattle.mount_repair.proofs.MovedSets.{packed_blocks, packed_set}
@@ -76,7 +78,22 @@ module _ (image : List ℕ) (v : Vol) (f : F1) where
   seq_dir slot old (Err checks.Device) (Ok y) body is any kind = cc
   seq_dir slot old (Err checks.Device) (Err e) body is any kind = tt
 
+  -- no library is kept of it
+  pub no_library : (slot : ℕ) (old : List Library) (r : Result Kind MountErr) → OnOk r (NotesLibrary image v slot f old old)
+  no_library slot old (Ok y) = keeps_none refl
+  no_library slot old (Err e) = tt
+
 -- ---- partitioned sets
+
+-- the track on which one begins, by an index that two calls gave other buffers
+pub start_of : (image : List ℕ) (v w x : Vol) (f : F1) (start : Option ℕ) → w ≡ record v { buf = w.buf } → x ≡ record w { buf = x.buf } → IsMounted image x → IsPartIn image v f
+    → ((i : List ℕ) → HasSet i x f → start ≡ slice_get (owned_in i x f) 0) → start ≡ slice_get (owned_in image v f) 0
+start_of image v w x f start first second mounted part track =
+    track image (subst (λ (y : Vol). HasSet image y f) (sym others) (record { mounted = subst (IsMounted image) others mounted; extents = part.set.extents }))
+    ∙ ap (λ (y : Vol). slice_get (owned_in image y f) 0) others
+  where
+    others : x ≡ record v { buf = x.buf }
+    others = second ∙ ap (λ (y : Vol). record y { buf = x.buf }) first
 
 module _ (image : List ℕ) (v : Vol) (f : F1) (part : IsPartIn image v f) where
   -- one that can't be read has no directory to be packed
@@ -123,6 +140,25 @@ module _ (image : List ℕ) (v : Vol) (f : F1) (part : IsPartIn image v f) where
         is_noted u
         (λ packed. let wrong : true ≡ false = sym (packed_is (directory_in image v f) (packed_blocks image v f part.partitioned packed readable)) ∙ all (directory_in image v f) is.read in cc)
         in_slot (record { part = part; readable = readable }) (record { dir = dir; is = packing; read = is }) pushed
+
+    -- its library is kept, if it begins on a track
+    pub held_library : (slot : ℕ) (start : Option ℕ) (old new : List Library) → slice_get v.slots.items slot ≡ Some (formats.F1 f) → start ≡ slice_get (owned_in image v f) 0 → IsReadIn image v f dir → Holds start dir old new → NotesLibrary image v slot f old new
+    held_library slot start old new there begins is (holds_none same) = keeps_none same
+    held_library slot start old new there begins is (holds_one all from) = by start begins from
+      where
+        by : (o : Option ℕ) → o ≡ slice_get (owned_in image v f) 0 → HoldsFrom o dir old new → NotesLibrary image v slot f old new
+        by None first same = keeps_none same
+        by (Some s) first held =
+            keeps_one held.0
+            (record {
+              set = f;
+              there = there;
+              part = record { part = part; readable = ap unreadable is.body };
+              start = sym first ∙ ap (λ (t : ℕ). Some t) (sym held.2);
+              read = subst (IsReadIn image v f) (sym held.1) is;
+            })
+            (packed_set image v f part.partitioned (λ readable. packed_of (directory_in image v f) (all (directory_in image v f) is.read)))
+            held.3
 
 -- ---- what is always known of those that are noted
 

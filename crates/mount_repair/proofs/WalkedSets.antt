@@ -1,5 +1,5 @@
 -- How far the walk over the data sets of a pack has come.
-use Rattle.std.proofs.Common.{◌≡◌, ◌≢◌, ◌<◌, ◌≤◌, ◌+◌, ⊎_elim, inl, inr, ℕ, zero, suc, Bool, List, [], ◌∷◌, ◌++◌, get_or, length, map, Option, Some, None, refl, sym, ap, subst, ◌∙◌, arith}
+use Rattle.std.proofs.Common.{◌≡◌, ◌≢◌, ◌<◌, ◌≤◌, ◌+◌, ⊎_elim, inl, inr, ℕ, zero, suc, Bool, List, [], ◌∷◌, ◌++◌, get_or, length, map, Some, None, refl, sym, ap, subst, ◌∙◌, arith}
 use Rattle.std.specs.Prelude.{◌⊎◌, IsTrue, slice_get, take}
 use Rattle.std.proofs.lemmas.Bool.Decides.{leb_tells}
 use Rattle.std.proofs.lemmas.Option.{slice_get-get_or}
@@ -22,9 +22,10 @@ use Rattle.vtoc_index.specs.Names.{AreByName, name_at}
 use Rattle.vtoc_index.specs.declared.vol.Vol.{Vol}
 use Rattle.vtoc_index.proofs.NameOrder.{name_there, not_before, place_named, rises, slice_some}
 use Rattle.vtoc_sets.specs.Sets.{volume_in}
-use Rattle.mount_repair.specs.Scans.{AreUnpacked, CanBePacked, IsListed}
+use Rattle.mount_repair.specs.Scans.{AreLibraries, AreUnpacked, CanBePacked, IsLibraryIn, IsListed}
 use Rattle.mount_repair.specs.Sets.{IsPackedSet, name_and_kind, names_and_kinds, set_by}
-use Rattle.mount_repair.specs.Walks.{IsWalkOf, NotesDir, WalksSet, is_noted, is_packed}
+use Rattle.mount_repair.specs.Walks.{IsWalkOf, NotesDir, NotesLibrary, WalksSet, is_noted, is_packed, keeps_none, keeps_one}
+use Rattle.mount_repair.specs.declared.library.Library.{Library}
 use Rattle.mount_repair.specs.declared.scanned.Unpacked.{Unpacked}
 use Rattle.mount_repair.specs.declared.walk.Walk.{Walk}
 use Rattle.mount_repair.proofs.DeviceCalls.{Unreported, reported_none, unreported}
@@ -40,26 +41,33 @@ pub record IsNoted (image : List ℕ) (v : Vol) (k : ℕ) (u : Unpacked) : Type 
   pub can : CanBePacked image v u
   pub not : ¬ IsPackedSet image v can.set
 
+-- a library is that of a data set whose directory is packed
+abbrev pub IsKept : List ℕ → Vol → Library → Type 0
+IsKept image v l = (slot : ℕ) × (f : F1) × (slice_get v.slots.items slot ≡ Some (formats.F1 f)) × IsLibraryIn image v slot l × IsPackedSet image v f
+
 -- The first so many data sets are walked.
 pub record WalkedUpto (image : List ℕ) (v : Vol) (w : Walk) (k : ℕ) : Type 0 where
   pub volume : w.volume.items ≡ take k (names_and_kinds (volume_in image v))
   pub each : (i : ℕ) (u : Unpacked) → slice_get w.unpacked.items i ≡ Some u → IsNoted image v k u
   pub apart : (i j : ℕ) (u x : Unpacked) → slice_get w.unpacked.items i ≡ Some u → slice_get w.unpacked.items j ≡ Some x → u.slot ≡ x.slot → i ≡ j
   pub others : (n slot : ℕ) (f : F1) → n < k → slice_get v.by_name.items n ≡ Some slot → slice_get v.slots.items slot ≡ Some (formats.F1 f) → IsPackedSet image v f ⊎ IsListed w.unpacked.items slot
+  pub libraries : (i : ℕ) (l : Library) → slice_get w.libraries.items i ≡ Some l → IsKept image v l
 
-pub walked_none : (image : List ℕ) (v : Vol) (w : Walk) → w.volume.items ≡ [] → w.unpacked.items ≡ [] → WalkedUpto image v w 0
-walked_none image v w no_names no_dirs = record {
-  volume = no_names;
-  each = λ i u at. absurd (nothing i u at);
-  apart = λ i j u x at there same. absurd (nothing i u at);
-  others = λ n slot f low at is. absurd (omega (arith, low));
-}
+-- nothing stands in an empty list
+nothing : {X : Type 0} (xs : List X) → xs ≡ [] → (i : ℕ) (x : X) → slice_get xs i ≡ Some x → ⊥
+nothing {X = X} xs none i x at = none_at i x (ap (λ (l : List X). slice_get l i) (sym none) ∙ at)
   where
-    nothing : (i : ℕ) (u : Unpacked) → slice_get w.unpacked.items i ≡ Some u → ⊥
-    nothing i u at = none_at i u (ap (λ (l : List Unpacked). slice_get l i) (sym no_dirs) ∙ at)
-      where
-        none_at : (j : ℕ) (x : Unpacked) → slice_get [] j ≡ Some x → ⊥
-        none_at j x there = cc
+    none_at : (j : ℕ) (y : X) → slice_get [] j ≡ Some y → ⊥
+    none_at j y there = cc
+
+pub walked_none : (image : List ℕ) (v : Vol) (w : Walk) → w.volume.items ≡ [] → w.unpacked.items ≡ [] → w.libraries.items ≡ [] → WalkedUpto image v w 0
+walked_none image v w no_names no_dirs no_libraries = record {
+  volume = no_names;
+  each = λ i u at. absurd (nothing w.unpacked.items no_dirs i u at);
+  apart = λ i j u x at there same. absurd (nothing w.unpacked.items no_dirs i u at);
+  others = λ n slot f low at is. absurd (omega (arith, low));
+  libraries = λ i l at. absurd (nothing w.libraries.items no_libraries i l at);
+}
 
 one_format : {a b : F1} → Some (formats.F1 a) ≡ Some (formats.F1 b) → a ≡ b
 one_format same = cc
@@ -115,6 +123,16 @@ module _ (image : List ℕ) (v : Vol) (mounted : IsMounted image v) (order : Are
         let one : slot ≡ s = one_slot_number (sym at ∙ ap (slice_get v.by_name.items) (sym same) ∙ there) in
         (one, one_format (sym is ∙ ap (slice_get v.slots.items) one ∙ slot_is))
 
+    -- its library is kept, or nothing
+    libraries_next : (i : ℕ) (l : Library) → slice_get new.libraries.items i ≡ Some l → IsKept image v l
+    libraries_next i l there = by walks.library
+      where
+        by : NotesLibrary image v slot f old.libraries.items new.libraries.items → IsKept image v l
+        by (keeps_none same) = so_far.libraries i l (ap (λ (ls : List Library). slice_get ls i) (sym same) ∙ there)
+        by (keeps_one x library packed pushed) =
+            ⊎_elim (λ was. so_far.libraries i l was) (λ now. subst (IsKept image v) now.1 (slot, f, is, library, packed))
+            (of_push old.libraries.items x i l (ap (λ (ls : List Library). slice_get ls i) (sym pushed) ∙ there))
+
     -- nothing is noted of it
     next_none : IsPackedSet image v f → new.unpacked.items ≡ old.unpacked.items → WalkedUpto image v new (k + 1)
     next_none packed same = record {
@@ -125,6 +143,7 @@ module _ (image : List ℕ) (v : Vol) (mounted : IsMounted image v) (order : Are
           (λ less. subst (λ (l : List Unpacked). IsPackedSet image v x ⊎ IsListed l s) (sym same) (so_far.others n s x less there slot_is))
           (λ now. inl (subst (IsPackedSet image v) (this_set n s x now there slot_is).1 packed))
           (split n low);
+      libraries = libraries_next;
     }
       where
         before : (i : ℕ) (u : Unpacked) → slice_get new.unpacked.items i ≡ Some u → slice_get old.unpacked.items i ≡ Some u
@@ -160,6 +179,7 @@ module _ (image : List ℕ) (v : Vol) (mounted : IsMounted image v) (order : Are
             (λ less. ⊎_elim (λ packed. inl packed) (λ listed. inr (listed_still s listed)) (so_far.others n s x less there slot_is))
             (λ now. inr (subst (IsListed new.unpacked.items) (this_set n s x now there slot_is).0 listed_now))
             (split n low);
+        libraries = libraries_next;
       }
         where
           two : (i j : ℕ) (x y : Unpacked) → x.slot ≡ y.slot → (slice_get old.unpacked.items i ≡ Some x) ⊎ ((i ≡ length old.unpacked.items) × (u ≡ x)) → (slice_get old.unpacked.items j ≡ Some y) ⊎ ((j ≡ length old.unpacked.items) × (u ≡ y)) → i ≡ j
@@ -189,6 +209,7 @@ module _ (image : List ℕ) (v : Vol) (mounted : IsMounted image v) (order : Are
     none = λ i u f at is packed.
         let noted = so_far.each i u at in
         noted.not (subst (IsPackedSet image v) (one_format (sym is ∙ noted.can.slot)) packed);
+    libraries = so_far.libraries;
   }
     where
       past : {X : Type 0} (xs : List X) (j : ℕ) → length xs ≤ j → slice_get xs j ≡ None
@@ -223,12 +244,42 @@ module _ (image : List ℕ) (v : Vol) (b : Buffer) (f : F1) (mounted : IsMounted
     packing = record { dir = can.packing.dir; is = can.packing.is; read = record { body = can.packing.read.body; read = can.packing.read.read; end = can.packing.read.end } };
   }
 
+-- nor of libraries
+module _ (image : List ℕ) (v : Vol) (b : Buffer) (mounted : IsMounted image v) where
+  pub library_before : (slot : ℕ) (l : Library) → IsLibraryIn image (record v { buf = b }) slot l → IsLibraryIn image v slot l
+  library_before slot l library = record {
+    set = library.set;
+    there = library.there;
+    part = part_before image v b library.set mounted library.part;
+    start = library.start;
+    read = record { body = library.read.body; read = library.read.read; end = library.read.end };
+  }
+
+  pub library_with : IsMounted image (record v { buf = b }) → (slot : ℕ) (l : Library) → IsLibraryIn image v slot l → IsLibraryIn image (record v { buf = b }) slot l
+  library_with mounted' slot l library =
+      let part = library.part in
+      record {
+        set = library.set;
+        there = library.there;
+        part = record {
+          part = record { set = record { mounted = mounted'; extents = part.part.set.extents }; slot = part.part.slot; dscb = part.part.dscb; partitioned = part.part.partitioned };
+          readable = part.readable;
+        };
+        start = library.start;
+        read = record { body = library.read.body; read = library.read.read; end = library.read.end };
+      }
+
+module _ (image : List ℕ) (v : Vol) (b : Buffer) (f : F1) (mounted : IsMounted image v) where
   pub walks_before : (slot : ℕ) (old new : Walk) → WalksSet image (record v { buf = b }) slot f old new → WalksSet image v slot f old new
-  walks_before slot old new walks = record { kind = walks.kind; directory = by walks.directory }
+  walks_before slot old new walks = record { kind = walks.kind; directory = by walks.directory; library = kept walks.library }
     where
       by : NotesDir image (record v { buf = b }) slot f old.unpacked.items new.unpacked.items → NotesDir image v slot f old.unpacked.items new.unpacked.items
       by (is_packed packed same) = is_packed packed same
-      by (is_noted u unpacked in_slot part packing pushed) = is_noted u unpacked in_slot (part_before part) (packing_before u.packing packing) pushed
+      by (is_noted u unpacked in_slot part packing pushed) = is_noted u unpacked in_slot (part_before image v b f mounted part) (packing_before image v b f mounted u.packing packing) pushed
+
+      kept : NotesLibrary image (record v { buf = b }) slot f old.libraries.items new.libraries.items → NotesLibrary image v slot f old.libraries.items new.libraries.items
+      kept (keeps_none same) = keeps_none same
+      kept (keeps_one l library packed pushed) = keeps_one l (library_before image v b mounted slot l library) packed pushed
 
 -- the index of a scan is the walked one, with another buffer
 pub unpacked_with : (image : List ℕ) (v v' : Vol) (us : List Unpacked) → v' ≡ record v { buf = v'.buf } → IsMounted image v → IsMounted image v' → AreUnpacked image v us → AreUnpacked image v' us
@@ -238,6 +289,19 @@ unpacked_with image v v' us others mounted mounted' unpacked =
       apart = unpacked.apart;
       others = unpacked.others;
     })
+
+-- the libraries of a walk are those of sets that aren't listed
+pub libraries_with : (image : List ℕ) (v v' : Vol) (w : Walk) → v' ≡ record v { buf = v'.buf } → IsMounted image v → IsMounted image v' → IsWalkOf image v w → AreLibraries image v' w.unpacked.items w.libraries.items
+libraries_with image v v' w others mounted mounted' walk =
+    subst (λ (x : Vol). AreLibraries image x w.unpacked.items w.libraries.items) (sym others) each
+  where
+    each : AreLibraries image (record v { buf = v'.buf }) w.unpacked.items w.libraries.items
+    each k l there =
+        let kept = walk.libraries k l there in (
+          kept.0,
+          λ listed. walk.none listed.0 listed.1 kept.1 listed.2 (ap (slice_get v.slots.items) listed.3 ∙ kept.2) kept.4,
+          library_with image v v'.buf mounted (subst (IsMounted image) others mounted') kept.0 l kept.3,
+        )
 
 -- a slot in the order of names has one
 pub slot_named : (v : Vol) → AreByName (name_at v.slots.items) v.by_name.items → (k slot : ℕ) → slice_get v.by_name.items k ≡ Some slot → (n : List ℕ) × (name_at v.slots.items slot ≡ Some n)
@@ -256,14 +320,14 @@ pub record WalkedSets (tells : Bool) (old now : Facts) (m m' : Meaning (List Fil
   pub walked : IsTrue tells → WalkedUpto (image_at m old before) before w k
 
 pub sets_none : (tells : Bool) (facts : Facts) (m : Meaning (List File)) (v : Vol) (w : Walk) → CountsNow m → IsOfUnit facts.units v → (IsTrue tells → IsMounted (image_at m facts v) v) → w.volume.items ≡ [] → w.unpacked.items ≡ []
-    → WalkedSets tells facts facts m m v v w 0
-sets_none tells facts m v w counts unit mounted no_names no_dirs = record {
+    → w.libraries.items ≡ [] → WalkedSets tells facts facts m m v v w 0
+sets_none tells facts m v w counts unit mounted no_names no_dirs no_libraries = record {
   facts = unreported facts;
   same = λ told. same_none m counts;
   others = refl;
   unit = unit;
   mounted = mounted;
-  walked = λ told. walked_none (image_at m facts v) v w no_names no_dirs;
+  walked = λ told. walked_none (image_at m facts v) v w no_names no_dirs no_libraries;
 }
 
 module _ (tells : Bool) (old now : Facts) (m m' : Meaning (List File)) (before v : Vol) (w : Walk) (k : ℕ) (so_far : WalkedSets tells old now m m' before v w k) where

@@ -1,3 +1,4 @@
+pub mod LibraryProps
 pub mod Sets
 pub mod Scans
 pub mod Walks

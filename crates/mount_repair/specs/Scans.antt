@@ -10,9 +10,10 @@ use Rattle.vtoc_index.specs.Index.{IsMounted, IsOfUnit, IsReason}
 use Rattle.vtoc_index.specs.Names.{AreByName, name_at}
 use Rattle.vtoc_index.specs.declared.vol.Vol.{Vol}
 use Rattle.vtoc_sets.specs.Sets.{volume_in}
-use Rattle.pds_directory.specs.Directories.{IsReadablePart}
+use Rattle.pds_directory.specs.Directories.{IsReadIn, IsReadablePart, owned_in}
 use Rattle.stow_ops.specs.Packing.{IsPackingOf, IsSomePacking}
 use Rattle.mount_repair.specs.Sets.{HasRoom, IsPackedSet, names_and_kinds}
+use Rattle.mount_repair.specs.declared.library.Library.{Library}
 use Rattle.mount_repair.specs.declared.scanned.Scan.{Scan}
 use Rattle.mount_repair.specs.declared.scanned.Unpacked.{Unpacked}
 
@@ -40,12 +41,30 @@ pub record AreUnpacked (image : List ℕ) (v : Vol) (unpacked : List Unpacked) :
   pub others : (slot : ℕ) (f : F1) → slice_get v.slots.items slot ≡ Some (formats.F1 f)
       → IsPackedSet image v f ⊎ IsListed unpacked slot
 
--- A scan tells of an image that stands for a volume: its index, the names and kinds of its data sets, whether it is settled, and which directories aren't packed.
+-- A library is that of the data set in a slot: the directory that was read, and the track on which the set begins.
+pub record IsLibraryIn (image : List ℕ) (v : Vol) (slot : ℕ) (l : Library) : Type 0 where
+  pub set : F1
+  pub there : slice_get v.slots.items slot ≡ Some (formats.F1 set)
+  pub part : IsReadablePart image v set
+  pub start : slice_get (owned_in image v set) 0 ≡ Some l.start
+  pub read : IsReadIn image v set l.dir
+
+-- each library is that of a data set whose directory isn't listed
+abbrev pub AreLibraries : List ℕ → Vol → List Unpacked → List Library → Type 0
+AreLibraries image v unpacked libraries = (k : ℕ) (l : Library) → slice_get libraries k ≡ Some l
+    → (slot : ℕ) × (¬ IsListed unpacked slot) × IsLibraryIn image v slot l
+
+-- the libraries of data sets whose directories aren't listed are those of another image, too
+abbrev pub KeepsLibraries : List ℕ → Vol → List Unpacked → List ℕ → Vol → Type 0
+KeepsLibraries image v unpacked image' v' = (slot : ℕ) (l : Library) → ¬ IsListed unpacked slot → IsLibraryIn image v slot l → IsLibraryIn image' v' slot l
+
+-- A scan tells of an image that stands for a volume: its index, the names and kinds of its data sets, whether it is settled, and which directories are packed and which aren't.
 pub record IsScanOf (image : List ℕ) (s : Scan) : Type 0 where
   pub mounted : IsMounted image s.vol
   pub volume : s.volume.items ≡ names_and_kinds (volume_in image s.vol)
   pub settled : IsTrue s.settled ↔ IsSettled image
   pub unpacked : AreUnpacked image s.vol s.unpacked.items
+  pub libraries : AreLibraries image s.vol s.unpacked.items s.libraries.items
 
 -- an image is scanned, or this is why it isn't: the first rule that it breaks, want of memory, or a fault of the device
 abbrev pub Scans : List ℕ → Result Scan MountErr → Type 0

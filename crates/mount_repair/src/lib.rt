@@ -2,11 +2,13 @@
 //! VTOC and in the directories of partitioned data sets.
 #![tactic(auto)]
 
+mod library;
 mod repairing;
 mod scanned;
 mod scanning;
 mod walk;
 
+pub use library::{Library, library_of};
 pub use repairing::{mount, repair};
 pub use scanned::Scan;
 pub use scanning::scan;

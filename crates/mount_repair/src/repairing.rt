@@ -9,7 +9,7 @@ ghost use Rattle.vtoc_index.specs.Calls.{MountCall};
 ghost use Rattle.vtoc_index.specs.Index.{IsMounted, IsOfUnit};
 ghost use Rattle.vtoc_index.specs.Names.{AreByName, name_at};
 ghost use Rattle.mount_repair.specs.Repairs.{MountsPack, PacksDirs, RepairsPack};
-ghost use Rattle.mount_repair.specs.Scans.{AreSound, AreUnpacked, CanBePacked, IsScanOf, IsScanOn};
+ghost use Rattle.mount_repair.specs.Scans.{AreSound, AreUnpacked, CanBePacked, IsScanOf, IsScanOn, KeepsLibraries};
 ghost use Rattle.mount_repair.specs.declared.scanned.Unpacked.{Unpacked};
 
 use crate::scanned::{Scan, Unpacked};
@@ -86,6 +86,9 @@ fn pack_all<H: Hall>(hall: &mut H, vol: &mut Vol, unpacked: &[Unpacked]) -> Resu
     requires durable { IsTrue H.tells → IsDurable (H.meaning hall.old) }
     ensures files { IsTrue H.tells → PacksDirs (unit_of (H.facts hall.old).units vol.old.unit).name
         vol.new [] (H.meaning hall.old) (H.meaning hall.new) result }
+    ensures libraries { let image = image_in (H.meaning hall.old) (H.facts hall.old) vol.old.unit in
+        let image' = image_in (H.meaning hall.new) (H.facts hall.new) vol.old.unit in
+        IsTrue H.tells → OnOk result (KeepsLibraries image vol.old unpacked.now image' vol.new) }
     ensures others { vol.new ≡ record vol.old { buf = vol.new.buf } }
     ensures unit { IsOfUnit (H.facts hall.new).units vol.new }
     ensures memory { ¬ IsErrOf result WorkErr.Memory }
@@ -113,6 +116,9 @@ fn pack_one<H: Hall>(hall: &mut H, vol: &mut Vol, dir: &Unpacked) -> Result<(), 
         IsTrue H.tells → (rest : List Unpacked) → AreUnpacked image vol.old (dir.now ∷ rest)
         → PacksDirs (unit_of (H.facts hall.old).units vol.old.unit).name vol.new rest
         (H.meaning hall.old) (H.meaning hall.new) result }
+    ensures libraries { let image = image_in (H.meaning hall.old) (H.facts hall.old) vol.old.unit in
+        let image' = image_in (H.meaning hall.new) (H.facts hall.new) vol.old.unit in
+        IsTrue H.tells → OnOk result (KeepsLibraries image vol.old (dir.now ∷ []) image' vol.new) }
     ensures others { vol.new ≡ record vol.old { buf = vol.new.buf } }
     ensures unit { IsOfUnit (H.facts hall.new).units vol.new }
     ensures memory { ¬ IsErrOf result WorkErr.Memory }

@@ -1,4 +1,5 @@
 //! A pack as it was read.
+use crate::library::Library;
 use ebcdic_names::Dsn;
 use stow_ops::Packing;
 use vol_model::Kind;
@@ -14,7 +15,9 @@ pub struct Scan {
     pub volume: Vec<(Dsn, Kind)>,
     /// Whether it is settled.
     pub settled: bool,
-    // Its directories that aren't packed.
+    /// Its directories that are packed.
+    pub libraries: Vec<Library>,
+    // Its directories that aren't.
     pub(crate) unpacked: Vec<Unpacked>,
 }
 

@@ -17,6 +17,7 @@ use std::alloc::{AllocError, Global};
 use vtoc_index::{MountErr, Vol, read_vtoc};
 
 /// Reads the pack on a unit: its index, and each sequential and partitioned data set once, up to its last block.
+/// The directories that are packed are kept, for those who go on with the pack.
 ///
 /// It is scanned where the pack mounts, else the first rule of mounting that is broken is answered. It is settled where
 /// format 4 has neither bit of an unfinished update, its counts are right, format 5 lists the free space, nothing in the
@@ -38,6 +39,7 @@ pub fn scan<H: Hall>(alloc: Global, hall: &mut H, unit: u8) -> Result<Scan, Moun
         vol,
         volume: walk.volume,
         settled,
+        libraries: walk.libraries,
         unpacked: walk.unpacked,
     })
 }

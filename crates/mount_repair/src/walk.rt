@@ -11,13 +11,14 @@ ghost use Rattle.pds_directory.specs.Directories.{IsLawfulDir, IsPartIn};
 ghost use Rattle.seq_access.specs.Bodies.{IsSetIn, part_in};
 ghost use Rattle.mount_repair.specs.Scans.{AreSound};
 ghost use Rattle.mount_repair.specs.Sets.{body_at};
-ghost use Rattle.mount_repair.specs.Walks.{IsKindUnread, IsKindWalked, IsWalkOf, Notes, NotesDir, WalksSet};
+ghost use Rattle.mount_repair.specs.Walks.{Holds, HoldsFrom, IsKindUnread, IsKindWalked, IsWalkOf, Notes, NotesDir, NotesLibrary, WalksSet};
 
+use crate::library::{Library, library_of};
 use crate::scanned::Unpacked;
 use dscb_codec::{Dscb, F1};
 use ebcdic_names::Dsn;
 use hall_core::Hall;
-use pds_directory::{Dir, is_packed, read_dir};
+use pds_directory::{Dir, is_packed, track_at, walk_dir};
 use seq_access::{check_part_records, check_records};
 use std::alloc::Global;
 use stow_ops::packing;
@@ -25,10 +26,11 @@ use vol_model::{CheckErr, Kind, ReadErr};
 use vtoc_index::{MountErr, Vol};
 use vtoc_sets::{BodyKind, body_kind};
 
-// What a walk over the data sets of a pack noted: the name and the kind of each, and the directories that aren't packed.
+// What a walk over the data sets of a pack noted: the name and the kind of each, and the directories, packed or not.
 #[derive(Drop)]
 pub(crate) struct Walk {
     pub(crate) volume: Vec<(Dsn, Kind)>,
+    pub(crate) libraries: Vec<Library>,
     pub(crate) unpacked: Vec<Unpacked>,
 }
 
@@ -55,6 +57,7 @@ pub(crate) fn walk_sets<H: Hall>(
 {
     let mut walk = Walk {
         volume: Vec::new(alloc),
+        libraries: Vec::new(alloc),
         unpacked: Vec::new(alloc),
     };
     for k in 0..vol.by_name.len() {
@@ -98,7 +101,15 @@ fn walk_set<H: Hall>(
     ensures faults { MountCall (H.facts hall.old) (H.facts hall.new) result }
 {
     let set = set_at(vol, slot);
-    let kind = walk_body(alloc, hall, vol, slot, &set, &mut walk.unpacked)?;
+    let kind = walk_body(
+        alloc,
+        hall,
+        vol,
+        slot,
+        &set,
+        &mut walk.libraries,
+        &mut walk.unpacked,
+    )?;
     list(&mut walk.volume, &set, kind)
 }
 
@@ -132,6 +143,7 @@ fn walk_body<H: Hall>(
     vol: &mut Vol,
     slot: u32,
     set: &F1,
+    libraries: &mut Vec<Library>,
     unpacked: &mut Vec<Unpacked>,
 ) -> Result<Kind, MountErr>
     requires unit { IsOfUnit (H.facts hall.old).units vol.old }
@@ -143,6 +155,9 @@ fn walk_body<H: Hall>(
     ensures directory { let image = image_in (H.meaning hall.old) (H.facts hall.old) vol.old.unit in
         IsTrue H.tells → OnOk result (NotesDir image vol.old slot set.now unpacked.old.items
         unpacked.new.items) }
+    ensures library { let image = image_in (H.meaning hall.old) (H.facts hall.old) vol.old.unit in
+        IsTrue H.tells → OnOk result (NotesLibrary image vol.old slot set.now libraries.old.items
+        libraries.new.items) }
     ensures sound { AreSound vol.old.slots.items unpacked.old.items
         → OnOk result (AreSound vol.old.slots.items unpacked.new.items) }
     ensures mounted { let image = image_in (H.meaning hall.old) (H.facts hall.old) vol.old.unit in
@@ -155,7 +170,7 @@ fn walk_body<H: Hall>(
 {
     match body_kind(set) {
         BodyKind::Seq => kind_walked(Kind::Seq, check_records(hall, vol, set)),
-        BodyKind::Part => walk_part(alloc, hall, vol, slot, set, unpacked),
+        BodyKind::Part => walk_part(alloc, hall, vol, slot, set, libraries, unpacked),
         BodyKind::Catalog => Ok(Kind::Unreadable(0)),
         BodyKind::Other => Ok(Kind::Other),
     }
@@ -179,6 +194,7 @@ fn walk_part<H: Hall>(
     vol: &mut Vol,
     slot: u32,
     set: &F1,
+    libraries: &mut Vec<Library>,
     unpacked: &mut Vec<Unpacked>,
 ) -> Result<Kind, MountErr>
     requires unit { IsOfUnit (H.facts hall.old).units vol.old }
@@ -190,6 +206,9 @@ fn walk_part<H: Hall>(
     ensures directory { let image = image_in (H.meaning hall.old) (H.facts hall.old) vol.old.unit in
         IsTrue H.tells → OnOk result (NotesDir image vol.old slot set.now unpacked.old.items
         unpacked.new.items) }
+    ensures library { let image = image_in (H.meaning hall.old) (H.facts hall.old) vol.old.unit in
+        IsTrue H.tells → OnOk result (NotesLibrary image vol.old slot set.now libraries.old.items
+        libraries.new.items) }
     ensures sound { AreSound vol.old.slots.items unpacked.old.items
         → OnOk result (AreSound vol.old.slots.items unpacked.new.items) }
     ensures mounted { let image = image_in (H.meaning hall.old) (H.facts hall.old) vol.old.unit in
@@ -200,12 +219,19 @@ fn walk_part<H: Hall>(
     ensures same { IsTrue H.tells → Same (H.meaning hall.old) (H.meaning hall.new) }
     ensures faults { MountCall (H.facts hall.old) (H.facts hall.new) result }
 {
-    let dir = match read_dir(alloc, hall, vol, slot) {
-        Ok(dir) => dir,
+    let walk = match walk_dir(alloc, hall, vol, slot) {
+        Ok(walk) => walk,
         Err(error) => return unread(error),
     };
-    match check_part_records(hall, vol, set, dir.end) {
-        Ok(()) => note(alloc, slot, dir, unpacked),
+    match check_part_records(hall, vol, set, walk.dir.end, walk.whole) {
+        Ok(()) => note(
+            alloc,
+            slot,
+            track_at(vol, set, 0),
+            walk.dir,
+            libraries,
+            unpacked,
+        ),
         Err(CheckErr::Unreadable(track)) => Ok(Kind::Unreadable(track)),
         Err(CheckErr::Device) => Err(MountErr::Device),
     }
@@ -222,19 +248,50 @@ fn unread(error: ReadErr) -> Result<Kind, MountErr>
     }
 }
 
-// Notes how a directory that was read comes to be packed, unless it is. The kind is that of its body.
-fn note(alloc: Global, slot: u32, dir: Dir, unpacked: &mut Vec<Unpacked>) -> Result<Kind, MountErr>
+// Notes a directory that was read, of the data set that begins on this track: it is kept where it is packed, and else how it
+// comes to be packed. The kind is that of its body.
+fn note(
+    alloc: Global,
+    slot: u32,
+    start: Option<u16>,
+    dir: Dir,
+    libraries: &mut Vec<Library>,
+    unpacked: &mut Vec<Unpacked>,
+) -> Result<Kind, MountErr>
     requires { IsLawfulDir dir }
     ensures kind { IfOk result (λ kind. kind ≡ Kind.Part) }
     ensures noted { OnOk result (Notes slot dir unpacked.old.items unpacked.new.items) }
+    ensures held { OnOk result (Holds start dir libraries.old.items libraries.new.items) }
     ensures memory { IfErr result (λ e. e ≡ MountErr.Memory) }
 {
     if is_packed(&dir) {
+        hold(alloc, start, dir, libraries)?;
         return Ok(Kind::Part);
     }
     let packing = packing(alloc, dir)?;
     add(unpacked, Unpacked { slot, packing })?;
     Ok(Kind::Part)
+}
+
+// Keeps the directory of the data set that begins on this track, if it has one.
+fn hold(
+    alloc: Global,
+    start: Option<u16>,
+    dir: Dir,
+    libraries: &mut Vec<Library>,
+) -> Result<(), MountErr>
+    requires { IsLawfulDir dir }
+    ensures held { OnOk result (HoldsFrom start dir libraries.old.items libraries.new.items) }
+    ensures memory { IfErr result (λ e. e ≡ MountErr.Memory) }
+{
+    let Some(start) = start else {
+        return Ok(());
+    };
+    let library = library_of(alloc, dir, start)?;
+    match libraries.push(library) {
+        Ok(()) => Ok(()),
+        Err(_) => Err(MountErr::Memory),
+    }
 }
 
 // Puts a directory behind the others that aren't packed.

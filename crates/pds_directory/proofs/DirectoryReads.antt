@@ -91,10 +91,10 @@ module _ (most : ℕ) (old new : Reading) (place : Place) (x : Record) (lawful :
             places = places_more;
           }
 
--- what was read is the same where the end's place is known
-module _ (r : Reading) (end : Place) where
+-- what was read is the same where the end's place is known, and whether its track was read whole
+module _ (r : Reading) (end : Place) (whole : Bool) where
   abbrev pub with_end : Reading
-  with_end = record r { dir = record (r.dir) { end = end } }
+  with_end = record r { dir = record (r.dir) { end = end }; whole = whole }
 
   pub so_far_with : (directory : List Block) → AreReadSoFar directory r → AreReadSoFar directory with_end
   so_far_with directory is = record { places = is.places; entries = is.entries }

@@ -1,5 +1,5 @@
 -- A directory read track by track.
-use Rattle.std.proofs.Common.{◌≡◌, ◌+◌, ◌*◌, ◌≤◌, ◌<◌, ℕ, Bool, true, false, IsTrue, List, [], length, map, refl, sym, ap, ◌∙◌, subst, arith}
+use Rattle.std.proofs.Common.{◌≡◌, ◌≢◌, ◌+◌, ◌*◌, ◌≤◌, ◌<◌, ℕ, Bool, true, false, IsTrue, List, [], None, length, map, refl, sym, ap, ◌∙◌, subst, arith}
 use Rattle.std.specs.Prelude.{Err, Ok, IfOk, IsErrOf, Result, vec_items}
 use Rattle.std.specs.List.{AllByRecursion}
 use Rattle.pds_directory.specs.Entries.{IsReadEntry}
@@ -11,12 +11,14 @@ use Rattle.stop_model.specs.Moments.{Meaning, Same}
 use Rattle.track_records.specs.Buffers.{Buffer}
 use Rattle.vol_model.specs.declared.answers.ReadErr.{ReadErr}
 use Rattle.vol_model.specs.declared.answers.ReadErr.TheVariants as errors
+use Rattle.vol_model.specs.declared.contents.Place.{Place}
 use Rattle.vtoc_index.specs.declared.vol.Vol.{Vol}
 use Rattle.vtoc_index.specs.Index.{IsMounted, IsOfUnit}
 use Rattle.pds_directory.specs.declared.dir.Dir.{Dir}
+use Rattle.pds_directory.specs.declared.dir.DirWalk.{DirWalk}
 use Rattle.pds_directory.specs.declared.reading.Reading.{Reading}
 use Rattle.pds_directory.specs.Directories.{IsLawfulDir, IsOfRecord, IsPartIn, ReadsDir, end_in, entries_read}
-use Rattle.pds_directory.specs.Reading.{AreReadSoFar, FitSoFar, HoldEntries, IsLawfulReading, IsReadBefore, IsReadToEnd, ReadsTrack, open_block}
+use Rattle.pds_directory.specs.Reading.{AreReadSoFar, FitSoFar, HoldEntries, HoldsWhole, IsLawfulReading, IsReadBefore, IsReadToEnd, ReadsTrack, at_in, dir_walked, open_block}
 use Rattle.pds_directory.proofs.OnlyReading.{OnlyReads, back, onward, reads_more, reads_none}
 use Rattle.pds_directory.proofs.ReadSteps.{finish_ended, finish_open, never_all}
 
@@ -85,6 +87,10 @@ walk_none tells f0 m0 v0 f r same part unit new = record {
   lawful = new_lawful r new;
 }
 
+-- what was read is given where a block ends the directory
+abbrev pub Finishes : Reading → Result DirWalk ReadErr → Type 0
+Finishes r result = IfOk result (λ walk. (r.ended ≡ true) × (walk.dir ≡ r.dir))
+
 module _ (tells : Bool) (f0 f1 : Facts) (m0 m1 : Meaning (List File)) (v0 v1 : Vol) (f : F1) (k : ℕ) (r : Reading) (w : Walks tells f0 f1 m0 m1 v0 v1 f k r) where
   abbrev image : List ℕ
   image = image_in m0 f0 v0.unit
@@ -119,24 +125,45 @@ module _ (tells : Bool) (f0 f1 : Facts) (m0 m1 : Meaning (List File)) (v0 v1 : V
   walk_err new errors.Device read told = tt
 
   -- the directory's end is on the track
-  pub walk_end : (new : Reading) (result : Result Dir ReadErr) → (IsTrue tells → ReadsTrack (Ok true) now v1 f k new) → IfOk result (λ dir. (new.ended ≡ true) × (dir ≡ new.dir)) → ((e : ReadErr) → IsErrOf result e → (new.ended ≡ false) × (e ≡ errors.Unreadable k)) → IsTrue tells → ReadsDir result image v0 f
-  walk_end new (Ok dir) read done unended told = subst (λ (d : Dir). ReadsDir (Ok d) image v0 f) (sym done.1) (finish_ended image v0 f k new (read_as (Ok true) new read told) done.0)
+  pub walk_end : (new : Reading) (result : Result DirWalk ReadErr) → (IsTrue tells → ReadsTrack (Ok true) now v1 f k new) → Finishes new result → ((e : ReadErr) → IsErrOf result e → (new.ended ≡ false) × (e ≡ errors.Unreadable k)) → IsTrue tells → ReadsDir (dir_walked result) image v0 f
+  walk_end new (Ok walk) read done unended told = subst (λ (d : Dir). ReadsDir (Ok d) image v0 f) (sym done.1) (finish_ended image v0 f k new (read_as (Ok true) new read told) done.0)
   walk_end new (Err e) read done unended told =
       let is = unended e refl in
       subst (λ (x : ReadErr). ReadsDir (Err x) image v0 f) (sym is.1) (finish_open image v0 f k new (read_as (Ok true) new read told) is.0)
 
   -- and its place is known
-  pub walk_place : (new : Reading) (result : Result Dir ReadErr) → (IsTrue tells → ReadsTrack (Ok true) now v1 f k new) → IfOk result (λ dir. (new.ended ≡ true) × (dir ≡ new.dir)) → IsTrue tells → IfOk result (λ dir. dir.end ≡ end_in image v0 f)
-  walk_place new (Ok dir) read done told = ap (λ (d : Dir). d.end) done.1 ∙ (read_as (Ok true) new read told).place
+  place_is : (new : Reading) (walk : DirWalk) → (IsTrue tells → ReadsTrack (Ok true) now v1 f k new) → walk.dir ≡ new.dir → IsTrue tells → walk.dir.end ≡ end_in image v0 f
+  place_is new walk read same told = ap (λ (d : Dir). d.end) same ∙ (read_as (Ok true) new read told).place
+
+  pub walk_place : (new : Reading) (result : Result DirWalk ReadErr) → (IsTrue tells → ReadsTrack (Ok true) now v1 f k new) → Finishes new result → IsTrue tells → IfOk result (λ walk. walk.dir.end ≡ end_in image v0 f)
+  walk_place new (Ok walk) read done told = place_is new walk read done.1 told
   walk_place new (Err e) read done told = tt
+
+  -- it stands on that track
+  track_is : (new : Reading) (walk : DirWalk) → (IsTrue tells → ReadsTrack (Ok true) now v1 f k new) → walk.dir ≡ new.dir → IsTrue tells → walk.dir.end.tt ≡ k
+  track_is new walk read same told = ap (λ (p : Place). p.tt) (place_is new walk read same told) ∙ (read_as (Ok true) new read told).end
+
+  -- no track before it breaks the body
+  pub walk_front : (new : Reading) (result : Result DirWalk ReadErr) → (IsTrue tells → ReadsTrack (Ok true) now v1 f k new) → Finishes new result → IsTrue tells → IfOk result (λ walk. (j : ℕ) → j < walk.dir.end.tt → at_in image v0 f j ≢ None)
+  walk_front new (Ok walk) read done told = λ j low. (read_as (Ok true) new read told).whole j (omega (arith, low, track_is new walk read done.1 told))
+  walk_front new (Err e) read done told = tt
+
+  -- a buffer holds it whole
+  holds_as : (b : Buffer) → HoldsWhole now v1 f k b → IsTrue tells → HoldsWhole image v0 f k b
+  holds_as b holds told = back tells f0 f1 m0 m1 v0 v1 w.reads told (λ i v. HoldsWhole i v f k b) holds
+
+  pub walk_held : (new : Reading) (result : Result DirWalk ReadErr) (b : Buffer) → (IsTrue tells → ReadsTrack (Ok true) now v1 f k new) → (IsTrue tells → IsTrue new.whole → HoldsWhole now v1 f k b) → Finishes new result → IfOk result (λ walk. walk.whole ≡ new.whole) → IsTrue tells
+      → IfOk result (λ walk. IsTrue walk.whole → HoldsWhole image v0 f walk.dir.end.tt b)
+  walk_held new (Ok walk) b read holds done same told = λ whole. subst (λ (n : ℕ). HoldsWhole image v0 f n b) (sym (track_is new walk read done.1 told)) (holds_as b (holds told (subst (λ (c : Bool). IsTrue c) same whole)) told)
+  walk_held new (Err e) b read holds done same told = tt
 
   -- a set has fewer tracks than are read
   pub walk_past : 65535 ≤ k → (IsTrue tells → IsPartIn image v0 f) → IsTrue tells → ReadsDir (Err (errors.Unreadable 65535)) image v0 f
   walk_past all part told = absurd (never_all image v0 f (part told) k r (w.before told) all)
 
 -- what is given is lawful
-pub lawful_dir : (k : ℕ) (r : Reading) (result : Result Dir ReadErr) → IsLawfulReading (255 * (k + 1)) r → k < 65535 → IfOk result (λ dir. (r.ended ≡ true) × (dir ≡ r.dir)) → IfOk result IsLawfulDir
-lawful_dir k r (Ok dir) lawful few done = subst IsLawfulDir (sym done.1) (record {
+pub lawful_dir : (k : ℕ) (r : Reading) (result : Result DirWalk ReadErr) → IsLawfulReading (255 * (k + 1)) r → k < 65535 → Finishes r result → IfOk result (λ walk. IsLawfulDir walk.dir)
+lawful_dir k r (Ok walk) lawful few done = subst IsLawfulDir (sym done.1) (record {
   room = lawful.room;
   few = omega (arith, lawful.few, few);
   entries = lawful.entries;

@@ -1,5 +1,5 @@
 -- What a track adds to what was read of a directory.
-use Rattle.std.proofs.Common.{◌≡◌, ◌≢◌, ◌⊎◌, ◌+◌, ◌-◌, ◌≤◌, ◌<◌, ℕ, Bool, true, false, cond, inl, inr, List, [], ◌∷◌, ◌++◌, length, map, take, Option, Some, None, refl, sym, ap, ◌∙◌, subst, append_assoc, arith}
+use Rattle.std.proofs.Common.{◌≡◌, ◌≢◌, ◌⊎◌, ◌+◌, ◌-◌, ◌≤◌, ◌<◌, ℕ, Bool, true, false, IsTrue, cond, inl, inr, List, [], ◌∷◌, ◌++◌, length, map, take, Option, Some, None, refl, sym, ap, ◌∙◌, subst, append_assoc, arith}
 use Rattle.std.specs.Prelude.{Err, Ok, IfOk, OnOk, Result, slice_get, unwrap_or}
 use Rattle.std.specs.List.{flat_map, list_all, range_with_len}
 use Rattle.std.proofs.lemmas.Bool.Decides.{eqb_tells}
@@ -16,13 +16,14 @@ use Rattle.vol_model.specs.declared.contents.Body.TheVariants as bodies
 use Rattle.vol_model.specs.declared.contents.Place.{Place}
 use Rattle.pack_spec.specs.Blocks.{blocks_from}
 use Rattle.pack_spec.specs.Directories.{before_end, directory_break, is_directory_record, name_number, part_body, part_of, read_to}
-use Rattle.pack_spec.specs.Label.{tracks_of}
+use Rattle.pack_spec.specs.Label.{records_on, tracks_of}
 use Rattle.pack_spec.proofs.PartBodies.{IsPast}
+use Rattle.track_records.specs.Buffers.{Buffer}
 use Rattle.vtoc_index.specs.declared.vol.Vol.{Vol}
 use Rattle.pds_directory.specs.declared.ends.Reached.{Reached}
 use Rattle.pds_directory.specs.declared.reading.Reading.{Reading}
 use Rattle.pds_directory.specs.Directories.{IsPartIn, IsReadUnless, ReadsDir, broken_in, data_in, directory_in, end_in, entries_read, members_in, owned_in, part_in, tracks_in}
-use Rattle.pds_directory.specs.Reading.{AreBad, AreReadSoFar, HasBytesOf, HoldEntries, IsReached, IsReadBefore, IsReadToEnd, Reaches, ReadsRecords, ReadsTrack, SeeksOn, at_in, end_on, front_in}
+use Rattle.pds_directory.specs.Reading.{AreBad, AreReadSoFar, HasBytesOf, HoldEntries, HoldsWhole, IsReached, IsReadBefore, IsReadToEnd, Reaches, ReadsRecords, ReadsTrack, SeeksOn, at_in, end_on, front_in}
 use Rattle.pds_directory.proofs.DataPlaces.{few_owned_tracks, records_are}
 use Rattle.pds_directory.proofs.PartWalks.{behind_here, behind_last, blocks_on, break_past, in_front, read_all, read_broken, unended, unread, whole_at}
 use Rattle.pds_directory.proofs.TrackReads.{before_here, end_within, ends_here, none_owned, none_read, none_stand, past, seeks_on, whole_here}
@@ -148,6 +149,12 @@ module _ (image : List ℕ) (v : Vol) (f : F1) (part : IsPartIn image v f) (k : 
       reads_track (Err (errors.Unreadable j)) new same known reads = let bad = reads front before.read in bad_records bad.1 ∙ ap bodies.Unreadable (sym bad.0)
       reads_track (Err errors.Memory) new same known reads = tt
       reads_track (Err errors.Device) new same known reads = tt
+
+-- a buffer holds the track of the end whole where it was read to its end marker
+pub holds_whole : (image : List ℕ) (v : Vol) (f : F1) (k t : ℕ) (b : Buffer) (reached : Reached) (new : Reading) (result : Result Bool ReadErr) → Some t ≡ slice_get (owned_in image v f) k → (IsTrue reached.whole → records_on image v.geometry None t ≡ Some b.records)
+    → IfOk result (λ ended. IsTrue ended → new.whole ≡ reached.whole) → IfOk result (λ ended. IsTrue ended → IsTrue new.whole → HoldsWhole image v f k b)
+holds_whole image v f k t b reached new (Ok ended) there read same = λ is whole. (t, sym there, read (subst (λ (c : Bool). IsTrue c) (same is) whole))
+holds_whole image v f k t b reached new (Err e) there read same = tt
 
 -- ---- a directory that was read to its end
 

@@ -17,7 +17,10 @@ use Rattle.vol_model.specs.Slots.{entry_size}
 use Rattle.pack_spec.specs.Blocks.{block_at, blocks_from, records_in}
 use Rattle.pack_spec.specs.Directories.{directory_break, end_record, is_directory_record, is_end_record, part_at, read_to, stored_in}
 use Rattle.pack_spec.specs.Label.{records_on}
+use Rattle.track_records.specs.Buffers.{Buffer}
 use Rattle.vtoc_index.specs.declared.vol.Vol.{Vol}
+use Rattle.pds_directory.specs.declared.dir.Dir.{Dir}
+use Rattle.pds_directory.specs.declared.dir.DirWalk.{DirWalk}
 use Rattle.pds_directory.specs.declared.ends.Reached.{Reached}
 use Rattle.pds_directory.specs.declared.reading.Reading.{Reading}
 use Rattle.pds_directory.specs.Directories.{IsOfRecord, data_in, directory_in, end_in, entries_read, owned_in, part_in}
@@ -80,6 +83,15 @@ pub record AreReadSoFar (directory : List Block) (r : Reading) : Type 0 where
 -- the blocks on a relative track of a data set; none where it breaks the body
 abbrev pub at_in : List ℕ → Vol → F1 → ℕ → Option (List Block)
 at_in image v f k = part_at v.geometry (data_in image v) (owned_in image v f) (end_in image v f) (read_to (end_in image v f) f.lstar) k
+
+-- a buffer holds all records of a relative track of a data set
+abbrev pub HoldsWhole : List ℕ → Vol → F1 → ℕ → Buffer → Type 0
+HoldsWhole image v f k b = (t : ℕ) × (slice_get (owned_in image v f) k ≡ Some t) × (records_on image v.geometry None t ≡ Some b.records)
+
+-- what was read of a directory in a walk over its data set
+abbrev pub dir_walked : Result DirWalk ReadErr → Result Dir ReadErr
+dir_walked (Ok walk) = Ok walk.dir
+dir_walked (Err e) = Err e
 
 -- those on the first relative tracks, so many
 abbrev pub front_in : List ℕ → Vol → F1 → ℕ → List Block

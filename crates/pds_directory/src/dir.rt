@@ -12,3 +12,13 @@ pub struct Dir {
     /// The place of that record.
     pub end: Place,
 }
+
+/// A directory that was read for a walk over all records of its data set.
+#[derive(Debug, Drop)]
+pub struct DirWalk {
+    /// The directory.
+    pub dir: Dir,
+    /// Whether the track with its end-of-file record was read to its end marker. The buffer of the index holds the track's
+    /// records then.
+    pub whole: bool,
+}

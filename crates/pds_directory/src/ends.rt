@@ -1,5 +1,5 @@
 //! The tracks of a directory, read up to its end-of-file record.
-ghost use Rattle.std.specs.Prelude.{◌≡◌, ◌≤◌, ◌<◌, ℕ, List, true, length, IfOk, IfSome, IsTrue, None};
+ghost use Rattle.std.specs.Prelude.{◌≡◌, ◌≤◌, ◌<◌, ℕ, List, true, false, length, IfOk, IfSome, IsTrue, None, Some};
 ghost use Rattle.hall_core.specs.Facts.{DeviceCall};
 ghost use Rattle.hall_core.specs.Images.{image_in};
 ghost use Rattle.stop_model.specs.Moments.{Same};
@@ -24,6 +24,8 @@ pub(crate) struct Reached {
     pub before: u8,
     // Whether it is there.
     pub ended: bool,
+    // Whether the track was read to its end marker.
+    pub whole: bool,
 }
 
 /// The place of the end-of-file record of the directory of a partitioned data set, by its format 1.
@@ -113,6 +115,9 @@ pub(crate) fn reach_end<H: Hall>(
         IsTrue H.tells → (tracks : List (List ℕ)) → HasBytesOf image vol.old.geometry tracks track
         → Reaches result vol.old.geometry tracks track vol.new.buf.records }
     ensures held { IfOk result (λ found. IfSome found (IsHeld vol.new.buf.records)) }
+    ensures whole { let image = image_in (H.meaning hall.old) (H.facts hall.old) vol.old.unit in
+        IsTrue H.tells → IfOk result (λ found. IfSome found (λ reached. IsTrue reached.whole
+        → records_on image vol.old.geometry None track ≡ Some vol.new.buf.records)) }
     ensures same { IsTrue H.tells → Same (H.meaning hall.old) (H.meaning hall.new) }
     ensures mounted { let image = image_in (H.meaning hall.old) (H.facts hall.old) vol.old.unit in
         IsTrue H.tells → IsMounted image vol.new }
@@ -139,6 +144,7 @@ fn seek_end<H: Hall>(hall: &mut H, vol: &mut Vol, track: u16) -> Result<Option<R
         IsTrue H.tells → (tracks : List (List ℕ)) → HasBytesOf image vol.old.geometry tracks track
         → Reaches result vol.old.geometry tracks track vol.new.buf.records }
     ensures held { IfOk result (λ found. IfSome found (IsHeld vol.new.buf.records)) }
+    ensures part { IfOk result (λ found. IfSome found (λ reached. reached.whole ≡ false)) }
     ensures same { IsTrue H.tells → Same (H.meaning hall.old) (H.meaning hall.new) }
     ensures mounted { let image = image_in (H.meaning hall.old) (H.facts hall.old) vol.old.unit in
         IsTrue H.tells → IsMounted image vol.new }
@@ -203,19 +209,22 @@ fn reached_in(buf: &TrackBuf) -> Reached
             return Reached {
                 before,
                 ended: true,
+                whole: true,
             };
         }
     }
     Reached {
         before: count,
         ended: false,
+        whole: true,
     }
 }
 
 // How far the records of a buffer go where the last of them is an end-of-file record.
 fn last_end(buf: &TrackBuf) -> Option<Reached>
     requires { length buf.now.records ≤ 255 }
-    ensures { IsLastEnd buf.now.records result }
+    ensures end { IsLastEnd buf.now.records result }
+    ensures part { IfSome result (λ reached. reached.whole ≡ false) }
 {
     let count = buf.len() as u8;
     if count == 0 || !is_end_record(buf, count) {
@@ -224,5 +233,6 @@ fn last_end(buf: &TrackBuf) -> Option<Reached>
     Some(Reached {
         before: count - 1,
         ended: true,
+        whole: false,
     })
 }

@@ -12,11 +12,11 @@ mod records;
 mod tracks;
 
 pub use decoding::{DirBlock, read_block};
-pub use dir::Dir;
+pub use dir::{Dir, DirWalk};
 pub use encoding::block_bytes;
 pub use ends::{find_end, read_up_to};
 pub use entry::{DirEntry, copy_of};
 pub use packed::is_packed;
-pub use reading::read_dir;
+pub use reading::{read_dir, walk_dir};
 pub use records::is_directory_record;
 pub use tracks::track_at;

@@ -1,5 +1,5 @@
 //! The directory of a partitioned data set, read.
-ghost use Rattle.std.specs.Prelude.{◌≡◌, ◌≤◌, ◌+◌, ◌-◌, ◌*◌, ◌%◌, List, true, false, length, map, take, is_some, slice_get, IfOk, IsErrOf, IsTrue, OnOk, Some};
+ghost use Rattle.std.specs.Prelude.{◌≡◌, ◌≢◌, ◌≤◌, ◌<◌, ◌+◌, ◌-◌, ◌*◌, ◌%◌, ℕ, List, true, false, length, map, take, is_some, slice_get, IfOk, IsErrOf, IsTrue, None, OnOk, Some};
 ghost use Rattle.dscb_codec.specs.declared.F1.{F1};
 ghost use Rattle.hall_core.specs.Facts.{ReportedCall};
 ghost use Rattle.hall_core.specs.Images.{image_in};
@@ -12,10 +12,10 @@ ghost use Rattle.vol_model.specs.declared.contents.Place.{Place};
 ghost use Rattle.vtoc_index.specs.Index.{IsMounted, IsOfUnit};
 ghost use Rattle.vtoc_index.specs.Names.{name_at};
 ghost use Rattle.pds_directory.specs.Directories.{IsLawfulDir, IsPartIn, ReadsDir, end_in};
-ghost use Rattle.pds_directory.specs.Reading.{AddsBlock, AreReadSoFar, IsHeld, IsLawfulReading, IsReadBefore, ReadsRecord, ReadsRecords, ReadsTrack, end_on};
+ghost use Rattle.pds_directory.specs.Reading.{AddsBlock, AreReadSoFar, HoldsWhole, IsHeld, IsLawfulReading, IsReadBefore, ReadsRecord, ReadsRecords, ReadsTrack, at_in, dir_walked, end_on};
 
 use crate::decoding::{DirBlock, read_block};
-use crate::dir::Dir;
+use crate::dir::{Dir, DirWalk};
 use crate::ends::{Reached, end_on, reach_end};
 use crate::records::is_directory_record;
 use crate::tracks::track_at;
@@ -33,6 +33,8 @@ pub(crate) struct Reading {
     pub dir: Dir,
     // Whether the last of the blocks ends the directory.
     pub ended: bool,
+    // Whether the track with the directory's end was read to its end marker.
+    pub whole: bool,
 }
 
 /// Reads the directory of the partitioned data set whose format 1 a slot holds.
@@ -70,6 +72,48 @@ pub fn read_dir<H: Hall>(
     ensures faults { ReportedCall (IsErrOf result ReadErr.Device) (H.facts hall.old)
         (H.facts hall.new) }
 {
+    match walk_dir(alloc, hall, vol, slot) {
+        Ok(walk) => Ok(walk.dir),
+        Err(error) => Err(error),
+    }
+}
+
+/// Reads the directory as `read_dir` does, and leaves the track of its end in the buffer of the index, so that a walk over
+/// the set's records can go on there.
+pub fn walk_dir<H: Hall>(
+    alloc: Global,
+    hall: &mut H,
+    vol: &mut Vol,
+    slot: u32,
+) -> Result<DirWalk, ReadErr>
+    requires unit { IsOfUnit (H.facts hall.old).units vol.old }
+    requires set { is_some (name_at vol.old.slots.items slot) ≡ true }
+    requires part { let image = image_in (H.meaning hall.old) (H.facts hall.old) vol.old.unit in
+        IsTrue H.tells → (f : F1) → slice_get vol.old.slots.items slot ≡ Some (Dscb.F1 f)
+        → IsPartIn image vol.old f }
+    ensures dir { let image = image_in (H.meaning hall.old) (H.facts hall.old) vol.old.unit in
+        IsTrue H.tells → (f : F1) → slice_get vol.old.slots.items slot ≡ Some (Dscb.F1 f)
+        → ReadsDir (dir_walked result) image vol.old f }
+    ensures end { let image = image_in (H.meaning hall.old) (H.facts hall.old) vol.old.unit in
+        IsTrue H.tells → (f : F1) → slice_get vol.old.slots.items slot ≡ Some (Dscb.F1 f)
+        → IfOk result (λ walk. walk.dir.end ≡ end_in image vol.old f) }
+    ensures before { let image = image_in (H.meaning hall.old) (H.facts hall.old) vol.old.unit in
+        IsTrue H.tells → (f : F1) → slice_get vol.old.slots.items slot ≡ Some (Dscb.F1 f)
+        → IfOk result (λ walk. (j : ℕ) → j < walk.dir.end.tt → at_in image vol.old f j ≢ None) }
+    ensures held { let image = image_in (H.meaning hall.old) (H.facts hall.old) vol.old.unit in
+        IsTrue H.tells → (f : F1) → slice_get vol.old.slots.items slot ≡ Some (Dscb.F1 f)
+        → IfOk result (λ walk. IsTrue walk.whole → HoldsWhole image vol.old f walk.dir.end.tt
+        vol.new.buf) }
+    ensures few { IfOk result (λ walk. IsTrue walk.whole → length vol.new.buf.records ≤ 255) }
+    ensures lawful { IfOk result (λ walk. IsLawfulDir walk.dir) }
+    ensures same { IsTrue H.tells → Same (H.meaning hall.old) (H.meaning hall.new) }
+    ensures mounted { let image = image_in (H.meaning hall.old) (H.facts hall.old) vol.old.unit in
+        IsTrue H.tells → IsMounted image vol.new }
+    ensures others { vol.new ≡ record vol.old { buf = vol.new.buf } }
+    ensures unit { IsOfUnit (H.facts hall.new).units vol.new }
+    ensures faults { ReportedCall (IsErrOf result ReadErr.Device) (H.facts hall.old)
+        (H.facts hall.new) }
+{
     let set = set_at(vol, slot);
     let mut reading = Reading {
         dir: Dir {
@@ -78,6 +122,7 @@ pub fn read_dir<H: Hall>(
             end: Place { tt: 0, r: 0 },
         },
         ended: false,
+        whole: false,
     };
     for k in 0..u16::MAX {
         let ended = read_track(alloc, hall, vol, &set, k, &mut reading)?;
@@ -100,13 +145,17 @@ fn set_at(vol: &Vol, slot: u32) -> F1
 }
 
 // A directory that was read to its end, which stands on this relative track.
-fn finish(reading: Reading, k: u16) -> Result<Dir, ReadErr>
-    ensures dir { IfOk result (λ dir. (reading.ended ≡ true) × (dir ≡ reading.dir)) }
+fn finish(reading: Reading, k: u16) -> Result<DirWalk, ReadErr>
+    ensures dir { IfOk result (λ walk. (reading.ended ≡ true) × (walk.dir ≡ reading.dir)) }
+    ensures whole { IfOk result (λ walk. walk.whole ≡ reading.whole) }
     ensures unended { (e : ReadErr) → IsErrOf result e
         → (reading.ended ≡ false) × (e ≡ ReadErr.Unreadable k) }
 {
     if reading.ended {
-        Ok(reading.dir)
+        Ok(DirWalk {
+            dir: reading.dir,
+            whole: reading.whole,
+        })
     } else {
         Err(ReadErr::Unreadable(k))
     }
@@ -129,6 +178,10 @@ fn read_track<H: Hall>(
     requires lawful { IsLawfulReading (255 * k) reading.old }
     ensures read { let image = image_in (H.meaning hall.old) (H.facts hall.old) vol.old.unit in
         IsTrue H.tells → ReadsTrack result image vol.old set.now k reading.new }
+    ensures whole { let image = image_in (H.meaning hall.old) (H.facts hall.old) vol.old.unit in
+        IsTrue H.tells → IfOk result (λ ended. IsTrue ended → IsTrue reading.new.whole
+        → HoldsWhole image vol.old set.now k vol.new.buf) }
+    ensures few { IfOk result (λ ended. length vol.new.buf.records ≤ 255) }
     ensures lawful { OnOk result (IsLawfulReading (255 * (k + 1)) reading.new) }
     ensures same { IsTrue H.tells → Same (H.meaning hall.old) (H.meaning hall.new) }
     ensures mounted { let image = image_in (H.meaning hall.old) (H.facts hall.old) vol.old.unit in
@@ -161,6 +214,7 @@ fn add_reached(
     ensures ended { IfOk result (λ ended. ended ≡ reached.ended) }
     ensures end { OnOk result ((end : Place) → end_on k reached ≡ Some end
         → reading.new.dir.end ≡ end) }
+    ensures whole { IfOk result (λ ended. IsTrue ended → reading.new.whole ≡ reached.whole) }
     ensures read { (directory : List Block) → AreReadSoFar directory reading.old
         → ReadsRecords result k directory (take reached.before buf.now.records) reading.new }
     ensures lawful { OnOk result (IsLawfulReading (255 * (k + 1)) reading.new) }
@@ -177,6 +231,7 @@ fn add_reached(
         return Ok(false);
     };
     reading.dir.end = end;
+    reading.whole = reached.whole;
     Ok(true)
 }
 

@@ -1,7 +1,7 @@
 -- What the records of a relative track tell of its blocks, and a walk over a data set's tracks.
 use Rattle.std.proofs.Common.{◌≡◌, ◌≢◌, ◌⊎◌, ◌<◌, ◌≤◌, ◌+◌, ℕ, zero, suc, Bool, true, false, cond, inl, inr, IsTrue, List, [], ◌∷◌, length, map, take, Option, Some, None, refl, sym, ap, ap₂, ◌∙◌, subst, arith, option_and_then}
 use Rattle.std.specs.Prelude.{◌==◌, ◌&&◌, is_none, position, slice_get, Err}
-use Rattle.std.proofs.lemmas.Bool.Decides.{eqb_tells}
+use Rattle.std.proofs.lemmas.Bool.Decides.{eqb_tells, nat_tests}
 use Rattle.std.specs.Option.{option_map}
 use Rattle.std.specs.List.{enumerate_from, list_all, range_with_len}
 use Rattle.ckd_image.specs.Track.{Record}
@@ -22,11 +22,12 @@ use Rattle.vol_model.specs.declared.answers.CheckErr.TheVariants.{Unreadable, De
 use Rattle.vol_model.specs.declared.contents.Block.{Block}
 use Rattle.vol_model.specs.declared.contents.Body.TheVariants as bodies
 use Rattle.vol_model.specs.declared.contents.Place.{Place}
+use Rattle.vol_model.specs.Places.{is_before}
 use Rattle.vtoc_index.specs.declared.vol.Vol.{Vol}
 use Rattle.vtoc_index.specs.Index.{IsMounted, IsOfUnit}
 use Rattle.vtoc_index.proofs.Images.{same_image}
 use Rattle.vtoc_sets.specs.Sets.{extents_in}
-use Rattle.seq_access.specs.Bodies.{Checks, ChecksTrack, FindsBroken, IsReadable, IsSetIn, ReadsTrack, body_in, broken_in, data_in, end_in, owned_in, records_upto}
+use Rattle.seq_access.specs.Bodies.{Checks, ChecksTrack, FindsBroken, IsReadable, IsSetIn, ReadsTrack, at_in, body_in, broken_in, data_in, end_in, owned_in, records_upto}
 use Rattle.seq_access.proofs.BodyWalks.{body_all, body_broken, first_is, none_first}
 use Rattle.seq_access.proofs.DataPlaces.{blocks_are, blocks_by, records_are}
 
@@ -55,6 +56,13 @@ not_all p (x ∷ xs) (suc k) is = last_false (p x) (list_all p xs) (not_all p xs
     last_false : (a b : Bool) → false ≡ b → false ≡ (a && b)
     last_false true b e = e
     last_false false b e = refl
+
+-- the first elements of a list are its own
+pub taken_within : {X : Type 0} (n k : ℕ) (xs : List X) → k < n → slice_get (take n xs) k ≡ slice_get xs k
+taken_within zero k xs low = absurd (omega (arith, low))
+taken_within (suc n) k [] low = refl
+taken_within (suc n) zero (x ∷ xs) low = refl
+taken_within (suc n) (suc k) (x ∷ xs) low = taken_within n k xs (omega (arith, low))
 
 -- of numbered records
 pub length-numbered : (r : ℕ) (xs : List Record) → length (enumerate_from r xs) ≡ length xs
@@ -306,15 +314,20 @@ module _ (tells : Bool) (f0 f1 : Facts) (m0 m1 : Meaning (List File)) (v0 v1 : V
       ];
     }
 
-pub walk_none : (tells : Bool) (f0 : Facts) (m0 : Meaning (List File)) (v0 : Vol) (on : BlocksOn) → (IsTrue tells → Same m0 m0) → (IsTrue tells → IsMounted (image_in m0 f0 v0.unit) v0) → IsOfUnit f0.units v0 → Walks tells f0 f0 m0 m0 v0 v0 on 0
-walk_none tells f0 m0 v0 on same mounted unit = record {
+-- one that begins behind tracks that have their blocks
+pub walk_from : (tells : Bool) (f0 : Facts) (m0 : Meaning (List File)) (v0 : Vol) (on : BlocksOn) (k : ℕ) → (IsTrue tells → Same m0 m0) → (IsTrue tells → IsMounted (image_in m0 f0 v0.unit) v0) → IsOfUnit f0.units v0
+    → (IsTrue tells → (j : ℕ) → j < k → on (image_in m0 f0 v0.unit) v0 j ≢ None) → Walks tells f0 f0 m0 m0 v0 v0 on k
+walk_from tells f0 m0 v0 on k same mounted unit before = record {
   facts = call_none f0;
   same = same;
   mounted = mounted;
   others = refl;
   unit = unit;
-  read = λ told j low. absurd (omega (arith, low));
+  read = before;
 }
+
+pub walk_none : (tells : Bool) (f0 : Facts) (m0 : Meaning (List File)) (v0 : Vol) (on : BlocksOn) → (IsTrue tells → Same m0 m0) → (IsTrue tells → IsMounted (image_in m0 f0 v0.unit) v0) → IsOfUnit f0.units v0 → Walks tells f0 f0 m0 m0 v0 v0 on 0
+walk_none tells f0 m0 v0 on same mounted unit = walk_from tells f0 m0 v0 on 0 same mounted unit (λ told j low. absurd (omega (arith, low)))
 
 -- what a walk over all tracks tells of the body of a sequential set
 module _ (image : List ℕ) (v : Vol) (f : F1) (some : has_no_block f.lstar ≡ false) where
@@ -325,10 +338,24 @@ module _ (image : List ℕ) (v : Vol) (f : F1) (some : has_no_block f.lstar ≡ 
   body_unread k Device low reads none = tt
   body_unread k (Unreadable t) low reads none = body_broken v.geometry (data_in image v) (extents_in image v f) f.lstar k some low reads none.1 ∙ ap bodies.Unreadable (sym none.0)
 
+first_low : (p q : Place) → is_before p q ≡ true → p.tt ≤ q.tt
+first_low p q is = grind (arith, nat_tests)
+
 -- and of the tracks of a partitioned one
 module _ (image : List ℕ) (v : Vol) (f : F1) (end : Place) (at : end ≡ end_in image v f) where
   abbrev to : Place
   to = read_to end f.lstar
+
+  -- the directory's end isn't behind the last record that is read
+  pub end_low : end.tt ≤ to.tt
+  end_low = by (is_before end (last_of f.lstar)) refl
+    where
+      by : (b : Bool) → is_before end (last_of f.lstar) ≡ b → end.tt ≤ (cond b (last_of f.lstar) end).tt
+      by true is = first_low end (last_of f.lstar) is
+      by false is = omega arith
+
+  pub at_on : (j : ℕ) → at_in image v f j ≢ None → part_on_set f end image v j ≢ None
+  at_on j there = subst (λ (p : Place). part_at v.geometry (data_in image v) (owned_in image v f) p (read_to p f.lstar) j ≢ None) (sym at) there
 
   broken_at : position (λ o. is_none o) (map (part_on_set f end image v) (range_with_len 0 (to.tt + 1))) ≡ broken_in image v f
   unfolding part_tracks

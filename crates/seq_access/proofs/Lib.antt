@@ -12,6 +12,7 @@ pub mod EndedTracks
 pub mod FirstTracks
 pub mod FoundSlots
 pub mod HeldCalls
+pub mod HeldParts
 pub mod HeldRecords
 pub mod HeldTracks
 pub mod KeptBodies

@@ -1,11 +1,12 @@
 -- The blocks of a sequential or partitioned data set as an image has them, by the index of its VTOC, in this project's profile.
-use Rattle.std.specs.Prelude.{◌≡◌, ◌≢◌, ◌==◌, ◌&&◌, ℕ, true, List, Option, Some, None, Result, Ok, Err, is_none, option_and_then, position, slice_get, if◌then◌else◌}
+use Rattle.std.specs.Prelude.{◌≡◌, ◌≢◌, ◌==◌, ◌&&◌, ℕ, true, List, length, take, nat_le, Option, Some, None, Result, Ok, Err, is_none, option_and_then, position, slice_get, if◌then◌else◌}
 use Rattle.ckd_image.specs.Track.{Record}
 use Rattle.dscb_codec.specs.declared.Dscb.TheVariants as formats
 use Rattle.dscb_codec.specs.declared.F1.{F1}
 use Rattle.pack_spec.specs.Blocks.{data_tracks, last_of, owned_tracks, records_in, seq_body, upto_last}
 use Rattle.pack_spec.specs.Bodies.{body_of}
-use Rattle.pack_spec.specs.Directories.{end_from, part_body, part_tracks, read_to}
+use Rattle.pack_spec.specs.Directories.{end_from, part_at, part_blocks, part_body, part_tracks, read_to}
+use Rattle.pack_spec.specs.Label.{records_on}
 use Rattle.pack_spec.specs.Volume.{attr_of}
 use Rattle.vol_model.specs.declared.answers.CheckErr.{CheckErr}
 use Rattle.vol_model.specs.declared.answers.CheckErr.TheVariants.{Unreadable, Device}
@@ -15,6 +16,7 @@ use Rattle.vol_model.specs.declared.contents.Body.TheVariants as bodies
 use Rattle.vol_model.specs.declared.contents.Place.{Place}
 use Rattle.vol_model.specs.Reading.{readable}
 use Rattle.vol_model.specs.Shelf.{is_sequential}
+use Rattle.track_records.specs.Buffers.{Buffer}
 use Rattle.vtoc_index.specs.declared.vol.Vol.{Vol}
 use Rattle.vtoc_sets.specs.Sets.{HasSet, extents_in}
 
@@ -70,6 +72,10 @@ end_in image v f = end_from v.geometry (data_in image v) 0 (owned_in image v f)
 abbrev pub broken_in : List ℕ → Vol → F1 → Option ℕ
 broken_in image v f = position (λ o. is_none o) (part_tracks v.geometry (data_in image v) (owned_in image v f) (end_in image v f) (read_to (end_in image v f) f.lstar))
 
+-- its blocks on a relative track; none where that breaks it
+abbrev pub at_in : List ℕ → Vol → F1 → ℕ → Option (List Block)
+at_in image v f k = part_at v.geometry (data_in image v) (owned_in image v f) (end_in image v f) (read_to (end_in image v f) f.lstar) k
+
 -- a partitioned body can be read
 abbrev pub IsReadablePart : Body → Type 0
 IsReadablePart body = (blocks : List Block) × (readable body ≡ Ok blocks)
@@ -102,6 +108,21 @@ last_in image v f = last_read (body_of_set image v f) f.lstar
 -- Blocks may be put behind those of a data set, whose last record has this place.
 abbrev pub IsLastOf : List ℕ → Vol → F1 → Place → Type 0
 IsLastOf image v f last = IsWritable (body_of_set image v f) × (last ≡ last_in image v f)
+
+-- a buffer holds all records of a relative track of a data set
+abbrev pub HoldsWhole : List ℕ → Vol → F1 → ℕ → Buffer → Type 0
+HoldsWhole image v f k b = (t : ℕ) × (slice_get (owned_in image v f) k ≡ Some t) × (records_on image v.geometry None t ≡ Some b.records)
+
+-- those of all records of a track that are read up to a record, or to the end marker; none where it has no such record
+abbrev pub held_upto : Option ℕ → List Record → Option (List Record)
+held_upto None records = Some records
+held_upto (Some r) records = if nat_le r (length records) then Some (take r records) else None
+
+-- the blocks on the track with a directory's end, of which these are all records, up to a place; none where one may not stand there, or where it is read up to R0
+abbrev pub part_held : Place → Place → List Record → Option (List Block)
+part_held end to records =
+    if (end.tt == to.tt) && (to.r == 0) then None
+    else option_and_then (part_blocks end end.tt) (held_upto (upto_last to end.tt) records)
 
 -- the records on a relative track of a data set up to a place; none where the set has no such track, where it breaks the grammar, or where it is read up to R0
 abbrev pub records_upto : List ℕ → Vol → F1 → Place → ℕ → Option (List Record)

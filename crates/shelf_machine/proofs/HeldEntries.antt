@@ -37,7 +37,7 @@ use Rattle.shelf_machine.specs.Known.{HoldLibraries}
 use Rattle.shelf_machine.specs.Libraries.{AreOthers, IsKeptBehind}
 use Rattle.shelf_machine.specs.Reporting.{reported}
 use Rattle.shelf_machine.specs.Standing.{IsDirectoryAt}
-use Rattle.shelf_machine.specs.declared.library.Library.{Library}
+use Rattle.mount_repair.specs.declared.library.Library.{Library}
 use Rattle.shelf_machine.proofs.EntryChanges.{changes_entries, entries_answered, entries_idle, entries_later, entries_unread, error_answered, sound_answered}
 use Rattle.shelf_machine.proofs.StandingDirectories.{directory_read}
 use Rattle.shelf_machine.proofs.StayingEntries.{operation_stays}

@@ -41,7 +41,7 @@ use Rattle.shelf_machine.specs.Blocks.{IsPartOn}
 use Rattle.shelf_machine.specs.Known.{HoldLibraries, IsLibraryOf}
 use Rattle.shelf_machine.specs.Libraries.{AreOthers, HoldsLibrary, HoldsPart, IsLent, IsLibraryAt, IsMadeFrom, IsVacancyOf, ReadsLibrary, is_vacant_by, library_from}
 use Rattle.shelf_machine.specs.Standing.{IsDirectoryAt}
-use Rattle.shelf_machine.specs.declared.library.Library.{Library}
+use Rattle.mount_repair.specs.declared.library.Library.{Library}
 use Rattle.shelf_machine.proofs.FoundElements.{find_place, found_at}
 use Rattle.shelf_machine.proofs.StandingDirectories.{directory_held, directory_read}
 

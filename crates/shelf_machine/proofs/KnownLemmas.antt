@@ -6,6 +6,7 @@ use Rattle.std.proofs.lemmas.List.{length-map}
 use Rattle.std.proofs.lemmas.Option.{slice_get-get_or}
 use Rattle.free_rebuild.specs.Repairs.{image_named}
 use Rattle.hall_core.specs.Facts.{Attached, unit_of}
+use Rattle.mount_repair.specs.declared.library.Library.{Library}
 use Rattle.seq_access.specs.Reading.{AreRead, HoldsTrack}
 use Rattle.seq_access.specs.declared.read_buf.Reach.{Reach}
 use Rattle.seq_access.specs.declared.read_buf.Reach.TheVariants.{Nothing}
@@ -26,14 +27,14 @@ use Rattle.shelf_machine.specs.Blocks.{IsOnImage}
 use Rattle.shelf_machine.specs.Machine.{AreIndexes, AreKept, shelf_or_none, shelf_under, units_of}
 use Rattle.shelf_machine.specs.Opening.{images_named, names_of}
 use Rattle.pack_spec.specs.Shelf.{shelf_of}
-use Rattle.shelf_machine.specs.Known.{AllFollow, AreFresh, AreHeld, Follows, HaveBuffers, HoldLibraries, HoldsPack, IsFresh, IsServed, KnowsBodies, ListsBroken, ListsUnread, buffers_of, followed_if}
+use Rattle.shelf_machine.specs.Known.{AllFollow, AreFresh, AreHeld, Follows, HaveBuffers, HoldLibraries, HoldsOn, HoldsPack, IsFresh, IsServed, KnowsBodies, ListsBroken, ListsUnread, buffers_of, followed_if}
 use Rattle.shelf_machine.specs.Reporting.{reported}
 use Rattle.shelf_machine.specs.declared.known.Known.{Known}
 use Rattle.shelf_machine.specs.Unread.{broken_in}
 use Rattle.shelf_machine.specs.declared.unread.Unread.{Unread}
 use Rattle.shelf_machine.proofs.Following.{lists_after}
 use Rattle.shelf_machine.proofs.Holding.{kept_mounted, volume_there}
-use Rattle.shelf_machine.proofs.ListPlaces.{get_map, get_other, get_set, map_set_same, within}
+use Rattle.shelf_machine.proofs.ListPlaces.{get_map, get_other, get_set, map_set_same, set_size, within}
 
 -- a buffer that holds nothing holds its track
 pub nothing_held : (image : List ℕ) (b : Known) → b.buf.reach ≡ Nothing → HoldsTrack image b.buf
@@ -173,6 +174,24 @@ module _ (known : List Known) (k : ℕ) (b b' : Known) (there : slice_get known 
       → HoldsTrack (image_named files (unit_of attached v.unit).name) b'.buf → AreHeld files attached vols (set known k b')
   held_track files attached vols v held at same track =
       held_set files attached vols v held at (record { track = track; libraries = subst (HoldLibraries (image_named files (unit_of attached v.unit).name) v) (sym same) (held k v b at there).libraries })
+
+-- libraries are held of one pack
+pub holds_set : (known : List Known) (k : ℕ) (a b : Known) (libraries : List Library) → slice_get known k ≡ Some a → b.unread ≡ a.unread → b.buf ≡ a.buf → b.libraries.items ≡ libraries → HoldsOn k libraries known (set known k b)
+holds_set known k a b libraries there unread buf held = record {
+  size = set_size known k b;
+  others = λ n differs. get_other known n k b differs;
+  here = λ x is.
+      let this : b ≡ x = some_known (sym (get_set known k a b there) ∙ is) in
+      subst (λ (y : Known). (o : Known) × (slice_get known k ≡ Some o) × (y.unread ≡ o.unread) × (y.buf ≡ o.buf) × (y.libraries.items ≡ libraries)) this (a, there, unread, buf, held);
+}
+
+-- nothing is known of a pack behind the others
+pub holds_none : (known : List Known) (k : ℕ) (libraries : List Library) → length known ≤ k → HoldsOn k libraries known known
+holds_none known k libraries high = record {
+  size = refl;
+  others = λ n differs. refl;
+  here = λ x is. absurd (omega (arith, high, within known k x is));
+}
 
 -- what is known of the image of an index
 abbrev pub on_image : (files : List File) (attached : List Attached) (vols : List Vol) (known : List Known) (k : ℕ) (v : Vol) (b : Known) → AreIndexes attached vols → AreKept files attached vols

@@ -46,6 +46,7 @@ pub mod ReadingPacks
 pub mod Refusing
 pub mod Repairing
 pub mod RepairLoops
+pub mod OpenedLibraries
 pub mod ReportLemmas
 pub mod ShelfLemmas
 pub mod ShelfReads

@@ -20,7 +20,7 @@ use Rattle.vol_model.specs.Reading.{Picks, directory_size, entries_in}
 use Rattle.shelf_machine.specs.Libraries.{HoldsLibrary, IsAnswered, IsHeld, entries_held, size_by, size_held}
 use Rattle.shelf_machine.specs.Machine.{ByFiles, KeepsSafe, LeavesJust, shelf_under, units_of, writer_in}
 use Rattle.shelf_machine.specs.Opening.{names_of}
-use Rattle.shelf_machine.specs.declared.library.Library.{Library}
+use Rattle.mount_repair.specs.declared.library.Library.{Library}
 use Rattle.shelf_machine.specs.declared.writer.Writer.{Writer}
 use Rattle.vtoc_index.specs.declared.vol.Vol.{Vol}
 use Rattle.shelf_machine.proofs.Pendings.{writer_same}

@@ -13,7 +13,7 @@ use Rattle.vol_model.specs.declared.contents.Entry.{Entry}
 use Rattle.vol_model.specs.declared.contents.Place.{Place}
 use Rattle.vol_model.specs.Places.{is_before}
 use Rattle.shelf_machine.specs.Libraries.{IsVacancyOf}
-use Rattle.shelf_machine.specs.declared.library.Library.{Library}
+use Rattle.mount_repair.specs.declared.library.Library.{Library}
 use Rattle.dadsm_ops.specs.Extending.{HoldsSet, IsReadable}
 use Rattle.dscb_codec.specs.declared.Dscb.{Dscb}
 use Rattle.dscb_codec.specs.declared.Dscb.TheVariants as formats

@@ -232,6 +232,10 @@ module _ (tells : Bool) (old now : Facts) (m m' : Meaning (List File)) (scans : 
   pub there : slice_get both k ≡ Some s.vol
   there = ap (λ (l : List Vol). slice_get (vols ++ l) k) (rest_at scans k s at) ∙ at_last vols (indexes_of (drop (k + 1) scans)) k s.vol so_far.size
 
+  -- its index as it is repaired stands behind those before
+  pub put_there : (v' : Vol) → set both k v' ≡ (vols ++ v' ∷ []) ++ indexes_of (drop (k + 1) scans)
+  put_there v' = ap (λ (l : List Vol). set (vols ++ l) k v') (rest_at scans k s at) ∙ set_last vols (indexes_of (drop (k + 1) scans)) k s.vol v' so_far.size
+
   -- the pack is as it was scanned
   pub scan_still : IsTrue tells → AreScansOf m.state old.units scans → IsScanOf (image_named m'.state (unit_of now.units s.vol.unit).name) s
   scan_still told images =
@@ -247,8 +251,7 @@ module _ (tells : Bool) (old now : Facts) (m m' : Meaning (List File)) (scans : 
       → vols' ≡ vols ++ s'.vol ∷ [] → OpenedSoFar tells old next m m'' scans vols' (k + 1)
   opened_next next m'' s' vols' indexes mounted others on call run pushed = subst (λ (l : List Vol). OpenedSoFar tells old next m m'' scans l (k + 1)) (sym pushed) (record {
     size = one_longer vols k s'.vol so_far.size;
-    repairs = subst (λ (l : List Vol). RepairsSoFar tells old next m m'' (indexes_of scans) l (k + 1))
-        (ap (λ (l : List Vol). set (vols ++ l) k s'.vol) (rest_at scans k s at) ∙ set_last vols (indexes_of (drop (k + 1) scans)) k s.vol s'.vol so_far.size)
+    repairs = subst (λ (l : List Vol). RepairsSoFar tells old next m m'' (indexes_of scans) l (k + 1)) (put_there s'.vol)
         (repairs_next tells old now m m' (indexes_of scans) both k so_far.repairs next m'' s.vol s' indexes mounted there others on.index on.names call run);
   })
 

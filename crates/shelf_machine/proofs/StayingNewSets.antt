@@ -31,7 +31,7 @@ use Rattle.vtoc_sets.specs.Sets.{volume_in}
 use Rattle.shelf_machine.specs.Known.{HoldLibraries}
 use Rattle.shelf_machine.specs.NewSets.{first_track, without_first}
 use Rattle.shelf_machine.specs.Standing.{IsDirectoryAt}
-use Rattle.shelf_machine.specs.declared.library.Library.{Library}
+use Rattle.mount_repair.specs.declared.library.Library.{Library}
 use Rattle.shelf_machine.proofs.Operating.{ok_volume, unrefused}
 use Rattle.shelf_machine.proofs.PackedNewSets.{agree_old, differ_new}
 use Rattle.shelf_machine.proofs.PackedVtoc.{on_done}

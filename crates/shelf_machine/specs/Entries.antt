@@ -12,7 +12,7 @@ use Rattle.vol_model.specs.declared.contents.Volume.{Volume}
 use Rattle.vol_model.specs.declared.refusals.Refusal.{Refusal}
 use Rattle.vtoc_index.specs.declared.vol.Vol.{Vol}
 use Rattle.pds_directory.specs.declared.dir.Dir.{Dir}
-use Rattle.shelf_machine.specs.declared.library.Library.{Library}
+use Rattle.mount_repair.specs.declared.library.Library.{Library}
 
 -- images differ in the tracks of one directory alone, that of a data set of an index
 abbrev pub InDirectory : Vol → List ℕ → List ℕ → Type 0

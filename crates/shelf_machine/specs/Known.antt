@@ -19,7 +19,7 @@ use Rattle.vtoc_sets.specs.Sets.{volume_in}
 use Rattle.shelf_machine.specs.Standing.{IsDirectoryAt}
 use Rattle.shelf_machine.specs.Unread.{broken_in, others_of, renamed_in, track_in}
 use Rattle.shelf_machine.specs.declared.known.Known.{Known}
-use Rattle.shelf_machine.specs.declared.library.Library.{Library}
+use Rattle.mount_repair.specs.declared.library.Library.{Library}
 use Rattle.shelf_machine.specs.declared.unread.Unread.{Unread}
 
 -- of a volume just those sequential and partitioned data sets are listed whose bodies can't be read
@@ -108,6 +108,13 @@ pub record ForgetsOn (k : ℕ) (old new : List Known) : Type 0 where
       × (b.unread.items ≡ a.unread.items) × (b.libraries.items ≡ a.libraries.items)
   pub others : (n : ℕ) → n ≢ k → slice_get new n ≡ slice_get old n
   pub here : (b : Known) → slice_get new k ≡ Some b → b.buf.reach ≡ Nothing
+
+-- These libraries are held of the pack of this number, instead of others; the rest of what is known stays.
+pub record HoldsOn (k : ℕ) (libraries : List Library) (old new : List Known) : Type 0 where
+  pub size : length new ≡ length old
+  pub others : (n : ℕ) → n ≢ k → slice_get new n ≡ slice_get old n
+  pub here : (b : Known) → slice_get new k ≡ Some b → (a : Known) × (slice_get old k ≡ Some a)
+      × (b.unread ≡ a.unread) × (b.buf ≡ a.buf) × (b.libraries.items ≡ libraries)
 
 -- the operations that are done on packs yet
 abbrev pub IsServed : Op → Type 0

@@ -16,7 +16,6 @@ pub mod Operating
 pub mod Parts
 pub mod Opened
 pub mod Unread
-pub mod LibraryProps
 pub mod Standing
 pub mod Known
 pub mod Libraries

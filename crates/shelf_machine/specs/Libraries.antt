@@ -18,7 +18,7 @@ use Rattle.seq_access.specs.declared.read_buf.ReadBuf.{ReadBuf}
 use Rattle.seq_access.specs.declared.read_buf.Reach.TheVariants.{Nothing}
 use Rattle.shelf_machine.specs.Known.{IsLibraryOf}
 use Rattle.shelf_machine.specs.declared.known.Known.{Known}
-use Rattle.shelf_machine.specs.declared.library.Library.{Library}
+use Rattle.mount_repair.specs.declared.library.Library.{Library}
 
 -- the library of a number, from 0, of those that are held of the pack of this number
 abbrev pub library_at : List Known → ℕ → ℕ → Option Library

@@ -4,7 +4,7 @@ use Rattle.pack_spec.specs.Blocks.{owned_tracks}
 use Rattle.vol_model.specs.declared.contents.DataSet.{DataSet}
 use Rattle.vol_model.specs.declared.contents.Volume.{Volume}
 use Rattle.vol_model.specs.Shelf.{set_of}
-use Rattle.shelf_machine.specs.declared.library.Library.{Library}
+use Rattle.mount_repair.specs.declared.library.Library.{Library}
 
 -- the first track of the data set of this name on a volume, if it has one
 abbrev pub first_track : List ℕ → Volume → Option ℕ

@@ -33,12 +33,12 @@ ghost use Rattle.shelf_machine.specs.Reporting.{reported};
 
 use crate::known::Known;
 use crate::libraries::{keep, take_library};
-use crate::library::Library;
 use crate::reads::write_refusal_in;
 use crate::refusals::slot_of;
 use dscb_codec::F1;
 use ebcdic_names::{Dsn, Name8};
 use hall_core::Hall;
+use mount_repair::Library;
 use pds_directory::{Dir, DirEntry};
 use std::alloc::Global;
 use stow_ops::{drop_entry, enter};

@@ -2,8 +2,8 @@
 ghost use Rattle.std.specs.Prelude.{◌≡◌, ◌<◌, length};
 ghost use Rattle.shelf_machine.specs.Known.{AllFollow, Follows, ForgetsOn, followed};
 
-use crate::library::Library;
 use crate::unread::{Unread, forget, rename};
+use mount_repair::Library;
 use seq_access::ReadBuf;
 use vol_model::Op;
 use vtoc_index::Vol;

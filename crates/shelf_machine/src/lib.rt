@@ -7,7 +7,6 @@ mod entries;
 mod front;
 mod known;
 mod libraries;
-mod library;
 mod machine;
 mod open_err;
 mod opening;

@@ -1,4 +1,4 @@
-//! The directories of the partitioned data sets of several packs, each held from its first reading on.
+//! The directories of the partitioned data sets of several packs, each held from its reading on.
 ghost use Rattle.std.specs.Prelude.{◌≡◌, ◌==◌, ◌++◌, ℕ, List, [], ◌∷◌, length, IsTrue, IsErrOf, IfErr, IfOk, IfSome, None, OnErr, Some, find, position, slice_get};
 ghost use Rattle.std.specs.List.{AllByRecursion};
 ghost use Rattle.std.specs.Option.{option_copied};
@@ -22,15 +22,14 @@ ghost use Rattle.shelf_machine.specs.Machine.{AreIndexes, AreInOrder, AreKept, s
 ghost use Rattle.shelf_machine.specs.Opening.{names_of};
 
 use crate::known::Known;
-use crate::library::Library;
 use crate::reads::kind_in;
 use crate::refusals::slot_of;
 use dscb_codec::{Dscb, F1};
 use ebcdic_names::{Dsn, Name8};
 use hall_core::{Device, Hall};
+use mount_repair::{Library, library_of};
 use pds_directory::{Dir, DirEntry, copy_of, find_end, read_dir, track_at};
 use seq_access::{Reach, ReadBuf, is_before, last_of};
-use sorted_chain::kept;
 use std::alloc::Global;
 use std::mem;
 use vol_model::{Entry, Kind, Place, ReadErr, StoreErr, WorkErr};
@@ -305,24 +304,11 @@ fn library_from(alloc: Global, read: Result<Dir, ReadErr>, start: u16) -> Result
     ensures failed { IsErrOf read ReadErr.Device → IsErrOf result ReadErr.Device }
 {
     match read {
-        Ok(dir) => library_of(alloc, dir, start),
+        Ok(dir) => match library_of(alloc, dir, start) {
+            Ok(library) => Ok(library),
+            Err(_) => Err(ReadErr::Memory),
+        },
         Err(error) => Err(error),
-    }
-}
-
-// The library of a directory that was read.
-fn library_of(alloc: Global, dir: Dir, start: u16) -> Result<Library, ReadErr>
-    requires { IsLawfulDir dir }
-    ensures library { IfOk result (λ l. (l.dir ≡ dir) × (l.start ≡ start)) }
-    ensures memory { IfErr result (λ e. e ≡ ReadErr.Memory) }
-{
-    match kept(alloc, &dir.blocks) {
-        Ok(entries) => Ok(Library {
-            start,
-            dir,
-            entries,
-        }),
-        Err(_) => Err(ReadErr::Memory),
     }
 }
 

@@ -35,8 +35,8 @@ use vtoc_index::Vol;
 ///
 /// It is sound as long as no call of its hall failed. It does all operations on space, names, blocks and entries; for
 /// those on the catalog, and for the making of a SYSCTLG, it wants memory. `put` and `commit` never do: from its opening
-/// on there is room for the free runs of each pack. It keeps each directory that it has read, as its own operations change
-/// it.
+/// on there is room for the free runs of each pack. It keeps each directory that was read, at its opening or later, as its
+/// own operations change it.
 #[derive(Drop)]
 pub struct HallShelf<H: Hall> {
     hall: H,

@@ -9,7 +9,7 @@ ghost use Rattle.mount_repair.specs.Scans.{IsScanOf, IsScanOn, Scans};
 ghost use Rattle.pack_spec.specs.Volume.{volume_of};
 ghost use Rattle.vtoc_index.specs.declared.vol.Vol.{Vol};
 ghost use Rattle.shelf_machine.specs.Checking.{unread_in};
-ghost use Rattle.shelf_machine.specs.Known.{AreFresh, HaveBuffers, IsFresh, KnowsBodies};
+ghost use Rattle.shelf_machine.specs.Known.{AreFresh, AreHeld, HaveBuffers, HoldsOn, IsFresh, KeepsLists, KnowsBodies};
 ghost use Rattle.shelf_machine.specs.Machine.{AreIndexes, AreInOrder, serials_of, shelf_under, units_of};
 ghost use Rattle.shelf_machine.specs.Opening.{AreApart, AreUnits, LeavesSafe, names_of};
 ghost use Rattle.shelf_machine.specs.Packs.{AreKnown, AreOfSamePacks, AreOpened, AreScanned, AreScansOf, RefusesImages, RepairsAll, StopCall, StopsAtTwice, indexes_of};
@@ -19,13 +19,14 @@ use crate::stopped::Stopped;
 use crate::unread::unread_of;
 use ebcdic_names::Serial;
 use hall_core::Hall;
-use mount_repair::{Scan, repair, scan};
+use mount_repair::{Library, Scan, repair, scan};
 use seq_access::ReadBuf;
 use std::alloc::{AllocError, Global};
 use vtoc_index::{MountErr, Vol};
 
-// The packs on units: all are scanned, then their serials compared, then each that isn't settled is repaired. All memory is
-// taken before the first write. Behind an error nothing was written, unless the device failed.
+// The packs on units: all are scanned, then their serials compared, then each that isn't settled is repaired. What was read
+// of their libraries is held. All memory is taken before the first write. Behind an error nothing was written, unless the
+// device failed.
 pub(crate) fn open_packs<H: Hall>(
     alloc: Global,
     hall: &mut H,
@@ -42,7 +43,8 @@ pub(crate) fn open_packs<H: Hall>(
         (names_of (H.facts hall.new).units (units_of packs.vols.items)) (H.meaning hall.new).state)
         packs.known.items) }
     ensures buffers { IfOk result (λ packs. HaveBuffers packs.vols.items packs.known.items) }
-    ensures fresh { IfOk result (λ packs. AreFresh packs.known.items) }
+    ensures held { IsTrue H.tells → IfOk result (λ packs. AreHeld (H.meaning hall.new).state
+        (H.facts hall.new).units packs.vols.items packs.known.items) }
     ensures refused { IsTrue H.tells → IfErr result (RefusesImages
         (names_of (H.facts hall.old).units units.now) (H.meaning hall.old).state) }
     ensures same { IsTrue H.tells → IfErr result (λ s. s.why ≢ MountErr.Device
@@ -56,9 +58,9 @@ pub(crate) fn open_packs<H: Hall>(
     if let Some(stopped) = same_serial(&scans) {
         return Err(stopped);
     }
-    let known = know_all(alloc, &scans)?;
+    let mut known = know_all(alloc, &scans)?;
     let mut vols = room_for(alloc, &scans)?;
-    repair_all(hall, scans, &mut vols)?;
+    repair_all(hall, scans, &mut vols, &mut known)?;
     Ok(Packs { vols, known })
 }
 
@@ -215,8 +217,13 @@ fn room_for(alloc: Global, scans: &[Scan]) -> Result<Vec<Vol>, Stopped>
     }
 }
 
-// Repairs each pack that isn't settled, and gives the indexes of all.
-fn repair_all<H: Hall>(hall: &mut H, scans: Vec<Scan>, vols: &mut Vec<Vol>) -> Result<(), Stopped>
+// Repairs each pack that isn't settled, and gives the indexes of all, and the libraries that were read of each.
+fn repair_all<H: Hall>(
+    hall: &mut H,
+    scans: Vec<Scan>,
+    vols: &mut Vec<Vol>,
+    known: &mut Vec<Known>,
+) -> Result<(), Stopped>
     requires indexes { AreIndexes (H.facts hall.old).units (indexes_of scans.items) }
     requires order { AreInOrder (indexes_of scans.items) }
     requires scanned { (k : ℕ) (s : Scan) → slice_get scans.items k ≡ Some s
@@ -224,6 +231,7 @@ fn repair_all<H: Hall>(hall: &mut H, scans: Vec<Scan>, vols: &mut Vec<Vol>) -> R
     requires images { IsTrue H.tells → AreScansOf (H.meaning hall.old).state
         (H.facts hall.old).units scans.items }
     requires room { (vols.old.items ≡ []) × (length scans.items ≤ vec_capacity vols.old) }
+    requires fresh { AreFresh known.old.items }
     requires durable { IsTrue H.tells → IsDurable (H.meaning hall.old) }
     ensures files { IsTrue H.tells → RepairsAll
         (names_of (H.facts hall.old).units (units_of (indexes_of scans.items)))
@@ -231,15 +239,28 @@ fn repair_all<H: Hall>(hall: &mut H, scans: Vec<Scan>, vols: &mut Vec<Vol>) -> R
     ensures indexes { OnOk result (AreIndexes (H.facts hall.new).units vols.new.items) }
     ensures order { OnOk result (AreInOrder vols.new.items) }
     ensures packs { OnOk result (AreOfSamePacks (indexes_of scans.items) vols.new.items) }
+    ensures lists { KeepsLists known.old.items known.new.items }
+    ensures held { IsTrue H.tells → OnOk result (AreHeld (H.meaning hall.new).state
+        (H.facts hall.new).units vols.new.items known.new.items) }
     ensures unit { IfErr result (λ s. Contains (units_of (indexes_of scans.items)) s.unit) }
     ensures device { IfErr result (λ s. s.why ≡ MountErr.Device) }
     ensures faults { StopCall (H.facts hall.old) (H.facts hall.new) result }
 {
     for scanned in scans {
-        let repaired = repair_pack(hall, scanned)?;
-        vols.push_reserved(repaired.vol);
+        let Scan { vol, libraries, .. } = repair_pack(hall, scanned)?;
+        hold(known, vols.len(), libraries);
+        vols.push_reserved(vol);
     }
     Ok(())
+}
+
+// Holds these libraries of the pack of a number, if something is known of it.
+fn hold(known: &mut Vec<Known>, k: usize, libraries: Vec<Library>)
+    ensures { HoldsOn k libraries.items known.old.items known.new.items }
+{
+    if let Some(pack) = known.get_mut(k) {
+        pack.libraries = libraries;
+    }
 }
 
 // Repairs a pack that was scanned, unless it is settled: then nothing is called.

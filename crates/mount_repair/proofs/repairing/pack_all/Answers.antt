@@ -4,7 +4,7 @@ use Rattle.std.proofs.lemmas.Option.{slice_get-get_or}
 use Rattle.std.proofs.lemmas.Result.{err_from_is_err_and}
 use Rattle.vtoc_index.specs.declared.vol.Vol.{Vol}
 use Rattle.mount_repair.specs.declared.scanned.Unpacked.{Unpacked}
-use Rattle.mount_repair.proofs.PackLoops.{left_here, mounted_here, packed_next, packed_stopped}
+use Rattle.mount_repair.proofs.PackLoops.{kept_all, left_here, mounted_here, packed_next, packed_stopped}
 use Rattle.mount_repair.proofs.repairing.pack_all.Goals as goal
 
 pub pack_one-requires-clause-packing : goal.pack_one-requires-clause-packing
@@ -35,5 +35,8 @@ loop-dir-preserved g c =
     let l = c.loop-dir in
     let at : slice_get c.args.unpacked.now l.dir-index ≡ Some c.dir-item.result = slice_get-get_or c.args.unpacked.now l.dir-index c.dir-item.result c.loop-dir-test.true ∙ ap (λ (u : Unpacked). Some u) (sym c.dir-item.is) in
     let done = c.in_ok-pack_one.ensures in
-    packed_next _ _ _ _ _ _ _ _ _ _ l.invariant (g.H.Hall.facts c.pack_one.new.hall) (g.H.Hall.meaning c.pack_one.new.hall) c.pack_one.new.vol done.others done.unit done.faults (λ is. cc)
-    (λ told. done.files told _ (left_here _ _ _ _ _ _ _ _ _ _ l.invariant c.dir-item.result at told))
+    packed_next _ _ _ _ _ _ _ _ _ _ l.invariant (g.H.Hall.facts c.pack_one.new.hall) (g.H.Hall.meaning c.pack_one.new.hall) c.pack_one.new.vol done.others c.dir-item.result at done.unit done.faults (λ is. cc)
+    (λ told. done.files told _ (left_here _ _ _ _ _ _ _ _ _ _ l.invariant c.dir-item.result at told)) done.libraries
+
+pub returns-clause-libraries : goal.returns-clause-libraries
+returns-clause-libraries g c told = kept_all _ _ _ _ _ _ _ _ _ _ c.loop-dir.invariant told

@@ -7,8 +7,8 @@ use Rattle.vtoc_index.specs.Names.{AreByName, name_at}
 use Rattle.vtoc_index.specs.declared.vol.Vol.{Vol}
 use Rattle.mount_repair.specs.Scans.{AreSound, AreUnpacked}
 use Rattle.mount_repair.specs.declared.scanned.Unpacked.{Unpacked}
-use Rattle.mount_repair.proofs.PackLoops.{repairs_done_as, repairs_failed, repairs_stopped_as}
-use Rattle.mount_repair.proofs.Rebuilt.{named_still, rebuilt, sound_rebuilt}
+use Rattle.mount_repair.proofs.PackLoops.{libraries_left_as, repairs_done_as, repairs_failed, repairs_stopped_as}
+use Rattle.mount_repair.proofs.Rebuilt.{libraries_rebuilt, named_still, rebuilt, sound_rebuilt}
 use Rattle.mount_repair.proofs.repairing.repair.Goals as goal
 
 pub returns-in_err-repair_vtoc-clause-files : goal.returns-in_err-repair_vtoc-clause-files
@@ -57,7 +57,12 @@ pub returns-clause-files : goal.returns-clause-files
 returns-clause-files g c told =
     let first = c.in_ok-repair_vtoc.ensures in
     let second = c.in_ok-pack_all.ensures in
+    let on = c.requires.unit in
+    let scan = c.requires.scan told in
     let name = named_still (g.H.Hall.facts c.args.hall.now) (g.H.Hall.facts c.repair_vtoc.new.hall) c.args.scan.vol c.repair_vtoc.new.vol first.faults.units (ap (λ (w : Vol). w.unit) first.others) in
-    let names = first.names c.requires.unit.names in
+    let still = named_still (g.H.Hall.facts c.repair_vtoc.new.hall) (g.H.Hall.facts c.pack_all.new.hall) c.repair_vtoc.new.vol c.repair_vtoc.new.vol second.faults.units refl in
+    let names = first.names on.names in
+    let libraries = libraries_left_as _ _ _ c.repair_vtoc.new.vol c.pack_all.new.vol (g.H.Hall.meaning c.repair_vtoc.new.hall) (g.H.Hall.meaning c.pack_all.new.hall) c.args.scan.unpacked.items _ c.args.scan.libraries.items name (still ∙ name) c.deref.ensures.value (second.libraries told)
+    (libraries_rebuilt _ c.args.scan.vol c.repair_vtoc.new.vol (g.H.Hall.meaning c.args.hall.now) (g.H.Hall.meaning c.repair_vtoc.new.hall) _ c.args.scan.unpacked.items first.others scan.mounted on.names names (first.files told) c.args.scan.libraries.items scan.libraries) in
     repairs_done_as _ c.repair_vtoc.new.vol c.pack_all.new.vol [] (g.H.Hall.meaning c.args.hall.now) (g.H.Hall.meaning c.repair_vtoc.new.hall) (g.H.Hall.meaning c.pack_all.new.hall) _ (first.files told) _ _ c.args.scan _ name refl (second.files told)
-    (subst (λ (w : Vol). AreByName (name_at w.slots.items) w.by_name.items) (sym second.others) names) (c.requires.scan told) refl refl refl c.clear.ensures.items
+    (subst (λ (w : Vol). AreByName (name_at w.slots.items) w.by_name.items) (sym second.others) names) scan libraries refl refl refl refl c.clear.ensures.items

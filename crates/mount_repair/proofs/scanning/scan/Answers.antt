@@ -1,4 +1,4 @@
-use Rattle.std.proofs.Common.{◌≡◌, ◌∙◌, Bool, List, ℕ, ap, subst, sym}
+use Rattle.std.proofs.Common.{◌∙◌, Bool, List, ℕ, ap, subst, sym}
 use Rattle.std.specs.Prelude.{◌↔◌, ◌==◌, IsTrue}
 use Rattle.hall_core.specs.Facts.{Attached}
 use Rattle.hall_core.specs.Images.{image_in}
@@ -13,7 +13,7 @@ use Rattle.mount_repair.specs.Sets.{HasRoom, names_and_kinds}
 use Rattle.mount_repair.specs.Walks.{IsWalkOf}
 use Rattle.mount_repair.proofs.OtherBuffers.{image_of_unit}
 use Rattle.mount_repair.proofs.SettledScans.{settled_else, settled_then}
-use Rattle.mount_repair.proofs.WalkedSets.{unpacked_with}
+use Rattle.mount_repair.proofs.WalkedSets.{libraries_with, unpacked_with}
 use Rattle.mount_repair.proofs.scanning.scan.Goals as goal
 use Rattle.mount_repair.proofs.scanning.scan.Goals.{then-is_settled, else-is_settled}
 
@@ -37,6 +37,7 @@ returns-clause-image g c told =
         | else-is_settled w ↦ subst (λ (b : Bool). IsTrue b ↔ IsSettled image) (sym w.settled-is) (settled_else image v mounted read.names c.is_settled.result is w.if-is_settled.false)
       ];
       unpacked = unpacked_with image v v' c.in_ok-walk.walk.unpacked.items walked.others mounted mounted' walk.unpacked;
+      libraries = libraries_with image v v' c.in_ok-walk.walk walked.others mounted mounted' walk;
     }
 
 pub returns-clause-unit : goal.returns-clause-unit

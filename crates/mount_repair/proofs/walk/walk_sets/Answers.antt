@@ -1,11 +1,10 @@
-use Rattle.std.proofs.Common.{◌≡◌, ◌∙◌, ℕ, List, ap, arith, subst, sym}
+use Rattle.std.proofs.Common.{◌∙◌, ℕ, List, ap, arith, subst, sym}
 use Rattle.std.specs.Prelude.{is_some, slice_get}
 use Rattle.hall_core.specs.Images.{image_in}
 use Rattle.vtoc_index.specs.Index.{IsMounted}
 use Rattle.vtoc_index.specs.Names.{AreByName, name_at}
 use Rattle.vtoc_index.specs.declared.vol.Vol.{Vol}
 use Rattle.mount_repair.specs.Scans.{AreSound}
-use Rattle.mount_repair.specs.declared.scanned.Unpacked.{Unpacked}
 use Rattle.mount_repair.proofs.SettledScans.{format_there}
 use Rattle.mount_repair.proofs.WalkedSets.{image_kept, sets_next, slot_named, walked_all}
 use Rattle.mount_repair.proofs.walk.walk_sets.Goals as goal

@@ -26,7 +26,7 @@ returns-in-Some-clause-reached g c =
     let xs = c.read_up_to.new.vol.buf.records in
     let P : Bool → Type 0 = λ b. IsReadUpTo b (records_on now c.loop-before.vol.geometry (Some (c.loop-before.before + 1)) c.args.track) xs in
     let few : c.loop-before.before < 255 = omega (arith, c.loop-before-test.true) in
-    seeks_found g.H.Hall.tells _ _ _ _ c.args.vol.now c.loop-before.vol c.args.track c.loop-before.before c.loop-before.invariant xs c.in-Some.reached (λ told. subst P c.if-not-read.false (c.in_ok-read.ensures.read told)) c.in-Some.ensures few
+    seeks_found g.H.Hall.tells _ _ _ _ c.args.vol.now c.loop-before.vol c.args.track c.loop-before.before c.loop-before.invariant xs c.in-Some.reached (λ told. subst P c.if-not-read.false (c.in_ok-read.ensures.read told)) c.in-Some.ensures.end few
 
 pub loop-before-preserved : goal.loop-before-preserved
 loop-before-preserved g c =
@@ -36,7 +36,7 @@ loop-before-preserved g c =
     let P : Bool → Type 0 = λ b. IsReadUpTo b (records_on now c.loop-before.vol.geometry (Some (c.loop-before.before + 1)) c.args.track) xs in
     let Q : Option Reached → Type 0 = λ o. IsLastEnd xs o in
     seeks_more g.H.Hall.tells _ _ _ _ c.args.vol.now c.loop-before.vol c.args.track c.loop-before.before c.loop-before.invariant (g.H.Hall.facts c.read_up_to.new.hall) (g.H.Hall.meaning c.read_up_to.new.hall) c.read_up_to.new.vol
-    (call_done call.faults) call.same call.mounted call.others call.unit xs (λ told. subst P c.if-not-read.false (call.read told)) (subst Q c.in_default.is c.last_end.ensures)
+    (call_done call.faults) call.same call.mounted call.others call.unit xs (λ told. subst P c.if-not-read.false (call.read told)) (subst Q c.in_default.is c.last_end.ensures.end)
 
 pub returns-clause-reached : goal.returns-clause-reached
 returns-clause-reached g c =
@@ -44,4 +44,4 @@ returns-clause-reached g c =
     seeks_all g.H.Hall.tells _ _ _ _ c.args.vol.now c.loop-before.vol c.args.track c.loop-before.before c.loop-before.invariant c.loop-before.vol.buf.records c.requires.broken all
 
 pub returns-in-Some-clause-held : goal.returns-in-Some-clause-held
-returns-in-Some-clause-held g c = held_last c.read_up_to.new.vol.buf.records c.in-Some.reached c.in-Some.ensures c.in_ok-read.ensures.few
+returns-in-Some-clause-held g c = held_last c.read_up_to.new.vol.buf.records c.in-Some.reached c.in-Some.ensures.end c.in_ok-read.ensures.few

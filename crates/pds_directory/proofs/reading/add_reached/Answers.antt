@@ -78,10 +78,10 @@ pub returns-clause-read : goal.returns-clause-read
 returns-clause-read c directory so_far =
     let all : c.loop-passed.passed ≡ c.args.reached.before = omega (arith, c.loop-passed-test.false) in
     let read = read_taken c.args.k c.loop-passed.passed c.args.reached.before c.args.buf.now.records c.args.reading.now c.loop-passed.reading c.loop-passed.invariant all directory so_far in
-    (read.0, so_far_with c.loop-passed.reading c.in-Some.end (directory ++ blocks_from c.args.k 1 (take c.args.reached.before c.args.buf.now.records)) read.1)
+    (read.0, so_far_with c.loop-passed.reading c.in-Some.end c.args.reached.whole (directory ++ blocks_from c.args.k 1 (take c.args.reached.before c.args.buf.now.records)) read.1)
 
 pub returns-clause-lawful : goal.returns-clause-lawful
 returns-clause-lawful c =
     let all : c.loop-passed.passed ≡ c.args.reached.before = omega (arith, c.loop-passed-test.false) in
     let low : c.args.reached.before ≤ 255 = omega (arith, c.requires.held.before, c.requires.held.few) in
-    lawful_with c.loop-passed.reading c.in-Some.end (255 * (c.args.k + 1)) (lawful_taken c.args.k c.loop-passed.passed c.args.reached.before c.args.buf.now.records c.args.reading.now c.loop-passed.reading c.loop-passed.invariant all low)
+    lawful_with c.loop-passed.reading c.in-Some.end c.args.reached.whole (255 * (c.args.k + 1)) (lawful_taken c.args.k c.loop-passed.passed c.args.reached.before c.args.buf.now.records c.args.reading.now c.loop-passed.reading c.loop-passed.invariant all low)

@@ -1,7 +1,7 @@
 use Rattle.std.proofs.Common.{◌∙◌, ℕ, List, ap, subst, sym}
 use Rattle.hall_core.specs.Images.{image_in}
 use Rattle.shelf_machine.specs.Known.{HoldLibraries}
-use Rattle.shelf_machine.specs.declared.library.Library.{Library}
+use Rattle.mount_repair.specs.declared.library.Library.{Library}
 use Rattle.shelf_machine.proofs.HeldLibraries.{geometry_back, given_back, lent_end, lent_readable, lent_unit, nothing_held, readable_by}
 use Rattle.shelf_machine.proofs.libraries.end_of.Goals as goal
 

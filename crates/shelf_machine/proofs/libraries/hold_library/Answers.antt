@@ -8,7 +8,7 @@ use Rattle.shelf_machine.specs.Libraries.{HoldsLibrary}
 use Rattle.shelf_machine.specs.Machine.{shelf_under, units_of}
 use Rattle.shelf_machine.specs.Opening.{names_of}
 use Rattle.shelf_machine.specs.declared.known.Known.{Known}
-use Rattle.shelf_machine.specs.declared.library.Library.{Library}
+use Rattle.mount_repair.specs.declared.library.Library.{Library}
 use Rattle.shelf_machine.proofs.Holding.{has_volumes, kept_mounted}
 use Rattle.shelf_machine.proofs.KnownLemmas.{as_many, buffers_set, held_set, knows_set, on_image, one_geometry}
 use Rattle.shelf_machine.proofs.ListPlaces.{get_set, not_there, set_itself}

@@ -3,7 +3,7 @@ use Rattle.std.specs.Prelude.{◌==◌, position}
 use Rattle.mount_repair.proofs.DeviceCalls.{reported_more, unreported}
 use Rattle.stow_ops.proofs.Tellings.{tells_not}
 use Rattle.shelf_machine.proofs.StillPacks.{noted_reported}
-use Rattle.shelf_machine.specs.declared.library.Library.{Library}
+use Rattle.mount_repair.specs.declared.library.Library.{Library}
 use Rattle.shelf_machine.proofs.HeldLibraries.{added_held, added_part, nothing_held, not_read, place_held, some_track}
 use Rattle.shelf_machine.proofs.MachineLibraries.{not_device}
 use Rattle.shelf_machine.proofs.libraries.hold_part.Goals as goal

@@ -3,7 +3,7 @@ use Rattle.std.specs.Prelude.{◌==◌, filter, position, slice_get}
 use Rattle.std.proofs.lemmas.Fn.{filter_same}
 use Rattle.std.proofs.lemmas.Option.{slice_get-get_or}
 use Rattle.std.proofs.lemmas.List.Quantifiers.{position-Some}
-use Rattle.shelf_machine.specs.declared.library.Library.{Library}
+use Rattle.mount_repair.specs.declared.library.Library.{Library}
 use Rattle.shelf_machine.proofs.FoundElements.{found_first, found_none, others_all, others_left}
 use Rattle.shelf_machine.proofs.libraries.take.Goals as goal
 

@@ -11,6 +11,7 @@ use Rattle.shelf_machine.specs.Machine.{AreIndexes, serials_of, shelf_under, uni
 use Rattle.shelf_machine.specs.Opening.{AreApart, names_of}
 use Rattle.shelf_machine.specs.Packs.{AreKnown, StopsAtTwice, indexes_of}
 use Rattle.shelf_machine.specs.declared.stopped.Stopped.{Stopped}
+use Rattle.shelf_machine.proofs.ForgottenTracks.{knows_kept}
 use Rattle.shelf_machine.proofs.KnownLemmas.{known_repaired}
 use Rattle.shelf_machine.proofs.KnownPacks.{known_bodies}
 use Rattle.shelf_machine.proofs.Openings.{indexes_scanned, order_scanned, refuses_twice}
@@ -75,9 +76,10 @@ returns-clause-known g c told =
     ap (λ (us : List Attached). names_of us (units_of vols')) c.in_ok-repair_all.ensures.faults.units ∙ ap (names_of before) c.in_ok-repair_all.ensures.packs.units in
     let first : names_of before (units_of (indexes_of scans)) ≡ names_of (g.H.Hall.facts c.args.hall.now).units (units_of (indexes_of scans)) =
     ap (λ (us : List Attached). names_of us (units_of (indexes_of scans))) c.in_ok-scans.ensures.faults.units in
-    known_repaired _ _ (g.H.Hall.meaning c.scan_all.new.hall).state (g.H.Hall.meaning c.repair_all.new.hall).state c.in_ok-known.known.items run.shelf names run.before run.after
+    knows_kept c.in_ok-known.known.items c.repair_all.new.known.items c.repair_all.ensures.lists (shelf_under (names_of (g.H.Hall.facts c.repair_all.new.hall).units (units_of vols')) (g.H.Hall.meaning c.repair_all.new.hall).state)
+    (known_repaired _ _ (g.H.Hall.meaning c.scan_all.new.hall).state (g.H.Hall.meaning c.repair_all.new.hall).state c.in_ok-known.known.items run.shelf names run.before run.after
     (subst (λ (ns : List (List ℕ)). KnowsBodies (shelf_under ns (g.H.Hall.meaning c.scan_all.new.hall).state) c.in_ok-known.known.items) (sym first)
     (subst (λ (fs : List File). KnowsBodies (shelf_under (names_of (g.H.Hall.facts c.args.hall.now).units (units_of (indexes_of scans))) fs) c.in_ok-known.known.items) (sym (c.in_ok-scans.ensures.same told).state)
     (known_bodies (g.H.Hall.meaning c.args.hall.now).state (g.H.Hall.facts c.args.hall.now).units c.args.units.now scans c.in_ok-known.known.items
     (subst (λ (l : List Scan). AreKnown l c.in_ok-known.known.items) c.deref-2.ensures.value c.in_ok-known.ensures.known) c.in_ok-scans.ensures.scanned (c.in_ok-scans.ensures.images told)
-    (subst (λ (l : List Scan). AreApart (serials_of (indexes_of l))) c.deref.ensures.value c.in_default.ensures.apart))))
+    (subst (λ (l : List Scan). AreApart (serials_of (indexes_of l))) c.deref.ensures.value c.in_default.ensures.apart)))))

@@ -9,12 +9,14 @@ use Rattle.hall_core.specs.Facts.{Attached}
 use Rattle.mount_repair.specs.Scans.{IsScanOn}
 use Rattle.mount_repair.specs.declared.scanned.Scan.{Scan}
 use Rattle.vtoc_index.specs.declared.vol.Vol.{Vol}
+use Rattle.shelf_machine.specs.Known.{HoldsOn}
 use Rattle.shelf_machine.specs.Machine.{AreInOrder, units_of}
 use Rattle.shelf_machine.specs.Opening.{names_of}
 use Rattle.shelf_machine.specs.Packs.{RepairsAll, indexes_of}
 use Rattle.shelf_machine.specs.declared.stopped.Stopped.{Stopped}
 use Rattle.shelf_machine.proofs.KnownPacks.{scan_unit}
 use Rattle.shelf_machine.proofs.ReadingPacks.{mounted_scans}
+use Rattle.shelf_machine.proofs.OpenedLibraries.{HeldSoFar, held_done, held_next, held_none}
 use Rattle.shelf_machine.proofs.RepairLoops.{OpenedSoFar, none_more_scans, opened_done, opened_next, opened_none, opened_stopped, repairs_done, scan_still}
 use Rattle.shelf_machine.proofs.opening.repair_all.Goals as goal
 
@@ -27,6 +29,7 @@ loop-scanned-init g c = (
   opened_none g.H.Hall.tells (g.H.Hall.facts c.args.hall.now) (g.H.Hall.meaning c.args.hall.now) c.args.scans.items c.args.vols.now.items c.requires.room.0 c.requires.indexes c.requires.order
       (λ told. mounted_scans (g.H.Hall.meaning c.args.hall.now).state (g.H.Hall.facts c.args.hall.now).units c.args.scans.items (c.requires.images told)) c.requires.durable,
   c.requires.room.1,
+  held_none g.H.Hall.tells (g.H.Hall.facts c.args.hall.now) (g.H.Hall.meaning c.args.hall.now) c.args.scans.items c.args.vols.now.items c.args.known.now.items c.requires.fresh,
 )
 
 pub repair_pack-requires-clause-unit : goal.repair_pack-requires-clause-unit
@@ -46,8 +49,8 @@ repair_pack-requires-clause-scan g c told =
     let turn = YieldsList-turn (YieldsList-from_vec {s = c.into_iter-scanned-iterator.result} scans vec.0 (vec.1 ∙ c.args.scans.ok.0)) l.yielded l.scanned-iterator l.yielded_by c.next.result c.next.new.self c.in-Some.scanned c.in-Some.is c.next.ensures.steps in
     scan_still g.H.Hall.tells _ _ _ _ scans l.vols.items (length l.yielded) l.invariant.0 c.in-Some.scanned (at_next scans (length l.yielded) c.in-Some.scanned turn) told (c.requires.images told)
 
-pub returns-in_err-repaired-clause-files : goal.returns-in_err-repaired-clause-files
-returns-in_err-repaired-clause-files g c told =
+pub returns-in_err-vol-clause-files : goal.returns-in_err-vol-clause-files
+returns-in_err-vol-clause-files g c told =
     let l = c.loop-scanned in
     let scans = c.args.scans.items in
     let vec = c.into_iter-scanned-iterator.ensures.into_iter_gives in
@@ -57,15 +60,15 @@ returns-in_err-repaired-clause-files g c told =
     (opened_stopped g.H.Hall.tells _ _ _ _ scans l.vols.items (length l.yielded) l.invariant.0 c.in-Some.scanned (at_next scans (length l.yielded) c.in-Some.scanned turn) told c.requires.indexes
     (mounted_scans (g.H.Hall.meaning c.args.hall.now).state (g.H.Hall.facts c.args.hall.now).units scans (c.requires.images told)) (g.H.Hall.meaning c.repair_pack.new.hall) c.repair_pack.result p.0 l.vols.items (c.repair_pack.ensures.files told))
 
-pub returns-in_err-repaired-clause-unit : goal.returns-in_err-repaired-clause-unit
-returns-in_err-repaired-clause-unit g c =
+pub returns-in_err-vol-clause-unit : goal.returns-in_err-vol-clause-unit
+returns-in_err-vol-clause-unit g c =
     let l = c.loop-scanned in
     let scans = c.args.scans.items in
     let vec = c.into_iter-scanned-iterator.ensures.into_iter_gives in
     let turn = YieldsList-turn (YieldsList-from_vec {s = c.into_iter-scanned-iterator.result} scans vec.0 (vec.1 ∙ c.args.scans.ok.0)) l.yielded l.scanned-iterator l.yielded_by c.next.result c.next.new.self c.in-Some.scanned c.in-Some.is c.next.ensures.steps in
     let p = err_from_is_err_and c.from_residual.result c.from_residual.ensures.1 in
     subst (λ r. IfErr r (λ (s : Stopped). Contains (units_of (indexes_of scans)) s.unit)) (sym (p.1 ∙ ap Err p.2))
-    (subst (λ (n : ℕ). Contains (units_of (indexes_of scans)) n) (sym c.in_err-repaired.ensures.place) (scan_unit scans (length l.yielded) c.in-Some.scanned (at_next scans (length l.yielded) c.in-Some.scanned turn)))
+    (subst (λ (n : ℕ). Contains (units_of (indexes_of scans)) n) (sym c.in_err-vol.ensures.place) (scan_unit scans (length l.yielded) c.in-Some.scanned (at_next scans (length l.yielded) c.in-Some.scanned turn)))
 
 pub loop-scanned-preserved : goal.loop-scanned-preserved
 loop-scanned-preserved g c =
@@ -73,11 +76,16 @@ loop-scanned-preserved g c =
     let scans = c.args.scans.items in
     let vec = c.into_iter-scanned-iterator.ensures.into_iter_gives in
     let turn = YieldsList-turn (YieldsList-from_vec {s = c.into_iter-scanned-iterator.result} scans vec.0 (vec.1 ∙ c.args.scans.ok.0)) l.yielded l.scanned-iterator l.yielded_by c.next.result c.next.new.self c.in-Some.scanned c.in-Some.is c.next.ensures.steps in
-    let repaired = c.in_ok-repaired.ensures in (
+    let at = at_next scans (length l.yielded) c.in-Some.scanned turn in
+    let number : c.len.result ≡ length l.yielded = omega (arith, c.len.ensures, l.vols.ok.0, l.invariant.0.size) in
+    let holds = subst (λ (n : ℕ). HoldsOn n c.in_ok-vol.field-0.libraries.items l.known.items c.hold.new.known.items) number c.hold.ensures in
+    let repaired = c.in_ok-vol.ensures in (
       subst (OpenedSoFar g.H.Hall.tells (g.H.Hall.facts c.args.hall.now) (g.H.Hall.facts c.repair_pack.new.hall) (g.H.Hall.meaning c.args.hall.now) (g.H.Hall.meaning c.repair_pack.new.hall) scans c.push_reserved.new.self.items) (sym (length_push l.yielded c.in-Some.scanned))
-          (opened_next g.H.Hall.tells _ _ _ _ scans l.vols.items (length l.yielded) l.invariant.0 c.in-Some.scanned (at_next scans (length l.yielded) c.in-Some.scanned turn) _ _ c.in_ok-repaired.repaired c.push_reserved.new.self.items c.requires.indexes
+          (opened_next g.H.Hall.tells _ _ _ _ scans l.vols.items (length l.yielded) l.invariant.0 c.in-Some.scanned at _ _ c.in_ok-vol.field-0 c.push_reserved.new.self.items c.requires.indexes
           (λ told. mounted_scans (g.H.Hall.meaning c.args.hall.now).state (g.H.Hall.facts c.args.hall.now).units scans (c.requires.images told)) repaired.index repaired.unit repaired.faults repaired.files c.push_reserved.ensures.items),
       omega (arith, l.invariant.1, c.push_reserved.ensures.capacity),
+      subst (HeldSoFar g.H.Hall.tells (g.H.Hall.facts c.repair_pack.new.hall) (g.H.Hall.meaning c.repair_pack.new.hall) scans c.push_reserved.new.self.items c.args.known.now.items c.hold.new.known.items) (sym (length_push l.yielded c.in-Some.scanned))
+          (held_next g.H.Hall.tells _ _ _ _ scans l.vols.items (length l.yielded) l.invariant.0 c.in-Some.scanned at _ _ _ l.invariant.2 c.in_ok-vol.field-0 holds _ _ c.push_reserved.new.self.items repaired.index repaired.faults repaired.files c.push_reserved.ensures.items),
     )
 
 pub returns-clause-files : goal.returns-clause-files
@@ -96,3 +104,11 @@ returns-clause-order g c =
     let vec = c.into_iter-scanned-iterator.ensures.into_iter_gives in
     let end = YieldsList-end (YieldsList-from_vec {s = c.into_iter-scanned-iterator.result} scans vec.0 (vec.1 ∙ c.args.scans.ok.0)) l.yielded l.scanned-iterator l.yielded_by c.next.result c.next.new.self c.in-None.is c.next.ensures.steps in
     subst AreInOrder (none_more_scans scans (length l.yielded) l.vols.items (omega (arith, end.1))) l.invariant.0.repairs.order
+
+pub returns-clause-held : goal.returns-clause-held
+returns-clause-held g c told =
+    let l = c.loop-scanned in
+    let scans = c.args.scans.items in
+    let vec = c.into_iter-scanned-iterator.ensures.into_iter_gives in
+    let end = YieldsList-end (YieldsList-from_vec {s = c.into_iter-scanned-iterator.result} scans vec.0 (vec.1 ∙ c.args.scans.ok.0)) l.yielded l.scanned-iterator l.yielded_by c.next.result c.next.new.self c.in-None.is c.next.ensures.steps in
+    held_done g.H.Hall.tells _ _ scans l.vols.items _ _ (length l.yielded) l.invariant.2 (omega (arith, end.1)) told

@@ -4,7 +4,7 @@ use Rattle.std.proofs.lemmas.Fn.{filter_same}
 use Rattle.vtoc_index.specs.Index.{IsMounted}
 use Rattle.vtoc_sets.specs.Sets.{volume_in}
 use Rattle.shelf_machine.specs.NewSets.{first_track, without_first}
-use Rattle.shelf_machine.specs.declared.library.Library.{Library}
+use Rattle.mount_repair.specs.declared.library.Library.{Library}
 use Rattle.shelf_machine.proofs.FirstTracks.{first_found, first_none}
 use Rattle.shelf_machine.proofs.operations.forget_first.Goals as goal
 

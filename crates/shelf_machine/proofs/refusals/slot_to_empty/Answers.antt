@@ -1,6 +1,6 @@
 use Rattle.std.proofs.Common.{List, None, refl, subst, sym}
 use Rattle.shelf_machine.specs.Known.{HoldLibraries}
-use Rattle.shelf_machine.specs.declared.library.Library.{Library}
+use Rattle.mount_repair.specs.declared.library.Library.{Library}
 use Rattle.shelf_machine.proofs.Refusing.{empty_none, empty_refused, empty_told, set_listed, vacancy_there}
 use Rattle.shelf_machine.proofs.refusals.slot_to_empty.Goals as goal
 

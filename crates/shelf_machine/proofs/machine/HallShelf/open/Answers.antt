@@ -3,13 +3,11 @@ use Rattle.hall_core.specs.Facts.{Attached}
 use Rattle.shelf_machine.specs.Machine.{AreIndexes, AreKept, KeepsSafe, shelf_or_none, shelf_under, units_of}
 use Rattle.shelf_machine.specs.Opening.{AreSettledImages, names_of}
 use Rattle.shelf_machine.proofs.HallShelves.{kept_settled}
-use Rattle.shelf_machine.proofs.KnownLemmas.{fresh_held}
 use Rattle.shelf_machine.proofs.Openings.{opened_safe}
 use Rattle.shelf_machine.proofs.machine.HallShelf.open.Goals as goal
 
 pub invariant_of-result : goal.invariant_of-result
 invariant_of-result g c =
-    let now = (g.H.Hall.facts c.open_packs.new.hall).units in
     let files = (g.H.Hall.meaning c.open_packs.new.hall).state in
     let vols = c.in-Ok.packs.vols.items in
     let units = c.in-Ok.ensures.faults.units in
@@ -21,7 +19,7 @@ invariant_of-result g c =
       pending = λ sound told. (c.in-Ok.ensures.files told).durable;
       buffers = c.in-Ok.ensures.buffers;
       bodies = λ sound told. c.in-Ok.ensures.known told;
-      held = λ sound told. fresh_held files now vols c.in-Ok.packs.known.items c.in-Ok.ensures.fresh;
+      held = λ sound told. c.in-Ok.ensures.held told;
     }
 
 pub returns-in-Ok-clause-shelf : goal.returns-in-Ok-clause-shelf

@@ -1,5 +1,5 @@
 use Rattle.pds_directory.proofs.DirectoryWalks.{Walks}
-use Rattle.pds_directory.proofs.reading.read_dir.Given as goal
+use Rattle.pds_directory.proofs.reading.walk_dir.Given as goal
 
 abbrev pub invariant-loop-k : goal.invariant-loop-k
 invariant-loop-k g l =
