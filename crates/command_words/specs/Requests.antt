@@ -6,6 +6,7 @@ use Rattle.ckd_image.specs.declared.device.DiskType.{DiskType}
 use Rattle.ckd_image.specs.Device.{row_of}
 use Rattle.ebcdic_names.specs.declared.names.Serial.{Serial}
 use Rattle.jcl_forms.specs.Dates.{date_in}
+use Rattle.vol_model.specs.declared.TheConstants.{MAX_UNITS}
 use Rattle.command_words.specs.declared.action.Action.{Action}
 use Rattle.command_words.specs.declared.action.Action.TheVariants as action
 use Rattle.command_words.specs.declared.action.NewPack.{NewPack}
@@ -32,7 +33,7 @@ only_file _ = None
 unfoldable pub run_request : Parts → Option Request
 run_request p =
     if has_any (p.device ∷ p.serial ∷ p.vtoc ∷ p.cylinders ∷ p.count ∷ []) then None
-    else (if nat_le (length p.files) 8 && are_distinct p.files then option_map (λ date. Run date p.files) (option_and_then date_in p.date) else None)
+    else (if nat_le (length p.files) MAX_UNITS && are_distinct p.files then option_map (λ date. Run date p.files) (option_and_then date_in p.date) else None)
 
 -- the file of an action that takes no options
 unfoldable pub file_alone : Parts → Option (List ℕ)

@@ -8,9 +8,6 @@ use clap::error::ErrorKind;
 use clap::{Arg, ArgAction, ArgMatches, Command};
 use std::alloc::{AllocError, Global};
 
-/// The most files that an action takes.
-pub const MOST_FILES: usize = 8;
-
 /// What the words give each argument of the command line; an option that isn't given is `None`.
 #[derive(Debug, Drop)]
 pub struct Given<'a> {

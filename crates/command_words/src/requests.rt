@@ -6,12 +6,13 @@ ghost use Rattle.command_words.specs.Given.{parts_in};
 ghost use Rattle.command_words.specs.Requests.{Check, IsProper, MakesProper, Names, cylinders_asked, file_alone, has_any, init_request, new_pack, only_file, request_in, request_in_parts, request_of, run_request};
 
 use crate::action::{Action, NewPack};
-use crate::command::{Given, MOST_FILES, parts_given};
+use crate::command::{Given, parts_given};
 use crate::values::{are_distinct, device_named, number_up_to, serial_word};
 use ckd_image::{DiskType, Geometry};
 use ebcdic_names::Serial;
 use jcl_forms::date_in;
 use std::alloc::{AllocError, Global};
+use vol_model::MAX_UNITS;
 
 /// What the words of the command line ask for, the program's name first; `None` where they are refused.
 ///
@@ -66,7 +67,7 @@ fn run<'a>(parts: Given<'a>) -> Option<Action<'a>>
     ]) {
         return None;
     }
-    if parts.files.len() > MOST_FILES || !are_distinct(&parts.files) {
+    if parts.files.len() > MAX_UNITS || !are_distinct(&parts.files) {
         return None;
     }
     let date = date_in(parts.date?.as_bytes())?;

@@ -25,8 +25,8 @@ use Rattle.vol_model.specs.declared.contents.Run.{Run}
 use Rattle.vol_model.specs.Order.{in_order}
 use Rattle.vtoc_index.specs.Index.{with_dscb}
 use Rattle.vtoc_index.proofs.VtocPut.{same_or_apart}
-use Rattle.dadsm_ops.proofs.ChangedLists.{any_first}
-use Rattle.dadsm_ops.proofs.ChangedSlots.{breaks_none, changed_elsewhere, changed_there, holding, length-changed, none_broken}
+use Rattle.slot_laws.proofs.ChangedLists.{any_first}
+use Rattle.slot_laws.proofs.ChangedSlots.{breaks_none, changed_elsewhere, changed_there, holding, length-changed, none_broken}
 
 -- what is in a slot
 abbrev Content : Type 0

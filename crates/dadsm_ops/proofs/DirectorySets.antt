@@ -40,7 +40,7 @@ use Rattle.dadsm_ops.proofs.FormattedBodies.{end_said, formatted_set}
 use Rattle.dadsm_ops.proofs.NewAttributes.{asked, body_read}
 use Rattle.dadsm_ops.proofs.NewChoices.{geometry_is}
 use Rattle.dadsm_ops.proofs.SpareTracks.{slots_kept}
-use Rattle.dadsm_ops.proofs.StandingPuts.{slots_by}
+use Rattle.slot_laws.proofs.StandingPuts.{slots_by}
 
 -- ---- the place of its end
 

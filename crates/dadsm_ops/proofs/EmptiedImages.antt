@@ -1,10 +1,8 @@
 -- An image in which one slot holds a data set's format 1 without blocks: it stands for the volume after its Empty.
-use Rattle.std.proofs.Common.{◌≡◌, ◌≢◌, ⊎_elim, ℕ, ◌<◌, ◌*◌, Bool, true, false, cond, List, [], ◌∷◌, map, length, get_or, Option, Some, None, Result, Ok, Err, refl, sym, ap, subst, ◌∙◌}
-use Rattle.std.specs.Prelude.{◌||◌, ◌==◌, filter, not, position, slice_get, unwrap_or}
+use Rattle.std.proofs.Common.{◌≡◌, ◌≢◌, ℕ, ◌<◌, ◌*◌, Bool, true, false, cond, List, [], ◌∷◌, map, length, get_or, Some, Result, Ok, Err, refl, sym, ap, subst, ◌∙◌}
+use Rattle.std.specs.Prelude.{◌||◌, ◌==◌, filter, not, slice_get, unwrap_or}
 use Rattle.std.specs.List.{list_any, range_with_len}
 use Rattle.std.specs.Str.{bytes_eq}
-use Rattle.std.proofs.lemmas.Bool.{both_ways}
-use Rattle.std.proofs.lemmas.Option.{get_or_from_slice_get}
 use Rattle.std.proofs.lemmas.Slice.Eq.{bytes_eq-Decides}
 use Rattle.ckd_image.specs.Device.{row_of}
 use Rattle.dscb_codec.specs.declared.Dscb.{Dscb}
@@ -18,7 +16,7 @@ use Rattle.pack_spec.specs.Blocks.{data_tracks}
 use Rattle.pack_spec.specs.FreeChain.{entries_of, free_entries}
 use Rattle.pack_spec.specs.Label.{heads_of, label_of}
 use Rattle.pack_spec.specs.Owned.{volume_faults}
-use Rattle.pack_spec.specs.Rules.{counted_extents, is_named, name_faults, slots_faults}
+use Rattle.pack_spec.specs.Rules.{is_named, slots_faults}
 use Rattle.pack_spec.specs.Settled.{AreGuarded, AreSettled, IsGuarded, IsSettledVtoc, slots_for}
 use Rattle.pack_spec.specs.Volume.{volume_by, volume_of, volume_with}
 use Rattle.pack_spec.proofs.Lawful.{groups_hold, lawful_volume}
@@ -30,20 +28,15 @@ use Rattle.vol_model.specs.Lawful.{IsLawfulVolume}
 use Rattle.vol_model.specs.Shelf.{changed, empty_on, emptied, has_name, with_set}
 use Rattle.vol_model.specs.Space.{covers, free_runs, is_in, is_unowned, runs_of, usable_cylinders}
 use Rattle.vtoc_index.specs.declared.vol.Vol.{Vol}
-use Rattle.vtoc_index.proofs.VtocPut.{same_or_apart}
 use Rattle.vtoc_index.specs.Index.{IsIndexOf, IsMounted, IsPut, place_of_slot, with_dscb}
 use Rattle.dadsm_ops.specs.Emptying.{MayEmpty, emptied_format_1}
-use Rattle.dadsm_ops.proofs.ChangedLists.{fails_at, none_passes}
-use Rattle.dadsm_ops.proofs.ClearedSets.{set_behind}
 use Rattle.dadsm_ops.proofs.EmptiedSets.{volume_emptied, volume_then}
-use Rattle.dadsm_ops.proofs.FoundSets.{content_at}
-use Rattle.dadsm_ops.proofs.KeptGuards.{guarded_alike, settled_alike}
-use Rattle.dadsm_ops.proofs.KeptSlots.{HasExtentsOf, changed_content, changed_slot, counted_alike, faults_alike, put_is_change}
+use Rattle.slot_laws.proofs.FoundSlots.{content_at, has_named, low_of, others_apart, set_behind, slot_there}
+use Rattle.slot_laws.proofs.KeptGuards.{guarded_alike, settled_alike}
+use Rattle.slot_laws.proofs.KeptSlots.{HasExtentsOf, changed_content, changed_slot, faults_alike, put_is_change}
 use Rattle.dadsm_ops.proofs.LawfulFaults.{emptied_lawful, lawful_faults}
 use Rattle.dadsm_ops.proofs.RenamedImages.{StandsAfter, differs_in_vtoc, slots_on_image, volume_on_image}
-use Rattle.dadsm_ops.proofs.RenamedSlots.{has_named, named_once}
-use Rattle.dadsm_ops.proofs.ScratchedImages.{low_of, slot_there}
-use Rattle.dadsm_ops.proofs.StandingPuts.{put_mounted, put_stands}
+use Rattle.slot_laws.proofs.StandingPuts.{put_mounted, put_stands}
 
 -- a format 1, without blocks where it has this name
 abbrev one_emptied : List ℕ → Attr → F1 → F1
@@ -116,20 +109,6 @@ record IsEmptying (image : List ℕ) (v : Vol) (slot : ℕ) (f : F1) (attr : Att
   whole : volume_faults (volume_with v.geometry (data_tracks image v.geometry v.vtoc) (unwrap_or (label_of image v.geometry) []) v.vtoc (with_dscb slot (formats.F1 (emptied_format_1 attr f)) (slots_on_image image v))) ≡ []
   free : v.free.items ≡ free_runs (volume_with v.geometry (data_tracks image v.geometry v.vtoc) (unwrap_or (label_of image v.geometry) []) v.vtoc (with_dscb slot (formats.F1 (emptied_format_1 attr f)) (slots_on_image image v)))
 
--- no other slot has the name of a data set that stands in one
-others_apart : (name : List ℕ) (slots : List VtocSlot) (slot : ℕ) (s : VtocSlot) → slice_get slots slot ≡ Some s → has_named name s ≡ true → slice_get (name_faults slots) 0 ≡ None → (k : ℕ) (d : VtocSlot) → k < length slots → k ≢ slot → has_named name (get_or slots k d) ≡ false
-others_apart name slots slot s at named lawful = by_first (position (has_named name) slots) refl
-  where
-    this : (d : VtocSlot) → has_named name (get_or slots slot d) ≡ true
-    this d = ap (has_named name) (get_or_from_slice_get slots slot s d at) ∙ named
-
-    by_first : (o : Option ℕ) → position (has_named name) slots ≡ o → (k : ℕ) (d : VtocSlot) → k < length slots → k ≢ slot → has_named name (get_or slots k d) ≡ false
-    by_first None first k d low other = absurd (both_ways (has_named name (get_or slots slot d)) (fails_at (has_named name) slots slot d (none_passes (has_named name) slots first) (low_of slots slot s at)) (this d))
-    by_first (Some j) first k d low other = ⊎_elim
-        (λ same. named_once name slots j lawful first k d low (λ is. other (is ∙ sym same)))
-        (λ apart. absurd (both_ways (has_named name (get_or slots slot d)) (named_once name slots j lawful first slot d (low_of slots slot s at) apart) (this d)))
-        (same_or_apart slot j)
-
 is_emptying : (image : List ℕ) (v : Vol) (slot : ℕ) (f : F1) (attr : Attr) → CanEmpty image v slot f attr → IsEmptying image v slot f attr
 is_emptying image v slot f attr can =
     let c : F1 → F1 = one_emptied f.name attr in
@@ -147,13 +126,11 @@ is_emptying image v slot f attr can =
     let is : with_dscb slot d slots ≡ map (changed_slot c) slots =
     ap (λ (h : F1). with_dscb slot (formats.F1 h) slots) (sym this)
     ∙ put_is_change c slot slots f content (λ k e low other. same_slot f.name attr (get_or slots k e) (only k e low other)) in
-    let counted : (h : F1) → counted_extents (with_dscb slot d slots) h ≡ counted_extents slots h =
-    λ h. ap (λ (ss : List VtocSlot). counted_extents ss h) is ∙ counted_alike c (keeps f.name attr) slots h h (record { count = refl; runs = refl; pointer = refl }) in
     let allowed = can.may (volume_on_image image v) can.mounted.volume in
     let made : volume_with g tracks label v.vtoc (with_dscb slot d slots) ≡ with_set (volume_on_image image v) f.name (emptied attr) =
-    volume_emptied g tracks slots slot at.0 f attr at.1.0 at.1.1 can.mounted.lawful counted label v.vtoc allowed.0 allowed.1 in
+    volume_emptied g tracks slots slot at.0 f attr at.1.0 at.1.1 can.mounted.lawful label v.vtoc allowed.0 allowed.1 in
     let outcome : with_set (volume_on_image image v) f.name (emptied attr) ≡ allowed.0 =
-    volume_then g tracks slots slot at.0 f attr at.1.0 at.1.1 can.mounted.lawful counted label v.vtoc allowed.0 allowed.1 in
+    volume_then g tracks slots slot at.0 f attr at.1.0 at.1.1 can.mounted.lawful label v.vtoc allowed.0 allowed.1 in
     let law : IsLawfulVolume (volume_on_image image v) = lawful_volume image (volume_by image g v.vtoc) can.mounted.volume in
     record {
       after = allowed.0;

@@ -24,12 +24,13 @@ use Rattle.free_rebuild.proofs.ChainLemmas.{get_low, get_set, get_set_other, sam
 use Rattle.dadsm_ops.specs.Allocating.{HaveSameNames}
 use Rattle.dadsm_ops.specs.Emptying.{MayEmpty, emptied_dscb, emptied_format_1}
 use Rattle.dadsm_ops.specs.Operations.{DoesOperation, InVtoc, Operates, image_named}
-use Rattle.dadsm_ops.specs.Through.{PutsThrough}
+use Rattle.free_rebuild.specs.Durable.{PutsDurably}
 use Rattle.dadsm_ops.proofs.EmptiedImages.{CanEmpty, empty_put, empty_stands}
 use Rattle.dadsm_ops.proofs.NewIndex.{slots_changed}
 use Rattle.dadsm_ops.proofs.Operating.{LeadsTo, operates, operates_not}
 use Rattle.dadsm_ops.proofs.Reordering.{put_changes}
 use Rattle.dadsm_ops.proofs.ScratchedIndex.{set_at, set_of}
+use Rattle.free_rebuild.proofs.DurableLemmas.{slot_put, slot_written}
 
 -- an index that differs in its slots and its buffer alone
 abbrev HasSlotsOf : Vol → Vol → Type 0
@@ -65,16 +66,16 @@ module _ (name : List ℕ) (v v' : Vol) (slot : ℕ) (f : F1) (attr : Attr) (m n
   operation volume = empty_on (record { bytes = f.name }) attr volume
 
   -- where the operation leads
-  leads : {X Y : Type 0} {result : Result X Y} (put : PutsThrough name v slot d v' m n result) (volume : Volume) → volume_of (image_named m.state name) ≡ Ok volume → LeadsTo name (operation volume) v m.state put.after
+  leads : {X Y : Type 0} {result : Result X Y} (put : PutsDurably name v slot d v' m n result) (volume : Volume) → volume_of (image_named m.state name) ≡ Ok volume → LeadsTo name (operation volume) v m.state put.after
   leads put volume before =
-      let s = empty_stands (image_named m.state name) (image_named put.after name) v slot f attr put.bytes can put.size put.dscb put.put.written put.put.image volume before in
+      let s = empty_stands (image_named m.state name) (image_named put.after name) v slot f attr put.bytes can put.size put.dscb (slot_written put.put) (slot_put put.put) volume before in
       record { after = s.after; step = s.step; stands = s.stands; guarded = s.guarded; settled = s.settled; changes = record { others = put.put.others; image = s.changes } }
 
-  set_empties : {X Y : Type 0} (result : Result X Y) → PutsThrough name v slot d v' m n result → DoesOperation name operation v' (InVtoc v') m n result
+  set_empties : {X Y : Type 0} (result : Result X Y) → PutsDurably name v slot d v' m n result → DoesOperation name operation v' (InVtoc v') m n result
   set_empties (Ok x) put =
       let same_files : image_named n.state name ≡ image_named put.after name = ap (λ (files : List File). image_named files name) put.step.done.0 in
       let mounted : IsMounted (image_named put.after name) v' =
-      empty_put (image_named m.state name) (image_named put.after name) v slot f attr put.bytes can put.size put.dscb put.put.written put.put.image v' (slots_changed v v' same)
+      empty_put (image_named m.state name) (image_named put.after name) v slot f attr put.bytes can put.size put.dscb (slot_written put.put) (slot_put put.put) v' (slots_changed v v' same)
       (subst (λ (image : List ℕ). IsIndexOf image v') same_files put.index) (ap (λ (u : Vol). u.free.items) same) in
       when_done x (operates name operation v v' (put_changes v v' same) m n _ can.mounted.volume put.after (leads put _ can.mounted.volume) tt put.step (subst (λ (image : List ℕ). IsMounted image v') (sym same_files) mounted))
   set_empties (Err e) put = when_failed e (operates_not name operation v v' (put_changes v v' same) m n _ can.mounted.volume put.after (leads put _ can.mounted.volume) put.step)
@@ -85,7 +86,7 @@ dscb_emptied attr items slot x d f set read is = is ∙ ap (emptied_dscb attr) (
 
 -- The operation, done or not.
 pub empties : {X Y : Type 0} (name : List ℕ) (v v' : Vol) (dsn : Dsn) (slot : ℕ) (x d : Dscb) (attr : Attr) (m n : Meaning (List File)) → IsMounted (image_named m.state name) v → name_at v.slots.items slot ≡ Some dsn.bytes → MayEmpty (image_named m.state name) dsn attr → x ≡ get_or v.slots.items slot x → d ≡ emptied_dscb attr x → HasSlotsOf v v'
-    → (result : Result X Y) → PutsThrough name v slot d v' m n result → DoesOperation name (empty_on dsn attr) v' (InVtoc v') m n result
+    → (result : Result X Y) → PutsDurably name v slot d v' m n result → DoesOperation name (empty_on dsn attr) v' (InVtoc v') m n result
 empties name v v' dsn slot x d attr m n mounted named may read is same result put =
     let set = set_at v.slots.items slot dsn.bytes named in
     let f : F1 = set.0 in
@@ -98,7 +99,7 @@ empties name v v' dsn slot x d attr m n mounted named may read is same result pu
     } in
     let dscb : d ≡ formats.F1 (emptied_format_1 attr f) = dscb_emptied attr v.slots.items slot x d f set.1.0 read is in
     subst (λ (y : Dsn). DoesOperation name (empty_on y attr) v' (InVtoc v') m n result) (sym called)
-    (set_empties name v v' slot f attr m n can same result (subst (λ (y : Dscb). PutsThrough name v slot y v' m n result) dscb put))
+    (set_empties name v v' slot f attr m n can same result (subst (λ (y : Dscb). PutsDurably name v slot y v' m n result) dscb put))
 
 -- the name of a data set, if a DSCB is a format 1
 abbrev name_of : Dscb → Option (List ℕ)

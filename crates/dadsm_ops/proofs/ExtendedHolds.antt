@@ -25,15 +25,16 @@ use Rattle.free_rebuild.proofs.ChainLemmas.{get_low}
 use Rattle.dadsm_ops.specs.Allocating.{HaveSameNames}
 use Rattle.dadsm_ops.specs.Extending.{HoldAdded, IsForFurther, IsLedTo, IsPointedBy, f3_with}
 use Rattle.dadsm_ops.specs.Operations.{image_named}
-use Rattle.dadsm_ops.specs.Through.{PutsThrough}
-use Rattle.dadsm_ops.proofs.ChangedSlots.{changed_elsewhere, changed_there, holding}
+use Rattle.free_rebuild.specs.Durable.{PutsDurably}
+use Rattle.slot_laws.proofs.ChangedSlots.{changed_elsewhere, changed_there, holding}
 use Rattle.dadsm_ops.proofs.ExtendedNames.{names_put, open_no_set, set_stays}
 use Rattle.dadsm_ops.proofs.ExtendedSteps.{own_marks, stands_there}
 use Rattle.dadsm_ops.proofs.ExtendedThirds.{apart_changed, hold_new, hold_own, pointed_once}
 use Rattle.dadsm_ops.proofs.NewSetPuts.{not_pointed}
 use Rattle.dadsm_ops.proofs.NewSetCalls.{found_open}
 use Rattle.dadsm_ops.proofs.NewSetSteps.{IsOpenSlot, third_marks}
-use Rattle.dadsm_ops.proofs.StandingPuts.{slots_by}
+use Rattle.slot_laws.proofs.StandingPuts.{slots_by}
+use Rattle.free_rebuild.proofs.DurableLemmas.{slot_put}
 
 -- a set that is found in slots of which one holds a format 3 stood in them before
 stood : (slots : List VtocSlot) (number : ℕ) (s : VtocSlot) (d : F3) (i : ℕ) (u : VtocSlot) (e : F1) → slice_get slots number ≡ Some s → slice_get (with_dscb number (formats.F3 d) slots) i ≡ Some u → u.content ≡ Ok (formats.F1 e) → slice_get slots i ≡ Some u
@@ -74,13 +75,13 @@ module _ (name : List ℕ) (v v' : Vol) (m n : Meaning (List File)) (mounted : I
   apart = slots_apart image v.geometry v.vtoc few
 
   -- what is put is there
-  held_after : {T E : Type 0} {x : T} → PutsThrough {T = T} {E = E} name v number (formats.F3 d) v' m n (Ok x) → HoldAdded z v.geometry kind slot f runs (address_in v number) → HoldAdded (slots_by (image_named n.state name) v) v.geometry kind slot f runs (address_in v number)
+  held_after : {T E : Type 0} {x : T} → PutsDurably {T = T} {E = E} name v number (formats.F3 d) v' m n (Ok x) → HoldAdded z v.geometry kind slot f runs (address_in v number) → HoldAdded (slots_by (image_named n.state name) v) v.geometry kind slot f runs (address_in v number)
   held_after put hold =
       subst (λ (files : List File). HoldAdded (slots_by (image_named files name) v) v.geometry kind slot f runs (address_in v number)) (sym put.step.done.0)
-      (subst (λ (ss : List VtocSlot). HoldAdded ss v.geometry kind slot f runs (address_in v number)) (sym put.put.image.slots) hold)
+      (subst (λ (ss : List VtocSlot). HoldAdded ss v.geometry kind slot f runs (address_in v number)) (sym (slot_put put.put).slots) hold)
 
   -- in the set's own format 3
-  pub own_held : {T E : Type 0} {x : T} → IsLedTo v f number h → 3 < f.extents → is_chained f ≡ true → PutsThrough {T = T} {E = E} name v number (formats.F3 (f3_with v.geometry kind f.extents runs h)) v' m n (Ok x) → HoldAdded (slots_by (image_named n.state name) v) v.geometry kind slot f runs (address_in v number)
+  pub own_held : {T E : Type 0} {x : T} → IsLedTo v f number h → 3 < f.extents → is_chained f ≡ true → PutsDurably {T = T} {E = E} name v number (formats.F3 (f3_with v.geometry kind f.extents runs h)) v' m n (Ok x) → HoldAdded (slots_by (image_named n.state name) v) v.geometry kind slot f runs (address_in v number)
   own_held own more chained put =
       let third : VtocSlot = record { address = address_in v number; content = Ok (formats.F3 h) } in
       let at = stands_there image v mounted number (formats.F3 h) own.there in
@@ -90,7 +91,7 @@ module _ (name : List ℕ) (v v' : Vol) (m n : Meaning (List File)) (mounted : I
       held_after put (hold_own v.geometry kind slot f runs three z (apart_changed number (formats.F3 d) slots apart) number (holding (formats.F3 d) third) (changed_there number (formats.F3 d) slots third at) h front back refl most once more own.address)
 
   -- or in a new one
-  pub new_held : {T E : Type 0} {x : T} → IsOpenSlot v number → f.extents ≤ 3 → 3 < f.extents + length runs → PutsThrough {T = T} {E = E} name v number (formats.F3 (f3_with v.geometry kind f.extents runs h)) v' m n (Ok x) → HoldAdded (slots_by (image_named n.state name) v) v.geometry kind slot f runs (address_in v number)
+  pub new_held : {T E : Type 0} {x : T} → IsOpenSlot v number → f.extents ≤ 3 → 3 < f.extents + length runs → PutsDurably {T = T} {E = E} name v number (formats.F3 (f3_with v.geometry kind f.extents runs h)) v' m n (Ok x) → HoldAdded (slots_by (image_named n.state name) v) v.geometry kind slot f runs (address_in v number)
   new_held at low more put =
       let open_one : VtocSlot = record { address = address_in v number; content = Ok at.item } in
       let place = stands_there image v mounted number at.item at.there in
@@ -123,14 +124,14 @@ module _ (v : Vol) (f : F1) (number : ℕ) (h : F3) (place : IsForFurther v f nu
   module _ (name : List ℕ) (v' : Vol) (m n : Meaning (List File)) (mounted : IsMounted (image_named m.state name) v) (few_tracks : v.vtoc.start + v.vtoc.len ≤ 65536) (marked : IsMarked (slots_by (image_named m.state name) v)) (slot : ℕ) (set : slice_get v.slots.items slot ≡ Some (formats.F1 f))
       (three : length f.runs ≡ 3) (front : length h.front ≡ 4) (back : length h.back ≡ 9) (kind : ℕ) (runs : List Run) where
     -- The volume stays.
-    pub place_marks : {T E : Type 0} (result : Result T E) → v' ≡ record v { slots = v'.slots; buf = v'.buf } → PutsThrough name v number (formats.F3 (f3_with v.geometry kind f.extents runs h)) v' m n result → Marks name v' m n result
+    pub place_marks : {T E : Type 0} (result : Result T E) → v' ≡ record v { slots = v'.slots; buf = v'.buf } → PutsDurably name v number (formats.F3 (f3_with v.geometry kind f.extents runs h)) v' m n result → Marks name v' m n result
     place_marks result others put = ⊎_elim
         (λ (more : 3 < f.extents). own_marks name v v' m n mounted few_tracks marked slot f set number h (place.own more) (lt-ltb 3 f.extents more) three front kind runs result others put)
         (λ (few : f.extents ≤ 3). third_marks name v v' number m n mounted few_tracks (found_open v number (place.opened few).0) marked result (f3_with v.geometry kind f.extents runs h) others put)
         (cases_lt 3 f.extents)
 
     -- And the slots hold the added extents.
-    pub place_held : {T E : Type 0} {x : T} → f.extents + length runs ≤ 16 → 3 < f.extents + length runs → PutsThrough {T = T} {E = E} name v number (formats.F3 (f3_with v.geometry kind f.extents runs h)) v' m n (Ok x) → HoldAdded (slots_by (image_named n.state name) v) v.geometry kind slot f runs (address_in v number)
+    pub place_held : {T E : Type 0} {x : T} → f.extents + length runs ≤ 16 → 3 < f.extents + length runs → PutsDurably {T = T} {E = E} name v number (formats.F3 (f3_with v.geometry kind f.extents runs h)) v' m n (Ok x) → HoldAdded (slots_by (image_named n.state name) v) v.geometry kind slot f runs (address_in v number)
     place_held most many put = ⊎_elim
         (λ (more : 3 < f.extents). own_held name v v' m n mounted few_tracks slot f set three kind runs most number h front back (place.own more) more (lt-ltb 3 f.extents more) put)
         (λ (few : f.extents ≤ 3). new_held name v v' m n mounted few_tracks slot f set three kind runs most number h front back (found_open v number (place.opened few).0) few many put)

@@ -26,7 +26,7 @@ use Rattle.free_rebuild.proofs.ChainLemmas.{get_low, get_set, get_set_other}
 use Rattle.dadsm_ops.specs.Allocating.{HaveSameNames}
 use Rattle.dadsm_ops.specs.Extending.{HoldsSet, IsLedTo}
 use Rattle.dadsm_ops.proofs.ExtendedSteps.{stands_there}
-use Rattle.dadsm_ops.proofs.StandingPuts.{slots_by}
+use Rattle.slot_laws.proofs.StandingPuts.{slots_by}
 
 -- the name of a data set, if a DSCB is a format 1
 abbrev name_of : Dscb → Option (List ℕ)

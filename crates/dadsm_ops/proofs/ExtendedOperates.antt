@@ -22,7 +22,8 @@ use Rattle.dadsm_ops.specs.Operations.{DoesOperation, InVtoc, Operates, image_na
 use Rattle.dadsm_ops.proofs.ExtendedVolumes.{extend_ok}
 use Rattle.dadsm_ops.proofs.ExtensionPlans.{attr_on, found_on, many_on}
 use Rattle.dadsm_ops.proofs.NewChoices.{volume_is}
-use Rattle.dadsm_ops.proofs.StandingPuts.{slots_by}
+use Rattle.slot_laws.proofs.StandingPuts.{slots_by}
+use Rattle.dadsm_ops.proofs.Operating.{operates_done, operates_failed}
 
 module _ (name : List ℕ) (v w : Vol) (m n : Meaning (List File)) (mounted : IsMounted (image_named m.state name) v) (slot : ℕ) (f : F1) (set : slice_get v.slots.items slot ≡ Some (formats.F1 f)) (plain : is_catalog f.name ≡ false) (readable : IsReadable (image_named m.state name) f.name)
     (runs : List Run) (plan : HasExtension (image_named m.state name) f runs) (dsn : Dsn) (is : f.name ≡ dsn.bytes) where
@@ -49,37 +50,20 @@ module _ (name : List ℕ) (v w : Vol) (m n : Meaning (List File)) (mounted : Is
       (ap (secondary_choice volume) (attr_on image v mounted slot f set) ∙ more.chosen) (omega (arith, many_on image v mounted slot f set, more.few)) fits
 
   -- what is planned isn't refused
-  not_refused : {P : Type 0} (other : Volume) → volume_of image ≡ Ok other → (r : Refusal) → extend_on dsn other ≡ Err r → P
+  not_refused : (other : Volume) → volume_of image ≡ Ok other → (r : Refusal) → extend_on dsn other ≡ Err r → ⊥
   not_refused other stands r refused =
       let dsn_is : (let e : Dsn = record { bytes = f.name } in e) ≡ dsn = ap (λ (l : List ℕ). let e : Dsn = record { bytes = l } in e) is in
       let here : extend_on dsn volume ≡ Err r = sym (ap (extend_on dsn) (volume_is image v other mounted stands)) ∙ refused in
-      let never = sym extends ∙ ap (λ (e : Dsn). extend_on e volume) dsn_is ∙ here in
-      absurd (cc never)
+      let wrong = sym extends ∙ ap (λ (e : Dsn). extend_on e volume) dsn_is ∙ here in
+      cc wrong
 
   -- it is done
   pub operates_extended : {T A B : Type 0} {y : A} (answer : T) → DoesOperation {T = A} {E = B} name (extend_on dsn) w (InVtoc w) m n (Ok y) → Operates name (extend_on dsn) w (InVtoc w) m n (Ok answer)
-  operates_extended answer does = record {
-    does = record {
-      volume = does.volume;
-      before = does.before;
-      done = does.done;
-      settled = does.settled;
-      printed = does.printed;
-      moments = does.moments;
-    };
-    refused = λ r wrong. absurd (let never = wrong in cc);
-    idle = λ r refused. not_refused does.volume does.before r refused;
-    memory = λ wrong. absurd (let never = wrong in cc);
-  }
+  operates_extended answer does = operates_done name (extend_on dsn) w (InVtoc w) m n not_refused answer does
 
   -- or the device failed
   pub operates_unextended : {T A B : Type 0} {result : Result A B} → DoesOperation name (extend_on dsn) w (InVtoc w) m n result → Operates {T = T} name (extend_on dsn) w (InVtoc w) m n (Err Device)
-  operates_unextended does = record {
-    does = record { volume = does.volume; before = does.before; done = tt; settled = tt; printed = does.printed; moments = does.moments };
-    refused = λ r wrong. absurd (let never = wrong in cc);
-    idle = λ r refused. not_refused does.volume does.before r refused;
-    memory = λ wrong. absurd (let never = wrong in cc);
-  }
+  operates_unextended does = operates_failed name (extend_on dsn) w (InVtoc w) m n not_refused does
 
 -- What is refused on each volume that the index is of is refused on that of its image.
 pub refused_at : (v : Vol) (slot : ℕ) (f : F1) → slice_get v.slots.items slot ≡ Some (formats.F1 f) → is_catalog f.name ≡ false → (dsn : Dsn) → f.name ≡ dsn.bytes → (r : Refusal) → IsRefused v f r

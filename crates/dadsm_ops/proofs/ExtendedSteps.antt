@@ -41,17 +41,18 @@ use Rattle.free_rebuild.proofs.ChainLemmas.{get_low}
 use Rattle.dadsm_ops.specs.Allocating.{Decides}
 use Rattle.dadsm_ops.specs.Extending.{HasMore, HoldAdded, IsLedTo, IsPointedBy, added_fields, added_type, f1_with, f3_with}
 use Rattle.dadsm_ops.specs.Operations.{image_named}
-use Rattle.dadsm_ops.specs.Through.{PutsThrough}
+use Rattle.free_rebuild.specs.Durable.{PutsDurably}
 use Rattle.dadsm_ops.proofs.AddedFields.{behind_own, fields_append}
-use Rattle.dadsm_ops.proofs.ChangedFormats.{format_behind, format_faults}
+use Rattle.dadsm_ops.proofs.ChangedFormats.{format_faults}
 use Rattle.dadsm_ops.proofs.ChangedThirds.{third_behind, third_faults, third_volume}
-use Rattle.dadsm_ops.proofs.ChangedVolumes.{set_there, volume_changed}
+use Rattle.slot_laws.proofs.ChangedVolumes.{set_there, volume_changed}
 use Rattle.dadsm_ops.proofs.CountedMany.{counted_many}
 use Rattle.dadsm_ops.proofs.ExtendedSets.{added_counted, extended_inside, extended_read, extended_types}
 use Rattle.dadsm_ops.proofs.ExtendedThirds.{pointed_once, set_rules}
 use Rattle.dadsm_ops.proofs.ExtendedVolumes.{extend_keeps, extend_ok, free_runs_then}
 use Rattle.dadsm_ops.proofs.LawfulFaults.{lawful_faults}
-use Rattle.dadsm_ops.proofs.StandingPuts.{label_by, slots_by}
+use Rattle.slot_laws.proofs.FoundSlots.{set_behind}
+use Rattle.slot_laws.proofs.StandingPuts.{label_by, slots_by}
 use Rattle.dadsm_ops.proofs.StandingSteps.{alike_marks, put_decides}
 
 -- what the index holds of a mounted image stands in its slots
@@ -111,7 +112,7 @@ module _ (name : List ℕ) (v v' : Vol) (m n : Meaning (List File)) (mounted : I
         subst (λ (x : F1). take x.extents (x.runs ++ (d.front ++ d.back)) ≡ take x.extents (x.runs ++ (h.front ++ h.back))) same rows_kept
 
     -- It is put and made durable: the image stands for the same volume.
-    pub own_marks : {T E : Type 0} (result : Result T E) → v' ≡ record v { slots = v'.slots; buf = v'.buf } → PutsThrough name v number (formats.F3 (f3_with v.geometry kind f.extents runs h)) v' m n result → Marks name v' m n result
+    pub own_marks : {T E : Type 0} (result : Result T E) → v' ≡ record v { slots = v'.slots; buf = v'.buf } → PutsDurably name v number (formats.F3 (f3_with v.geometry kind f.extents runs h)) v' m n result → Marks name v' m n result
     own_marks result others put =
         let lawful = third_faults v.geometry slots number third h d third_there refl kept mounted.lawful in
         let other = third_behind v.geometry slots number third h d third_there refl kept mounted.lawful in
@@ -180,10 +181,10 @@ module _ (name : List ℕ) (v v' : Vol) (m n : Meaning (List File)) (mounted : I
 
     -- It is put and made durable: the image stands for the volume with the added extents.
     pub extended_decides : {T E : Type 0} (dsn : Dsn) → f.name ≡ dsn.bytes → (result : Result T E) (w : Vol) → OnOk result (w ≡ record v { slots = w.slots; free = w.free; by_name = w.by_name; buf = w.buf }) → OnOk result (IsIndexOf (image_named n.state name) v' → IsIndexOf (image_named n.state name) w)
-        → OnOk result (AreWithout v.free.items runs w.free.items) → PutsThrough name v slot (formats.F1 (f1_with v.geometry (added_type (attr_of f)) runs pointer f)) v' m n result → Decides name (extend_on dsn) w m n result
+        → OnOk result (AreWithout v.free.items runs w.free.items) → PutsDurably name v slot (formats.F1 (f1_with v.geometry (added_type (attr_of f)) runs pointer f)) v' m n result → Decides name (extend_on dsn) w m n result
     extended_decides dsn is result w others indexed without put =
         let step = stepped dsn is in
-        put_decides name v v' slot (formats.F1 then) m n mounted (get_low v.slots.items slot (formats.F1 f) set) (format_behind v.geometry slots slot here f then there refl mounted.lawful) marked lawful
+        put_decides name v v' slot (formats.F1 then) m n mounted (get_low v.slots.items slot (formats.F1 f) set) (set_behind v.geometry slots slot here f there refl mounted.lawful) marked lawful
         (extend_on dsn) (step ∙ ap (λ (y : Volume). Ok y) (sym after))
         (ap volume_faults after ∙ lawful_faults (with_set volume f.name (with_extents runs)) (extend_keeps dsn volume (with_set volume f.name (with_extents runs)) (lawful_volume image volume mounted.volume) step))
         result w others indexed (freed result w without) put

@@ -22,8 +22,8 @@ use Rattle.vol_model.specs.declared.contents.Run.{Run}
 use Rattle.vtoc_index.specs.Index.{with_dscb}
 use Rattle.dadsm_ops.specs.Extending.{HoldAdded, IsPointedBy, f1_with, f3_with}
 use Rattle.dadsm_ops.proofs.AddedExtents.{after_chained, counted_new_third, counted_own, counted_own_third}
-use Rattle.dadsm_ops.proofs.ChangedFormats.{format_behind}
-use Rattle.dadsm_ops.proofs.ChangedSlots.{breaks_none}
+use Rattle.slot_laws.proofs.FoundSlots.{set_behind}
+use Rattle.slot_laws.proofs.ChangedSlots.{breaks_none}
 
 -- what is in a slot
 abbrev Content : Type 0
@@ -64,7 +64,7 @@ module _ (g : Geometry) (slots : List VtocSlot) (lawful : slots_faults g slots �
     pub set_rules : (has_types slots f ≡ true) × (has_extents g slots f ≡ true) × (has_chain slots (take k slots) f ≡ true)
     unfolding extents_fault
     set_rules = rules_hold (has_types slots f) (has_extents g slots f) (has_chain slots (take k slots) f) k
-        (fault_none k (format_behind g slots k t f f at set lawful) ((breaks_none g slots lawful).each k t at))
+        (fault_none k (set_behind g slots k t f at set lawful) ((breaks_none g slots lawful).each k t at))
 
     unshared : is_chained f ≡ true → list_any (λ (s : VtocSlot). shares_chain f s.content) (take k slots) ≡ false
     unfolding has_chain

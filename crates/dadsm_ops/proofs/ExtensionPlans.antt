@@ -35,16 +35,17 @@ use Rattle.free_rebuild.proofs.RunCounts.{low_tracks}
 use Rattle.dadsm_ops.specs.Allocating.{Decides, open_slots}
 use Rattle.dadsm_ops.specs.Extending.{HasExtension, HasMore, HoldAdded, IsReadable, added_type, f1_with, further_slots}
 use Rattle.dadsm_ops.specs.Operations.{image_named}
-use Rattle.dadsm_ops.specs.Through.{PutsThrough}
-use Rattle.dadsm_ops.proofs.CountedMany.{counted_many, slot_decoded, three_runs}
-use Rattle.dadsm_ops.proofs.ChangedVolumes.{set_there}
+use Rattle.free_rebuild.specs.Durable.{PutsDurably}
+use Rattle.free_rebuild.proofs.DecodedSlots.{slot_decoded, three_runs}
+use Rattle.dadsm_ops.proofs.CountedMany.{counted_many}
+use Rattle.slot_laws.proofs.ChangedVolumes.{set_there}
 use Rattle.dadsm_ops.proofs.ExtendedSteps.{extended_decides, stands_there}
 use Rattle.dadsm_ops.proofs.ExtendedThirds.{set_rules}
 use Rattle.dadsm_ops.proofs.ExtendedVolumes.{extend_extents_full, extend_full, extend_no_space, free_runs_then, needed_then}
 use Rattle.dadsm_ops.proofs.NewChoices.{volume_is}
 use Rattle.dadsm_ops.proofs.NewVolumes.{takes}
 use Rattle.dadsm_ops.proofs.OpenRoom.{more_room}
-use Rattle.dadsm_ops.proofs.StandingPuts.{label_by, slots_by}
+use Rattle.slot_laws.proofs.StandingPuts.{label_by, slots_by}
 use Rattle.dadsm_ops.proofs.UpdateEnds.{HasVtocOf}
 
 -- a data set of the index on the volume of its image
@@ -150,7 +151,7 @@ pub put_extends : {T E : Type 0} (name : List ℕ) (v v' : Vol) (slot : ℕ) (m 
     → (runs : List Run) (pointer : List ℕ) → is_catalog f.name ≡ false → HoldAdded (slots_by (image_named m.state name) v) v.geometry (added_type (attr_of f)) slot f runs pointer → HasExtension (image_named m.state name) f runs → IsReadable (image_named m.state name) f.name
     → (e : F1) → e ≡ f1_with v.geometry (added_type (attr_of f)) runs pointer f → (dsn : Dsn) → f.name ≡ dsn.bytes
     → (result : Result T E) (w : Vol) → OnOk result (HasVtocOf v w) → OnOk result (IsIndexOf (image_named n.state name) v' → IsIndexOf (image_named n.state name) w) → OnOk result (AreWithout v.free.items runs w.free.items)
-    → PutsThrough name v slot (formats.F1 e) v' m n result → Decides name (extend_on dsn) w m n result
+    → PutsDurably name v slot (formats.F1 e) v' m n result → Decides name (extend_on dsn) w m n result
 put_extends name v v' slot m n units unit mounted marked f set runs pointer plain added plan readable e same dsn is result w others indexed without put =
     let image : List ℕ = image_named m.state name in
     let here : Volume = volume_by image v.geometry v.vtoc in
@@ -159,4 +160,4 @@ put_extends name v v' slot m n units unit mounted marked f set runs pointer plai
     let fits : slots_needed (with_set here f.name (with_extents runs)) ≤ here.slots = subst (λ (y : Volume). slots_needed (with_set y f.name (with_extents runs)) ≤ y.slots) volume_same plan.fits in
     let small : tracks_of v.geometry ≤ 65536 = omega (arith, few_tracks v.geometry ((unit_of units v.unit).size, unit.whole)) in
     extended_decides name v v' m n mounted (low_tracks units v unit) marked slot f set runs pointer small plain added more fits (λ x found. readable here x mounted.volume found) dsn is result w others indexed without
-    (subst (λ (x : F1). PutsThrough name v slot (formats.F1 x) v' m n result) same put)
+    (subst (λ (x : F1). PutsDurably name v slot (formats.F1 x) v' m n result) same put)

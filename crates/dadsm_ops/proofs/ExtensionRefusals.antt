@@ -19,7 +19,7 @@ use Rattle.vtoc_sets.specs.Sets.{slots_taken, volume_in}
 use Rattle.dadsm_ops.specs.Extending.{HasExtension, HasMore, IsRefused, further_slots}
 use Rattle.dadsm_ops.proofs.ExtensionPlans.{found_on, needed_on, refused_extents, refused_slots, refused_space, slots_on}
 use Rattle.dadsm_ops.proofs.NewChoices.{volume_is}
-use Rattle.dadsm_ops.proofs.StandingPuts.{slots_by}
+use Rattle.slot_laws.proofs.StandingPuts.{slots_by}
 
 module _ (v : Vol) (f : F1) where
   abbrev dsn : Dsn

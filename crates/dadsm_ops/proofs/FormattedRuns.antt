@@ -1,5 +1,5 @@
 -- A new directory that is written track by track.
-use Rattle.std.proofs.Common.{◌≡◌, ◌≢◌, ◌+◌, ◌-◌, ◌*◌, ◌/◌, ◌%◌, ◌≤◌, ◌<◌, ℕ, Bool, true, false, cond, List, [], ◌∷◌, ◌++◌, length, map, min, Option, Some, None, Result, Ok, Err, inl, inr, sym, ap, ◌∙◌, subst, arith, length-append}
+use Rattle.std.proofs.Common.{◌≡◌, ◌≢◌, ◌+◌, ◌-◌, ◌*◌, ◌≤◌, ◌<◌, ℕ, Bool, true, false, cond, List, [], ◌∷◌, ◌++◌, length, map, min, Some, None, Result, Ok, Err, inl, inr, sym, ap, ◌∙◌, subst, arith, length-append}
 use Rattle.std.specs.Prelude.{◌==◌, IsErr, OnOk, replicate, slice_get}
 use Rattle.std.proofs.Math.Nat.{mul-le-mul_right}
 use Rattle.std.proofs.lemmas.Bool.Decides.{eqb_tells}
@@ -8,20 +8,19 @@ use Rattle.std.proofs.lemmas.List.FromFn.{length-range_with_len}
 use Rattle.ckd_image.specs.declared.device.DiskType.{DiskType}
 use Rattle.ckd_image.specs.declared.header.Geometry.{Geometry}
 use Rattle.ckd_image.specs.Fit.{fits}
-use Rattle.ckd_image.specs.Reading.{records_of}
 use Rattle.ckd_image.specs.Track.{Record}
 use Rattle.stop_model.specs.Files.{File}
 use Rattle.stop_model.specs.Moments.{Meaning}
 use Rattle.stop_model.proofs.BlockLemmas.{keeps_none, keeps_not, keeps_then}
 use Rattle.pack_spec.specs.Blocks.{owned_tracks}
 use Rattle.pack_spec.specs.Directories.{new_block, new_numbers, new_records}
-use Rattle.pack_spec.specs.Label.{heads_of, records_on, track_bytes}
 use Rattle.pack_spec.proofs.NewPlaces.{numbers_on, per_track, place_of}
 use Rattle.vol_model.specs.declared.contents.Place.{Place}
 use Rattle.vol_model.specs.declared.contents.Run.{Run}
 use Rattle.vol_model.specs.Places.{directory_end, directory_lengths, directory_place, end_of_file}
 use Rattle.dadsm_ops.specs.Operations.{image_named}
 use Rattle.dadsm_ops.specs.Formatting.{AreAll, AreOn, Formats, IsFormatted, WritesOn, contents_of}
+use Rattle.slot_laws.proofs.SameSlots.{by_bytes}
 
 -- ---- each track up to that of the end-of-file record has a record
 
@@ -61,10 +60,6 @@ some_records device n k some low none = elim (eqb_tells (directory_end device n)
         omega (arith, at.number, at.some, at.few, few, many, all, some, long ((directory_end device n).tt == k), ap length none)
 
 -- ---- one track behind another
-
-by_bytes : (g : Geometry) (u : Option ℕ) (t : ℕ) (before after : List ℕ) → track_bytes after g t ≡ track_bytes before g t → records_on after g u t ≡ records_on before g u t
-unfolding records_on
-by_bytes g u t before after same = ap (records_of (t / heads_of g) (t % heads_of g) u) same
 
 pub formats_none : {E : Type 0} (name : List ℕ) (g : Geometry) (runs : List Run) (n : ℕ) (m : Meaning (List File)) → Formats {T = Unit {0}} {E = E} name g runs n 0 m m (Ok tt)
 formats_none name g runs n m = record { keeps = λ before left. keeps_none (AreOn name g runs before) m left; tracks = λ k low. absurd (omega (arith, low)) }

@@ -2,7 +2,6 @@
 use Rattle.std.proofs.Common.{◌≡◌, ℕ, ◌<◌, true, List, [], ◌∷◌, length, get_or, Some, Result, Ok, refl, sym, ap, ◌∙◌}
 use Rattle.std.specs.Prelude.{position, slice_get}
 use Rattle.std.specs.List.{AllByRecursion}
-use Rattle.std.specs.Option.{option_map}
 use Rattle.std.proofs.lemmas.List.Quantifiers.{position-Some}
 use Rattle.std.proofs.lemmas.Option.{slice_get-get_or}
 use Rattle.std.proofs.lemmas.Slice.Eq.{bytes_eq-Decides}
@@ -13,7 +12,7 @@ use Rattle.dscb_codec.specs.declared.F1.{F1}
 use Rattle.pack_spec.specs.declared.slot.VtocSlot.{VtocSlot}
 use Rattle.pack_spec.specs.Rules.{is_named}
 use Rattle.vtoc_index.specs.Index.{AreDscbs, first_named}
-use Rattle.dadsm_ops.proofs.ChangedLists.{position-map, slice_get-map}
+use Rattle.slot_laws.proofs.ChangedLists.{position-map}
 
 -- The slot in which a data set stands, and its format 1.
 pub record FoundSet (name : List ℕ) (items : List Dscb) (slot : ℕ) : Type 0 where
@@ -50,11 +49,3 @@ named_alike name items slots are =
     sym (position-map (λ s. Unit {0}) (λ (s : VtocSlot). s.content) (λ s. is_named name s.content) (is_named name) (λ s any. refl) slots (all_units slots))
     ∙ ap (position (is_named name)) are
     ∙ position-map (λ d. Unit {0}) (λ (d : Dscb). content_of d) (λ d. is_named name (Ok d)) (is_named name) (λ d any. refl) items (all_units items)
-
--- what is in a slot whose DSCB the index holds
-pub content_at : (items : List Dscb) (slots : List VtocSlot) (slot : ℕ) (d : Dscb) → AreDscbs items slots → slice_get items slot ≡ Some d → option_map (λ s. s.content) (slice_get slots slot) ≡ Some (Ok d)
-content_at items slots slot d are item =
-    sym (slice_get-map (λ (s : VtocSlot). s.content) slots slot)
-    ∙ ap (λ (l : List (Result Dscb DscbErr)). slice_get l slot) are
-    ∙ slice_get-map (λ (x : Dscb). content_of x) items slot
-    ∙ ap (option_map (λ (x : Dscb). content_of x)) item

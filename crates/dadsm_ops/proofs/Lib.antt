@@ -11,7 +11,6 @@ pub mod CountedMany
 pub mod ExtendedVolumes
 pub mod StandingSteps
 pub mod ExtendedSets
-pub mod ChangedVolumes
 pub mod ChangedFormats
 pub mod AddedExtents
 pub mod AddedFields
@@ -27,16 +26,13 @@ pub mod OpenRoom
 pub mod NewSetSteps
 pub mod NewSetPuts
 pub mod OpenSlots
-pub mod StandingPuts
 pub mod Updating
 pub mod NewVolumes
 pub mod NewSets
 pub mod NewSlots
 pub mod NewAttributes
 pub mod NewExtents
-pub mod ChangedLists
 pub mod ChosenRuns
-pub mod ChangedSlots
 pub mod ChangedThirds
 pub mod ClearedSets
 pub mod EmptiedImages
@@ -46,8 +42,6 @@ pub mod FoundSets
 pub mod FreedLists
 pub mod FreedRuns
 pub mod KeptDirectories
-pub mod KeptGuards
-pub mod KeptSlots
 pub mod LawfulFaults
 pub mod Operating
 pub mod PlannedOperates
@@ -63,7 +57,6 @@ pub mod ScratchSteps
 pub mod ScratchedImages
 pub mod ScratchedIndex
 pub mod ScratchedSets
-pub mod Writes
 pub mod VacantSets
 pub mod DirectoryPlaces
 pub mod NewBlocks

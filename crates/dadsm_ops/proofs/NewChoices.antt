@@ -23,7 +23,7 @@ use Rattle.vtoc_index.specs.Index.{IsMounted, IsOfUnit, first_named}
 use Rattle.dadsm_ops.specs.Allocating.{AreExtents}
 use Rattle.dadsm_ops.proofs.FoundSets.{named_alike}
 use Rattle.dadsm_ops.proofs.RenamedSets.{has_set_found}
-use Rattle.dadsm_ops.proofs.StandingPuts.{label_by, slots_by}
+use Rattle.slot_laws.proofs.StandingPuts.{label_by, slots_by}
 
 heads_some : (d : DiskType) → 0 < (row_of d).heads
 heads_some D2311 = omega arith

@@ -15,7 +15,7 @@ use Rattle.vtoc_index.specs.Names.{IsEntered, name_at}
 use Rattle.free_rebuild.specs.Chain.{is_open}
 use Rattle.free_rebuild.proofs.ChainLemmas.{get_low, get_set, get_set_other, same_or_not}
 use Rattle.dadsm_ops.specs.Allocating.{HaveSameNames, IsAbsent}
-use Rattle.dadsm_ops.proofs.ChangedLists.{none_passes}
+use Rattle.slot_laws.proofs.ChangedLists.{none_passes}
 
 -- the name of a data set, if a DSCB is a format 1
 abbrev name_of : Dscb → Option (List ℕ)

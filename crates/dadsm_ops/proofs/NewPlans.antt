@@ -25,7 +25,7 @@ use Rattle.vtoc_sets.specs.Sets.{slots_taken, volume_in}
 use Rattle.dadsm_ops.specs.Allocating.{HasChoice, HasPlan, own_slots}
 use Rattle.dadsm_ops.proofs.NewChoices.{geometry_is, volume_is}
 use Rattle.dadsm_ops.proofs.NewVolumes.{allocate_crowded, allocate_full, free_runs_new, needed_new}
-use Rattle.dadsm_ops.proofs.StandingPuts.{slots_by}
+use Rattle.slot_laws.proofs.StandingPuts.{slots_by}
 
 -- no free run reaches past track 65,534
 pub free_within : (v : Vol) → (units : List Attached) × IsOfUnit units v → EndBy 65535 v.free.items

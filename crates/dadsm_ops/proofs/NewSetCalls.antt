@@ -46,7 +46,7 @@ use Rattle.free_rebuild.proofs.ChainLemmas.{get_low, get_set}
 use Rattle.free_rebuild.proofs.RunCounts.{low_tracks}
 use Rattle.dadsm_ops.specs.Allocating.{Decides, HasChoice, HasDirectory, HasPlan, HasFurtherIfMany, IsAbsent, PutsDirectory, extent_type, new_f1, new_lstar, open_slots, own_slots}
 use Rattle.dadsm_ops.specs.Operations.{image_named}
-use Rattle.dadsm_ops.specs.Through.{PutsThrough}
+use Rattle.free_rebuild.specs.Durable.{PutsDurably}
 use Rattle.dadsm_ops.proofs.ChosenTracks.{chosen_spare, runs_inside}
 use Rattle.dadsm_ops.proofs.DirectorySets.{new_read, spare_outside}
 use Rattle.dadsm_ops.proofs.NewAttributes.{asked}
@@ -55,7 +55,7 @@ use Rattle.dadsm_ops.proofs.NewNames.{set_entered}
 use Rattle.dadsm_ops.proofs.NewSetSteps.{IsOpenSlot, set_decides}
 use Rattle.dadsm_ops.proofs.OpenRoom.{open_room}
 use Rattle.dadsm_ops.proofs.OpenSlots.{count_less, found_first, get_behind, set_behind}
-use Rattle.dadsm_ops.proofs.StandingPuts.{slots_by}
+use Rattle.slot_laws.proofs.StandingPuts.{slots_by}
 use Rattle.dadsm_ops.proofs.UpdateEnds.{HasVtocOf}
 
 -- what is planned on a volume is planned on each image that stands for it
@@ -203,14 +203,14 @@ pub put_decides : {T E : Type 0} (name : List ℕ) (v v' : Vol) (slot : ℕ) (m 
     → (dsn : Dsn) (attr : Attr) (q : Request) (dir : ℕ) (runs : List Run) (pointer : List ℕ) → dir ≤ 2000 → is_catalog dsn.bytes ≡ false → q.secondary < 2 ^ 24 → HasFurtherIfMany (slots_by (image_named m.state name) v) v.geometry (extent_type q.unit) runs pointer → HasPlan (image_named m.state name) dsn attr q dir runs → HasDirectory (image_named m.state name) v.geometry runs dir
     → (f : F1) → f ≡ new_f1 dsn.bytes v.serial.bytes (asked attr q) v.geometry (extent_type q.unit) runs pointer dir
     → (result : Result T E) (w : Vol) → OnOk result (HasVtocOf v w) → OnOk result (IsIndexOf (image_named n.state name) v' → IsIndexOf (image_named n.state name) w) → OnOk result (AreWithout v.free.items runs w.free.items)
-    → PutsThrough name v slot (formats.F1 f) v' m n result → Decides name (allocate_on dsn attr q dir) w m n result
+    → PutsDurably name v slot (formats.F1 f) v' m n result → Decides name (allocate_on dsn attr q dir) w m n result
 put_decides name v v' slot m n units unit mounted found marked dsn attr q dir runs pointer most other secondary third plan formatted f is result w others indexed without put =
     let image = image_named m.state name in
     let small : tracks_of v.geometry ≤ 65536 = omega (arith, few_tracks v.geometry ((unit_of units v.unit).size, unit.whole)) in
     set_decides name v v' slot m n mounted (low_tracks units v unit) (found_open v slot found) marked dsn attr q dir most runs pointer v.serial.bytes other secondary small
     (plan_few image v mounted dsn attr q dir runs plan) (plan_on_pack image v mounted dsn attr q dir runs plan) third (plan_has image v mounted dsn attr q dir runs plan) (plan_slots image v mounted dsn attr q dir runs plan)
     (plan_roomy image v mounted dsn attr q dir runs plan) (plan_body image v mounted dsn attr q dir runs plan most other formatted)
-    result w others indexed without (subst (λ (x : F1). PutsThrough name v slot (formats.F1 x) v' m n result) is put)
+    result w others indexed without (subst (λ (x : F1). PutsDurably name v slot (formats.F1 x) v' m n result) is put)
 
 -- ---- what a step that marks an image leaves
 

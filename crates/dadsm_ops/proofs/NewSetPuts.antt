@@ -32,7 +32,7 @@ use Rattle.vol_model.specs.Shelf.{is_catalog, new_attr, new_body}
 use Rattle.vtoc_index.specs.Index.{with_dscb}
 use Rattle.free_rebuild.proofs.PutLemmas.{alike_with}
 use Rattle.dadsm_ops.specs.Allocating.{HasFurther, HasFurtherIfMany, extent_type, new_f1, new_f3, new_lstar}
-use Rattle.dadsm_ops.proofs.ChangedSlots.{changed_elsewhere, changed_there}
+use Rattle.slot_laws.proofs.ChangedSlots.{changed_elsewhere, changed_there}
 use Rattle.dadsm_ops.proofs.NewAttributes.{asked, attr_asked, attr_read}
 use Rattle.dadsm_ops.proofs.NewExtents.{counted_new, field_types, kind_counted, numbered, numbered_inside, numbered_read, numbered_types}
 use Rattle.dadsm_ops.proofs.NewSlots.{CanPut, free_third, none_at, not_same}

@@ -39,7 +39,7 @@ use Rattle.free_rebuild.specs.Updates.{IsMarkedFor, Marks}
 use Rattle.free_rebuild.proofs.AddressLemmas.{held_slots}
 use Rattle.dadsm_ops.specs.Allocating.{Decides, HasChoice, HasFurther, HasFurtherIfMany, extent_type, new_f1, new_f3, new_lstar}
 use Rattle.dadsm_ops.specs.Operations.{image_named}
-use Rattle.dadsm_ops.specs.Through.{PutsThrough}
+use Rattle.free_rebuild.specs.Durable.{PutsDurably}
 use Rattle.dadsm_ops.proofs.NewAttributes.{asked}
 use Rattle.dadsm_ops.proofs.NewSetPuts.{can_put, further_put, set_read, third_alike}
 use Rattle.dadsm_ops.proofs.NewSets.{volume_with_new}
@@ -47,8 +47,9 @@ use Rattle.dadsm_ops.proofs.NewSlots.{CanPut, faults_put}
 use Rattle.dadsm_ops.proofs.LawfulFaults.{lawful_faults}
 use Rattle.dadsm_ops.proofs.NewVolumes.{allocate_keeps, allocate_ok, free_runs_new}
 use Rattle.dadsm_ops.proofs.RenamedSets.{has_set_found}
-use Rattle.dadsm_ops.proofs.ChangedLists.{any_first}
-use Rattle.dadsm_ops.proofs.StandingPuts.{label_by, put_differs, put_marked, put_mounted, put_stands, slots_by}
+use Rattle.slot_laws.proofs.ChangedLists.{any_first}
+use Rattle.slot_laws.proofs.StandingPuts.{label_by, put_differs, put_marked, put_mounted, put_stands, slots_by}
+use Rattle.free_rebuild.proofs.DurableLemmas.{slot_put, slot_written}
 
 -- a slot that can be put is there, open, and behind the first two
 pub record IsOpenSlot (v : Vol) (slot : ℕ) : Type 0 where
@@ -82,7 +83,7 @@ module _ (name : List ℕ) (v v' : Vol) (slot : ℕ) (m n : Meaning (List File))
 
   -- ---- the format 3
 
-  module _ (h : F3) {T E : Type 0} {result : Result T E} (put : PutsThrough name v slot (formats.F3 h) v' m n result) where
+  module _ (h : F3) {T E : Type 0} {result : Result T E} (put : PutsDurably name v slot (formats.F3 h) v' m n result) where
     third_lawful : slots_faults v.geometry (with_dscb slot (formats.F3 h) slots) ≡ []
     third_lawful = alike_faults v.geometry slots mounted.lawful apart (with_dscb slot (formats.F3 h) slots) (third_alike slots slot here h at.behind there at.opened)
 
@@ -95,9 +96,9 @@ module _ (name : List ℕ) (v v' : Vol) (slot : ℕ) (m n : Meaning (List File))
     third_marked : IsMarkedFor name volume m.state put.after
     unfolding volume_with
     third_marked = record {
-      stands = put_stands image (image_named put.after name) v slot (formats.F3 h) put.bytes mounted at.low put.size put.dscb put.put.written put.put.image not_zero third_lawful third_whole ∙ ap (λ (x : Volume). Ok x) third_same;
-      marked = put_marked image (image_named put.after name) v slot (formats.F3 h) put.bytes mounted at.low put.size put.dscb put.put.written put.put.image not_zero marked;
-      tracks = put_differs image (image_named put.after name) v slot (formats.F3 h) put.bytes mounted at.low put.size put.dscb put.put.written put.put.image not_zero;
+      stands = put_stands image (image_named put.after name) v slot (formats.F3 h) put.bytes mounted at.low put.size put.dscb (slot_written put.put) (slot_put put.put) not_zero third_lawful third_whole ∙ ap (λ (x : Volume). Ok x) third_same;
+      marked = put_marked image (image_named put.after name) v slot (formats.F3 h) put.bytes mounted at.low put.size put.dscb (slot_written put.put) (slot_put put.put) not_zero marked;
+      tracks = put_differs image (image_named put.after name) v slot (formats.F3 h) put.bytes mounted at.low put.size put.dscb (slot_written put.put) (slot_put put.put) not_zero;
       others = put.put.others;
     }
 
@@ -105,7 +106,7 @@ module _ (name : List ℕ) (v v' : Vol) (slot : ℕ) (m n : Meaning (List File))
     third_index others index =
         let parts : v' ≡ record v { slots = v'.slots; free = v'.free; by_name = v'.by_name; buf = v'.buf } = all_parts v v' others in
         let free : v'.free.items ≡ v.free.items = ap (λ (x : Vol). x.free.items) others in
-        put_mounted image (image_named put.after name) v slot (formats.F3 h) put.bytes mounted at.low put.size put.dscb put.put.written put.put.image not_zero third_lawful third_whole v' parts index
+        put_mounted image (image_named put.after name) v slot (formats.F3 h) put.bytes mounted at.low put.size put.dscb (slot_written put.put) (slot_put put.put) not_zero third_lawful third_whole v' parts index
         (free ∙ mounted.free ∙ sym (ap free_runs third_same))
       where
         all_parts : (v v' : Vol) → v' ≡ record v { slots = v'.slots; buf = v'.buf } → v' ≡ record v { slots = v'.slots; free = v'.free; by_name = v'.by_name; buf = v'.buf }
@@ -113,7 +114,7 @@ module _ (name : List ℕ) (v v' : Vol) (slot : ℕ) (m n : Meaning (List File))
             is ∙ sym (ap (λ (x : Vol). record v { slots = v'.slots; free = x.free; by_name = x.by_name; buf = v'.buf }) is)
 
   -- The format 3 is put and made durable: the image stands for the same volume.
-  pub third_marks : {T E : Type 0} (result : Result T E) (h : F3) → v' ≡ record v { slots = v'.slots; buf = v'.buf } → PutsThrough name v slot (formats.F3 h) v' m n result → Marks name v' m n result
+  pub third_marks : {T E : Type 0} (result : Result T E) (h : F3) → v' ≡ record v { slots = v'.slots; buf = v'.buf } → PutsDurably name v slot (formats.F3 h) v' m n result → Marks name v' m n result
   third_marks (Ok x) h others put =
       let is : n.state ≡ put.after = put.step.done.0 in
       record {
@@ -136,11 +137,11 @@ module _ (name : List ℕ) (v v' : Vol) (slot : ℕ) (m n : Meaning (List File))
   }
 
   -- and it is there, and nothing leads to it yet
-  pub third_further : {T E : Type 0} {x : T} (kind : ℕ) (runs : List Run) → PutsThrough {T = T} {E = E} name v slot (formats.F3 (new_f3 v.geometry kind runs)) v' m n (Ok x) → HasFurther (slots_by (image_named n.state name) v) v.geometry kind runs (address_in v slot)
+  pub third_further : {T E : Type 0} {x : T} (kind : ℕ) (runs : List Run) → PutsDurably {T = T} {E = E} name v slot (formats.F3 (new_f3 v.geometry kind runs)) v' m n (Ok x) → HasFurther (slots_by (image_named n.state name) v) v.geometry kind runs (address_in v slot)
   third_further kind runs put =
       let is : n.state ≡ put.after = put.step.done.0 in
       subst (λ (files : List File). HasFurther (slots_by (image_named files name) v) v.geometry kind runs (address_in v slot)) (sym is)
-      (subst (λ (ss : List VtocSlot). HasFurther ss v.geometry kind runs (address_in v slot)) (sym put.put.image.slots) (further_put v.geometry slots mounted.lawful apart slot here there at.opened kind runs))
+      (subst (λ (ss : List VtocSlot). HasFurther ss v.geometry kind runs (address_in v slot)) (sym (slot_put put.put).slots) (further_put v.geometry slots mounted.lawful apart slot here there at.opened kind runs))
 
   -- ---- the format 1
 
@@ -174,24 +175,24 @@ module _ (name : List ℕ) (v v' : Vol) (slot : ℕ) (m n : Meaning (List File))
     set_whole : volume_faults (volume_with v.geometry (data_tracks image v.geometry v.vtoc) (label_by image v) v.vtoc (with_dscb slot (formats.F1 f) slots)) ≡ []
     set_whole = ap volume_faults set_after ∙ lawful_faults after (allocate_keeps dsn attr q dir volume blocks secondary after (lawful_volume image volume mounted.volume) stepped)
 
-    module _ {T E : Type 0} {result : Result T E} (put : PutsThrough name v slot (formats.F1 f) v' m n result) where
+    module _ {T E : Type 0} {result : Result T E} (put : PutsDurably name v slot (formats.F1 f) v' m n result) where
       set_marked : IsMarkedFor name after m.state put.after
       unfolding volume_with
       set_marked = record {
-        stands = put_stands image (image_named put.after name) v slot (formats.F1 f) put.bytes mounted at.low put.size put.dscb put.put.written put.put.image not_zero set_lawful set_whole ∙ ap (λ (x : Volume). Ok x) set_after;
-        marked = put_marked image (image_named put.after name) v slot (formats.F1 f) put.bytes mounted at.low put.size put.dscb put.put.written put.put.image not_zero marked;
-        tracks = put_differs image (image_named put.after name) v slot (formats.F1 f) put.bytes mounted at.low put.size put.dscb put.put.written put.put.image not_zero;
+        stands = put_stands image (image_named put.after name) v slot (formats.F1 f) put.bytes mounted at.low put.size put.dscb (slot_written put.put) (slot_put put.put) not_zero set_lawful set_whole ∙ ap (λ (x : Volume). Ok x) set_after;
+        marked = put_marked image (image_named put.after name) v slot (formats.F1 f) put.bytes mounted at.low put.size put.dscb (slot_written put.put) (slot_put put.put) not_zero marked;
+        tracks = put_differs image (image_named put.after name) v slot (formats.F1 f) put.bytes mounted at.low put.size put.dscb (slot_written put.put) (slot_put put.put) not_zero;
         others = put.put.others;
       }
 
       set_index : (w : Vol) → w ≡ record v { slots = w.slots; free = w.free; by_name = w.by_name; buf = w.buf } → IsIndexOf (image_named put.after name) w → AreWithout v.free.items runs w.free.items → IsMounted (image_named put.after name) w
       set_index w others index without =
-          put_mounted image (image_named put.after name) v slot (formats.F1 f) put.bytes mounted at.low put.size put.dscb put.put.written put.put.image not_zero set_lawful set_whole w others index
+          put_mounted image (image_named put.after name) v slot (formats.F1 f) put.bytes mounted at.low put.size put.dscb (slot_written put.put) (slot_put put.put) not_zero set_lawful set_whole w others index
           (free_runs_new dsn attr q dir volume runs v.free.items w.free.items mounted.free without ∙ sym (ap free_runs set_after))
 
     -- The format 1 is put and made durable: the image stands for the volume with the set.
     pub set_decides : {T E : Type 0} (result : Result T E) (w : Vol) → OnOk result (w ≡ record v { slots = w.slots; free = w.free; by_name = w.by_name; buf = w.buf }) → OnOk result (IsIndexOf (image_named n.state name) v' → IsIndexOf (image_named n.state name) w) → OnOk result (AreWithout v.free.items runs w.free.items)
-        → PutsThrough name v slot (formats.F1 f) v' m n result → Decides name (allocate_on dsn attr q dir) w m n result
+        → PutsDurably name v slot (formats.F1 f) v' m n result → Decides name (allocate_on dsn attr q dir) w m n result
     unfolding volume_with
     set_decides (Ok x) w others indexed without put =
         let is : n.state ≡ put.after = put.step.done.0 in

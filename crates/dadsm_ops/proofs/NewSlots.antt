@@ -20,8 +20,8 @@ use Rattle.pack_spec.specs.Vtoc.{is_counted_type, is_extent, is_field_type}
 use Rattle.pack_spec.specs.Rules.{content_fault, counted_extents, extents_fault, format_3_of, further_extents, has_chain, has_extents, has_types, is_chained, is_f3, is_f4, is_f5_or_f0, is_led_to, is_named, name_fault, set_in, shares_chain, slot_fault, slots_faults}
 use Rattle.pack_spec.proofs.SetNames.{named_set}
 use Rattle.vtoc_index.specs.Index.{with_dscb}
-use Rattle.dadsm_ops.proofs.ChangedLists.{any_first}
-use Rattle.dadsm_ops.proofs.ChangedSlots.{BreakNone, breaks_none, changed_elsewhere, changed_there, find-changed, none_broken}
+use Rattle.slot_laws.proofs.ChangedLists.{any_first}
+use Rattle.slot_laws.proofs.ChangedSlots.{BreakNone, breaks_none, changed_elsewhere, changed_there, find-changed, none_broken}
 
 -- what is in a slot
 abbrev Content : Type 0

@@ -38,7 +38,7 @@ use Rattle.free_rebuild.proofs.RoomThere.{count_weaker, four_alone, many_extents
 use Rattle.free_rebuild.proofs.StandLemmas.{has_front}
 use Rattle.dadsm_ops.specs.Allocating.{open_slots, own_slots}
 use Rattle.dadsm_ops.proofs.NewVolumes.{has_third, needed_new, taken_sum, takes}
-use Rattle.dadsm_ops.proofs.StandingPuts.{slots_by}
+use Rattle.slot_laws.proofs.StandingPuts.{slots_by}
 
 all_at : (p : VtocSlot → Bool) (xs : List VtocSlot) (k : ℕ) (s : VtocSlot) → list_all p xs ≡ true → slice_get xs k ≡ Some s → p s ≡ true
 all_at p [] k s all at = cc

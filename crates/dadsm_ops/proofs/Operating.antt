@@ -14,7 +14,7 @@ use Rattle.vol_model.specs.declared.contents.Volume.{Volume}
 use Rattle.vol_model.specs.declared.refusals.Refusal.{Refusal}
 use Rattle.vtoc_index.specs.Index.{IsMounted}
 use Rattle.vtoc_index.specs.declared.vol.Vol.{Vol}
-use Rattle.dadsm_ops.specs.Operations.{ChangesVtoc, InVtoc, IsLeftInOperation, Operates, image_named}
+use Rattle.dadsm_ops.specs.Operations.{ChangesVtoc, DoesOperation, InVtoc, IsLeftInOperation, Operates, image_named}
 
 -- the files as before
 pub unchanged : (name : List ℕ) (g : Geometry) (vtoc : Run) (before after : List File) → after ≡ before → ChangesVtoc name g vtoc before after
@@ -105,3 +105,28 @@ operates_none name operation v Changes m volume r before is same = record {
   idle = λ other refused. same;
   memory = λ other. absurd (let wrong = other in cc);
 }
+
+-- An operation that isn't refused, done or failed.
+module _ (name : List ℕ) (operation : Volume → Result Volume Refusal) (v : Vol) (Changes : List ℕ → List ℕ → Type 0) (m n : Meaning (List File)) (never : (volume : Volume) → volume_of (image_named m.state name) ≡ Ok volume → (r : Refusal) → operation volume ≡ Err r → ⊥) where
+  pub operates_done : {T A B : Type 0} {x : A} (y : T) → DoesOperation {T = A} {E = B} name operation v Changes m n (Ok x) → Operates name operation v Changes m n (Ok y)
+  operates_done y does = record {
+    does = record {
+      volume = does.volume;
+      before = does.before;
+      done = does.done;
+      settled = does.settled;
+      printed = does.printed;
+      moments = does.moments;
+    };
+    refused = λ r wrong. absurd (let given = wrong in cc);
+    idle = λ r refused. absurd (never does.volume does.before r refused);
+    memory = λ wrong. absurd (let given = wrong in cc);
+  }
+
+  pub operates_failed : {T A B : Type 0} {result : Result A B} → DoesOperation name operation v Changes m n result → Operates {T = T} name operation v Changes m n (Err Device)
+  operates_failed does = record {
+    does = record { volume = does.volume; before = does.before; done = tt; settled = tt; printed = does.printed; moments = does.moments };
+    refused = λ r wrong. absurd (let given = wrong in cc);
+    idle = λ r refused. absurd (never does.volume does.before r refused);
+    memory = λ wrong. absurd (let given = wrong in cc);
+  }

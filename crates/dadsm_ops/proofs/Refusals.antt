@@ -9,7 +9,7 @@ use Rattle.vol_model.specs.declared.refusals.Refusal.TheVariants.{NoSet, SetExis
 use Rattle.vtoc_index.specs.Index.{IsMounted, first_named}
 use Rattle.vtoc_index.specs.declared.vol.Vol.{Vol}
 use Rattle.dadsm_ops.proofs.FoundSets.{named_alike}
-use Rattle.dadsm_ops.proofs.RenamedSlots.{has_named}
+use Rattle.slot_laws.proofs.FoundSlots.{has_named}
 use Rattle.dadsm_ops.proofs.RenamedImages.{rename_no_set, rename_set_exists, rename_wrong_kind, slots_on_image}
 
 -- what is there

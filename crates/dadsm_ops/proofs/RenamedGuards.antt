@@ -13,8 +13,9 @@ use Rattle.pack_spec.specs.declared.slot.VtocSlot.{VtocSlot}
 use Rattle.pack_spec.specs.FreeChain.{HasSpace, IsChain, ListsFree, free_entries, next_free}
 use Rattle.pack_spec.specs.Rules.{is_f3, is_f5_or_f0}
 use Rattle.pack_spec.specs.Settled.{AreGuarded, AreSettled, head_in, head_of, highest_of, is_f0, is_f1, is_f5, is_used, leads_to}
-use Rattle.dadsm_ops.proofs.ChangedLists.{filter-map, list_any-map, position-map, slice_get-map}
-use Rattle.dadsm_ops.proofs.RenamedSlots.{all_units, f3-renamed, f5-renamed, renamed_content, renamed_slot, same_count, same_pointer}
+use Rattle.slot_laws.proofs.KeptSlots.{all_units}
+use Rattle.slot_laws.proofs.ChangedLists.{filter-map, list_any-map, position-map, slice_get-map}
+use Rattle.dadsm_ops.proofs.RenamedSlots.{f3-renamed, f5-renamed, renamed_content, renamed_slot, same_count, same_pointer}
 
 -- what is in a slot
 abbrev Content : Type 0

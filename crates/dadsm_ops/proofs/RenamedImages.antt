@@ -39,12 +39,12 @@ use Rattle.std.specs.Option.{option_map}
 use Rattle.std.proofs.lemmas.Slice.Eq.{bytes_eq-Decides}
 use Rattle.ebcdic_names.specs.declared.names.Dsn.{Dsn}
 use Rattle.pack_spec.specs.Alike.{DifferInVtoc}
-use Rattle.dadsm_ops.proofs.ChangedLists.{any_first, none_passes}
-use Rattle.dadsm_ops.proofs.FoundSets.{content_at}
+use Rattle.slot_laws.proofs.ChangedLists.{any_first, none_passes}
+use Rattle.slot_laws.proofs.FoundSlots.{content_at, has_named, named_once}
 use Rattle.dadsm_ops.proofs.RenamedFaults.{runs_alike, volume_alike}
 use Rattle.dadsm_ops.proofs.RenamedGuards.{guarded_alike, settled_alike}
 use Rattle.dadsm_ops.proofs.RenamedSets.{has_set_found, volume_renamed}
-use Rattle.dadsm_ops.proofs.RenamedSlots.{faults_alike, has_named, named_once, put_is_renaming, renamed_slot}
+use Rattle.dadsm_ops.proofs.RenamedSlots.{faults_alike, put_is_renaming, renamed_slot}
 
 -- the slots of the VTOC of an image, by an index
 abbrev pub slots_on_image : List ℕ → Vol → List VtocSlot

@@ -29,8 +29,9 @@ use Rattle.vol_model.specs.Order.{in_order}
 use Rattle.vol_model.specs.declared.catalogs.CatBody.TheVariants as catalogs
 use Rattle.vol_model.specs.Shelf.{catalog_name, has_name, has_set, is_catalog, organization, renamed, with_name}
 use Rattle.vol_model.proofs.Steps.{any_in_order, renamed_in_order}
-use Rattle.dadsm_ops.proofs.ChangedLists.{any_first, list_any-map}
-use Rattle.dadsm_ops.proofs.RenamedSlots.{counted_alike, has_named, renamed_set, renamed_slot, set_in-renamed}
+use Rattle.slot_laws.proofs.ChangedLists.{any_first, list_any-map}
+use Rattle.slot_laws.proofs.FoundSlots.{has_named}
+use Rattle.dadsm_ops.proofs.RenamedSlots.{counted_alike, renamed_set, renamed_slot, set_in-renamed}
 
 -- a name that isn't the catalog's tells nothing of a body
 body_alike : (g : Geometry) (tracks : List (List ℕ)) (old new : List ℕ) (attr : Attr) (extents : List Run) (lstar : List ℕ) → is_catalog old ≡ false → is_catalog new ≡ false → body_of g tracks new attr extents lstar ≡ body_of g tracks old attr extents lstar

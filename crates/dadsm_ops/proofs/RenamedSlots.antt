@@ -1,13 +1,12 @@
 -- Slots of which the format 1 DSCBs of one name get another: they break the same rules, and hold the same extents.
-use Rattle.std.proofs.Common.{◌≡◌, ◌≢◌, inl, inr, ℕ, zero, suc, ◌+◌, ◌<◌, ◌≤◌, Bool, true, false, cond, List, [], ◌∷◌, ◌++◌, map, length, take, get_or, Option, Some, None, Result, Ok, Err, refl, sym, ap, ◌∙◌, arith}
+use Rattle.std.proofs.Common.{◌≡◌, ◌≢◌, ℕ, zero, suc, ◌<◌, Bool, true, false, cond, List, [], ◌∷◌, ◌++◌, map, length, take, get_or, Option, Some, None, Result, Ok, Err, refl, sym, ap, ◌∙◌, arith}
 use Rattle.std.specs.Prelude.{◌||◌, ◌&&◌, ◌==◌, nat_le, nat_lt, not, is_some, option_and_then}
 use Rattle.std.specs.List.{AllByRecursion, find, list_all, list_any, position, slice_get}
 use Rattle.std.specs.Option.{option_map, option_map_or}
 use Rattle.std.specs.Str.{bytes_eq}
-use Rattle.std.proofs.lemmas.Bool.{both_ways, cases_lt, false_from_ne_true}
+use Rattle.std.proofs.lemmas.Bool.{both_ways, false_from_ne_true}
 use Rattle.std.proofs.lemmas.Slice.Eq.{bytes_eq-Decides}
-use Rattle.std.proofs.lemmas.List.{get_or-take, length-take-le, take-map}
-use Rattle.std.proofs.lemmas.List.Quantifiers.{position-Some}
+use Rattle.std.proofs.lemmas.List.{take-map}
 use Rattle.ckd_image.specs.declared.header.Geometry.{Geometry}
 use Rattle.dscb_codec.specs.declared.Dscb.{Dscb}
 use Rattle.dscb_codec.specs.declared.Dscb.TheVariants as formats
@@ -19,10 +18,11 @@ use Rattle.pack_spec.specs.declared.MountErr.TheVariants.{DuplicateName}
 use Rattle.pack_spec.specs.declared.slot.VtocSlot.{VtocSlot}
 use Rattle.pack_spec.specs.Vtoc.{is_counted_type, is_extent, is_field_type}
 use Rattle.pack_spec.specs.Rules.{content_fault, counted_extents, extents_fault, format_3_of, front_faults, further_extents, has_chain, has_extents, has_types, is_chained, is_f3, is_f4, is_f5_or_f0, is_led_to, is_named, name_fault, name_faults, set_in, shares_chain, slot_fault, slot_faults, slots_faults}
-use Rattle.pack_spec.proofs.FirstFaults.{none_at}
 use Rattle.pack_spec.proofs.SetNames.{named_set}
 use Rattle.vtoc_index.specs.Index.{with_dscb}
-use Rattle.dadsm_ops.proofs.ChangedLists.{fails_at, filter_map-map, find-map, list_any-map, none_passes, position-map, slice_get-map}
+use Rattle.slot_laws.proofs.ChangedLists.{filter_map-map, find-map, list_any-map, position-map, slice_get-map}
+use Rattle.slot_laws.proofs.FoundSlots.{has_named}
+use Rattle.slot_laws.proofs.KeptSlots.{all_units}
 
 -- a format 1, under the new name where it has the old one
 abbrev pub renamed_set : List ℕ → List ℕ → F1 → F1
@@ -41,18 +41,10 @@ renamed_content old new c = c
 abbrev pub renamed_slot : List ℕ → List ℕ → VtocSlot → VtocSlot
 renamed_slot old new s = record s { content = renamed_content old new s.content }
 
--- a slot holds a format 1 of this name
-abbrev pub has_named : List ℕ → VtocSlot → Bool
-has_named name s = is_named name s.content
-
 all_taken : (P : VtocSlot → Type 0) (k : ℕ) (ss : List VtocSlot) → AllByRecursion P ss → AllByRecursion P (take k ss)
 all_taken P zero ss all = tt
 all_taken P (suc k) [] all = tt
 all_taken P (suc k) (s ∷ ss) all = (all.0, all_taken P k ss all.1)
-
-pub all_units : (ss : List VtocSlot) → AllByRecursion (λ s. Unit {0}) ss
-all_units [] = tt
-all_units (s ∷ ss) = (tt, all_units ss)
 
 not_same : (a b : List ℕ) → bytes_eq a b ≡ false → bytes_eq b a ≡ false
 not_same a b apart =
@@ -287,37 +279,3 @@ module _ (old new : List ℕ) where
   put_is_renaming (suc slot) (x ∷ xs) f here named others =
       ap (λ (y : VtocSlot). y ∷ with_dscb slot (formats.F1 (record f { name = new })) xs) (same_slot x (others 0 x (omega arith) (λ none. absurd (omega (arith, none)))))
       ∙ ap (λ (ys : List VtocSlot). renamed_slot old new x ∷ ys) (put_is_renaming slot xs f here named (λ k d low other. others (suc k) d (omega (arith, low)) (λ next. other (omega (arith, next)))))
-
--- a slot that has a name holds a format 1 of it
-set_named : (name : List ℕ) (c : Content) → is_named name c ≡ true → (f : F1) × ((set_in c ≡ Some f) × (f.name ≡ name))
-set_named name (Ok formats.F0) is = cc
-set_named name (Ok (formats.F1 f)) is = (f, (refl, (bytes_eq-Decides f.name name).0 is))
-set_named name (Ok (formats.F3 f)) is = cc
-set_named name (Ok (formats.F4 f)) is = cc
-set_named name (Ok (formats.F5 f)) is = cc
-set_named name (Err e) is = cc
-
--- A name that stands in no earlier slot stands once.
-pub named_once : (name : List ℕ) (slots : List VtocSlot) (slot : ℕ) → slice_get (name_faults slots) 0 ≡ None → position (has_named name) slots ≡ Some slot → (k : ℕ) (d : VtocSlot) → k < length slots → k ≢ slot → has_named name (get_or slots k d) ≡ false
-unfolding name_faults name_fault
-named_once name slots slot lawful found k d low other =
-    let at = position-Some (has_named name) slots slot d found in
-    false_from_ne_true _ (λ is. elim (cases_lt k slot) [ inl before ↦ both_ways (has_named name (get_or slots k d)) (at.2 k before) is | inr behind ↦ twice at.0 at.1 is behind ])
-  where
-    unmapped : (o : Option ℕ) → option_map (DuplicateName k) o ≡ None → o ≡ None
-    unmapped None none = refl
-    unmapped (Some n) none = cc
-
-    twice : slot < length slots → has_named name (get_or slots slot d) ≡ true → has_named name (get_or slots k d) ≡ true → slot ≤ k → ⊥
-    twice there first is behind =
-        let s : VtocSlot = get_or slots k d in
-        let of = set_named name s.content is in
-        let zero_more : 0 + k ≡ k = omega arith in
-        let none : name_fault slots k s ≡ None = ap (λ (n : ℕ). name_fault slots n s) (sym zero_more) ∙ none_at (λ p. name_fault slots p.0 p.1) 0 slots k d lawful low in
-        let judged : option_map (DuplicateName k) (position (λ t. is_named (of.0).name t.content) (take k slots)) ≡ None =
-        sym (ap (option_and_then (λ f. option_map (DuplicateName k) (position (λ t. is_named f.name t.content) (take k slots)))) of.1.0) ∙ none in
-        let earlier : position (has_named name) (take k slots) ≡ None = ap (λ (l : List ℕ). position (λ t. is_named l t.content) (take k slots)) (sym of.1.1) ∙ unmapped (position (λ t. is_named (of.0).name t.content) (take k slots)) judged in
-        let taken : get_or (take k slots) slot d ≡ get_or slots slot d = get_or-take k slots slot d (omega (arith, behind, other)) in
-        let fails : has_named name (get_or (take k slots) slot d) ≡ false =
-        fails_at (has_named name) (take k slots) slot d (none_passes (has_named name) (take k slots) earlier) (omega (arith, length-take-le k slots (omega (arith, low)), behind, other)) in
-        both_ways (has_named name (get_or slots slot d)) (ap (has_named name) (sym taken) ∙ fails) first

@@ -18,12 +18,13 @@ use Rattle.vtoc_index.specs.Puts.{IsReplaced}
 use Rattle.vtoc_index.specs.declared.vol.Vol.{Vol}
 use Rattle.dadsm_ops.specs.Naming.{IsToRename, under_name}
 use Rattle.dadsm_ops.specs.Operations.{InVtoc, Operates, image_named}
-use Rattle.dadsm_ops.specs.Through.{PutsThrough}
+use Rattle.free_rebuild.specs.Durable.{PutsDurably}
 use Rattle.dadsm_ops.proofs.FoundSets.{FoundSet, named_alike, set_found}
 use Rattle.dadsm_ops.proofs.Operating.{LeadsTo, operates, operates_not}
 use Rattle.dadsm_ops.proofs.Reordering.{IsReordered, mounted_reordered, order_changes, put_changes, slot_renamed}
 use Rattle.vtoc_index.specs.Names.{IsRenamed}
 use Rattle.dadsm_ops.proofs.RenamedImages.{CanRename, rename_put, rename_stands, slots_on_image}
+use Rattle.free_rebuild.proofs.DurableLemmas.{slot_put, slot_written}
 
 -- the DSCB in a slot, under the new name
 named_dscb : (name : List ℕ) (items : List Dscb) (slot : ℕ) (x d : Dscb) (f : F1) → slice_get items slot ≡ Some (formats.F1 f) → x ≡ get_or items slot x → d ≡ under_name name x → d ≡ formats.F1 (record f { name = name })
@@ -50,32 +51,32 @@ module _ (name : List ℕ) (v v' : Vol) (old new : Dsn) (slot : ℕ) (x d : Dscb
     not_catalog = found.others;
   }
 
-  module _ {T E : Type 0} {result : Result T E} (put : PutsThrough name v slot d v' m n result) where
+  module _ {T E : Type 0} {result : Result T E} (put : PutsDurably name v slot d v' m n result) where
     -- the DSCB is that under the new name
     under_new : decoded put.bytes ≡ Ok (formats.F1 (record set.f { name = new.bytes }))
     under_new = subst (λ (y : Dscb). decoded put.bytes ≡ Ok y) dscb put.dscb
 
     put_new : IsPut v slot (formats.F1 (record set.f { name = new.bytes })) (image_named m.state name) (image_named put.after name)
-    put_new = subst (λ (y : Dscb). IsPut v slot y (image_named m.state name) (image_named put.after name)) dscb put.put.image
+    put_new = subst (λ (y : Dscb). IsPut v slot y (image_named m.state name) (image_named put.after name)) dscb (slot_put put.put)
 
     -- where the operation leads
     leads : (volume : Volume) → volume_of (image_named m.state name) ≡ Ok volume → LeadsTo name (rename_on old new volume) v m.state put.after
     leads volume before =
-        let s = rename_stands (image_named m.state name) (image_named put.after name) v old new slot set.f put.bytes volume can before put.size under_new put.put.written put_new in
+        let s = rename_stands (image_named m.state name) (image_named put.after name) v old new slot set.f put.bytes volume can before put.size under_new (slot_written put.put) put_new in
         record { after = s.after; step = s.step; stands = s.stands; guarded = s.guarded; settled = s.settled; changes = record { others = put.put.others; image = s.changes } }
 
   -- it is done, and the order of names follows
-  pub renames : {T X Y : Type 0} {y : X} (answer : T) (w : Vol) → v' ≡ record v { slots = v'.slots; buf = v'.buf } → IsReordered v' w → IsReplaced slot d v v' → PutsThrough {T = X} {E = Y} name v slot d v' m n (Ok y) → Operates name (rename_on old new) w (InVtoc w) m n (Ok answer)
+  pub renames : {T X Y : Type 0} {y : X} (answer : T) (w : Vol) → v' ≡ record v { slots = v'.slots; buf = v'.buf } → IsReordered v' w → IsReplaced slot d v v' → PutsDurably {T = X} {E = Y} name v slot d v' m n (Ok y) → Operates name (rename_on old new) w (InVtoc w) m n (Ok answer)
   renames answer w same order replaced put =
       let same_files : (image_named n.state name) ≡ (image_named put.after name) = ap (λ (files : List File). image_named files name) put.step.done.0 in
       let there : IsPut v slot (formats.F1 (record set.f { name = new.bytes })) (image_named m.state name) (image_named n.state name) =
       subst (λ (i : List ℕ). IsPut v slot (formats.F1 (record set.f { name = new.bytes })) (image_named m.state name) i) (sym same_files) (put_new put) in
       operates name (rename_on old new) v w (order_changes v v' w same order) m n _ mounted.volume put.after (leads put _ mounted.volume) answer put.step
       (mounted_reordered (image_named n.state name) v' w order
-      (rename_put (image_named m.state name) (image_named n.state name) v v' old new slot set.f put.bytes can put.size (under_new put) (same_files ∙ put.put.written) there (subst (λ (y : Dscb). IsReplaced slot y v v') dscb replaced) put.index.buffer))
+      (rename_put (image_named m.state name) (image_named n.state name) v v' old new slot set.f put.bytes can put.size (under_new put) (same_files ∙ (slot_written put.put)) there (subst (λ (y : Dscb). IsReplaced slot y v v') dscb replaced) put.index.buffer))
 
   -- the device failed
-  pub renames_not : {T X Y : Type 0} {result : Result X Y} → v' ≡ record v { slots = v'.slots; buf = v'.buf } → PutsThrough name v slot d v' m n result → Operates {T = T} name (rename_on old new) v' (InVtoc v') m n (Err Device)
+  pub renames_not : {T X Y : Type 0} {result : Result X Y} → v' ≡ record v { slots = v'.slots; buf = v'.buf } → PutsDurably name v slot d v' m n result → Operates {T = T} name (rename_on old new) v' (InVtoc v') m n (Err Device)
   renames_not same put = operates_not name (rename_on old new) v v' (put_changes v v' same) m n _ mounted.volume put.after (leads put _ mounted.volume) put.step
 
 -- behind the put the data set in the slot has its new name

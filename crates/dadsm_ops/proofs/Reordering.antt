@@ -13,7 +13,7 @@ use Rattle.pack_spec.specs.Rules.{is_named, set_in}
 use Rattle.vtoc_index.specs.Index.{IsMounted, IsOfUnit, first_named}
 use Rattle.vtoc_index.specs.Names.{IsRenamed, name_at}
 use Rattle.vtoc_index.specs.declared.vol.Vol.{Vol}
-use Rattle.dadsm_ops.proofs.ChangedLists.{none_passes}
+use Rattle.slot_laws.proofs.ChangedLists.{none_passes}
 
 -- an index that differs in the order of its names alone
 abbrev pub IsReordered : Vol → Vol → Type 0

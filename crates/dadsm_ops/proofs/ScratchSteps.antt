@@ -24,12 +24,13 @@ use Rattle.vtoc_index.specs.declared.vol.Vol.{Vol}
 use Rattle.vtoc_index.specs.Index.{IsMounted}
 use Rattle.free_rebuild.specs.Updates.{Concludes, IsGuardedFor, IsMarkedFor, Marks}
 use Rattle.dadsm_ops.specs.Operations.{ChangesVtoc, DoesOperation, InVtoc, IsDone, IsLeftInOperation, image_named}
-use Rattle.dadsm_ops.specs.Through.{PutsThrough}
+use Rattle.free_rebuild.specs.Durable.{PutsDurably}
 use Rattle.dadsm_ops.proofs.Operating.{unchanged}
 use Rattle.dadsm_ops.proofs.RenamedImages.{slots_on_image, volume_on_image}
 use Rattle.dadsm_ops.specs.Scratching.{AreFreed, usable_tracks}
 use Rattle.dadsm_ops.proofs.ScratchedImages.{IsScratched, is_scratched, mounted_scratched, volume_after}
 use Rattle.dadsm_ops.proofs.ScratchedIndex.{HasBase, IsFreed, base_differs, base_freed, base_put, base_then, index_freed}
+use Rattle.free_rebuild.proofs.DurableLemmas.{slot_put, slot_written}
 
 -- A volume has the geometry and the VTOC of an index.
 pub record IsOfIndex (volume : Volume) (v : Vol) : Type 0 where
@@ -142,13 +143,13 @@ module _ (name : List ℕ) (dsn : Dsn) (slot : ℕ) (f : F1) (named : dsn.bytes 
     abbrev image : List ℕ
     image = image_named m1.state name
 
-    module _ {A B : Type 0} {r : Result A B} (v2 : Vol) (m2 : Meaning (List File)) (put : PutsThrough name v1 slot formats.F0 v2 m1 m2 r) where
+    module _ {A B : Type 0} {r : Result A B} (v2 : Vol) (m2 : Meaning (List File)) (put : PutsDurably name v1 slot formats.F0 v2 m1 m2 r) where
       -- the image without the format 1
       abbrev cleared : List ℕ
       cleared = image_named put.after name
 
       scratched : IsScratched image cleared v1 slot f
-      scratched = is_scratched image cleared v1 slot f put.bytes marks.index set put.size put.dscb put.put.written put.put.image
+      scratched = is_scratched image cleared v1 slot f put.bytes marks.index set put.size put.dscb (slot_written put.put) (slot_put put.put)
 
       abbrev after : Volume
       after = volume_after image v1 slot
@@ -197,7 +198,7 @@ module _ (name : List ℕ) (dsn : Dsn) (slot : ℕ) (f : F1) (named : dsn.bytes 
         }
 
     -- where the put is done
-    module _ {A B : Type 0} {a : A} (v2 : Vol) (m2 : Meaning (List File)) (put : PutsThrough {T = A} {E = B} name v1 slot formats.F0 v2 m1 m2 (Ok a)) where
+    module _ {A B : Type 0} {a : A} (v2 : Vol) (m2 : Meaning (List File)) (put : PutsDurably {T = A} {E = B} name v1 slot formats.F0 v2 m1 m2 (Ok a)) where
       put_state : m2.state ≡ put.after
       put_state = put.step.done.0
 

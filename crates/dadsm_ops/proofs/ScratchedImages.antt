@@ -1,12 +1,9 @@
 -- An image of which one slot that held a data set's format 1 is cleared: it stands for the volume after a Scratch of that.
-use Rattle.std.proofs.Common.{◌≡◌, ◌≢◌, ℕ, zero, suc, ◌<◌, true, List, [], ◌∷◌, length, map, take, Option, Some, None, Result, Ok, refl, sym, ap, subst, ◌∙◌, arith}
+use Rattle.std.proofs.Common.{◌≡◌, ◌≢◌, ℕ, true, List, [], length, map, take, Some, Ok, refl, sym, ap, subst, ◌∙◌}
 use Rattle.std.specs.Prelude.{option_and_then, slice_get, unwrap_or}
-use Rattle.std.specs.Option.{option_map}
 use Rattle.ckd_image.specs.declared.header.Geometry.{Geometry}
 use Rattle.ckd_image.specs.Header.{geometry_of}
-use Rattle.dscb_codec.specs.declared.Dscb.{Dscb}
 use Rattle.dscb_codec.specs.declared.Dscb.TheVariants as formats
-use Rattle.dscb_codec.specs.declared.DscbErr.{DscbErr}
 use Rattle.dscb_codec.specs.declared.F1.{F1}
 use Rattle.dscb_codec.specs.Layout.{decoded}
 use Rattle.ebcdic_names.specs.declared.names.Dsn.{Dsn}
@@ -30,23 +27,13 @@ use Rattle.vtoc_index.specs.declared.vol.Vol.{Vol}
 use Rattle.vtoc_index.specs.Index.{IsIndexOf, IsMounted, IsPut, place_of_slot, with_dscb}
 use Rattle.vtoc_index.proofs.ExtentLaw.{extent_put, keeps_other, volume_is, volume_put}
 use Rattle.dadsm_ops.specs.Scratching.{AreFreed, usable_tracks}
-use Rattle.dadsm_ops.proofs.ChangedSlots.{changed_elsewhere}
-use Rattle.dadsm_ops.proofs.ClearedSets.{cleared_faults, set_behind}
-use Rattle.dadsm_ops.proofs.FoundSets.{content_at}
+use Rattle.slot_laws.proofs.ChangedSlots.{changed_elsewhere}
+use Rattle.dadsm_ops.proofs.ClearedSets.{cleared_faults}
+use Rattle.slot_laws.proofs.FoundSlots.{content_at, low_of, set_behind, slot_there}
 use Rattle.dadsm_ops.proofs.FreedRuns.{freed_runs}
 use Rattle.dadsm_ops.proofs.LawfulFaults.{lawful_faults, scratched_lawful}
 use Rattle.dadsm_ops.proofs.RenamedImages.{differs_in_vtoc, slots_on_image, volume_on_image}
 use Rattle.dadsm_ops.proofs.ScratchedSets.{among, volume_left}
-
--- the slot of an item
-pub slot_there : (o : Option VtocSlot) (c : Result Dscb DscbErr) → option_map (λ s. s.content) o ≡ Some c → (s : VtocSlot) × ((o ≡ Some s) × (s.content ≡ c))
-slot_there None c is = cc
-slot_there (Some s) c is = (s, (refl, cc))
-
-pub low_of : {X : Type 0} (xs : List X) (k : ℕ) (x : X) → slice_get xs k ≡ Some x → k < length xs
-low_of [] k x is = cc
-low_of (y ∷ xs) zero x is = omega arith
-low_of (y ∷ xs) (suc k) x is = omega (arith, low_of xs k x is)
 
 -- the volume of an image by its index, with one slot cleared
 abbrev pub volume_after : List ℕ → Vol → ℕ → Volume

@@ -17,7 +17,8 @@ use Rattle.vtoc_index.specs.Names.{IsForgotten, name_at}
 use Rattle.dadsm_ops.specs.Scratching.{AreFreed, usable_tracks}
 use Rattle.dadsm_ops.proofs.FreedLists.{usable_inside}
 use Rattle.dadsm_ops.proofs.Reordering.{set_elsewhere, set_there}
-use Rattle.dadsm_ops.proofs.ScratchedImages.{low_of, not_first_slot}
+use Rattle.slot_laws.proofs.FoundSlots.{low_of}
+use Rattle.dadsm_ops.proofs.ScratchedImages.{not_first_slot}
 
 -- an index that differs in its free runs and the order of its names alone
 abbrev pub IsFreed : Vol → Vol → Type 0

@@ -18,8 +18,9 @@ use Rattle.vtoc_index.specs.Index.{IsIndexOf, IsMounted, with_dscb}
 use Rattle.free_rebuild.specs.Updates.{IsMarkedFor, Marks}
 use Rattle.dadsm_ops.specs.Allocating.{Decides}
 use Rattle.dadsm_ops.specs.Operations.{image_named}
-use Rattle.dadsm_ops.specs.Through.{PutsThrough}
-use Rattle.dadsm_ops.proofs.StandingPuts.{label_by, put_differs, put_marked, put_mounted, put_stands, slots_by}
+use Rattle.free_rebuild.specs.Durable.{PutsDurably}
+use Rattle.slot_laws.proofs.StandingPuts.{label_by, put_differs, put_marked, put_mounted, put_stands, slots_by}
+use Rattle.free_rebuild.proofs.DurableLemmas.{slot_put, slot_written}
 
 module _ (name : List ℕ) (v v' : Vol) (slot : ℕ) (d : Dscb) (m n : Meaning (List File)) (mounted : IsMounted (image_named m.state name) v) (low : slot < length v.slots.items) (other : slot ≢ 0) (marked : IsMarked (slots_by (image_named m.state name) v))
     (lawful : slots_faults v.geometry (with_dscb slot d (slots_by (image_named m.state name) v)) ≡ []) where
@@ -33,34 +34,34 @@ module _ (name : List ℕ) (v v' : Vol) (slot : ℕ) (d : Dscb) (m n : Meaning (
   abbrev pub volume_then : Volume
   volume_then = volume_with v.geometry (data_tracks image v.geometry v.vtoc) (label_by image v) v.vtoc (with_dscb slot d (slots_by image v))
 
-  module _ (whole : volume_faults volume_then ≡ []) {T E : Type 0} {result : Result T E} (put : PutsThrough name v slot d v' m n result) where
+  module _ (whole : volume_faults volume_then ≡ []) {T E : Type 0} {result : Result T E} (put : PutsDurably name v slot d v' m n result) where
     put_for : IsMarkedFor name volume_then m.state put.after
     unfolding volume_with
     put_for = record {
-      stands = put_stands image (image_named put.after name) v slot d put.bytes mounted low put.size put.dscb put.put.written put.put.image other lawful whole;
-      marked = put_marked image (image_named put.after name) v slot d put.bytes mounted low put.size put.dscb put.put.written put.put.image other marked;
-      tracks = put_differs image (image_named put.after name) v slot d put.bytes mounted low put.size put.dscb put.put.written put.put.image other;
+      stands = put_stands image (image_named put.after name) v slot d put.bytes mounted low put.size put.dscb (slot_written put.put) (slot_put put.put) other lawful whole;
+      marked = put_marked image (image_named put.after name) v slot d put.bytes mounted low put.size put.dscb (slot_written put.put) (slot_put put.put) other marked;
+      tracks = put_differs image (image_named put.after name) v slot d put.bytes mounted low put.size put.dscb (slot_written put.put) (slot_put put.put) other;
       others = put.put.others;
     }
 
     put_index : (w : Vol) → w ≡ record v { slots = w.slots; free = w.free; by_name = w.by_name; buf = w.buf } → IsIndexOf (image_named put.after name) w → w.free.items ≡ free_runs volume_then → IsMounted (image_named put.after name) w
-    put_index w others index free = put_mounted image (image_named put.after name) v slot d put.bytes mounted low put.size put.dscb put.put.written put.put.image other lawful whole w others index free
+    put_index w others index free = put_mounted image (image_named put.after name) v slot d put.bytes mounted low put.size put.dscb (slot_written put.put) (slot_put put.put) other lawful whole w others index free
 
   -- The volume stays, as a step of an update.
   module _ (same : volume_then ≡ volume_before) where
     fine : volume_faults volume_then ≡ []
     fine = ap volume_faults same ∙ mounted.whole
 
-    alike_for : {T E : Type 0} {result : Result T E} (put : PutsThrough name v slot d v' m n result) → IsMarkedFor name volume_before m.state put.after
+    alike_for : {T E : Type 0} {result : Result T E} (put : PutsDurably name v slot d v' m n result) → IsMarkedFor name volume_before m.state put.after
     alike_for put = subst (λ (x : Volume). IsMarkedFor name x m.state put.after) same (put_for fine put)
 
     all_parts : v' ≡ record v { slots = v'.slots; buf = v'.buf } → v' ≡ record v { slots = v'.slots; free = v'.free; by_name = v'.by_name; buf = v'.buf }
     all_parts is = is ∙ sym (ap (λ (x : Vol). record v { slots = v'.slots; free = x.free; by_name = x.by_name; buf = v'.buf }) is)
 
-    alike_index : {T E : Type 0} {result : Result T E} (put : PutsThrough name v slot d v' m n result) → v' ≡ record v { slots = v'.slots; buf = v'.buf } → IsIndexOf (image_named put.after name) v' → IsMounted (image_named put.after name) v'
+    alike_index : {T E : Type 0} {result : Result T E} (put : PutsDurably name v slot d v' m n result) → v' ≡ record v { slots = v'.slots; buf = v'.buf } → IsIndexOf (image_named put.after name) v' → IsMounted (image_named put.after name) v'
     alike_index put others index = put_index fine put v' (all_parts others) index (ap (λ (x : Vol). x.free.items) others ∙ mounted.free ∙ sym (ap free_runs same))
 
-    pub alike_marks : {T E : Type 0} (result : Result T E) → v' ≡ record v { slots = v'.slots; buf = v'.buf } → PutsThrough name v slot d v' m n result → Marks name v' m n result
+    pub alike_marks : {T E : Type 0} (result : Result T E) → v' ≡ record v { slots = v'.slots; buf = v'.buf } → PutsDurably name v slot d v' m n result → Marks name v' m n result
     alike_marks (Ok x) others put =
         let is : n.state ≡ put.after = put.step.done.0 in
         record {
@@ -85,7 +86,7 @@ module _ (name : List ℕ) (v v' : Vol) (slot : ℕ) (d : Dscb) (m n : Meaning (
   -- The write decides an operation, which leaves the volume of the slots then.
   module _ (operation : Volume → Result Volume Refusal) (stepped : operation volume_before ≡ Ok volume_then) (whole : volume_faults volume_then ≡ []) where
     pub put_decides : {T E : Type 0} (result : Result T E) (w : Vol) → OnOk result (w ≡ record v { slots = w.slots; free = w.free; by_name = w.by_name; buf = w.buf }) → OnOk result (IsIndexOf (image_named n.state name) v' → IsIndexOf (image_named n.state name) w)
-        → OnOk result (w.free.items ≡ free_runs volume_then) → PutsThrough name v slot d v' m n result → Decides name operation w m n result
+        → OnOk result (w.free.items ≡ free_runs volume_then) → PutsDurably name v slot d v' m n result → Decides name operation w m n result
     unfolding volume_with
     put_decides (Ok x) w others indexed free put =
         let is : n.state ≡ put.after = put.step.done.0 in

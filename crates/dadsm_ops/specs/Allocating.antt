@@ -21,7 +21,7 @@ use Rattle.pack_spec.specs.Label.{track_bytes, tracks_of}
 use Rattle.pack_spec.specs.Settled.{is_used}
 use Rattle.space_alloc.specs.Edits.{cut_all}
 use Rattle.vol_model.specs.declared.requests.Request.{Request}
-use Rattle.vol_model.specs.Places.{directory_end, directory_lengths, tracks_in}
+use Rattle.vol_model.specs.Places.{directory_end, tracks_in}
 use Rattle.vol_model.specs.Shelf.{has_set, is_partitioned, lacks_room, with_new}
 use Rattle.vol_model.specs.Slots.{slots_needed}
 use Rattle.vol_model.specs.Space.{choice}
@@ -177,6 +177,10 @@ pub record HasPlan (image : List ℕ) (dsn : Dsn) (attr : Attr) (q : Request) (d
   pub has : HasChoice dsn attr q dir volume runs
   pub fits : slots_needed (with_new dsn attr q dir volume runs) ≤ volume.slots
   pub roomy : lacks_room volume.geometry.device dsn.bytes dir (tracks_in runs) ≡ false
+
+-- one of these slots holds this DSCB
+abbrev pub HoldsDscb : List Dscb → Dscb → Type 0
+HoldsDscb dscbs d = (slot : ℕ) × (slice_get dscbs slot ≡ Some d)
 
 -- no slot holds a data set of this name
 abbrev pub IsAbsent : List ℕ → List Dscb → Type 0

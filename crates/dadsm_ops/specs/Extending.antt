@@ -95,6 +95,13 @@ pub record IsForFurther (v : Vol) (set : F1) (slot : ℕ) (h : F3) : Type 0 wher
   pub own : 3 < set.extents → IsLedTo v set slot h
   pub opened : set.extents ≤ 3 → (open_slot v.slots.items ≡ Some slot) × (h ≡ empty_f3)
 
+-- A slot has the format 3 of a set with the added extents: that which the set had, or a new one.
+pub record HoldsFurther (v : Vol) (dscbs : List Dscb) (set : F1) (kind : ℕ) (runs : List Run) : Type 0 where
+  pub slot : ℕ
+  pub before : F3
+  pub place : IsForFurther v set slot before
+  pub there : slice_get dscbs slot ≡ Some (formats.F3 (f3_with v.geometry kind set.extents runs before))
+
 -- Slots that hold the added extents of the set in one of them, as far as they don't stand in its format 1: with that it counts its extents and these, and it alone leads to its format 3.
 pub record HoldAdded (slots : List VtocSlot) (g : Geometry) (kind : ℕ) (slot : ℕ) (set : F1) (runs : List Run) (pointer : List ℕ) : Type 0 where
   pub counted : counted_extents slots (f1_with g kind runs pointer set)

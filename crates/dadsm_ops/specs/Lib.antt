@@ -4,5 +4,4 @@ pub mod Extending
 pub mod Naming
 pub mod Operations
 pub mod Scratching
-pub mod Through
 pub mod Formatting

@@ -17,17 +17,16 @@ ghost use Rattle.vol_model.specs.declared.refusals.Refusal.{Refusal};
 ghost use Rattle.vtoc_index.specs.Free.{open_slot};
 ghost use Rattle.vtoc_index.specs.Index.{IsMounted, IsOfUnit};
 ghost use Rattle.vtoc_index.specs.Names.{AreByName, name_at};
-ghost use Rattle.dadsm_ops.specs.Allocating.{AreExtents, AreTracksOf, Decides, HasDirectory, HasPlan, HasFurtherIfMany, HaveSameNames, InNewSet, IsAbsent, PutsDirectory, extent_type, new_tracks, open_slots, own_slots};
+ghost use Rattle.dadsm_ops.specs.Allocating.{AreExtents, AreTracksOf, Decides, HasDirectory, HasPlan, HasFurtherIfMany, HaveSameNames, HoldsDscb, InNewSet, IsAbsent, PutsDirectory, extent_type, new_f1, new_tracks, open_slots, own_slots};
 ghost use Rattle.dadsm_ops.specs.Formatting.{AreSpare};
 ghost use Rattle.dadsm_ops.specs.Operations.{DoesOperation, Operates, StoreCall, image_named};
 
 use crate::formatting::format_directory;
 use crate::new_set::{extent_type, new_attr, new_f1, new_f3};
 use crate::planning::{own_slots, plan, take_runs};
-use crate::through::put_through;
 use dscb_codec::Dscb;
 use ebcdic_names::Dsn;
-use free_rebuild::{conclude, mark};
+use free_rebuild::{conclude, mark, put_durably};
 use hall_core::{Device, Hall};
 use space_alloc::Extents;
 use std::alloc::AllocError;
@@ -252,7 +251,7 @@ fn put_further<H: Hall>(
     }
     let slot = open_slot(hall, vol)?;
     let further = new_f3(&vol.geometry, extent_type(request.unit), extents);
-    put_through(hall, vol, slot, &Dscb::F3(further))?;
+    put_durably(hall, vol, slot, &Dscb::F3(further))?;
     Ok(slot_address(vol, slot))
 }
 
@@ -293,6 +292,9 @@ fn put_set<H: Hall>(
     ensures files { IsTrue H.tells → Decides (unit_of (H.facts hall.old).units vol.old.unit).name
         (allocate_on dsn.now attr.now request.now dir) vol.new (H.meaning hall.old)
         (H.meaning hall.new) result }
+    ensures format_1 { OnOk result (HoldsDscb vol.new.slots.items (Dscb.F1 (new_f1 dsn.now.bytes
+        vol.old.serial.bytes (new_attr dsn.now.bytes attr.now request.now) vol.old.geometry
+        (extent_type request.now.unit) (listed extents.now) pointer dir))) }
     ensures unit { IsOfUnit (H.facts hall.new).units vol.new }
     ensures names { OnOk result (AreByName (name_at vol.new.slots.items) vol.new.by_name.items) }
     ensures index { vol.new ≡ record vol.old {
@@ -315,7 +317,7 @@ fn put_set<H: Hall>(
         pointer,
         dir,
     );
-    put_through(hall, vol, slot, &Dscb::F1(set))?;
+    put_durably(hall, vol, slot, &Dscb::F1(set))?;
     take_runs(vol, extents);
     enter_name(vol, slot);
     Ok(())

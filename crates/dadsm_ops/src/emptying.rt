@@ -10,8 +10,8 @@ ghost use Rattle.vtoc_index.specs.Names.{AreByName, name_at};
 ghost use Rattle.dadsm_ops.specs.Emptying.{MayEmpty, emptied_dscb};
 ghost use Rattle.dadsm_ops.specs.Operations.{DoesOperation, InVtoc};
 
-use crate::through::put_through;
 use dscb_codec::{Dscb, F1};
+use free_rebuild::put_durably;
 use hall_core::{Device, Hall};
 use vol_model::Attr;
 use vtoc_index::Vol;
@@ -50,7 +50,7 @@ pub fn empty<H: Hall>(hall: &mut H, vol: &mut Vol, slot: u32, attr: &Attr) -> Re
     ensures faults { DeviceCall (H.facts hall.old) (H.facts hall.new) result }
 {
     let dscb = without_blocks(&vol.slots[slot as usize], attr);
-    put_through(hall, vol, slot, &dscb)
+    put_durably(hall, vol, slot, &dscb)
 }
 
 // The DSCB, without blocks where it is a format 1.

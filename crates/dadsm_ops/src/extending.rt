@@ -20,7 +20,7 @@ ghost use Rattle.vtoc_index.specs.Index.{IsMounted, IsOfUnit, address_in};
 ghost use Rattle.vtoc_index.specs.Names.{AreByName, name_at};
 ghost use Rattle.vtoc_sets.specs.Sets.{leads_to};
 ghost use Rattle.dadsm_ops.specs.Allocating.{AreExtents, Decides, HaveSameNames, open_slots};
-ghost use Rattle.dadsm_ops.specs.Extending.{HasExtension, HasMore, HoldAdded, HoldsSet, IsForFurther, IsLedTo, IsReadable, IsRefused, added_type, further_slots};
+ghost use Rattle.dadsm_ops.specs.Extending.{HasExtension, HasMore, HoldAdded, HoldsFurther, HoldsSet, IsForFurther, IsLedTo, IsReadable, IsRefused, added_type, f1_with, further_slots};
 ghost use Rattle.dadsm_ops.specs.Operations.{DoesOperation, InVtoc, Operates, StoreCall};
 
 use crate::added::{
@@ -29,15 +29,14 @@ use crate::added::{
 use crate::allocating::open_slot;
 use crate::new_set::extent_count;
 use crate::planning::{runs_left, take_runs};
-use crate::through::put_through;
 use dscb_codec::{Dscb, F1, F3};
-use free_rebuild::{conclude, mark};
+use free_rebuild::{conclude, mark, put_durably};
 use hall_core::{Device, Hall};
 use pack_spec::layout::{MOST_EXTENTS, OWN_EXTENTS};
 use space_alloc::{Extents, choose};
 use vol_model::{Attr, Refusal, StoreErr};
 use vtoc_index::{Vol, slot_address};
-use vtoc_sets::{attr_of, slots_for, slots_of_sets};
+use vtoc_sets::{attr_of, set_at, slots_for, slots_of_sets};
 
 /// More tracks for a data set, whose format 1 a slot holds, by the secondary quantity of its request for space.
 ///
@@ -86,17 +85,6 @@ pub fn extend<H: Hall>(hall: &mut H, vol: &mut Vol, slot: u32) -> Result<(), Sto
     match carry_out(hall, vol, slot, &set, &extents) {
         Ok(()) => Ok(()),
         Err(Device) => Err(StoreErr::Device),
-    }
-}
-
-// The format 1 that a slot holds.
-fn set_at(vol: &Vol, slot: u32) -> F1
-    requires set { HoldsSet vol.now.slots.items slot }
-    ensures set { slice_get vol.now.slots.items slot ≡ Some (Dscb.F1 result) }
-{
-    match &vol.slots[slot as usize] {
-        Dscb::F1(set) => *set,
-        _ => unreachable!(),
     }
 }
 
@@ -285,6 +273,8 @@ fn put_added<H: Hall>(
     ensures added { let image = image_in (H.meaning hall.new) (H.facts hall.new) vol.old.unit in
         IsTrue H.tells → IfOk result (HoldAdded (slots_of_vtoc image vol.old.geometry vol.old.vtoc)
         vol.old.geometry (added_type (attr_of set.now)) slot set.now (listed extents.now)) }
+    ensures format_3 { 3 < set.now.extents + length (listed extents.now) → OnOk result (HoldsFurther
+        vol.old vol.new.slots.items set.now (added_type (attr_of set.now)) (listed extents.now)) }
     ensures set { OnOk result (slice_get vol.new.slots.items slot ≡ Some (Dscb.F1 set.now)) }
     ensures names { OnOk result (HaveSameNames vol.old.slots.items vol.new.slots.items) }
     ensures others { vol.new ≡ record vol.old { slots = vol.new.slots; buf = vol.new.buf } }
@@ -297,7 +287,7 @@ fn put_added<H: Hall>(
     let place = place_for(hall, vol, set)?;
     let kind = added_type(&attr_of(set));
     let more = f3_with(&place.1, &vol.geometry, kind, set.extents, extents);
-    put_through(hall, vol, place.0, &Dscb::F3(more))?;
+    put_durably(hall, vol, place.0, &Dscb::F3(more))?;
     Ok(slot_address(vol, place.0))
 }
 
@@ -334,6 +324,8 @@ fn put_extended<H: Hall>(
     ensures files { (dsn : Dsn) → set.now.name ≡ dsn.bytes → IsTrue H.tells
         → Decides (unit_of (H.facts hall.old).units vol.old.unit).name (extend_on dsn) vol.new
         (H.meaning hall.old) (H.meaning hall.new) result }
+    ensures format_1 { OnOk result (slice_get vol.new.slots.items slot ≡ Some (Dscb.F1
+        (f1_with vol.old.geometry (added_type (attr_of set.now)) (listed extents.now) pointer set.now))) }
     ensures unit { IsOfUnit (H.facts hall.new).units vol.new }
     ensures names { OnOk result (AreByName (name_at vol.new.slots.items) vol.new.by_name.items) }
     ensures index { vol.new ≡ record vol.old {
@@ -346,7 +338,7 @@ fn put_extended<H: Hall>(
 {
     let kind = added_type(&attr_of(set));
     let more = f1_with(set, &vol.geometry, kind, extents, pointer);
-    put_through(hall, vol, slot, &Dscb::F1(more))?;
+    put_durably(hall, vol, slot, &Dscb::F1(more))?;
     take_runs(vol, extents);
     Ok(())
 }

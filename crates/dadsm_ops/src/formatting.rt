@@ -22,8 +22,8 @@ ghost use Rattle.vol_model.specs.Shelf.{is_catalog, lacks_room};
 ghost use Rattle.dadsm_ops.specs.Operations.{image_named};
 ghost use Rattle.dadsm_ops.specs.Formatting.{AreAll, AreSpare, Formats, FormatsSet, WritesOn, contents_of};
 
-use crate::through::make_durable;
 use ckd_image::{DiskType, fits};
+use free_rebuild::make_durable;
 use hall_core::{Device, Hall};
 use space_alloc::Extents;
 use track_records::{TrackBuf, append};

@@ -10,7 +10,6 @@ mod naming;
 mod new_set;
 mod planning;
 mod scratching;
-mod through;
 
 pub use allocating::allocate;
 pub use emptying::empty;

@@ -11,9 +11,9 @@ ghost use Rattle.vtoc_index.specs.Names.{AreByName, name_at};
 ghost use Rattle.dadsm_ops.specs.Naming.{IsToRename, under_name};
 ghost use Rattle.dadsm_ops.specs.Operations.{InVtoc, Operates, StoreCall};
 
-use crate::through::put_through;
 use dscb_codec::{Dscb, F1};
 use ebcdic_names::Dsn;
+use free_rebuild::put_durably;
 use hall_core::{Device, Hall};
 use vol_model::{Refusal, StoreErr, is_catalog};
 use vtoc_index::{Vol, find, reorder};
@@ -53,7 +53,7 @@ pub fn rename<H: Hall>(hall: &mut H, vol: &mut Vol, old: &Dsn, new: &Dsn) -> Res
 {
     let slot = slot_to_rename(vol, old, new)?;
     let dscb = under_name(&vol.slots[slot as usize], new);
-    match put_through(hall, vol, slot, &dscb) {
+    match put_durably(hall, vol, slot, &dscb) {
         Ok(()) => {
             reorder(vol, slot);
             Ok(())

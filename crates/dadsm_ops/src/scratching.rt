@@ -17,10 +17,9 @@ ghost use Rattle.vtoc_sets.specs.Sets.{HasSet, extents_in};
 ghost use Rattle.dadsm_ops.specs.Operations.{DoesOperation, InVtoc};
 ghost use Rattle.dadsm_ops.specs.Scratching.{AreFreed, usable_tracks};
 
-use crate::through::put_through;
 use ckd_image::Geometry;
 use dscb_codec::{Dscb, F1};
-use free_rebuild::{conclude, mark};
+use free_rebuild::{conclude, mark, put_durably};
 use hall_core::{Device, Hall};
 use pack_spec::layout::MOST_EXTENTS;
 use space_alloc::insert;
@@ -66,7 +65,7 @@ pub fn scratch<H: Hall>(hall: &mut H, vol: &mut Vol, slot: u32) -> Result<(), De
 {
     mark(hall, vol)?;
     let runs = runs_at(vol, slot);
-    put_through(hall, vol, slot, &Dscb::F0)?;
+    put_durably(hall, vol, slot, &Dscb::F0)?;
     forget_set(vol, slot, &runs);
     conclude(hall, vol)
 }

@@ -1,6 +1,6 @@
 -- Slots that are put and made durable.
-use Rattle.std.proofs.Common.{◌≡◌, ℕ, List, Some, sym, ap, subst, ◌∙◌}
-use Rattle.std.specs.Prelude.{Result, Ok, IsErr}
+use Rattle.std.proofs.Common.{◌≡◌, ℕ, List, [], Option, Some, sym, ap, subst, ◌∙◌}
+use Rattle.std.specs.Prelude.{Result, Ok, IsErr, unwrap_or}
 use Rattle.std.proofs.lemmas.Result.{IfOk-from_err, on_ok_weaker}
 use Rattle.dscb_codec.specs.declared.Dscb.{Dscb}
 use Rattle.vtoc_index.specs.Index.{IsIndexOf, IsPut, place_of_slot}
@@ -14,6 +14,13 @@ use Rattle.free_rebuild.specs.Durable.{HaveSlot, PutsDurably, StaysAlike}
 use Rattle.free_rebuild.specs.Repairs.{image_named}
 use Rattle.free_rebuild.specs.Stops.{AreAlikeTo, KeepsAlike}
 use Rattle.free_rebuild.proofs.PutLemmas.{written_other, written_there}
+
+-- what the image is with the slot
+pub slot_written : {name : List ℕ} {v : Vol} {slot : ℕ} {d : Dscb} {bytes : List ℕ} {before after : List File} → HaveSlot name v slot d bytes before after → image_named after name ≡ patched (image_named before name) (place_of_slot v slot) bytes
+slot_written have = ap (λ (o : Option (List ℕ)). unwrap_or o []) have.there
+
+pub slot_put : {name : List ℕ} {v : Vol} {slot : ℕ} {d : Dscb} {bytes : List ℕ} {before after : List File} → HaveSlot name v slot d bytes before after → IsPut v slot d (image_named before name) (image_named after name)
+slot_put {name = name} {v = v} {slot = slot} {d = d} {before = before} have = subst (λ (i : List ℕ). IsPut v slot d (image_named before name) i) (sym (slot_written have)) have.image
 
 -- a slot that is put and then made durable is one step over the files
 module _ (name : List ℕ) (v v' : Vol) (slot : ℕ) (d : Dscb) (old : Meaning (List File)) (there : file_of old.state name ≡ Some (image_named old.state name)) (durable : IsDurable old) where

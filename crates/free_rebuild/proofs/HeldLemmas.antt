@@ -26,7 +26,7 @@ use Rattle.vtoc_index.specs.declared.vol.Vol.{Vol}
 use Rattle.vtoc_index.specs.Index.{IsIndexOf, IsMounted, address_in}
 use Rattle.free_rebuild.specs.Chain.{is_open, next_open}
 use Rattle.free_rebuild.specs.Clearing.{highest_among, is_extra, is_pointed, points_to}
-use Rattle.free_rebuild.specs.Settled.{are_settled, are_settled_on, has_head, has_no_extra, has_space, is_chain, is_kept, is_right, is_settled_vtoc, is_space, leads_on, lists, next_linked, slots_held}
+use Rattle.free_rebuild.specs.Settled.{are_settled, are_settled_on, has_head, has_no_extra, has_space, is_chain, is_kept, counts_match, is_settled_vtoc, is_space, leads_on, lists, next_linked, slots_held}
 use Rattle.free_rebuild.proofs.AddressLemmas.{held_slots}
 use Rattle.free_rebuild.proofs.ChainLemmas.{AreHeld, get_some, held_next}
 use Rattle.free_rebuild.proofs.HighestLemmas.{highest_held}
@@ -257,13 +257,13 @@ pub lists_not : (f w : F5) → length f.front ≡ length w.front → pointwise b
 lists_not f w many front = sym (lists_parts f w many ∙ ap (λ (t : Bool). (t && pointwise bytes_eq f.back w.back) && bytes_eq f.pointer w.pointer) front)
 
 -- what tests of a format 4 tell
-right_unmarked : (slots : List VtocSlot) (head : F4) → bit_and head.indicators 0x84 ≡ 0 → is_right slots head ≡ ((head.free == count_by (λ (s : VtocSlot). is_f0 s.content) slots) && bytes_eq head.highest (highest_of slots))
+right_unmarked : (slots : List VtocSlot) (head : F4) → bit_and head.indicators 0x84 ≡ 0 → counts_match slots head ≡ ((head.free == count_by (λ (s : VtocSlot). is_f0 s.content) slots) && bytes_eq head.highest (highest_of slots))
 right_unmarked slots head off = ap (λ (t : Bool). not (not t) && ((head.free == count_by (λ (s : VtocSlot). is_f0 s.content) slots) && bytes_eq head.highest (highest_of slots))) (eq-eqb (bit_and head.indicators 0x84) 0 off)
 
-pub right_counted : (slots : List VtocSlot) (head : F4) → bit_and head.indicators 0x84 ≡ 0 → head.free ≡ count_by (λ (s : VtocSlot). is_f0 s.content) slots → bytes_eq head.highest (highest_of slots) ≡ is_right slots head
+pub right_counted : (slots : List VtocSlot) (head : F4) → bit_and head.indicators 0x84 ≡ 0 → head.free ≡ count_by (λ (s : VtocSlot). is_f0 s.content) slots → bytes_eq head.highest (highest_of slots) ≡ counts_match slots head
 right_counted slots head off free = sym (right_unmarked slots head off ∙ ap (λ (t : Bool). t && bytes_eq head.highest (highest_of slots)) (eq-eqb head.free (count_by (λ (s : VtocSlot). is_f0 s.content) slots) free))
 
-pub right_miscounted : (slots : List VtocSlot) (head : F4) → bit_and head.indicators 0x84 ≡ 0 → head.free ≢ count_by (λ (s : VtocSlot). is_f0 s.content) slots → false ≡ is_right slots head
+pub right_miscounted : (slots : List VtocSlot) (head : F4) → bit_and head.indicators 0x84 ≡ 0 → head.free ≢ count_by (λ (s : VtocSlot). is_f0 s.content) slots → false ≡ counts_match slots head
 right_miscounted slots head off free = sym (right_unmarked slots head off ∙ ap (λ (t : Bool). t && bytes_eq head.highest (highest_of slots)) (ne_eqb head.free (count_by (λ (s : VtocSlot). is_f0 s.content) slots) free))
 
 -- the DSCBs of a chain in the slots

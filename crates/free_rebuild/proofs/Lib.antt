@@ -11,6 +11,7 @@ pub mod ClearSteps
 pub mod RoomLemmas
 pub mod RunCounts
 pub mod NeededSlots
+pub mod DecodedSlots
 pub mod DurableLemmas
 pub mod SettledRepair
 pub mod NameLemmas

@@ -14,7 +14,7 @@ use Rattle.vtoc_index.specs.declared.vol.Vol.{Vol}
 use Rattle.vtoc_index.specs.Names.{AreByName, name_at, names_of, or_zeros}
 use Rattle.free_rebuild.specs.Chain.{IsOpenAt, chained, is_open, next_or, space_of}
 use Rattle.vtoc_index.specs.Bits.{with_bit}
-use Rattle.free_rebuild.specs.Clearing.{AreCleared, told}
+use Rattle.free_rebuild.specs.Clearing.{AreCleared, with_counts}
 use Rattle.free_rebuild.proofs.ChainLemmas.{get_low, get_set, get_set_other, get_some, same_or_not}
 use Rattle.free_rebuild.proofs.RoomThere.{set_stays}
 use Rattle.free_rebuild.proofs.WriteLemmas.{next_opened, opened_set}
@@ -100,10 +100,10 @@ mark_names (d ∷ ds) marked_ds is k = ap (λ (l : List Dscb). name_at l k) is �
     same (formats.F4 f) = refl
     same (formats.F5 f) = refl
 
-pub tell_names : (ds told_ds : List Dscb) (free : ℕ) (highest : List ℕ) → 1 ≤ length ds → told_ds ≡ set ds 0 (told free highest (slice_index_or ds 0 formats.F0)) → HaveSameNames ds told_ds
-tell_names ds told_ds free highest some is k = ap (λ (l : List Dscb). name_at l k) is ∙ set_names ds 0 (slice_index_or ds 0 formats.F0) (told free highest (slice_index_or ds 0 formats.F0)) (first_there ds some) (same (slice_index_or ds 0 formats.F0)) k
+pub tell_names : (ds told_ds : List Dscb) (free : ℕ) (highest : List ℕ) → 1 ≤ length ds → told_ds ≡ set ds 0 (with_counts free highest (slice_index_or ds 0 formats.F0)) → HaveSameNames ds told_ds
+tell_names ds told_ds free highest some is k = ap (λ (l : List Dscb). name_at l k) is ∙ set_names ds 0 (slice_index_or ds 0 formats.F0) (with_counts free highest (slice_index_or ds 0 formats.F0)) (first_there ds some) (same (slice_index_or ds 0 formats.F0)) k
   where
-    same : (d : Dscb) → set_in (Ok (told free highest d)) ≡ set_in (Ok d)
+    same : (d : Dscb) → set_in (Ok (with_counts free highest d)) ≡ set_in (Ok d)
     same formats.F0 = refl
     same (formats.F1 f) = refl
     same (formats.F3 f) = refl

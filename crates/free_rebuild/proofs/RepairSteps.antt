@@ -26,7 +26,7 @@ use Rattle.vtoc_index.specs.declared.vol.Vol.{Vol}
 use Rattle.vtoc_index.specs.Index.{IsIndexOf, IsMounted, IsPut, address_in, place_of_slot}
 use Rattle.free_rebuild.specs.Chain.{IsOpenAt, chained}
 use Rattle.vtoc_index.specs.Bits.{with_bit}
-use Rattle.free_rebuild.specs.Clearing.{AreCleared, free_in, highest_among, told}
+use Rattle.free_rebuild.specs.Clearing.{AreCleared, free_in, highest_among, with_counts}
 use Rattle.free_rebuild.specs.Durable.{HaveSlot, IsRewritten, LeavesAll, PutsDurably, StaysAlike}
 use Rattle.free_rebuild.specs.Repairs.{IsSafe, Repairs, image_named}
 use Rattle.free_rebuild.specs.Stops.{AreAlikeTo, HoldsSlots}
@@ -305,13 +305,13 @@ module _ (name : List ℕ) (v : Vol) (old : Meaning (List File)) (low : v.vtoc.s
       front3 = has_front (image_named m3.state name) v3 seen3.stands.mounted
 
       abbrev last : Dscb
-      last = told (free_in v3.slots.items) (highest_among (address_in v3) v3.slots.items) (slice_index_or v3.slots.items 0 formats.F0)
+      last = with_counts (free_in v3.slots.items) (highest_among (address_in v3) v3.slots.items) (slice_index_or v3.slots.items 0 formats.F0)
 
       abbrev off : F4
       off = record front3.head { highest = highest_among (address_in v3) v3.slots.items; free = free_in v3.slots.items; indicators = bit_and front3.head.indicators 0x7B }
 
       is_off : last ≡ formats.F4 off
-      is_off = ap (told (free_in v3.slots.items) (highest_among (address_in v3) v3.slots.items)) (index_is v3.slots.items 0 (formats.F4 front3.head) formats.F0 front3.four)
+      is_off = ap (with_counts (free_in v3.slots.items) (highest_among (address_in v3) v3.slots.items)) (index_is v3.slots.items 0 (formats.F4 front3.head) formats.F0 front3.four)
 
       settled_by : (after : List File) (w : Vol) → Put name v whole old.state after v3 w off → AreSettled (slots_by (image_named after name) w) whole
       settled_by after w p =
@@ -320,7 +320,7 @@ module _ (name : List ℕ) (v : Vol) (old : Meaning (List File)) (low : v.vtoc.s
             chain = written.chain;
             item = formats.F4 front1.head;
             first = item3;
-            head = ap (λ (x : Vol). told (free_in v3.slots.items) (highest_among (address_in x) v3.slots.items) (slice_index_or v3.slots.items 0 formats.F0)) others3 ∙ ap (told (free_in v3.slots.items) (highest_among (address_in v1) v3.slots.items)) (index_is v3.slots.items 0 (formats.F4 front1.head) formats.F0 item3);
+            head = ap (λ (x : Vol). with_counts (free_in v3.slots.items) (highest_among (address_in x) v3.slots.items) (slice_index_or v3.slots.items 0 formats.F0)) others3 ∙ ap (with_counts (free_in v3.slots.items) (highest_among (address_in v1) v3.slots.items)) (index_is v3.slots.items 0 (formats.F4 front1.head) formats.F0 item3);
             whole = p.items ∙ ap (set v3.slots.items 0) (sym is_off);
           } in
           repaired_settled whole base (image_named after name) v1 w written.cleared v3.slots.items last on.seen.stands low_on repaired p.seen.stands.mounted.index (p.others ∙ ap (λ (x : Vol). record x { slots = w.slots; buf = w.buf }) others3)

@@ -18,7 +18,7 @@ use Rattle.pack_spec.specs.declared.slot.VtocSlot.{VtocSlot}
 use Rattle.pack_spec.specs.FreeChain.{HasSpace, IsChain, IsSpace, free_entries, next_free}
 use Rattle.pack_spec.specs.Settled.{AreSettled, IsSettledVtoc, head_of, highest_of, is_f0, is_f5, is_marked, slots_for}
 use Rattle.pack_spec.specs.Volume.{volume_of}
-use Rattle.free_rebuild.specs.Settled.{are_settled, are_settled_on, has_head, has_space, is_chain, is_kept, is_right, is_settled_vtoc, is_space, leads_on}
+use Rattle.free_rebuild.specs.Settled.{are_settled, are_settled_on, has_head, has_space, is_chain, is_kept, counts_match, is_settled_vtoc, is_space, leads_on}
 
 same_entries : (xs ys : List (List ℕ)) → Decides (pointwise bytes_eq xs ys) (xs ≡ ys)
 same_entries xs ys = slice_eq-Decides {A = List ℕ} {E = bytes_eq} bytes_eq-Decides xs ys (pointwise bytes_eq xs ys) refl
@@ -103,10 +103,10 @@ settled_from slots volume holds = by_head (head_of slots) refl holds
     chain : Bool
     chain = is_chain slots 1 (free_entries volume)
 
-    by_head : (o : Option F4) → head_of slots ≡ o → (option_map_or (is_right slots) o false && (chain && (kept && alone))) ≡ true → AreSettled slots volume
+    by_head : (o : Option F4) → head_of slots ≡ o → (option_map_or (counts_match slots) o false && (chain && (kept && alone))) ≡ true → AreSettled slots volume
     by_head None first holds = cc
     by_head (Some head) first holds =
-        let parts = and_parts (is_right slots head) (chain && (kept && alone)) holds in
+        let parts = and_parts (counts_match slots head) (chain && (kept && alone)) holds in
         let more = and_parts chain (kept && alone) parts.1 in
         let last = and_parts kept alone more.1 in
         let count : ℕ = count_by (λ (s : VtocSlot). is_f0 s.content) slots in
@@ -130,8 +130,8 @@ settled_to slots volume are =
     let bits = not_from_false (is_marked are.head) are.bits in
     let free = eq-eqb are.head.free count are.free in
     let highest = (bytes_eq-Decides are.head.highest (highest_of slots)).1 are.highest in
-    let right : is_right slots are.head ≡ true = and_from _ _ bits (and_from _ _ free highest) in
-    let head : has_head slots ≡ true = ap (λ (o : Option F4). option_map_or (is_right slots) o false) are.first ∙ right in
+    let right : counts_match slots are.head ≡ true = and_from _ _ bits (and_from _ _ free highest) in
+    let head : has_head slots ≡ true = ap (λ (o : Option F4). option_map_or (counts_match slots) o false) are.first ∙ right in
     let chain = chain_to slots 1 (free_entries volume) are.chain in
     let alone = eq-eqb (count_by (λ (s : VtocSlot). is_f5 s.content) slots) (length (free_entries volume)) are.alone in
     and_from _ _ head (and_from _ _ chain (and_from _ _ are.used alone))

@@ -16,7 +16,7 @@ use Rattle.pack_spec.specs.Volume.{volume_with}
 use Rattle.vtoc_index.specs.declared.vol.Vol.{Vol}
 use Rattle.vtoc_index.specs.Index.{IsIndexOf, IsMounted, address_in}
 use Rattle.free_rebuild.specs.Chain.{chained}
-use Rattle.free_rebuild.specs.Clearing.{AreCleared, free_in, highest_among, told}
+use Rattle.free_rebuild.specs.Clearing.{AreCleared, free_in, highest_among, with_counts}
 use Rattle.free_rebuild.proofs.AddressLemmas.{held_slots}
 use Rattle.free_rebuild.proofs.ChainLemmas.{AreHeld, chained_front}
 use Rattle.free_rebuild.proofs.HighestLemmas.{highest_held}
@@ -50,7 +50,7 @@ pub record IsRepaired (v : Vol) (cleared mid final : List Dscb) (last : Dscb) : 
   pub chain : mid ≡ chained (address_in v) cleared 1 (entries_of (heads_of v.geometry) v.free.items)
   pub item : Dscb
   pub first : slice_get mid 0 ≡ Some item
-  pub head : last ≡ told (free_in mid) (highest_among (address_in v) mid) item
+  pub head : last ≡ with_counts (free_in mid) (highest_among (address_in v) mid) item
   pub whole : final ≡ set mid 0 last
 
 -- format 4 stands in slot 0 still when the chain is written
@@ -63,12 +63,12 @@ four_stays image v cleared mid mounted low clears chain front =
     ap (λ (l : List Dscb). slice_get l 0) chain ∙ chained_front at cleared 1 0 ess (room_there image v cleared mounted low clears) front.one second front.opened (omega arith) ∙ first
 
 -- the head that is put at last
-pub last_head : (image : List ℕ) (v : Vol) (cleared mid final : List Dscb) (last : Dscb) → IsMounted image v → v.vtoc.start + v.vtoc.len ≤ 65536 → (is : IsRepaired v cleared mid final last) → (front : HasFront v.slots.items) → last ≡ told (free_in mid) (highest_among (address_in v) mid) (formats.F4 front.head)
+pub last_head : (image : List ℕ) (v : Vol) (cleared mid final : List Dscb) (last : Dscb) → IsMounted image v → v.vtoc.start + v.vtoc.len ≤ 65536 → (is : IsRepaired v cleared mid final last) → (front : HasFront v.slots.items) → last ≡ with_counts (free_in mid) (highest_among (address_in v) mid) (formats.F4 front.head)
 last_head image v cleared mid final last mounted low is front =
     let there = four_stays image v cleared mid mounted low is.clears is.chain front in
     let both : Some is.item ≡ Some (formats.F4 front.head) = sym is.first ∙ there in
     let same : is.item ≡ formats.F4 front.head = cc in
-    is.head ∙ ap (told (free_in mid) (highest_among (address_in v) mid)) same
+    is.head ∙ ap (with_counts (free_in mid) (highest_among (address_in v) mid)) same
 
 pub repaired_settled : (volume : Volume) (image put : List ℕ) (v w : Vol) (cleared mid : List Dscb) (last : Dscb) → StandsFor volume image v → v.vtoc.start + v.vtoc.len ≤ 65536 → IsRepaired v cleared mid w.slots.items last → IsIndexOf put w → w ≡ record v { slots = w.slots; buf = w.buf } → AreSettled (slots_by put w) volume
 repaired_settled volume image put v w cleared mid last stands low is index others =

@@ -35,9 +35,9 @@ pub record AreCleared (at : ℕ → List ℕ) (upto : ℕ) (before after : List 
       ≡ Some (if nat_le 2 k && (nat_lt k upto && is_extra before (at k) d) then formats.F0 else d)
 
 -- a format 4 with both bits off, so many free DSCBs, and this highest address of a format 1; other DSCBs stay
-abbrev pub told : ℕ → List ℕ → Dscb → Dscb
-told free highest (formats.F4 f) = formats.F4 (record f { highest = highest; free = free; indicators = bit_and f.indicators 0x7B })
-told free highest d = d
+abbrev pub with_counts : ℕ → List ℕ → Dscb → Dscb
+with_counts free highest (formats.F4 f) = formats.F4 (record f { highest = highest; free = free; indicators = bit_and f.indicators 0x7B })
+with_counts free highest d = d
 
 -- the free DSCBs among these
 abbrev pub free_in : List Dscb → ℕ

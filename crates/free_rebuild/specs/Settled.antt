@@ -20,14 +20,14 @@ use Rattle.vtoc_index.specs.Index.{address_in}
 use Rattle.vtoc_index.specs.declared.vol.Vol.{Vol}
 
 -- both bits of a format 4 are off, and its counts are right
-abbrev pub is_right : List VtocSlot → F4 → Bool
-is_right slots head = not (is_marked head)
+abbrev pub counts_match : List VtocSlot → F4 → Bool
+counts_match slots head = not (is_marked head)
     && ((head.free == count_by (λ s. is_f0 s.content) slots)
     && bytes_eq head.highest (highest_of slots))
 
 -- a format 4 like that stands in slot 0
 abbrev pub has_head : List VtocSlot → Bool
-has_head slots = option_map_or (is_right slots) (head_of slots) false
+has_head slots = option_map_or (counts_match slots) (head_of slots) false
 
 -- a format 5 has these entries, and leads to this address
 abbrev pub lists : F5 → List (List ℕ) → List ℕ → Bool

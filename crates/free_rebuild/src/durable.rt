@@ -20,9 +20,11 @@ use dscb_codec::Dscb;
 use hall_core::{Device, Hall};
 use vtoc_index::{Vol, put_slot, set_bit};
 
-// Puts a DSCB into a slot by one write, and makes it durable. After an error the write is pending, done,
-// or not begun, and the index may be that of no image any more.
-pub(crate) fn put_durably<H: Hall>(
+/// Puts a DSCB into a slot, counted from 0 over the tracks of the VTOC, by one write, and makes it durable.
+///
+/// A stop leaves the image as before, or with that slot. `Device` comes only where the count of its faults rose; then
+/// the write is pending, done, or not begun, and the index may be that of no image any more.
+pub fn put_durably<H: Hall>(
     hall: &mut H,
     vol: &mut Vol,
     slot: u32,
@@ -110,8 +112,8 @@ pub(crate) fn write_durably<H: Hall>(hall: &mut H, vol: &mut Vol) -> Result<(), 
     make_durable(hall)
 }
 
-// Makes the writes durable. After an error they are pending as before.
-pub(crate) fn make_durable<H: Hall>(hall: &mut H) -> Result<(), Device>
+/// Makes the writes durable. After an error they are pending as before.
+pub fn make_durable<H: Hall>(hall: &mut H) -> Result<(), Device>
     ensures files { IsTrue H.tells → AfterSync (H.meaning hall.old) (H.meaning hall.new) result }
     ensures faults { DeviceCall (H.facts hall.old) (H.facts hall.new) result }
 {

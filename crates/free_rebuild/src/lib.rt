@@ -17,6 +17,7 @@ mod space;
 mod update;
 
 pub use chain::write_free;
+pub use durable::{make_durable, put_durably};
 pub use repair::rebuild;
 pub use settled::is_settled;
 pub use update::{conclude, mark};

@@ -7,14 +7,14 @@ ghost use Rattle.vtoc_index.specs.Index.{IsIndexOf, IsMounted, IsOfUnit, address
 ghost use Rattle.vtoc_index.specs.Names.{AreByName, name_at};
 ghost use Rattle.vtoc_index.specs.Puts.{IsReplaced};
 ghost use Rattle.free_rebuild.specs.Chain.{IsOpenAt};
-ghost use Rattle.free_rebuild.specs.Clearing.{free_in, highest_among, told};
+ghost use Rattle.free_rebuild.specs.Clearing.{free_in, highest_among, with_counts};
 ghost use Rattle.free_rebuild.specs.Durable.{PutsDurably};
 ghost use Rattle.free_rebuild.specs.Repairs.{Repairs};
 
 use crate::checks::check_front;
 use crate::durable::{clear_durably, mark_durably, put_durably, write_durably};
 use crate::highest::highest_in;
-use crate::slots::{free_count, told};
+use crate::slots::{free_count, with_counts};
 use dscb_codec::Dscb;
 use hall_core::{Device, Hall};
 use vol_model::WorkErr;
@@ -96,18 +96,18 @@ pub(crate) fn settle<H: Hall>(hall: &mut H, vol: &mut Vol) -> Result<(), Device>
         IsTrue H.tells → IsIndexOf image vol.old }
     requires durable { IsTrue H.tells → IsDurable (H.meaning hall.old) }
     ensures files { let items = vol.old.slots.items in
-        let d = told (free_in items) (highest_among (address_in vol.old) items)
+        let d = with_counts (free_in items) (highest_among (address_in vol.old) items)
         (slice_index_or items 0 Dscb.F0) in
         IsTrue H.tells → PutsDurably (unit_of (H.facts hall.old).units vol.old.unit).name
         vol.old 0 d vol.new (H.meaning hall.old) (H.meaning hall.new) result }
     ensures index { let items = vol.old.slots.items in
-        let d = told (free_in items) (highest_among (address_in vol.old) items)
+        let d = with_counts (free_in items) (highest_among (address_in vol.old) items)
         (slice_index_or items 0 Dscb.F0) in
         OnOk result (IsReplaced 0 d vol.old vol.new) }
     ensures others { vol.new ≡ record vol.old { slots = vol.new.slots; buf = vol.new.buf } }
     ensures unit { IsOfUnit (H.facts hall.new).units vol.new }
     ensures faults { DeviceCall (H.facts hall.old) (H.facts hall.new) result }
 {
-    let off = told(free_count(&vol.slots), highest_in(vol), vol.slots[0]);
+    let off = with_counts(free_count(&vol.slots), highest_in(vol), vol.slots[0]);
     put_durably(hall, vol, 0, &off)
 }

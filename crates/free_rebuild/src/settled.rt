@@ -10,7 +10,7 @@ ghost use Rattle.pack_spec.specs.Settled.{head_in, is_f5};
 ghost use Rattle.pack_spec.specs.declared.slot.VtocSlot.{VtocSlot};
 ghost use Rattle.vtoc_index.specs.Index.{IsMounted, IsOfUnit};
 ghost use Rattle.free_rebuild.specs.Chain.{space_of};
-ghost use Rattle.free_rebuild.specs.Settled.{are_settled, has_head, has_no_extra, has_space, is_chain, is_kept, is_right, is_settled_vtoc, is_space, lists, next_linked, slots_held};
+ghost use Rattle.free_rebuild.specs.Settled.{are_settled, has_head, has_no_extra, has_space, is_chain, is_kept, counts_match, is_settled_vtoc, is_space, lists, next_linked, slots_held};
 
 use crate::highest::highest_in;
 use crate::slots::{free_count, is_extra, next_open};
@@ -60,18 +60,18 @@ fn has_head(vol: &Vol) -> bool
 // Whether a DSCB is such a format 4.
 fn is_head(vol: &Vol, dscb: &Dscb) -> bool
     requires unit { (units : List Attached) × IsOfUnit units vol.now }
-    ensures { result ≡ option_map_or (is_right (slots_held vol.now)) (head_in (Ok dscb.now)) false }
+    ensures { result ≡ option_map_or (counts_match (slots_held vol.now)) (head_in (Ok dscb.now)) false }
 {
     match dscb {
-        Dscb::F4(head) => is_right(vol, head),
+        Dscb::F4(head) => counts_match(vol, head),
         _ => false,
     }
 }
 
 // Whether both bits of a format 4 are off, and its counts are those of the slots.
-fn is_right(vol: &Vol, head: &F4) -> bool
+fn counts_match(vol: &Vol, head: &F4) -> bool
     requires unit { (units : List Attached) × IsOfUnit units vol.now }
-    ensures { result ≡ is_right (slots_held vol.now) head.now }
+    ensures { result ≡ counts_match (slots_held vol.now) head.now }
 {
     if head.indicators & BITS != 0 {
         return false;

@@ -2,7 +2,7 @@
 ghost use Rattle.std.specs.Prelude.{◌≡◌, ℕ, ◌≤◌, ◌<◌, ◌+◌, length, position, Option};
 ghost use Rattle.std.specs.List.{list_any};
 ghost use Rattle.free_rebuild.specs.Chain.{is_open, next_open};
-ghost use Rattle.free_rebuild.specs.Clearing.{free_in, is_extra, is_pointed, points_to, told};
+ghost use Rattle.free_rebuild.specs.Clearing.{free_in, is_extra, is_pointed, points_to, with_counts};
 ghost use Rattle.pack_spec.specs.Settled.{is_f0};
 
 use dscb_codec::{Dscb, F4};
@@ -65,8 +65,8 @@ pub(crate) fn is_extra(slots: &[Dscb], address: &[u8; 5], dscb: &Dscb) -> bool
 }
 
 // A format 4 with both bits off, these free DSCBs, and this highest address of a format 1.
-pub(crate) fn told(free: u16, highest: [u8; 5], dscb: Dscb) -> Dscb
-    ensures { result ≡ told free highest dscb }
+pub(crate) fn with_counts(free: u16, highest: [u8; 5], dscb: Dscb) -> Dscb
+    ensures { result ≡ with_counts free highest dscb }
 {
     match dscb {
         Dscb::F4(head) => Dscb::F4(F4 {

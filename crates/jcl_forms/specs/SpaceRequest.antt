@@ -8,7 +8,7 @@ use Rattle.jcl_forms.specs.declared.space.Amounts.{Amounts}
 use Rattle.jcl_forms.specs.declared.space.Space.{Space}
 use Rattle.jcl_forms.specs.declared.space.SpaceAsk.{SpaceAsk}
 use Rattle.jcl_forms.specs.declared.space.SpaceAsk.TheVariants.{Tracks, Cylinders, Length}
-use Rattle.jcl_forms.specs.declared.space.TheConstants.{MAX_DIRECTORY_BLOCKS}
+use Rattle.vol_model.specs.declared.TheConstants.{MAX_DIR}
 
 -- TRK, CYL or the length of a block
 unfoldable pub ask_of : List ℕ → Option SpaceAsk
@@ -25,7 +25,7 @@ amounts_of text =
     (λ primary. option_and_then
     (λ secondary. option_map
     (λ directory. record { primary = primary; secondary = secondary; directory = directory })
-    (number_or_zero (MAX_DIRECTORY_BLOCKS + 1) (before 44 (others (others text)))))
+    (number_or_zero (MAX_DIR + 1) (before 44 (others (others text)))))
     (number_or_zero (2 ^ 24) (before 44 (others text))))
     (number_of (before 44 text))
     else None

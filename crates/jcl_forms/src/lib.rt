@@ -15,5 +15,5 @@ pub use data_set::{DdPart, data_set_of};
 pub use dates::{date_after, date_in, expiry_of};
 pub use disposition::{DdAfter, DdStatus, disposition_of};
 pub use numbers::number_below;
-pub use space::{MAX_DIRECTORY_BLOCKS, Space, SpaceAsk, space_of};
+pub use space::{Space, SpaceAsk, space_of};
 pub use volume::volume_of;

@@ -5,9 +5,7 @@ ghost use Rattle.jcl_forms.specs.SpaceRequest.{ask_of, amounts_of, contiguity_of
 use crate::numbers::number_or_zero;
 use crate::parts::{inner, others, parted};
 use card_text::number_of;
-
-/// The most blocks that a directory quantity asks for.
-pub const MAX_DIRECTORY_BLOCKS: u32 = 2_000;
+use vol_model::MAX_DIR;
 
 /// The unit of the quantities of a SPACE.
 #[derive(Clone, Copy, Debug, PartialEq, Eq)]
@@ -29,7 +27,7 @@ pub struct Space {
     pub primary: u32,
     /// What an extension adds, less than 2^24.
     pub secondary: u32,
-    /// The blocks of the directory, at most `MAX_DIRECTORY_BLOCKS`.
+    /// The blocks of the directory, at most [`MAX_DIR`].
     pub dir: u32,
     /// Whether the primary quantity has to be in one extent.
     pub contig: bool,
@@ -69,7 +67,7 @@ fn amounts_of(text: &[u8]) -> Option<Amounts>
     Some(Amounts {
         primary: number_of(parted(b',', text).0)?,
         secondary: number_or_zero(1 << 24, parted(b',', secondary).0)?,
-        directory: number_or_zero(MAX_DIRECTORY_BLOCKS + 1, directory)?,
+        directory: number_or_zero(MAX_DIR + 1, directory)?,
     })
 }
 

@@ -14,6 +14,7 @@ use Rattle.jcl_forms.specs.declared.disposition.DdStatus.{DdStatus}
 use Rattle.jcl_forms.specs.declared.disposition.DdStatus.TheVariants.{New, Old, Shr, Mod}
 use Rattle.jcl_forms.specs.declared.disposition.DdAfter.{DdAfter}
 use Rattle.jcl_forms.specs.declared.disposition.DdAfter.TheVariants.{Delete, Keep, Catlg, Uncatlg}
+use Rattle.vol_model.specs.Shelf.{is_catalog}
 use Rattle.job_deck.specs.Faults.{fault_at}
 use Rattle.job_deck.specs.Statements.{is_text, is_either}
 use Rattle.job_deck.specs.declared.faults.JclErr.{JclErr}
@@ -45,11 +46,15 @@ leaves_catalog Uncatlg = false
 unfoldable pub plain_disposition_of : List ℕ → Option (DdStatus × DdAfter)
 plain_disposition_of text = taken (λ d. leaves_catalog d.1) (disposition_of text)
 
--- DSN=SYSCTLG
+-- the set named is the catalog's, whatever part of it is meant
+abbrev pub is_of_catalog : Option (Dsn × DdPart) → Bool
+is_of_catalog named = option_map_or (λ n. is_catalog n.0.bytes) named false
+
+-- a DSN that names SYSCTLG, or a member of it
 abbrev pub is_catalog_name : Option (List Mark × List Mark) → Bool
 is_catalog_name None = false
 is_catalog_name (Some parts) =
-    is_either (codes "DSN") (codes "DSNAME") (text_of parts.0) && is_text (codes "SYSCTLG") (text_of parts.1)
+    is_either (codes "DSN") (codes "DSNAME") (text_of parts.0) && is_of_catalog (data_set_of (text_of parts.1))
 
 abbrev pub names_catalog : Piece → Bool
 names_catalog piece = is_catalog_name (keyed piece.text)

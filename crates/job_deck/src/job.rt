@@ -1,10 +1,10 @@
 //! Jobs, steps and DDs.
 
 use crate::faults::JclErr;
-use crate::lists::Listed;
 use card_text::{Card, Text};
 use ebcdic_names::{Dsn, Name8, Serial};
 use jcl_forms::{Dcb, DdAfter, DdPart, DdStatus, Space};
+use vol_model::Listed;
 
 /// The steps of a job, in order.
 pub type Steps = Listed<Step>;

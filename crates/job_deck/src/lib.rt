@@ -7,7 +7,6 @@ mod exec_operands;
 mod faults;
 mod jcl_cards;
 mod job;
-mod lists;
 mod operands;
 mod reading;
 mod statements;
@@ -15,9 +14,8 @@ mod taken;
 
 pub use deck_cards::{DeckErr, read_deck};
 pub use faults::{JclErr, JclKind};
-pub use jcl_forms::{Dcb, DdAfter, DdPart, DdStatus, MAX_DIRECTORY_BLOCKS, Space, SpaceAsk};
+pub use jcl_forms::{Dcb, DdAfter, DdPart, DdStatus, Space, SpaceAsk};
 pub use job::{DataCards, Dd, DdSet, DdWhat, Dds, Job, Step, Steps};
-pub use lists::Listed;
 pub use reading::jobs;
 
 #[cfg(test)]

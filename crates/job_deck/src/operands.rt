@@ -5,10 +5,10 @@ ghost use Rattle.card_text.specs.Nesting.{is_separator, other_pieces};
 ghost use Rattle.job_deck.specs.Pieces.{is_absent, placed_pieces, pieces, is_unbalanced_piece, balance_fault, with_continuation, continuation_faults};
 
 use crate::faults::{JclErr, JclKind, fault_at};
-use crate::lists::Listed;
 use crate::statements::Joined;
 use card_text::{CardColumn, Mark, first_piece, first_place, is_unbalanced, missing_place, nested};
 use std::alloc::{AllocError, Global};
+use vol_model::Listed;
 
 // An operand.
 #[derive(Drop)]

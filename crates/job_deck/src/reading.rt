@@ -14,7 +14,6 @@ use crate::deck::{
 use crate::exec_operands::program_of;
 use crate::faults::{JclErr, JclKind, earliest, fault_at, unless, with_first_fault};
 use crate::job::{Dd, DdWhat, Dds, Job, Step, Steps};
-use crate::lists::Listed;
 use crate::operands::{add_continuation_fault, balance_fault, pieces};
 use crate::statements::{
     Operation, Statement, add_name_fault, blank_name, column_of, name_on, name_or_blank,
@@ -24,6 +23,7 @@ use crate::taken::add_new_catalog_fault;
 use card_text::{Card, Numbered, name_of};
 use ebcdic_names::Name8;
 use std::alloc::{AllocError, Global};
+use vol_model::Listed;
 
 // The fault of cards that are no JCL and that no DD takes.
 fn stray_fault(cards: &[DeckCard]) -> Option<JclErr>

@@ -5,13 +5,13 @@ ghost use Rattle.job_deck.specs.Statements.{is_either, operation_of, behind_slas
 use crate::deck::DeckCard;
 use crate::faults::{JclErr, JclKind, fault_at};
 use crate::jcl_cards::add_card;
-use crate::lists::Listed;
 use card_text::{
     CardColumn, Character, Numbered, Text, bytes_of, ends_in_comma, field_part, first_word,
     missing_place, name_of, past_blanks, statement_characters,
 };
 use ebcdic_names::Name8;
 use std::alloc::{AllocError, Global};
+use vol_model::Listed;
 
 // The operation of a statement.
 #[derive(Clone, Copy)]

@@ -5,7 +5,7 @@ ghost use Rattle.std.specs.List.{list_any};
 ghost use Rattle.std.specs.Option.{option_map_or};
 ghost use Rattle.card_text.specs.Operands.{keyed};
 ghost use Rattle.job_deck.specs.Faults.{fault_at};
-ghost use Rattle.job_deck.specs.Taken.{is_of_one_set, named_set_of, leaves_catalog, plain_disposition_of, is_catalog_name, names_catalog, is_old, is_old_disposition, asks_for_old, new_catalog_faults};
+ghost use Rattle.job_deck.specs.Taken.{is_of_catalog, is_of_one_set, named_set_of, leaves_catalog, plain_disposition_of, is_catalog_name, names_catalog, is_old, is_old_disposition, asks_for_old, new_catalog_faults};
 ghost use Rattle.job_deck.specs.declared.faults.JclKind.TheVariants.{BadOperand};
 
 use crate::faults::{JclErr, JclKind, fault_at};
@@ -15,6 +15,7 @@ use card_text::{CardColumn, keyed, text_of};
 use ebcdic_names::Dsn;
 use jcl_forms::{DdAfter, DdPart, DdStatus, data_set_of, disposition_of};
 use std::alloc::{AllocError, Global};
+use vol_model::is_catalog;
 
 fn is_of_one_set(part: DdPart) -> bool
     ensures { result ≡ is_of_one_set part }
@@ -54,7 +55,17 @@ pub fn plain_disposition_of(text: &[u8]) -> Option<(DdStatus, DdAfter)>
     }
 }
 
-// Whether an operand is DSN=SYSCTLG.
+// Whether the set that is named is the catalog's, whatever part of it is meant.
+fn is_of_catalog(named: Option<(Dsn, DdPart)>) -> bool
+    ensures { result ≡ is_of_catalog named }
+{
+    match named {
+        Some((dsn, _)) => is_catalog(&dsn),
+        None => false,
+    }
+}
+
+// Whether an operand is a DSN that names SYSCTLG, or a member of it.
 fn names_catalog(alloc: Global, piece: &Piece) -> Result<bool, AllocError>
     ensures { IfOk result (λ b. b ≡ names_catalog piece.now) }
 {
@@ -65,7 +76,7 @@ fn names_catalog(alloc: Global, piece: &Piece) -> Result<bool, AllocError>
     let value = text_of(alloc, value)?;
     Ok(
         is_either(b"DSN".as_slice(), b"DSNAME".as_slice(), key.as_slice())
-            && value.as_slice() == b"SYSCTLG".as_slice(),
+            && is_of_catalog(data_set_of(value.as_slice())),
     )
 }
 
@@ -103,7 +114,7 @@ fn has_old(alloc: Global, pieces: &[Piece]) -> Result<bool, AllocError>
     Ok(false)
 }
 
-// Where the first operand begins that is DSN=SYSCTLG.
+// Where the first operand begins that names the catalog.
 fn catalog_place(alloc: Global, pieces: &[Piece]) -> Result<Option<CardColumn>, AllocError>
     ensures { IfOk result (λ place. place ≡ option_map (λ piece. piece.place) (find names_catalog pieces.now)) }
 {

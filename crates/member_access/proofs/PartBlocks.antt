@@ -11,7 +11,7 @@ use Rattle.pack_spec.proofs.SeqBodies.{length-owned}
 use Rattle.vtoc_index.specs.declared.vol.Vol.{Vol}
 use Rattle.vtoc_sets.specs.Sets.{extents_in}
 use Rattle.seq_access.specs.Bodies.{IsSetIn, data_in, part_in}
-use Rattle.seq_access.proofs.DataPlaces.{few_owned_tracks}
+use Rattle.vtoc_sets.proofs.DataPlaces.{few_owned_tracks}
 use Rattle.member_access.proofs.LaterBlocks.{AreOrdered, ordered}
 
 lawful_ordered : (tracks : ℕ) (body : Body) → IsLawfulBody tracks body → AreOrdered (blocks_of body)

@@ -12,7 +12,7 @@ use Rattle.vtoc_index.specs.declared.vol.Vol.{Vol}
 use Rattle.seq_access.specs.declared.read_buf.ReadBuf.{ReadBuf}
 use Rattle.seq_access.specs.Bodies.{part_in}
 use Rattle.seq_access.specs.Reading.{HoldsTrack}
-use Rattle.seq_access.proofs.Checked.{call_none}
+use Rattle.vtoc_sets.proofs.OtherBuffers.{call_none}
 use Rattle.member_access.specs.declared.ends.Walk.{Walk}
 use Rattle.member_access.specs.Ends.{IsPlace, end_behind, member_end}
 use Rattle.member_access.proofs.MemberSteps.{began}

@@ -20,6 +20,7 @@ use seq_access::{ReadBuf, read_part_into};
 use std::alloc::Global;
 use vol_model::{BlockBuf, Place, WorkErr};
 use vtoc_index::Vol;
+use vtoc_sets::set_at;
 
 // How far a member was walked.
 #[derive(Clone, Copy)]
@@ -73,17 +74,6 @@ pub fn end_of<H: Hall>(
     match walk_member(hall, vol, &set, end, from, &mut buf, &mut block) {
         Ok(last) => Ok(last),
         Err(Device) => Err(WorkErr::Device),
-    }
-}
-
-// The format 1 in a slot.
-fn set_at(vol: &Vol, slot: u32) -> F1
-    requires { is_some (name_at vol.now.slots.items slot) ≡ true }
-    ensures { slice_get vol.now.slots.items slot ≡ Some (Dscb.F1 result) }
-{
-    match &vol.slots[slot as usize] {
-        Dscb::F1(set) => *set,
-        _ => unreachable!(),
     }
 }
 

@@ -15,8 +15,9 @@ use Rattle.pack_spec.specs.Volume.{data_set_of}
 use Rattle.pack_spec.proofs.BlockBodies.{map_range}
 use Rattle.pds_directory.specs.Directories.{IsPartIn, data_in, owned_in}
 use Rattle.stow_ops.proofs.DirectoryImages.{DifferOnOwned}
-use Rattle.stow_ops.proofs.OwnedSets.{among, fs, on_same, others_apart, outside, set_out}
-use Rattle.stow_ops.proofs.SameSlots.{by_bytes}
+use Rattle.pds_directory.proofs.PartSets.{among, fs, others_apart, outside, set_out}
+use Rattle.vtoc_sets.proofs.Owners.{on_same}
+use Rattle.slot_laws.proofs.SameSlots.{by_bytes}
 use Rattle.vol_model.specs.declared.contents.Block.{Block}
 use Rattle.vol_model.specs.declared.contents.Place.{Place}
 use Rattle.vol_model.specs.Space.{is_in}

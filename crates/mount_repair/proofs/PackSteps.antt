@@ -14,7 +14,8 @@ use Rattle.stop_model.specs.Moments.{Elapses, Meaning}
 use Rattle.stop_model.proofs.MomentLemmas.{elapses_weaker}
 use Rattle.stow_ops.specs.Stores.{DifferOn, directory_tracks}
 use Rattle.stow_ops.proofs.DirectoryImages.{DifferOnOwned, guarded_kept}
-use Rattle.stow_ops.proofs.OwnedSets.{among, among_sets, fs, slots}
+use Rattle.pds_directory.proofs.PartSets.{among, fs, slots}
+use Rattle.vtoc_sets.proofs.OwnedSets.{among_sets}
 use Rattle.stow_ops.proofs.WrittenDirectories.{on_owned}
 use Rattle.track_records.specs.Buffers.{Buffer}
 use Rattle.vol_model.specs.declared.contents.Volume.{Volume}

@@ -11,4 +11,4 @@ mod walk;
 pub use library::{Library, library_of};
 pub use repairing::{mount, repair};
 pub use scanned::Scan;
-pub use scanning::scan;
+pub use scanning::{scan, settled_law};

@@ -1,12 +1,14 @@
 //! A pack read: its index, what its data sets are, and whether it is settled.
-ghost use Rattle.std.specs.Prelude.{◌≡◌, ◌<◌, length, IfErr, IfOk, IsErrOf, IsTrue, OnOk};
+ghost use Rattle.std.specs.Prelude.{◌≡◌, ◌↔◌, ◌<◌, ℕ, List, length, IfErr, IfOk, IsErrOf, IsTrue, OnOk};
 ghost use Rattle.hall_core.specs.Images.{image_in};
+ghost use Rattle.pack_spec.specs.Settled.{IsSettled};
 ghost use Rattle.stop_model.specs.Moments.{Same};
 ghost use Rattle.vtoc_index.specs.Calls.{MountCall};
 ghost use Rattle.vtoc_index.specs.Index.{IsMounted, IsOfUnit, IsReason};
 ghost use Rattle.vtoc_index.specs.Names.{AreByName, name_at};
 ghost use Rattle.mount_repair.specs.Scans.{IsScanOn, Scans};
 ghost use Rattle.mount_repair.specs.Sets.{HasRoom, IsRoomed};
+ghost use Rattle.mount_repair.specs.Settled.{is_settled};
 
 use crate::scanned::Scan;
 use crate::walk::walk_sets;
@@ -43,6 +45,11 @@ pub fn scan<H: Hall>(alloc: Global, hall: &mut H, unit: u8) -> Result<Scan, Moun
         unpacked: walk.unpacked,
     })
 }
+
+/// The test `is_settled`, by which a check of a pack says whether it is settled, passes exactly where it is.
+pub fn settled_law()
+    ensures { (image : List ℕ) → IsTrue (is_settled image) ↔ IsSettled image }
+{}
 
 // The index of the pack on a unit, with room for free runs.
 fn read_index<H: Hall>(alloc: Global, hall: &mut H, unit: u8) -> Result<Vol, MountErr>

@@ -18,13 +18,13 @@ use crate::scanned::Unpacked;
 use dscb_codec::{Dscb, F1};
 use ebcdic_names::Dsn;
 use hall_core::Hall;
-use pds_directory::{Dir, is_packed, track_at, walk_dir};
+use pds_directory::{Dir, is_packed, walk_dir};
 use seq_access::{check_part_records, check_records};
 use std::alloc::Global;
 use stow_ops::packing;
 use vol_model::{CheckErr, Kind, ReadErr};
 use vtoc_index::{MountErr, Vol};
-use vtoc_sets::{BodyKind, body_kind};
+use vtoc_sets::{BodyKind, body_kind, track_at};
 
 // What a walk over the data sets of a pack noted: the name and the kind of each, and the directories, packed or not.
 #[derive(Drop)]

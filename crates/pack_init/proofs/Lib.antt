@@ -8,6 +8,7 @@ pub mod PackLemmas
 pub mod PatchLemmas
 pub mod ReadLemmas
 pub mod RefusalLemmas
+pub mod SettledLemmas
 pub mod SlotLemmas
 pub mod SpaceLemmas
 pub mod WriteLemmas

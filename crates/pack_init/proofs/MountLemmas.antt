@@ -19,6 +19,7 @@ use Rattle.dscb_codec.specs.declared.DscbErr.{DscbErr}
 use Rattle.dscb_codec.specs.declared.Dscb.TheVariants as formats
 use Rattle.dscb_codec.specs.Layout.{decoded, f4_of}
 use Rattle.dscb_codec.proofs.Formats.{decoded_f4}
+use Rattle.vol_model.specs.declared.contents.DataSet.{DataSet}
 use Rattle.vol_model.specs.declared.contents.Run.{Run}
 use Rattle.vol_model.specs.declared.contents.Volume.{Volume}
 use Rattle.vol_model.specs.Order.{in_order}
@@ -30,6 +31,7 @@ use Rattle.pack_spec.specs.Label.{heads_of, is_inside, label_in, label_of, recor
 use Rattle.pack_spec.specs.New.{IsNewImage, IsNewPack, IsSlotOf, address_of, free_slot, image_with, new_f4, new_f5, new_records, new_track_at, new_volume, new_vtoc, slots_of_track, vtoc_extent}
 use Rattle.pack_spec.specs.Owned.{volume_faults}
 use Rattle.pack_spec.specs.Rules.{set_in, slots_faults}
+use Rattle.pack_spec.specs.Settled.{AreSettled, IsSettled}
 use Rattle.pack_spec.specs.Slots.{record_address, slots_from, slots_in, slots_of_vtoc, slots_on, track_fault, track_faults}
 use Rattle.pack_spec.specs.Blocks.{data_tracks}
 use Rattle.pack_spec.specs.Bodies.{catalog_of}
@@ -41,7 +43,8 @@ use Rattle.pack_init.proofs.ImageLemmas.{is_within, not_first}
 use Rattle.pack_init.proofs.LabelLemmas.{IsLabel, label_read}
 use Rattle.pack_init.proofs.ReadLemmas.{few_cylinders, image_length, low_cylinder, low_head, records_up_to, records_whole, track_slots}
 use Rattle.pack_init.proofs.RefusalLemmas.{new_geometry}
-use Rattle.pack_init.proofs.SlotLemmas.{AreSpare, both, sets_none, slot_test, slots_sound, slots_test, spare_append, spare_f5, spare_free}
+use Rattle.pack_init.proofs.SettledLemmas.{slots_settled}
+use Rattle.pack_init.proofs.SlotLemmas.{AreFree, both, free_append, free_slots, sets_none, slot_test, slots_sound, slots_test, spare_f5, spare_free}
 use Rattle.pack_init.proofs.SpaceLemmas.{none_broken}
 
 less : (m n : ℕ) → m < n → nat_lt m n ≡ true
@@ -193,15 +196,15 @@ module _ (g : Geometry) (serial : List ℕ) (n : ℕ) (a b : List ℕ) (pack : I
   free_at : (i : ℕ) → 2 ≤ i → slots_of_track g a b i ≡ replicate d free_slot
   free_at i two = ap (λ (t : Bool). if t then a ∷ b ∷ replicate (d - 2) free_slot else replicate d free_slot) (not_one i two)
 
-  spare_at : (i : ℕ) → 2 ≤ i → AreSpare g (slots_at i)
-  spare_at i two = subst (λ (ss : List (List ℕ)). AreSpare g (slots_from g i 1 (map (slot_record (address_of g i)) ss))) (sym (free_at i two)) (spare_free g i 1 d (address_of g i))
+  free_slots_at : (i : ℕ) → 2 ≤ i → AreFree (slots_at i)
+  free_slots_at i two = subst (λ (ss : List (List ℕ)). AreFree (slots_from g i 1 (map (slot_record (address_of g i)) ss))) (sym (free_at i two)) (free_slots g i 1 d (address_of g i))
 
-  later_spare : (i j : ℕ) → 2 ≤ i → i + j ≤ 1 + n → AreSpare g (flat_map (λ k. unwrap_or (slots_on image g k) []) (range_with_len i j))
-  later_spare i zero some few = tt
-  later_spare i (suc j) some few =
-      spare_append g (unwrap_or (slots_on image g i) []) (flat_map (λ k. unwrap_or (slots_on image g k) []) (range_with_len (i + 1) j))
-      (subst (λ (ss : List VtocSlot). AreSpare g ss) (sym (found_is i (omega arith) (omega arith))) (spare_at i some))
-      (later_spare (i + 1) j (omega arith) (omega arith))
+  later_free : (i j : ℕ) → 2 ≤ i → i + j ≤ 1 + n → AreFree (flat_map (λ k. unwrap_or (slots_on image g k) []) (range_with_len i j))
+  later_free i zero some few = tt
+  later_free i (suc j) some few =
+      free_append (unwrap_or (slots_on image g i) []) (flat_map (λ k. unwrap_or (slots_on image g k) []) (range_with_len (i + 1) j))
+      (subst (λ (ss : List VtocSlot). AreFree ss) (sym (found_is i (omega arith) (omega arith))) (free_slots_at i some))
+      (later_free (i + 1) j (omega arith) (omega arith))
 
   -- all slots
   abbrev slot_4 : VtocSlot
@@ -231,11 +234,11 @@ module _ (g : Geometry) (serial : List ℕ) (n : ℕ) (a b : List ℕ) (pack : I
   unfolding slots_of_vtoc
   slots_count = counted 1 n (omega arith) (omega arith)
 
-  others_spare : AreSpare g (frees ++ later)
-  others_spare = spare_append g frees later (spare_free g 1 3 (d - 2) v) (later_spare 2 (n - 1) (omega arith) (omega (arith, pack.first)))
+  others_free : AreFree (frees ++ later)
+  others_free = free_append frees later (free_slots g 1 3 (d - 2) v) (later_free 2 (n - 1) (omega arith) (omega (arith, pack.first)))
 
   unset : filter_map (λ s. set_in s.content) (slot_4 ∷ slot_5 ∷ (frees ++ later)) ≡ []
-  unset = sets_none g (slot_5 ∷ (frees ++ later)) (spare_f5 g slot_5 (new_f5 g n) refl, others_spare)
+  unset = sets_none g (slot_5 ∷ (frees ++ later)) (spare_f5 g slot_5 (new_f5 g n) refl, spare_free g (frees ++ later) others_free)
 
   volume_is : volume_by image g (new_vtoc n) ≡ new_volume g serial n
   unfolding volume_with data_sets_in in_order catalog_of
@@ -250,7 +253,7 @@ module _ (g : Geometry) (serial : List ℕ) (n : ℕ) (a b : List ℕ) (pack : I
   fault_none : vtoc_fault image g (new_vtoc n) ≡ None
   unfolding vtoc_fault
   fault_none =
-      let sound : slots_faults g (slots_of_vtoc image g (new_vtoc n)) ≡ [] = ap (slots_faults g) slots_are ∙ slots_sound g slot_4 slot_5 (frees ++ later) (new_f4 g n) (new_f5 g n) refl refl others_spare in
+      let sound : slots_faults g (slots_of_vtoc image g (new_vtoc n)) ≡ [] = ap (slots_faults g) slots_are ∙ slots_sound g slot_4 slot_5 (frees ++ later) (new_f4 g n) (new_f5 g n) refl refl (spare_free g (frees ++ later) others_free) in
       let whole : volume_faults (volume_by image g (new_vtoc n)) ≡ [] = ap volume_faults volume_is ∙ none_broken g serial n pack in
       ap₂ (λ (x y : List MountErr). slice_get (x ++ y) 0) tracks_good (ap₂ (λ (x y : List MountErr). x ++ y) sound whole)
 
@@ -258,6 +261,19 @@ module _ (g : Geometry) (serial : List ℕ) (n : ℕ) (a b : List ℕ) (pack : I
   unfolding volume_of
   mounts = ap (volume_on image) geometry_read ∙ ap (volume_within image g) vtoc_is ∙ ap₂ (λ (o : Option MountErr) (w : Volume). unless o w) fault_none volume_is
 
+  pub settled : IsSettled image
+  settled =
+      let none : (k : ℕ) (x : DataSet) → slice_get [] k ≡ Some x → ⊥ = λ k x there. cc in (
+        new_volume g serial n,
+        mounts,
+        subst (λ (ss : List VtocSlot). AreSettled ss (new_volume g serial n)) (sym slots_are) (slots_settled g serial n pack slot_4.address slot_5.address (frees ++ later) others_free (ap length (sym slots_are) ∙ slots_count)),
+        λ k x there. absurd (none k x there),
+      )
+
 -- each image of a new pack does
 pub mounts_new : (g : Geometry) (serial : List ℕ) (n : ℕ) (bytes : List ℕ) → IsNewPack g n → length serial ≡ 6 → IsNewImage g serial n bytes → volume_of bytes ≡ Ok (new_volume g serial n)
 mounts_new g serial n bytes pack six is = ap volume_of is.bytes ∙ mounts g serial n is.slot_0 is.slot_1 pack six is.format_4 is.format_5
+
+-- and is settled
+pub settled_new : (g : Geometry) (serial : List ℕ) (n : ℕ) (bytes : List ℕ) → IsNewPack g n → length serial ≡ 6 → IsNewImage g serial n bytes → IsSettled bytes
+settled_new g serial n bytes pack six is = subst IsSettled (sym is.bytes) (settled g serial n is.slot_0 is.slot_1 pack six is.format_4 is.format_5)

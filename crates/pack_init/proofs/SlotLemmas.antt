@@ -40,17 +40,25 @@ pub record IsSpare (g : Geometry) (s : VtocSlot) : Type 0 where
 abbrev pub AreSpare : Geometry → List VtocSlot → Type 0
 AreSpare g slots = AllByRecursion (IsSpare g) slots
 
-pub spare_append : (g : Geometry) (xs ys : List VtocSlot) → AreSpare g xs → AreSpare g ys → AreSpare g (xs ++ ys)
-spare_append g [] ys a b = b
-spare_append g (x ∷ xs) ys a b = (a.0, spare_append g xs ys a.1 b)
+-- each of them is free
+abbrev pub AreFree : List VtocSlot → Type 0
+AreFree slots = AllByRecursion (λ s. s.content ≡ Ok formats.F0) slots
+
+pub free_append : (xs ys : List VtocSlot) → AreFree xs → AreFree ys → AreFree (xs ++ ys)
+free_append [] ys a b = b
+free_append (x ∷ xs) ys a b = (a.0, free_append xs ys a.1 b)
 
 free_decoded : decoded (take 44 free_slot ++ drop 44 free_slot) ≡ Ok formats.F0
 unfolding decoded
 free_decoded = refl
 
-pub spare_free : (g : Geometry) (track r j : ℕ) (at : Address) → AreSpare g (slots_from g track r (map (slot_record at) (replicate j free_slot)))
-spare_free g track r zero at = tt
-spare_free g track r (suc j) at = (record { unset = ap set_in free_decoded; sound = λ slots k. ap (content_fault g slots k) free_decoded }, spare_free g track (r + 1) j at)
+pub free_slots : (g : Geometry) (track r j : ℕ) (at : Address) → AreFree (slots_from g track r (map (slot_record at) (replicate j free_slot)))
+free_slots g track r zero at = tt
+free_slots g track r (suc j) at = (free_decoded, free_slots g track (r + 1) j at)
+
+pub spare_free : (g : Geometry) (ss : List VtocSlot) → AreFree ss → AreSpare g ss
+spare_free g [] all = tt
+spare_free g (s ∷ ss) all = (record { unset = ap set_in all.0; sound = λ slots k. ap (content_fault g slots k) all.0 }, spare_free g ss all.1)
 
 pub spare_f5 : (g : Geometry) (s : VtocSlot) (f : F5) → s.content ≡ Ok (formats.F5 f) → IsSpare g s
 spare_f5 g s f is = record { unset = ap set_in is; sound = λ slots k. ap (content_fault g slots k) is }

@@ -24,7 +24,7 @@ filter_none p none [] = refl
 filter_none p none (x ∷ xs) = rw (none x) (filter_none p none xs)
 
 -- the tracks behind the VTOC, if there are any
-spaces : ℕ → ℕ → List Run
+unfoldable pub spaces : ℕ → ℕ → List Run
 spaces n zero = []
 spaces n (suc k) = record { start = n + 1; len = suc k } ∷ []
 
@@ -53,13 +53,14 @@ module _ (g : Geometry) (serial : List ℕ) (n : ℕ) (pack : IsNewPack g n) whe
   few_spaces zero = omega arith
   few_spaces (suc k) = omega arith
 
-  few_runs : length (free_runs volume) ≤ 1
-  few_runs =
+  pub free_runs_are : free_runs volume ≡ spaces n (tracks_of g - (n + 1))
+  free_runs_are =
       let k = tracks_of g - (n + 1) in
       let number : tracks_of g ≡ n + 1 + k = omega (arith, pack.room) in
-      let same : free_runs volume ≡ spaces n k =
-      ap (λ (c : ℕ). runs_of (filter (is_unowned volume) (range_with_len 0 (c * heads_of g)))) usable ∙ AreRunsOf-runs_of (is_unowned volume) (tracks_of g) (spaces n k) (free_are k number) in
-      omega (arith, ap length same, few_spaces k)
+      ap (λ (c : ℕ). runs_of (filter (is_unowned volume) (range_with_len 0 (c * heads_of g)))) usable ∙ AreRunsOf-runs_of (is_unowned volume) (tracks_of g) (spaces n k) (free_are k number)
+
+  few_runs : length (free_runs volume) ≤ 1
+  few_runs = omega (arith, ap length free_runs_are, few_spaces (tracks_of g - (n + 1)))
 
   needed : slots_needed volume ≡ 2
   unfolding slots_needed

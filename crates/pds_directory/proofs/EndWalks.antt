@@ -16,7 +16,7 @@ use Rattle.vtoc_index.specs.Index.{IsMounted, IsOfUnit}
 use Rattle.pds_directory.specs.declared.ends.Reached.{Reached}
 use Rattle.pds_directory.specs.Directories.{IsReadablePart, data_in, end_in, owned_in}
 use Rattle.pds_directory.specs.Reading.{HasBytesOf, Reaches, SeeksOn, at_in, end_on}
-use Rattle.pds_directory.proofs.DataPlaces.{few_owned_tracks, records_are}
+use Rattle.pds_directory.proofs.PartSets.{few_owned_tracks, records_are}
 use Rattle.pds_directory.proofs.DirectoryWalks.{part_with}
 use Rattle.pds_directory.proofs.OnlyReading.{OnlyReads, back, onward, reads_more, reads_none}
 use Rattle.pds_directory.proofs.PartWalks.{readable_at}

@@ -1,5 +1,4 @@
 pub mod BlockData
-pub mod DataPlaces
 pub mod DirectoryBreaks
 pub mod DirectoryReads
 pub mod DirectoryWalks
@@ -9,12 +8,12 @@ pub mod EndWalks
 pub mod EntryBytes
 pub mod HeldEntries
 pub mod OnlyReading
-pub mod OwnedPlaces
 pub mod PackedDirectories
 pub mod PackedReads
 pub mod PackedSets
 pub mod PackedTests
 pub mod PackedTracks
+pub mod PartSets
 pub mod PartWalks
 pub mod ReadBack
 pub mod ReadBlocks

@@ -1,89 +1,14 @@
 -- Calls that write nothing, and leave an index as it is but for its buffer.
-use Rattle.std.proofs.Common.{◌≡◌, ◌⊎◌, ℕ, Bool, IsTrue, List, [], Option, refl, sym, ap, ◌∙◌, subst, arith}
-use Rattle.std.specs.Prelude.{Ok}
-use Rattle.ckd_image.specs.Track.{Record}
-use Rattle.ckd_image.specs.declared.header.Geometry.{Geometry}
-use Rattle.hall_core.specs.Facts.{DeviceCall, Facts, ReportedCall}
+use Rattle.std.proofs.Common.{◌≡◌, ℕ, Bool, IsTrue, List, refl, sym, ap, ◌∙◌, subst}
+use Rattle.hall_core.specs.Facts.{Facts, ReportedCall}
 use Rattle.hall_core.specs.Images.{image_in}
 use Rattle.stop_model.specs.Files.{File}
 use Rattle.stop_model.specs.Moments.{Meaning, Same}
 use Rattle.stop_model.proofs.MomentLemmas.{same_then}
-use Rattle.pack_spec.specs.Label.{records_on}
-use Rattle.track_records.specs.Buffers.{Buffer}
-use Rattle.track_records.specs.Written.{StandsOn}
 use Rattle.vtoc_index.specs.declared.vol.Vol.{Vol}
 use Rattle.vtoc_index.specs.Index.{IsMounted, IsOfUnit}
 use Rattle.vtoc_index.proofs.Images.{same_image}
-
--- the records of a track, by what is equal to its geometry
-pub read_as : {g h : Geometry} (image : List ℕ) (u : Option ℕ) (t : ℕ) (o : Option (List Record)) → h ≡ g → records_on image h u t ≡ o → records_on image g u t ≡ o
-read_as image u t o geometry is = ap (λ (x : Geometry). records_on image x u t) (sym geometry) ∙ is
-
--- an index with another buffer
-pub mounted_with : (image : List ℕ) (v : Vol) (b : Buffer) → IsMounted image v → (b.records ≡ []) ⊎ StandsOn image b → IsMounted image (record v { buf = b })
-mounted_with image v b m held = record {
-  index = record {
-    header = m.index.header;
-    serial = m.index.serial;
-    tracks = m.index.tracks;
-    slots = m.index.slots;
-    firsts = m.index.firsts;
-    buffer = held;
-  };
-  vtoc = m.vtoc;
-  lawful = m.lawful;
-  whole = m.whole;
-  free = m.free;
-  volume = m.volume;
-}
-
--- ---- the count of faults
-
-call_none : (f : Facts) → ReportedCall ⊥ f f
-call_none f = record {
-  units = refl;
-  references = refl;
-  prints = refl;
-  later = omega arith;
-  device = λ none. absurd none;
-  others = λ _. refl;
-}
-
--- a call of a device that is done
-pub call_done : {T E : Type 0} {f1 f2 : Facts} {x : T} → DeviceCall {T = T} {E = E} f1 f2 (Ok x) → ReportedCall ⊥ f1 f2
-call_done call = record {
-  units = call.units;
-  references = call.references;
-  prints = call.prints;
-  later = call.later;
-  device = λ none. absurd none;
-  others = λ _. call.done;
-}
-
--- calls without a fault, and one more
-pub call_then : {A : Type 0} (f0 f1 f2 : Facts) → ReportedCall ⊥ f0 f1 → ReportedCall A f1 f2 → ReportedCall A f0 f2
-call_then f0 f1 f2 first second =
-    let still : f1.dev_faults ≡ f0.dev_faults = first.others (λ none. none) in
-    record {
-      units = second.units ∙ first.units;
-      references = second.references ∙ first.references;
-      prints = second.prints ∙ first.prints;
-      later = omega (arith, first.later, second.later);
-      device = λ a. omega (arith, second.device a, still);
-      others = λ none. second.others none ∙ still;
-    }
-
-pub call_as : {A B : Type 0} {old new : Facts} → ReportedCall A old new → (A → B) → (B → A) → ReportedCall B old new
-call_as call to from = record {
-  units = call.units;
-  references = call.references;
-  prints = call.prints;
-  later = call.later;
-  device = λ b. call.device (from b);
-  others = λ none. call.others (λ a. none (to a));
-}
-
--- ---- several calls
+use Rattle.vtoc_sets.proofs.OtherBuffers.{call_none, call_then}
 
 -- Calls that only read: no fault was reported, the meaning of the hall is the same, and the index differs in its buffer alone.
 pub record OnlyReads (tells : Bool) (f0 f1 : Facts) (m0 m1 : Meaning (List File)) (v0 v1 : Vol) : Type 0 where

@@ -1,10 +1,10 @@
 -- The blocks of a directory that can be read, by reading up to its end alone.
-use Rattle.std.proofs.Common.{◌≡◌, ◌⊎◌, ◌+◌, ◌-◌, ◌≤◌, ◌<◌, ℕ, zero, suc, Bool, true, false, cond, ◌&&◌, List, [], ◌∷◌, ◌++◌, length, map, take, drop, Option, Some, None, inl, inr, refl, sym, ap, ap₂, ◌∙◌, subst, arith, length-take, option_and_then, take-append-drop}
+use Rattle.std.proofs.Common.{◌≡◌, ◌+◌, ◌-◌, ◌≤◌, ◌<◌, ℕ, zero, suc, Bool, true, false, cond, ◌&&◌, List, [], ◌∷◌, ◌++◌, length, map, take, drop, Option, Some, None, refl, sym, ap, ap₂, ◌∙◌, subst, arith, length-take, option_and_then, take-append-drop}
 use Rattle.std.specs.Prelude.{◌==◌, slice_get, unwrap_or}
 use Rattle.std.specs.List.{enumerate_from, find, flat_map, list_all, list_any, range_with_len}
-use Rattle.std.specs.Option.{option_map, option_map_or}
+use Rattle.std.specs.Option.{option_map_or}
 use Rattle.std.proofs.lemmas.Bool.{and_parts}
-use Rattle.std.proofs.lemmas.Bool.Decides.{eqb_tells, nat_tests}
+use Rattle.std.proofs.lemmas.Bool.Decides.{nat_tests}
 use Rattle.std.proofs.lemmas.List.{append-nil}
 use Rattle.std.proofs.lemmas.List.Elements.{filter-append}
 use Rattle.ckd_image.specs.declared.header.Geometry.{Geometry}
@@ -18,7 +18,7 @@ use Rattle.vol_model.specs.Places.{is_before}
 use Rattle.pack_spec.specs.Blocks.{block_at, blocks_from, owned_tracks, records_in}
 use Rattle.pack_spec.specs.Directories.{before_end, end_from, end_record, has_end_by, is_end_record, may_stand, part_at, part_blocks, part_body, part_on, part_tracks, read_to, record_numbers}
 use Rattle.pack_spec.specs.Settled.{directory_upto}
-use Rattle.pack_spec.proofs.FrontRecords.{count_in, first_of_all, first_of_some, first_records, first_taken}
+use Rattle.vtoc_sets.proofs.EndTracks.{end_first}
 use Rattle.pack_spec.proofs.PartBodies.{IsPast, IsRead, end_stands, part_end, part_or_unread, part_read, read_past_end}
 use Rattle.dscb_codec.specs.declared.F1.{F1}
 use Rattle.vol_model.specs.Shelf.{unreadable}
@@ -68,16 +68,6 @@ found_passes p (suc n) low r is = by (p low) refl (λ e. found_passes p n (low +
 end_passes : (g : Geometry) (tracks : List (List ℕ)) (t r : ℕ) → end_record g tracks t ≡ Some r → (has_end_by g tracks t r ≡ true) × (1 ≤ r)
 unfolding end_record record_numbers
 end_passes g tracks t r is = found_passes (has_end_by g tracks t) 255 1 r is
-
--- so many records are the first of these
-few_first : (n : ℕ) (xs ys : List Record) → first_records n xs ≡ Some ys → n ≤ length xs
-few_first zero xs ys is = omega arith
-few_first (suc n) [] ys is = cc
-few_first (suc n) (x ∷ xs) ys is = by (first_records n xs) (λ zs some. few_first n xs zs some) is
-  where
-    by : (o : Option (List Record)) → ((zs : List Record) → o ≡ Some zs → n ≤ length xs) → option_map (λ (zs : List Record). x ∷ zs) o ≡ Some ys → suc n ≤ length (x ∷ xs)
-    by None rest e = cc
-    by (Some zs) rest e = omega (arith, rest zs refl)
 
 level : (a : ℕ) → (a == a) ≡ true
 level a = grind (arith, nat_tests)
@@ -142,25 +132,10 @@ module _ (g : Geometry) (tracks : List (List ℕ)) (extents : List Run) (lstar :
       stands : end_record g tracks read.track ≡ Some end.r
       stands = subst (λ (p : Place). end.tt ≡ p.tt → end_record g tracks read.track ≡ Some p.r) ended (λ e. end_stands g tracks 0 owned end.tt read.track read.there (omega (arith, e))) refl
 
-      few : (ys : List Record) → records_in g tracks (Some end.r) read.track ≡ Some ys → (end.r ≤ length read.xs) × (ys ≡ take end.r read.xs)
-      few ys some = by (eqb_tells end.tt to.tt)
-        where
-          by : (((end.tt == to.tt) ≡ true) × (end.tt ≡ to.tt)) ⊎ (((end.tt == to.tt) ≡ false) × (end.tt ≡ to.tt → ⊥)) → (end.r ≤ length read.xs) × (ys ≡ take end.r read.xs)
-          by (inl w) =
-              let upto : records_in g tracks (Some to.r) read.track ≡ Some read.xs = ap (λ (b : Bool). records_in g tracks (cond b (Some to.r) None) read.track) (sym w.0) ∙ read.records in
-              let both : Some ys ≡ Some (take end.r read.xs) = sym some ∙ first_of_some g tracks read.track read.xs end.r to.r (past.place w.1) upto in
-              (omega (arith, count_in g tracks read.track read.xs to.r upto, past.place w.1), cc)
-          by (inr w) =
-              let whole : records_in g tracks None read.track ≡ Some read.xs = ap (λ (b : Bool). records_in g tracks (cond b (Some to.r) None) read.track) (sym w.0) ∙ read.records in
-              let first : first_records end.r read.xs ≡ Some ys = sym (first_of_all g tracks read.track read.xs end.r whole) ∙ some in
-              let low = few_first end.r read.xs ys first in
-              let both : Some ys ≡ Some (take end.r read.xs) = sym first ∙ first_taken end.r read.xs low in
-              (low, cc)
-
       by_some : (o : Option (List Record)) → records_in g tracks (Some end.r) read.track ≡ o → option_map_or (list_any is_end_record) o false ≡ true → IsUpToEnd read.track read.xs
       by_some None some any = cc
       by_some (Some ys) some any =
-          let f = few ys some in
+          let f = end_first g tracks owned end to past read ys some in
           record { some = (end_passes g tracks read.track end.r stands).1; few = f.0; first = some ∙ ap (λ (zs : List Record). Some zs) f.1 }
 
   -- the end's track, read up to the end

@@ -1,22 +1,19 @@
 -- A directory is decided by the records of its tracks up to its end, and an operation on the VTOC leaves each where it is.
-use Rattle.std.proofs.Common.{◌≡◌, ◌⊎◌, ◌+◌, ◌≤◌, ◌<◌, ℕ, zero, suc, Bool, true, false, cond, not, ◌&&◌, List, [], ◌∷◌, ◌++◌, length, map, Option, Some, None, Result, Ok, inl, inr, refl, sym, ap, ◌∙◌, subst, arith, append-nil, option_and_then, ◌≢◌, ◌/◌, ◌%◌}
-use Rattle.std.specs.Prelude.{◌==◌, filter, if◌then◌else◌, nat_lt, slice_get, unwrap_or, count_by, slice_index_or}
+use Rattle.std.proofs.Common.{◌≡◌, ◌⊎◌, ◌+◌, ◌≤◌, ◌<◌, ℕ, zero, suc, Bool, true, false, cond, not, ◌&&◌, List, [], ◌∷◌, ◌++◌, length, map, Option, Some, None, Result, Ok, inl, inr, refl, sym, ap, ◌∙◌, subst, arith, append-nil, option_and_then, ◌≢◌, ◌%◌}
+use Rattle.std.specs.Prelude.{◌==◌, filter, if◌then◌else◌, nat_lt, slice_get, unwrap_or}
 use Rattle.std.specs.List.{AllByRecursion, filter_map, flat_map, range_with_len, sum_by}
 use Rattle.std.specs.Str.{bytes_eq}
 use Rattle.std.proofs.lemmas.Grind.{flat_map-append}
 use Rattle.std.proofs.lemmas.List.Concat.{length-flat_map}
 use Rattle.std.proofs.lemmas.List.Elements.{All-from_recursion, filter-append, recursion_from_All}
-use Rattle.std.proofs.lemmas.List.FromFn.{get_or-map-range_with_len, length-map-range_with_len, length-range_with_len}
+use Rattle.std.proofs.lemmas.List.FromFn.{length-range_with_len}
 use Rattle.std.proofs.lemmas.List.Sorted.{All-permutation, IsPermutation-sym}
 use Rattle.std.proofs.Math.Numerals.{add-one}
-use Rattle.std.proofs.lemmas.Bool.{and_right, cases_lt, eqb-true, ne_eqb}
+use Rattle.std.proofs.lemmas.Bool.{and_right, eqb-true, ne_eqb}
 use Rattle.std.proofs.lemmas.Bool.Decides.{eqb_tells, nat_tests}
-use Rattle.std.proofs.lemmas.List.{get_or_past}
-use Rattle.std.proofs.lemmas.List.Sums.{sum_by-append, sum_by-cons}
 use Rattle.chain_spec.specs.Store.{Block as Stored}
 use Rattle.ckd_image.specs.declared.header.Geometry.{Geometry}
 use Rattle.ckd_image.specs.Track.{Record}
-use Rattle.ckd_image.specs.Reading.{records_of}
 use Rattle.ckd_image.specs.declared.device.DiskType.{DiskType}
 use Rattle.dscb_codec.specs.declared.F1.{F1}
 use Rattle.ebcdic_names.specs.declared.names.Dsn.{Dsn}
@@ -43,18 +40,19 @@ use Rattle.vol_model.proofs.InOrder.{in_order-permutation}
 use Rattle.vol_model.specs.declared.contents.Body.TheVariants as bodies
 use Rattle.vol_model.specs.Places as places
 use Rattle.pack_spec.specs.Alike.{DifferInVtoc}
-use Rattle.pack_spec.specs.Blocks.{blocks_from, data_track, data_tracks, owned_tracks, records_in, upto_last}
+use Rattle.pack_spec.specs.Blocks.{blocks_from, data_tracks, owned_tracks, records_in, upto_last}
 use Rattle.pack_spec.specs.Directories.{before_end, block_entries, entries_from, first_block, new_block, new_numbers, no_entry, part_at, part_blocks, part_on, part_tracks, stored_in}
 use Rattle.pack_spec.specs.Settled.{ArePacked, HasPacked, IsPacked, directory_upto}
 use Rattle.pack_spec.specs.Slots.{slots_of_vtoc, tracks_in}
 use Rattle.pack_spec.specs.Volume.{data_set_of, data_sets_in, volume_by, volume_of, volume_with}
 use Rattle.pack_spec.proofs.BlockBodies.{front_there, map_range, vtoc_tracks}
 use Rattle.pack_spec.proofs.Lawful.{lawful_volume}
-use Rattle.pack_spec.specs.Label.{heads_of, records_on, track_bytes, tracks_of}
+use Rattle.pack_spec.specs.Label.{tracks_of}
 use Rattle.pack_spec.specs.Rules.{set_in}
 use Rattle.pack_spec.specs.declared.slot.VtocSlot.{VtocSlot}
 use Rattle.pack_spec.proofs.NewDirectories.{IsNewFrom, IsNewOn, new_from}
 use Rattle.pack_spec.proofs.NewPlaces.{end_counts, end_some}
+use Rattle.vtoc_sets.proofs.Owners.{all_of, either, one_of, owned_apart, owned_some, owners, owners_more, run_at, two_of}
 
 -- ---- one directory
 
@@ -470,102 +468,25 @@ allocate_adds dsn attr q dir w w' is =
 
 -- ---- what owns a track
 
--- how many runs have a track
-abbrev owners : ℕ → List Run → ℕ
-owners t rs = count_by (is_in t) rs
-
-owners_more : (t : ℕ) (r : Run) (rs : List Run) → owners t (r ∷ rs) ≡ cond (is_in t r) 1 0 + owners t rs
-owners_more t r rs = sum_by-cons (λ (x : Run). cond (is_in t x) 1 0) r rs
-
-owners_both : (t : ℕ) (rs ss : List Run) → owners t (rs ++ ss) ≡ owners t rs + owners t ss
-owners_both t rs ss = sum_by-append (λ (x : Run). cond (is_in t x) 1 0) rs ss
-
--- the number of a track in a run
-run_at : (a n k t : ℕ) → slice_get (range_with_len a n) k ≡ Some t → (t ≡ a + k) × (k < n)
-run_at a zero k t is = cc
-run_at a (suc n) zero t is = let same : a ≡ t = cc in (omega (arith, same), omega arith)
-run_at a (suc n) (suc k) t is = let rest = run_at (a + 1) n k t is in (omega (arith, rest.0), omega (arith, rest.1))
-
-is_within : (t : ℕ) (r : Run) → r.start ≤ t → t < r.start + r.len → is_in t r ≡ true
-is_within t r low high = grind (arith, nat_tests)
-
-has_track : (t : ℕ) (r : Run) (rs : List Run) (k : ℕ) → slice_get (tracks_in r) k ≡ Some t → owners t (r ∷ rs) ≡ 1 + owners t rs
-has_track t r rs k is = let at = run_at r.start r.len k t is in owners_more t r rs ∙ ap (λ (b : Bool). cond b 1 0 + owners t rs) (is_within t r (omega (arith, at.0)) (omega (arith, at.0, at.1)))
-
--- what stands in one of two lists
-either : (xs ys : List ℕ) (k x : ℕ) → slice_get (xs ++ ys) k ≡ Some x → (slice_get xs k ≡ Some x) ⊎ ((j : ℕ) × (k ≡ length xs + j) × (slice_get ys j ≡ Some x))
-either [] ys k x is = inr (k, omega arith, is)
-either (y ∷ xs) ys zero x is = inl is
-either (y ∷ xs) ys (suc k) x is = elim (either xs ys k x is) [
-  | inl w ↦ inl w
-  | inr w ↦ inr (w.0, omega (arith, w.1), w.2)
-]
-
-pub owned_some : (xs : List Run) (k t : ℕ) → slice_get (owned_tracks xs) k ≡ Some t → 1 ≤ owners t xs
-unfolding owned_tracks
-owned_some [] k t is = cc
-owned_some (r ∷ rs) k t is = elim (either (tracks_in r) (flat_map tracks_in rs) k t is) [
-  | inl w ↦ omega (arith, has_track t r rs k w)
-  | inr w ↦ let rest = owned_some rs w.0 t w.2 in omega (arith, rest, owners_more t r rs)
-]
-
--- a track that is owned once is one of a set's tracks once
-owned_apart : (xs : List Run) (k j t : ℕ) → slice_get (owned_tracks xs) k ≡ Some t → slice_get (owned_tracks xs) j ≡ Some t → owners t xs ≤ 1 → k ≡ j
-unfolding owned_tracks
-owned_apart [] k j t first second once = cc
-owned_apart (r ∷ rs) k j t first second once =
-    let more = owners_more t r rs in
-    elim (either (tracks_in r) (flat_map tracks_in rs) k t first) [
-      | inl w ↦ elim (either (tracks_in r) (flat_map tracks_in rs) j t second) [
-        | inl u ↦ let p = run_at r.start r.len k t w in let q = run_at r.start r.len j t u in omega (arith, p.0, q.0)
-        | inr u ↦ absurd (omega (arith, once, has_track t r rs k w, owned_some rs u.0 t u.2))
-      ]
-      | inr w ↦ elim (either (tracks_in r) (flat_map tracks_in rs) j t second) [
-        | inl u ↦ absurd (omega (arith, once, has_track t r rs j u, owned_some rs w.0 t w.2))
-        | inr u ↦ let same = owned_apart rs w.0 u.0 t w.2 u.2 (omega (arith, more, once)) in omega (arith, same, w.1, u.1)
-      ]
-    ]
-
-module _ (t : ℕ) where
-  abbrev all_of : List DataSet → List Run
-  all_of sets = flat_map (λ (x : DataSet). x.extents) sets
-
-  one_of : (sets : List DataSet) (m : ℕ) (x : DataSet) → slice_get sets m ≡ Some x → owners t x.extents ≤ owners t (all_of sets)
-  one_of [] m x is = cc
-  one_of (y ∷ sets) zero x is =
-      let same : y ≡ x = cc in
-      let mine : owners t x.extents ≡ owners t y.extents = ap (λ (z : DataSet). owners t z.extents) (sym same) in
-      omega (arith, mine, owners_both t y.extents (all_of sets))
-  one_of (y ∷ sets) (suc m) x is = omega (arith, one_of sets m x is, owners_both t y.extents (all_of sets))
-
-  two_of : (sets : List DataSet) (m n : ℕ) (x y : DataSet) → slice_get sets m ≡ Some x → slice_get sets n ≡ Some y → m ≢ n → owners t x.extents + owners t y.extents ≤ owners t (all_of sets)
-  two_of [] m n x y first second apart = cc
-  two_of (z ∷ sets) zero zero x y first second apart = absurd (apart refl)
-  two_of (z ∷ sets) zero (suc n) x y first second apart =
-      let same : z ≡ x = cc in
-      let mine : owners t x.extents ≡ owners t z.extents = ap (λ (d : DataSet). owners t d.extents) (sym same) in
-      omega (arith, mine, one_of sets n y second, owners_both t z.extents (all_of sets))
-  two_of (z ∷ sets) (suc m) zero x y first second apart =
-      let same : z ≡ y = cc in
-      let mine : owners t y.extents ≡ owners t z.extents = ap (λ (d : DataSet). owners t d.extents) (sym same) in
-      omega (arith, mine, one_of sets m x first, owners_both t z.extents (all_of sets))
-  two_of (z ∷ sets) (suc m) (suc n) x y first second apart = omega (arith, two_of sets m n x y first second (λ e. apart (ap suc e)), owners_both t z.extents (all_of sets))
-
 -- A lawful volume owns no track twice.
 module _ (w : Volume) (once : OwnsOnce w) where
+  -- the runs of a data set
+  abbrev runs : DataSet → List Run
+  runs x = x.extents
+
   abbrev first_run : Run
   first_run = record { start = 0; len = 1 }
 
-  sets_once : (t : ℕ) → owners t (all_of t w.sets) ≤ 1
-  sets_once t = omega (arith, once t, owners_more t first_run (w.vtoc ∷ all_of t w.sets), owners_more t w.vtoc (all_of t w.sets))
+  sets_once : (t : ℕ) → owners t (all_of runs w.sets) ≤ 1
+  sets_once t = omega (arith, once t, owners_more t first_run (w.vtoc ∷ all_of runs w.sets), owners_more t w.vtoc (all_of runs w.sets))
 
   -- no track of a data set is one of another
   pub sets_apart : (j k : ℕ) (x y : DataSet) → slice_get w.sets j ≡ Some x → slice_get w.sets k ≡ Some y → j ≢ k → (m n t : ℕ) → slice_get (owned_tracks x.extents) m ≡ Some t → slice_get (owned_tracks y.extents) n ≡ Some t → ⊥
-  sets_apart j k x y first second apart m n t mine other = omega (arith, sets_once t, two_of t w.sets j k x y first second apart, owned_some x.extents m t mine, owned_some y.extents n t other)
+  sets_apart j k x y first second apart m n t mine other = omega (arith, sets_once t, two_of runs t w.sets j k x y first second apart, owned_some x.extents m t mine, owned_some y.extents n t other)
 
   -- and each stands once among its tracks
   pub own_apart : (j : ℕ) (x : DataSet) → slice_get w.sets j ≡ Some x → (m n t : ℕ) → slice_get (owned_tracks x.extents) m ≡ Some t → slice_get (owned_tracks x.extents) n ≡ Some t → m ≡ n
-  own_apart j x there m n t first second = owned_apart x.extents m n t first second (omega (arith, sets_once t, one_of t w.sets j x there))
+  own_apart j x there m n t first second = owned_apart x.extents m n t first second (omega (arith, sets_once t, one_of runs t w.sets j x there))
 
   not_both : (b : Bool) (n m p : ℕ) → n ≤ 1 → n ≡ p + m → p ≡ cond b 1 0 → 1 ≤ m → b ≡ false
   not_both true n m p most is e low = absurd (omega (arith, most, is, e, low))
@@ -574,14 +495,14 @@ module _ (w : Volume) (once : OwnsOnce w) where
   -- and not in the VTOC
   pub outside : (j : ℕ) (x : DataSet) → slice_get w.sets j ≡ Some x → (m t : ℕ) → slice_get (owned_tracks x.extents) m ≡ Some t → is_in t w.vtoc ≡ false
   outside j x there m t own =
-      let all : List Run = all_of t w.sets in
-      let mine : 1 ≤ owners t all = omega (arith, one_of t w.sets j x there, owned_some x.extents m t own) in
+      let all : List Run = all_of runs w.sets in
+      let mine : 1 ≤ owners t all = omega (arith, one_of runs t w.sets j x there, owned_some x.extents m t own) in
       let most : owners t (w.vtoc ∷ all) ≤ 1 = omega (arith, once t, owners_more t first_run (w.vtoc ∷ all)) in
       not_both (is_in t w.vtoc) (owners t (w.vtoc ∷ all)) (owners t all) (cond (is_in t w.vtoc) 1 0) most (owners_more t w.vtoc all) refl mine
 
   -- the track of a set is owned
   pub owned_by : (j : ℕ) (x : DataSet) → slice_get w.sets j ≡ Some x → (m t : ℕ) → slice_get (owned_tracks x.extents) m ≡ Some t → 1 ≤ owners t (owned_runs w)
-  owned_by j x there m t own = omega (arith, one_of t w.sets j x there, owned_some x.extents m t own, owners_more t first_run (w.vtoc ∷ all_of t w.sets), owners_more t w.vtoc (all_of t w.sets))
+  owned_by j x there m t own = omega (arith, one_of runs t w.sets j x there, owned_some x.extents m t own, owners_more t first_run (w.vtoc ∷ all_of runs w.sets), owners_more t w.vtoc (all_of runs w.sets))
 
 tracks_inside : (g : Geometry) (rs : List Run) → AllByRecursion (IsOnPack g) rs → (k t : ℕ) → slice_get (owned_tracks rs) k ≡ Some t → t < tracks_of g
 unfolding owned_tracks
@@ -598,38 +519,6 @@ on_pack image w stands j x there m t own =
     tracks_inside w.geometry x.extents set.extents m t own
 
 -- ---- images that have the same bytes of a track, or the same records
-
-module _ (g : Geometry) (vtoc : Run) (before after : List ℕ) where
-  same_in : (f h : ℕ → List ℕ) (n low k : ℕ) → f (low + k) ≡ h (low + k) → slice_index_or (map f (range_with_len low n)) k [] ≡ slice_index_or (map h (range_with_len low n)) k []
-  same_in f h zero low k same = refl
-  same_in f h (suc n) low zero same = let here : low + zero ≡ low = omega arith in ap f (sym here) ∙ same ∙ ap h here
-  same_in f h (suc n) low (suc k) same = let next : low + 1 + k ≡ low + suc k = omega arith in same_in f h n (low + 1) k (ap f next ∙ same ∙ ap h (sym next))
-
-  -- the same bytes are read alike
-  pub read_bytes : (u : Option ℕ) (t : ℕ) → track_bytes after g t ≡ track_bytes before g t → records_in g (data_tracks after g vtoc) u t ≡ records_in g (data_tracks before g vtoc) u t
-  unfolding records_in data_tracks
-  read_bytes u t same =
-      let here : 0 + t ≡ t = omega arith in
-      ap (records_of (t / heads_of g) (t % heads_of g) u)
-      (same_in (data_track after g vtoc) (data_track before g vtoc) (tracks_of g) 0 t
-      (ap (data_track after g vtoc) here ∙ ap (λ (bytes : List ℕ). cond (is_in t vtoc) [] bytes) same ∙ ap (data_track before g vtoc) (sym here)))
-
-  data_read : (image : List ℕ) (u : Option ℕ) (t : ℕ) → is_in t vtoc ≡ false → t < tracks_of g → records_in g (data_tracks image g vtoc) u t ≡ records_on image g u t
-  unfolding records_in records_on data_tracks
-  data_read image u t out inside =
-      ap (records_of (t / heads_of g) (t % heads_of g) u)
-      (get_or-map-range_with_len (data_track image g vtoc) 0 (tracks_of g) t t [] inside (omega arith) ∙ ap (λ (b : Bool). cond b [] (track_bytes image g t)) out)
-
-  data_past : (image : List ℕ) (u : Option ℕ) (t : ℕ) → tracks_of g ≤ t → records_in g (data_tracks image g vtoc) u t ≡ records_of (t / heads_of g) (t % heads_of g) u []
-  unfolding records_in data_tracks
-  data_past image u t past = ap (records_of (t / heads_of g) (t % heads_of g) u) (get_or_past (map (data_track image g vtoc) (range_with_len 0 (tracks_of g))) t [] (omega (arith, past, length-map-range_with_len (data_track image g vtoc) 0 (tracks_of g))))
-
-  -- and records are the same in the data tracks, outside the VTOC
-  pub read_records : (u : Option ℕ) (t : ℕ) → is_in t vtoc ≡ false → records_on after g u t ≡ records_on before g u t → records_in g (data_tracks after g vtoc) u t ≡ records_in g (data_tracks before g vtoc) u t
-  read_records u t out same = elim (cases_lt t (tracks_of g)) [
-    | inl w ↦ data_read after u t out w ∙ same ∙ sym (data_read before u t out w)
-    | inr w ↦ data_past after u t w ∙ sym (data_past before u t w)
-  ]
 
 -- ---- the data sets of the format 1s in slots
 

@@ -24,7 +24,7 @@ use Rattle.pds_directory.specs.declared.ends.Reached.{Reached}
 use Rattle.pds_directory.specs.declared.reading.Reading.{Reading}
 use Rattle.pds_directory.specs.Directories.{IsPartIn, IsReadUnless, ReadsDir, broken_in, data_in, directory_in, end_in, entries_read, members_in, owned_in, part_in, tracks_in}
 use Rattle.pds_directory.specs.Reading.{AreBad, AreReadSoFar, HasBytesOf, HoldEntries, HoldsWhole, IsReached, IsReadBefore, IsReadToEnd, Reaches, ReadsRecords, ReadsTrack, SeeksOn, at_in, end_on, front_in}
-use Rattle.pds_directory.proofs.DataPlaces.{few_owned_tracks, records_are}
+use Rattle.pds_directory.proofs.PartSets.{few_owned_tracks, records_are}
 use Rattle.pds_directory.proofs.PartWalks.{behind_here, behind_last, blocks_on, break_past, in_front, read_all, read_broken, unended, unread, whole_at}
 use Rattle.pds_directory.proofs.TrackReads.{before_here, end_within, ends_here, none_owned, none_read, none_stand, past, seeks_on, whole_here}
 

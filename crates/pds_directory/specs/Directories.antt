@@ -15,11 +15,11 @@ use Rattle.vol_model.specs.declared.contents.Entry.{Entry}
 use Rattle.vol_model.specs.declared.contents.Place.{Place}
 use Rattle.vol_model.specs.Shelf.{is_partitioned, unreadable}
 use Rattle.vol_model.specs.Slots.{entry_size}
-use Rattle.pack_spec.specs.Blocks.{data_tracks, owned_tracks}
 use Rattle.pack_spec.specs.Directories.{before_end, behind_end, end_from, name_number, part_body, part_tracks, read_to, stored_in}
 pub use Rattle.pack_spec.specs.Settled.{IsPacked}
 use Rattle.pack_spec.specs.Volume.{attr_of}
 use Rattle.vtoc_index.specs.declared.vol.Vol.{Vol}
+pub use Rattle.vtoc_sets.specs.Sets.{data_in, owned_in}
 use Rattle.vtoc_sets.specs.Sets.{HasSet, extents_in}
 use Rattle.pds_directory.specs.declared.dir.Dir.{Dir}
 use Rattle.pds_directory.specs.Entries.{IsReadEntry}
@@ -30,14 +30,6 @@ pub record IsPartIn (image : List ℕ) (v : Vol) (f : F1) : Type 0 where
   pub slot : ℕ
   pub dscb : slice_get v.slots.items slot ≡ Some (formats.F1 f)
   pub partitioned : is_partitioned f.name (attr_of f) ≡ true
-
--- the tracks of a data set, in relative order
-abbrev pub owned_in : List ℕ → Vol → F1 → List ℕ
-owned_in image v f = owned_tracks (extents_in image v f)
-
--- the bytes of the tracks outside the VTOC
-abbrev pub data_in : List ℕ → Vol → List (List ℕ)
-data_in image v = data_tracks image v.geometry v.vtoc
 
 -- the body of a partitioned data set
 abbrev pub part_in : List ℕ → Vol → F1 → Body

@@ -10,12 +10,12 @@ ghost use Rattle.pds_directory.specs.Directories.{IsReadablePart, end_in};
 ghost use Rattle.pds_directory.specs.Reading.{HasBytesOf, IsFirstEnd, IsHeld, IsLastEnd, IsReadUpTo, Reaches, SeeksOn, end_on};
 
 use crate::records::is_end_record;
-use crate::tracks::track_at;
 use dscb_codec::F1;
 use hall_core::{Device, Hall};
 use track_records::{TrackBuf, TrackErr, read_records};
 use vol_model::Place;
 use vtoc_index::Vol;
+use vtoc_sets::track_at;
 
 // How far a track of a directory was read.
 #[derive(Clone, Copy)]

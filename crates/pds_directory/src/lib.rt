@@ -9,7 +9,6 @@ mod entry;
 mod packed;
 mod reading;
 mod records;
-mod tracks;
 
 pub use decoding::{DirBlock, read_block};
 pub use dir::{Dir, DirWalk};
@@ -19,4 +18,3 @@ pub use entry::{DirEntry, copy_of};
 pub use packed::is_packed;
 pub use reading::{read_dir, walk_dir};
 pub use records::is_directory_record;
-pub use tracks::track_at;

@@ -18,13 +18,13 @@ use crate::decoding::{DirBlock, read_block};
 use crate::dir::{Dir, DirWalk};
 use crate::ends::{Reached, end_on, reach_end};
 use crate::records::is_directory_record;
-use crate::tracks::track_at;
 use dscb_codec::{Dscb, F1};
 use hall_core::{Device, Hall};
 use std::alloc::Global;
 use track_records::TrackBuf;
 use vol_model::{Place, ReadErr};
 use vtoc_index::Vol;
+use vtoc_sets::{set_at, track_at};
 
 // What was read of a directory so far.
 #[derive(Drop)]
@@ -131,17 +131,6 @@ pub fn walk_dir<H: Hall>(
         }
     }
     Err(ReadErr::Unreadable(u16::MAX))
-}
-
-// The format 1 in a slot.
-fn set_at(vol: &Vol, slot: u32) -> F1
-    requires { is_some (name_at vol.now.slots.items slot) ≡ true }
-    ensures { slice_get vol.now.slots.items slot ≡ Some (Dscb.F1 result) }
-{
-    match &vol.slots[slot as usize] {
-        Dscb::F1(set) => *set,
-        _ => unreachable!(),
-    }
 }
 
 // A directory that was read to its end, which stands on this relative track.

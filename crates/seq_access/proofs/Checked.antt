@@ -1,5 +1,5 @@
 -- What the records of a relative track tell of its blocks, and a walk over a data set's tracks.
-use Rattle.std.proofs.Common.{◌≡◌, ◌≢◌, ◌⊎◌, ◌<◌, ◌≤◌, ◌+◌, ℕ, zero, suc, Bool, true, false, cond, inl, inr, IsTrue, List, [], ◌∷◌, length, map, take, Option, Some, None, refl, sym, ap, ap₂, ◌∙◌, subst, arith, option_and_then}
+use Rattle.std.proofs.Common.{◌≡◌, ◌≢◌, ◌<◌, ◌≤◌, ◌+◌, ℕ, zero, suc, Bool, true, false, cond, inl, inr, IsTrue, List, [], ◌∷◌, length, map, take, Option, Some, None, refl, sym, ap, ap₂, ◌∙◌, subst, arith, option_and_then}
 use Rattle.std.specs.Prelude.{◌==◌, ◌&&◌, is_none, position, slice_get, Err}
 use Rattle.std.proofs.lemmas.Bool.Decides.{eqb_tells, nat_tests}
 use Rattle.std.specs.Option.{option_map}
@@ -7,7 +7,7 @@ use Rattle.std.specs.List.{enumerate_from, list_all, range_with_len}
 use Rattle.ckd_image.specs.Track.{Record}
 use Rattle.ckd_image.specs.declared.header.Geometry.{Geometry}
 use Rattle.dscb_codec.specs.declared.F1.{F1}
-use Rattle.hall_core.specs.Facts.{Attached, Facts, ReportedCall}
+use Rattle.hall_core.specs.Facts.{Facts, ReportedCall}
 use Rattle.hall_core.specs.Images.{image_in}
 use Rattle.stop_model.specs.Files.{File}
 use Rattle.stop_model.specs.Moments.{Meaning, Same}
@@ -16,7 +16,6 @@ use Rattle.pack_spec.specs.Blocks.{blocks_at, blocks_from, blocks_of, blocks_on,
 use Rattle.pack_spec.specs.Directories.{may_stand, part_at, part_blocks, part_on, part_tracks, read_to}
 use Rattle.pack_spec.specs.Label.{records_on, tracks_of}
 use Rattle.track_records.specs.Buffers.{Buffer}
-use Rattle.track_records.specs.Written.{StandsOn}
 use Rattle.vol_model.specs.declared.answers.CheckErr.{CheckErr}
 use Rattle.vol_model.specs.declared.answers.CheckErr.TheVariants.{Unreadable, Device}
 use Rattle.vol_model.specs.declared.contents.Block.{Block}
@@ -29,7 +28,8 @@ use Rattle.vtoc_index.proofs.Images.{same_image}
 use Rattle.vtoc_sets.specs.Sets.{extents_in}
 use Rattle.seq_access.specs.Bodies.{Checks, ChecksTrack, FindsBroken, IsReadable, IsSetIn, ReadsTrack, at_in, body_in, broken_in, data_in, end_in, owned_in, records_upto}
 use Rattle.seq_access.proofs.BodyWalks.{body_all, body_broken, first_is, none_first}
-use Rattle.seq_access.proofs.DataPlaces.{blocks_are, blocks_by, records_are}
+use Rattle.vtoc_sets.proofs.DataPlaces.{blocks_are, blocks_by, records_are}
+use Rattle.vtoc_sets.proofs.OtherBuffers.{call_as, call_none, call_then, set_with}
 
 -- what is true of the first of a list and of one more
 pub all_more : {X : Type 0} (p : X → Bool) (xs : List X) (k : ℕ) → list_all p (take k xs) ≡ true → option_map p (slice_get xs k) ≡ Some true → list_all p (take (k + 1) xs) ≡ true
@@ -169,58 +169,6 @@ module _ (image : List ℕ) (v : Vol) (f : F1) (set : IsSetIn image v f) (last :
 pub read_as : (image : List ℕ) (g h : Geometry) (u w : Option ℕ) (t : ℕ) (o : Option (List Record)) → h ≡ g → u ≡ w → records_on image h u t ≡ o → records_on image g w t ≡ o
 read_as image g h u w t o geometry upto is = ap₂ (λ (x : Geometry) (y : Option ℕ). records_on image x y t) (sym geometry) (sym upto) ∙ is
 
--- an index with another buffer
-module _ (image : List ℕ) (v : Vol) (b : Buffer) where
-  pub mounted_with : IsMounted image v → (b.records ≡ []) ⊎ StandsOn image b → IsMounted image (record v { buf = b })
-  mounted_with m held = record {
-    index = record {
-      header = m.index.header;
-      serial = m.index.serial;
-      tracks = m.index.tracks;
-      slots = m.index.slots;
-      firsts = m.index.firsts;
-      buffer = held;
-    };
-    vtoc = m.vtoc;
-    lawful = m.lawful;
-    whole = m.whole;
-    free = m.free;
-    volume = m.volume;
-  }
-
-  pub set_with : (f : F1) → IsSetIn image v f → IsMounted image (record v { buf = b }) → IsSetIn image (record v { buf = b }) f
-  set_with f set m = record {
-    set = record { mounted = m; extents = set.set.extents };
-    slot = set.slot;
-    dscb = set.dscb;
-  }
-
-pub unit_with : (us us' : List Attached) (v : Vol) (b : Buffer) → us' ≡ us → b.geometry ≡ v.buf.geometry → b.unit ≡ v.unit → IsOfUnit us v → IsOfUnit us' (record v { buf = b })
-unit_with us us' v b same geometry unit is =
-    let P : List Attached → Type 0 = λ l. IsOfUnit l (record v { buf = b }) in
-    subst P (sym same) (record {
-      attached = is.attached;
-      whole = is.whole;
-      inside = is.inside;
-      tracks = is.tracks;
-      few = is.few;
-      most = is.most;
-      firsts = is.firsts;
-      free = is.free;
-      buffer = (geometry ∙ is.buffer.0, unit);
-    })
-
--- a call that reports a fault where another does
-pub call_as : {A B : Type 0} {old new : Facts} → ReportedCall A old new → (A → B) → (B → A) → ReportedCall B old new
-call_as call to from = record {
-  units = call.units;
-  references = call.references;
-  prints = call.prints;
-  later = call.later;
-  device = λ b. call.device (from b);
-  others = λ none. call.others (λ a. none (to a));
-}
-
 -- the blocks on each relative track of a data set, by an image and its index
 abbrev pub BlocksOn : Type 0
 BlocksOn = List ℕ → Vol → ℕ → Option (List Block)
@@ -244,28 +192,6 @@ blocks_on_set f image v k = blocks_at v.geometry (data_in image v) (owned_in ima
 
 abbrev pub part_on_set : F1 → Place → BlocksOn
 part_on_set f end image v k = part_at v.geometry (data_in image v) (owned_in image v f) end (read_to end f.lstar) k
-
-pub call_none : (f : Facts) → ReportedCall ⊥ f f
-call_none f = record {
-  units = refl;
-  references = refl;
-  prints = refl;
-  later = omega arith;
-  device = λ none. absurd none;
-  others = λ _. refl;
-}
-
-pub call_then : {A : Type 0} (f0 f1 f2 : Facts) → ReportedCall ⊥ f0 f1 → ReportedCall A f1 f2 → ReportedCall A f0 f2
-call_then f0 f1 f2 first second =
-    let still : f1.dev_faults ≡ f0.dev_faults = first.others (λ none. none) in
-    record {
-      units = second.units ∙ first.units;
-      references = second.references ∙ first.references;
-      prints = second.prints ∙ first.prints;
-      later = omega (arith, first.later, second.later);
-      device = λ a. omega (arith, second.device a, still);
-      others = λ none. second.others none ∙ still;
-    }
 
 module _ (tells : Bool) (f0 f1 : Facts) (m0 m1 : Meaning (List File)) (v0 v1 : Vol) (on : BlocksOn) (k : ℕ) (w : Walks tells f0 f1 m0 m1 v0 v1 on k) where
   abbrev image : List ℕ

@@ -1,8 +1,9 @@
 -- The end of a writer's blocks: what is written behind the last one is none of them, and all is made durable.
 use Rattle.std.proofs.Common.{◌≡◌, ◌≤◌, ◌<◌, ℕ, zero, suc, true, List, [], ◌++◌, length, map, drop, Result, refl, sym, ap, ◌∙◌, subst, arith, ⊎_elim}
-use Rattle.std.specs.Prelude.{OnOk, Some}
+use Rattle.std.specs.Prelude.{OnOk, Some, slice_get}
 use Rattle.std.proofs.lemmas.Result.{on_ok_weaker}
-use Rattle.ckd_image.specs.Fit.{fits}
+use Rattle.ckd_image.specs.Fit.{balance, fits}
+use Rattle.ckd_image.specs.Track.{Record}
 use Rattle.ckd_image.specs.declared.device.DiskType.{DiskType}
 use Rattle.ckd_image.specs.declared.device.DiskType.TheVariants.{D2311, D2314, D3330, D3350}
 use Rattle.dscb_codec.specs.declared.F1.{F1}
@@ -12,20 +13,24 @@ use Rattle.stop_model.proofs.MomentLemmas.{elapses_from_exactly, elapses_none, e
 use Rattle.vol_model.specs.declared.contents.Block.{Block}
 use Rattle.vol_model.specs.declared.contents.Body.TheVariants as bodies
 use Rattle.vol_model.specs.declared.contents.Place.{Place}
-use Rattle.vol_model.specs.Places.{Content, content, placed}
+use Rattle.pack_spec.specs.Label.{records_on}
+use Rattle.pack_spec.specs.Volume.{attr_of}
+use Rattle.vol_model.specs.declared.answers.Mode.TheVariants.{Fill}
+use Rattle.vol_model.specs.Places.{Content, content, next_place, placed}
+use Rattle.vol_model.specs.Shelf.{fits_mode}
 use Rattle.vtoc_index.specs.declared.vol.Vol.{Vol}
 use Rattle.vtoc_index.specs.Index.{IsMounted}
 use Rattle.free_rebuild.specs.Durable.{LeavesAll}
 use Rattle.free_rebuild.specs.Repairs.{image_named}
 use Rattle.seq_access.specs.declared.writer.Writer.{Writer}
-use Rattle.seq_access.specs.Bodies.{HasBlocks, last_in}
-use Rattle.seq_access.specs.Writing.{AreSpared, AreThere, HasSetBy, IsWriting, Spares, body_so_far, has_put, puts_in, written_by}
+use Rattle.seq_access.specs.Bodies.{HasBlocks, last_in, owned_in}
+use Rattle.seq_access.specs.Writing.{AreSpared, AreThere, EndsWithNothing, HasEnd, HasSetBy, HoldsLast, IsBalanceOf, IsWriting, Spares, sizes, body_so_far, has_put, puts_in, written_by}
 use Rattle.seq_access.proofs.NextPlaces.{contents_behind}
-use Rattle.seq_access.proofs.DataPlaces.{outside}
-use Rattle.seq_access.proofs.KeptBodies.{data_read}
+use Rattle.vtoc_sets.proofs.OwnedSets.{outside}
+use Rattle.vtoc_sets.proofs.Owners.{data_read}
 use Rattle.seq_access.proofs.PutPlaces.{set_of, standing}
 use Rattle.seq_access.proofs.SparedCalls.{spares_then, spares_with}
-use Rattle.seq_access.proofs.SparedSets.{own_inside}
+use Rattle.vtoc_sets.proofs.OwnedSets.{own_inside}
 use Rattle.seq_access.proofs.WritersKept.{puts_with, writing_with}
 
 -- an end-of-file record fits an empty track
@@ -65,6 +70,20 @@ there_put image v w is put low small = ⊎_elim
     })
     (standing image v w is low small)
 
+-- the balance of the track that a buffer holds up to the last block
+pub balance_held : (image : List ℕ) (v0 v1 : Vol) (f : F1) (last : Place) (n : ℕ) → v1 ≡ record v0 { buf = v1.buf } → HoldsLast image v1 f last → n ≡ balance v0.geometry.device (map sizes v1.buf.records) → IsBalanceOf image v0 f last n
+balance_held image v0 v1 f last n same held is track records own read =
+    let here : HoldsLast image (record v0 { buf = v1.buf }) f last = subst (λ (u : Vol). HoldsLast image u f last) same held in
+    let one : v1.buf.track ≡ track = same_track v1.buf.track track (sym here.owned ∙ own) in
+    let both : v1.buf.records ≡ records = same_records v1.buf.records records (sym here.stand ∙ ap (records_on image v0.geometry (Some last.r)) one ∙ read) in
+    is ∙ ap (λ (rs : List Record). balance v0.geometry.device (map sizes rs)) both
+  where
+    same_track : (x y : ℕ) → Some x ≡ Some y → x ≡ y
+    same_track x y e = cc
+
+    same_records : (x y : List Record) → Some x ≡ Some y → x ≡ y
+    same_records x y e = cc
+
 -- a writer stands on the same image with another buffer of the index
 module _ (i0 i1 : List ℕ) (v0 v1 : Vol) (w : Writer) (image : i1 ≡ i0) (same : v1 ≡ record v0 { buf = v1.buf }) (mounted : IsMounted i0 v1) where
   abbrev now : Vol
@@ -84,6 +103,14 @@ module _ (i0 i1 : List ℕ) (v0 v1 : Vol) (w : Writer) (image : i1 ≡ i0) (same
       let by_image : (x : IsWriting i0 v1 w) → HasBlocks (body_so_far i2 v2 x.f w) (written_by x) = subst (λ (i : List ℕ). (x : IsWriting i v1 w) → HasBlocks (body_so_far i2 v2 x.f w) (written_by x)) image told in
       let by_index : (x : IsWriting i0 now w) → HasBlocks (body_so_far i2 v2 x.f w) (written_by x) = subst (λ (v : Vol). (x : IsWriting i0 v w) → HasBlocks (body_so_far i2 v2 x.f w) (written_by x)) same by_image in
       by_index (writing_with i0 v0 v1.buf w is there) ∙ ap (λ (cs : List Content). bodies.Seq (is.old ++ placed v0.geometry.device (bodies.Seq is.old) cs)) (puts_with i0 v0 v1.buf is.f w)
+
+  pub end_back : (is : IsWriting i0 v0 w) (i2 : List ℕ) → ((x : IsWriting i1 v1 w) → fits_mode Fill x.f.name (attr_of x.f) ≡ true → HasEnd x i2) → fits_mode Fill is.f.name (attr_of is.f) ≡ true → HasEnd is i2
+  end_back is i2 told fill =
+      let by_image : (x : IsWriting i0 v1 w) → fits_mode Fill x.f.name (attr_of x.f) ≡ true → HasEnd x i2 = subst (λ (i : List ℕ). (x : IsWriting i v1 w) → fits_mode Fill x.f.name (attr_of x.f) ≡ true → HasEnd x i2) image told in
+      let by_index : (x : IsWriting i0 now w) → fits_mode Fill x.f.name (attr_of x.f) ≡ true → HasEnd x i2 = subst (λ (v : Vol). (x : IsWriting i0 v w) → fits_mode Fill x.f.name (attr_of x.f) ≡ true → HasEnd x i2) same by_image in
+      subst (λ (cs : List Content). (track : ℕ) → slice_get (owned_in i0 v0 is.f) (next_place v0.geometry.device (bodies.Seq (is.old ++ placed v0.geometry.device (bodies.Seq is.old) cs)) ([], [])).tt ≡ Some track
+      → EndsWithNothing i2 v0.geometry track (next_place v0.geometry.device (bodies.Seq (is.old ++ placed v0.geometry.device (bodies.Seq is.old) cs)) ([], [])).r)
+      (puts_with i0 v0 v1.buf is.f w) (by_index (writing_with i0 v0 v1.buf w is there) fill)
 
   pub spares_from : {T E : Type 0} (is : IsWriting i0 v0 w) (n0 n1 : List ℕ) (m0 m1 m2 : Meaning (List File)) (r : Result T E) → n1 ≡ n0 → Same m0 m1 → ((x : IsWriting i1 v1 w) → Spares n1 v1 x.f (last_in i1 v1 x.f) m1 m2 r) → Spares n0 v0 is.f (last_in i0 v0 is.f) m0 m2 r
   spares_from is n0 n1 m0 m1 m2 r names quiet told =

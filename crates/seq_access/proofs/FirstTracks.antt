@@ -17,7 +17,7 @@ use Rattle.seq_access.specs.declared.writer.PutErr.TheVariants as put_err
 use Rattle.seq_access.specs.declared.writer.Writer.{Writer}
 use Rattle.seq_access.specs.Bodies.{owned_in}
 use Rattle.seq_access.specs.Writing.{IsReady, IsRoomy, IsWriting, record_next, sizes}
-use Rattle.seq_access.proofs.Checked.{call_as, mounted_with, unit_with}
+use Rattle.vtoc_sets.proofs.OtherBuffers.{call_as, mounted_with, unit_with}
 use Rattle.seq_access.proofs.ReadyPlaces.{ends_before, roomy_empty}
 use Rattle.seq_access.proofs.ReadySteps.{ready_first}
 

@@ -13,8 +13,8 @@ use Rattle.track_records.specs.Buffers.{Buffer}
 use Rattle.vol_model.specs.declared.contents.Place.{Place}
 use Rattle.vtoc_index.specs.declared.vol.Vol.{Vol}
 use Rattle.seq_access.specs.Bodies.{HoldsWhole, IsSetIn, data_in, held_upto, owned_in, part_held}
-use Rattle.seq_access.proofs.DataPlaces.{records_are}
-use Rattle.seq_access.proofs.SparedSets.{own_inside}
+use Rattle.vtoc_sets.proofs.DataPlaces.{records_are}
+use Rattle.vtoc_sets.proofs.OwnedSets.{own_inside}
 
 -- there aren't more of these records than all
 first_past : (n : ℕ) (xs : List Record) → length xs < n → first_records n xs ≡ None

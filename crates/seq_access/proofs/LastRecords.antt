@@ -22,7 +22,7 @@ use Rattle.vtoc_index.specs.declared.vol.Vol.{Vol}
 use Rattle.vtoc_sets.specs.Sets.{extents_in}
 use Rattle.std.proofs.lemmas.Option.{slice_get_within}
 use Rattle.seq_access.specs.Bodies.{IsSetIn, IsWritable, body_of_set, data_in, last_in, last_read, owned_in}
-use Rattle.seq_access.proofs.DataPlaces.{few_owned_tracks}
+use Rattle.vtoc_sets.proofs.DataPlaces.{few_owned_tracks}
 use Rattle.seq_access.proofs.LastPlaces.{last_said, some_said}
 use Rattle.seq_access.proofs.MoreBlocks.{Parts, parts_of}
 use Rattle.seq_access.proofs.NextPlaces.{last_behind}

@@ -1,6 +1,7 @@
 -- What the calls of a put come to: one makes the buffer of the index ready, and one writes behind its records.
 use Rattle.std.proofs.Common.{◌≡◌, ◌+◌, ◌≤◌, ◌<◌, ℕ, List, [], ◌∷◌, length, Result, Ok, sym, ap, ◌∙◌, subst}
-use Rattle.std.specs.Prelude.{unwrap_or}
+use Rattle.std.specs.Prelude.{None, Some, slice_get, unwrap_or}
+use Rattle.ckd_image.specs.declared.header.Geometry.{Geometry}
 use Rattle.hall_core.specs.Facts.{Attached, Facts, name_in, unit_of}
 use Rattle.hall_core.specs.Images.{image_in, image_of}
 use Rattle.stop_model.specs.Files.{AfterWrite, File, file_of}
@@ -13,8 +14,9 @@ use Rattle.vol_model.specs.Places.{lengths}
 use Rattle.vtoc_index.specs.declared.vol.Vol.{Vol}
 use Rattle.vtoc_index.specs.Index.{IsMounted, IsOfUnit}
 use Rattle.seq_access.specs.declared.writer.Writer.{Writer}
-use Rattle.seq_access.specs.Bodies.{HasBlocks, last_in}
-use Rattle.seq_access.specs.Writing.{IsPutBehind, IsReady, IsWriting, Spares, body_so_far, written_by}
+use Rattle.pack_spec.specs.Label.{records_on}
+use Rattle.seq_access.specs.Bodies.{HasBlocks, last_in, owned_in}
+use Rattle.seq_access.specs.Writing.{EndsWithNothing, IsPutBehind, IsReady, IsWriting, Spares, body_so_far, record_next, written_by}
 use Rattle.seq_access.proofs.PutSteps.{blocks_stay, put_done, set_stays, spares_more}
 use Rattle.seq_access.proofs.SparedCalls.{spares_as}
 
@@ -88,6 +90,23 @@ module _ (m0 m1 m2 : Meaning (List File)) (f0 f1 f2 : Facts) (v0 v1 : Vol) (w : 
     call_stays some =
         ap (λ (v : Vol). body_so_far i2 v is.f w) index
         ∙ blocks_stay (image_in m0 f0 v0.unit) i1 v0 w is kl dl place b here geometry low small key content e some i2 appended.0
+
+    -- where it has no key and no data, its track ends with an end-of-file record
+    pub call_ends : key ≡ [] → content ≡ [] → (track : ℕ) → slice_get (owned_in (image_in m0 f0 v0.unit) v0 is.f) (record_next is (key, content)).tt ≡ Some track → EndsWithNothing i2 v0.geometry track (record_next is (key, content)).r
+    call_ends no_key no_content track own =
+        let at : place ≡ record_next is (key, content) = here.next (key, content) e in
+        let one : b.track ≡ track = same_some b.track track (sym here.owned ∙ ap (λ (p : Place). slice_get (owned_in (image_in m0 f0 v0.unit) v0 is.f) p.tt) at ∙ own) in
+        record {
+          front = b.records;
+          last = record_of b key content;
+          records = ap (records_on i2 v0.geometry None) (sym one) ∙ ap (λ (g : Geometry). records_on i2 g None b.track) (sym geometry) ∙ appended.0.records;
+          number = here.number ∙ ap (λ (p : Place). p.r) at;
+          key = no_key;
+          content = no_content;
+        }
+      where
+        same_some : (x y : ℕ) → Some x ≡ Some y → x ≡ y
+        same_some x y e = cc
 
     pub call_mounted : IsMounted i2 (record v1 { buf = b2 })
     call_mounted = subst (IsMounted i2) (sym index) (set_stays (image_in m0 f0 v0.unit) i1 v0 w is kl dl place b here geometry low small key content e i2 appended.0 stands)

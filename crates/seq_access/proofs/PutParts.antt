@@ -24,15 +24,16 @@ use Rattle.seq_access.specs.declared.writer.Writer.{Writer}
 use Rattle.seq_access.specs.Bodies.{IsSetIn, IsWritable, body_of_set, body_upto, data_in, last_in, last_read, owned_in}
 use Rattle.seq_access.specs.Writing.{DifferBehind, IsNotBefore, IsWriting, body_so_far, front_in, puts_in, written_by}
 use Rattle.seq_access.proofs.Begins.{has_some}
-use Rattle.seq_access.proofs.DataPlaces.{outside}
-use Rattle.seq_access.proofs.KeptBodies.{data_read}
-use Rattle.seq_access.proofs.KeptBodies.{on_same as same_on}
+use Rattle.vtoc_sets.proofs.OwnedSets.{outside}
+use Rattle.vtoc_sets.proofs.Owners.{data_read}
+use Rattle.vtoc_sets.proofs.Owners.{on_same as same_on}
 use Rattle.seq_access.proofs.LastPlaces.{last_said, some_said}
 use Rattle.seq_access.proofs.MoreBlocks.{Parts, on_first, on_next, on_same}
 use Rattle.seq_access.proofs.NextPlaces.{contents_behind, written_more}
 use Rattle.seq_access.proofs.PutPlaces.{PutsAt, all_on, behind, count_in, differs, earlier, ends_of, goes, last_low, last_small, set_of, some_of}
 use Rattle.seq_access.proofs.SparedImages.{same_extents}
-use Rattle.seq_access.proofs.SparedSets.{bare, bare_set, body_kept, front_kept, own_inside, set_kept, tracks_kept}
+use Rattle.vtoc_sets.proofs.OwnedSets.{own_inside}
+use Rattle.seq_access.proofs.SparedSets.{bare, bare_set, body_kept, front_kept, set_kept, tracks_kept}
 
 no_records : (xs : List Record) → length xs ≡ 0 → xs ≡ []
 no_records [] e = refl

@@ -30,8 +30,9 @@ use Rattle.seq_access.proofs.LastPlaces.{last_said}
 use Rattle.seq_access.proofs.MoreBlocks.{Parts, parts_of}
 use Rattle.seq_access.proofs.NextPlaces.{AreBefore, next_behind, next_first}
 use Rattle.seq_access.proofs.OwnBodies.{last_small as small}
-use Rattle.seq_access.proofs.SparedImages.{by_bytes}
-use Rattle.seq_access.proofs.SparedSets.{first_on, own_apart, upto_kept}
+use Rattle.slot_laws.proofs.SameSlots.{by_bytes}
+use Rattle.vtoc_sets.proofs.OwnedSets.{own_once as own_apart}
+use Rattle.seq_access.proofs.SparedSets.{first_on, upto_kept}
 
 -- a writer's data set
 pub set_of : (image : List ℕ) (v : Vol) (w : Writer) (is : IsWriting image v w) → IsSetIn image v is.f

@@ -32,7 +32,8 @@ use Rattle.seq_access.specs.Writing.{IsNotBefore, IsWriting, puts_in, written_by
 use Rattle.seq_access.proofs.LastPlaces.{last_said, some_said}
 use Rattle.seq_access.proofs.NextBodies.{last_at, old_blocks, old_part, parts, placed_behind, read as read_part, written_part}
 use Rattle.seq_access.proofs.OwnBodies.{as_partitioned, as_sequential, by_body}
-use Rattle.seq_access.proofs.PartFronts.{AreBehind, before_none, behind_all, behind_both, few_first}
+use Rattle.vtoc_sets.proofs.EndTracks.{few_first}
+use Rattle.seq_access.proofs.PartFronts.{AreBehind, before_none, behind_all, behind_both}
 use Rattle.seq_access.proofs.PartReading.{all}
 
 -- records that can be blocks may stand where no directory block does

@@ -18,16 +18,15 @@ use Rattle.pack_spec.specs.Bodies.{body_of}
 use Rattle.pack_spec.specs.FreeChain.{entries_of, free_entries}
 use Rattle.pack_spec.specs.Label.{heads_of, label_of}
 use Rattle.pack_spec.specs.Owned.{volume_faults}
-use Rattle.pack_spec.specs.Rules.{counted_extents, is_named, slots_faults}
+use Rattle.pack_spec.specs.Rules.{is_named, slots_faults}
 use Rattle.pack_spec.specs.Settled.{AreGuarded, AreSettled, IsGuarded, IsSettledVtoc, slots_for}
-use Rattle.pack_spec.specs.Volume.{attr_of, data_sets_in, volume_by, volume_of, volume_with}
-use Rattle.pack_spec.proofs.Lawful.{groups_hold, lawful_volume}
+use Rattle.pack_spec.specs.Volume.{attr_of, volume_by, volume_of, volume_with}
+use Rattle.pack_spec.proofs.Lawful.{groups_hold}
 use Rattle.vol_model.specs.declared.answers.Mode.{Mode}
 use Rattle.vol_model.specs.declared.contents.Body.{Body}
 use Rattle.vol_model.specs.declared.contents.DataSet.{DataSet}
 use Rattle.vol_model.specs.declared.contents.Place.{Place}
 use Rattle.vol_model.specs.declared.contents.Volume.{Volume}
-use Rattle.vol_model.specs.Order.{IsAscending, in_order}
 use Rattle.vol_model.specs.Places.{Content, placed, with_blocks}
 use Rattle.vol_model.specs.Shelf.{fits_mode, unreadable, with_set, with_written, write_on, written}
 use Rattle.vol_model.specs.Space.{free_runs}
@@ -36,12 +35,12 @@ use Rattle.vtoc_index.specs.Index.{IsIndexOf, IsMounted, IsPut, place_of_slot, w
 use Rattle.vtoc_index.specs.Last.{lstar_of}
 use Rattle.vtoc_sets.specs.Sets.{extents_in}
 use Rattle.seq_access.specs.Bodies.{body_of_set, data_in}
-use Rattle.seq_access.proofs.ChangedNames.{faults_kept, free_kept}
-use Rattle.seq_access.proofs.FoundSlots.{content_at, has_named, low_of, others_apart, set_behind, slot_there}
-use Rattle.seq_access.proofs.KeptGuards.{guarded_alike, settled_alike}
-use Rattle.seq_access.proofs.KeptSlots.{HasExtentsOf, changed_content, changed_slot, counted_alike, faults_alike, put_is_change}
+use Rattle.slot_laws.proofs.ChangedSets.{faults_kept, free_kept}
+use Rattle.slot_laws.proofs.FoundSlots.{content_at, has_named, low_of, others_apart, set_behind, slot_there}
+use Rattle.slot_laws.proofs.KeptGuards.{guarded_alike, settled_alike}
+use Rattle.slot_laws.proofs.KeptSlots.{HasExtentsOf, changed_content, changed_slot, faults_alike, put_is_change}
 use Rattle.seq_access.proofs.RaisedSets.{raised, volume_written, written_on}
-use Rattle.seq_access.proofs.StandingPuts.{put_differs, put_mounted, put_stands, slots_by, volume_after}
+use Rattle.slot_laws.proofs.StandingPuts.{put_differs, put_mounted, put_stands, slots_by, volume_after}
 
 -- a format 1, with the last block raised where it has this name
 abbrev one_raised : List ℕ → Place → ℕ → F1 → F1
@@ -129,18 +128,11 @@ module _ (image put : List ℕ) (v : Vol) (slot : ℕ) (f : F1) (last : Place) (
       ap (λ (h : F1). with_dscb slot (formats.F1 h) slots) (sym this)
       ∙ put_is_change c slot slots f content (λ k e under other. same_slot f.name last balance (get_or slots k e) (only k e under other))
 
-  counted : (h : F1) → counted_extents (with_dscb slot d slots) h ≡ counted_extents slots h
-  counted h = ap (λ (ss : List VtocSlot). counted_extents ss h) change ∙ counted_alike c (keeps f.name last balance) slots h h (record { count = refl; runs = refl; pointer = refl })
-
   lawful : slots_faults v.geometry (with_dscb slot d slots) ≡ []
   lawful = ap (slots_faults v.geometry) change ∙ faults_alike c (keeps f.name last balance) (names f.name last balance) v.geometry slots ∙ can.mounted.lawful
 
-  up : IsAscending (in_order (data_sets_in v.geometry (data_tracks image v.geometry v.vtoc) slots))
-  unfolding volume_with
-  up = (lawful_volume image before can.mounted.volume).order
-
   made : volume_after image put v slot d bytes can.mounted low size dscb put_is is behind ≡ with_set before f.name more
-  made = volume_written v.geometry (data_tracks image v.geometry v.vtoc) slots slot at.0 f last balance at.1.0 at.1.1 can.mounted.lawful counted up mode cs body can.kind can.readable can.was can.is (unwrap_or (label_of image v.geometry) []) v.vtoc
+  made = volume_written v.geometry (data_tracks image v.geometry v.vtoc) slots slot at.0 f last balance at.1.0 at.1.1 can.mounted.lawful mode cs body can.kind can.readable can.was can.is (unwrap_or (label_of image v.geometry) []) v.vtoc
 
   whole : volume_faults (volume_after image put v slot d bytes can.mounted low size dscb put_is is behind) ≡ []
   whole = ap volume_faults made ∙ faults_kept f.name more (λ x. refl) before ∙ can.mounted.whole
@@ -191,7 +183,7 @@ module _ (image put : List ℕ) (v : Vol) (slot : ℕ) (f : F1) (last : Place) (
     after = with_set before f.name more;
     step =
         ap (write_on mode (record { bytes = f.name }) cs) (same_volume volume there)
-        ∙ written_on v.geometry (data_tracks image v.geometry v.vtoc) slots slot at.0 f last balance at.1.0 at.1.1 can.mounted.lawful counted up mode cs body can.kind can.readable can.was can.is (unwrap_or (label_of image v.geometry) []) v.vtoc;
+        ∙ written_on v.geometry (data_tracks image v.geometry v.vtoc) slots slot at.0 f last balance at.1.0 at.1.1 can.mounted.lawful mode cs body can.kind can.readable can.was can.is (unwrap_or (label_of image v.geometry) []) v.vtoc;
     stands = stands;
     guarded = keeps_guarded;
     settled = keeps_settled;

@@ -24,9 +24,9 @@ use Rattle.seq_access.specs.declared.writer.Writer.{Writer}
 use Rattle.seq_access.specs.Bodies.{IsSetIn, data_in, owned_in}
 use Rattle.seq_access.specs.Writing.{AreThere, IsRoomy, IsWriting, record_next, sizes, written_by}
 use Rattle.seq_access.proofs.BodyWalks.{body_none}
-use Rattle.seq_access.proofs.DataPlaces.{outside}
+use Rattle.vtoc_sets.proofs.OwnedSets.{outside}
 use Rattle.seq_access.proofs.EndedTracks.{count_on}
-use Rattle.seq_access.proofs.KeptBodies.{data_past, data_read}
+use Rattle.vtoc_sets.proofs.Owners.{data_past, data_read}
 use Rattle.seq_access.proofs.LastPlaces.{last_said, some_said}
 use Rattle.seq_access.proofs.MoreBlocks.{Parts, parts_of}
 use Rattle.seq_access.proofs.NextPlaces.{next_behind, next_first}

@@ -14,7 +14,7 @@ use Rattle.seq_access.specs.declared.writer.PutErr.{PutErr}
 use Rattle.seq_access.specs.declared.writer.Writer.{Writer}
 use Rattle.seq_access.specs.Bodies.{owned_in}
 use Rattle.seq_access.specs.Writing.{HoldsLast, IsEnded, IsReady, IsWriting, record_next, sizes}
-use Rattle.seq_access.proofs.Checked.{mounted_with}
+use Rattle.vtoc_sets.proofs.OtherBuffers.{mounted_with}
 use Rattle.seq_access.proofs.ReadyPlaces.{next_by, next_none}
 use Rattle.seq_access.proofs.WritersKept.{puts_with, writing_with}
 

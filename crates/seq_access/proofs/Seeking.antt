@@ -34,8 +34,9 @@ use Rattle.seq_access.specs.declared.read_buf.Reach.{Reach}
 use Rattle.seq_access.specs.declared.read_buf.Reach.TheVariants as reaches
 use Rattle.seq_access.specs.declared.read_buf.ReadBuf.{ReadBuf}
 use Rattle.seq_access.proofs.BodyWalks.{blocks_on_tracks, body_none, body_read}
-use Rattle.seq_access.proofs.Checked.{call_none, call_then, not_all}
-use Rattle.seq_access.proofs.DataPlaces.{blocks_are, blocks_by}
+use Rattle.vtoc_sets.proofs.OtherBuffers.{call_none, call_then}
+use Rattle.seq_access.proofs.Checked.{not_all}
+use Rattle.vtoc_sets.proofs.DataPlaces.{blocks_are, blocks_by}
 
 -- what a buffer holds that knows how far it was read
 pub held_again : (image : List ℕ) (reach : Reach) (b : Buffer) (upto : Option ℕ) (t : ℕ) → AreRead image reach b → reach ≡ reach_of upto → b.track ≡ t → records_on image b.geometry upto t ≡ Some b.records

@@ -1,24 +1,21 @@
 -- A data set on an image, and on one that differs behind its last block alone.
-use Rattle.std.proofs.Common.{◌≡◌, ◌⊎◌, subst, ◌+◌, ◌≤◌, ◌<◌, ◌/◌, ◌%◌, ℕ, zero, suc, Bool, true, cond, List, [], ◌∷◌, length, take, map, Option, Some, None, inl, inr, refl, sym, ap, ◌∙◌, arith, ⊎_elim}
+use Rattle.std.proofs.Common.{◌≡◌, ◌⊎◌, subst, ◌+◌, ◌≤◌, ◌<◌, ◌/◌, ◌%◌, ℕ, Bool, true, cond, List, [], length, take, map, Option, Some, None, inl, refl, sym, ap, ◌∙◌, arith, ⊎_elim}
 use Rattle.std.specs.Prelude.{slice_get}
-use Rattle.std.specs.List.{flat_map, range_with_len}
+use Rattle.std.specs.List.{range_with_len}
 use Rattle.ckd_image.specs.declared.header.Geometry.{Geometry}
 use Rattle.ckd_image.specs.Track.{Record}
 use Rattle.ckd_image.proofs.GeometryLemmas.{has_geometry}
 use Rattle.dscb_codec.specs.declared.F1.{F1}
 use Rattle.vol_model.specs.declared.contents.Body.{Body}
 use Rattle.vol_model.specs.declared.contents.Body.TheVariants.{Seq}
-use Rattle.vol_model.specs.declared.contents.DataSet.{DataSet}
 use Rattle.vol_model.specs.declared.contents.Place.{Place}
 use Rattle.vol_model.specs.declared.contents.Run.{Run}
-use Rattle.vol_model.specs.Lawful.{IsOnPack}
 use Rattle.pack_spec.specs.declared.slot.VtocSlot.{VtocSlot}
 use Rattle.pack_spec.specs.Blocks.{blocks_at, has_no_block, last_of, owned_tracks, seq_body, seq_of}
 use Rattle.pack_spec.specs.Bodies.{body_of}
-use Rattle.pack_spec.specs.Label.{heads_of, records_on, track_bytes, tracks_of}
+use Rattle.pack_spec.specs.Label.{heads_of, records_on, track_bytes}
 use Rattle.pack_spec.specs.Rules.{has_extents}
-use Rattle.pack_spec.specs.Slots.{slots_of_vtoc, tracks_in}
-use Rattle.pack_spec.specs.Volume.{attr_of, data_sets_in}
+use Rattle.pack_spec.specs.Volume.{attr_of}
 use Rattle.pack_spec.proofs.BlockBodies.{same_body}
 use Rattle.track_records.specs.Appends.{MayContinue, continuation, start_behind}
 use Rattle.track_records.specs.Buffers.{Buffer}
@@ -29,14 +26,16 @@ use Rattle.vtoc_index.specs.Last.{lstar_of}
 use Rattle.vtoc_sets.specs.Sets.{HasSet, extents_in}
 use Rattle.seq_access.specs.Bodies.{IsLastOf, IsSetIn, IsWritable, body_of_set, body_upto, data_in, last_read, owned_in}
 use Rattle.seq_access.specs.Writing.{DifferBehind}
-use Rattle.seq_access.proofs.Checked.{mounted_with}
-use Rattle.seq_access.proofs.DataPlaces.{once, outside, own, owners, owners_more}
-use Rattle.seq_access.proofs.KeptBodies.{either, on_same, owned_apart, run_at}
+use Rattle.vtoc_sets.proofs.OtherBuffers.{mounted_with}
+use Rattle.vtoc_sets.proofs.OwnedSets.{outside}
+use Rattle.vtoc_sets.proofs.OwnedSets.{own_inside}
+use Rattle.vtoc_sets.proofs.OwnedSets.{own_once as own_apart}
+use Rattle.vtoc_sets.proofs.Owners.{on_same}
 use Rattle.seq_access.proofs.LastPlaces.{last_said}
-use Rattle.seq_access.proofs.OwnedPlaces.{extent_on_pack}
 use Rattle.seq_access.proofs.SparedCalls.{differ_by}
 use Rattle.seq_access.proofs.SparedFiles.{MayWrite}
-use Rattle.seq_access.proofs.SparedImages.{by_bytes, own_kept, same_extents, slots_kept, spared_mounted}
+use Rattle.slot_laws.proofs.SameSlots.{by_bytes}
+use Rattle.seq_access.proofs.SparedImages.{own_kept, same_extents, slots_kept, spared_mounted}
 use Rattle.seq_access.proofs.WritersKept.{set_by}
 
 -- of records that are read the first ones are read too
@@ -51,28 +50,6 @@ bare v = record v { buf = record (v.buf) { records = [] } }
 -- a data set of an image by an index is one by that
 pub bare_set : (image : List ℕ) (v : Vol) (f : F1) → IsSetIn image v f → IsSetIn image (bare v) f
 bare_set image v f set = record { set = set_by image v (record (v.buf) { records = [] }) f set.set refl; slot = set.slot; dscb = set.dscb }
-
--- the tracks of runs on the pack are on it
-tracks_inside : (g : Geometry) (xs : List Run) → ((m : ℕ) (r : Run) → slice_get xs m ≡ Some r → IsOnPack g r) → (k t : ℕ) → slice_get (owned_tracks xs) k ≡ Some t → t < tracks_of g
-unfolding owned_tracks
-tracks_inside g [] on k t is = cc
-tracks_inside g (r ∷ rs) on k t is = elim (either (tracks_in r) (flat_map tracks_in rs) k t is) [
-  | inl w ↦ let at = run_at r.start r.len k t w in let here = on zero r refl in omega (arith, at.0, at.1, here.1)
-  | inr w ↦ tracks_inside g rs (λ m x there. on (suc m) x there) w.0 t w.2
-]
-
-module _ (image : List ℕ) (v : Vol) (f : F1) (set : IsSetIn image v f) where
-  pub own_once : (t : ℕ) → owners t (extents_in image v f) ≤ 1
-  own_once t =
-      let all : List Run = flat_map (λ (x : DataSet). x.extents) (data_sets_in v.geometry (data_in image v) (slots_of_vtoc image v.geometry v.vtoc)) in
-      omega (arith, once image v f set t, own image v f set t, owners_more t (record { start = 0; len = 1 }) (v.vtoc ∷ all), owners_more t v.vtoc all)
-
-  -- a track is one of the set's tracks once
-  pub own_apart : (k j t : ℕ) → slice_get (owned_in image v f) k ≡ Some t → slice_get (owned_in image v f) j ≡ Some t → k ≡ j
-  own_apart k j t first second = owned_apart (extents_in image v f) k j t first second (own_once t)
-
-  pub own_inside : (k t : ℕ) → slice_get (owned_in image v f) k ≡ Some t → t < tracks_of v.geometry
-  own_inside k t is = tracks_inside v.geometry (extents_in image v f) (extent_on_pack image v f set.set) k t is
 
 -- The body up to a last block is the same where the records are that it is made of.
 module _ (before after : List ℕ) (v : Vol) (f : F1) (set : IsSetIn before v f) (lstar : List ℕ)

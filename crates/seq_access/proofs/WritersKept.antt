@@ -13,7 +13,7 @@ use Rattle.vtoc_sets.specs.Sets.{HasSet}
 use Rattle.seq_access.specs.declared.writer.Writer.{Writer}
 use Rattle.seq_access.specs.Bodies.{HasBlocks, IsSetIn}
 use Rattle.seq_access.specs.Writing.{IsEnded, IsWriting, body_so_far, has_put, puts_in}
-use Rattle.seq_access.proofs.Checked.{mounted_with}
+use Rattle.vtoc_sets.proofs.OtherBuffers.{mounted_with}
 
 -- one slot holds one format 1
 pub same_set : (v : Vol) (slot : ℕ) (f g : F1) → slice_get v.slots.items slot ≡ Some (formats.F1 f) → slice_get v.slots.items slot ≡ Some (formats.F1 g) → f ≡ g

@@ -1,9 +1,8 @@
 -- The blocks of a sequential or partitioned data set as an image has them, by the index of its VTOC, in this project's profile.
 use Rattle.std.specs.Prelude.{◌≡◌, ◌≢◌, ◌==◌, ◌&&◌, ℕ, true, List, length, take, nat_le, Option, Some, None, Result, Ok, Err, is_none, option_and_then, position, slice_get, if◌then◌else◌}
 use Rattle.ckd_image.specs.Track.{Record}
-use Rattle.dscb_codec.specs.declared.Dscb.TheVariants as formats
 use Rattle.dscb_codec.specs.declared.F1.{F1}
-use Rattle.pack_spec.specs.Blocks.{data_tracks, last_of, owned_tracks, records_in, seq_body, upto_last}
+use Rattle.pack_spec.specs.Blocks.{last_of, records_in, seq_body, upto_last}
 use Rattle.pack_spec.specs.Bodies.{body_of}
 use Rattle.pack_spec.specs.Directories.{end_from, part_at, part_blocks, part_body, part_tracks, read_to}
 use Rattle.pack_spec.specs.Label.{records_on}
@@ -18,25 +17,12 @@ use Rattle.vol_model.specs.Reading.{readable}
 use Rattle.vol_model.specs.Shelf.{is_sequential}
 use Rattle.track_records.specs.Buffers.{Buffer}
 use Rattle.vtoc_index.specs.declared.vol.Vol.{Vol}
-use Rattle.vtoc_sets.specs.Sets.{HasSet, extents_in}
-
--- A data set of a mounted image by its format 1, which stands in a slot of the index.
-pub record IsSetIn (image : List ℕ) (v : Vol) (f : F1) : Type 0 where
-  pub set : HasSet image v f
-  pub slot : ℕ
-  pub dscb : slice_get v.slots.items slot ≡ Some (formats.F1 f)
+pub use Rattle.vtoc_sets.specs.Sets.{IsSetIn, data_in, owned_in}
+use Rattle.vtoc_sets.specs.Sets.{extents_in}
 
 -- the data set of a format 1 is sequential
 abbrev pub IsSequential : F1 → Type 0
 IsSequential f = is_sequential f.name (attr_of f) ≡ true
-
--- the tracks of a data set, in relative order
-abbrev pub owned_in : List ℕ → Vol → F1 → List ℕ
-owned_in image v f = owned_tracks (extents_in image v f)
-
--- the bytes of the tracks outside the VTOC
-abbrev pub data_in : List ℕ → Vol → List (List ℕ)
-data_in image v = data_tracks image v.geometry v.vtoc
 
 -- the body that a data set has by this LSTAR
 abbrev pub body_upto : List ℕ → Vol → F1 → List ℕ → Body

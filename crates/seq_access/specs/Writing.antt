@@ -1,8 +1,11 @@
 -- What a writer has put behind the blocks of a sequential or partitioned data set, and what its writes leave, in this project's profile.
 use Rattle.std.specs.Prelude.{◌≡◌, ◌≢◌, ◌⊎◌, ℕ, ◌+◌, ◌≤◌, ◌<◌, nat_lt, Bool, true, false, List, [], ◌∷◌, ◌++◌, length, map, drop, take, slice_get, Option, Some, None, Ok, Result, OnOk}
 use Rattle.std.specs.List.{list_all}
+use Rattle.dscb_codec.specs.declared.Dscb.{Dscb}
 use Rattle.dscb_codec.specs.declared.Dscb.TheVariants as formats
 use Rattle.dscb_codec.specs.declared.F1.{F1}
+use Rattle.ckd_image.specs.declared.header.Geometry.{Geometry}
+use Rattle.ckd_image.specs.Fit.{balance}
 use Rattle.ckd_image.specs.Track.{Record}
 use Rattle.hall_core.specs.Facts.{Attached}
 use Rattle.stop_model.specs.Blocks.{Keeps}
@@ -26,7 +29,7 @@ use Rattle.vol_model.specs.Places.{Content, content, lengths, next_place, placed
 use Rattle.vol_model.specs.Shelf.{blocks_of}
 use Rattle.vtoc_index.specs.declared.vol.Vol.{Vol}
 use Rattle.vtoc_index.specs.Index.{IsMounted}
-use Rattle.vtoc_index.specs.Last.{lstar_of}
+use Rattle.vtoc_index.specs.Last.{lstar_of, with_last}
 use Rattle.vtoc_sets.specs.Sets.{HasSet}
 use Rattle.free_rebuild.specs.Repairs.{image_named}
 use Rattle.seq_access.specs.declared.writer.Writer.{Writer}
@@ -117,6 +120,31 @@ pub record AreThere (image : List ℕ) (v : Vol) (f : F1) (last : Place) : Type 
 pub record HoldsLast (image : List ℕ) (v : Vol) (f : F1) (last : Place) : Type 0 where
   pub owned : slice_get (owned_in image v f) last.tt ≡ Some v.buf.track
   pub stand : records_on image v.geometry (Some last.r) v.buf.track ≡ Some v.buf.records
+
+-- this is the balance of a data set's track, with its records up to the last block
+abbrev pub IsBalanceOf : List ℕ → Vol → F1 → Place → ℕ → Type 0
+IsBalanceOf image v f last n = (track : ℕ) (records : List Record) → slice_get (owned_in image v f) last.tt ≡ Some track
+    → records_on image v.geometry (Some last.r) track ≡ Some records → n ≡ balance v.geometry.device (map sizes records)
+
+-- A slot holds the format 1 of a data set with this last block, and with the balance of its track.
+pub record IsRaised (image : List ℕ) (v : Vol) (f : F1) (slot : ℕ) (last : Place) (dscbs : List Dscb) : Type 0 where
+  pub balance : ℕ
+  pub is : IsBalanceOf image v f last balance
+  pub there : slice_get dscbs slot ≡ Some (with_last last balance (formats.F1 f))
+
+-- The records of a track end with one of this number, which has no key and no data.
+pub record EndsWithNothing (image : List ℕ) (g : Geometry) (track r : ℕ) : Type 0 where
+  pub front : List Record
+  pub last : Record
+  pub records : records_on image g None track ≡ Some (front ++ last ∷ [])
+  pub number : length front + 1 ≡ r
+  pub key : last.key ≡ []
+  pub content : last.«data» ≡ []
+
+-- An end-of-file record is the last of the track on which the next block without key and data goes, if the data set owns that.
+abbrev pub HasEnd : {image : List ℕ} {v : Vol} {w : Writer} → IsWriting image v w → List ℕ → Type 0
+HasEnd {image} {v} is image' = (track : ℕ) → slice_get (owned_in image v is.f) (record_next is ([], [])).tt ≡ Some track
+    → EndsWithNothing image' v.geometry track (record_next is ([], [])).r
 
 -- A buffer holds records that can be blocks, and its track takes an end marker behind them.
 pub record IsRoomy (units : List Attached) (b : Buffer) : Type 0 where

@@ -13,12 +13,12 @@ ghost use Rattle.seq_access.specs.Bodies.{Checks, ChecksTrack, FindsBroken, Hold
 
 use crate::last::{has_no_block, is_before, is_record_0, last_of, read_to, upto_last};
 use crate::lengths::{is_block, is_directory_record};
-use crate::tracks::track_at;
 use dscb_codec::F1;
 use hall_core::Hall;
 use track_records::{TrackBuf, TrackErr, read_records};
 use vol_model::{CheckErr, Place};
 use vtoc_index::Vol;
+use vtoc_sets::track_at;
 
 /// Walks the records of a sequential data set up to its last block, by its format 1, which is one of the index.
 ///

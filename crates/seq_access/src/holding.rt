@@ -11,16 +11,16 @@ ghost use Rattle.seq_access.specs.Bodies.{owned_in};
 ghost use Rattle.seq_access.specs.Writing.{AreThere, HoldsLast, IsRoomy};
 
 use crate::held::is_roomy;
-use crate::tracks::track_at;
 use crate::writer::PutErr;
 use dscb_codec::{Dscb, F1};
 use hall_core::{Device, Hall};
 use track_records::{TrackErr, read_records};
 use vol_model::Place;
 use vtoc_index::Vol;
+use vtoc_sets::track_at;
 
 // Makes the buffer the empty one of a relative track of a set; `NeedExtent` where the set doesn't own it.
-pub(crate) fn turn_to(vol: &mut Vol, set: &F1, k: u16) -> Result<Place, PutErr>
+pub(crate) fn begin_track(vol: &mut Vol, set: &F1, k: u16) -> Result<Place, PutErr>
     requires unit { (units : List Attached) × IsOfUnit units vol.old }
     ensures place { IfOk result (λ place. place ≡ record { tt = k; r = 1 }) }
     ensures track { OnOk result ((image : List ℕ) → HasSet image vol.old set.now

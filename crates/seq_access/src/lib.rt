@@ -10,7 +10,6 @@ mod lengths;
 mod members;
 mod read_buf;
 mod reading;
-mod tracks;
 mod writer;
 mod writing;
 

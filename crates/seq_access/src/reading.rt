@@ -15,13 +15,13 @@ ghost use Rattle.seq_access.specs.Reading.{Finds, FindsOn, GivesFirst, reach_of,
 use crate::last::{has_no_block, last_of, upto_last};
 use crate::lengths::is_block;
 use crate::read_buf::{Reach, ReadBuf};
-use crate::tracks::track_at;
 use dscb_codec::F1;
 use hall_core::{Device, Hall};
 use std::alloc::{AllocError, Global};
 use track_records::{TrackErr, read_records};
 use vol_model::{Block, BlockBuf, Place, Text, WorkErr};
 use vtoc_index::Vol;
+use vtoc_sets::track_at;
 
 /// Reads the first block at or after a place into a block; false where there is none. The block is blank then, and
 /// after an error.

@@ -4,7 +4,7 @@ ghost use Rattle.ckd_image.specs.Fit.{balance, fits};
 ghost use Rattle.dscb_codec.specs.declared.F1.{F1};
 ghost use Rattle.hall_core.specs.Facts.{DeviceCall, ReportedCall, unit_of};
 ghost use Rattle.hall_core.specs.Images.{image_in};
-ghost use Rattle.stop_model.specs.Files.{AfterSync, File};
+ghost use Rattle.stop_model.specs.Files.{File};
 ghost use Rattle.stop_model.specs.Moments.{IsDurable, Same};
 ghost use Rattle.pack_spec.specs.Volume.{attr_of, volume_of};
 ghost use Rattle.vol_model.specs.Places.{Content, fits_a_track, lengths as lengths_of};
@@ -18,21 +18,21 @@ ghost use Rattle.vtoc_sets.specs.Sets.{HasSet};
 ghost use Rattle.free_rebuild.specs.Durable.{LeavesAll, PutsDurably};
 ghost use Rattle.free_rebuild.specs.Repairs.{image_named};
 ghost use Rattle.seq_access.specs.Bodies.{HasBlocks, IsWritable, body_of_set, last_in, owned_in};
-ghost use Rattle.seq_access.specs.Writing.{AreSpared, Commits, EndsAt, HasSetBy, HoldsLast, IsEnded, IsPutBehind, IsReady, IsRoomy, IsWriting, Spares, body_so_far, has_put, place_next, puts_in, record_next, sizes, written_by};
+ghost use Rattle.seq_access.specs.Writing.{AreSpared, Commits, EndsAt, HasEnd, HasSetBy, HoldsLast, IsBalanceOf, IsEnded, IsPutBehind, IsRaised, IsReady, IsRoomy, IsWriting, Spares, body_so_far, has_put, place_next, puts_in, record_next, sizes, written_by};
 
 use crate::held::{balance_of, fits_behind};
-use crate::holding::{hold_last, set_at, turn_to};
+use crate::holding::{begin_track, hold_last, set_at};
 use crate::last::last_read;
 use crate::lengths::Lengths;
-use crate::tracks::track_at;
 use crate::writer::{PutErr, Writer};
 use ckd_image::fits;
 use dscb_codec::{Dscb, F1};
+use free_rebuild::make_durable;
 use hall_core::{Device, Hall};
 use track_records::{append, seal};
 use vol_model::{Mode, Place, WorkErr};
 use vtoc_index::{Vol, set_last};
-use vtoc_sets::fits_mode;
+use vtoc_sets::{fits_mode, track_at};
 
 /// Opens a writer behind the blocks of the sequential or partitioned data set in a slot, whose body can be read; of a
 /// partitioned one by the place of its directory's end-of-file record.
@@ -161,6 +161,37 @@ pub fn commit<H: Hall>(hall: &mut H, vol: &mut Vol, writer: Writer) -> Result<()
     if writer.blocks == 0 {
         return Ok(());
     }
+    commit_put(hall, vol, writer)
+}
+
+// Makes the blocks that were put those of the set: its format 1 names the last one, with the balance of that track.
+fn commit_put<H: Hall>(hall: &mut H, vol: &mut Vol, writer: Writer) -> Result<(), Device>
+    requires unit { IsOfUnit (H.facts hall.old).units vol.old }
+    requires slot { writer.slot < length vol.old.slots.items }
+    requires put { has_put writer ≡ true }
+    requires writing { let image = image_in (H.meaning hall.old) (H.facts hall.old) vol.old.unit in
+        IsTrue H.tells → IsWriting image vol.old writer }
+    ensures files { let image = image_in (H.meaning hall.old) (H.facts hall.old) vol.old.unit in
+        let name = (unit_of (H.facts hall.old).units vol.old.unit).name in
+        IsTrue H.tells → (is : IsWriting image vol.old writer)
+        (before : List File) (volume : Volume) → HasSetBy (image_named before name) vol.old is.f
+        → volume_of (image_named before name) ≡ Ok volume
+        → ((files : List File) → (H.meaning hall.old).left files
+        → AreSpared name vol.old is.f (last_in image vol.old is.f) before files)
+        → AreSpared name vol.old is.f (last_in image vol.old is.f) before (H.meaning hall.old).state
+        → (mode : Mode) (cs : List Content) → fits_mode mode is.f.name (attr_of is.f) ≡ true
+        → written mode (body_of_set image vol.old is.f) cs ≡ puts_in image vol.old is.f writer
+        → Commits name volume (write_on mode (record { bytes = is.f.name }) cs volume) vol.new before
+        (H.meaning hall.old) (H.meaning hall.new) result }
+    ensures raised { let image = image_in (H.meaning hall.old) (H.facts hall.old) vol.old.unit in
+        IsTrue H.tells → OnOk result ((is : IsWriting image vol.old writer)
+        → IsRaised image vol.old is.f writer.slot writer.last vol.new.slots.items) }
+    ensures names { OnOk result ((k : ℕ) → name_at vol.new.slots.items k
+        ≡ name_at vol.old.slots.items k) }
+    ensures others { vol.new ≡ record vol.old { slots = vol.new.slots; buf = vol.new.buf } }
+    ensures unit { IsOfUnit (H.facts hall.new).units vol.new }
+    ensures faults { DeviceCall (H.facts hall.old) (H.facts hall.new) result }
+{
     let balance = end_durably(hall, vol, writer)?;
     raise_durably(hall, vol, writer, balance)
 }
@@ -210,7 +241,7 @@ fn make_ready<H: Hall>(
 {
     let set = set_at(hall, vol, writer.slot)?;
     if writer.last.r == 0 {
-        return turn_to(vol, &set, 0);
+        return begin_track(vol, &set, 0);
     }
     hold_last(hall, vol, &set, writer.last)?;
     if fits_behind(vol.geometry.device, &vol.buf, lengths) {
@@ -219,11 +250,16 @@ fn make_ready<H: Hall>(
             r: vol.buf.len() as u8 + 1,
         });
     }
-    go_on(hall, vol, &set, writer)
+    next_track(hall, vol, &set, writer)
 }
 
 // Makes the buffer the empty one of the set's next track; the track of the last block, whose records it held, ends there.
-fn go_on<H: Hall>(hall: &mut H, vol: &mut Vol, set: &F1, writer: Writer) -> Result<Place, PutErr>
+fn next_track<H: Hall>(
+    hall: &mut H,
+    vol: &mut Vol,
+    set: &F1,
+    writer: Writer,
+) -> Result<Place, PutErr>
     requires unit { IsOfUnit (H.facts hall.old).units vol.old }
     requires slot { slice_get vol.old.slots.items writer.slot ≡ Some (Dscb.F1 set.now) }
     requires roomy { IsRoomy (H.facts hall.old).units vol.old.buf }
@@ -315,6 +351,13 @@ fn end_durably<H: Hall>(hall: &mut H, vol: &mut Vol, writer: Writer) -> Result<u
         let image' = image_in (H.meaning hall.new) (H.facts hall.new) vol.old.unit in
         IsTrue H.tells → OnOk result ((is : IsWriting image vol.old writer)
         → HasBlocks (body_so_far image' vol.new is.f writer) (written_by is)) }
+    ensures balance { let image = image_in (H.meaning hall.old) (H.facts hall.old) vol.old.unit in
+        IsTrue H.tells → IfOk result (λ n. (is : IsWriting image vol.old writer)
+        → IsBalanceOf image vol.old is.f writer.last n) }
+    ensures end { let image = image_in (H.meaning hall.old) (H.facts hall.old) vol.old.unit in
+        let image' = image_in (H.meaning hall.new) (H.facts hall.new) vol.old.unit in
+        IsTrue H.tells → OnOk result ((is : IsWriting image vol.old writer)
+        → fits_mode Mode.Fill is.f.name (attr_of is.f) ≡ true → HasEnd is image') }
     ensures durable { IsTrue H.tells → OnOk result (IsDurable (H.meaning hall.new)) }
     ensures mounted { let image' = image_in (H.meaning hall.new) (H.facts hall.new) vol.old.unit in
         IsTrue H.tells → OnOk result (IsMounted image' vol.new) }
@@ -368,6 +411,10 @@ fn put_end<H: Hall>(hall: &mut H, vol: &mut Vol, writer: Writer) -> Result<(), D
         let image' = image_in (H.meaning hall.new) (H.facts hall.new) vol.old.unit in
         IsTrue H.tells → OnOk result ((is : IsWriting image vol.old writer)
         → HasBlocks (body_so_far image' vol.new is.f writer) (written_by is)) }
+    ensures end { let image = image_in (H.meaning hall.old) (H.facts hall.old) vol.old.unit in
+        let image' = image_in (H.meaning hall.new) (H.facts hall.new) vol.old.unit in
+        IsTrue H.tells → OnOk result ((is : IsWriting image vol.old writer)
+        → fits_mode Mode.Fill is.f.name (attr_of is.f) ≡ true → HasEnd is image') }
     ensures mounted { let image' = image_in (H.meaning hall.new) (H.facts hall.new) vol.old.unit in
         IsTrue H.tells → OnOk result (IsMounted image' vol.new) }
     ensures others { vol.new ≡ record vol.old { buf = vol.new.buf } }
@@ -386,6 +433,8 @@ fn ends_with_a_record<H: Hall>(hall: &mut H, vol: &Vol, slot: u32) -> Result<boo
     requires unit { IsOfUnit (H.facts hall.old).units vol.now }
     requires slot { slot < length vol.now.slots.items }
     requires set { IsTrue H.tells → (f : F1) × (slice_get vol.now.slots.items slot ≡ Some (Dscb.F1 f)) }
+    ensures kind { IfOk result (λ ends. (f : F1) → slice_get vol.now.slots.items slot ≡ Some (Dscb.F1 f)
+        → ends ≡ fits_mode Mode.Fill f.name (attr_of f)) }
     ensures same { IsTrue H.tells → Same (H.meaning hall.old) (H.meaning hall.new) }
     ensures faults { DeviceCall (H.facts hall.old) (H.facts hall.new) result }
 {
@@ -408,6 +457,9 @@ fn put_end_record<H: Hall>(hall: &mut H, vol: &mut Vol, writer: Writer) -> Resul
         let image' = image_in (H.meaning hall.new) (H.facts hall.new) vol.old.unit in
         IsTrue H.tells → OnOk result ((is : IsWriting image vol.old writer)
         → HasBlocks (body_so_far image' vol.new is.f writer) (written_by is)) }
+    ensures end { let image = image_in (H.meaning hall.old) (H.facts hall.old) vol.old.unit in
+        let image' = image_in (H.meaning hall.new) (H.facts hall.new) vol.old.unit in
+        IsTrue H.tells → OnOk result ((is : IsWriting image vol.old writer) → HasEnd is image') }
     ensures mounted { let image' = image_in (H.meaning hall.new) (H.facts hall.new) vol.old.unit in
         IsTrue H.tells → OnOk result (IsMounted image' vol.new) }
     ensures others { vol.new ≡ record vol.old { buf = vol.new.buf } }
@@ -439,6 +491,8 @@ fn raise_durably<H: Hall>(
     ensures files { let d = with_last writer.last balance (slice_index_or vol.old.slots.items writer.slot Dscb.F0) in
         IsTrue H.tells → PutsDurably (unit_of (H.facts hall.old).units vol.old.unit).name
         vol.old writer.slot d vol.new (H.meaning hall.old) (H.meaning hall.new) result }
+    ensures slot { let d = with_last writer.last balance (slice_index_or vol.old.slots.items writer.slot Dscb.F0) in
+        OnOk result (slice_get vol.new.slots.items writer.slot ≡ Some d) }
     ensures names { OnOk result ((k : ℕ) → name_at vol.new.slots.items k
         ≡ name_at vol.old.slots.items k) }
     ensures others { vol.new ≡ record vol.old { slots = vol.new.slots; buf = vol.new.buf } }
@@ -447,13 +501,4 @@ fn raise_durably<H: Hall>(
 {
     set_last(hall, vol, writer.slot, writer.last, balance)?;
     make_durable(hall)
-}
-
-// Makes the writes durable. After an error they are pending as before.
-fn make_durable<H: Hall>(hall: &mut H) -> Result<(), Device>
-    ensures files { IsTrue H.tells → AfterSync (H.meaning hall.old) (H.meaning hall.new) result }
-    ensures faults { DeviceCall (H.facts hall.old) (H.facts hall.new) result }
-{
-    hall.sync()?;
-    Ok(())
 }

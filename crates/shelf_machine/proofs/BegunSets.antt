@@ -26,7 +26,7 @@ use Rattle.vtoc_sets.specs.Sets.{HasSet, extents_in}
 use Rattle.seq_access.specs.Bodies.{IsWritable, body_of_set, data_in}
 use Rattle.seq_access.specs.Writing.{EndsAt, IsWriting, puts_in}
 use Rattle.dadsm_ops.proofs.FoundSets.{set_found}
-use Rattle.shelf_machine.specs.declared.front.Front.{Front}
+use Rattle.shelf_machine.specs.declared.area_start.AreaStart.{AreaStart}
 use Rattle.shelf_machine.specs.Fronts.{BeginsWell, IsFrontIn, firsts}
 use Rattle.shelf_machine.specs.Pending.{IsBegunAt, IsWritingBy, puts_by}
 use Rattle.shelf_machine.specs.Reads.{HasVolume}
@@ -47,13 +47,13 @@ fits_writable image v f Area fits =
     (part_or_unread v.geometry (data_in image v) (extents_in image v f) f.lstar (λ (b : Body). unreadable b ≡ None → IsWritable b) (λ n end es bs read. tt) (λ k read. let no : ⊥ = cc in absurd no))
 
 -- where it begins, by what is told of its front
-front_well : (image : List ℕ) (v : Vol) (f : F1) (mode : Mode) (front : Front) → fits_mode mode f.name (attr_of f) ≡ true → unreadable (body_of_set image v f) ≡ None → IsFrontIn mode front (body_of_set image v f)
+front_well : (image : List ℕ) (v : Vol) (f : F1) (mode : Mode) (front : AreaStart) → fits_mode mode f.name (attr_of f) ≡ true → unreadable (body_of_set image v f) ≡ None → IsFrontIn mode front (body_of_set image v f)
     → EndsAt front.end (body_of_set image v f) × (put_first mode (body_of_set image v f) ≡ firsts front.first)
 front_well image v f Fill front fits =
     let same = sequential_body v.geometry (data_in image v) f.name (attr_of f) (extents_in image v f) f.lstar fits in
     subst (λ (b : Body). unreadable b ≡ None → IsFrontIn Fill front b → EndsAt front.end b × (put_first Fill b ≡ firsts front.first)) (sym same)
     (seq_or_unread v.geometry (data_in image v) (extents_in image v f) f.lstar (λ (b : Body). unreadable b ≡ None → IsFrontIn Fill front b → EndsAt front.end b × (put_first Fill b ≡ firsts front.first))
-    (λ bs read is. (ap (λ (x : Front). x.end) is, sym (ap (λ (x : Front). firsts x.first) is))) (λ k read is. let no : ⊥ = cc in absurd no))
+    (λ bs read is. (ap (λ (x : AreaStart). x.end) is, sym (ap (λ (x : AreaStart). firsts x.first) is))) (λ k read is. let no : ⊥ = cc in absurd no))
 front_well image v f Area front fits =
     let same = partitioned_body v.geometry (data_in image v) f.name (attr_of f) (extents_in image v f) f.lstar fits in
     subst (λ (b : Body). unreadable b ≡ None → IsFrontIn Area front b → EndsAt front.end b × (put_first Area b ≡ firsts front.first)) (sym same)
@@ -80,7 +80,7 @@ found_named name items slot first =
     ap (λ (o : Option Dscb). option_and_then (λ (d : Dscb). option_map (λ (x : F1). x.name) (set_in (Ok d))) o) found.set ∙ ap (λ (n : List ℕ). Some n) found.named
 
 -- a writer that was opened in the slot of that set
-pub begun_at : (shelf : Shelf) (n : ℕ) (v : Vol) (has : HasVolume shelf n v) (dsn : Dsn) (mode : Mode) (front : Front) (w : Writer) → first_named dsn.bytes v.slots.items ≡ Some w.inner.slot → w.mode ≡ mode → w.first ≡ front.first
+pub begun_at : (shelf : Shelf) (n : ℕ) (v : Vol) (has : HasVolume shelf n v) (dsn : Dsn) (mode : Mode) (front : AreaStart) (w : Writer) → first_named dsn.bytes v.slots.items ≡ Some w.inner.slot → w.mode ≡ mode → w.first ≡ front.first
     → ((image : List ℕ) (f : F1) → slice_get v.slots.items w.inner.slot ≡ Some (formats.F1 f) → HasSet image v f → IsWritable (body_of_set image v f) → EndsAt front.end (body_of_set image v f)
     → (is : IsWriting image v w.inner) × (is.f ≡ f) × (puts_in image v f w.inner ≡ []))
     → begin_refusal shelf (record { v = n; dsn = dsn; mode = mode }) ≡ None → IsFrontIn mode front (body_on shelf n dsn.bytes) → IsBegunAt has.image v w

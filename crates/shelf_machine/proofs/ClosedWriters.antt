@@ -1,6 +1,6 @@
 -- The closing of a writer: the end-of-file blocks that are wanted yet are placed, and then all becomes its set's.
-use Rattle.std.proofs.Common.{◌≡◌, ℕ, Bool, true, false, cond, List, [], ◌∷◌, ◌++◌, drop, length, Option, Some, None, refl, sym, ap, ap₂, ◌∙◌, subst, append_assoc}
-use Rattle.std.specs.Prelude.{Result, Ok, Err, OnOk}
+use Rattle.std.proofs.Common.{◌≡◌, ℕ, Bool, true, false, cond, List, [], ◌∷◌, ◌++◌, drop, length, Some, refl, sym, ap, ◌∙◌, subst, append_assoc}
+use Rattle.std.specs.Prelude.{Result, Ok, Err}
 use Rattle.std.proofs.lemmas.List.{append-nil}
 use Rattle.ckd_image.specs.declared.device.DiskType.{DiskType}
 use Rattle.hall_core.specs.Facts.{Attached}
@@ -9,26 +9,24 @@ use Rattle.stop_model.specs.Moments.{Meaning}
 use Rattle.stop_model.specs.Steps.{seen}
 use Rattle.vol_model.specs.declared.answers.MachErr.{MachErr}
 use Rattle.vol_model.specs.declared.answers.MachErr.TheVariants as mach
-use Rattle.vol_model.specs.declared.contents.Block.{Block}
 use Rattle.vol_model.specs.declared.contents.Body.{Body}
 use Rattle.vol_model.specs.declared.contents.Shelf.{Shelf}
 use Rattle.vol_model.specs.declared.refusals.Refusal.{Refusal}
 use Rattle.vol_model.specs.declared.refusals.Refusal.TheVariants.{NoRoom}
 use Rattle.vol_model.specs.declared.requests.Op.{Op}
-use Rattle.vol_model.specs.Calls.{Does, counted, sound_after}
+use Rattle.vol_model.specs.Calls.{Does, counted}
 use Rattle.vol_model.specs.Did.{Did, behind_them}
 use Rattle.vol_model.specs.Places.{Content, placed}
 use Rattle.vol_model.specs.Shelf.{put_first, put_last, written}
-use Rattle.vol_model.specs.Writing.{Making, OpenWriter, Target, blocks_for, device_on, did_commit, if_made, making_close, making_room, room_made, target_body, with_puts, writes}
+use Rattle.vol_model.specs.Writing.{Making, OpenWriter, Target, blocks_for, device_on, did_commit, if_made, making_close, making_room, room_made, target_body, writes}
 use Rattle.vol_model.proofs.Filling.{made, making_keeps}
 use Rattle.vtoc_index.specs.declared.vol.Vol.{Vol}
-use Rattle.shelf_machine.specs.Committing.{ClosesOn, CommitsOn, writer_after}
+use Rattle.shelf_machine.specs.Committing.{ClosesOn, CommitsOn}
 use Rattle.shelf_machine.specs.Fronts.{behind_first, due}
 use Rattle.shelf_machine.specs.Machine.{placed_in, shelf_under, units_of, writer_in}
 use Rattle.shelf_machine.specs.Opening.{names_of}
-use Rattle.shelf_machine.specs.Pending.{IsPendingBy}
 use Rattle.shelf_machine.specs.PutBlocks.{PlacesAll, ends_on, shelf_on}
-use Rattle.shelf_machine.specs.declared.known.Known.{Known}
+use Rattle.shelf_machine.specs.declared.pack_cache.PackCache.{PackCache}
 use Rattle.shelf_machine.specs.declared.writer.Writer.{Writer}
 use Rattle.shelf_machine.proofs.DoneParts.{does_one, does_one_failed, does_stop, does_then}
 use Rattle.shelf_machine.proofs.FilledSets.{PlacesWell}
@@ -70,7 +68,7 @@ does_way (Err mach.Memory) way more none run = absurd (none refl)
 does_way (Err mach.Device) way more none run = record { answer = tt; state = tt; printed = run.printed; moments = run.moments }
 does_way (Err mach.Print) way more none run = absurd run.answer
 
-module _ (us mid us' : List Attached) (vols vols1 vols' : List Vol) (known1 known' : List Known) (w w1 w' : Writer) (m m1 m' : Meaning (List File)) (n k : ℕ) where
+module _ (us mid us' : List Attached) (vols vols1 vols' : List Vol) (w w1 w' : Writer) (m m1 m' : Meaning (List File)) (n k : ℕ) where
   abbrev shelf : Shelf
   shelf = shelf_on m.state us vols
 
@@ -114,7 +112,7 @@ module _ (us mid us' : List Attached) (vols vols1 vols' : List Vol) (known1 know
     did_is = ap (λ (q : Making). if_made q (op ∷ []) tt) close_is
 
     -- the ends aren't placed, and the writer is closed all the same
-    pub closes_stopped : (e : MachErr) → (e ≡ mach.Memory → ⊥) → PlacesAll ends (tt {0}) us mid vols vols1 known1 w w1 m m1 n k (Err e) → ClosesOn us mid vols vols1 known1 w w1 m m1 n k (Err e)
+    pub closes_stopped : (e : MachErr) → (e ≡ mach.Memory → ⊥) → PlacesAll ends (tt {0}) us mid vols vols1 w w1 m m1 n k (Err e) → ClosesOn us mid vols vols1 w w1 m m1 n k (Err e)
     closes_stopped e none run =
         let goes = made_goes making (op ∷ []) in
         let stopped : Does (if_made making (op ∷ []) (tt {0})).operations (if_made making (op ∷ []) (tt {0})) old between n k (Err e) =
@@ -122,14 +120,11 @@ module _ (us mid us' : List Attached) (vols vols1 vols' : List Vol) (known1 know
         record {
           does = subst (λ (d : Did (Unit {0}) Refusal). Does (making_close shelf writer).extends d old between n k (Err e)) (sym did_is) (does_way (Err e) (if_made making (op ∷ []) (tt {0})).operations (making_close shelf writer).extends (λ memory. none (let same : e ≡ mach.Memory = cc in same)) stopped);
           safe = run.safe;
-          kept = run.kept;
           pending = λ sound. pending_closed m1 mid vols1 (Some w1) (run.pending sound);
-          held = run.held;
-          bodies = run.bodies;
         }
 
     -- they are, and what follows is one operation
-    module _ (run : PlacesAll ends (tt {0}) us mid vols vols1 known1 w w1 m m1 n k (Ok (tt {0}))) where
+    module _ (run : PlacesAll ends (tt {0}) us mid vols vols1 w w1 m m1 n k (Ok (tt {0}))) where
       abbrev t1 : Target
       t1 = (placed_in m1.state mid vols1 w1).target
 
@@ -164,7 +159,7 @@ module _ (us mid us' : List Attached) (vols vols1 vols' : List Vol) (known1 know
           (ap (λ (b : Body). drop (length (put_first t.mode b)) (placed (device_on between.state t.v) b (put_first t.mode b ++ puts))) body_there
           ∙ ap (λ (d : DiskType). drop (length (put_first t.mode (target_body shelf t))) (placed d (target_body shelf t) (put_first t.mode (target_body shelf t) ++ puts))) device_there)
 
-      module _ {E : Type 0} (result : Result (Unit {0}) E) (commits : CommitsOn (writes t1 (blocks_for between.state t1 puts)) (names_of mid (units_of vols1)) (names_of us' (units_of vols')) us' vols1 vols' known' m1 m' result) where
+      module _ {E : Type 0} (known' : List PackCache) (result : Result (Unit {0}) E) (commits : CommitsOn (writes t1 (blocks_for between.state t1 puts)) (names_of mid (units_of vols1)) (names_of us' (units_of vols')) us' vols1 vols' known' m1 m' result) where
         here : CommitsOn op (names_of mid (units_of vols1)) (names_of us' (units_of vols')) us' vols1 vols' known' m1 m' result
         here = subst (λ (o : Op). CommitsOn o (names_of mid (units_of vols1)) (names_of us' (units_of vols')) us' vols1 vols' known' m1 m' result) op_there commits
 
@@ -175,25 +170,19 @@ module _ (us mid us' : List Attached) (vols vols1 vols' : List Vol) (known1 know
             (does_way r (making.extends ++ op ∷ []) (making_close shelf writer).extends none both)
 
         -- it is done
-        pub closes_done : result ≡ Ok (tt {0}) → ClosesOn us us' vols vols' known' w w' m m' n (counted k 1) (Ok (tt {0}))
+        pub closes_done : result ≡ Ok (tt {0}) → ClosesOn us us' vols vols' w w' m m' n (counted k 1) (Ok (tt {0}))
         closes_done is =
             let done = subst (λ (q : Result (Unit {0}) E). CommitsOn op (names_of mid (units_of vols1)) (names_of us' (units_of vols')) us' vols1 vols' known' m1 m' q) is here in
             record {
               does = two (counted k 1) (Ok (tt {0})) (λ wrong. cc) (does_one between new op done.printed done.moments k done.stepped);
               safe = keeps_then run.does.moments.later run.safe done.safe;
-              kept = λ sound. done.kept;
               pending = λ sound. done.durable;
-              held = λ sound. done.held;
-              bodies = λ sound. done.bodies;
             }
 
         -- or the device failed
-        pub closes_failed : (l : ℕ) → ClosesOn us us' vols vols' known' w w' m m' n l (Err mach.Device)
+        pub closes_failed : (l : ℕ) → ClosesOn us us' vols vols' w w' m m' n l (Err mach.Device)
         closes_failed l = record {
           does = two l (Err mach.Device) (λ wrong. cc) (does_one_failed between new op here.printed here.moments k l);
           safe = keeps_then run.does.moments.later run.safe here.safe;
-          kept = λ sound. absurd cc;
           pending = λ sound. absurd cc;
-          held = λ sound. absurd cc;
-          bodies = λ sound. absurd cc;
         }

@@ -42,7 +42,7 @@ use Rattle.shelf_machine.specs.Pending.{IsInSlot, IsWriterOn, IsWritingBy, Leave
 use Rattle.shelf_machine.specs.Reads.{HasVolume, IsSetOn}
 use Rattle.shelf_machine.specs.SparedShelves.{shelf_spared}
 use Rattle.shelf_machine.specs.Standing.{DirectoriesStay}
-use Rattle.shelf_machine.specs.declared.known.Known.{Known}
+use Rattle.shelf_machine.specs.declared.pack_cache.PackCache.{PackCache}
 use Rattle.shelf_machine.specs.declared.writer.Writer.{Writer}
 use Rattle.shelf_machine.proofs.EmptyFills.{may_fill, none_put, step_same}
 use Rattle.shelf_machine.proofs.FilledBodies.{knows_written}
@@ -97,7 +97,7 @@ only_fill modes.Area body cs none = absurd (ends_some (put_first modes.Area body
 
 module _ (old new : Facts) (vols : List Vol) (indexes : AreIndexes old.units vols) (m m' : Meaning (List File)) (counts : CountsNow m) (left : m.left m.state) (kept : AreKept m.state old.units vols)
     (w : Writer) (v : Vol) (at : slice_get vols w.v ≡ Some v) (slot : IsInSlot v w) (units : new.units ≡ old.units) (on : IsWriterOn (image_named m.state (unit_of old.units v.unit).name) v w)
-    (spared : LeavesSpared (unit_of old.units v.unit).name m v w) (known known' : List Known) (forgot : ForgetsOn w.v known known') (held : AreHeld m.state old.units vols known)
+    (spared : LeavesSpared (unit_of old.units v.unit).name m v w) (known known' : List PackCache) (forgot : ForgetsOn w.v known known') (held : AreHeld m.state old.units vols known)
     (knows : KnowsBodies (shelf_under (names_of old.units (units_of vols)) m.state) known) (cs : List Content) where
   abbrev name : List ℕ
   name = (unit_of old.units v.unit).name

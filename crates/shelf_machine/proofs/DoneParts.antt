@@ -1,5 +1,5 @@
 -- Calls of several operations, one behind another: what they come to together.
-use Rattle.std.proofs.Common.{◌≡◌, ℕ, ◌+◌, Bool, true, false, cond, List, [], ◌∷◌, ◌++◌, length, map, refl, sym, ap, ◌∙◌, subst, arith, length-append, append_assoc}
+use Rattle.std.proofs.Common.{◌≡◌, ℕ, Bool, true, false, cond, List, [], ◌∷◌, ◌++◌, length, map, refl, sym, ap, ◌∙◌, subst, arith, length-append}
 use Rattle.std.specs.Prelude.{◌⊎◌, Result, Ok, Err, IsErrOf}
 use Rattle.stop_model.specs.Moments.{Elapses, Meaning}
 use Rattle.stop_model.proofs.MomentLemmas.{elapses_none, elapses_then, elapses_weaker}
@@ -10,7 +10,7 @@ use Rattle.vol_model.specs.declared.contents.Shelf.{Shelf}
 use Rattle.vol_model.specs.declared.refusals.Refusal.{Refusal}
 use Rattle.vol_model.specs.declared.refusals.Refusal.TheVariants.{NoRoom}
 use Rattle.vol_model.specs.declared.requests.Op.{Op}
-use Rattle.vol_model.specs.Calls.{Comes, ComesTo, Does, IsBehind, counted, sound_after}
+use Rattle.vol_model.specs.Calls.{Does, IsBehind, counted, sound_after}
 use Rattle.vol_model.specs.Did.{Did, behind_them}
 use Rattle.vol_model.specs.Events.{Do, Event, StopsIn, after_operations, behind}
 use Rattle.vol_model.specs.Shelf.{step}

@@ -12,7 +12,7 @@ use Rattle.dscb_codec.specs.declared.Dscb.TheVariants as formats
 use Rattle.dscb_codec.specs.declared.F1.{F1}
 use Rattle.ebcdic_names.specs.declared.names.Dsn.{Dsn}
 use Rattle.pack_spec.specs.Alike.{DifferInVtoc, IsIn}
-use Rattle.pack_spec.specs.Blocks.{blocks_at, blocks_from, data_tracks, has_no_block, last_of, owned_tracks, seq_body, seq_of}
+use Rattle.pack_spec.specs.Blocks.{blocks_at, data_tracks, has_no_block, last_of, owned_tracks, seq_body, seq_of}
 use Rattle.pack_spec.specs.Label.{heads_of, records_on, track_bytes}
 use Rattle.pack_spec.specs.Slots.{slots_of_vtoc, tracks_in}
 use Rattle.pack_spec.specs.Volume.{attr_of, data_set_of}
@@ -37,7 +37,8 @@ use Rattle.vtoc_sets.specs.Sets.{extents_in, volume_in}
 use Rattle.seq_access.specs.declared.writer.Writer.{Writer as BlockWriter}
 use Rattle.seq_access.specs.Bodies.{HasBlocks, IsSetIn, IsWritable, body_of_set, body_upto, data_in, last_in, owned_in}
 use Rattle.seq_access.specs.Writing.{body_so_far, front_in, has_put, puts_in}
-use Rattle.seq_access.proofs.DataPlaces.{few_owned_tracks, outside}
+use Rattle.vtoc_sets.proofs.DataPlaces.{few_owned_tracks}
+use Rattle.vtoc_sets.proofs.OwnedSets.{outside}
 use Rattle.seq_access.proofs.LastRecords.{last_by_body, last_of_body}
 use Rattle.seq_access.proofs.MoreBlocks.{parts_of}
 use Rattle.seq_access.proofs.NextPlaces.{contents_behind}

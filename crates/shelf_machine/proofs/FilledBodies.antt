@@ -21,7 +21,7 @@ use Rattle.vol_model.specs.Shelf.{has_name, on_volume, set_of, step, step_on, un
 use Rattle.vol_model.specs.Writing.{set_on, writes}
 use Rattle.shelf_machine.specs.Known.{KnowsBodies, ListsBroken, ListsUnread}
 use Rattle.shelf_machine.specs.Unread.{broken_at, broken_in, is_walked}
-use Rattle.shelf_machine.specs.declared.known.Known.{Known}
+use Rattle.shelf_machine.specs.declared.pack_cache.PackCache.{PackCache}
 use Rattle.shelf_machine.specs.declared.unread.Unread.{Unread}
 use Rattle.shelf_machine.proofs.FoundByKey.{found_changed}
 use Rattle.shelf_machine.proofs.ListPlaces.{get_other, get_set}
@@ -89,10 +89,10 @@ module _ (op : Op) (still : (w after : Volume) → step_on op w ≡ Ok after →
       by (Some w) there is = with_it w there (step_on op w) refl is
 
 -- What is known of bodies stays where blocks are written.
-knows_by : (op : Op) → ((w after : Volume) → step_on op w ≡ Ok after → (unread : List Unread) → ListsBroken w unread → ListsBroken after unread) → (shelf after : Shelf) (known : List Known) → step shelf op ≡ Ok after → KnowsBodies shelf known → KnowsBodies after known
+knows_by : (op : Op) → ((w after : Volume) → step_on op w ≡ Ok after → (unread : List Unread) → ListsBroken w unread → ListsBroken after unread) → (shelf after : Shelf) (known : List PackCache) → step shelf op ≡ Ok after → KnowsBodies shelf known → KnowsBodies after known
 knows_by op still shelf after known done knows n b there = unread_still op still shelf after done n b.unread.items (knows n b there)
 
-pub knows_written : (v : ℕ) (dsn : Dsn) (mode : Mode) (bs : List Block) (shelf after : Shelf) (known : List Known) → step shelf (writes (to_set v dsn mode) bs) ≡ Ok after → KnowsBodies shelf known → KnowsBodies after known
+pub knows_written : (v : ℕ) (dsn : Dsn) (mode : Mode) (bs : List Block) (shelf after : Shelf) (known : List PackCache) → step shelf (writes (to_set v dsn mode) bs) ≡ Ok after → KnowsBodies shelf known → KnowsBodies after known
 unfolding step_on
 knows_written v dsn modes.Fill bs shelf after known = knows_by (Fill v dsn bs) (λ w x is unread lists. lists_written modes.Fill dsn (map content bs) w x is unread lists) shelf after known
 knows_written v dsn modes.Area bs shelf after known = knows_by (Area v dsn bs) (λ w x is unread lists. lists_written modes.Area dsn (map content bs) w x is unread lists) shelf after known

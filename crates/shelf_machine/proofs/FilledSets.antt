@@ -29,7 +29,7 @@ use Rattle.seq_access.specs.declared.writer.Writer.{Writer as BlockWriter}
 use Rattle.seq_access.specs.Bodies.{body_of_set, data_in, last_in}
 use Rattle.seq_access.specs.Writing.{IsWriting, front_in, has_put, puts_in, written_by}
 use Rattle.seq_access.proofs.Begins.{begun_at}
-use Rattle.seq_access.proofs.DataPlaces.{few_owned_tracks}
+use Rattle.vtoc_sets.proofs.DataPlaces.{few_owned_tracks}
 use Rattle.seq_access.proofs.NextBodies.{next_same}
 use Rattle.seq_access.proofs.PutPlaces.{last_low}
 use Rattle.dadsm_ops.proofs.FoundSets.{FoundSet, set_found}

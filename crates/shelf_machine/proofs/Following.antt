@@ -27,7 +27,7 @@ use Rattle.vol_model.specs.Shelf.{allocate_on, with_directory, with_entries, emp
 use Rattle.vol_model.specs.Slots.{slots_needed}
 use Rattle.vol_model.specs.Space.{choice}
 use Rattle.vol_model.specs.Writing.{set_on}
-use Rattle.shelf_machine.specs.Known.{IsServed, ListsBroken, ListsUnread, followed}
+use Rattle.shelf_machine.specs.Known.{ListsBroken, ListsUnread}
 use Rattle.shelf_machine.specs.Unread.{broken_at, broken_in, is_of, is_walked, others_of, renamed_in, track_in}
 use Rattle.shelf_machine.specs.declared.unread.Unread.{Unread}
 use Rattle.shelf_machine.proofs.DirectorySteps.{drop_is, enter_is}
@@ -150,12 +150,6 @@ module _ (w : Volume) (unread : List Unread) (lists : ListsBroken w unread) wher
         no_entry : find (is_of new.bytes) unread ≡ None
         no_entry = nothing (find (is_of new.bytes) unread) (none_listed new.bytes none)
 
--- the list of a volume behind an operation on it
-abbrev changed_by : Op → List Unread → List Unread
-changed_by (Rename v old new) unread = map (renamed_in old.bytes new) unread
-changed_by (Scratch v dsn) unread = others_of dsn.bytes unread
-changed_by _ unread = unread
-
 -- what a rename that is done says of the names
 record Renames (w : Volume) (old new : List ℕ) : Type 0 where
   there : has_set w old ≡ true
@@ -175,7 +169,7 @@ renames w old new = by (has_set w old) refl (has_set w new) refl (is_catalog old
     by true there false none false before true after is = absurd cc
     by true there false none false before false after is = record { there = there; none = none; before = before; after = after }
 
-rename_after : (old new : Dsn) (w after : Volume) → rename_on old new w ≡ Ok after → (unread : List Unread) → ListsBroken w unread → ListsBroken after (map (renamed_in old.bytes new) unread)
+pub rename_after : (old new : Dsn) (w after : Volume) → rename_on old new w ≡ Ok after → (unread : List Unread) → ListsBroken w unread → ListsBroken after (map (renamed_in old.bytes new) unread)
 unfolding rename_on renamed
 rename_after old new w after done unread lists = by (rename_refusal w old.bytes new.bytes) refl done
   where
@@ -188,7 +182,7 @@ rename_after old new w after done unread lists = by (rename_refusal w old.bytes 
         (λ name. lists_renamed w unread lists old.bytes new names.none apart names.before names.after name
         ∙ sym (ap (option_and_then broken_in) (find_in_order name (map (with_name old.bytes new) w.sets))))
 
-scratch_after : (dsn : Dsn) (w after : Volume) → scratch_on dsn w ≡ Ok after → (unread : List Unread) → ListsBroken w unread → ListsBroken after (others_of dsn.bytes unread)
+pub scratch_after : (dsn : Dsn) (w after : Volume) → scratch_on dsn w ≡ Ok after → (unread : List Unread) → ListsBroken w unread → ListsBroken after (others_of dsn.bytes unread)
 unfolding scratch_on
 scratch_after dsn w after done unread lists = by (set_of dsn.bytes w) done
   where
@@ -204,7 +198,7 @@ not_refused : (b : Bool) (r : Refusal) (rest : Result Volume Refusal) (after : V
 not_refused true r rest after is = absurd cc
 not_refused false r rest after is = refl
 
-allocate_after : (dsn : Dsn) (attr : Attr) (q : Request) (dir : ℕ) (w after : Volume) → allocate_on dsn attr q dir w ≡ Ok after → (unread : List Unread) → ListsBroken w unread → ListsBroken after unread
+pub allocate_after : (dsn : Dsn) (attr : Attr) (q : Request) (dir : ℕ) (w after : Volume) → allocate_on dsn attr q dir w ≡ Ok after → (unread : List Unread) → ListsBroken w unread → ListsBroken after unread
 unfolding allocate_on
 allocate_after dsn attr q dir w after done unread lists =
     let wants_dir = is_partitioned dsn.bytes attr in
@@ -234,7 +228,7 @@ vacant_whole bodies.Catalog = refl
 vacant_whole bodies.Other = refl
 vacant_whole (bodies.Unreadable track) = refl
 
-empty_after : (dsn : Dsn) (attr : Attr) (w after : Volume) → empty_on dsn attr w ≡ Ok after → (unread : List Unread) → ListsBroken w unread → ListsBroken after unread
+pub empty_after : (dsn : Dsn) (attr : Attr) (w after : Volume) → empty_on dsn attr w ≡ Ok after → (unread : List Unread) → ListsBroken w unread → ListsBroken after unread
 unfolding empty_on
 empty_after dsn attr w after done unread lists = by (set_of dsn.bytes w) refl done
   where
@@ -251,7 +245,7 @@ empty_after dsn attr w after done unread lists = by (set_of dsn.bytes w) refl do
         whole_set (emptied attr y) (vacant_whole y.body) ∙ sym (whole_set y (ap (λ (z : DataSet). broken_at z.body) (sym this) ∙ read.1))))
 
 -- and so is one with more extents
-extend_after : (dsn : Dsn) (w after : Volume) → extend_on dsn w ≡ Ok after → (unread : List Unread) → ListsBroken w unread → ListsBroken after unread
+pub extend_after : (dsn : Dsn) (w after : Volume) → extend_on dsn w ≡ Ok after → (unread : List Unread) → ListsBroken w unread → ListsBroken after unread
 extend_after dsn w after done unread lists =
     let is = extend_is dsn w after done in
     subst (λ (y : Volume). ListsBroken y unread) is.1 (lists_changed w unread lists dsn.bytes (with_extents is.0) (λ y. refl) (λ y found. refl))
@@ -265,89 +259,6 @@ entries_whole es bodies.Other = refl
 entries_whole es (bodies.Unreadable track) = refl
 
 -- and so are all where one has other entries
-entries_after : (dsn : Dsn) (w after : Volume) → (es : List Entry) × (with_set w dsn.bytes (with_entries es) ≡ after) → (unread : List Unread) → ListsBroken w unread → ListsBroken after unread
+pub entries_after : (dsn : Dsn) (w after : Volume) → (es : List Entry) × (with_set w dsn.bytes (with_entries es) ≡ after) → (unread : List Unread) → ListsBroken w unread → ListsBroken after unread
 entries_after dsn w after is unread lists = subst (λ (y : Volume). ListsBroken y unread) is.1
     (lists_changed w unread lists dsn.bytes (with_entries is.0) (λ y. refl) (λ y found. ap (λ (o : Option ℕ). if is_walked y.name.bytes y.attr then o else None) (entries_whole is.0 y.body)))
-
-volume_after : (op : Op) → IsServed op → (w after : Volume) → step_on op w ≡ Ok after → (unread : List Unread) → ListsBroken w unread → ListsBroken after (changed_by op unread)
-unfolding step_on
-volume_after (Allocate v dsn attr q dir) served w after done unread lists = allocate_after dsn attr q dir w after done unread lists
-volume_after (Rename v old new) served w after done unread lists = rename_after old new w after done unread lists
-volume_after (Scratch v dsn) served w after done unread lists = scratch_after dsn w after done unread lists
-volume_after (Extend v dsn) served w after done unread lists = extend_after dsn w after done unread lists
-volume_after (Empty v dsn attr) served w after done unread lists = empty_after dsn attr w after done unread lists
-volume_after (Enter v dsn e replace) served w after done unread lists = entries_after dsn w after (enter_is dsn e replace w after done) unread lists
-volume_after (Drop v dsn name) served w after done unread lists = entries_after dsn w after (drop_is dsn name w after done) unread lists
-volume_after _ served w after done unread lists = absurd served
-
--- the list of the volume that an operation is on, and that of another
-followed_here : (op : Op) → IsServed op → (unread : List Unread) → followed op (volume_number op) unread ≡ changed_by op unread
-followed_here (Allocate v dsn attr q dir) served unread = refl
-followed_here (Rename v old new) served unread = elim (eqb_tells v v) [
-  | inl w ↦ ap (λ (b : Bool). cond b (map (renamed_in old.bytes new) unread) unread) w.0
-  | inr w ↦ absurd (w.1 refl)
-]
-followed_here (Scratch v dsn) served unread = elim (eqb_tells v v) [
-  | inl w ↦ ap (λ (b : Bool). cond b (others_of dsn.bytes unread) unread) w.0
-  | inr w ↦ absurd (w.1 refl)
-]
-followed_here (Extend v dsn) served unread = refl
-followed_here (Empty v dsn attr) served unread = refl
-followed_here (Enter v dsn e replace) served unread = refl
-followed_here (Drop v dsn name) served unread = refl
-followed_here _ served unread = absurd served
-
-followed_elsewhere : (op : Op) → IsServed op → (n : ℕ) → volume_number op ≢ n → (unread : List Unread) → followed op n unread ≡ unread
-followed_elsewhere (Allocate v dsn attr q dir) served n differs unread = refl
-followed_elsewhere (Rename v old new) served n differs unread = elim (eqb_tells v n) [
-  | inl w ↦ absurd (differs w.1)
-  | inr w ↦ ap (λ (b : Bool). cond b (map (renamed_in old.bytes new) unread) unread) w.0
-]
-followed_elsewhere (Scratch v dsn) served n differs unread = elim (eqb_tells v n) [
-  | inl w ↦ absurd (differs w.1)
-  | inr w ↦ ap (λ (b : Bool). cond b (others_of dsn.bytes unread) unread) w.0
-]
-followed_elsewhere (Extend v dsn) served n differs unread = refl
-followed_elsewhere (Empty v dsn attr) served n differs unread = refl
-followed_elsewhere (Enter v dsn e replace) served n differs unread = refl
-followed_elsewhere (Drop v dsn name) served n differs unread = refl
-followed_elsewhere _ served n differs unread = absurd served
-
-ok_shelf : {a b : Shelf} → ◌≡◌ {A = Result Shelf Refusal} (Ok a) (Ok b) → a ≡ b
-ok_shelf same = cc
-
--- The list follows an operation that is done.
-pub lists_after : (op : Op) → IsServed op → (shelf after : Shelf) → step shelf op ≡ Ok after → (n : ℕ) (unread : List Unread) → ListsUnread shelf n unread → ListsUnread after n (followed op n unread)
-unfolding step set_on
-lists_after op served shelf after done n unread lists = by (slice_get shelf.volumes (volume_number op)) refl done
-  where
-    with_it : (w : Volume) → slice_get shelf.volumes (volume_number op) ≡ Some w → (r : Result Volume Refusal) → step_on op w ≡ r → with_volume shelf (volume_number op) r ≡ Ok after → ListsUnread after n (followed op n unread)
-    with_it w there (Err r) stepped is = absurd cc
-    with_it w there (Ok changed) stepped is = subst (λ (s : Shelf). ListsUnread s n (followed op n unread)) (ok_shelf is) (λ name. elim (eqb_tells (volume_number op) n) [
-      | inl e ↦
-          let here : ListsBroken w unread = λ m. lists m ∙ ap (λ (k : ℕ). option_and_then broken_in (option_and_then (set_of m) (slice_get shelf.volumes k))) (sym e.1) ∙ ap (λ (o : Option Volume). option_and_then broken_in (option_and_then (set_of m) o)) there in
-          ap (λ (k : ℕ). track_in (followed op k unread) name) (sym e.1) ∙ ap (λ (us : List Unread). track_in us name) (followed_here op served unread)
-          ∙ volume_after op served w changed stepped unread here name
-          ∙ sym (ap (λ (k : ℕ). option_and_then broken_in (option_and_then (set_of name) (slice_get (set shelf.volumes (volume_number op) changed) k))) (sym e.1)
-          ∙ ap (λ (o : Option Volume). option_and_then broken_in (option_and_then (set_of name) o)) (get_set shelf.volumes (volume_number op) w changed there))
-      | inr e ↦
-          ap (λ (us : List Unread). track_in us name) (followed_elsewhere op served n e.1 unread) ∙ lists name
-          ∙ sym (ap (λ (o : Option Volume). option_and_then broken_in (option_and_then (set_of name) o)) (get_other shelf.volumes n (volume_number op) changed (λ same. e.1 (sym same))))
-    ])
-
-    by : (o : Option Volume) → slice_get shelf.volumes (volume_number op) ≡ o → on_volume shelf (volume_number op) (step_on op) o ≡ Ok after → ListsUnread after n (followed op n unread)
-    by None there is = absurd cc
-    by (Some w) there is = with_it w there (step_on op w) refl is
-
--- what an operation that is done leaves of the other volumes
-pub elsewhere : (op : Op) (shelf after : Shelf) → step shelf op ≡ Ok after → (n : ℕ) → volume_number op ≢ n → slice_get after.volumes n ≡ slice_get shelf.volumes n
-unfolding step
-elsewhere op shelf after done n differs = by (slice_get shelf.volumes (volume_number op)) done
-  where
-    with_it : (r : Result Volume Refusal) → with_volume shelf (volume_number op) r ≡ Ok after → slice_get after.volumes n ≡ slice_get shelf.volumes n
-    with_it (Err r) is = absurd cc
-    with_it (Ok changed) is = ap (λ (s : Shelf). slice_get s.volumes n) (sym (ok_shelf is)) ∙ get_other shelf.volumes n (volume_number op) changed (λ same. differs (sym same))
-
-    by : (o : Option Volume) → on_volume shelf (volume_number op) (step_on op) o ≡ Ok after → slice_get after.volumes n ≡ slice_get shelf.volumes n
-    by None is = absurd cc
-    by (Some w) is = with_it (step_on op w) is

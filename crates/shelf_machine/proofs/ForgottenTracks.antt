@@ -13,51 +13,51 @@ use Rattle.shelf_machine.specs.Known.{AreHeld, ForgetsOn, HoldLibraries, HoldsPa
 use Rattle.shelf_machine.specs.Opening.{AreApart, names_of}
 use Rattle.shelf_machine.specs.Machine.{units_of}
 use Rattle.shelf_machine.specs.Standing.{DirectoriesStay}
-use Rattle.shelf_machine.specs.declared.known.Known.{Known}
+use Rattle.shelf_machine.specs.declared.pack_cache.PackCache.{PackCache}
 use Rattle.shelf_machine.specs.declared.unread.Unread.{Unread}
 use Rattle.shelf_machine.proofs.KnownLemmas.{nothing_held}
 use Rattle.shelf_machine.proofs.ListPlaces.{get_other, get_set, map_set_same}
 use Rattle.shelf_machine.proofs.Operating.{name_there}
 
-some_known : {a b : Known} → Some a ≡ Some b → a ≡ b
+some_known : {a b : PackCache} → Some a ≡ Some b → a ≡ b
 some_known same = cc
 
 -- one of which the track is forgotten
-pub forgets : (known : List Known) (k : ℕ) (a b : Known) → slice_get known k ≡ Some a → b ≡ record a { buf = record (a.buf) { reach = Nothing } } → ForgetsOn k known (set known k b)
+pub forgets : (known : List PackCache) (k : ℕ) (a b : PackCache) → slice_get known k ≡ Some a → b ≡ record a { buf = record (a.buf) { reach = Nothing } } → ForgetsOn k known (set known k b)
 forgets known k a b at is = record {
-  buffers = map_set_same (λ (x : Known). x.buf.records.geometry) known k a b at (ap (λ (x : Known). x.buf.records.geometry) is);
+  buffers = map_set_same (λ (x : PackCache). x.buf.records.geometry) known k a b at (ap (λ (x : PackCache). x.buf.records.geometry) is);
   rest = λ n x there. ⊎_elim
       (λ same.
       let this : b ≡ x = some_known (sym (get_set known k a b at) ∙ ap (slice_get (set known k b)) (sym same) ∙ there) in
-      (a, ap (slice_get known) same ∙ at, ap (λ (y : Known). y.unread.items) (sym this ∙ is), ap (λ (y : Known). y.libraries.items) (sym this ∙ is)))
+      (a, ap (slice_get known) same ∙ at, ap (λ (y : PackCache). y.unread.items) (sym this ∙ is), ap (λ (y : PackCache). y.libraries.items) (sym this ∙ is)))
       (λ differs. (x, sym (get_other known n k b differs) ∙ there, refl, refl))
       (cases_eq n k);
   others = λ n differs. get_other known n k b differs;
-  here = λ x there. ap (λ (y : Known). y.buf.reach) (sym (some_known (sym (get_set known k a b at) ∙ there)) ∙ is);
+  here = λ x there. ap (λ (y : PackCache). y.buf.reach) (sym (some_known (sym (get_set known k a b at) ∙ there)) ∙ is);
 }
 
 -- which data sets can't be read is known as before then
-pub keeps_lists : (k : ℕ) (old new : List Known) → ForgetsOn k old new → KeepsLists old new
+pub keeps_lists : (k : ℕ) (old new : List PackCache) → ForgetsOn k old new → KeepsLists old new
 keeps_lists k old new forgot = record {
   buffers = forgot.buffers;
   unread = λ n b there. let was = forgot.rest n b there in (was.0, was.1, was.2);
 }
 
-pub same_lists : (known : List Known) → KeepsLists known known
+pub same_lists : (known : List PackCache) → KeepsLists known known
 same_lists known = record { buffers = refl; unread = λ n b there. (b, there, refl) }
 
-pub knows_kept : (old new : List Known) → KeepsLists old new → (shelf : Shelf) → KnowsBodies shelf old → KnowsBodies shelf new
+pub knows_kept : (old new : List PackCache) → KeepsLists old new → (shelf : Shelf) → KnowsBodies shelf old → KnowsBodies shelf new
 knows_kept old new keeps shelf knows n b there =
     let was = keeps.unread n b there in
     subst (λ (us : List Unread). ListsUnread shelf n us) (sym was.2) (knows n was.0 was.1)
 
-pub knows_still : (k : ℕ) (old new : List Known) → ForgetsOn k old new → (shelf : Shelf) → KnowsBodies shelf old → KnowsBodies shelf new
+pub knows_still : (k : ℕ) (old new : List PackCache) → ForgetsOn k old new → (shelf : Shelf) → KnowsBodies shelf old → KnowsBodies shelf new
 knows_still k old new forgot shelf knows = knows_kept old new (keeps_lists k old new forgot) shelf knows
 
 -- what is held of the other packs is held still where the image of this one alone is another
-pub held_still : (files after : List File) (attached : List Attached) (vols : List Vol) (known known' : List Known) (k : ℕ) (v v' : Vol) → slice_get vols k ≡ Some v → AreApart (names_of attached (units_of vols)) → v'.unit ≡ v.unit
+pub held_still : (files after : List File) (attached : List Attached) (vols : List Vol) (known known' : List PackCache) (k : ℕ) (v v' : Vol) → slice_get vols k ≡ Some v → AreApart (names_of attached (units_of vols)) → v'.unit ≡ v.unit
     → ((other : List ℕ) → other ≢ (unit_of attached v.unit).name → file_of after other ≡ file_of files other) → ((n : ℕ) → n ≢ k → slice_get known' n ≡ slice_get known n)
-    → ((b : Known) → slice_get known' k ≡ Some b → HoldsPack (image_named after (unit_of attached v.unit).name) v' b) → AreHeld files attached vols known → AreHeld after attached (set vols k v') known'
+    → ((b : PackCache) → slice_get known' k ≡ Some b → HoldsPack (image_named after (unit_of attached v.unit).name) v' b) → AreHeld files attached vols known → AreHeld after attached (set vols k v') known'
 held_still files after attached vols known known' k v v' at apart unit others rest this held n u b there is = ⊎_elim (λ same. here same) (λ differs. stays differs) (cases_eq n k)
   where
     some_vol : {x y : Vol} → Some x ≡ Some y → x ≡ y
@@ -78,8 +78,8 @@ held_still files after attached vols known known' k v v' at apart unit others re
         subst (λ (i : List ℕ). HoldsPack i u b) (sym image) (held n u b was (sym (rest n differs) ∙ is))
 
 -- a pack of which the track is forgotten, and whose directories stay where they are
-pub pack_still : (before after : List ℕ) (v v' : Vol) (old new : List Known) (k : ℕ) → ForgetsOn k old new → DirectoriesStay before after (volume_in before v) (volume_in after v')
-    → ((a : Known) → slice_get old k ≡ Some a → HoldsPack before v a) → (b : Known) → slice_get new k ≡ Some b → HoldsPack after v' b
+pub pack_still : (before after : List ℕ) (v v' : Vol) (old new : List PackCache) (k : ℕ) → ForgetsOn k old new → DirectoriesStay before after (volume_in before v) (volume_in after v')
+    → ((a : PackCache) → slice_get old k ≡ Some a → HoldsPack before v a) → (b : PackCache) → slice_get new k ≡ Some b → HoldsPack after v' b
 pack_still before after v v' old new k forgot stay held b there =
     let was = forgot.rest k b there in
     record {
@@ -88,7 +88,7 @@ pack_still before after v v' old new k forgot stay held b there =
     }
 
 -- what is held of packs is held still where a track is forgotten
-pub held_forgot : (files : List File) (attached : List Attached) (vols : List Vol) (k : ℕ) (old new : List Known) → ForgetsOn k old new → AreHeld files attached vols old → AreHeld files attached vols new
+pub held_forgot : (files : List File) (attached : List Attached) (vols : List Vol) (k : ℕ) (old new : List PackCache) → ForgetsOn k old new → AreHeld files attached vols old → AreHeld files attached vols new
 held_forgot files attached vols k old new forgot held n v b at there = ⊎_elim (λ same. here same) (λ differs. held n v b at (sym (forgot.others n differs) ∙ there)) (cases_eq n k)
   where
     here : n ≡ k → HoldsPack (image_named files (unit_of attached v.unit).name) v b

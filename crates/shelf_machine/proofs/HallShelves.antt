@@ -22,7 +22,7 @@ pub machine_volumes : {X : Type 0} {g : Ghosts X} (machine : HallShelf X g) (vol
 machine_volumes {g = g} machine vols same sound told =
     subst (HasVolumes (meaning_of machine).state) (sym same)
     (has_volumes (g.meaning machine.hall).state (g.facts machine.hall).units machine.vols.items
-    (kept_mounted (g.meaning machine.hall).state (g.facts machine.hall).units machine.vols.items (machine.kept sound told)) machine.indexes.serials)
+    (kept_mounted (g.meaning machine.hall).state (g.facts machine.hall).units machine.vols.items ((machine.ready sound).kept told)) machine.indexes.serials)
 
 -- images that are kept are settled
 pub kept_settled : (files : List File) (attached : List Attached) (vols : List Vol) → AreKept files attached vols → AreSettledImages (names_of attached (units_of vols)) files

@@ -22,7 +22,7 @@ use Rattle.seq_access.specs.Reading.{AreRead, HoldsTrack}
 use Rattle.seq_access.specs.declared.read_buf.ReadBuf.{ReadBuf}
 use Rattle.seq_access.specs.declared.read_buf.Reach.{Reach}
 use Rattle.seq_access.specs.declared.read_buf.Reach.TheVariants.{Nothing}
-use Rattle.seq_access.proofs.Checked.{mounted_with}
+use Rattle.vtoc_sets.proofs.OtherBuffers.{mounted_with}
 use Rattle.vol_model.specs.declared.answers.Kind.TheVariants as kinds
 use Rattle.vol_model.specs.declared.answers.ReadErr.{ReadErr}
 use Rattle.vol_model.specs.declared.answers.ReadErr.TheVariants as errors

@@ -27,41 +27,32 @@ use Rattle.shelf_machine.specs.Blocks.{IsOnImage}
 use Rattle.shelf_machine.specs.Machine.{AreIndexes, AreKept, shelf_or_none, shelf_under, units_of}
 use Rattle.shelf_machine.specs.Opening.{images_named, names_of}
 use Rattle.pack_spec.specs.Shelf.{shelf_of}
-use Rattle.shelf_machine.specs.Known.{AllFollow, AreFresh, AreHeld, Follows, HaveBuffers, HoldLibraries, HoldsOn, HoldsPack, IsFresh, IsServed, KnowsBodies, ListsBroken, ListsUnread, buffers_of, followed_if}
+use Rattle.shelf_machine.specs.Known.{AreFresh, AreHeld, HaveBuffers, HoldLibraries, HoldsOn, HoldsPack, IsFresh, KnowsBodies, ListsBroken, ListsUnread, buffers_of}
 use Rattle.shelf_machine.specs.Reporting.{reported}
-use Rattle.shelf_machine.specs.declared.known.Known.{Known}
+use Rattle.shelf_machine.specs.declared.pack_cache.PackCache.{PackCache}
 use Rattle.shelf_machine.specs.Unread.{broken_in}
 use Rattle.shelf_machine.specs.declared.unread.Unread.{Unread}
-use Rattle.shelf_machine.proofs.Following.{lists_after}
 use Rattle.shelf_machine.proofs.Holding.{kept_mounted, volume_there}
 use Rattle.shelf_machine.proofs.ListPlaces.{get_map, get_other, get_set, map_set_same, set_size, within}
 
 -- a buffer that holds nothing holds its track
-pub nothing_held : (image : List ℕ) (b : Known) → b.buf.reach ≡ Nothing → HoldsTrack image b.buf
+pub nothing_held : (image : List ℕ) (b : PackCache) → b.buf.reach ≡ Nothing → HoldsTrack image b.buf
 nothing_held image b none = subst (λ (r : Reach). AreRead image r b.buf.records) (sym none) tt
 
 -- where neither a track nor a library is held
-pub fresh_pack : (image : List ℕ) (v : Vol) (b : Known) → IsFresh b → HoldsPack image v b
+pub fresh_pack : (image : List ℕ) (v : Vol) (b : PackCache) → IsFresh b → HoldsPack image v b
 fresh_pack image v b fresh = record {
   track = nothing_held image b fresh.reach;
   libraries = subst (HoldLibraries image v) (sym fresh.libraries) (λ n l there. absurd cc);
 }
 
-pub fresh_held : (files : List File) (attached : List Attached) (vols : List Vol) (known : List Known) → AreFresh known → AreHeld files attached vols known
+pub fresh_held : (files : List File) (attached : List Attached) (vols : List Vol) (known : List PackCache) → AreFresh known → AreHeld files attached vols known
 fresh_held files attached vols known fresh n v b at there = fresh_pack (image_named files (unit_of attached v.unit).name) v b (fresh n b there)
 
--- what is held is held behind an operation, too
-pub held_after : (files : List File) (attached : List Attached) (vols : List Vol) {op : Op} {is_done : Bool} {old new : List Known} → AllFollow op is_done old new → AreHeld files attached vols old → AreHeld files attached vols new
-held_after files attached vols follow held n v b at there =
-    let one = follow.each n b there in
-    let was = held n v one.0 at one.1 in
-    let image : List ℕ = image_named files (unit_of attached v.unit).name in
-    subst (HoldsPack image v) (sym one.2.rest) (record { track = was.track; libraries = was.libraries })
-
 -- a pack and its buffer have one geometry
-pub one_geometry : (vols : List Vol) (known : List Known) (n : ℕ) (v : Vol) (b : Known) → HaveBuffers vols known → slice_get vols n ≡ Some v → slice_get known n ≡ Some b → b.buf.records.geometry ≡ v.geometry
+pub one_geometry : (vols : List Vol) (known : List PackCache) (n : ℕ) (v : Vol) (b : PackCache) → HaveBuffers vols known → slice_get vols n ≡ Some v → slice_get known n ≡ Some b → b.buf.records.geometry ≡ v.geometry
 one_geometry vols known n v b have at there = some_geometry (
-    sym (get_map (λ (x : Known). x.buf.records.geometry) known n b there)
+    sym (get_map (λ (x : PackCache). x.buf.records.geometry) known n b there)
     ∙ ap (λ (gs : List Geometry). slice_get gs n) have
     ∙ get_map (λ (w : Vol). w.geometry) vols n v at)
   where
@@ -69,82 +60,32 @@ one_geometry vols known n v b have at there = some_geometry (
     some_geometry same = cc
 
 -- there are as many
-pub as_many : (vols : List Vol) (known : List Known) → HaveBuffers vols known → length known ≡ length vols
+pub as_many : (vols : List Vol) (known : List PackCache) → HaveBuffers vols known → length known ≡ length vols
 as_many vols known have =
-    sym (length-map known (λ (b : Known). b.buf.records.geometry)) ∙ ap length have ∙ length-map vols (λ (v : Vol). v.geometry)
+    sym (length-map known (λ (b : PackCache). b.buf.records.geometry)) ∙ ap length have ∙ length-map vols (λ (v : Vol). v.geometry)
 
--- ---- an operation
-
-module _ (op : Op) (is_done : Bool) (shelf after : Shelf) (old new : List Known) (follow : AllFollow op is_done old new) (knows : KnowsBodies shelf old) where
-  pub knows_followed : ((n : ℕ) (unread : List Unread) → ListsUnread shelf n unread → ListsUnread after n (followed_if is_done op n unread)) → KnowsBodies after new
-  knows_followed lists n b there =
-      let one = follow.each n b there in
-      subst (ListsUnread after n) (sym one.2.unread) (lists n one.0.unread.items (knows n one.0 one.1))
-
-same_lists : (op : Op) (shelf after : Shelf) → after ≡ shelf → (n : ℕ) (unread : List Unread) → ListsUnread shelf n unread → ListsUnread after n unread
-same_lists op shelf after same n unread lists = subst (λ (s : Shelf). ListsUnread s n unread) (sym same) lists
-
-pub knows_applied : {T : Type 0} (ran : Result T StoreErr) (op : Op) (is_done : Bool) {old new : Meaning Shelf} {known known' : List Known} → is_done ≡ is_ok ran → AllFollow op is_done known known' → Applies op old new (reported ran)
-    → OnOk ran (IsServed op) → sound_after (reported ran) ≡ true → KnowsBodies old.state known → KnowsBodies new.state known'
-knows_applied (Ok x) op is_done {old} {new} {known} {known'} is follow run served sound knows =
-    knows_followed op true old.state new.state known known' (subst (λ (b : Bool). AllFollow op b known known') is follow) knows (λ n unread lists. lists_after op served old.state new.state run.answer n unread lists)
-knows_applied (Err (store.Refused r)) op is_done {old} {new} {known} {known'} is follow run served sound knows =
-    knows_followed op false old.state new.state known known' (subst (λ (b : Bool). AllFollow op b known known') is follow) knows (λ n unread lists. same_lists op old.state new.state run.answer.1 n unread lists)
-knows_applied (Err store.Memory) op is_done {old} {new} {known} {known'} is follow run served sound knows =
-    knows_followed op false old.state new.state known known' (subst (λ (b : Bool). AllFollow op b known known') is follow) knows (λ n unread lists. same_lists op old.state new.state run.answer n unread lists)
-knows_applied (Err store.Device) op is_done is follow run served sound knows = absurd cc
-
--- ---- pack by pack
-
--- How far the packs have followed an operation: those up to a number have, and the others are as they were.
-pub record FollowSoFar (op : Op) (is_done : Bool) (old now : List Known) (k : ℕ) : Type 0 where
-  pub buffers : buffers_of now ≡ buffers_of old
-  pub done : (n : ℕ) (b : Known) → n < k → slice_get now n ≡ Some b → (a : Known) × (slice_get old n ≡ Some a) × Follows op is_done n a b
-  pub others : (n : ℕ) → k ≤ n → slice_get now n ≡ slice_get old n
-
-pub same_known : (old now : List Known) → buffers_of now ≡ buffers_of old → length now ≡ length old
-same_known old now same = sym (length-map now (λ (b : Known). b.buf.records.geometry)) ∙ ap length same ∙ length-map old (λ (b : Known). b.buf.records.geometry)
-
-some_known : {a b : Known} → Some a ≡ Some b → a ≡ b
+some_known : {a b : PackCache} → Some a ≡ Some b → a ≡ b
 some_known same = cc
-
-module _ (op : Op) (is_done : Bool) (old : List Known) where
-  pub follow_none : FollowSoFar op is_done old old 0
-  follow_none = record { buffers = refl; done = λ n b low there. absurd (omega (arith, low)); others = λ n low. refl }
-
-  pub follow_next : (now : List Known) (k : ℕ) (a b : Known) → FollowSoFar op is_done old now k → slice_get now k ≡ Some a → Follows op is_done k a b → FollowSoFar op is_done old (set now k b) (k + 1)
-  follow_next now k a b so_far there follows = record {
-    buffers = map_set_same (λ (x : Known). x.buf.records.geometry) now k a b there (ap (λ (x : Known). x.buf.records.geometry) follows.rest) ∙ so_far.buffers;
-    done = λ n x low at. ⊎_elim
-        (λ same.
-        let this : b ≡ x = some_known (sym (get_set now k a b there) ∙ ap (slice_get (set now k b)) (sym same) ∙ at) in
-        (a, ap (slice_get old) same ∙ sym (so_far.others k (omega arith)) ∙ there, subst (λ (m : ℕ). Follows op is_done m a x) (sym same) (subst (Follows op is_done k a) this follows)))
-        (λ differs. so_far.done n x (lower n k low differs) (sym (get_other now n k b differs) ∙ at))
-        (cases_eq n k);
-    others = λ n low. get_other now n k b (λ same. omega (arith, low, same)) ∙ so_far.others n (omega (arith, low));
-  }
-    where
-      lower : (i j : ℕ) → i < j + 1 → (i ≡ j → ⊥) → i < j
-      lower zero zero low differs = absurd (differs refl)
-      lower zero (suc j) low differs = omega arith
-      lower (suc i) zero low differs = absurd (omega (arith, low))
-      lower (suc i) (suc j) low differs = omega (arith, lower i j (omega (arith, low)) (λ same. differs (ap suc same)))
-
-  pub follow_all : (now : List Known) (k : ℕ) → FollowSoFar op is_done old now k → ((n : ℕ) (b : Known) → slice_get now n ≡ Some b → n < k) → AllFollow op is_done old now
-  follow_all now k so_far low = record { buffers = so_far.buffers; each = λ n b there. so_far.done n b (low n b there) there }
 
 -- ---- one pack
 
 -- what an index of the list finds
-pub at_index : (known : List Known) (n m : ℕ) (b : Known) → m ≡ n → n < length known → b ≡ get_or known m b → slice_get known n ≡ Some b
-at_index known n m b same low is = slice_get-get_or known n b low ∙ ap (λ (x : Known). Some x) (ap (λ (j : ℕ). get_or known j b) (sym same) ∙ sym is)
+pub at_index : (known : List PackCache) (n m : ℕ) (b : PackCache) → m ≡ n → n < length known → b ≡ get_or known m b → slice_get known n ≡ Some b
+at_index known n m b same low is = slice_get-get_or known n b low ∙ ap (λ (x : PackCache). Some x) (ap (λ (j : ℕ). get_or known j b) (sym same) ∙ sym is)
 
-pub known_low : (vols : List Vol) (known : List Known) (n : ℕ) (v : Vol) → HaveBuffers vols known → slice_get vols n ≡ Some v → n < length known
+pub known_low : (vols : List Vol) (known : List PackCache) (n : ℕ) (v : Vol) → HaveBuffers vols known → slice_get vols n ≡ Some v → n < length known
 known_low vols known n v have at = omega (arith, within vols n v at, as_many vols known have)
 
-module _ (known : List Known) (k : ℕ) (b b' : Known) (there : slice_get known k ≡ Some b) where
+-- the pack that one index of both lists finds
+pub pack_at : (vols : List Vol) (known : List PackCache) (k : ℕ) (v : Vol) (b : PackCache) → HaveBuffers vols known → k < length vols → v ≡ get_or vols k v → b ≡ get_or known k b → (slice_get vols k ≡ Some v) × (slice_get known k ≡ Some b)
+pack_at vols known k v b have low is is_known = (
+  slice_get-get_or vols k v low ∙ ap (λ (w : Vol). Some w) (sym is),
+  slice_get-get_or known k b (omega (arith, low, as_many vols known have)) ∙ ap (λ (x : PackCache). Some x) (sym is_known),
+)
+
+module _ (known : List PackCache) (k : ℕ) (b b' : PackCache) (there : slice_get known k ≡ Some b) where
   -- what holds of each holds where it holds of the one that is changed
-  each_set : (P : ℕ → Known → Type 0) → ((n : ℕ) (x : Known) → slice_get known n ≡ Some x → P n x) → P k b' → (n : ℕ) (x : Known) → slice_get (set known k b') n ≡ Some x → P n x
+  each_set : (P : ℕ → PackCache → Type 0) → ((n : ℕ) (x : PackCache) → slice_get known n ≡ Some x → P n x) → P k b' → (n : ℕ) (x : PackCache) → slice_get (set known k b') n ≡ Some x → P n x
   each_set P each here n x at = ⊎_elim
       (λ same. subst (P n) (some_known (sym (get_set known k b b' there) ∙ ap (slice_get (set known k b')) (sym same) ∙ at)) (subst (λ (m : ℕ). P m b') (sym same) here))
       (λ differs. each n x (sym (get_other known n k b' differs) ∙ at))
@@ -152,7 +93,7 @@ module _ (known : List Known) (k : ℕ) (b b' : Known) (there : slice_get known 
 
   pub buffers_set : (vols : List Vol) (v : Vol) → HaveBuffers vols known → slice_get vols k ≡ Some v → b'.buf.records.geometry ≡ v.geometry → HaveBuffers vols (set known k b')
   buffers_set vols v have at same =
-      map_set_same (λ (x : Known). x.buf.records.geometry) known k b b' there (same ∙ sym (one_geometry vols known k v b have at there)) ∙ have
+      map_set_same (λ (x : PackCache). x.buf.records.geometry) known k b b' there (same ∙ sym (one_geometry vols known k v b have at there)) ∙ have
 
   pub knows_put : (shelf : Shelf) → KnowsBodies shelf known → ListsUnread shelf k b'.unread.items → KnowsBodies shelf (set known k b')
   knows_put shelf knows here = each_set (λ n b. ListsUnread shelf n b.unread.items) knows here
@@ -169,24 +110,18 @@ module _ (known : List Known) (k : ℕ) (b b' : Known) (there : slice_get known 
       some_vol : {s t : Vol} → Some s ≡ Some t → s ≡ t
       some_vol same = cc
 
-  -- another track of it is held
-  pub held_track : (files : List File) (attached : List Attached) (vols : List Vol) (v : Vol) → AreHeld files attached vols known → slice_get vols k ≡ Some v → b'.libraries.items ≡ b.libraries.items
-      → HoldsTrack (image_named files (unit_of attached v.unit).name) b'.buf → AreHeld files attached vols (set known k b')
-  held_track files attached vols v held at same track =
-      held_set files attached vols v held at (record { track = track; libraries = subst (HoldLibraries (image_named files (unit_of attached v.unit).name) v) (sym same) (held k v b at there).libraries })
-
 -- libraries are held of one pack
-pub holds_set : (known : List Known) (k : ℕ) (a b : Known) (libraries : List Library) → slice_get known k ≡ Some a → b.unread ≡ a.unread → b.buf ≡ a.buf → b.libraries.items ≡ libraries → HoldsOn k libraries known (set known k b)
+pub holds_set : (known : List PackCache) (k : ℕ) (a b : PackCache) (libraries : List Library) → slice_get known k ≡ Some a → b.unread ≡ a.unread → b.buf ≡ a.buf → b.libraries.items ≡ libraries → HoldsOn k libraries known (set known k b)
 holds_set known k a b libraries there unread buf held = record {
   size = set_size known k b;
   others = λ n differs. get_other known n k b differs;
   here = λ x is.
       let this : b ≡ x = some_known (sym (get_set known k a b there) ∙ is) in
-      subst (λ (y : Known). (o : Known) × (slice_get known k ≡ Some o) × (y.unread ≡ o.unread) × (y.buf ≡ o.buf) × (y.libraries.items ≡ libraries)) this (a, there, unread, buf, held);
+      subst (λ (y : PackCache). (o : PackCache) × (slice_get known k ≡ Some o) × (y.unread ≡ o.unread) × (y.buf ≡ o.buf) × (y.libraries.items ≡ libraries)) this (a, there, unread, buf, held);
 }
 
 -- nothing is known of a pack behind the others
-pub holds_none : (known : List Known) (k : ℕ) (libraries : List Library) → length known ≤ k → HoldsOn k libraries known known
+pub holds_none : (known : List PackCache) (k : ℕ) (libraries : List Library) → length known ≤ k → HoldsOn k libraries known known
 holds_none known k libraries high = record {
   size = refl;
   others = λ n differs. refl;
@@ -194,7 +129,7 @@ holds_none known k libraries high = record {
 }
 
 -- what is known of the image of an index
-abbrev pub on_image : (files : List File) (attached : List Attached) (vols : List Vol) (known : List Known) (k : ℕ) (v : Vol) (b : Known) → AreIndexes attached vols → AreKept files attached vols
+abbrev pub on_image : (files : List File) (attached : List Attached) (vols : List Vol) (known : List PackCache) (k : ℕ) (v : Vol) (b : PackCache) → AreIndexes attached vols → AreKept files attached vols
     → KnowsBodies (shelf_under (names_of attached (units_of vols)) files) known → AreHeld files attached vols known → slice_get vols k ≡ Some v → slice_get known k ≡ Some b
     → IsOnImage (image_named files (unit_of attached v.unit).name) v b
 on_image files attached vols known k v b indexes kept knows held at there = record {
@@ -208,7 +143,7 @@ on_image files attached vols known k v b indexes kept knows held at there = reco
 }
 
 -- the list of a pack has the sets of its image's volume that can't be read
-pub lists_held : (files : List File) (attached : List Attached) (vols : List Vol) (known : List Known) (k : ℕ) (v : Vol) (b : Known) → AreIndexes attached vols → AreKept files attached vols
+pub lists_held : (files : List File) (attached : List Attached) (vols : List Vol) (known : List PackCache) (k : ℕ) (v : Vol) (b : PackCache) → AreIndexes attached vols → AreKept files attached vols
     → KnowsBodies (shelf_under (names_of attached (units_of vols)) files) known → slice_get vols k ≡ Some v → slice_get known k ≡ Some b
     → ListsBroken (volume_in (image_named files (unit_of attached v.unit).name) v) b.unread.items
 unfolding set_on
@@ -219,7 +154,7 @@ lists_held files attached vols known k v b indexes kept knows at there name =
 -- ---- the repair
 
 -- images that stand for the same shelf have the same bodies
-pub known_repaired : (names names' : List (List ℕ)) (files files' : List File) (known : List Known) (shelf : Shelf) → names' ≡ names → shelf_of (images_named files names) ≡ Ok shelf → shelf_of (images_named files' names) ≡ Ok shelf
+pub known_repaired : (names names' : List (List ℕ)) (files files' : List File) (known : List PackCache) (shelf : Shelf) → names' ≡ names → shelf_of (images_named files names) ≡ Ok shelf → shelf_of (images_named files' names) ≡ Ok shelf
     → KnowsBodies (shelf_under names files) known → KnowsBodies (shelf_under names' files') known
 known_repaired names names' files files' known shelf same before after knows =
     subst (λ (s : Shelf). KnowsBodies s known) (ap shelf_or_none (before ∙ sym after) ∙ ap (λ (ns : List (List ℕ)). shelf_under ns files') (sym same)) knows

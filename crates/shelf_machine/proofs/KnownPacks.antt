@@ -18,7 +18,7 @@ use Rattle.shelf_machine.specs.Machine.{serials_of, shelf_under, units_of}
 use Rattle.shelf_machine.specs.Opening.{AreApart, names_of}
 use Rattle.shelf_machine.specs.Packs.{AreKnown, AreScanned, AreScansOf, indexes_of}
 use Rattle.shelf_machine.specs.Unread.{broken_in, track_in}
-use Rattle.shelf_machine.specs.declared.known.Known.{Known}
+use Rattle.shelf_machine.specs.declared.pack_cache.PackCache.{PackCache}
 use Rattle.shelf_machine.specs.declared.unread.Unread.{Unread}
 use Rattle.shelf_machine.proofs.Holding.{volume_there}
 use Rattle.shelf_machine.proofs.ListPlaces.{contains_at, get_map}
@@ -26,7 +26,7 @@ use Rattle.shelf_machine.proofs.ListedSets.{lists_all}
 use Rattle.shelf_machine.proofs.ReadingPacks.{map_push, mounted_scans}
 
 -- what is known of a pack, by its scan
-abbrev pub IsKnownOf : List Scan → ℕ → Known → Type 0
+abbrev pub IsKnownOf : List Scan → ℕ → PackCache → Type 0
 IsKnownOf scans n b = (s : Scan) × (slice_get scans n ≡ Some s) × (b.unread.items ≡ unread_in s.volume.items)
 
 -- the unit of a scan is one of all
@@ -34,19 +34,19 @@ pub scan_unit : (scans : List Scan) (k : ℕ) (s : Scan) → slice_get scans k �
 scan_unit scans k s at = contains_at (units_of (indexes_of scans)) k s.vol.unit (get_map (λ (w : Vol). w.unit) (indexes_of scans) k s.vol (get_map (λ (x : Scan). x.vol) scans k s at))
 
 -- So many packs are looked at.
-pub record KnownSoFar (scans : List Scan) (known : List Known) (k : ℕ) : Type 0 where
+pub record KnownSoFar (scans : List Scan) (known : List PackCache) (k : ℕ) : Type 0 where
   pub buffers : buffers_of known ≡ take k (geometries_of (indexes_of scans))
   pub fresh : AreFresh known
-  pub unread : (n : ℕ) (b : Known) → slice_get known n ≡ Some b → IsKnownOf scans n b
+  pub unread : (n : ℕ) (b : PackCache) → slice_get known n ≡ Some b → IsKnownOf scans n b
 
-pub known_none : (scans : List Scan) (known : List Known) → known ≡ [] → KnownSoFar scans known 0
-known_none scans known none = subst (λ (l : List Known). KnownSoFar scans l 0) (sym none) (record { buffers = refl; fresh = λ n b at. absurd cc; unread = λ n b at. absurd cc })
+pub known_none : (scans : List Scan) (known : List PackCache) → known ≡ [] → KnownSoFar scans known 0
+known_none scans known none = subst (λ (l : List PackCache). KnownSoFar scans l 0) (sym none) (record { buffers = refl; fresh = λ n b at. absurd cc; unread = λ n b at. absurd cc })
 
-module _ (scans : List Scan) (known : List Known) (k : ℕ) (so_far : KnownSoFar scans known k) where
+module _ (scans : List Scan) (known : List PackCache) (k : ℕ) (so_far : KnownSoFar scans known k) where
   -- one more
-  pub known_next : (s : Scan) (b : Known) (known' : List Known) → slice_get scans k ≡ Some s → known' ≡ known ++ b ∷ [] → IsFresh b → b.buf.records.geometry ≡ s.vol.geometry → b.unread.items ≡ unread_in s.volume.items → KnownSoFar scans known' (k + 1)
-  known_next s b known' at pushed fresh geometry unread = subst (λ (l : List Known). KnownSoFar scans l (k + 1)) (sym pushed) (record {
-    buffers = map_push (λ (x : Known). x.buf.records.geometry) known b
+  pub known_next : (s : Scan) (b : PackCache) (known' : List PackCache) → slice_get scans k ≡ Some s → known' ≡ known ++ b ∷ [] → IsFresh b → b.buf.records.geometry ≡ s.vol.geometry → b.unread.items ≡ unread_in s.volume.items → KnownSoFar scans known' (k + 1)
+  known_next s b known' at pushed fresh geometry unread = subst (λ (l : List PackCache). KnownSoFar scans l (k + 1)) (sym pushed) (record {
+    buffers = map_push (λ (x : PackCache). x.buf.records.geometry) known b
         ∙ ap (λ (gs : List Geometry). gs ++ b.buf.records.geometry ∷ []) so_far.buffers
         ∙ ap (λ (g : Geometry). take k geometries ++ g ∷ []) geometry
         ∙ sym (take_push geometries k s.vol.geometry here);
@@ -66,7 +66,7 @@ module _ (scans : List Scan) (known : List Known) (k : ℕ) (so_far : KnownSoFar
       within (y ∷ ys) (suc j) x there = ap suc (within ys j x there)
 
       many : length known ≡ k
-      many = sym (length-map known (λ (x : Known). x.buf.records.geometry)) ∙ ap (λ (gs : List Geometry). length gs) so_far.buffers ∙ within geometries k s.vol.geometry here
+      many = sym (length-map known (λ (x : PackCache). x.buf.records.geometry)) ∙ ap (λ (gs : List Geometry). length gs) so_far.buffers ∙ within geometries k s.vol.geometry here
 
   -- all are
   pub known_all : length scans ≤ k → AreKnown scans known
@@ -77,7 +77,7 @@ module _ (scans : List Scan) (known : List Known) (k : ℕ) (so_far : KnownSoFar
   }
 
 -- the bodies of the shelf of the images are known so
-pub known_bodies : (files : List File) (attached : List Attached) (units : List ℕ) (scans : List Scan) (known : List Known) → AreKnown scans known → AreScanned attached units scans → AreScansOf files attached scans → AreApart (serials_of (indexes_of scans))
+pub known_bodies : (files : List File) (attached : List Attached) (units : List ℕ) (scans : List Scan) (known : List PackCache) → AreKnown scans known → AreScanned attached units scans → AreScansOf files attached scans → AreApart (serials_of (indexes_of scans))
     → KnowsBodies (shelf_under (names_of attached (units_of (indexes_of scans))) files) known
 unfolding set_on
 known_bodies files attached units scans known are scanned images apart n b at name =

@@ -68,8 +68,10 @@ pub mod StayingBlocks
 pub mod StayingEntries
 pub mod FirstTracks
 pub mod StayingNewSets
-pub mod HeldOperations
-pub mod HeldNewSets
 pub mod FoundElements
 pub mod HeldEntries
+pub mod Serials
+pub mod Leaving
+pub mod SeveralPacks
+pub mod Resting
 pub mod OperationsLater

@@ -10,7 +10,7 @@ use Rattle.dscb_codec.specs.declared.Dscb.TheVariants as formats
 use Rattle.dscb_codec.specs.declared.F1.{F1}
 use Rattle.ebcdic_names.specs.declared.names.Dsn.{Dsn}
 use Rattle.free_rebuild.specs.Repairs.{image_named}
-use Rattle.hall_core.specs.Facts.{Attached, unit_of}
+use Rattle.hall_core.specs.Facts.{Attached, Facts, unit_of}
 use Rattle.pack_spec.specs.declared.MountErr.{MountErr}
 use Rattle.pack_spec.specs.Volume.{attr_of}
 use Rattle.seq_access.specs.Bodies.{body_of_set, last_in}
@@ -31,8 +31,8 @@ use Rattle.vtoc_index.specs.declared.vol.Vol.{Vol}
 use Rattle.vtoc_index.proofs.KeptLemmas.{mounted_of}
 use Rattle.vtoc_sets.specs.Sets.{volume_in}
 use Rattle.shelf_machine.specs.Fronts.{BeginsWell, firsts}
-use Rattle.shelf_machine.specs.Known.{geometries_of}
-use Rattle.shelf_machine.specs.Machine.{placed_in}
+use Rattle.shelf_machine.proofs.Machines.{same_base}
+use Rattle.shelf_machine.specs.Machine.{base_of, placed_in}
 use Rattle.shelf_machine.specs.Operating.{IsSamePack}
 use Rattle.shelf_machine.specs.Pending.{HasSlot, IsInSlot, IsPendingBy, IsWriterOn, IsWritingBy, puts_by, puts_on}
 use Rattle.shelf_machine.specs.Reporting.{reported}
@@ -138,9 +138,9 @@ module _ {T : Type 0} (name : List ℕ) (dsn : Dsn) (v v' : Vol) (m m' : Meaning
 -- ---- on one of several packs
 
 -- there are as many indexes as before
-pub as_many : (vols vols' : List Vol) → geometries_of vols' ≡ geometries_of vols → length vols' ≡ length vols
-as_many vols vols' same =
-    sym (length-map vols' (λ (v : Vol). v.geometry)) ∙ ap length same ∙ length-map vols (λ (v : Vol). v.geometry)
+pub as_many : (old new : Facts) (vols vols' : List Vol) → base_of new vols' ≡ base_of old vols → length vols' ≡ length vols
+as_many old new vols vols' same =
+    sym (length-map vols' (λ (v : Vol). v.unit)) ∙ ap length (same_base old new vols vols' same).numbers ∙ length-map vols (λ (v : Vol). v.unit)
 
 -- the index of the pack of a number
 pub index_at : (vols : List Vol) (k n : ℕ) (u : Vol) → k ≡ n → n < length vols → u ≡ get_or vols k u → slice_get vols n ≡ Some u

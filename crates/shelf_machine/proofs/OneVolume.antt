@@ -12,7 +12,7 @@ use Rattle.shelf_machine.specs.Operating.{IsRoomed}
 use Rattle.shelf_machine.specs.Reporting.{reported}
 
 -- the data sets of an index stand in the order of their names
-abbrev IsInOrder : Vol → Type 0
+abbrev pub IsInOrder : Vol → Type 0
 IsInOrder v = AreByName (name_at v.slots.items) v.by_name.items
 
 -- an index with more room is that of the same image

@@ -17,7 +17,7 @@ use Rattle.stop_model.specs.Moments.{Meaning}
 use Rattle.vtoc_index.specs.declared.vol.Vol.{Vol}
 use Rattle.shelf_machine.specs.Known.{AreFresh, AreHeld, HoldLibraries, HoldsOn, HoldsPack, KeepsLists, buffers_of}
 use Rattle.shelf_machine.specs.Packs.{indexes_of}
-use Rattle.shelf_machine.specs.declared.known.Known.{Known}
+use Rattle.shelf_machine.specs.declared.pack_cache.PackCache.{PackCache}
 use Rattle.shelf_machine.proofs.ForgottenTracks.{held_still, same_lists}
 use Rattle.shelf_machine.proofs.KnownLemmas.{fresh_held, nothing_held}
 use Rattle.shelf_machine.proofs.RepairLoops.{OpenedSoFar, none_more_scans, put_there, there}
@@ -31,37 +31,37 @@ scan_holds image s scan n l at =
 
 -- ---- other libraries are held of one pack
 
-some_known : {a b : Known} → Some a ≡ Some b → a ≡ b
+some_known : {a b : PackCache} → Some a ≡ Some b → a ≡ b
 some_known same = cc
 
-module _ (k : ℕ) (libraries : List Library) (old new : List Known) (holds : HoldsOn k libraries old new) where
+module _ (k : ℕ) (libraries : List Library) (old new : List PackCache) (holds : HoldsOn k libraries old new) where
   -- but for its libraries each is as it was
-  pub holds_rest : (n : ℕ) (b : Known) → slice_get new n ≡ Some b → (a : Known) × (slice_get old n ≡ Some a) × (b.unread ≡ a.unread) × (b.buf ≡ a.buf)
+  pub holds_rest : (n : ℕ) (b : PackCache) → slice_get new n ≡ Some b → (a : PackCache) × (slice_get old n ≡ Some a) × (b.unread ≡ a.unread) × (b.buf ≡ a.buf)
   holds_rest n b at = ⊎_elim
       (λ same. let was = holds.here b (ap (slice_get new) (sym same) ∙ at) in (was.0, ap (slice_get old) same ∙ was.1, was.2, was.3))
       (λ differs. (b, sym (holds.others n differs) ∙ at, refl, refl))
       (cases_eq n k)
 
 -- where each has the same buffer, the buffers' geometries are the same
-pub same_buffers : (old new : List Known) → length new ≡ length old → ((n : ℕ) (b : Known) → slice_get new n ≡ Some b → (a : Known) × (slice_get old n ≡ Some a) × (b.buf ≡ a.buf)) → buffers_of new ≡ buffers_of old
+pub same_buffers : (old new : List PackCache) → length new ≡ length old → ((n : ℕ) (b : PackCache) → slice_get new n ≡ Some b → (a : PackCache) × (slice_get old n ≡ Some a) × (b.buf ≡ a.buf)) → buffers_of new ≡ buffers_of old
 same_buffers [] [] size each = refl
 same_buffers [] (y ∷ new) size each = absurd (omega (arith, size))
 same_buffers (x ∷ old) [] size each = absurd (omega (arith, size))
 same_buffers (x ∷ old) (y ∷ new) size each =
     let first = each 0 y refl in
-    let buffer : y.buf.records.geometry ≡ x.buf.records.geometry = ap (λ (b : ReadBuf). b.records.geometry) (first.2 ∙ ap (λ (a : Known). a.buf) (sym (some_known first.1))) in
+    let buffer : y.buf.records.geometry ≡ x.buf.records.geometry = ap (λ (b : ReadBuf). b.records.geometry) (first.2 ∙ ap (λ (a : PackCache). a.buf) (sym (some_known first.1))) in
     let rest = same_buffers old new (omega (arith, size)) (λ n b at. each (suc n) b at) in
     ap (λ (g : Geometry). g ∷ buffers_of new) buffer ∙ ap (λ (gs : List Geometry). x.buf.records.geometry ∷ gs) rest
 
 -- so which data sets can't be read is known as before
-pub holds_lists : (k : ℕ) (libraries : List Library) (old new : List Known) → HoldsOn k libraries old new → KeepsLists old new
+pub holds_lists : (k : ℕ) (libraries : List Library) (old new : List PackCache) → HoldsOn k libraries old new → KeepsLists old new
 holds_lists k libraries old new holds =
     let rest = holds_rest k libraries old new holds in record {
       buffers = same_buffers old new holds.size (λ n b at. let was = rest n b at in (was.0, was.1, was.3));
       unread = λ n b at. let was = rest n b at in (was.0, was.1, ap (λ us. us.items) was.2);
     }
 
-pub lists_then : (a b c : List Known) → KeepsLists a b → KeepsLists b c → KeepsLists a c
+pub lists_then : (a b c : List PackCache) → KeepsLists a b → KeepsLists b c → KeepsLists a c
 lists_then a b c first next = record {
   buffers = next.buffers ∙ first.buffers;
   unread = λ n x at. let was = next.unread n x at in let before = first.unread n was.0 was.1 in (before.0, before.1, was.2 ∙ before.2);
@@ -70,12 +70,12 @@ lists_then a b c first next = record {
 -- ---- pack by pack
 
 -- What is known of packs of which so many first are repaired: no track is held, and the libraries that are held stand, on the repaired packs and on the rest.
-pub record HeldSoFar (tells : Bool) (now : Facts) (m' : Meaning (List File)) (scans : List Scan) (vols : List Vol) (old known : List Known) (k : ℕ) : Type 0 where
+pub record HeldSoFar (tells : Bool) (now : Facts) (m' : Meaning (List File)) (scans : List Scan) (vols : List Vol) (old known : List PackCache) (k : ℕ) : Type 0 where
   pub lists : KeepsLists old known
-  pub tracks : (n : ℕ) (b : Known) → slice_get known n ≡ Some b → b.buf.reach ≡ Nothing
+  pub tracks : (n : ℕ) (b : PackCache) → slice_get known n ≡ Some b → b.buf.reach ≡ Nothing
   pub held : IsTrue tells → AreHeld m'.state now.units (vols ++ indexes_of (drop k scans)) known
 
-pub held_none : (tells : Bool) (facts : Facts) (m : Meaning (List File)) (scans : List Scan) (vols : List Vol) (known : List Known) → AreFresh known → HeldSoFar tells facts m scans vols known known 0
+pub held_none : (tells : Bool) (facts : Facts) (m : Meaning (List File)) (scans : List Scan) (vols : List Vol) (known : List PackCache) → AreFresh known → HeldSoFar tells facts m scans vols known known 0
 held_none tells facts m scans vols known fresh = record {
   lists = same_lists known;
   tracks = λ n b at. (fresh n b at).reach;
@@ -83,18 +83,18 @@ held_none tells facts m scans vols known fresh = record {
 }
 
 module _ (tells : Bool) (old now : Facts) (m m' : Meaning (List File)) (scans : List Scan) (vols : List Vol) (k : ℕ) (so_far : OpenedSoFar tells old now m m' scans vols k) (s : Scan) (at : slice_get scans k ≡ Some s)
-    (before known known' : List Known) (held : HeldSoFar tells now m' scans vols before known k) (s' : Scan) (holds : HoldsOn k s'.libraries.items known known') where
+    (before known known' : List PackCache) (held : HeldSoFar tells now m' scans vols before known k) (s' : Scan) (holds : HoldsOn k s'.libraries.items known known') where
   -- the indexes of all, those that are repaired first
   abbrev all : List Vol
   all = vols ++ indexes_of (drop k scans)
 
-  no_track : (n : ℕ) (b : Known) → slice_get known' n ≡ Some b → b.buf.reach ≡ Nothing
+  no_track : (n : ℕ) (b : PackCache) → slice_get known' n ≡ Some b → b.buf.reach ≡ Nothing
   no_track n b is =
       let was = holds_rest k s'.libraries.items known known' holds n b is in
       ap (λ (x : ReadBuf). x.reach) was.3 ∙ held.tracks n was.0 was.1
 
   -- the pack that was repaired
-  this_held : (image : List ℕ) → IsScanOf image s' → (b : Known) → slice_get known' k ≡ Some b → HoldsPack image s'.vol b
+  this_held : (image : List ℕ) → IsScanOf image s' → (b : PackCache) → slice_get known' k ≡ Some b → HoldsPack image s'.vol b
   this_held image scan b is = record {
     track = nothing_held image b (no_track k b is);
     libraries = subst (HoldLibraries image s'.vol) (sym (holds.here b is).4) (scan_holds image s' scan);
@@ -117,5 +117,5 @@ module _ (tells : Bool) (old now : Facts) (m m' : Meaning (List File)) (scans : 
   }
 
 -- all are repaired
-pub held_done : (tells : Bool) (now : Facts) (m' : Meaning (List File)) (scans : List Scan) (vols : List Vol) (old known : List Known) (k : ℕ) → HeldSoFar tells now m' scans vols old known k → length scans ≤ k → IsTrue tells → AreHeld m'.state now.units vols known
+pub held_done : (tells : Bool) (now : Facts) (m' : Meaning (List File)) (scans : List Scan) (vols : List Vol) (old known : List PackCache) (k : ℕ) → HeldSoFar tells now m' scans vols old known k → length scans ≤ k → IsTrue tells → AreHeld m'.state now.units vols known
 held_done tells now m' scans vols old known k held low told = subst (λ (l : List Vol). AreHeld m'.state now.units l known) (none_more_scans scans k vols low) (held.held told)

@@ -16,7 +16,7 @@ use Rattle.vtoc_index.specs.declared.vol.Vol.{Vol}
 use Rattle.seq_access.specs.Bodies.{last_in}
 use Rattle.seq_access.specs.Writing.{AreSpared}
 use Rattle.seq_access.proofs.SparedCalls.{differ_none}
-use Rattle.shelf_machine.specs.declared.front.Front.{Front}
+use Rattle.shelf_machine.specs.declared.area_start.AreaStart.{AreaStart}
 use Rattle.shelf_machine.specs.Fronts.{IsFrontIn, behind_first}
 use Rattle.shelf_machine.specs.Machine.{AreIndexes, AreKept, is_open_in, shelf_under, units_of, writer_in}
 use Rattle.shelf_machine.specs.Opening.{names_of}
@@ -46,7 +46,7 @@ module _ (v : ℕ) (dsn : Dsn) (mode : Mode) (vols : List Vol) (vol : Vol) (at :
       )
 
   -- and it stands on the image of that
-  pub begun_on : (files : List File) (attached : List Attached) (r : Option Writer) (front : Front) → AreIndexes attached vols → AreKept files attached vols → IfSome r (IsFor v dsn mode)
+  pub begun_on : (files : List File) (attached : List Attached) (r : Option Writer) (front : AreaStart) → AreIndexes attached vols → AreKept files attached vols → IfSome r (IsFor v dsn mode)
       → ((shelf : Shelf) (n : ℕ) (has : HasVolume shelf n vol) → begin_refusal shelf (record { v = n; dsn = dsn; mode = mode }) ≡ None → IsFrontIn mode front (body_on shelf n dsn.bytes) → IfSome r (IsBegunAt has.image vol))
       → begin_refusal (shelf_under (names_of attached (units_of vols)) files) (record { v = v; dsn = dsn; mode = mode }) ≡ None → IsFrontIn mode front (body_on (shelf_under (names_of attached (units_of vols)) files) v dsn.bytes) → IfSome r (IsBegunOn files attached vols)
   begun_on files attached None front indexes kept target each none begins = tt

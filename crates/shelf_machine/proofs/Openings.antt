@@ -18,7 +18,7 @@ use Rattle.vtoc_index.specs.declared.vol.Vol.{Vol}
 use Rattle.shelf_machine.specs.Machine.{AreInOrder, AreIndexes, AreKept, HasRoom, HavePlans, KeepsSafe, LeavesJust, serials_of, units_of}
 use Rattle.shelf_machine.specs.Opening.{AreApart, AreSafe, AreUnits, LeavesSafe, OpensSafely, images_named, names_of}
 use Rattle.shelf_machine.specs.Packs.{AreMounted, AreScanned, RefusesImages, RepairsAll, StopsAtTwice, indexes_of}
-use Rattle.shelf_machine.specs.declared.stopped.Stopped.{Stopped}
+use Rattle.shelf_machine.specs.declared.open_failure.OpenFailure.{OpenFailure}
 use Rattle.shelf_machine.proofs.Holding.{kept_mounted, shelf_held, volume_held, volumes_held}
 use Rattle.shelf_machine.proofs.ListPlaces.{get_map, of_map}
 use Rattle.shelf_machine.proofs.ReadingPacks.{twice_refused}
@@ -77,7 +77,7 @@ opened_safe attached vols names old new shelf same indexes kept before after saf
     }
 
 -- a serial that stands twice refuses the images
-pub refuses_twice : (files : List File) (attached : List Attached) (units : List ℕ) (vols : List Vol) (s : Stopped) → units_of vols ≡ units → AreMounted files attached vols → StopsAtTwice (serials_of vols) s → RefusesImages (names_of attached units) files s
+pub refuses_twice : (files : List File) (attached : List Attached) (units : List ℕ) (vols : List Vol) (s : OpenFailure) → units_of vols ≡ units → AreMounted files attached vols → StopsAtTwice (serials_of vols) s → RefusesImages (names_of attached units) files s
 refuses_twice files attached units vols s numbers mounted twice memory device =
     ap (λ (us : List ℕ). shelf_of (images_named files (names_of attached us))) (sym numbers)
     ∙ twice_refused files attached vols s.unit twice.0 mounted twice.2

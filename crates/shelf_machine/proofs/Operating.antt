@@ -61,7 +61,7 @@ plans_set (u ∷ vols) zero v v' at same =
 plans_set (u ∷ vols) (suc k) v v' at same = ap (λ rest. numbers_of u.geometry ∷ (u.vtoc.start ∷ u.vtoc.len ∷ []) ∷ rest) (plans_set vols k v v' at same)
 
 -- and so is its room
-room_same : (v v' : Vol) → IsSamePack v v' → HasRoom v → HasRoom v'
+pub room_same : (v v' : Vol) → IsSamePack v v' → HasRoom v → HasRoom v'
 room_same v v' same room = omega (arith, room, same.room, ap tracks_of same.geometry)
 
 -- the name of an index's unit stands at its place
@@ -120,10 +120,10 @@ module _ (old new : Facts) (vols : List Vol) (k : ℕ) (v v' : Vol) (there : sli
       (cases_eq j k))
 
 -- What an operation on a pack leaves of its image and of the other files, unless the device failed.
-record LeavesPack (name : List ℕ) (v' : Vol) (m m' : Meaning (List File)) : Type 0 where
-  others : (other : List ℕ) → other ≢ name → file_of m'.state other ≡ file_of m.state other
-  here : IsKeptSettled (image_named m'.state name) v'
-  durable : IsDurable m'
+pub record LeavesPack (name : List ℕ) (v' : Vol) (m m' : Meaning (List File)) : Type 0 where
+  pub others : (other : List ℕ) → other ≢ name → file_of m'.state other ≡ file_of m.state other
+  pub here : IsKeptSettled (image_named m'.state name) v'
+  pub durable : IsDurable m'
 
 module _ (name : List ℕ) (operation : Volume → Result Volume Refusal) (v v' : Vol) (Changes : List ℕ → List ℕ → Type 0) (m m' : Meaning (List File)) (kept : IsKeptSettled (image_named m.state name) v) (durable : IsDurable m) where
   leaves_same : Same m m' → IsKept (image_named m.state name) v' → LeavesPack name v' m m'
@@ -133,7 +133,7 @@ module _ (name : List ℕ) (operation : Volume → Result Volume Refusal) (v v' 
     durable = durable_same same durable;
   }
 
-  leaves_pack : {T : Type 0} (r : Result T StoreErr) → Operates name operation v' Changes m m' r → (IsKept (image_named m.state name) v → (e : StoreErr) → r ≡ Err e → e ≢ store.Device → IsKept (image_named m.state name) v')
+  pub leaves_pack : {T : Type 0} (r : Result T StoreErr) → Operates name operation v' Changes m m' r → (IsKept (image_named m.state name) v → (e : StoreErr) → r ≡ Err e → e ≢ store.Device → IsKept (image_named m.state name) v')
       → OnOk r (IsStillPacked (image_named m.state name) (image_named m'.state name)) → sound_after (reported r) ≡ true → LeavesPack name v' m m'
   leaves_pack (Ok x) run idle still sound = record {
     others = run.does.done.changes.others;

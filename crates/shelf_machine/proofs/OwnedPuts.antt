@@ -31,7 +31,7 @@ use Rattle.shelf_machine.specs.Pending.{HasSlot, IsInSlot, IsPendingBy, IsWriter
 use Rattle.shelf_machine.specs.Fronts.{BeginsWell}
 use Rattle.shelf_machine.specs.Putting.{DidPut, IsDue, PutsOn, did_place}
 use Rattle.shelf_machine.specs.Reads.{HasVolume, IsSetOn}
-use Rattle.shelf_machine.specs.declared.known.Known.{Known}
+use Rattle.shelf_machine.specs.declared.pack_cache.PackCache.{PackCache}
 use Rattle.shelf_machine.specs.declared.writer.Writer.{Writer}
 use Rattle.shelf_machine.proofs.Holding.{kept_mounted, volume_there}
 use Rattle.shelf_machine.proofs.ListPlaces.{get_set, map_set_same, within}
@@ -80,7 +80,7 @@ module _ (vols : List Vol) (k : ℕ) (v v' : Vol) (at : slice_get vols k ≡ Som
         λ u there. subst (λ (x : Vol). IsInSlot x (record w { inner = i })) (sym others ∙ some_vol (sym put ∙ there)) here,
       )
 
-  pub buffers_put : (known known' : List Known) → ForgetsOn k known known' → HaveBuffers vols known → HaveBuffers (set vols k v') known'
+  pub buffers_put : (known known' : List PackCache) → ForgetsOn k known known' → HaveBuffers vols known → HaveBuffers (set vols k v') known'
   buffers_put known known' forgot have = forgot.buffers ∙ have ∙ sym (map_set_same (λ (x : Vol). x.geometry) vols k v v' at (ap (λ (x : Vol). x.geometry) others))
 
 -- ---- what the call leaves and answers, where the hall tells
@@ -164,7 +164,7 @@ module _ (old : Facts) (vols : List Vol) (m : Meaning (List File)) (kept : AreKe
       stands (Err NeedExtent) run none = still (run.need_same refl) (run.mounted none) run.writer
       stands (Err Device) run none = absurd (none refl)
 
-      puts : (known known' : List Known) → ForgetsOn w.v known known' → AreHeld m.state old.units vols known → (r : Result Place PutErr) → Puts writing_here name name c v' i m m' r
+      puts : (known known' : List PackCache) → ForgetsOn w.v known known' → AreHeld m.state old.units vols known → (r : Result Place PutErr) → Puts writing_here name name c v' i m m' r
           → PutsOn (names_of old.units (units_of vols)) new.units vols vols' known' w' m m' r
       puts known known' forgot held r run =
           puts_on old new vols indexes m m' counts left kept w w' v at b units on (pending v at).1 f found.set r known known' forgot held
@@ -222,7 +222,7 @@ module _ (old : Facts) (vols : List Vol) (m : Meaning (List File)) (kept : AreKe
       run_here : Puts writing_here name name c (record v { buf = u.buf }) i m m' r
       run_here = subst (λ (x : Vol). Puts writing_here name name c x i m m' r) others (subst (λ (us : List Attached). Puts writing_here name (unit_of us v.unit).name c u i m m' r) units run)
 
-      pub owned_puts : (known known' : List Known) → ForgetsOn w.v known known' → AreHeld m.state old.units vols known
+      pub owned_puts : (known known' : List PackCache) → ForgetsOn w.v known known' → AreHeld m.state old.units vols known
           → PutsOn (names_of old.units (units_of vols)) new.units vols (set vols w.v u) known' (record w { inner = i }) m m' r
       owned_puts known known' forgot held =
           subst (λ (x : Vol). PutsOn (names_of old.units (units_of vols)) new.units vols (set vols w.v x) known' (record w { inner = i }) m m' r) (sym others)

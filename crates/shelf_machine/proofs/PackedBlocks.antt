@@ -43,7 +43,8 @@ use Rattle.seq_access.proofs.OwnBodies.{as_partitioned, part_first}
 use Rattle.seq_access.proofs.SparedCalls.{differ_by}
 use Rattle.seq_access.proofs.SparedImages.{spared_mounted, volume_kept}
 use Rattle.seq_access.proofs.SparedSets.{bare, bare_set}
-use Rattle.pds_directory.proofs.PackedTracks.{AgreeUpto, KeepsDirectories, end_by, outside, own_apart, packed_step, packed_vtoc, read_bytes, read_records, same_keeps, set_there, sets_apart}
+use Rattle.vtoc_sets.proofs.Owners.{on_same as read_records, read_bytes}
+use Rattle.pds_directory.proofs.PackedTracks.{AgreeUpto, KeepsDirectories, end_by, outside, own_apart, packed_step, packed_vtoc, same_keeps, set_there, sets_apart}
 use Rattle.shelf_machine.proofs.PackedVtoc.{IsPackedImage, packed_of, settled_both, settled_parts}
 
 -- the place of a format 1 among the data sets in slots
@@ -169,10 +170,6 @@ module _ (before after : List ℕ) (v : Vol) (f : F1) (set : IsSetIn before (bar
   unfolding volume_with
   packed_now packed = packed_step before after u stands u (same_keeps u) agree packed
 
-  packed_back : ArePacked after u → ArePacked before u
-  unfolding volume_with
-  packed_back packed = packed_step after before u pending_stands u (same_keeps u) (λ k x end there is j t low own. sym (agree k x end there is j t low own)) packed
-
   -- While blocks are pending an image is packed where it was,
   pub pending_image : IsPackedImage before → IsPackedImage after
   pending_image was = (u, pending_stands, packed_now (packed_of before u stands was))
@@ -185,13 +182,9 @@ module _ (before after : List ℕ) (v : Vol) (f : F1) (set : IsSetIn before (bar
     is_u : u ≡ w
     is_u = let both : Ok u ≡ Ok w = sym stands ∙ volume in cc
 
-    -- and by the volume,
+    -- and by the volume.
     pub pending_packed : ArePacked before w → ArePacked after w
     pending_packed = subst (λ (x : Volume). ArePacked before x → ArePacked after x) is_u packed_now
-
-    -- and were where they are.
-    pub pending_back : ArePacked after w → ArePacked before w
-    pending_back = subst (λ (x : Volume). ArePacked after x → ArePacked before x) is_u packed_back
 
     -- Once they are the set's, the VTOC differs too.
     pub packed_blocks : (done : List ℕ) (w' : Volume) → DifferInVtoc v.geometry v.vtoc after done → KeepsDirectories w w' → ArePacked before w → ArePacked done w'
@@ -207,8 +200,3 @@ module _ (name : List ℕ) (stepped : Result Volume Refusal) (v' : Vol) (before 
       let c = done.changes in
       let image : List ℕ = image_named before name in
       (done.after, done.stands, packed_blocks image c.between c.old c.f (bare_set image c.old c.f c.set) c.last c.behind c.ends w stands (image_named new.state name) done.after c.alone (keeps done.after done.step) (packed_of image w stands was))
-
-  pub committed_settled : IsSettled (image_named before name) → IsSettled (image_named new.state name)
-  committed_settled was =
-      let parts = settled_parts (image_named before name) was in
-      settled_both (image_named new.state name) (done.settled parts.0) (committed_packed parts.1)

@@ -32,7 +32,8 @@ use Rattle.pds_directory.specs.Directories.{IsPartIn, data_in, end_in, owned_in,
 use Rattle.stow_ops.specs.Stores.{DifferOn, directory_tracks}
 use Rattle.stow_ops.proofs.DirectoryImages.{DifferOnOwned, same_owned}
 use Rattle.stow_ops.proofs.WrittenDirectories.{on_owned}
-use Rattle.pds_directory.proofs.PackedTracks.{ComesFrom, KeepsDirectories, end_by, owned_more, packed_all, packed_if, packed_one, read_bytes, same_keeps, sets_apart}
+use Rattle.vtoc_sets.proofs.Owners.{read_bytes}
+use Rattle.pds_directory.proofs.PackedTracks.{ComesFrom, KeepsDirectories, end_by, owned_more, packed_all, packed_if, packed_one, same_keeps, sets_apart}
 use Rattle.shelf_machine.proofs.PackedBlocks.{index_set, part_from}
 use Rattle.shelf_machine.proofs.PackedVtoc.{IsPackedImage, on_both, packed_of, settled_both, settled_parts}
 

@@ -30,7 +30,8 @@ use Rattle.free_rebuild.specs.Repairs.{image_named}
 use Rattle.dadsm_ops.specs.Allocating.{DifferBeside, HasDirectory, InNewSet, directory_runs, new_tracks}
 use Rattle.dadsm_ops.specs.Formatting.{IsFormatted}
 use Rattle.dadsm_ops.proofs.FormattedBodies.{new_on}
-use Rattle.pds_directory.proofs.PackedTracks.{AddsSet, AgreeUpto, ComesFrom, allocate_adds, end_by, new_packed, on_pack, outside, owned_by, owned_some, packed_all, packed_if, packed_one, read_bytes}
+use Rattle.vtoc_sets.proofs.Owners.{owned_some, read_bytes}
+use Rattle.pds_directory.proofs.PackedTracks.{AddsSet, AgreeUpto, ComesFrom, allocate_adds, end_by, new_packed, on_pack, outside, owned_by, packed_all, packed_if, packed_one}
 use Rattle.shelf_machine.proofs.PackedVtoc.{IsPackedImage, mounted_place, on_both, packed_of, settled_both, settled_parts}
 
 none_owned : (k t : ℕ) → slice_get (owned_tracks []) k ≡ Some t → ⊥
@@ -171,8 +172,3 @@ module _ {T E : Type 0} (name : List ℕ) (dsn : Dsn) (attr : Attr) (q : Request
       at_runs w.geometry adds.runs (subst (λ (g : Geometry). HasDirectory image' g (directory_runs dir adds.runs) dir) geometry (subst (λ (rs : List Run). HasDirectory image' v'.geometry rs dir) runs written))
       in
       (w', done.stands, packed_new_set image image' w w' does.before done.stands dsn attr q dir adds (differ_new name dsn attr q dir v' old.state new w does.before done adds) has (packed_of image w does.before was))) does.done directory
-
-  pub new_set_settled : OnOk result (IsSettled image → IsSettled image')
-  new_set_settled = on_both result (λ settles packs was.
-      let parts = settled_parts image was in
-      settled_both image' (settles parts.0) (packs parts.1)) does.settled new_set_packed

@@ -1,5 +1,5 @@
 -- Contents that are placed one behind another, as those of a put and of the closing of a writer.
-use Rattle.std.proofs.Common.{◌≡◌, ◌≢◌, ℕ, Bool, true, false, cond, List, [], ◌∷◌, ◌++◌, Some, refl, sym, ap, ◌∙◌, subst, append_assoc}
+use Rattle.std.proofs.Common.{◌≡◌, ℕ, Bool, true, false, cond, List, [], ◌∷◌, ◌++◌, Some, refl, sym, ap, ◌∙◌, subst, append_assoc}
 use Rattle.std.specs.Prelude.{Result, Ok, Err, IsErrOf, OnOk}
 use Rattle.std.proofs.lemmas.List.{append-nil}
 use Rattle.hall_core.specs.Facts.{Attached}
@@ -16,32 +16,27 @@ use Rattle.vol_model.specs.declared.requests.Op.{Op}
 use Rattle.vol_model.specs.Calls.{Does, Records, sound_after}
 use Rattle.vol_model.specs.Did.{Did, behind_them}
 use Rattle.vol_model.specs.Places.{Content}
-use Rattle.vol_model.specs.Writing.{Making, OpenWriter, Target, making_room, place_on, room_made, with_puts}
+use Rattle.vol_model.specs.Writing.{Making, OpenWriter, making_room, place_on, room_made, with_puts}
 use Rattle.vol_model.proofs.Filling.{made, made_then, making_append}
 use Rattle.vtoc_index.specs.declared.vol.Vol.{Vol}
-use Rattle.shelf_machine.specs.Known.{AreHeld, KnowsBodies}
-use Rattle.shelf_machine.specs.Machine.{AreKept, KeepsSafe, placed_in, shelf_under, units_of}
+use Rattle.shelf_machine.specs.Machine.{KeepsSafe, placed_in, shelf_under, units_of}
 use Rattle.shelf_machine.specs.Opening.{names_of}
 use Rattle.shelf_machine.specs.Pending.{IsPendingBy}
 use Rattle.shelf_machine.specs.PutBlocks.{PlacesAll, PlacesBlock, StandsAgain, shelf_on}
 use Rattle.shelf_machine.specs.Putting.{did_place}
-use Rattle.shelf_machine.specs.declared.known.Known.{Known}
 use Rattle.shelf_machine.specs.declared.writer.Writer.{Writer}
 use Rattle.shelf_machine.proofs.DoneParts.{as_answer, does_as, does_none, does_stop, does_then, sound_as}
 use Rattle.shelf_machine.proofs.Machines.{keeps_all}
 use Rattle.shelf_machine.proofs.Settling.{keeps_then}
 
 -- nothing is placed
-pub places_none : (us : List Attached) (vols : List Vol) (known : List Known) (w : Writer) (m : Meaning (List File)) (n : ℕ) → AreKept m.state us vols → IsPendingBy m us vols (Some w) → AreHeld m.state us vols known → KnowsBodies (shelf_on m.state us vols) known
-    → PlacesAll [] (tt {0}) us us vols vols known w w m m n n (Ok (tt {0}))
-places_none us vols known w m n kept pending held bodies = record {
+pub places_none : (us : List Attached) (vols : List Vol) (w : Writer) (m : Meaning (List File)) (n : ℕ) → IsPendingBy m us vols (Some w)
+    → PlacesAll [] (tt {0}) us us vols vols w w m m n n (Ok (tt {0}))
+places_none us vols w m n pending = record {
   does = does_none (seen (shelf_under (names_of us (units_of vols))) m) n (tt {0});
   done = ap (λ (cs : List Content). record { target = (placed_in m.state us vols w).target; puts = cs }) (sym (append-nil (placed_in m.state us vols w).puts));
   safe = keeps_all (KeepsSafe (names_of us (units_of vols)) vols m);
-  kept = λ sound. kept;
   pending = λ sound. pending;
-  held = λ sound. held;
-  bodies = λ sound. bodies;
 }
 
 -- a record of one content that is placed, whatever is answered then
@@ -56,7 +51,7 @@ stands_as (Err mach.Memory) y o o' c none is = is
 stands_as (Err mach.Device) y o o' c none is = tt
 stands_as (Err mach.Print) y o o' c none is = is
 
-module _ (c : Content) (us us' : List Attached) (vols vols' : List Vol) (known' : List Known) (w w' : Writer) (m m' : Meaning (List File)) (n n' : ℕ) (r : Result Place MachErr) (run : PlacesBlock c us us' vols vols' known' w w' m m' n n' r) where
+module _ (c : Content) (us us' : List Attached) (vols vols' : List Vol) (w w' : Writer) (m m' : Meaning (List File)) (n n' : ℕ) (r : Result Place MachErr) (run : PlacesBlock c us us' vols vols' w w' m m' n n' r) where
   abbrev placed : OpenWriter
   placed = placed_in m.state us vols w
 
@@ -64,25 +59,22 @@ module _ (c : Content) (us us' : List Attached) (vols vols' : List Vol) (known' 
   place = place_on (shelf_on m.state us vols) placed.target placed.puts c
 
   -- one is placed, and gives its place
-  pub places_one : PlacesAll (c ∷ []) place us us' vols vols' known' w w' m m' n n' r
+  pub places_one : PlacesAll (c ∷ []) place us us' vols vols' w w' m m' n n' r
   unfolding did_place
-  places_one = record { does = run.does; done = by r run.records; safe = run.safe; kept = run.kept; pending = run.pending; held = run.held; bodies = run.bodies }
+  places_one = record { does = run.does; done = by r run.records; safe = run.safe; pending = run.pending }
     where
       by : (q : Result Place MachErr) → Records q placed c (placed_in m'.state us' vols' w') → OnOk q (placed_in m'.state us' vols' w' ≡ with_puts placed (c ∷ []))
       by (Ok p) is = is
       by (Err e) is = tt
 
   -- or anything else
-  pub places_as : {Y : Type 0} (y : Y) → PlacesAll (c ∷ []) y us us' vols vols' known' w w' m m' n n' (as_answer r y)
+  pub places_as : {Y : Type 0} (y : Y) → PlacesAll (c ∷ []) y us us' vols vols' w w' m m' n n' (as_answer r y)
   unfolding did_place
   places_as y = record {
     does = does_as (making_room (shelf_on m.state us vols) placed.target placed.puts (c ∷ [])) place y r run.does;
     done = records_as r y placed (placed_in m'.state us' vols' w') c run.records;
     safe = run.safe;
-    kept = λ sound. run.kept (sym (sound_as r y) ∙ sound);
     pending = λ sound. run.pending (sym (sound_as r y) ∙ sound);
-    held = λ sound. run.held (sym (sound_as r y) ∙ sound);
-    bodies = λ sound. run.bodies (sym (sound_as r y) ∙ sound);
   }
 
 -- ---- some, and more behind them
@@ -117,7 +109,7 @@ then_goes m rest y = by m.all refl
     by true at = (rest.extends, ap (λ (c : Bool). (cond {A = Making} c (record { extends = m.extends ++ rest.extends; all = rest.all }) m).extends) at)
     by false at = ([], ap (λ (c : Bool). (cond {A = Making} c (record { extends = m.extends ++ rest.extends; all = rest.all }) m).extends) at ∙ sym (append-nil m.extends))
 
-module _ {X Y : Type 0} (cs ds : List Content) (x : X) (y : Y) (us mid us' : List Attached) (vols vols1 vols' : List Vol) (known1 known' : List Known) (w w1 w' : Writer) (m m1 m' : Meaning (List File)) (n k l : ℕ) where
+module _ {X Y : Type 0} (cs ds : List Content) (x : X) (y : Y) (us mid us' : List Attached) (vols vols1 vols' : List Vol) (w w1 w' : Writer) (m m1 m' : Meaning (List File)) (n k l : ℕ) where
   abbrev old : Meaning Shelf
   old = seen (shelf_under (names_of us (units_of vols))) m
 
@@ -142,18 +134,15 @@ module _ {X Y : Type 0} (cs ds : List Content) (x : X) (y : Y) (us mid us' : Lis
   both_made : making_room old.state before.target before.puts (cs ++ ds) ≡ made_then making rest
   both_made = making_append before.target cs ds before.puts old.state
 
-  pub places_then : (z : X) (r : Result Y MachErr) → (IsErrOf r mach.Memory → ⊥) → PlacesAll cs x us mid vols vols1 known1 w w1 m m1 n k (Ok z) → PlacesAll ds y mid us' vols1 vols' known' w1 w' m1 m' k l r
-      → PlacesAll (cs ++ ds) y us us' vols vols' known' w w' m m' n l r
+  pub places_then : (z : X) (r : Result Y MachErr) → (IsErrOf r mach.Memory → ⊥) → PlacesAll cs x us mid vols vols1 w w1 m m1 n k (Ok z) → PlacesAll ds y mid us' vols1 vols' w1 w' m1 m' k l r
+      → PlacesAll (cs ++ ds) y us us' vols vols' w w' m m' n l r
   places_then z r none first second = record {
     does = subst (λ (d : Did Y Refusal). Does d.operations d old (seen (shelf_under (names_of us' (units_of vols'))) m') n l r)
         (sym (ap (λ (q : Making). room_made q y) both_made ∙ then_all making rest y (all_made making x z first.does.answer)))
         (does_then (room_made making x) z first.does (room_made rest y) r none next);
     done = by r second.done;
     safe = keeps_then first.does.moments.later first.safe second.safe;
-    kept = second.kept;
     pending = second.pending;
-    held = second.held;
-    bodies = second.bodies;
   }
     where
       next : Does (room_made rest y).operations (room_made rest y) now (seen (shelf_under (names_of us' (units_of vols'))) m') k l r
@@ -166,7 +155,7 @@ module _ {X Y : Type 0} (cs ds : List Content) (x : X) (y : Y) (us mid us' : Lis
       by (Err e) is = tt
 
   -- the first aren't placed
-  pub places_stop : (e : MachErr) → (e ≡ mach.Memory → ⊥) → PlacesAll cs x us mid vols vols1 known1 w w1 m m1 n k (Err e) → PlacesAll (cs ++ ds) y us mid vols vols1 known1 w w1 m m1 n k (Err e)
+  pub places_stop : (e : MachErr) → (e ≡ mach.Memory → ⊥) → PlacesAll cs x us mid vols vols1 w w1 m m1 n k (Err e) → PlacesAll (cs ++ ds) y us mid vols vols1 w w1 m m1 n k (Err e)
   places_stop e none first =
       let goes = then_goes making rest y in
       let stopped : Does (room_made (made_then making rest) y).operations (room_made (made_then making rest) y) old now n k (Err e) =
@@ -175,10 +164,7 @@ module _ {X Y : Type 0} (cs ds : List Content) (x : X) (y : Y) (us mid us' : Lis
         does = subst (λ (q : Making). Does (room_made q y).operations (room_made q y) old now n k (Err e)) (sym both_made) stopped;
         done = tt;
         safe = first.safe;
-        kept = λ sound. first.kept (same e sound);
         pending = λ sound. first.pending (same e sound);
-        held = λ sound. first.held (same e sound);
-        bodies = λ sound. first.bodies (same e sound);
       }
     where
       same : (e : MachErr) → sound_after {T = Y} (Err e) ≡ true → sound_after {T = X} (Err e) ≡ true

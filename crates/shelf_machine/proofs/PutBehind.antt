@@ -2,7 +2,6 @@
 use Rattle.std.proofs.Common.{◌≡◌, ◌≢◌, ℕ, Bool, true, false, List, [], ◌∷◌, ◌++◌, Some, refl, sym, ap, ◌∙◌, subst, append_assoc, arith}
 use Rattle.std.specs.Prelude.{◌&&◌, ◌==◌, nat_lt, Result, Ok, Err, IsErrOf, OnOk}
 use Rattle.std.proofs.lemmas.Bool.Decides.{nat_tests}
-use Rattle.std.proofs.lemmas.List.{append-nil}
 use Rattle.ckd_image.specs.declared.device.DiskType.{DiskType}
 use Rattle.hall_core.specs.Facts.{Attached}
 use Rattle.stop_model.specs.Files.{File}
@@ -10,7 +9,6 @@ use Rattle.stop_model.specs.Moments.{Meaning}
 use Rattle.stop_model.specs.Steps.{seen}
 use Rattle.vol_model.specs.declared.answers.MachErr.{MachErr}
 use Rattle.vol_model.specs.declared.answers.MachErr.TheVariants as mach
-use Rattle.vol_model.specs.declared.answers.Mode.{Mode}
 use Rattle.vol_model.specs.declared.contents.Body.{Body}
 use Rattle.vol_model.specs.declared.contents.Place.{Place}
 use Rattle.vol_model.specs.declared.contents.Shelf.{Shelf}
@@ -19,7 +17,7 @@ use Rattle.vol_model.specs.Calls.{Does, Records}
 use Rattle.vol_model.specs.Did.{Did}
 use Rattle.vol_model.specs.Places.{Content, end_of_file, next_place, placed, with_blocks}
 use Rattle.vol_model.specs.Shelf.{put_first, put_last, step}
-use Rattle.vol_model.specs.Writing.{Making, OpenWriter, Owned, Room, Target, device_on, did_put, extension, making_by, making_close, making_puts, making_room, place_on, room_for, room_made, target_body, with_puts}
+use Rattle.vol_model.specs.Writing.{Making, OpenWriter, Owned, Target, device_on, did_put, extension, making_by, making_close, making_puts, making_room, place_on, room_for, room_made, target_body, with_puts}
 use Rattle.vol_model.proofs.Filling.{made, making_keeps}
 use Rattle.vtoc_index.specs.declared.vol.Vol.{Vol}
 use Rattle.seq_access.specs.Writing.{has_put}
@@ -27,7 +25,6 @@ use Rattle.shelf_machine.specs.Fronts.{BeginsWell, behind_first, due, firsts}
 use Rattle.shelf_machine.specs.Machine.{placed_in, shelf_under, units_of, writer_in}
 use Rattle.shelf_machine.specs.Opening.{names_of}
 use Rattle.shelf_machine.specs.PutBlocks.{PlacesAll, PutsBlock, StandsAgain, due_on, shelf_on}
-use Rattle.shelf_machine.specs.declared.known.Known.{Known}
 use Rattle.shelf_machine.specs.declared.writer.Writer.{Writer}
 use Rattle.shelf_machine.proofs.FilledSets.{PlacesWell}
 use Rattle.shelf_machine.proofs.FrontLemmas.{behind_due, behind_more, due_placed}
@@ -117,7 +114,7 @@ now_due shelf w o well is_now = by w.first refl
 
 -- ---- a put
 
-module _ (us mid us' : List Attached) (vols vols1 vols' : List Vol) (known' : List Known) (w w1 w' : Writer) (m m1 m' : Meaning (List File)) (n l : ℕ) (c : Content) where
+module _ (us mid us' : List Attached) (vols vols1 vols' : List Vol) (w w1 w' : Writer) (m m1 m' : Meaning (List File)) (n l : ℕ) (c : Content) where
   abbrev shelf : Shelf
   shelf = shelf_on m.state us vols
 
@@ -177,16 +174,13 @@ module _ (us mid us' : List Attached) (vols vols1 vols' : List Vol) (known' : Li
       ∙ ap (λ (cs : List Content). cs ++ c ∷ []) (behind_due w.first before.puts))
 
   -- what is placed for it is the put
-  pub puts_all : (y : Place) (r : Result Place MachErr) → PlacesWell shelf w before → y ≡ place → w'.first ≡ w.first → (IsErrOf r mach.Print → ⊥) → PlacesAll (front ++ c ∷ []) y us us' vols vols' known' w w' m m' n l r → StandsAgain r (rest_of w.first before) (rest_of w.first after)
-      → PutsBlock c us us' vols vols' known' w w' m m' n l r
+  pub puts_all : (y : Place) (r : Result Place MachErr) → PlacesWell shelf w before → y ≡ place → w'.first ≡ w.first → (IsErrOf r mach.Print → ⊥) → PlacesAll (front ++ c ∷ []) y us us' vols vols' w w' m m' n l r → StandsAgain r (rest_of w.first before) (rest_of w.first after)
+      → PutsBlock c us us' vols vols' w w' m m' n l r
   puts_all y r well is same no_print all stands = record {
     does = subst (λ (d : Did Place Refusal). Does d.operations d (seen (shelf_under (names_of us (units_of vols))) m) (seen (shelf_under (names_of us' (units_of vols'))) m') n l r) (sym (did_is y well is)) all.does;
     records = by r no_print all.done stands;
     safe = all.safe;
-    kept = all.kept;
     pending = all.pending;
-    held = all.held;
-    bodies = all.bodies;
   }
     where
       by : (q : Result Place MachErr) → (IsErrOf q mach.Print → ⊥) → OnOk q (after ≡ with_puts before (front ++ c ∷ [])) → StandsAgain q (rest_of w.first before) (rest_of w.first after) → Records q writer c writer'

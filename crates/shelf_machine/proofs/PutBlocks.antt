@@ -1,7 +1,6 @@
 -- A put on one of several packs: alone, behind an extension of its set, and where that isn't done.
-use Rattle.std.proofs.Common.{◌≡◌, ◌≢◌, ℕ, Bool, true, List, Some, refl, sym, ap, ◌∙◌, subst}
-use Rattle.std.specs.Prelude.{IsErrOf, OnOk, Result, Ok, Err, is_ok}
-use Rattle.ebcdic_names.specs.declared.names.Dsn.{Dsn}
+use Rattle.std.proofs.Common.{◌≡◌, ◌≢◌, ℕ, true, List, Some, refl, sym, ap, ◌∙◌, subst}
+use Rattle.std.specs.Prelude.{IsErrOf, Result, Ok, Err}
 use Rattle.hall_core.specs.Facts.{Attached}
 use Rattle.stop_model.specs.Files.{File}
 use Rattle.stop_model.specs.Moments.{Meaning}
@@ -18,7 +17,6 @@ use Rattle.vol_model.specs.Writing.{OpenWriter, Wanted, room_for}
 use Rattle.vtoc_index.specs.declared.vol.Vol.{Vol}
 use Rattle.seq_access.specs.declared.writer.PutErr.{PutErr}
 use Rattle.seq_access.specs.declared.writer.PutErr.TheVariants.{Device, NeedExtent, TooLong}
-use Rattle.shelf_machine.specs.Known.{AllFollow, AreHeld, IsServed, KnowsBodies}
 use Rattle.shelf_machine.specs.Machine.{KeepsSafe, placed_in, shelf_under, units_of}
 use Rattle.shelf_machine.specs.Opening.{names_of}
 use Rattle.shelf_machine.specs.Operating.{OperatesOnShelf}
@@ -26,9 +24,8 @@ use Rattle.shelf_machine.specs.Pending.{IsPendingBy}
 use Rattle.shelf_machine.specs.PutBlocks.{PlacesBlock, put_answer, room_answer, room_on, shelf_on}
 use Rattle.shelf_machine.specs.Putting.{DidPut, PutsOn, did_place}
 use Rattle.shelf_machine.specs.Reporting.{reported}
-use Rattle.shelf_machine.specs.declared.known.Known.{Known}
+use Rattle.shelf_machine.specs.declared.pack_cache.PackCache.{PackCache}
 use Rattle.shelf_machine.specs.declared.writer.Writer.{Writer}
-use Rattle.shelf_machine.proofs.KnownLemmas.{held_after, knows_applied}
 use Rattle.shelf_machine.proofs.PutExtends.{WritesSet, does_after, does_alone, does_behind, does_device, does_unextended, records_put}
 use Rattle.shelf_machine.proofs.Settling.{keeps_then}
 
@@ -47,19 +44,16 @@ same_names attached attached' vols vols' units numbers = ap (λ (us : List Attac
 
 -- ---- no track is wanted
 
-pub puts_alone : (c : Content) (attached attached' : List Attached) (vols vols' : List Vol) (known' : List Known) (w w' : Writer) (m m' : Meaning (List File)) (n : ℕ) (r : Result Place PutErr)
+pub puts_alone : (c : Content) (attached attached' : List Attached) (vols vols' : List Vol) (known' : List PackCache) (w w' : Writer) (m m' : Meaning (List File)) (n : ℕ) (r : Result Place PutErr)
     → attached' ≡ attached → units_of vols' ≡ units_of vols → (r ≡ Err NeedExtent → ⊥) → PutsOn (names_of attached (units_of vols)) attached' vols vols' known' w' m m' r
-    → DidPut (shelf_on m.state attached vols) (placed_in m.state attached vols w) c (placed_in m'.state attached' vols' w') r → KnowsBodies (shelf_on m.state attached vols) known'
-    → PlacesBlock c attached attached' vols vols' known' w w' m m' n n (put_answer r)
-puts_alone c attached attached' vols vols' known' w w' m m' n r units numbers other put did knows = record {
+    → DidPut (shelf_on m.state attached vols) (placed_in m.state attached vols w) c (placed_in m'.state attached' vols' w') r
+    → PlacesBlock c attached attached' vols vols' w w' m m' n n (put_answer r)
+puts_alone c attached attached' vols vols' known' w w' m m' n r units numbers other put did = record {
   does = subst (λ (ns : List (List ℕ)). Does (did_place shelf writer c).operations (did_place shelf writer c) (seen (shelf_under names) m) (seen (shelf_under ns) m') n n (put_answer r)) (sym same)
       (does_alone (seen (shelf_under names) m) (seen (shelf_under names) m') writer (placed_in m'.state attached' vols' w') c n r other put.state put.printed put.moments did);
   records = records_put shelf writer writer (placed_in m'.state attached' vols' w') c r refl did;
   safe = subst (λ (ns : List (List ℕ)). Keeps m.clock (KeepsSafe names vols m) (KeepsSafe ns vols' m')) (sym same) put.safe;
-  kept = λ sound. put.kept (sound_put r sound);
   pending = λ sound. put.pending (sound_put r sound);
-  held = λ sound. put.held (sound_put r sound);
-  bodies = λ sound. subst (λ (s : Shelf). KnowsBodies s known') (sym (ap (λ (ns : List (List ℕ)). shelf_under ns m'.state) same ∙ put.state)) knows;
 }
   where
     names : List (List ℕ)
@@ -77,7 +71,7 @@ puts_alone c attached attached' vols vols' known' w w' m m' n r units numbers ot
 -- ---- a track is wanted
 
 -- the track is wanted still behind the call that put nothing
-pub still_wanted : (c : Content) (attached mid : List Attached) (vols vols1 : List Vol) (known1 : List Known) (w w1 : Writer) (m m1 : Meaning (List File)) → mid ≡ attached → units_of vols1 ≡ units_of vols
+pub still_wanted : (c : Content) (attached mid : List Attached) (vols vols1 : List Vol) (known1 : List PackCache) (w w1 : Writer) (m m1 : Meaning (List File)) → mid ≡ attached → units_of vols1 ≡ units_of vols
     → PutsOn {T = Place} (names_of attached (units_of vols)) mid vols vols1 known1 w1 m m1 (Err NeedExtent)
     → DidPut (shelf_on m.state attached vols) (placed_in m.state attached vols w) c (placed_in m1.state mid vols1 w1) (Err NeedExtent) → room_on m1.state mid vols1 w1 c ≡ Wanted
 still_wanted c attached mid vols vols1 known1 w w1 m m1 units numbers put did =
@@ -87,10 +81,10 @@ still_wanted c attached mid vols vols1 known1 w w1 m m1 units numbers put did =
     ∙ did.0
 
 -- what is put behind a call that put nothing is put as well from before it
-pub puts_after : (c : Content) (attached mid attached' : List Attached) (vols vols1 vols' : List Vol) (known1 known' : List Known) (w w1 w' : Writer) (m m1 m' : Meaning (List File)) (n k : ℕ) (r : Result Place MachErr)
+pub puts_after : (c : Content) (attached mid attached' : List Attached) (vols vols1 vols' : List Vol) (known1 : List PackCache) (w w1 w' : Writer) (m m1 m' : Meaning (List File)) (n k : ℕ) (r : Result Place MachErr)
     → mid ≡ attached → units_of vols1 ≡ units_of vols → PutsOn {T = Place} (names_of attached (units_of vols)) mid vols vols1 known1 w1 m m1 (Err NeedExtent)
-    → placed_in m1.state mid vols1 w1 ≡ placed_in m.state attached vols w → PlacesBlock c mid attached' vols1 vols' known' w1 w' m1 m' n k r → PlacesBlock c attached attached' vols vols' known' w w' m m' n k r
-puts_after c attached mid attached' vols vols1 vols' known1 known' w w1 w' m m1 m' n k r units numbers put same run = record {
+    → placed_in m1.state mid vols1 w1 ≡ placed_in m.state attached vols w → PlacesBlock c mid attached' vols1 vols' w1 w' m1 m' n k r → PlacesBlock c attached attached' vols vols' w w' m m' n k r
+puts_after c attached mid attached' vols vols1 vols' known1 w w1 w' m m1 m' n k r units numbers put same run = record {
   does = does_after put.state put.printed put.moments
       (subst (λ (s : Shelf). Does (did_place s writer c).operations (did_place s writer c) (seen (shelf_under names) m1) (seen (shelf_under names') m') n k r) put.state
       (subst (λ (o : OpenWriter). Does (did_place (shelf_under names m1.state) o c).operations (did_place (shelf_under names m1.state) o c) (seen (shelf_under names) m1) (seen (shelf_under names') m') n k r) same
@@ -98,10 +92,7 @@ puts_after c attached mid attached' vols vols1 vols' known1 known' w w1 w' m m1 
       run.does)));
   records = subst (λ (o : OpenWriter). Records r o c (placed_in m'.state attached' vols' w')) same run.records;
   safe = keeps_then put.moments.later put.safe (subst (λ (ns : List (List ℕ)). Keeps m1.clock (KeepsSafe ns vols1 m1) (KeepsSafe names' vols' m')) (same_names attached mid vols vols1 units numbers) run.safe);
-  kept = run.kept;
   pending = run.pending;
-  held = run.held;
-  bodies = run.bodies;
 }
   where
     names : List (List ℕ)
@@ -126,16 +117,10 @@ pub still_sound : (ran : Result (Unit {0}) StoreErr) (e : StoreErr) (a : MachErr
 still_sound ran e a is answer sound =
     ap (λ (r : Result (Unit {0}) StoreErr). sound_after (reported r)) is ∙ sound_unextended e (ap (λ (b : MachErr). sound_after {T = Place} (Err b)) (sym answer) ∙ sound)
 
--- an extension is among the operations that are done
-extends_served : {T E : Type 0} (r : Result T E) (v : ℕ) (dsn : Dsn) → OnOk r (IsServed (Extend v dsn))
-extends_served (Ok x) v dsn = tt
-extends_served (Err e) v dsn = tt
-
 -- behind the extension, done or not
-module _ (c : Content) (attached mid : List Attached) (vols vols1 : List Vol) (known known1 : List Known) (w w1 : Writer) (m m1 : Meaning (List File)) (fills : WritesSet (shelf_on m.state attached vols) (placed_in m.state attached vols w).target (placed_in m.state attached vols w))
+module _ (c : Content) (attached mid : List Attached) (vols vols1 : List Vol) (w w1 : Writer) (m m1 : Meaning (List File)) (fills : WritesSet (shelf_on m.state attached vols) (placed_in m.state attached vols w).target (placed_in m.state attached vols w))
     (wanted : room_on m.state attached vols w c ≡ Wanted) (ran : Result (Unit {0}) StoreErr) (run : OperatesOnShelf (Extend w.v w.dsn) (names_of attached (units_of vols)) (names_of mid (units_of vols1)) mid vols vols1 m m1 ran)
-    (same : sound_after (reported ran) ≡ true → placed_in m1.state mid vols1 w1 ≡ placed_in m.state attached vols w) (done : Bool) (is_done : done ≡ is_ok ran) (follow : AllFollow (Extend w.v w.dsn) done known known1)
-    (knows : KnowsBodies (shelf_on m.state attached vols) known) where
+    (same : sound_after (reported ran) ≡ true → placed_in m1.state mid vols1 w1 ≡ placed_in m.state attached vols w) where
   abbrev names1 : List (List ℕ)
   names1 = names_of mid (units_of vols1)
 
@@ -151,20 +136,14 @@ module _ (c : Content) (attached mid : List Attached) (vols vols1 : List Vol) (k
   abbrev writer1 : OpenWriter
   writer1 = placed_in m1.state mid vols1 w1
 
-  knows_now : sound_after (reported ran) ≡ true → KnowsBodies now.state known1
-  knows_now sound = knows_applied ran (Extend w.v w.dsn) done is_done follow run.applies (extends_served ran w.v w.dsn) sound knows
-
   -- it isn't done
-  pub puts_unextended : (e : StoreErr) (n : ℕ) → ran ≡ Err e → e ≢ store.Memory → (sound_after (reported ran) ≡ true → IsPendingBy m1 mid vols1 (Some w1)) → (sound_after (reported ran) ≡ true → AreHeld m1.state mid vols1 known)
-      → PlacesBlock c attached mid vols vols1 known1 w w1 m m1 n n (Err (room_answer e))
-  puts_unextended e n is other pending held = record {
+  pub puts_unextended : (e : StoreErr) (n : ℕ) → ran ≡ Err e → e ≢ store.Memory → (sound_after (reported ran) ≡ true → IsPendingBy m1 mid vols1 (Some w1))
+      → PlacesBlock c attached mid vols vols1 w w1 m m1 n n (Err (room_answer e))
+  puts_unextended e n is other pending = record {
     does = by_does e other (subst (λ (r : Result (Unit {0}) StoreErr). Applies (Extend w.v w.dsn) old now (reported r)) is run.applies);
     records = by_records e is;
     safe = run.safe;
-    kept = λ sound. run.kept (still sound);
     pending = λ sound. pending (still sound);
-    held = λ sound. held_after m1.state mid vols1 follow (held (still sound));
-    bodies = λ sound. knows_now (still sound);
   }
     where
       still : sound_after {T = Place} (Err (room_answer e)) ≡ true → sound_after (reported ran) ≡ true
@@ -181,19 +160,16 @@ module _ (c : Content) (attached mid : List Attached) (vols vols1 : List Vol) (k
       by_records store.Device at = tt
 
   -- it is, and then the block is put
-  pub puts_behind : (attached' : List Attached) (vols' : List Vol) (known' : List Known) (w' : Writer) (m' : Meaning (List File)) (n : ℕ) (r : Result Place PutErr) → ran ≡ Ok tt → attached' ≡ mid → units_of vols' ≡ units_of vols1
-      → PutsOn names1 attached' vols1 vols' known' w' m1 m' r → DidPut now.state writer1 c (placed_in m'.state attached' vols' w') r → ((shelf : Shelf) → KnowsBodies shelf known1 → KnowsBodies shelf known')
-      → PlacesBlock c attached attached' vols vols' known' w w' m m' n (counted n 1) (put_answer r)
-  puts_behind attached' vols' known' w' m' n r is units numbers put did knows_still = record {
+  pub puts_behind : (attached' : List Attached) (vols' : List Vol) (known' : List PackCache) (w' : Writer) (m' : Meaning (List File)) (n : ℕ) (r : Result Place PutErr) → ran ≡ Ok tt → attached' ≡ mid → units_of vols' ≡ units_of vols1
+      → PutsOn names1 attached' vols1 vols' known' w' m1 m' r → DidPut now.state writer1 c (placed_in m'.state attached' vols' w') r
+      → PlacesBlock c attached attached' vols vols' w w' m m' n (counted n 1) (put_answer r)
+  puts_behind attached' vols' known' w' m' n r is units numbers put did = record {
     does = subst (λ (ns : List (List ℕ)). Does (did_place old.state writer c).operations (did_place old.state writer c) old (seen (shelf_under ns) m') n (counted n 1) (put_answer r)) (sym names_same)
         (does_behind old now writer.target writer fills c wanted tt (seen (shelf_under names1) m') (subst (λ (q : Result (Unit {0}) StoreErr). Applies (Extend w.v w.dsn) old now (reported q)) is run.applies)
         put.state put.printed put.moments writer1 (placed_in m'.state attached' vols' w') (same extended) n r did);
     records = records_put now.state writer writer1 (placed_in m'.state attached' vols' w') c r (same extended) did;
     safe = keeps_then run.applies.moments.later run.safe (subst (λ (ns : List (List ℕ)). Keeps m1.clock (KeepsSafe names1 vols1 m1) (KeepsSafe ns vols' m')) (sym names_same) put.safe);
-    kept = λ sound. put.kept (sound_put r sound);
     pending = λ sound. put.pending (sound_put r sound);
-    held = λ sound. put.held (sound_put r sound);
-    bodies = λ sound. subst (λ (s : Shelf). KnowsBodies s known') (sym (ap (λ (ns : List (List ℕ)). shelf_under ns m'.state) names_same ∙ put.state)) (knows_still now.state (knows_now extended));
   }
     where
       extended : sound_after (reported ran) ≡ true

@@ -21,7 +21,7 @@ use Rattle.shelf_machine.specs.Opening.{names_of}
 use Rattle.shelf_machine.specs.Operating.{IsSamePack}
 use Rattle.shelf_machine.specs.Pending.{IsWriterOn, LeavesSpared}
 use Rattle.shelf_machine.specs.Putting.{PutsOn}
-use Rattle.shelf_machine.specs.declared.known.Known.{Known}
+use Rattle.shelf_machine.specs.declared.pack_cache.PackCache.{PackCache}
 use Rattle.shelf_machine.specs.declared.writer.Writer.{Writer}
 use Rattle.shelf_machine.proofs.ForgottenTracks.{held_still, pack_still}
 use Rattle.shelf_machine.proofs.ListPlaces.{get_set}
@@ -47,7 +47,7 @@ module _ (old new : Facts) (vols : List Vol) (indexes : AreIndexes old.units vol
   same_pack : IsSamePack v v'
   same_pack = record { unit = refl; serial = refl; geometry = refl; vtoc = refl; room = refl }
 
-  pub puts_on : {T : Type 0} (r : Result T PutErr) (known known' : List Known) → ForgetsOn w.v known known' → AreHeld m.state old.units vols known → LeavesBehind name v f m m' → (¬ IsErrOf r Device → IsMounted (image_named m'.state name) v')
+  pub puts_on : {T : Type 0} (r : Result T PutErr) (known known' : List PackCache) → ForgetsOn w.v known known' → AreHeld m.state old.units vols known → LeavesBehind name v f m m' → (¬ IsErrOf r Device → IsMounted (image_named m'.state name) v')
       → (¬ IsErrOf r Device → IsWriterOn (image_named m'.state name) v' w') → w'.v ≡ w.v → w'.inner.slot ≡ w.inner.slot → PutsOn names new.units vols (set vols w.v v') known' w' m m' r
   puts_on r known known' forgot held leaves mounted stands number slot = record {
     state = shelf_stays name m v (kept w.v v at) w on spared f there m' leaves names;

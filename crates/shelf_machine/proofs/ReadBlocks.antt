@@ -21,7 +21,7 @@ use Rattle.vtoc_sets.specs.Sets.{extents_in}
 use Rattle.shelf_machine.specs.Blocks.{IsOnImage, IsPartOn}
 use Rattle.shelf_machine.specs.Reads.{HasVolume, IsSetOn}
 use Rattle.shelf_machine.specs.Unread.{broken_by, track_in}
-use Rattle.shelf_machine.specs.declared.known.Known.{Known}
+use Rattle.shelf_machine.specs.declared.pack_cache.PackCache.{PackCache}
 use Rattle.shelf_machine.specs.declared.unread.Unread.{Unread}
 use Rattle.shelf_machine.proofs.ShelfReads.{HasNoEntry, blocks_none, body_found, body_here, body_partitioned, body_sequential, known_set, named, no_block, no_entry, unread_by, unread_is, whole_body, whole_part}
 
@@ -43,7 +43,7 @@ nothing_picked body from is = subst (λ r. Picks (Ok None) r (λ bs. first (bloc
 first_is : {X : Type 0} (xs : List X) (x : X) (rest : List X) → xs ≡ x ∷ rest → Some x ≡ first xs
 first_is xs x rest is = sym (ap first is)
 
-module _ (image : List ℕ) (v : Vol) (b : Known) (on : IsOnImage image v b) (name : List ℕ) where
+module _ (image : List ℕ) (v : Vol) (b : PackCache) (on : IsOnImage image v b) (name : List ℕ) where
   abbrev has : HasVolume on.shelf on.number v
   has = record { image = image; mounted = on.mounted; there = on.there }
 

@@ -21,16 +21,16 @@ use Rattle.vtoc_sets.specs.Sets.{extents_in}
 use Rattle.shelf_machine.specs.Blocks.{IsOnImage}
 use Rattle.shelf_machine.specs.Fronts.{IsFrontOf}
 use Rattle.shelf_machine.specs.Reads.{HasVolume, IsSetOn}
-use Rattle.shelf_machine.specs.declared.front.Front.{Front}
-use Rattle.shelf_machine.specs.declared.known.Known.{Known}
+use Rattle.shelf_machine.specs.declared.area_start.AreaStart.{AreaStart}
+use Rattle.shelf_machine.specs.declared.pack_cache.PackCache.{PackCache}
 use Rattle.shelf_machine.proofs.ReadBlocks.{IsKind, part_on}
 use Rattle.shelf_machine.proofs.ShelfReads.{body_found, body_here, body_missing, known_set}
 
-abbrev pub none : Front
+abbrev pub none : AreaStart
 none = record { end = None; first = false }
 
 -- what isn't partitioned has no front
-pub no_front : (front : Front) (body : Body) → kind_of body ≢ kinds.Part → IsFrontOf front body
+pub no_front : (front : AreaStart) (body : Body) → kind_of body ≢ kinds.Part → IsFrontOf front body
 no_front front (Seq blocks) not = tt
 no_front front (Part dir end entries blocks) not = absurd (not refl)
 no_front front Catalog not = tt
@@ -48,7 +48,7 @@ part_front image v f end first at readable is =
 pub missing_kind : (shelf : Shelf) (n : ℕ) (none : slice_get shelf.volumes n ≡ None) (name : List ℕ) → kind_of (body_on shelf n name) ≢ kinds.Part
 missing_kind shelf n none name part = let other : kind_of Other ≡ kinds.Part = sym (ap kind_of (body_missing shelf n none name)) ∙ part in absurd cc
 
-module _ (image : List ℕ) (v : Vol) (b : Known) (on : IsOnImage image v b) (name : List ℕ) where
+module _ (image : List ℕ) (v : Vol) (b : PackCache) (on : IsOnImage image v b) (name : List ℕ) where
   abbrev has : HasVolume on.shelf on.number v
   has = record { image = image; mounted = on.mounted; there = on.there }
 
@@ -69,5 +69,5 @@ module _ (image : List ℕ) (v : Vol) (b : Known) (on : IsOnImage image v b) (na
         subst (IsFrontOf none) (body_found on.shelf on.number v has name f set) (no_front none (body_here image v f) (λ part. not (kind ∙ part)))
 
     -- a partitioned one has it
-    pub front_part : IsKind f b.unread.items kinds.Part → (front : Front) → IsFrontOf front (part_in image v f) → IsFrontOf front body
+    pub front_part : IsKind f b.unread.items kinds.Part → (front : AreaStart) → IsFrontOf front (part_in image v f) → IsFrontOf front body
     front_part is front here = subst (IsFrontOf front) (sym (part_on image v b on name f set b.unread.items refl is).content) here

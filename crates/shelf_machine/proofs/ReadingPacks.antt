@@ -8,7 +8,7 @@ use Rattle.std.proofs.lemmas.List.{length-map, take-map}
 use Rattle.std.proofs.lemmas.Option.{slice_get-get_or}
 use Rattle.std.proofs.lemmas.Slice.Eq.{bytes_eq-Decides}
 use Rattle.free_rebuild.specs.Repairs.{image_named}
-use Rattle.hall_core.specs.Facts.{Attached, Facts, unit_of}
+use Rattle.hall_core.specs.Facts.{Attached, Facts, ReportedCall, unit_of}
 use Rattle.hall_core.specs.Images.{image_of}
 use Rattle.stop_model.specs.Files.{File}
 use Rattle.stop_model.specs.Moments.{Meaning, Same}
@@ -26,7 +26,7 @@ use Rattle.vtoc_index.specs.declared.vol.Vol.{Vol}
 use Rattle.shelf_machine.specs.Machine.{serials_of, units_of}
 use Rattle.shelf_machine.specs.Opening.{AreApart, AreUnits, images_named, names_of}
 use Rattle.shelf_machine.specs.Packs.{AreMounted, AreScanned, AreScansOf, IsFirstTwice, RefusesImages, indexes_of}
-use Rattle.shelf_machine.specs.declared.stopped.Stopped.{Stopped}
+use Rattle.shelf_machine.specs.declared.open_failure.OpenFailure.{OpenFailure}
 use Rattle.shelf_machine.proofs.Holding.{held_serials, held_stand, volumes_held}
 use Rattle.shelf_machine.proofs.ListPlaces.{first_kept, get_map, in_take, none_passes, number_of, numbered, of_map, within}
 use Rattle.shelf_machine.proofs.ShelfLemmas.{AllStand, fault_by, fault_in, first_refused, place_alike, serials_in, shelf_refused, shelf_twice}
@@ -126,7 +126,7 @@ unit_attached attached units k unit are at = omega (arith, unit_number units k u
 
 module _ (tells : Bool) (units : List ℕ) (old now : Facts) (m m' : Meaning (List File)) (scans : List Scan) (k unit : ℕ) (at : slice_get units k ≡ Some unit) (so_far : ScannedSoFar tells units old now m m' scans k) where
   -- the pack on the next unit is refused
-  pub refuses_pack : (s : Stopped) → AreUnits old.units units → IsTrue tells → s.unit ≡ unit → (s.why ≢ Memory → s.why ≢ Device → volume_of (image_of m'.state now unit) ≡ Err s.why) → RefusesImages (names_of old.units units) m.state s
+  pub refuses_pack : (s : OpenFailure) → AreUnits old.units units → IsTrue tells → s.unit ≡ unit → (s.why ≢ Memory → s.why ≢ Device → volume_of (image_of m'.state now unit) ≡ Err s.why) → RefusesImages (names_of old.units units) m.state s
   refuses_pack s are told place refused memory device =
       let image = image_before m.state m'.state old now unit (so_far.same told).state so_far.facts.units in
       pack_refused m.state old.units units (indexes_of scans) k unit s.why are.numbered at so_far.scanned.numbers (mounted_scans m.state old.units scans (so_far.images told)) (ap volume_of (sym image) ∙ refused memory device)
@@ -144,6 +144,17 @@ module _ (tells : Bool) (units : List ℕ) (old now : Facts) (m m' : Meaning (Li
         image_before m.state m'.state old now unit (so_far.same told).state so_far.facts.units ∙ ap (λ (u : ℕ). image_named m.state (unit_of old.units u).name) (sym on.unit) in
         subst (AreScansOf m.state old.units) (sym pushed) (images_more m.state old.units scans s (so_far.images told) (subst (λ (i : List ℕ). IsScanOf i s) image (image_is told)));
   }
+
+-- calls without a fault, and then memory ran out
+pub stop_memory : (old now : Facts) (e : OpenFailure) → Unreported old now → e.why ≡ Memory → ReportedCall (e.why ≡ Device) old now
+stop_memory old now e calls memory = record {
+  units = calls.units;
+  references = calls.references;
+  prints = calls.prints;
+  later = calls.later;
+  device = λ is. absurd (let wrong : Memory ≡ Device = sym memory ∙ is in cc);
+  others = λ none. calls.others (λ never. never);
+}
 
 -- ---- serials
 

@@ -22,8 +22,9 @@ use Rattle.pack_spec.proofs.PartBodies.{part_or_unread}
 use Rattle.seq_access.specs.Bodies.{data_in}
 use Rattle.vtoc_sets.specs.declared.sets.BodyKind.TheVariants as set_kinds
 use Rattle.pack_spec.specs.Rules.{has_extents, is_named, set_in}
-use Rattle.dadsm_ops.proofs.ChangedLists.{any_first}
-use Rattle.dadsm_ops.proofs.FoundSets.{content_at, set_found}
+use Rattle.slot_laws.proofs.ChangedLists.{any_first}
+use Rattle.dadsm_ops.proofs.FoundSets.{set_found}
+use Rattle.slot_laws.proofs.FoundSlots.{content_at}
 use Rattle.pack_spec.specs.Slots.{slots_of_vtoc}
 use Rattle.pack_spec.specs.Volume.{attr_of, data_set_of, data_sets_in, volume_with}
 use Rattle.pack_spec.proofs.Lawful.{good_sets}

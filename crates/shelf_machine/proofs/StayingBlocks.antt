@@ -45,17 +45,9 @@ module _ (before after : List ℕ) (v : Vol) (f : F1) (set : IsSetIn before (bar
     unfolding volume_with
     now = stays_step before after u stands u (same_keeps u) (λ k x end there is. agree before after v f set last differ ends k x end there is)
 
-    back : DirectoriesStay after before u u
-    unfolding volume_with
-    back = stays_step after before u (pending_stands before after v f set last differ ends) u (same_keeps u) (λ k x end there is j t low own. sym (agree before after v f set last differ ends k x end there is j t low own))
-
-    -- While blocks are pending the directories stay,
+    -- While blocks are pending the directories stay.
     pub pending_stays : DirectoriesStay before after w w
     pending_stays = subst (λ (x : Volume). DirectoriesStay before after x x) is_w now
-
-    -- and stood where they do.
-    pub pending_stood : DirectoriesStay after before w w
-    pending_stood = subst (λ (x : Volume). DirectoriesStay after before x x) is_w back
 
     in_volume : (done : List ℕ) → DifferInVtoc v.geometry v.vtoc after done → DifferInVtoc u.geometry u.vtoc after done
     unfolding volume_with

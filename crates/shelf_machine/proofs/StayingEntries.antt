@@ -29,7 +29,8 @@ use Rattle.free_rebuild.specs.Operations.{DoesOperation}
 use Rattle.free_rebuild.specs.Repairs.{image_named}
 use Rattle.pds_directory.specs.declared.dir.Dir.{Dir}
 use Rattle.pds_directory.specs.Directories.{IsPartIn, owned_in}
-use Rattle.pds_directory.proofs.PackedTracks.{AgreeUpto, ComesFrom, KeepsDirectories, owned_more, read_bytes, sets_apart}
+use Rattle.vtoc_sets.proofs.Owners.{read_bytes}
+use Rattle.pds_directory.proofs.PackedTracks.{AgreeUpto, ComesFrom, KeepsDirectories, owned_more, sets_apart}
 use Rattle.stow_ops.specs.Stores.{DifferOn, directory_tracks}
 use Rattle.stow_ops.proofs.DirectoryImages.{DifferOnOwned, same_owned}
 use Rattle.stow_ops.proofs.WrittenDirectories.{on_owned}

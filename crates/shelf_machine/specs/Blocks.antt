@@ -12,10 +12,10 @@ use Rattle.vtoc_index.specs.Index.{IsMounted}
 use Rattle.vtoc_index.specs.declared.vol.Vol.{Vol}
 use Rattle.vtoc_sets.specs.Sets.{volume_in}
 use Rattle.shelf_machine.specs.Known.{HoldLibraries, ListsUnread}
-use Rattle.shelf_machine.specs.declared.known.Known.{Known}
+use Rattle.shelf_machine.specs.declared.pack_cache.PackCache.{PackCache}
 
 -- A shelf has the volume of the image under some number; the list has its sets that can't be read, the libraries are those of its sets, and the buffer holds its track.
-pub record IsOnImage (image : List ℕ) (v : Vol) (b : Known) : Type 0 where
+pub record IsOnImage (image : List ℕ) (v : Vol) (b : PackCache) : Type 0 where
   pub shelf : Shelf
   pub number : ℕ
   pub mounted : IsMounted image v

@@ -1,5 +1,5 @@
 -- What the closing of a writer on one of several packs leaves, by their shelf.
-use Rattle.std.specs.Prelude.{◌≡◌, ◌⊎◌, true, false, ℕ, List, Option, Some, None, OnOk, Result, Ok, Err}
+use Rattle.std.specs.Prelude.{◌≡◌, ◌⊎◌, true, ℕ, List, Option, Some, None, OnOk, Result, Ok, Err}
 use Rattle.hall_core.specs.Facts.{Attached}
 use Rattle.stop_model.specs.Files.{File}
 use Rattle.stop_model.specs.Moments.{Elapses, IsDurable, Meaning}
@@ -15,12 +15,12 @@ use Rattle.shelf_machine.specs.Machine.{AreKept, KeepsSafe, shelf_under, units_o
 use Rattle.shelf_machine.specs.Opening.{names_of}
 use Rattle.shelf_machine.specs.Pending.{IsPendingBy, closed}
 use Rattle.shelf_machine.specs.PutBlocks.{shelf_on}
-use Rattle.shelf_machine.specs.declared.known.Known.{Known}
+use Rattle.shelf_machine.specs.declared.pack_cache.PackCache.{PackCache}
 use Rattle.shelf_machine.specs.declared.writer.Writer.{Writer}
 
 -- What a writer placed becomes its set's: that is one operation of the shelf; what was promised of stops is promised still; and once it is done the indexes, the buffers and what is known of bodies are those of the images, durably.
 pub record CommitsOn {E : Type 0} (op : Op) (names names' : List (List ℕ)) (attached : List Attached)
-    (vols vols' : List Vol) (known : List Known) (m m' : Meaning (List File))
+    (vols vols' : List Vol) (known : List PackCache) (m m' : Meaning (List File))
     (result : Result (Unit {0}) E) : Type 0 where
   pub stepped : OnOk result (step (shelf_under names m.state) op ≡ Ok (shelf_under names' m'.state))
   pub printed : m'.printed ≡ m.printed
@@ -38,8 +38,8 @@ abbrev pub writer_after : Result (Unit {0}) MachErr → Writer → Option Writer
 writer_after (Ok x) w = None
 writer_after (Err e) w = closed (Some w)
 
--- A writer is closed as on the shelf: extensions where they are wanted, and then one operation; what was promised of stops is promised still; and unless the device failed the indexes and what is known of the bodies are those of the images, and nothing is pending but by a writer that was abandoned.
-pub record ClosesOn (attached attached' : List Attached) (vols vols' : List Vol) (known' : List Known)
+-- A writer is closed as on the shelf: extensions where they are wanted, and then one operation; what was promised of stops is promised still; unless the device failed nothing is pending but by a writer that was abandoned.
+pub record ClosesOn (attached attached' : List Attached) (vols vols' : List Vol)
     (w w' : Writer) (m m' : Meaning (List File)) (n n' : ℕ) (result : Result (Unit {0}) MachErr)
     : Type 0 where
   pub does : let writer = writer_in m.state attached vols (Some w) in
@@ -49,7 +49,4 @@ pub record ClosesOn (attached attached' : List Attached) (vols vols' : List Vol)
       (seen (shelf_under (names_of attached' (units_of vols'))) m') n n' result
   pub safe : Keeps m.clock (KeepsSafe (names_of attached (units_of vols)) vols m)
       (KeepsSafe (names_of attached' (units_of vols')) vols' m')
-  pub kept : sound_after result ≡ true → AreKept m'.state attached' vols'
   pub pending : sound_after result ≡ true → IsPendingBy m' attached' vols' (writer_after result w')
-  pub held : sound_after result ≡ true → AreHeld m'.state attached' vols' known'
-  pub bodies : sound_after result ≡ true → KnowsBodies (shelf_on m'.state attached' vols') known'

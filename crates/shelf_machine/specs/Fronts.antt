@@ -6,7 +6,7 @@ use Rattle.vol_model.specs.declared.answers.Mode.TheVariants as modes
 use Rattle.vol_model.specs.declared.contents.Body.{Body}
 use Rattle.vol_model.specs.declared.contents.Body.TheVariants as bodies
 use Rattle.vol_model.specs.Places.{Content, end_of_file, is_open_ended}
-use Rattle.shelf_machine.specs.declared.front.Front.{Front}
+use Rattle.shelf_machine.specs.declared.area_start.AreaStart.{AreaStart}
 
 -- the contents in front, by whether an end-of-file block is due there
 abbrev pub firsts : Bool → List Content
@@ -31,12 +31,12 @@ BeginsWell true [] = Unit {0}
 BeginsWell false cs = Unit {0}
 
 -- a partitioned body ends its directory here, and its last block asks for an end-of-file block or not
-abbrev pub IsFrontOf : Front → Body → Type 0
+abbrev pub IsFrontOf : AreaStart → Body → Type 0
 IsFrontOf front (bodies.Part dir end entries blocks) = (front.end ≡ Some end)
     × (front.first ≡ is_open_ended blocks)
 IsFrontOf front body = Unit {0}
 
 -- a writer for this mode begins so behind a body
-abbrev pub IsFrontIn : Mode → Front → Body → Type 0
+abbrev pub IsFrontIn : Mode → AreaStart → Body → Type 0
 IsFrontIn modes.Fill front body = front ≡ record { end = None; first = false }
 IsFrontIn modes.Area front body = IsFrontOf front body

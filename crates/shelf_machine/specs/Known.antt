@@ -18,7 +18,7 @@ use Rattle.vtoc_index.specs.declared.vol.Vol.{Vol}
 use Rattle.vtoc_sets.specs.Sets.{volume_in}
 use Rattle.shelf_machine.specs.Standing.{IsDirectoryAt}
 use Rattle.shelf_machine.specs.Unread.{broken_in, others_of, renamed_in, track_in}
-use Rattle.shelf_machine.specs.declared.known.Known.{Known}
+use Rattle.shelf_machine.specs.declared.pack_cache.PackCache.{PackCache}
 use Rattle.mount_repair.specs.declared.library.Library.{Library}
 use Rattle.shelf_machine.specs.declared.unread.Unread.{Unread}
 
@@ -31,8 +31,8 @@ abbrev pub ListsUnread : Shelf → ℕ → List Unread → Type 0
 ListsUnread shelf n unread = (name : List ℕ) → track_in unread name ≡ option_and_then broken_in (set_on shelf n name)
 
 -- and so for each pack of which something is known
-abbrev pub KnowsBodies : Shelf → List Known → Type 0
-KnowsBodies shelf known = (n : ℕ) (b : Known) → slice_get known n ≡ Some b → ListsUnread shelf n b.unread.items
+abbrev pub KnowsBodies : Shelf → List PackCache → Type 0
+KnowsBodies shelf known = (n : ℕ) (b : PackCache) → slice_get known n ≡ Some b → ListsUnread shelf n b.unread.items
 
 -- a library is that of a partitioned data set with this body
 abbrev pub IsLibraryOf : Library → Body → Type 0
@@ -46,83 +46,49 @@ HoldLibraries image v libraries = (n : ℕ) (l : Library) → slice_get librarie
 abbrev pub geometries_of : List Vol → List Geometry
 geometries_of vols = map (λ (v : Vol). v.geometry) vols
 
-abbrev pub buffers_of : List Known → List Geometry
-buffers_of known = map (λ (b : Known). b.buf.records.geometry) known
+abbrev pub buffers_of : List PackCache → List Geometry
+buffers_of known = map (λ (b : PackCache). b.buf.records.geometry) known
 
 -- there is a buffer for each pack, of its geometry
-abbrev pub HaveBuffers : List Vol → List Known → Type 0
+abbrev pub HaveBuffers : List Vol → List PackCache → Type 0
 HaveBuffers vols known = buffers_of known ≡ geometries_of vols
 
 -- A buffer holds its track of the image of an index, and the libraries are those of its data sets.
-pub record HoldsPack (image : List ℕ) (v : Vol) (b : Known) : Type 0 where
+pub record HoldsPack (image : List ℕ) (v : Vol) (b : PackCache) : Type 0 where
   pub track : HoldsTrack image b.buf
   pub libraries : HoldLibraries image v b.libraries.items
 
 -- and so for each pack
-abbrev pub AreHeld : List File → List Attached → List Vol → List Known → Type 0
-AreHeld files attached vols known = (n : ℕ) (v : Vol) (b : Known) → slice_get vols n ≡ Some v
+abbrev pub AreHeld : List File → List Attached → List Vol → List PackCache → Type 0
+AreHeld files attached vols known = (n : ℕ) (v : Vol) (b : PackCache) → slice_get vols n ≡ Some v
     → slice_get known n ≡ Some b
     → HoldsPack (image_named files (unit_of attached v.unit).name) v b
 
 -- No track is held, and no library.
-pub record IsFresh (b : Known) : Type 0 where
+pub record IsFresh (b : PackCache) : Type 0 where
   pub reach : b.buf.reach ≡ Nothing
   pub libraries : b.libraries.items ≡ []
 
 -- and so of all packs
-abbrev pub AreFresh : List Known → Type 0
-AreFresh known = (n : ℕ) (b : Known) → slice_get known n ≡ Some b → IsFresh b
-
--- the list of a pack behind an operation that is done
-abbrev pub followed : Op → ℕ → List Unread → List Unread
-followed (Rename v old new) n unread =
-    if v == n then map (renamed_in old.bytes new) unread else unread
-followed (Scratch v dsn) n unread = if v == n then others_of dsn.bytes unread else unread
-followed _ n unread = unread
-
--- the same of one that is done or not
-abbrev pub followed_if : Bool → Op → ℕ → List Unread → List Unread
-followed_if true op n unread = followed op n unread
-followed_if false op n unread = unread
-
--- Which data sets of the pack of this number can't be read is known behind an operation, too.
-pub record Follows (op : Op) (is_done : Bool) (n : ℕ) (old new : Known) : Type 0 where
-  pub unread : new.unread.items ≡ followed_if is_done op n old.unread.items
-  pub rest : new ≡ record old { unread = new.unread }
-
--- What is known of all packs behind an operation.
-pub record AllFollow (op : Op) (is_done : Bool) (old new : List Known) : Type 0 where
-  pub buffers : buffers_of new ≡ buffers_of old
-  pub each : (n : ℕ) (b : Known) → slice_get new n ≡ Some b
-      → (a : Known) × (slice_get old n ≡ Some a) × Follows op is_done n a b
+abbrev pub AreFresh : List PackCache → Type 0
+AreFresh known = (n : ℕ) (b : PackCache) → slice_get known n ≡ Some b → IsFresh b
 
 -- Which data sets can't be read is known as before, and the buffers have the same geometries.
-pub record KeepsLists (old new : List Known) : Type 0 where
+pub record KeepsLists (old new : List PackCache) : Type 0 where
   pub buffers : buffers_of new ≡ buffers_of old
-  pub unread : (n : ℕ) (b : Known) → slice_get new n ≡ Some b → (a : Known) × (slice_get old n ≡ Some a) × (b.unread.items ≡ a.unread.items)
+  pub unread : (n : ℕ) (b : PackCache) → slice_get new n ≡ Some b → (a : PackCache) × (slice_get old n ≡ Some a) × (b.unread.items ≡ a.unread.items)
 
 -- No track is held any more of the pack of this number; the rest of what is known stays.
-pub record ForgetsOn (k : ℕ) (old new : List Known) : Type 0 where
+pub record ForgetsOn (k : ℕ) (old new : List PackCache) : Type 0 where
   pub buffers : buffers_of new ≡ buffers_of old
-  pub rest : (n : ℕ) (b : Known) → slice_get new n ≡ Some b → (a : Known) × (slice_get old n ≡ Some a)
+  pub rest : (n : ℕ) (b : PackCache) → slice_get new n ≡ Some b → (a : PackCache) × (slice_get old n ≡ Some a)
       × (b.unread.items ≡ a.unread.items) × (b.libraries.items ≡ a.libraries.items)
   pub others : (n : ℕ) → n ≢ k → slice_get new n ≡ slice_get old n
-  pub here : (b : Known) → slice_get new k ≡ Some b → b.buf.reach ≡ Nothing
+  pub here : (b : PackCache) → slice_get new k ≡ Some b → b.buf.reach ≡ Nothing
 
 -- These libraries are held of the pack of this number, instead of others; the rest of what is known stays.
-pub record HoldsOn (k : ℕ) (libraries : List Library) (old new : List Known) : Type 0 where
+pub record HoldsOn (k : ℕ) (libraries : List Library) (old new : List PackCache) : Type 0 where
   pub size : length new ≡ length old
   pub others : (n : ℕ) → n ≢ k → slice_get new n ≡ slice_get old n
-  pub here : (b : Known) → slice_get new k ≡ Some b → (a : Known) × (slice_get old k ≡ Some a)
+  pub here : (b : PackCache) → slice_get new k ≡ Some b → (a : PackCache) × (slice_get old k ≡ Some a)
       × (b.unread ≡ a.unread) × (b.buf ≡ a.buf) × (b.libraries.items ≡ libraries)
-
--- the operations that are done on packs yet
-abbrev pub IsServed : Op → Type 0
-IsServed (Allocate v dsn attr request dir) = Unit {0}
-IsServed (Rename v old new) = Unit {0}
-IsServed (Extend v dsn) = Unit {0}
-IsServed (Scratch v dsn) = Unit {0}
-IsServed (Empty v dsn attr) = Unit {0}
-IsServed (Enter v dsn entry replace) = Unit {0}
-IsServed (Drop v dsn name) = Unit {0}
-IsServed _ = ⊥

@@ -13,6 +13,7 @@ pub mod Lawful
 pub mod Packs
 pub mod Reporting
 pub mod Operating
+pub mod Ready
 pub mod Parts
 pub mod Opened
 pub mod Unread

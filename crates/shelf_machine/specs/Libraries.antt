@@ -17,12 +17,12 @@ use Rattle.vtoc_index.specs.declared.vol.Vol.{Vol}
 use Rattle.seq_access.specs.declared.read_buf.ReadBuf.{ReadBuf}
 use Rattle.seq_access.specs.declared.read_buf.Reach.TheVariants.{Nothing}
 use Rattle.shelf_machine.specs.Known.{IsLibraryOf}
-use Rattle.shelf_machine.specs.declared.known.Known.{Known}
+use Rattle.shelf_machine.specs.declared.pack_cache.PackCache.{PackCache}
 use Rattle.mount_repair.specs.declared.library.Library.{Library}
 
 -- the library of a number, from 0, of those that are held of the pack of this number
-abbrev pub library_at : List Known → ℕ → ℕ → Option Library
-library_at known n at = option_and_then (λ (b : Known). slice_get b.libraries.items at) (slice_get known n)
+abbrev pub library_at : List PackCache → ℕ → ℕ → Option Library
+library_at known n at = option_and_then (λ (b : PackCache). slice_get b.libraries.items at) (slice_get known n)
 
 -- the library of a data set that begins on this track, of those that are held
 abbrev pub library_from : List Library → ℕ → Option Library

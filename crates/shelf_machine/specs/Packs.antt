@@ -17,8 +17,8 @@ use Rattle.shelf_machine.specs.Checking.{unread_in}
 use Rattle.shelf_machine.specs.Known.{AreFresh, buffers_of, geometries_of}
 use Rattle.shelf_machine.specs.Machine.{AreIndexes, AreInOrder, AreKept, serials_of, units_of}
 use Rattle.shelf_machine.specs.Opening.{OpensSafely, images_named}
-use Rattle.shelf_machine.specs.declared.known.Known.{Known}
-use Rattle.shelf_machine.specs.declared.stopped.Stopped.{Stopped}
+use Rattle.shelf_machine.specs.declared.pack_cache.PackCache.{PackCache}
+use Rattle.shelf_machine.specs.declared.open_failure.OpenFailure.{OpenFailure}
 
 -- the indexes of scans
 abbrev pub indexes_of : List Scan → List Vol
@@ -35,10 +35,10 @@ AreScansOf files attached scans = (k : ℕ) (s : Scan) → slice_get scans k ≡
     → IsScanOf (image_named files (unit_of attached s.vol.unit).name) s
 
 -- What is known of the bodies on packs that were scanned: which can't be read, and no track and no library.
-pub record AreKnown (scans : List Scan) (known : List Known) : Type 0 where
+pub record AreKnown (scans : List Scan) (known : List PackCache) : Type 0 where
   pub buffers : buffers_of known ≡ geometries_of (indexes_of scans)
   pub fresh : AreFresh known
-  pub unread : (n : ℕ) (b : Known) → slice_get known n ≡ Some b → (s : Scan) × (slice_get scans n ≡ Some s)
+  pub unread : (n : ℕ) (b : PackCache) → slice_get known n ≡ Some b → (s : Scan) × (slice_get scans n ≡ Some s)
       × (b.unread.items ≡ unread_in s.volume.items)
 
 -- each index is that of its unit's image, which stands for a volume
@@ -55,22 +55,22 @@ pub record IsFirstTwice (serials : List (List ℕ)) (unit other : ℕ) : Type 0 
       → position (λ t. bytes_eq t s) (take k serials) ≡ None
 
 -- the opening stopped at such a serial
-abbrev pub StopsAtTwice : List (List ℕ) → Stopped → Type 0
+abbrev pub StopsAtTwice : List (List ℕ) → OpenFailure → Type 0
 StopsAtTwice serials s = (other : ℕ) × (s.why ≡ SameSerial s.unit other)
     × IsFirstTwice serials s.unit other
 
 -- the images under names stand for no shelf, for this reason; `Memory` and `Device` say nothing of them
-abbrev pub RefusesImages : List (List ℕ) → List File → Stopped → Type 0
+abbrev pub RefusesImages : List (List ℕ) → List File → OpenFailure → Type 0
 RefusesImages names files s = s.why ≢ Memory → s.why ≢ Device
     → shelf_of (images_named files names) ≡ Err (record { unit = s.unit; why = s.why })
 
 -- an opening stopped for this reason
-abbrev pub IsStoppedBy : {T : Type 0} → MountErr → Result T Stopped → Type 0
+abbrev pub IsStoppedBy : {T : Type 0} → MountErr → Result T OpenFailure → Type 0
 IsStoppedBy why (Ok x) = ⊥
 IsStoppedBy why (Err s) = s.why ≡ why
 
 -- calls of a device in an opening, which answers a fault of it as one
-abbrev pub StopCall : {T : Type 0} → Facts → Facts → Result T Stopped → Type 0
+abbrev pub StopCall : {T : Type 0} → Facts → Facts → Result T OpenFailure → Type 0
 StopCall old new result = ReportedCall (IsStoppedBy Device result) old new
 
 -- What a repair of packs leaves, done or failed: at each stop the images stand for the same shelf and are safe. Once it is done they are settled, durably, and the indexes are theirs.

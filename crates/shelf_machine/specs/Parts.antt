@@ -10,7 +10,7 @@ use Rattle.vol_model.specs.declared.contents.Shelf.{Shelf}
 use Rattle.vtoc_index.specs.declared.vol.Vol.{Vol}
 use Rattle.shelf_machine.specs.Opening.{names_of}
 use Rattle.shelf_machine.specs.Machine.{ByFiles, KeepsSafe, LeavesJust, is_open_in, shelf_under, status_with, units_of, writer_in}
-use Rattle.shelf_machine.specs.declared.known.Known.{Known as Bodies}
+use Rattle.shelf_machine.specs.declared.pack_cache.PackCache.{PackCache}
 use Rattle.shelf_machine.specs.declared.machine.HallShelf.{HallShelf}
 
 -- the hall that it is on
@@ -22,7 +22,7 @@ abbrev pub indexes_of : {X : Type 0} {g : Ghosts X} → HallShelf X g → List V
 indexes_of machine = machine.vols.items
 
 -- what it knows of the bodies on each
-abbrev pub known_of : {X : Type 0} {g : Ghosts X} → HallShelf X g → List Bodies
+abbrev pub known_of : {X : Type 0} {g : Ghosts X} → HallShelf X g → List PackCache
 known_of machine = machine.known.items
 
 -- whether no call of its hall failed

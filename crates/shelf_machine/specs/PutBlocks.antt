@@ -1,5 +1,5 @@
 -- What a put on one of several packs leaves, whose set is extended where it owns no track for the block.
-use Rattle.std.specs.Prelude.{◌≡◌, true, ℕ, List, [], ◌∷◌, ◌++◌, Some, Result, Ok, Err, OnOk}
+use Rattle.std.specs.Prelude.{◌≡◌, true, ℕ, List, ◌++◌, Some, Result, Ok, Err, OnOk}
 use Rattle.hall_core.specs.Facts.{Attached}
 use Rattle.seq_access.specs.declared.writer.PutErr.{PutErr}
 use Rattle.seq_access.specs.declared.writer.PutErr.TheVariants as put_err
@@ -18,13 +18,11 @@ use Rattle.vol_model.specs.Places.{Content}
 use Rattle.vol_model.specs.Shelf.{put_last}
 use Rattle.vol_model.specs.Writing.{OpenWriter, Room, did_put, making_room, room_for, room_made, with_puts}
 use Rattle.vtoc_index.specs.declared.vol.Vol.{Vol}
-use Rattle.shelf_machine.specs.Known.{AreHeld, KnowsBodies}
-use Rattle.shelf_machine.specs.Machine.{AreKept, KeepsSafe, placed_in, shelf_under, units_of, writer_in}
+use Rattle.shelf_machine.specs.Machine.{KeepsSafe, placed_in, shelf_under, units_of, writer_in}
 use Rattle.shelf_machine.specs.Opening.{names_of}
 use Rattle.shelf_machine.specs.Fronts.{due}
 use Rattle.shelf_machine.specs.Pending.{IsPendingBy, puts_on}
 use Rattle.shelf_machine.specs.Putting.{did_place}
-use Rattle.shelf_machine.specs.declared.known.Known.{Known}
 use Rattle.shelf_machine.specs.declared.writer.Writer.{Writer}
 
 -- the answer to a put, as one of the machine
@@ -48,9 +46,9 @@ room_on files attached vols w c =
     let writer = placed_in files attached vols w in
     room_for (shelf_on files attached vols) writer.target writer.puts c
 
--- A content is placed as on the shelf: extensions where they are wanted. The writer has the content, or stands as before; what was promised of stops is promised still; and unless the device failed the indexes and what is known of the bodies are those of the images, and nothing is pending but by the writer.
+-- A content is placed as on the shelf, with extensions where they are wanted. The writer has the content, or stands as before; what was promised of stops is promised still; unless the device failed nothing is pending but by the writer.
 pub record PlacesBlock (c : Content) (attached attached' : List Attached) (vols vols' : List Vol)
-    (known' : List Known) (w w' : Writer) (m m' : Meaning (List File)) (n n' : ℕ)
+    (w w' : Writer) (m m' : Meaning (List File)) (n n' : ℕ)
     (result : Result Place MachErr) : Type 0 where
   pub does : let did = did_place (shelf_on m.state attached vols) (placed_in m.state attached vols w) c in
       Does did.operations did (seen (shelf_under (names_of attached (units_of vols))) m)
@@ -59,10 +57,7 @@ pub record PlacesBlock (c : Content) (attached attached' : List Attached) (vols 
       (placed_in m'.state attached' vols' w')
   pub safe : Keeps m.clock (KeepsSafe (names_of attached (units_of vols)) vols m)
       (KeepsSafe (names_of attached' (units_of vols')) vols' m')
-  pub kept : sound_after result ≡ true → AreKept m'.state attached' vols'
   pub pending : sound_after result ≡ true → IsPendingBy m' attached' vols' (Some w')
-  pub held : sound_after result ≡ true → AreHeld m'.state attached' vols' known'
-  pub bodies : sound_after result ≡ true → KnowsBodies (shelf_on m'.state attached' vols') known'
 
 -- what a writer placed is the same where a call isn't done, unless the device failed
 abbrev pub StandsAgain : {T : Type 0} → Result T MachErr → OpenWriter → OpenWriter → Type 0
@@ -80,7 +75,7 @@ ends_on files attached vols w = due_on files attached vols w ++ put_last w.mode
 
 -- The same of several contents, with this answer once they are placed.
 pub record PlacesAll {X : Type 0} (cs : List Content) (x : X) (attached attached' : List Attached)
-    (vols vols' : List Vol) (known' : List Known) (w w' : Writer) (m m' : Meaning (List File))
+    (vols vols' : List Vol) (w w' : Writer) (m m' : Meaning (List File))
     (n n' : ℕ) (result : Result X MachErr) : Type 0 where
   pub does : let writer = placed_in m.state attached vols w in
       let did = room_made (making_room (shelf_on m.state attached vols) writer.target writer.puts cs) x in
@@ -90,14 +85,11 @@ pub record PlacesAll {X : Type 0} (cs : List Content) (x : X) (attached attached
       ≡ with_puts (placed_in m.state attached vols w) cs)
   pub safe : Keeps m.clock (KeepsSafe (names_of attached (units_of vols)) vols m)
       (KeepsSafe (names_of attached' (units_of vols')) vols' m')
-  pub kept : sound_after result ≡ true → AreKept m'.state attached' vols'
   pub pending : sound_after result ≡ true → IsPendingBy m' attached' vols' (Some w')
-  pub held : sound_after result ≡ true → AreHeld m'.state attached' vols' known'
-  pub bodies : sound_after result ≡ true → KnowsBodies (shelf_on m'.state attached' vols') known'
 
 -- A put does what one does on the shelf: it places what is due in front, and then the block.
 pub record PutsBlock (c : Content) (attached attached' : List Attached) (vols vols' : List Vol)
-    (known' : List Known) (w w' : Writer) (m m' : Meaning (List File)) (n n' : ℕ)
+    (w w' : Writer) (m m' : Meaning (List File)) (n n' : ℕ)
     (result : Result Place MachErr) : Type 0 where
   pub does : let did = did_put (shelf_on m.state attached vols) (writer_in m.state attached vols (Some w)) c in
       Does did.operations did (seen (shelf_under (names_of attached (units_of vols))) m)
@@ -106,7 +98,4 @@ pub record PutsBlock (c : Content) (attached attached' : List Attached) (vols vo
       (writer_in m'.state attached' vols' (Some w'))
   pub safe : Keeps m.clock (KeepsSafe (names_of attached (units_of vols)) vols m)
       (KeepsSafe (names_of attached' (units_of vols')) vols' m')
-  pub kept : sound_after result ≡ true → AreKept m'.state attached' vols'
   pub pending : sound_after result ≡ true → IsPendingBy m' attached' vols' (Some w')
-  pub held : sound_after result ≡ true → AreHeld m'.state attached' vols' known'
-  pub bodies : sound_after result ≡ true → KnowsBodies (shelf_on m'.state attached' vols') known'

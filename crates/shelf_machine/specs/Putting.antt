@@ -19,12 +19,12 @@ use Rattle.vtoc_index.specs.declared.vol.Vol.{Vol}
 use Rattle.shelf_machine.specs.Known.{AreHeld}
 use Rattle.shelf_machine.specs.Machine.{AreKept, KeepsSafe, shelf_under}
 use Rattle.shelf_machine.specs.Pending.{IsPendingBy}
-use Rattle.shelf_machine.specs.declared.known.Known.{Known}
+use Rattle.shelf_machine.specs.declared.pack_cache.PackCache.{PackCache}
 use Rattle.shelf_machine.specs.declared.writer.Writer.{Writer}
 
 -- The shelf stays, whatever a stop leaves, and so does what was promised; unless the device failed the indexes and the buffers are those of the images, and nothing is pending but by the writer.
 pub record PutsOn {T : Type 0} (names : List (List ℕ)) (attached : List Attached) (vols vols' : List Vol)
-    (known : List Known) (w : Writer) (m m' : Meaning (List File)) (result : Result T PutErr) : Type 0 where
+    (known : List PackCache) (w : Writer) (m m' : Meaning (List File)) (result : Result T PutErr) : Type 0 where
   pub state : shelf_under names m'.state ≡ shelf_under names m.state
   pub printed : m'.printed ≡ m.printed
   pub moments : Elapses (seen (shelf_under names) m) (seen (shelf_under names) m')

@@ -13,13 +13,13 @@ ghost use Rattle.vtoc_index.specs.Names.{AreByName, name_at};
 ghost use Rattle.seq_access.specs.Bodies.{part_in};
 ghost use Rattle.seq_access.specs.Reading.{GivesMembers, HoldsTrack, LeavesEmpty, ReadsMembers};
 ghost use Rattle.shelf_machine.specs.Blocks.{IsOnImage, IsPartOn};
-ghost use Rattle.shelf_machine.specs.Known.{AreHeld, HaveBuffers, KnowsBodies};
-ghost use Rattle.shelf_machine.specs.Machine.{AreIndexes, AreInOrder, AreKept, shelf_under, units_of};
+ghost use Rattle.shelf_machine.specs.Machine.{shelf_under, units_of};
 ghost use Rattle.shelf_machine.specs.Opening.{names_of};
+ghost use Rattle.shelf_machine.specs.Ready.{AreReady, RestPacks};
 ghost use Rattle.shelf_machine.specs.Reads.{HasVolume, IsSetOn};
 
-use crate::known::Known;
 use crate::libraries::end_of;
+use crate::pack_cache::PackCache;
 use crate::reads::{kind_in, set_in};
 use dscb_codec::F1;
 use ebcdic_names::Dsn;
@@ -33,36 +33,23 @@ use vtoc_index::Vol;
 pub(crate) fn read_into<H: Hall>(
     hall: &mut H,
     vols: &mut Vec<Vol>,
-    known: &mut Vec<Known>,
+    known: &mut Vec<PackCache>,
     v: u8,
     dsn: &Dsn,
     from: Place,
     block: &mut BlockBuf,
 ) -> Result<bool, CheckErr>
-    requires indexes { AreIndexes (H.facts hall.old).units vols.old.items }
-    requires order { AreInOrder vols.old.items }
-    requires buffers { HaveBuffers vols.old.items known.old.items }
-    requires kept { IsTrue H.tells
-        → AreKept (H.meaning hall.old).state (H.facts hall.old).units vols.old.items }
-    requires known { IsTrue H.tells → KnowsBodies (shelf_under (names_of (H.facts hall.old).units
-        (units_of vols.old.items)) (H.meaning hall.old).state) known.old.items }
-    requires held { IsTrue H.tells → AreHeld (H.meaning hall.old).state
-        (H.facts hall.old).units vols.old.items known.old.items }
+    requires ready { AreReady H.tells (H.facts hall.old) (H.meaning hall.old)
+        vols.old.items known.old.items }
     ensures block { let shelf = shelf_under (names_of (H.facts hall.old).units (units_of vols.old.items))
         (H.meaning hall.old).state in IsTrue H.tells
         → ReadsInto result (readable (body_on shelf v dsn.now.bytes)) from block.new }
     ensures blank { LeavesBlank result block.new }
     ensures onward { IfOk result (λ more. IsTrue more → is_before block.new.place from ≡ false) }
     ensures lawful { IfOk result (λ more. IsTrue more → IsLawfulBlock block.new) }
-    ensures vols { vols.new.items ≡ vols.old.items }
-    ensures buffers { HaveBuffers vols.old.items known.new.items }
-    ensures known { (shelf : Shelf) → KnowsBodies shelf known.old.items
-        → KnowsBodies shelf known.new.items }
-    ensures held { IsTrue H.tells → AreHeld (H.meaning hall.old).state
-        (H.facts hall.old).units vols.old.items known.new.items }
-    ensures same { IsTrue H.tells → Same (H.meaning hall.old) (H.meaning hall.new) }
-    ensures faults { ReportedCall (IsErrOf result CheckErr.Device) (H.facts hall.old)
-        (H.facts hall.new) }
+    ensures rest { RestPacks (IsErrOf result CheckErr.Device) H.tells (H.facts hall.old) (H.facts hall.new)
+        (H.meaning hall.old) (H.meaning hall.new) vols.old.items vols.new.items
+        known.old.items known.new.items }
 {
     let k = usize::from(v);
     if k >= vols.len() {
@@ -76,7 +63,7 @@ pub(crate) fn read_into<H: Hall>(
 fn read_into_on<H: Hall>(
     hall: &mut H,
     vol: &mut Vol,
-    known: &mut Known,
+    known: &mut PackCache,
     dsn: &Dsn,
     from: Place,
     block: &mut BlockBuf,
@@ -124,7 +111,7 @@ fn read_into_on<H: Hall>(
 fn read_member_into<H: Hall>(
     hall: &mut H,
     vol: &mut Vol,
-    known: &mut Known,
+    known: &mut PackCache,
     set: &F1,
     from: Place,
     block: &mut BlockBuf,
@@ -161,35 +148,22 @@ pub(crate) fn read_block<H: Hall>(
     alloc: Global,
     hall: &mut H,
     vols: &mut Vec<Vol>,
-    known: &mut Vec<Known>,
+    known: &mut Vec<PackCache>,
     v: u8,
     dsn: &Dsn,
     from: Place,
 ) -> Result<Option<Block>, ReadErr>
-    requires indexes { AreIndexes (H.facts hall.old).units vols.old.items }
-    requires order { AreInOrder vols.old.items }
-    requires buffers { HaveBuffers vols.old.items known.old.items }
-    requires kept { IsTrue H.tells
-        → AreKept (H.meaning hall.old).state (H.facts hall.old).units vols.old.items }
-    requires known { IsTrue H.tells → KnowsBodies (shelf_under (names_of (H.facts hall.old).units
-        (units_of vols.old.items)) (H.meaning hall.old).state) known.old.items }
-    requires held { IsTrue H.tells → AreHeld (H.meaning hall.old).state
-        (H.facts hall.old).units vols.old.items known.old.items }
+    requires ready { AreReady H.tells (H.facts hall.old) (H.meaning hall.old)
+        vols.old.items known.old.items }
     ensures block { let shelf = shelf_under (names_of (H.facts hall.old).units (units_of vols.old.items))
         (H.meaning hall.old).state in IsTrue H.tells
         → Picks result (readable (body_on shelf v dsn.now.bytes))
         (λ bs. first (blocks_from from bs)) }
     ensures onward { IfOk result (λ found. IfSome found (λ b. is_before b.place from ≡ false)) }
     ensures lawful { IfOk result (λ found. IfSome found IsLawfulBlock) }
-    ensures vols { vols.new.items ≡ vols.old.items }
-    ensures buffers { HaveBuffers vols.old.items known.new.items }
-    ensures known { (shelf : Shelf) → KnowsBodies shelf known.old.items
-        → KnowsBodies shelf known.new.items }
-    ensures held { IsTrue H.tells → AreHeld (H.meaning hall.old).state
-        (H.facts hall.old).units vols.old.items known.new.items }
-    ensures same { IsTrue H.tells → Same (H.meaning hall.old) (H.meaning hall.new) }
-    ensures faults { ReportedCall (IsErrOf result ReadErr.Device) (H.facts hall.old)
-        (H.facts hall.new) }
+    ensures rest { RestPacks (IsErrOf result ReadErr.Device) H.tells (H.facts hall.old) (H.facts hall.new)
+        (H.meaning hall.old) (H.meaning hall.new) vols.old.items vols.new.items
+        known.old.items known.new.items }
 {
     let k = usize::from(v);
     if k >= vols.len() {
@@ -203,7 +177,7 @@ fn read_block_on<H: Hall>(
     alloc: Global,
     hall: &mut H,
     vol: &mut Vol,
-    known: &mut Known,
+    known: &mut PackCache,
     dsn: &Dsn,
     from: Place,
 ) -> Result<Option<Block>, ReadErr>
@@ -252,7 +226,7 @@ fn read_member<H: Hall>(
     alloc: Global,
     hall: &mut H,
     vol: &mut Vol,
-    known: &mut Known,
+    known: &mut PackCache,
     set: &F1,
     from: Place,
 ) -> Result<Option<Block>, WorkErr>

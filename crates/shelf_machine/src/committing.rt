@@ -8,13 +8,13 @@ ghost use Rattle.vol_model.specs.Writing.{blocks_for, target_body, writes};
 ghost use Rattle.vol_model.specs.declared.refusals.Refusal.{Refusal};
 ghost use Rattle.vol_model.specs.declared.refusals.Refusal.TheVariants.{NoRoom};
 ghost use Rattle.shelf_machine.specs.Committing.{ClosesOn, CommitsOn, writer_after};
-ghost use Rattle.shelf_machine.specs.Known.{AreHeld, HaveBuffers, KnowsBodies};
-ghost use Rattle.shelf_machine.specs.Machine.{AreIndexes, AreInOrder, AreKept, base_of, placed_in, shelf_under, units_of};
+ghost use Rattle.shelf_machine.specs.Known.{HaveBuffers};
+ghost use Rattle.shelf_machine.specs.Machine.{AreIndexes, AreInOrder, base_of, placed_in, shelf_under, units_of};
 ghost use Rattle.shelf_machine.specs.Opening.{names_of};
 ghost use Rattle.shelf_machine.specs.Pending.{HasSlot, IsPendingBy};
-ghost use Rattle.shelf_machine.specs.PutBlocks.{shelf_on};
+ghost use Rattle.shelf_machine.specs.Ready.{AreReady};
 
-use crate::known::{Known, forget_on};
+use crate::pack_cache::{PackCache, forget_read_track};
 use crate::puts::place_ends;
 use crate::writer::Writer;
 use crate::writing::abandoned;
@@ -27,27 +27,21 @@ use vtoc_index::Vol;
 pub(crate) fn close_writer<H: Hall>(
     hall: &mut H,
     vols: &mut Vec<Vol>,
-    known: &mut Vec<Known>,
+    known: &mut Vec<PackCache>,
     writer: &mut Writer,
     done: &mut u64,
 ) -> Result<(), MachErr>
-    requires indexes { AreIndexes (H.facts hall.old).units vols.old.items }
-    requires order { AreInOrder vols.old.items }
-    requires kept { IsTrue H.tells
-        → AreKept (H.meaning hall.old).state (H.facts hall.old).units vols.old.items }
-    requires buffers { HaveBuffers vols.old.items known.old.items }
+    requires ready { AreReady H.tells (H.facts hall.old) (H.meaning hall.old)
+        vols.old.items known.old.items }
     requires slot { HasSlot vols.old.items (Some writer.old) }
     requires pending { IsTrue H.tells → IsPendingBy (H.meaning hall.old) (H.facts hall.old).units
         vols.old.items (Some writer.old) }
-    requires bodies { IsTrue H.tells → KnowsBodies (shelf_on (H.meaning hall.old).state
-        (H.facts hall.old).units vols.old.items) known.old.items }
-    requires held { IsTrue H.tells → AreHeld (H.meaning hall.old).state
-        (H.facts hall.old).units vols.old.items known.old.items }
     ensures shelf { IsTrue H.tells → ClosesOn (H.facts hall.old).units (H.facts hall.new).units
-        vols.old.items vols.new.items known.new.items writer.old writer.new (H.meaning hall.old)
+        vols.old.items vols.new.items writer.old writer.new (H.meaning hall.old)
         (H.meaning hall.new) done.old done.new result }
     ensures indexes { AreIndexes (H.facts hall.new).units vols.new.items }
-    ensures order { sound_after result ≡ true → AreInOrder vols.new.items }
+    ensures ready { sound_after result ≡ true → AreReady H.tells (H.facts hall.new) (H.meaning hall.new)
+        vols.new.items known.new.items }
     ensures slot { sound_after result ≡ true → HasSlot vols.new.items (writer_after result writer.new) }
     ensures base { base_of (H.facts hall.new) vols.new.items
         ≡ base_of (H.facts hall.old) vols.old.items }
@@ -85,21 +79,14 @@ pub(crate) fn left_of(closed: &Result<(), MachErr>, writer: Writer) -> Option<Wr
 fn commit_on<H: Hall>(
     hall: &mut H,
     vols: &mut Vec<Vol>,
-    known: &mut Vec<Known>,
+    known: &mut Vec<PackCache>,
     writer: Writer,
 ) -> Result<(), Device>
-    requires indexes { AreIndexes (H.facts hall.old).units vols.old.items }
-    requires order { AreInOrder vols.old.items }
-    requires kept { IsTrue H.tells
-        → AreKept (H.meaning hall.old).state (H.facts hall.old).units vols.old.items }
+    requires ready { AreReady H.tells (H.facts hall.old) (H.meaning hall.old)
+        vols.old.items known.old.items }
     requires slot { HasSlot vols.old.items (Some writer) }
     requires pending { IsTrue H.tells → IsPendingBy (H.meaning hall.old) (H.facts hall.old).units
         vols.old.items (Some writer) }
-    requires buffers { HaveBuffers vols.old.items known.old.items }
-    requires held { IsTrue H.tells → AreHeld (H.meaning hall.old).state
-        (H.facts hall.old).units vols.old.items known.old.items }
-    requires bodies { IsTrue H.tells → KnowsBodies (shelf_on (H.meaning hall.old).state
-        (H.facts hall.old).units vols.old.items) known.old.items }
     ensures shelf { let names = names_of (H.facts hall.old).units (units_of vols.old.items) in
         let names' = names_of (H.facts hall.new).units (units_of vols.new.items) in
         let shelf = shelf_under names (H.meaning hall.old).state in
@@ -117,7 +104,7 @@ fn commit_on<H: Hall>(
     ensures faults { DeviceCall (H.facts hall.old) (H.facts hall.new) result }
 {
     let k = usize::from(writer.v);
-    forget_on(known, k);
+    forget_read_track(known, k);
     if writer.inner.blocks == 0 {
         hall.sync()?;
         return Ok(());

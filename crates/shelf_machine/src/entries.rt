@@ -19,20 +19,17 @@ ghost use Rattle.vol_model.specs.declared.answers.StoreErr.{StoreErr};
 ghost use Rattle.vol_model.specs.declared.contents.Entry.{Entry};
 ghost use Rattle.vol_model.specs.declared.contents.Volume.{Volume};
 ghost use Rattle.vol_model.specs.declared.refusals.Refusal.{Refusal};
-ghost use Rattle.vol_model.specs.declared.requests.Op.{Op};
 ghost use Rattle.vtoc_index.specs.Index.{IsMounted, IsOfUnit, first_named};
 ghost use Rattle.vtoc_index.specs.Kept.{IsKept};
 ghost use Rattle.vtoc_index.specs.Names.{AreByName, name_at};
 ghost use Rattle.vtoc_sets.specs.Sets.{volume_in};
 ghost use Rattle.shelf_machine.specs.Entries.{ChangesEntries, IsPutBack, answer_to};
-ghost use Rattle.shelf_machine.specs.Known.{AreHeld, HaveBuffers, HoldLibraries, KeepsLists, KnowsBodies, ListsBroken, geometries_of};
-ghost use Rattle.shelf_machine.specs.Machine.{AreIndexes, AreInOrder, AreKept, base_of, shelf_under, units_of};
-ghost use Rattle.shelf_machine.specs.Opening.{names_of};
-ghost use Rattle.shelf_machine.specs.Operating.{IsSamePack, OperatesOnShelf};
+ghost use Rattle.shelf_machine.specs.Known.{HoldLibraries, ListsBroken};
+ghost use Rattle.shelf_machine.specs.Ready.{IsReady, Leaves};
 ghost use Rattle.shelf_machine.specs.Reporting.{reported};
 
-use crate::known::Known;
-use crate::libraries::{keep, take_library};
+use crate::libraries::{keep, lend_library};
+use crate::pack_cache::PackCache;
 use crate::reads::write_refusal_in;
 use crate::refusals::slot_of;
 use dscb_codec::F1;
@@ -45,57 +42,24 @@ use stow_ops::{drop_entry, enter};
 use vol_model::{Entry, Mode, Refusal, StoreErr};
 use vtoc_index::Vol;
 
-// Puts an entry into the directory of a data set on the pack of this number.
+// Puts an entry into the directory of a data set of a pack.
 pub(crate) fn enter_on<H: Hall>(
     alloc: Global,
     hall: &mut H,
-    vols: &mut Vec<Vol>,
-    known: &mut Vec<Known>,
-    v: u8,
+    vol: &mut Vol,
+    known: &mut PackCache,
     dsn: &Dsn,
     entry: &Entry,
     replace: bool,
 ) -> Result<(), StoreErr>
-    requires indexes { AreIndexes (H.facts hall.old).units vols.old.items }
-    requires order { AreInOrder vols.old.items }
-    requires kept { IsTrue H.tells
-        → AreKept (H.meaning hall.old).state (H.facts hall.old).units vols.old.items }
+    requires ready { IsReady H.tells (H.facts hall.old) (H.meaning hall.old) vol.old known.old }
     requires durable { IsTrue H.tells → IsDurable (H.meaning hall.old) }
-    requires buffers { HaveBuffers vols.old.items known.old.items }
-    requires bodies { IsTrue H.tells → KnowsBodies
-        (shelf_under (names_of (H.facts hall.old).units (units_of vols.old.items)) (H.meaning hall.old).state)
-        known.old.items }
     requires entry { IsLawfulEntry entry.now }
-    requires held { IsTrue H.tells → AreHeld (H.meaning hall.old).state
-        (H.facts hall.old).units vols.old.items known.old.items }
-    ensures shelf { let names = names_of (H.facts hall.old).units (units_of vols.old.items) in
-        let names' = names_of (H.facts hall.new).units (units_of vols.new.items) in
-        IsTrue H.tells → OperatesOnShelf (Op.Enter v dsn.now entry.now replace) names names'
-        (H.facts hall.new).units vols.old.items vols.new.items (H.meaning hall.old)
-        (H.meaning hall.new) result }
-    ensures indexes { AreIndexes (H.facts hall.new).units vols.new.items }
-    ensures order { sound_after (reported result) ≡ true → AreInOrder vols.new.items }
-    ensures base { base_of (H.facts hall.new) vols.new.items
-        ≡ base_of (H.facts hall.old) vols.old.items }
-    ensures geometries { geometries_of vols.new.items ≡ geometries_of vols.old.items }
-    ensures held { IsTrue H.tells → sound_after (reported result) ≡ true → AreHeld (H.meaning hall.new).state
-        (H.facts hall.new).units vols.new.items known.new.items }
-    ensures known { KeepsLists known.old.items known.new.items }
-    ensures faults { StoreCall (H.facts hall.old) (H.facts hall.new) result }
+    ensures leaves { Leaves H.tells (enter_on dsn.now entry.now replace)
+        (H.facts hall.old) (H.facts hall.new) (H.meaning hall.old) (H.meaning hall.new)
+        vol.old vol.new known.old known.new result }
 {
-    let k = usize::from(v);
-    if k >= vols.len() {
-        return Err(StoreErr::Refused(Refusal::NoVolume));
-    }
-    enter_set(
-        alloc,
-        hall,
-        &mut vols[k],
-        &mut known[k],
-        dsn,
-        entry,
-        replace,
-    )
+    enter_set(alloc, hall, vol, known, dsn, entry, replace)
 }
 
 // Puts an entry into the directory of a data set of a volume.
@@ -103,7 +67,7 @@ fn enter_set<H: Hall>(
     alloc: Global,
     hall: &mut H,
     vol: &mut Vol,
-    known: &mut Known,
+    known: &mut PackCache,
     dsn: &Dsn,
     entry: &Entry,
     replace: bool,
@@ -146,55 +110,30 @@ fn enter_set<H: Hall>(
         start,
         mut dir,
         entries,
-    } = match take_library(alloc, hall, vol, known, slot, &set) {
+    } = match lend_library(alloc, hall, vol, known, slot, &set) {
         Ok(library) => library,
         Err(error) => return Err(error),
     };
     let entered = enter(alloc, hall, vol, slot, &mut dir, entry, replace);
-    put_back(&mut known.libraries, start, dir, entries, entered)
+    give_back(&mut known.libraries, start, dir, entries, entered)
 }
 
-// Takes the entry of a name out of the directory of a data set on the pack of this number.
+// Takes the entry of a name out of the directory of a data set of a pack.
 pub(crate) fn drop_on<H: Hall>(
     alloc: Global,
     hall: &mut H,
-    vols: &mut Vec<Vol>,
-    known: &mut Vec<Known>,
-    v: u8,
+    vol: &mut Vol,
+    known: &mut PackCache,
     dsn: &Dsn,
     name: &Name8,
 ) -> Result<(), StoreErr>
-    requires indexes { AreIndexes (H.facts hall.old).units vols.old.items }
-    requires order { AreInOrder vols.old.items }
-    requires kept { IsTrue H.tells
-        → AreKept (H.meaning hall.old).state (H.facts hall.old).units vols.old.items }
+    requires ready { IsReady H.tells (H.facts hall.old) (H.meaning hall.old) vol.old known.old }
     requires durable { IsTrue H.tells → IsDurable (H.meaning hall.old) }
-    requires buffers { HaveBuffers vols.old.items known.old.items }
-    requires bodies { IsTrue H.tells → KnowsBodies
-        (shelf_under (names_of (H.facts hall.old).units (units_of vols.old.items)) (H.meaning hall.old).state)
-        known.old.items }
-    requires held { IsTrue H.tells → AreHeld (H.meaning hall.old).state
-        (H.facts hall.old).units vols.old.items known.old.items }
-    ensures shelf { let names = names_of (H.facts hall.old).units (units_of vols.old.items) in
-        let names' = names_of (H.facts hall.new).units (units_of vols.new.items) in
-        IsTrue H.tells → OperatesOnShelf (Op.Drop v dsn.now name.now) names names'
-        (H.facts hall.new).units vols.old.items vols.new.items (H.meaning hall.old)
-        (H.meaning hall.new) result }
-    ensures indexes { AreIndexes (H.facts hall.new).units vols.new.items }
-    ensures order { sound_after (reported result) ≡ true → AreInOrder vols.new.items }
-    ensures base { base_of (H.facts hall.new) vols.new.items
-        ≡ base_of (H.facts hall.old) vols.old.items }
-    ensures geometries { geometries_of vols.new.items ≡ geometries_of vols.old.items }
-    ensures held { IsTrue H.tells → sound_after (reported result) ≡ true → AreHeld (H.meaning hall.new).state
-        (H.facts hall.new).units vols.new.items known.new.items }
-    ensures known { KeepsLists known.old.items known.new.items }
-    ensures faults { StoreCall (H.facts hall.old) (H.facts hall.new) result }
+    ensures leaves { Leaves H.tells (drop_on dsn.now name.now)
+        (H.facts hall.old) (H.facts hall.new) (H.meaning hall.old) (H.meaning hall.new)
+        vol.old vol.new known.old known.new result }
 {
-    let k = usize::from(v);
-    if k >= vols.len() {
-        return Err(StoreErr::Refused(Refusal::NoVolume));
-    }
-    drop_from(alloc, hall, &mut vols[k], &mut known[k], dsn, name)
+    drop_from(alloc, hall, vol, known, dsn, name)
 }
 
 // Takes the entry of a name out of the directory of a data set of a volume.
@@ -202,7 +141,7 @@ fn drop_from<H: Hall>(
     alloc: Global,
     hall: &mut H,
     vol: &mut Vol,
-    known: &mut Known,
+    known: &mut PackCache,
     dsn: &Dsn,
     name: &Name8,
 ) -> Result<(), StoreErr>
@@ -243,17 +182,17 @@ fn drop_from<H: Hall>(
         start,
         mut dir,
         entries,
-    } = match take_library(alloc, hall, vol, known, slot, &set) {
+    } = match lend_library(alloc, hall, vol, known, slot, &set) {
         Ok(library) => library,
         Err(error) => return Err(error),
     };
     let dropped = drop_entry(alloc, hall, vol, slot, &mut dir, name);
-    put_back(&mut known.libraries, start, dir, entries, dropped)
+    give_back(&mut known.libraries, start, dir, entries, dropped)
 }
 
 // Puts a library back behind the others, with the entries that it had or those that a change of it gave, and gives what the
 // change answered.
-fn put_back(
+fn give_back(
     libraries: &mut Vec<Library>,
     start: u16,
     dir: Dir,
@@ -294,7 +233,7 @@ fn put_back(
 
 // The slot of the partitioned data set of this name, whose body can be read, and its format 1, or why it has no directory to
 // change.
-fn slot_of_library(vol: &Vol, known: &Known, dsn: &Dsn) -> Result<(u32, F1), Refusal>
+fn slot_of_library(vol: &Vol, known: &PackCache, dsn: &Dsn) -> Result<(u32, F1), Refusal>
     requires unit { (units : List Attached) × IsOfUnit units vol.now }
     requires names { AreByName (name_at vol.now.slots.items) vol.now.by_name.items }
     ensures slot { IfOk result (λ p. first_named dsn.now.bytes vol.now.slots.items ≡ Some p.0) }

@@ -1,22 +1,22 @@
 //! The shelf of a machine over pack images: the packs that are mounted on the units of a hall.
 #![tactic(auto)]
 
+mod area_start;
 mod blocks;
 mod committing;
 mod entries;
-mod front;
-mod known;
 mod libraries;
 mod machine;
 mod open_err;
+mod open_failure;
 mod opening;
 mod operations;
+mod pack_cache;
 mod puts;
 mod reads;
 mod refusals;
 mod reporting;
 mod space;
-mod stopped;
 mod unread;
 mod writer;
 mod writing;

@@ -16,70 +16,59 @@ ghost use Rattle.vtoc_index.specs.Index.{IsOfUnit};
 ghost use Rattle.vtoc_index.specs.Names.{AreByName, name_at};
 ghost use Rattle.dadsm_ops.specs.Operations.{StoreCall};
 ghost use Rattle.shelf_machine.specs.Blocks.{IsOnImage, IsPartOn};
-ghost use Rattle.shelf_machine.specs.Known.{AreHeld, HaveBuffers, HoldLibraries, KnowsBodies};
+ghost use Rattle.shelf_machine.specs.Known.{HoldLibraries};
 ghost use Rattle.shelf_machine.specs.Libraries.{AreOthers, HoldsLibrary, HoldsPart, IsAnswered, IsKeptBehind, IsLent, IsLibraryAt, IsMadeFrom, IsVacancyOf, ReadsLibrary, entries_held, entry_has, is_vacant_by, library_at, library_from, size_by, size_held};
-ghost use Rattle.shelf_machine.specs.Machine.{AreIndexes, AreInOrder, AreKept, shelf_under, units_of};
+ghost use Rattle.shelf_machine.specs.Machine.{shelf_under, units_of};
 ghost use Rattle.shelf_machine.specs.Opening.{names_of};
+ghost use Rattle.shelf_machine.specs.Ready.{AreReady, RestPacks};
 
-use crate::known::Known;
+use crate::pack_cache::PackCache;
 use crate::reads::kind_in;
 use crate::refusals::slot_of;
 use dscb_codec::{Dscb, F1};
 use ebcdic_names::{Dsn, Name8};
 use hall_core::{Device, Hall};
 use mount_repair::{Library, library_of};
-use pds_directory::{Dir, DirEntry, copy_of, find_end, read_dir, track_at};
+use pds_directory::{Dir, DirEntry, copy_of, find_end, read_dir};
 use seq_access::{Reach, ReadBuf, is_before, last_of};
 use std::alloc::Global;
 use std::mem;
 use vol_model::{Entry, Kind, Place, ReadErr, StoreErr, WorkErr};
 use vtoc_index::Vol;
+use vtoc_sets::track_at;
 
 // Holds the directory of a partitioned data set: its number among those that are held of the pack; `None` where the data
 // set has none.
-pub(crate) fn hold_library<H: Hall>(
+pub(crate) fn cached_directory<H: Hall>(
     alloc: Global,
     hall: &mut H,
     vols: &mut Vec<Vol>,
-    known: &mut Vec<Known>,
+    known: &mut Vec<PackCache>,
     v: u8,
     dsn: &Dsn,
 ) -> Result<Option<usize>, ReadErr>
-    requires indexes { AreIndexes (H.facts hall.old).units vols.old.items }
-    requires order { AreInOrder vols.old.items }
-    requires buffers { HaveBuffers vols.old.items known.old.items }
-    requires kept { IsTrue H.tells
-        → AreKept (H.meaning hall.old).state (H.facts hall.old).units vols.old.items }
-    requires known { IsTrue H.tells → KnowsBodies (shelf_under (names_of (H.facts hall.old).units
-        (units_of vols.old.items)) (H.meaning hall.old).state) known.old.items }
-    requires held { IsTrue H.tells → AreHeld (H.meaning hall.old).state
-        (H.facts hall.old).units vols.old.items known.old.items }
+    requires ready { AreReady H.tells (H.facts hall.old) (H.meaning hall.old)
+        vols.old.items known.old.items }
     ensures library { let shelf = shelf_under (names_of (H.facts hall.old).units
         (units_of vols.old.items)) (H.meaning hall.old).state in IsTrue H.tells
         → HoldsLibrary result (body_on shelf v dsn.now.bytes) (λ at. library_at known.new.items v at) }
-    ensures vols { vols.new.items ≡ vols.old.items }
-    ensures buffers { HaveBuffers vols.old.items known.new.items }
-    ensures known { IsTrue H.tells → KnowsBodies (shelf_under (names_of (H.facts hall.old).units
-        (units_of vols.old.items)) (H.meaning hall.old).state) known.new.items }
-    ensures held { IsTrue H.tells → AreHeld (H.meaning hall.old).state
-        (H.facts hall.old).units vols.old.items known.new.items }
-    ensures same { IsTrue H.tells → Same (H.meaning hall.old) (H.meaning hall.new) }
-    ensures faults { ReportedCall (IsErrOf result ReadErr.Device) (H.facts hall.old)
-        (H.facts hall.new) }
+    ensures rest { RestPacks (IsErrOf result ReadErr.Device) H.tells (H.facts hall.old) (H.facts hall.new)
+        (H.meaning hall.old) (H.meaning hall.new) vols.old.items vols.new.items
+        known.old.items known.new.items }
 {
     let k = usize::from(v);
     if k >= vols.len() {
         return Ok(None);
     }
-    hold_on(alloc, hall, &mut vols[k], &mut known[k], dsn)
+    cached_directory_on(alloc, hall, &mut vols[k], &mut known[k], dsn)
 }
 
 // The same on a pack.
-fn hold_on<H: Hall>(
+fn cached_directory_on<H: Hall>(
     alloc: Global,
     hall: &mut H,
     vol: &mut Vol,
-    known: &mut Known,
+    known: &mut PackCache,
     dsn: &Dsn,
 ) -> Result<Option<usize>, ReadErr>
     requires unit { IsOfUnit (H.facts hall.old).units vol.old }
@@ -107,7 +96,7 @@ fn hold_on<H: Hall>(
         return Ok(None);
     };
     match kind_in(known, &set) {
-        Kind::Part => match hold_part(alloc, hall, vol, known, slot, &set) {
+        Kind::Part => match cached_directory_of(alloc, hall, vol, known, slot, &set) {
             Ok(at) => Ok(Some(at)),
             Err(error) => Err(error),
         },
@@ -117,11 +106,11 @@ fn hold_on<H: Hall>(
 }
 
 // The same of a partitioned data set whose body can be read, by the slot of its format 1.
-fn hold_part<H: Hall>(
+fn cached_directory_of<H: Hall>(
     alloc: Global,
     hall: &mut H,
     vol: &mut Vol,
-    known: &mut Known,
+    known: &mut PackCache,
     slot: u32,
     set: &F1,
 ) -> Result<usize, ReadErr>
@@ -153,7 +142,7 @@ fn hold_part<H: Hall>(
     if let Some(at) = place_of(&known.libraries, start) {
         return Ok(at);
     }
-    match read_library(alloc, hall, vol, &mut known.buf, slot, set, start) {
+    match read_directory(alloc, hall, vol, &mut known.buf, slot, set, start) {
         Ok(library) => add(&mut known.libraries, library),
         Err(error) => Err(error),
     }
@@ -181,11 +170,11 @@ fn add(libraries: &mut Vec<Library>, library: Library) -> Result<usize, ReadErr>
 }
 
 // Takes the library of a partitioned data set, whose format 1 stands in this slot, out of those that are held, or reads it.
-pub(crate) fn take_library<H: Hall>(
+pub(crate) fn lend_library<H: Hall>(
     alloc: Global,
     hall: &mut H,
     vol: &mut Vol,
-    known: &mut Known,
+    known: &mut PackCache,
     slot: u32,
     set: &F1,
 ) -> Result<Library, StoreErr>
@@ -216,7 +205,7 @@ pub(crate) fn take_library<H: Hall>(
     if let Some(library) = take(&mut known.libraries, start) {
         return Ok(library);
     }
-    match read_library(alloc, hall, vol, &mut known.buf, slot, set, start) {
+    match read_directory(alloc, hall, vol, &mut known.buf, slot, set, start) {
         Ok(library) => Ok(library),
         Err(ReadErr::Memory) => Err(StoreErr::Memory),
         Err(ReadErr::Device) => Err(StoreErr::Device),
@@ -248,7 +237,7 @@ pub(crate) fn keep(libraries: &mut Vec<Library>, library: Library)
 
 // Reads the directory of a partitioned data set that begins on a track, whose format 1 stands in this slot. The buffer holds
 // no track then.
-fn read_library<H: Hall>(
+fn read_directory<H: Hall>(
     alloc: Global,
     hall: &mut H,
     vol: &mut Vol,
@@ -316,7 +305,7 @@ fn library_from(alloc: Global, read: Result<Dir, ReadErr>, start: u16) -> Result
 pub(crate) fn end_of<H: Hall>(
     hall: &mut H,
     vol: &mut Vol,
-    known: &mut Known,
+    known: &mut PackCache,
     set: &F1,
 ) -> Result<Place, Device>
     requires unit { IsOfUnit (H.facts hall.old).units vol.old }
@@ -392,7 +381,7 @@ fn is_vacant(library: &Library, set: &F1) -> bool
 }
 
 // The library of a number, of those that are held of the pack of this number.
-fn library_at(known: &Vec<Known>, v: u8, at: usize) -> Option<&Library>
+fn library_at(known: &Vec<PackCache>, v: u8, at: usize) -> Option<&Library>
     ensures { option_copied result ≡ library_at known.now.items v at }
 {
     match known.get(usize::from(v)) {
@@ -402,7 +391,7 @@ fn library_at(known: &Vec<Known>, v: u8, at: usize) -> Option<&Library>
 }
 
 // The number of its blocks; 0 where there is none.
-fn blocks_at(known: &Vec<Known>, v: u8, at: usize) -> u32
+fn blocks_at(known: &Vec<PackCache>, v: u8, at: usize) -> u32
     ensures { result ≡ size_held (library_at known.now.items v at) }
 {
     match library_at(known, v, at) {
@@ -412,7 +401,7 @@ fn blocks_at(known: &Vec<Known>, v: u8, at: usize) -> u32
 }
 
 // Its entries; none where there is none.
-fn entries_at(known: &Vec<Known>, v: u8, at: usize) -> &[DirEntry]
+fn entries_at(known: &Vec<PackCache>, v: u8, at: usize) -> &[DirEntry]
     ensures entries { result.now ≡ entries_held (library_at known.now.items v at) }
     ensures lawful { AllByRecursion IsLawfulEntry result.now }
 {
@@ -426,7 +415,7 @@ fn entries_at(known: &Vec<Known>, v: u8, at: usize) -> &[DirEntry]
 // hold it.
 pub(crate) fn size_of(
     held: Result<Option<usize>, ReadErr>,
-    known: &Vec<Known>,
+    known: &Vec<PackCache>,
     v: u8,
 ) -> Result<u32, WorkErr>
     ensures size { IfOk result (λ size. size
@@ -447,7 +436,7 @@ pub(crate) fn size_of(
 // The entry of this name in the library of a number, of those that are held of the pack of this number.
 pub(crate) fn entry_named(
     alloc: Global,
-    known: &Vec<Known>,
+    known: &Vec<PackCache>,
     v: u8,
     at: usize,
     name: &Name8,
@@ -467,7 +456,7 @@ pub(crate) fn entry_named(
 // The k-th entry in it.
 pub(crate) fn entry_at(
     alloc: Global,
-    known: &Vec<Known>,
+    known: &Vec<PackCache>,
     v: u8,
     at: usize,
     k: u32,

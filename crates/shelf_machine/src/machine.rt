@@ -3,17 +3,17 @@ ghost use Rattle.std.specs.Prelude.{◌≡◌, true, false, IsTrue, refl};
 ghost use Rattle.stop_model.specs.Moments.{IsDurable};
 ghost use Rattle.stop_model.proofs.MomentLemmas.{counts_now_seen, only_now_seen};
 ghost use Rattle.shelf_machine.specs.Props.{shelf_props};
-ghost use Rattle.shelf_machine.specs.Known.{AreHeld, HaveBuffers, KnowsBodies};
-ghost use Rattle.shelf_machine.specs.Machine.{AreInOrder, AreIndexes, AreKept, shelf_under, units_of};
-ghost use Rattle.shelf_machine.specs.Opening.{names_of};
+ghost use Rattle.shelf_machine.specs.Known.{HaveBuffers};
+ghost use Rattle.shelf_machine.specs.Machine.{AreIndexes, shelf_under};
 ghost use Rattle.shelf_machine.specs.Pending.{HasSlot, IsPendingBy};
+ghost use Rattle.shelf_machine.specs.Ready.{AreReady};
 
+use crate::area_start::{AreaStart, NO_AREA_START, area_start_of};
 use crate::committing::{close_writer, left_of};
-use crate::front::{Front, NO_FRONT, front_of};
-use crate::known::{Known, follow};
-use crate::libraries::{entry_at, entry_named, hold_library, size_of};
+use crate::libraries::{cached_directory, entry_at, entry_named, size_of};
 use crate::open_err::OpenErr;
 use crate::opening::open_packs;
+use crate::pack_cache::PackCache;
 use crate::puts::put_block;
 use crate::reporting::{
     fault, is_sound_block, is_sound_closed, is_sound_front, is_sound_held, is_sound_into,
@@ -41,29 +41,23 @@ use vtoc_index::Vol;
 pub struct HallShelf<H: Hall> {
     hall: H,
     vols: Vec<Vol>,
-    known: Vec<Known>,
+    known: Vec<PackCache>,
     is_sound: bool,
     done: u64,
     writer: Option<Writer>,
     alloc: Global,
     pub ghost indexes: { AreIndexes (H.facts hall).units vols.items } by { Prim.hlevel shelf_props },
-    pub ghost order: { is_sound ≡ true → AreInOrder vols.items } by { Prim.hlevel shelf_props },
-    pub ghost kept: { is_sound ≡ true → IsTrue H.tells
-        → AreKept (H.meaning hall).state (H.facts hall).units vols.items } by { Prim.hlevel shelf_props },
+    pub ghost ready: { is_sound ≡ true → AreReady H.tells (H.facts hall) (H.meaning hall)
+        vols.items known.items } by { Prim.hlevel shelf_props },
     pub ghost slot: { is_sound ≡ true → HasSlot vols.items writer } by { Prim.hlevel shelf_props },
     pub ghost pending: { is_sound ≡ true → IsTrue H.tells → IsPendingBy (H.meaning hall)
         (H.facts hall).units vols.items writer } by { Prim.hlevel shelf_props },
     pub ghost buffers: { HaveBuffers vols.items known.items } by { Prim.hlevel shelf_props },
-    pub ghost bodies: { is_sound ≡ true → IsTrue H.tells → KnowsBodies
-        (shelf_under (names_of (H.facts hall).units (units_of vols.items)) (H.meaning hall).state)
-        known.items } by { Prim.hlevel shelf_props },
-    pub ghost held: { is_sound ≡ true → IsTrue H.tells
-        → AreHeld (H.meaning hall).state (H.facts hall).units vols.items known.items } by { Prim.hlevel shelf_props },
 }
 
 impl<H: Hall> HallShelf<H> {
     ghost use Rattle.std.specs.Prelude.{◌<◌, ◌⊎◌, None, IfOk, IfErr, IsErrOf, OnOk, length};
-    ghost use Rattle.shelf_machine.specs.Opening.{AreUnits, LeavesSafe};
+    ghost use Rattle.shelf_machine.specs.Opening.{AreUnits, LeavesSafe, names_of};
     ghost use Rattle.shelf_machine.specs.Opened.{IsOpened, LeavesSettled, OpenCall, OpensShelf, RefusesShelf, hall_left};
     ghost use Rattle.stop_model.specs.Moments.{Same};
     ghost use Rattle.vol_model.specs.Calls.{Applies, CountsOne, Idles, IsIdle, IsUndone, Keeps, MachineCall, ReadCall, open_at_ok};
@@ -136,7 +130,7 @@ impl<H: Hall> HallShelf<H> {
         ensures faults { ReadCall ReadErr.Device (status_of self.old) (status_of self.new) result }
     {
         let hall = &mut self.hall;
-        let held = hold_library(self.alloc, hall, &mut self.vols, &mut self.known, v, dsn);
+        let held = cached_directory(self.alloc, hall, &mut self.vols, &mut self.known, v, dsn);
         self.is_sound = is_sound_held(&held);
         held
     }
@@ -161,7 +155,7 @@ impl<H: Hall> HallShelf<H> {
     }
 
     // Reads where the blocks begin that are written to a data set.
-    fn front(&mut self, v: u8, dsn: &Dsn, mode: Mode) -> Result<Front, MachErr>
+    fn front(&mut self, v: u8, dsn: &Dsn, mode: Mode) -> Result<AreaStart, MachErr>
         requires sound { IsTrue (is_sound self.old) }
         ensures front { IsTrue H.tells → IfOk result (λ front. IsFrontIn mode front
             (body_on (meaning_of self.old).state v dsn.now.bytes)) }
@@ -172,16 +166,16 @@ impl<H: Hall> HallShelf<H> {
         ensures faults { ReadCall MachErr.Device (status_of self.old) (status_of self.new) result }
     {
         let Mode::Area = mode else {
-            return Ok(NO_FRONT);
+            return Ok(NO_AREA_START);
         };
         let hall = &mut self.hall;
-        let front = front_of(hall, &mut self.vols, &mut self.known, v, dsn);
+        let front = area_start_of(hall, &mut self.vols, &mut self.known, v, dsn);
         self.is_sound = is_sound_front(&front);
         front
     }
 
     // Opens a writer that begins so.
-    fn start(&mut self, v: u8, dsn: &Dsn, mode: Mode, front: Front) -> Result<(), MachErr>
+    fn start(&mut self, v: u8, dsn: &Dsn, mode: Mode, front: AreaStart) -> Result<(), MachErr>
         requires sound { IsTrue (is_sound self.old) }
         requires well { IsTrue H.tells → begin_refusal (meaning_of self.old).state
             (record { v = v; dsn = dsn.now; mode = mode }) ≡ None }
@@ -230,7 +224,6 @@ impl<H: Hall> HallShelf<H> {
             &mut self.writer,
             op,
         );
-        follow(&mut self.known, op, ran.is_ok());
         report(&mut self.is_sound, &mut self.done, ran)
     }
 }
@@ -258,7 +251,7 @@ impl<H: Hall> Machine for HallShelf<H> {
 
     ghost lawful = { λ m told sound. lawful_under (H.meaning m.hall).state (H.facts m.hall).units m.vols.items m.indexes.few };
 
-    ghost durable = { λ m told sound. pending_durable (H.meaning m.hall) (H.facts m.hall).units m.vols.items m.writer (m.kept sound told) (m.slot sound) (m.pending sound told) };
+    ghost durable = { λ m told sound. pending_durable (H.meaning m.hall) (H.facts m.hall).units m.vols.items m.writer ((m.ready sound).kept told) (m.slot sound) (m.pending sound told) };
 
     ghost leaves_state = { λ m told. ((H.meaning m.hall).state, H.leaves_state m.hall, refl) };
 

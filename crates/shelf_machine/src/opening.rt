@@ -14,8 +14,8 @@ ghost use Rattle.shelf_machine.specs.Machine.{AreIndexes, AreInOrder, serials_of
 ghost use Rattle.shelf_machine.specs.Opening.{AreApart, AreUnits, LeavesSafe, names_of};
 ghost use Rattle.shelf_machine.specs.Packs.{AreKnown, AreOfSamePacks, AreOpened, AreScanned, AreScansOf, RefusesImages, RepairsAll, StopCall, StopsAtTwice, indexes_of};
 
-use crate::known::{Known, Packs};
-use crate::stopped::Stopped;
+use crate::open_failure::OpenFailure;
+use crate::pack_cache::{PackCache, Packs};
 use crate::unread::unread_of;
 use ebcdic_names::Serial;
 use hall_core::Hall;
@@ -31,7 +31,7 @@ pub(crate) fn open_packs<H: Hall>(
     alloc: Global,
     hall: &mut H,
     units: &[u8],
-) -> Result<Packs, Stopped>
+) -> Result<Packs, OpenFailure>
     requires units { AreUnits (H.facts hall.old).units units.now }
     requires durable { IsTrue H.tells → IsDurable (H.meaning hall.old) }
     ensures opened { IfOk result (λ packs. AreOpened (H.facts hall.old).units units.now
@@ -65,7 +65,7 @@ pub(crate) fn open_packs<H: Hall>(
 }
 
 // The scans of the packs on units, in order.
-fn scan_all<H: Hall>(alloc: Global, hall: &mut H, units: &[u8]) -> Result<Vec<Scan>, Stopped>
+fn scan_all<H: Hall>(alloc: Global, hall: &mut H, units: &[u8]) -> Result<Vec<Scan>, OpenFailure>
     requires units { AreUnits (H.facts hall.old).units units.now }
     ensures scanned { IfOk result (λ scans. AreScanned (H.facts hall.old).units units.now scans.items) }
     ensures images { IsTrue H.tells → IfOk result (λ scans. AreScansOf (H.meaning hall.old).state
@@ -85,7 +85,7 @@ fn scan_all<H: Hall>(alloc: Global, hall: &mut H, units: &[u8]) -> Result<Vec<Sc
 }
 
 // The scan of the pack on a unit.
-fn scan_pack<H: Hall>(alloc: Global, hall: &mut H, unit: u8) -> Result<Scan, Stopped>
+fn scan_pack<H: Hall>(alloc: Global, hall: &mut H, unit: u8) -> Result<Scan, OpenFailure>
     requires { unit < length (H.facts hall.old).units }
     ensures image { let image = image_in (H.meaning hall.old) (H.facts hall.old) unit in
         IsTrue H.tells → IfOk result (IsScanOf image) }
@@ -99,12 +99,12 @@ fn scan_pack<H: Hall>(alloc: Global, hall: &mut H, unit: u8) -> Result<Scan, Sto
 {
     match scan(alloc, hall, unit) {
         Ok(scanned) => Ok(scanned),
-        Err(why) => Err(Stopped { unit, why }),
+        Err(why) => Err(OpenFailure { unit, why }),
     }
 }
 
 // Puts an item behind the others; the unit is that of its pack.
-fn push<T: Drop>(items: &mut Vec<T>, item: T, unit: u8) -> Result<(), Stopped>
+fn push<T: Drop>(items: &mut Vec<T>, item: T, unit: u8) -> Result<(), OpenFailure>
     ensures done { OnOk result (items.new.items ≡ items.old.items ++ item ∷ []) }
     ensures memory { IfErr result (λ s. s.why ≡ MountErr.Memory) }
     ensures place { IfErr result (λ s. s.unit ≡ unit) }
@@ -116,7 +116,7 @@ fn push<T: Drop>(items: &mut Vec<T>, item: T, unit: u8) -> Result<(), Stopped>
 }
 
 // The lowest pack whose serial an earlier one has, with the lowest of these.
-fn same_serial(scans: &[Scan]) -> Option<Stopped>
+fn same_serial(scans: &[Scan]) -> Option<OpenFailure>
     requires { length scans.now ≤ 255 }
     ensures found { IfSome result (StopsAtTwice (serials_of (indexes_of scans.now))) }
     ensures unit { IfSome result (λ s. s.unit < length scans.now) }
@@ -126,7 +126,7 @@ fn same_serial(scans: &[Scan]) -> Option<Stopped>
         if let Some(other) = place_of(&scans[..k], &scans[k].vol.serial) {
             let unit = k as u8;
             let other = other as u8;
-            return Some(Stopped {
+            return Some(OpenFailure {
                 unit,
                 why: MountErr::SameSerial { unit, other },
             });
@@ -151,7 +151,7 @@ fn has_serial(scanned: &Scan, serial: &Serial) -> bool
 }
 
 // What is known of the bodies on packs that were scanned.
-fn know_all(alloc: Global, scans: &[Scan]) -> Result<Vec<Known>, Stopped>
+fn know_all(alloc: Global, scans: &[Scan]) -> Result<Vec<PackCache>, OpenFailure>
     ensures known { IfOk result (λ known. AreKnown scans.now known.items) }
     ensures memory { IfErr result (λ s. s.why ≡ MountErr.Memory) }
     ensures unit { IfErr result (λ s. Contains (units_of (indexes_of scans.now)) s.unit) }
@@ -164,8 +164,8 @@ fn know_all(alloc: Global, scans: &[Scan]) -> Result<Vec<Known>, Stopped>
 }
 
 // Puts what is known of a pack that was scanned behind the others.
-fn add_known(alloc: Global, known: &mut Vec<Known>, scanned: &Scan) -> Result<(), Stopped>
-    ensures known { OnOk result ((b : Known) × (known.new.items ≡ known.old.items ++ b ∷ [])
+fn add_known(alloc: Global, known: &mut Vec<PackCache>, scanned: &Scan) -> Result<(), OpenFailure>
+    ensures known { OnOk result ((b : PackCache) × (known.new.items ≡ known.old.items ++ b ∷ [])
         × IsFresh b × (b.buf.records.geometry ≡ scanned.now.vol.geometry)
         × (b.unread.items ≡ unread_in scanned.now.volume.items)) }
     ensures memory { IfErr result (λ s. s.why ≡ MountErr.Memory) }
@@ -178,14 +178,14 @@ fn add_known(alloc: Global, known: &mut Vec<Known>, scanned: &Scan) -> Result<()
 }
 
 // What is known of the bodies on a pack that was scanned: no track is held, and no library.
-fn known_of(alloc: Global, scanned: &Scan) -> Result<Known, AllocError>
+fn known_of(alloc: Global, scanned: &Scan) -> Result<PackCache, AllocError>
     ensures unread { IfOk result (λ b. b.unread.items ≡ unread_in scanned.now.volume.items) }
     ensures buffer { IfOk result (λ b. b.buf.records.geometry ≡ scanned.now.vol.geometry) }
     ensures fresh { IfOk result IsFresh }
 {
     let unread = unread_of(alloc, &scanned.volume)?;
     let buf = ReadBuf::new(alloc, &scanned.vol.geometry)?;
-    Ok(Known {
+    Ok(PackCache {
         unread,
         buf,
         libraries: Vec::new(alloc),
@@ -193,17 +193,17 @@ fn known_of(alloc: Global, scanned: &Scan) -> Result<Known, AllocError>
 }
 
 // Memory ran out at the pack on a unit.
-fn no_memory(unit: u8) -> Stopped
+fn no_memory(unit: u8) -> OpenFailure
     ensures { result ≡ record { unit = unit; why = MountErr.Memory } }
 {
-    Stopped {
+    OpenFailure {
         unit,
         why: MountErr::Memory,
     }
 }
 
 // Room for the indexes of packs that were scanned.
-fn room_for(alloc: Global, scans: &[Scan]) -> Result<Vec<Vol>, Stopped>
+fn room_for(alloc: Global, scans: &[Scan]) -> Result<Vec<Vol>, OpenFailure>
     ensures room { IfOk result (λ vols. (vols.items ≡ []) × (length scans.now ≤ vec_capacity vols)) }
     ensures memory { IfErr result (λ s. s.why ≡ MountErr.Memory) }
     ensures unit { IfErr result (λ s. Contains (units_of (indexes_of scans.now)) s.unit) }
@@ -222,8 +222,8 @@ fn repair_all<H: Hall>(
     hall: &mut H,
     scans: Vec<Scan>,
     vols: &mut Vec<Vol>,
-    known: &mut Vec<Known>,
-) -> Result<(), Stopped>
+    known: &mut Vec<PackCache>,
+) -> Result<(), OpenFailure>
     requires indexes { AreIndexes (H.facts hall.old).units (indexes_of scans.items) }
     requires order { AreInOrder (indexes_of scans.items) }
     requires scanned { (k : ℕ) (s : Scan) → slice_get scans.items k ≡ Some s
@@ -255,7 +255,7 @@ fn repair_all<H: Hall>(
 }
 
 // Holds these libraries of the pack of a number, if something is known of it.
-fn hold(known: &mut Vec<Known>, k: usize, libraries: Vec<Library>)
+fn hold(known: &mut Vec<PackCache>, k: usize, libraries: Vec<Library>)
     ensures { HoldsOn k libraries.items known.old.items known.new.items }
 {
     if let Some(pack) = known.get_mut(k) {
@@ -264,7 +264,7 @@ fn hold(known: &mut Vec<Known>, k: usize, libraries: Vec<Library>)
 }
 
 // Repairs a pack that was scanned, unless it is settled: then nothing is called.
-fn repair_pack<H: Hall>(hall: &mut H, scanned: Scan) -> Result<Scan, Stopped>
+fn repair_pack<H: Hall>(hall: &mut H, scanned: Scan) -> Result<Scan, OpenFailure>
     requires unit { IsScanOn (H.facts hall.old).units scanned.vol.unit scanned }
     requires scan { let image = image_in (H.meaning hall.old) (H.facts hall.old) scanned.vol.unit in
         IsTrue H.tells → IsScanOf image scanned }
@@ -282,7 +282,7 @@ fn repair_pack<H: Hall>(hall: &mut H, scanned: Scan) -> Result<Scan, Stopped>
     let unit = scanned.vol.unit;
     match repair(hall, scanned) {
         Ok(repaired) => Ok(repaired),
-        Err(_) => Err(Stopped {
+        Err(_) => Err(OpenFailure {
             unit,
             why: MountErr::Device,
         }),

@@ -1,147 +1,154 @@
 //! Operations on the packs of a shelf.
-ghost use Rattle.std.specs.Prelude.{◌≡◌, ◌≤◌, ◌<◌, ◌^◌, ℕ, List, false, true, slice_get, IsErrOf, IsTrue, OnErr, OnOk, Some};
+ghost use Rattle.std.specs.Prelude.{◌≡◌, ◌≤◌, ◌<◌, ◌^◌, ℕ, List, false, slice_get, IsErrOf, IsTrue, OnErr, OnOk, Some};
 ghost use Rattle.hall_core.specs.Facts.{Attached, unit_of};
 ghost use Rattle.hall_core.specs.Images.{image_in};
 ghost use Rattle.vol_model.specs.Lawful.{IsLawfulOp};
-ghost use Rattle.vol_model.specs.Shelf.{allocate_on, empty_on, extend_on, is_catalog, scratch_on};
+ghost use Rattle.vol_model.specs.Shelf.{allocate_on, empty_on, extend_on, is_catalog, rename_on, scratch_on, step_on, volume_number};
 ghost use Rattle.vol_model.specs.declared.refusals.Refusal.{Refusal};
+ghost use Rattle.vol_model.specs.declared.requests.Op.{Op};
 ghost use Rattle.vtoc_index.specs.Index.{IsMounted, IsOfUnit};
 ghost use Rattle.vtoc_index.specs.Names.{AreByName, name_at};
 ghost use Rattle.pack_spec.specs.Settled.{IsSettledVtoc};
 ghost use Rattle.pack_spec.specs.Volume.{volume_of};
 ghost use Rattle.stop_model.specs.Moments.{IsDurable};
-ghost use Rattle.vol_model.specs.Calls.{IsUndone, sound_after};
+ghost use Rattle.vol_model.specs.Calls.{IsUndone};
 ghost use Rattle.dadsm_ops.specs.Allocating.{HasDirectory, InNewSet, new_tracks};
 ghost use Rattle.dadsm_ops.specs.Operations.{InVtoc, Operates, StoreCall, image_named};
 ghost use Rattle.vtoc_sets.specs.Sets.{volume_in};
-ghost use Rattle.shelf_machine.specs.Known.{AreHeld, HaveBuffers, HoldLibraries, IsServed, KeepsLists, KnowsBodies, ListsBroken, geometries_of};
-ghost use Rattle.shelf_machine.specs.Machine.{AreIndexes, AreInOrder, AreKept, HasRoom, base_of, shelf_under, units_of};
+ghost use Rattle.shelf_machine.specs.Known.{HoldLibraries, ListsBroken};
+ghost use Rattle.shelf_machine.specs.Machine.{HasRoom};
 ghost use Rattle.shelf_machine.specs.NewSets.{first_track, without_first};
-ghost use Rattle.shelf_machine.specs.Opening.{names_of};
-ghost use Rattle.shelf_machine.specs.Operating.{IsRoomed, IsSamePack, OperatesOnShelf};
+ghost use Rattle.shelf_machine.specs.Operating.{IsRoomed, IsSamePack};
+ghost use Rattle.shelf_machine.specs.Ready.{AreReady, IsReady, Leaves, LeavesPacks};
 ghost use Rattle.shelf_machine.specs.Reporting.{reported};
 
 use crate::entries::{drop_on, enter_on};
-use crate::known::{Known, forget_on};
+use crate::pack_cache::PackCache;
 use crate::refusals::{slot_of, slot_to_empty, slot_to_extend};
+use crate::unread::{forget, rename as rename_unread};
 use dadsm_ops::{allocate, empty, extend, rename, scratch};
 use ebcdic_names::Dsn;
 use hall_core::{Device, Hall};
-use pds_directory::track_at;
 use std::alloc::Global;
 use vol_model::{Attr, Op, Refusal, Request, StoreErr, is_catalog};
 use vtoc_index::{Vol, find};
+use vtoc_sets::track_at;
 
-// Does an operation on one of the packs. Each that isn't done yet wants memory, before anything is called.
+// Does an operation on one of the packs.
 pub(crate) fn operate<H: Hall>(
     alloc: Global,
     hall: &mut H,
     vols: &mut Vec<Vol>,
-    known: &mut Vec<Known>,
+    known: &mut Vec<PackCache>,
     op: &Op,
 ) -> Result<(), StoreErr>
-    requires indexes { AreIndexes (H.facts hall.old).units vols.old.items }
-    requires order { AreInOrder vols.old.items }
-    requires kept { IsTrue H.tells
-        → AreKept (H.meaning hall.old).state (H.facts hall.old).units vols.old.items }
+    requires ready { AreReady H.tells (H.facts hall.old) (H.meaning hall.old)
+        vols.old.items known.old.items }
     requires durable { IsTrue H.tells → IsDurable (H.meaning hall.old) }
     requires lawful { IsLawfulOp op.now }
-    requires buffers { HaveBuffers vols.old.items known.old.items }
-    requires bodies { IsTrue H.tells → KnowsBodies
-        (shelf_under (names_of (H.facts hall.old).units (units_of vols.old.items)) (H.meaning hall.old).state)
-        known.old.items }
-    requires held { IsTrue H.tells → AreHeld (H.meaning hall.old).state
-        (H.facts hall.old).units vols.old.items known.old.items }
-    ensures shelf { let names = names_of (H.facts hall.old).units (units_of vols.old.items) in
-        let names' = names_of (H.facts hall.new).units (units_of vols.new.items) in
-        IsTrue H.tells → OperatesOnShelf op.now names names' (H.facts hall.new).units
-        vols.old.items vols.new.items (H.meaning hall.old) (H.meaning hall.new) result }
-    ensures indexes { AreIndexes (H.facts hall.new).units vols.new.items }
-    ensures order { sound_after (reported result) ≡ true → AreInOrder vols.new.items }
-    ensures base { base_of (H.facts hall.new) vols.new.items
-        ≡ base_of (H.facts hall.old) vols.old.items }
-    ensures geometries { geometries_of vols.new.items ≡ geometries_of vols.old.items }
-    ensures served { OnOk result (IsServed op.now) }
-    ensures held { IsTrue H.tells → sound_after (reported result) ≡ true → AreHeld (H.meaning hall.new).state
-        (H.facts hall.new).units vols.new.items known.new.items }
-    ensures known { KeepsLists known.old.items known.new.items }
-    ensures faults { StoreCall (H.facts hall.old) (H.facts hall.new) result }
+    ensures leaves { LeavesPacks H.tells op.now (H.facts hall.old) (H.facts hall.new)
+        (H.meaning hall.old) (H.meaning hall.new) vols.old.items vols.new.items
+        known.old.items known.new.items result }
+{
+    let k = usize::from(number_of(op));
+    if k >= vols.len() {
+        return Err(StoreErr::Refused(Refusal::NoVolume));
+    }
+    operate_pack(alloc, hall, &mut vols[k], &mut known[k], op)
+}
+
+// Does an operation on a pack. One on the catalog, which isn't kept yet, answers `Memory`.
+#[tactic(auto, unfolding(vol_model::specs::Shelf::step_on))]
+fn operate_pack<H: Hall>(
+    alloc: Global,
+    hall: &mut H,
+    vol: &mut Vol,
+    known: &mut PackCache,
+    op: &Op,
+) -> Result<(), StoreErr>
+    requires ready { IsReady H.tells (H.facts hall.old) (H.meaning hall.old) vol.old known.old }
+    requires durable { IsTrue H.tells → IsDurable (H.meaning hall.old) }
+    requires lawful { IsLawfulOp op.now }
+    ensures leaves { Leaves H.tells (step_on op.now)
+        (H.facts hall.old) (H.facts hall.new) (H.meaning hall.old) (H.meaning hall.new)
+        vol.old vol.new known.old known.new result }
 {
     match op {
         Op::Allocate {
-            v,
             dsn,
             attr,
             request,
             dir,
-        } => allocate_on(hall, vols, known, *v, dsn, attr, request, *dir),
-        Op::Rename { v, old, new } => rename_on(hall, vols, known, *v, old, new),
-        Op::Scratch { v, dsn } => scratch_on(hall, vols, known, *v, dsn),
-        Op::Extend { v, dsn } => extend_on(hall, vols, known, *v, dsn),
-        Op::Empty { v, dsn, attr } => empty_on(hall, vols, known, *v, dsn, attr),
+            ..
+        } => allocate_on(hall, vol, known, dsn, attr, request, *dir),
+        Op::Rename { old, new, .. } => rename_on(hall, vol, known, old, new),
+        Op::Scratch { dsn, .. } => scratch_on(hall, vol, known, dsn),
+        Op::Extend { dsn, .. } => extend_on(hall, vol, known, dsn),
+        Op::Empty { dsn, attr, .. } => empty_on(hall, vol, known, dsn, attr),
         Op::Enter {
-            v,
             dsn,
             entry,
             replace,
-        } => enter_on(alloc, hall, vols, known, *v, dsn, entry, *replace),
-        Op::Drop { v, dsn, name } => drop_on(alloc, hall, vols, known, *v, dsn, name),
+            ..
+        } => enter_on(alloc, hall, vol, known, dsn, entry, *replace),
+        Op::Drop { dsn, name, .. } => drop_on(alloc, hall, vol, known, dsn, name),
         _ => Err(StoreErr::Memory),
     }
 }
 
-// Makes a data set on the pack of this number. The catalog wants memory yet.
+// The number of the volume that an operation is on.
+fn number_of(op: &Op) -> u8
+    ensures { result ≡ volume_number op.now }
+{
+    match op {
+        Op::Allocate { v, .. }
+        | Op::Extend { v, .. }
+        | Op::Scratch { v, .. }
+        | Op::Rename { v, .. }
+        | Op::Empty { v, .. }
+        | Op::Fill { v, .. }
+        | Op::Area { v, .. }
+        | Op::Enter { v, .. }
+        | Op::Drop { v, .. }
+        | Op::BuildIndex { v, .. }
+        | Op::BuildGroup { v, .. }
+        | Op::DropNode { v, .. }
+        | Op::Catalog { v, .. }
+        | Op::Uncatalog { v, .. }
+        | Op::Alias { v, .. } => *v,
+    }
+}
+
+// Makes a data set on a pack. A SYSCTLG, whose catalog isn't kept yet, answers `Memory`.
 fn allocate_on<H: Hall>(
     hall: &mut H,
-    vols: &mut Vec<Vol>,
-    known: &mut Vec<Known>,
-    v: u8,
+    vol: &mut Vol,
+    known: &mut PackCache,
     dsn: &Dsn,
     attr: &Attr,
     request: &Request,
     dir: u32,
 ) -> Result<(), StoreErr>
-    requires indexes { AreIndexes (H.facts hall.old).units vols.old.items }
-    requires order { AreInOrder vols.old.items }
-    requires kept { IsTrue H.tells
-        → AreKept (H.meaning hall.old).state (H.facts hall.old).units vols.old.items }
+    requires ready { IsReady H.tells (H.facts hall.old) (H.meaning hall.old) vol.old known.old }
     requires durable { IsTrue H.tells → IsDurable (H.meaning hall.old) }
     requires dir { dir ≤ 2000 }
     requires quantities { request.now.secondary < 2 ^ 24 }
-    requires buffers { HaveBuffers vols.old.items known.old.items }
-    requires held { IsTrue H.tells → AreHeld (H.meaning hall.old).state
-        (H.facts hall.old).units vols.old.items known.old.items }
-    ensures shelf { let names = names_of (H.facts hall.old).units (units_of vols.old.items) in
-        let names' = names_of (H.facts hall.new).units (units_of vols.new.items) in
-        IsTrue H.tells → OperatesOnShelf (Op.Allocate v dsn.now attr.now request.now dir) names names'
-        (H.facts hall.new).units vols.old.items vols.new.items (H.meaning hall.old)
-        (H.meaning hall.new) result }
-    ensures indexes { AreIndexes (H.facts hall.new).units vols.new.items }
-    ensures order { sound_after (reported result) ≡ true → AreInOrder vols.new.items }
-    ensures base { base_of (H.facts hall.new) vols.new.items
-        ≡ base_of (H.facts hall.old) vols.old.items }
-    ensures geometries { geometries_of vols.new.items ≡ geometries_of vols.old.items }
-    ensures held { IsTrue H.tells → sound_after (reported result) ≡ true → AreHeld (H.meaning hall.new).state
-        (H.facts hall.new).units vols.new.items known.new.items }
-    ensures known { KeepsLists known.old.items known.new.items }
-    ensures faults { StoreCall (H.facts hall.old) (H.facts hall.new) result }
+    ensures leaves { Leaves H.tells (allocate_on dsn.now attr.now request.now dir)
+        (H.facts hall.old) (H.facts hall.new) (H.meaning hall.old) (H.meaning hall.new)
+        vol.old vol.new known.old known.new result }
 {
-    let k = usize::from(v);
-    if k >= vols.len() {
-        return Err(StoreErr::Refused(Refusal::NoVolume));
-    }
     if is_catalog(dsn) {
         return Err(StoreErr::Memory);
     }
-    forget_on(known, k);
-    allocate_set(hall, &mut vols[k], &mut known[k], dsn, attr, request, dir)
+    known.buf.forget();
+    allocate_set(hall, vol, known, dsn, attr, request, dir)
 }
 
 // Makes a data set on a volume. A set that was scratched may have begun where it does.
 fn allocate_set<H: Hall>(
     hall: &mut H,
     vol: &mut Vol,
-    known: &mut Known,
+    known: &mut PackCache,
     dsn: &Dsn,
     attr: &Attr,
     request: &Request,
@@ -184,7 +191,7 @@ fn allocate_set<H: Hall>(
 }
 
 // Forgets the libraries of a pack that begin where its data set of this name does.
-fn forget_first(vol: &Vol, known: &mut Known, dsn: &Dsn)
+fn forget_first(vol: &Vol, known: &mut PackCache, dsn: &Dsn)
     requires unit { (units : List Attached) × IsOfUnit units vol.now }
     requires names { AreByName (name_at vol.now.slots.items) vol.now.by_name.items }
     ensures rest { known.new ≡ record known.old { libraries = known.new.libraries } }
@@ -200,83 +207,51 @@ fn forget_first(vol: &Vol, known: &mut Known, dsn: &Dsn)
     known.libraries.retain(|library| library.start != start);
 }
 
-// Gives a data set of the pack of this number another name.
+// Renames a data set of a pack.
 fn rename_on<H: Hall>(
     hall: &mut H,
-    vols: &mut Vec<Vol>,
-    known: &mut Vec<Known>,
-    v: u8,
+    vol: &mut Vol,
+    known: &mut PackCache,
     old: &Dsn,
     new: &Dsn,
 ) -> Result<(), StoreErr>
-    requires indexes { AreIndexes (H.facts hall.old).units vols.old.items }
-    requires order { AreInOrder vols.old.items }
-    requires kept { IsTrue H.tells
-        → AreKept (H.meaning hall.old).state (H.facts hall.old).units vols.old.items }
+    requires ready { IsReady H.tells (H.facts hall.old) (H.meaning hall.old) vol.old known.old }
     requires durable { IsTrue H.tells → IsDurable (H.meaning hall.old) }
-    requires buffers { HaveBuffers vols.old.items known.old.items }
-    requires held { IsTrue H.tells → AreHeld (H.meaning hall.old).state
-        (H.facts hall.old).units vols.old.items known.old.items }
-    ensures shelf { let names = names_of (H.facts hall.old).units (units_of vols.old.items) in
-        let names' = names_of (H.facts hall.new).units (units_of vols.new.items) in
-        IsTrue H.tells → OperatesOnShelf (Op.Rename v old.now new.now) names names'
-        (H.facts hall.new).units vols.old.items vols.new.items (H.meaning hall.old)
-        (H.meaning hall.new) result }
-    ensures indexes { AreIndexes (H.facts hall.new).units vols.new.items }
-    ensures order { sound_after (reported result) ≡ true → AreInOrder vols.new.items }
-    ensures base { base_of (H.facts hall.new) vols.new.items
-        ≡ base_of (H.facts hall.old) vols.old.items }
-    ensures geometries { geometries_of vols.new.items ≡ geometries_of vols.old.items }
-    ensures held { IsTrue H.tells → sound_after (reported result) ≡ true → AreHeld (H.meaning hall.new).state
-        (H.facts hall.new).units vols.new.items known.new.items }
-    ensures known { KeepsLists known.old.items known.new.items }
-    ensures faults { StoreCall (H.facts hall.old) (H.facts hall.new) result }
+    ensures leaves { Leaves H.tells (rename_on old.now new.now)
+        (H.facts hall.old) (H.facts hall.new) (H.meaning hall.old) (H.meaning hall.new)
+        vol.old vol.new known.old known.new result }
 {
-    let k = usize::from(v);
-    if k >= vols.len() {
-        return Err(StoreErr::Refused(Refusal::NoVolume));
+    known.buf.forget();
+    match rename(hall, vol, old, new) {
+        Ok(()) => {
+            rename_unread(&mut known.unread, old, new);
+            Ok(())
+        }
+        Err(error) => Err(error),
     }
-    forget_on(known, k);
-    rename(hall, &mut vols[k], old, new)
 }
 
-// Removes a data set of the pack of this number.
+// Removes a data set of a pack.
 fn scratch_on<H: Hall>(
     hall: &mut H,
-    vols: &mut Vec<Vol>,
-    known: &mut Vec<Known>,
-    v: u8,
+    vol: &mut Vol,
+    known: &mut PackCache,
     dsn: &Dsn,
 ) -> Result<(), StoreErr>
-    requires indexes { AreIndexes (H.facts hall.old).units vols.old.items }
-    requires order { AreInOrder vols.old.items }
-    requires kept { IsTrue H.tells
-        → AreKept (H.meaning hall.old).state (H.facts hall.old).units vols.old.items }
+    requires ready { IsReady H.tells (H.facts hall.old) (H.meaning hall.old) vol.old known.old }
     requires durable { IsTrue H.tells → IsDurable (H.meaning hall.old) }
-    requires buffers { HaveBuffers vols.old.items known.old.items }
-    requires held { IsTrue H.tells → AreHeld (H.meaning hall.old).state
-        (H.facts hall.old).units vols.old.items known.old.items }
-    ensures shelf { let names = names_of (H.facts hall.old).units (units_of vols.old.items) in
-        let names' = names_of (H.facts hall.new).units (units_of vols.new.items) in
-        IsTrue H.tells → OperatesOnShelf (Op.Scratch v dsn.now) names names'
-        (H.facts hall.new).units vols.old.items vols.new.items (H.meaning hall.old)
-        (H.meaning hall.new) result }
-    ensures indexes { AreIndexes (H.facts hall.new).units vols.new.items }
-    ensures order { sound_after (reported result) ≡ true → AreInOrder vols.new.items }
-    ensures base { base_of (H.facts hall.new) vols.new.items
-        ≡ base_of (H.facts hall.old) vols.old.items }
-    ensures geometries { geometries_of vols.new.items ≡ geometries_of vols.old.items }
-    ensures held { IsTrue H.tells → sound_after (reported result) ≡ true → AreHeld (H.meaning hall.new).state
-        (H.facts hall.new).units vols.new.items known.new.items }
-    ensures known { KeepsLists known.old.items known.new.items }
-    ensures faults { StoreCall (H.facts hall.old) (H.facts hall.new) result }
+    ensures leaves { Leaves H.tells (scratch_on dsn.now)
+        (H.facts hall.old) (H.facts hall.new) (H.meaning hall.old) (H.meaning hall.new)
+        vol.old vol.new known.old known.new result }
 {
-    let k = usize::from(v);
-    if k >= vols.len() {
-        return Err(StoreErr::Refused(Refusal::NoVolume));
+    known.buf.forget();
+    match scratch_set(hall, vol, dsn) {
+        Ok(()) => {
+            forget(&mut known.unread, dsn);
+            Ok(())
+        }
+        Err(error) => Err(error),
     }
-    forget_on(known, k);
-    scratch_set(hall, &mut vols[k], dsn)
 }
 
 // Removes a data set of a volume.
@@ -306,47 +281,22 @@ fn scratch_set<H: Hall>(hall: &mut H, vol: &mut Vol, dsn: &Dsn) -> Result<(), St
     }
 }
 
-// Empties a data set of the pack of this number.
+// Empties a data set of a pack.
 fn empty_on<H: Hall>(
     hall: &mut H,
-    vols: &mut Vec<Vol>,
-    known: &mut Vec<Known>,
-    v: u8,
+    vol: &mut Vol,
+    known: &mut PackCache,
     dsn: &Dsn,
     attr: &Attr,
 ) -> Result<(), StoreErr>
-    requires indexes { AreIndexes (H.facts hall.old).units vols.old.items }
-    requires order { AreInOrder vols.old.items }
-    requires kept { IsTrue H.tells
-        → AreKept (H.meaning hall.old).state (H.facts hall.old).units vols.old.items }
+    requires ready { IsReady H.tells (H.facts hall.old) (H.meaning hall.old) vol.old known.old }
     requires durable { IsTrue H.tells → IsDurable (H.meaning hall.old) }
-    requires buffers { HaveBuffers vols.old.items known.old.items }
-    requires bodies { IsTrue H.tells → KnowsBodies
-        (shelf_under (names_of (H.facts hall.old).units (units_of vols.old.items)) (H.meaning hall.old).state)
-        known.old.items }
-    requires held { IsTrue H.tells → AreHeld (H.meaning hall.old).state
-        (H.facts hall.old).units vols.old.items known.old.items }
-    ensures shelf { let names = names_of (H.facts hall.old).units (units_of vols.old.items) in
-        let names' = names_of (H.facts hall.new).units (units_of vols.new.items) in
-        IsTrue H.tells → OperatesOnShelf (Op.Empty v dsn.now attr.now) names names'
-        (H.facts hall.new).units vols.old.items vols.new.items (H.meaning hall.old)
-        (H.meaning hall.new) result }
-    ensures indexes { AreIndexes (H.facts hall.new).units vols.new.items }
-    ensures order { sound_after (reported result) ≡ true → AreInOrder vols.new.items }
-    ensures base { base_of (H.facts hall.new) vols.new.items
-        ≡ base_of (H.facts hall.old) vols.old.items }
-    ensures geometries { geometries_of vols.new.items ≡ geometries_of vols.old.items }
-    ensures held { IsTrue H.tells → sound_after (reported result) ≡ true → AreHeld (H.meaning hall.new).state
-        (H.facts hall.new).units vols.new.items known.new.items }
-    ensures known { KeepsLists known.old.items known.new.items }
-    ensures faults { StoreCall (H.facts hall.old) (H.facts hall.new) result }
+    ensures leaves { Leaves H.tells (empty_on dsn.now attr.now)
+        (H.facts hall.old) (H.facts hall.new) (H.meaning hall.old) (H.meaning hall.new)
+        vol.old vol.new known.old known.new result }
 {
-    let k = usize::from(v);
-    if k >= vols.len() {
-        return Err(StoreErr::Refused(Refusal::NoVolume));
-    }
-    forget_on(known, k);
-    empty_set(hall, &mut vols[k], &known[k], dsn, attr)
+    known.buf.forget();
+    empty_set(hall, vol, known, dsn, attr)
 }
 
 // Empties a data set of a volume. An unreadable one is refused: by that which is known of the bodies. A partitioned one wants
@@ -354,7 +304,7 @@ fn empty_on<H: Hall>(
 fn empty_set<H: Hall>(
     hall: &mut H,
     vol: &mut Vol,
-    known: &Known,
+    known: &PackCache,
     dsn: &Dsn,
     attr: &Attr,
 ) -> Result<(), StoreErr>
@@ -387,32 +337,20 @@ fn empty_set<H: Hall>(
     }
 }
 
-// More extents for a data set of the pack of this number.
-pub(crate) fn extend_on<H: Hall>(
+// Extends a data set of the pack of this number.
+pub(crate) fn extend_at<H: Hall>(
     hall: &mut H,
     vols: &mut Vec<Vol>,
-    known: &mut Vec<Known>,
+    known: &mut Vec<PackCache>,
     v: u8,
     dsn: &Dsn,
 ) -> Result<(), StoreErr>
-    requires indexes { AreIndexes (H.facts hall.old).units vols.old.items }
-    requires order { AreInOrder vols.old.items }
-    requires kept { IsTrue H.tells
-        → AreKept (H.meaning hall.old).state (H.facts hall.old).units vols.old.items }
+    requires ready { AreReady H.tells (H.facts hall.old) (H.meaning hall.old)
+        vols.old.items known.old.items }
     requires durable { IsTrue H.tells → IsDurable (H.meaning hall.old) }
-    requires buffers { HaveBuffers vols.old.items known.old.items }
-    requires bodies { IsTrue H.tells → KnowsBodies
-        (shelf_under (names_of (H.facts hall.old).units (units_of vols.old.items)) (H.meaning hall.old).state)
-        known.old.items }
-    requires held { IsTrue H.tells → AreHeld (H.meaning hall.old).state
-        (H.facts hall.old).units vols.old.items known.old.items }
-    ensures shelf { let names = names_of (H.facts hall.old).units (units_of vols.old.items) in
-        let names' = names_of (H.facts hall.new).units (units_of vols.new.items) in
-        IsTrue H.tells → OperatesOnShelf (Op.Extend v dsn.now) names names'
-        (H.facts hall.new).units vols.old.items vols.new.items (H.meaning hall.old)
-        (H.meaning hall.new) result }
-    ensures indexes { AreIndexes (H.facts hall.new).units vols.new.items }
-    ensures order { sound_after (reported result) ≡ true → AreInOrder vols.new.items }
+    ensures leaves { LeavesPacks H.tells (Op.Extend v dsn.now) (H.facts hall.old) (H.facts hall.new)
+        (H.meaning hall.old) (H.meaning hall.new) vols.old.items vols.new.items
+        known.old.items known.new.items result }
     ensures pack { (vol vol' : Vol) → slice_get vols.old.items v ≡ Some vol
         → slice_get vols.new.items v ≡ Some vol' → IsSamePack vol vol'
         × (IsUndone (reported result) → vol' ≡ vol)
@@ -420,27 +358,41 @@ pub(crate) fn extend_on<H: Hall>(
         (extend_on dsn.now) vol' (InVtoc vol') (H.meaning hall.old) (H.meaning hall.new)
         result) }
     ensures memory { ¬ IsErrOf result StoreErr.Memory }
-    ensures base { base_of (H.facts hall.new) vols.new.items
-        ≡ base_of (H.facts hall.old) vols.old.items }
-    ensures geometries { geometries_of vols.new.items ≡ geometries_of vols.old.items }
-    ensures held { IsTrue H.tells → sound_after (reported result) ≡ true → AreHeld (H.meaning hall.new).state
-        (H.facts hall.new).units vols.new.items known.new.items }
-    ensures known { KeepsLists known.old.items known.new.items }
-    ensures faults { StoreCall (H.facts hall.old) (H.facts hall.new) result }
 {
     let k = usize::from(v);
     if k >= vols.len() {
         return Err(StoreErr::Refused(Refusal::NoVolume));
     }
-    forget_on(known, k);
-    extend_set(hall, &mut vols[k], &known[k], dsn)
+    extend_on(hall, &mut vols[k], &mut known[k], dsn)
+}
+
+// Extends a data set of a pack.
+fn extend_on<H: Hall>(
+    hall: &mut H,
+    vol: &mut Vol,
+    known: &mut PackCache,
+    dsn: &Dsn,
+) -> Result<(), StoreErr>
+    requires ready { IsReady H.tells (H.facts hall.old) (H.meaning hall.old) vol.old known.old }
+    requires durable { IsTrue H.tells → IsDurable (H.meaning hall.old) }
+    ensures leaves { Leaves H.tells (extend_on dsn.now)
+        (H.facts hall.old) (H.facts hall.new) (H.meaning hall.old) (H.meaning hall.new)
+        vol.old vol.new known.old known.new result }
+    ensures files { IsTrue H.tells → Operates (unit_of (H.facts hall.old).units vol.old.unit).name
+        (extend_on dsn.now) vol.new (InVtoc vol.new) (H.meaning hall.old)
+        (H.meaning hall.new) result }
+    ensures refused { (r : Refusal) → IsErrOf result (StoreErr.Refused r) → vol.new ≡ vol.old }
+    ensures memory { ¬ IsErrOf result StoreErr.Memory }
+{
+    known.buf.forget();
+    extend_set(hall, vol, known, dsn)
 }
 
 // More extents for a data set of a volume. An unreadable one is refused: by that which is known of the bodies.
 fn extend_set<H: Hall>(
     hall: &mut H,
     vol: &mut Vol,
-    known: &Known,
+    known: &PackCache,
     dsn: &Dsn,
 ) -> Result<(), StoreErr>
     requires unit { IsOfUnit (H.facts hall.old).units vol.old }

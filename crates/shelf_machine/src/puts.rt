@@ -8,18 +8,19 @@ ghost use Rattle.vol_model.specs.Shelf.{put_last};
 ghost use Rattle.vol_model.specs.Writing.{Wanted};
 ghost use Rattle.vol_model.specs.declared.refusals.Refusal.{Refusal};
 ghost use Rattle.vol_model.specs.declared.refusals.Refusal.TheVariants.{NoRoom};
-ghost use Rattle.shelf_machine.specs.Known.{AllFollow, AreHeld, HaveBuffers, KnowsBodies};
-ghost use Rattle.shelf_machine.specs.Machine.{AreIndexes, AreInOrder, AreKept, base_of, placed_in};
+ghost use Rattle.shelf_machine.specs.Known.{HaveBuffers};
+ghost use Rattle.shelf_machine.specs.Machine.{AreIndexes, base_of, placed_in};
 ghost use Rattle.shelf_machine.specs.Pending.{HasSlot, IsPendingBy};
-ghost use Rattle.shelf_machine.specs.PutBlocks.{PlacesAll, PlacesBlock, PutsBlock, StandsAgain, due_on, ends_on, put_answer, room_answer, room_on, shelf_on};
+ghost use Rattle.shelf_machine.specs.Ready.{AreReady};
+ghost use Rattle.shelf_machine.specs.PutBlocks.{PlacesAll, PlacesBlock, PutsBlock, StandsAgain, due_on, ends_on, put_answer, room_answer, room_on};
 ghost use Rattle.shelf_machine.specs.Putting.{IsDue};
 
-use crate::known::{Known, follow};
+use crate::pack_cache::PackCache;
 use crate::writer::Writer;
-use crate::writing::{make_room, put_owned};
+use crate::writing::{make_room, put_on_owned_track};
 use hall_core::Hall;
 use seq_access::PutErr;
-use vol_model::{MachErr, Mode, Op, Place, Refusal, StoreErr};
+use vol_model::{MachErr, Mode, Place, Refusal, StoreErr};
 use vtoc_index::Vol;
 
 // Puts a block behind those of the open writer, and what is due in front of the first. Its set is extended first where it
@@ -27,31 +28,25 @@ use vtoc_index::Vol;
 pub(crate) fn put_block<H: Hall>(
     hall: &mut H,
     vols: &mut Vec<Vol>,
-    known: &mut Vec<Known>,
+    known: &mut Vec<PackCache>,
     writer: &mut Writer,
     done: &mut u64,
     key: &[u8],
     payload: &[u8],
 ) -> Result<Place, MachErr>
-    requires indexes { AreIndexes (H.facts hall.old).units vols.old.items }
-    requires order { AreInOrder vols.old.items }
-    requires kept { IsTrue H.tells
-        → AreKept (H.meaning hall.old).state (H.facts hall.old).units vols.old.items }
-    requires buffers { HaveBuffers vols.old.items known.old.items }
+    requires ready { AreReady H.tells (H.facts hall.old) (H.meaning hall.old)
+        vols.old.items known.old.items }
     requires slot { HasSlot vols.old.items (Some writer.old) }
     requires pending { IsTrue H.tells → IsPendingBy (H.meaning hall.old) (H.facts hall.old).units
         vols.old.items (Some writer.old) }
-    requires bodies { IsTrue H.tells → KnowsBodies (shelf_on (H.meaning hall.old).state
-        (H.facts hall.old).units vols.old.items) known.old.items }
-    requires held { IsTrue H.tells → AreHeld (H.meaning hall.old).state
-        (H.facts hall.old).units vols.old.items known.old.items }
     requires key { length key.now ≤ 255 }
     requires payload { length payload.now ≤ 32760 }
     ensures shelf { IsTrue H.tells → PutsBlock (key.now, payload.now) (H.facts hall.old).units
-        (H.facts hall.new).units vols.old.items vols.new.items known.new.items writer.old writer.new
+        (H.facts hall.new).units vols.old.items vols.new.items writer.old writer.new
         (H.meaning hall.old) (H.meaning hall.new) done.old done.new result }
     ensures indexes { AreIndexes (H.facts hall.new).units vols.new.items }
-    ensures order { sound_after result ≡ true → AreInOrder vols.new.items }
+    ensures ready { sound_after result ≡ true → AreReady H.tells (H.facts hall.new) (H.meaning hall.new)
+        vols.new.items known.new.items }
     ensures slot { sound_after result ≡ true → HasSlot vols.new.items (Some writer.new) }
     ensures same { writer.new ≡ record writer.old { inner = writer.new.inner } }
     ensures base { base_of (H.facts hall.new) vols.new.items
@@ -74,29 +69,23 @@ pub(crate) fn put_block<H: Hall>(
 pub(crate) fn place_ends<H: Hall>(
     hall: &mut H,
     vols: &mut Vec<Vol>,
-    known: &mut Vec<Known>,
+    known: &mut Vec<PackCache>,
     writer: &mut Writer,
     done: &mut u64,
 ) -> Result<(), MachErr>
-    requires indexes { AreIndexes (H.facts hall.old).units vols.old.items }
-    requires order { AreInOrder vols.old.items }
-    requires kept { IsTrue H.tells
-        → AreKept (H.meaning hall.old).state (H.facts hall.old).units vols.old.items }
-    requires buffers { HaveBuffers vols.old.items known.old.items }
+    requires ready { AreReady H.tells (H.facts hall.old) (H.meaning hall.old)
+        vols.old.items known.old.items }
     requires slot { HasSlot vols.old.items (Some writer.old) }
     requires pending { IsTrue H.tells → IsPendingBy (H.meaning hall.old) (H.facts hall.old).units
         vols.old.items (Some writer.old) }
-    requires bodies { IsTrue H.tells → KnowsBodies (shelf_on (H.meaning hall.old).state
-        (H.facts hall.old).units vols.old.items) known.old.items }
-    requires held { IsTrue H.tells → AreHeld (H.meaning hall.old).state
-        (H.facts hall.old).units vols.old.items known.old.items }
     ensures shelf { let cs = ends_on (H.meaning hall.old).state (H.facts hall.old).units vols.old.items
         writer.old in
         IsTrue H.tells → PlacesAll cs tt (H.facts hall.old).units (H.facts hall.new).units
-        vols.old.items vols.new.items known.new.items writer.old writer.new (H.meaning hall.old)
+        vols.old.items vols.new.items writer.old writer.new (H.meaning hall.old)
         (H.meaning hall.new) done.old done.new result }
     ensures indexes { AreIndexes (H.facts hall.new).units vols.new.items }
-    ensures order { sound_after result ≡ true → AreInOrder vols.new.items }
+    ensures ready { sound_after result ≡ true → AreReady H.tells (H.facts hall.new) (H.meaning hall.new)
+        vols.new.items known.new.items }
     ensures slot { sound_after result ≡ true → HasSlot vols.new.items (Some writer.new) }
     ensures same { writer.new ≡ record writer.old { inner = writer.new.inner } }
     ensures base { base_of (H.facts hall.new) vols.new.items
@@ -119,27 +108,21 @@ pub(crate) fn place_ends<H: Hall>(
 fn place_last<H: Hall>(
     hall: &mut H,
     vols: &mut Vec<Vol>,
-    known: &mut Vec<Known>,
+    known: &mut Vec<PackCache>,
     writer: &mut Writer,
     done: &mut u64,
 ) -> Result<(), MachErr>
-    requires indexes { AreIndexes (H.facts hall.old).units vols.old.items }
-    requires order { AreInOrder vols.old.items }
-    requires kept { IsTrue H.tells
-        → AreKept (H.meaning hall.old).state (H.facts hall.old).units vols.old.items }
-    requires buffers { HaveBuffers vols.old.items known.old.items }
+    requires ready { AreReady H.tells (H.facts hall.old) (H.meaning hall.old)
+        vols.old.items known.old.items }
     requires slot { HasSlot vols.old.items (Some writer.old) }
     requires pending { IsTrue H.tells → IsPendingBy (H.meaning hall.old) (H.facts hall.old).units
         vols.old.items (Some writer.old) }
-    requires bodies { IsTrue H.tells → KnowsBodies (shelf_on (H.meaning hall.old).state
-        (H.facts hall.old).units vols.old.items) known.old.items }
-    requires held { IsTrue H.tells → AreHeld (H.meaning hall.old).state
-        (H.facts hall.old).units vols.old.items known.old.items }
     ensures shelf { IsTrue H.tells → PlacesAll (put_last writer.old.mode) tt (H.facts hall.old).units
-        (H.facts hall.new).units vols.old.items vols.new.items known.new.items writer.old writer.new
+        (H.facts hall.new).units vols.old.items vols.new.items writer.old writer.new
         (H.meaning hall.old) (H.meaning hall.new) done.old done.new result }
     ensures indexes { AreIndexes (H.facts hall.new).units vols.new.items }
-    ensures order { sound_after result ≡ true → AreInOrder vols.new.items }
+    ensures ready { sound_after result ≡ true → AreReady H.tells (H.facts hall.new) (H.meaning hall.new)
+        vols.new.items known.new.items }
     ensures slot { sound_after result ≡ true → HasSlot vols.new.items (Some writer.new) }
     ensures same { writer.new ≡ record writer.old { inner = writer.new.inner } }
     ensures base { base_of (H.facts hall.new) vols.new.items
@@ -161,26 +144,19 @@ fn place_last<H: Hall>(
 fn place_first<H: Hall>(
     hall: &mut H,
     vols: &mut Vec<Vol>,
-    known: &mut Vec<Known>,
+    known: &mut Vec<PackCache>,
     writer: &mut Writer,
     done: &mut u64,
 ) -> Result<(), MachErr>
-    requires indexes { AreIndexes (H.facts hall.old).units vols.old.items }
-    requires order { AreInOrder vols.old.items }
-    requires kept { IsTrue H.tells
-        → AreKept (H.meaning hall.old).state (H.facts hall.old).units vols.old.items }
-    requires buffers { HaveBuffers vols.old.items known.old.items }
+    requires ready { AreReady H.tells (H.facts hall.old) (H.meaning hall.old)
+        vols.old.items known.old.items }
     requires slot { HasSlot vols.old.items (Some writer.old) }
     requires pending { IsTrue H.tells → IsPendingBy (H.meaning hall.old) (H.facts hall.old).units
         vols.old.items (Some writer.old) }
-    requires bodies { IsTrue H.tells → KnowsBodies (shelf_on (H.meaning hall.old).state
-        (H.facts hall.old).units vols.old.items) known.old.items }
-    requires held { IsTrue H.tells → AreHeld (H.meaning hall.old).state
-        (H.facts hall.old).units vols.old.items known.old.items }
     ensures shelf { let cs = due_on (H.meaning hall.old).state (H.facts hall.old).units vols.old.items
         writer.old in
         IsTrue H.tells → PlacesAll cs tt (H.facts hall.old).units (H.facts hall.new).units
-        vols.old.items vols.new.items known.new.items writer.old writer.new (H.meaning hall.old)
+        vols.old.items vols.new.items writer.old writer.new (H.meaning hall.old)
         (H.meaning hall.new) done.old done.new result }
     ensures stands { IsTrue H.tells → StandsAgain result (placed_in (H.meaning hall.old).state
         (H.facts hall.old).units vols.old.items writer.old) (placed_in (H.meaning hall.new).state
@@ -188,7 +164,8 @@ fn place_first<H: Hall>(
     ensures placed { OnOk result (writer.new.first ≡ true → has_put writer.new.inner ≡ true) }
     ensures low { writer.old.inner.last.tt < 65536 }
     ensures indexes { AreIndexes (H.facts hall.new).units vols.new.items }
-    ensures order { sound_after result ≡ true → AreInOrder vols.new.items }
+    ensures ready { sound_after result ≡ true → AreReady H.tells (H.facts hall.new) (H.meaning hall.new)
+        vols.new.items known.new.items }
     ensures slot { sound_after result ≡ true → HasSlot vols.new.items (Some writer.new) }
     ensures same { writer.new ≡ record writer.old { inner = writer.new.inner } }
     ensures base { base_of (H.facts hall.new) vols.new.items
@@ -218,31 +195,25 @@ fn is_due(writer: Writer) -> bool
 fn place_end<H: Hall>(
     hall: &mut H,
     vols: &mut Vec<Vol>,
-    known: &mut Vec<Known>,
+    known: &mut Vec<PackCache>,
     writer: &mut Writer,
     done: &mut u64,
 ) -> Result<(), MachErr>
-    requires indexes { AreIndexes (H.facts hall.old).units vols.old.items }
-    requires order { AreInOrder vols.old.items }
-    requires kept { IsTrue H.tells
-        → AreKept (H.meaning hall.old).state (H.facts hall.old).units vols.old.items }
-    requires buffers { HaveBuffers vols.old.items known.old.items }
+    requires ready { AreReady H.tells (H.facts hall.old) (H.meaning hall.old)
+        vols.old.items known.old.items }
     requires slot { HasSlot vols.old.items (Some writer.old) }
     requires pending { IsTrue H.tells → IsPendingBy (H.meaning hall.old) (H.facts hall.old).units
         vols.old.items (Some writer.old) }
-    requires bodies { IsTrue H.tells → KnowsBodies (shelf_on (H.meaning hall.old).state
-        (H.facts hall.old).units vols.old.items) known.old.items }
-    requires held { IsTrue H.tells → AreHeld (H.meaning hall.old).state
-        (H.facts hall.old).units vols.old.items known.old.items }
     ensures shelf { IsTrue H.tells → PlacesAll (end_of_file ∷ []) tt (H.facts hall.old).units
-        (H.facts hall.new).units vols.old.items vols.new.items known.new.items writer.old writer.new
+        (H.facts hall.new).units vols.old.items vols.new.items writer.old writer.new
         (H.meaning hall.old) (H.meaning hall.new) done.old done.new result }
     ensures stands { IsTrue H.tells → StandsAgain result (placed_in (H.meaning hall.old).state
         (H.facts hall.old).units vols.old.items writer.old) (placed_in (H.meaning hall.new).state
         (H.facts hall.new).units vols.new.items writer.new) }
     ensures placed { OnOk result (0 < writer.new.inner.blocks) }
     ensures indexes { AreIndexes (H.facts hall.new).units vols.new.items }
-    ensures order { sound_after result ≡ true → AreInOrder vols.new.items }
+    ensures ready { sound_after result ≡ true → AreReady H.tells (H.facts hall.new) (H.meaning hall.new)
+        vols.new.items known.new.items }
     ensures slot { sound_after result ≡ true → HasSlot vols.new.items (Some writer.new) }
     ensures same { writer.new ≡ record writer.old { inner = writer.new.inner } }
     ensures base { base_of (H.facts hall.new) vols.new.items
@@ -264,32 +235,26 @@ fn place_end<H: Hall>(
 pub(crate) fn place_block<H: Hall>(
     hall: &mut H,
     vols: &mut Vec<Vol>,
-    known: &mut Vec<Known>,
+    known: &mut Vec<PackCache>,
     writer: &mut Writer,
     done: &mut u64,
     key: &[u8],
     payload: &[u8],
 ) -> Result<Place, MachErr>
-    requires indexes { AreIndexes (H.facts hall.old).units vols.old.items }
-    requires order { AreInOrder vols.old.items }
-    requires kept { IsTrue H.tells
-        → AreKept (H.meaning hall.old).state (H.facts hall.old).units vols.old.items }
-    requires buffers { HaveBuffers vols.old.items known.old.items }
+    requires ready { AreReady H.tells (H.facts hall.old) (H.meaning hall.old)
+        vols.old.items known.old.items }
     requires slot { HasSlot vols.old.items (Some writer.old) }
     requires pending { IsTrue H.tells → IsPendingBy (H.meaning hall.old) (H.facts hall.old).units
         vols.old.items (Some writer.old) }
-    requires bodies { IsTrue H.tells → KnowsBodies (shelf_on (H.meaning hall.old).state
-        (H.facts hall.old).units vols.old.items) known.old.items }
-    requires held { IsTrue H.tells → AreHeld (H.meaning hall.old).state
-        (H.facts hall.old).units vols.old.items known.old.items }
     requires key { length key.now ≤ 255 }
     requires payload { length payload.now ≤ 32760 }
     requires due { IsDue writer.old (key.now, payload.now) }
     ensures shelf { IsTrue H.tells → PlacesBlock (key.now, payload.now) (H.facts hall.old).units
-        (H.facts hall.new).units vols.old.items vols.new.items known.new.items writer.old writer.new
+        (H.facts hall.new).units vols.old.items vols.new.items writer.old writer.new
         (H.meaning hall.old) (H.meaning hall.new) done.old done.new result }
     ensures indexes { AreIndexes (H.facts hall.new).units vols.new.items }
-    ensures order { sound_after result ≡ true → AreInOrder vols.new.items }
+    ensures ready { sound_after result ≡ true → AreReady H.tells (H.facts hall.new) (H.meaning hall.new)
+        vols.new.items known.new.items }
     ensures slot { sound_after result ≡ true → HasSlot vols.new.items (Some writer.new) }
     ensures same { writer.new ≡ record writer.old { inner = writer.new.inner } }
     ensures placed { OnOk result (0 < writer.new.inner.blocks) }
@@ -302,45 +267,39 @@ pub(crate) fn place_block<H: Hall>(
     ensures faults { ReportedCall (IsErrOf result MachErr.Device) (H.facts hall.old)
         (H.facts hall.new) }
 {
-    let put = put_owned(hall, vols, known, writer, key, payload);
+    let put = put_on_owned_track(hall, vols, known, writer, key, payload);
     if wants_extent(&put) {
-        return place_behind_more(hall, vols, known, writer, done, key, payload);
+        return extend_and_place(hall, vols, known, writer, done, key, payload);
     }
     answer_put(put)
 }
 
 // The same where the set owns no track for the block: it is extended, and then the block is placed.
-fn place_behind_more<H: Hall>(
+fn extend_and_place<H: Hall>(
     hall: &mut H,
     vols: &mut Vec<Vol>,
-    known: &mut Vec<Known>,
+    known: &mut Vec<PackCache>,
     writer: &mut Writer,
     done: &mut u64,
     key: &[u8],
     payload: &[u8],
 ) -> Result<Place, MachErr>
-    requires indexes { AreIndexes (H.facts hall.old).units vols.old.items }
-    requires order { AreInOrder vols.old.items }
-    requires kept { IsTrue H.tells
-        → AreKept (H.meaning hall.old).state (H.facts hall.old).units vols.old.items }
-    requires buffers { HaveBuffers vols.old.items known.old.items }
+    requires ready { AreReady H.tells (H.facts hall.old) (H.meaning hall.old)
+        vols.old.items known.old.items }
     requires slot { HasSlot vols.old.items (Some writer.old) }
     requires pending { IsTrue H.tells → IsPendingBy (H.meaning hall.old) (H.facts hall.old).units
         vols.old.items (Some writer.old) }
-    requires bodies { IsTrue H.tells → KnowsBodies (shelf_on (H.meaning hall.old).state
-        (H.facts hall.old).units vols.old.items) known.old.items }
-    requires held { IsTrue H.tells → AreHeld (H.meaning hall.old).state
-        (H.facts hall.old).units vols.old.items known.old.items }
     requires wanted { IsTrue H.tells → room_on (H.meaning hall.old).state (H.facts hall.old).units
         vols.old.items writer.old (key.now, payload.now) ≡ Wanted }
     requires key { length key.now ≤ 255 }
     requires payload { length payload.now ≤ 32760 }
     requires due { IsDue writer.old (key.now, payload.now) }
     ensures shelf { IsTrue H.tells → PlacesBlock (key.now, payload.now) (H.facts hall.old).units
-        (H.facts hall.new).units vols.old.items vols.new.items known.new.items writer.old writer.new
+        (H.facts hall.new).units vols.old.items vols.new.items writer.old writer.new
         (H.meaning hall.old) (H.meaning hall.new) done.old done.new result }
     ensures indexes { AreIndexes (H.facts hall.new).units vols.new.items }
-    ensures order { sound_after result ≡ true → AreInOrder vols.new.items }
+    ensures ready { sound_after result ≡ true → AreReady H.tells (H.facts hall.new) (H.meaning hall.new)
+        vols.new.items known.new.items }
     ensures slot { sound_after result ≡ true → HasSlot vols.new.items (Some writer.new) }
     ensures same { writer.new ≡ record writer.old { inner = writer.new.inner } }
     ensures placed { OnOk result (0 < writer.new.inner.blocks) }
@@ -353,28 +312,13 @@ fn place_behind_more<H: Hall>(
     ensures faults { ReportedCall (IsErrOf result MachErr.Device) (H.facts hall.old)
         (H.facts hall.new) }
 {
-    let before = *writer;
-    let ran = make_room(hall, vols, known, writer);
-    follow_extension(known, before, ran.is_ok());
-    match ran {
+    match make_room(hall, vols, known, writer) {
         Ok(()) => {
             *done = done.saturating_add(1);
-            answer_put(put_owned(hall, vols, known, writer, key, payload))
+            answer_put(put_on_owned_track(hall, vols, known, writer, key, payload))
         }
         Err(error) => Err(answer_room(error)),
     }
-}
-
-// Which data sets can't be read behind an extension of the set of a writer, done or not.
-fn follow_extension(known: &mut Vec<Known>, writer: Writer, is_done: bool)
-    ensures follow { AllFollow (Op.Extend writer.v writer.dsn) is_done known.old.items known.new.items }
-    ensures low { writer.inner.last.tt < 65536 }
-{
-    let op = Op::Extend {
-        v: writer.v,
-        dsn: writer.dsn,
-    };
-    follow(known, &op, is_done);
 }
 
 // Whether the set owns no track for a block that was to be put.

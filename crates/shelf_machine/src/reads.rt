@@ -19,7 +19,7 @@ ghost use Rattle.shelf_machine.specs.Known.{HaveBuffers, KnowsBodies, ListsUnrea
 ghost use Rattle.shelf_machine.specs.Reads.{HasVolume, HasVolumes, IsSetOn, IsUnreadCatalog};
 ghost use Rattle.shelf_machine.specs.Unread.{broken_by, track_in};
 
-use crate::known::Known;
+use crate::pack_cache::PackCache;
 use crate::space::volume_info;
 use crate::unread::track_of;
 use dscb_codec::{Dscb, F1};
@@ -69,7 +69,7 @@ pub(crate) fn set_in<'a>(vol: &'a Vol, dsn: &Dsn) -> Option<&'a F1>
 }
 
 // The kind of a data set, by its format 1 and by those that can't be read.
-pub(crate) fn kind_in(known: &Known, set: &F1) -> Kind
+pub(crate) fn kind_in(known: &PackCache, set: &F1) -> Kind
     ensures { (g : Geometry) (tracks : List (List ℕ)) (extents : List Run) →
         let body = body_of g tracks set.now.name (attr_of set.now) extents set.now.lstar in
         track_in known.now.unread.items set.now.name ≡ broken_by set.now.name (attr_of set.now) body
@@ -91,7 +91,7 @@ pub(crate) fn kind_in(known: &Known, set: &F1) -> Kind
 
 // A data set of a volume in short, which has so many directory blocks.
 #[tactic(auto, unfolding(vol_model::specs::Reading::set_info))]
-fn info_in(vol: &Vol, known: &Known, dsn: &Dsn, dir: u32) -> Option<SetInfo>
+fn info_in(vol: &Vol, known: &PackCache, dsn: &Dsn, dir: u32) -> Option<SetInfo>
     requires unit { (units : List Attached) × IsOfUnit units vol.now }
     requires names { AreByName (name_at vol.now.slots.items) vol.now.by_name.items }
     ensures info { (shelf : Shelf) (n : ℕ) → HasVolume shelf n vol.now
@@ -114,7 +114,7 @@ fn info_in(vol: &Vol, known: &Known, dsn: &Dsn, dir: u32) -> Option<SetInfo>
 // A data set in short, which has so many directory blocks.
 pub(crate) fn info_on(
     vols: &[Vol],
-    known: &Vec<Known>,
+    known: &Vec<PackCache>,
     v: u8,
     dsn: &Dsn,
     dir: u32,
@@ -153,7 +153,12 @@ pub(crate) fn extent_on(vols: &[Vol], v: u8, dsn: &Dsn, k: u8) -> Option<Run>
 }
 
 // Why blocks can't be written to a data set of a volume, if there is a reason.
-pub(crate) fn write_refusal_in(vol: &Vol, known: &Known, dsn: &Dsn, mode: Mode) -> Option<Refusal>
+pub(crate) fn write_refusal_in(
+    vol: &Vol,
+    known: &PackCache,
+    dsn: &Dsn,
+    mode: Mode,
+) -> Option<Refusal>
     requires unit { (units : List Attached) × IsOfUnit units vol.now }
     requires names { AreByName (name_at vol.now.slots.items) vol.now.by_name.items }
     ensures { (shelf : Shelf) (n : ℕ) → HasVolume shelf n vol.now
@@ -175,7 +180,7 @@ pub(crate) fn write_refusal_in(vol: &Vol, known: &Known, dsn: &Dsn, mode: Mode) 
 // Why blocks can't be written to a data set, if there is a reason.
 pub(crate) fn write_refusal(
     vols: &[Vol],
-    known: &Vec<Known>,
+    known: &Vec<PackCache>,
     v: u8,
     dsn: &Dsn,
     mode: Mode,

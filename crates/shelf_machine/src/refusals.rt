@@ -19,8 +19,8 @@ ghost use Rattle.shelf_machine.specs.Refusals.{IsPartTest, IsReason, IsRefusedBy
 ghost use Rattle.shelf_machine.specs.Libraries.{IsVacancyOf};
 ghost use Rattle.shelf_machine.specs.Unread.{broken_by, track_in};
 
-use crate::known::Known;
 use crate::libraries::vacancy;
+use crate::pack_cache::PackCache;
 use crate::reads::kind_in;
 use dscb_codec::{Dscb, F1};
 use ebcdic_names::Dsn;
@@ -29,7 +29,7 @@ use vtoc_index::{Vol, find};
 use vtoc_sets::{BodyKind, body_kind};
 
 // The refusal of a data set whose body can't be read, by its format 1 and by those that can't be read.
-fn unread_refusal(known: &Known, set: &F1) -> Option<Refusal>
+fn unread_refusal(known: &PackCache, set: &F1) -> Option<Refusal>
     ensures { (g : Geometry) (tracks : List (List ℕ)) (extents : List Run) →
         let body = body_of g tracks set.now.name (attr_of set.now) extents set.now.lstar in
         track_in known.now.unread.items set.now.name ≡ broken_by set.now.name (attr_of set.now) body
@@ -57,7 +57,7 @@ fn may_empty(set: &F1) -> bool
 }
 
 // Whether a data set is a partitioned one that can be read, by its format 1 and by those that can't be read.
-fn is_part(known: &Known, set: &F1) -> bool
+fn is_part(known: &PackCache, set: &F1) -> bool
     ensures { (g : Geometry) (tracks : List (List ℕ)) (extents : List Run) →
         let body = body_of g tracks set.now.name (attr_of set.now) extents set.now.lstar in
         track_in known.now.unread.items set.now.name ≡ broken_by set.now.name (attr_of set.now) body
@@ -86,7 +86,7 @@ fn part_refusal(set: &F1, vacancy: Option<bool>) -> Option<StoreErr>
 }
 
 // Why a data set can't be emptied, if there is a reason: `Memory` for a partitioned one whose library isn't held.
-fn empty_refusal(known: &Known, set: &F1, vacancy: Option<bool>) -> Option<StoreErr>
+fn empty_refusal(known: &PackCache, set: &F1, vacancy: Option<bool>) -> Option<StoreErr>
     ensures reason { (g : Geometry) (tracks : List (List ℕ)) (extents : List Run) →
         let body = body_of g tracks set.now.name (attr_of set.now) extents set.now.lstar in
         track_in known.now.unread.items set.now.name ≡ broken_by set.now.name (attr_of set.now) body
@@ -107,7 +107,7 @@ fn empty_refusal(known: &Known, set: &F1, vacancy: Option<bool>) -> Option<Store
 }
 
 // Why a data set can't have more extents, whatever is free, if there is a reason.
-fn extend_refusal(known: &Known, set: &F1) -> Option<Refusal>
+fn extend_refusal(known: &PackCache, set: &F1) -> Option<Refusal>
     ensures refusal { (g : Geometry) (tracks : List (List ℕ)) (extents : List Run) →
         let body = body_of g tracks set.now.name (attr_of set.now) extents set.now.lstar in
         track_in known.now.unread.items set.now.name ≡ broken_by set.now.name (attr_of set.now) body
@@ -135,7 +135,7 @@ pub(crate) fn slot_of(vol: &Vol, dsn: &Dsn) -> Option<(u32, F1)>
 }
 
 // The slot of the data set of this name, or why it can't be emptied.
-pub(crate) fn slot_to_empty(vol: &Vol, known: &Known, dsn: &Dsn) -> Result<u32, StoreErr>
+pub(crate) fn slot_to_empty(vol: &Vol, known: &PackCache, dsn: &Dsn) -> Result<u32, StoreErr>
     requires unit { (units : List Attached) × IsOfUnit units vol.now }
     requires names { AreByName (name_at vol.now.slots.items) vol.now.by_name.items }
     ensures slot { IfOk result (λ slot. first_named dsn.now.bytes vol.now.slots.items ≡ Some slot) }
@@ -160,7 +160,7 @@ pub(crate) fn slot_to_empty(vol: &Vol, known: &Known, dsn: &Dsn) -> Result<u32, 
 }
 
 // The slot of the data set of this name, or why it can't have more extents, whatever is free.
-pub(crate) fn slot_to_extend(vol: &Vol, known: &Known, dsn: &Dsn) -> Result<u32, Refusal>
+pub(crate) fn slot_to_extend(vol: &Vol, known: &PackCache, dsn: &Dsn) -> Result<u32, Refusal>
     requires { AreByName (name_at vol.now.slots.items) vol.now.by_name.items }
     ensures slot { IfOk result (λ slot. first_named dsn.now.bytes vol.now.slots.items ≡ Some slot) }
     ensures set { IfOk result (λ slot. HoldsSet vol.now.slots.items slot) }

@@ -3,7 +3,7 @@ ghost use Rattle.std.specs.Prelude.{◌≡◌, false, true, IsErrOf};
 ghost use Rattle.vol_model.specs.Calls.{sound_after};
 ghost use Rattle.shelf_machine.specs.Reporting.{Reports};
 
-use crate::front::Front;
+use crate::area_start::AreaStart;
 use vol_model::{Block, CheckErr, MachErr, Place, ReadErr, StoreErr};
 
 // Ends the soundness of a machine, and gives the error that it answers.
@@ -73,7 +73,7 @@ pub(crate) fn is_sound_closed(closed: &Result<(), MachErr>) -> bool
 }
 
 // Whether it is sound behind a read of where an area begins.
-pub(crate) fn is_sound_front(front: &Result<Front, MachErr>) -> bool
+pub(crate) fn is_sound_front(front: &Result<AreaStart, MachErr>) -> bool
     ensures failed { IsErrOf front.now MachErr.Device → result ≡ false }
     ensures others { ¬ IsErrOf front.now MachErr.Device → result ≡ true }
 {

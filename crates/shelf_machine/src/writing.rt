@@ -9,20 +9,19 @@ ghost use Rattle.vol_model.specs.Writing.{begin_refusal, begun, body_on};
 ghost use Rattle.vol_model.specs.declared.contents.Shelf.{Shelf};
 ghost use Rattle.vtoc_index.specs.Index.{IsOfUnit, first_named};
 ghost use Rattle.vtoc_index.specs.Names.{AreByName, name_at};
-ghost use Rattle.dadsm_ops.specs.Operations.{StoreCall};
 ghost use Rattle.shelf_machine.specs.Fronts.{IsFrontIn};
-ghost use Rattle.shelf_machine.specs.Known.{AreHeld, HaveBuffers, IsServed, KeepsLists, KnowsBodies, geometries_of};
+ghost use Rattle.shelf_machine.specs.Known.{HaveBuffers};
 ghost use Rattle.shelf_machine.specs.Machine.{AreIndexes, AreInOrder, AreKept, base_of, is_open_in, placed_in, shelf_under, units_of, writer_in};
 ghost use Rattle.shelf_machine.specs.Opening.{names_of};
-ghost use Rattle.shelf_machine.specs.Operating.{OperatesOnShelf};
 ghost use Rattle.shelf_machine.specs.Pending.{HasSlot, IsBegunAt, IsBegunOn, IsFor, IsInSlot, IsPendingBy, Settles, closed};
 ghost use Rattle.shelf_machine.specs.Reads.{HasVolume};
 ghost use Rattle.shelf_machine.specs.Putting.{DidPut, IsDue, PutsOn};
+ghost use Rattle.shelf_machine.specs.Ready.{AreReady, LeavesPacks};
 ghost use Rattle.shelf_machine.specs.Reporting.{reported};
 
-use crate::front::Front;
-use crate::known::{Known, forget_on};
-use crate::operations::{extend_on, operate};
+use crate::area_start::AreaStart;
+use crate::operations::{extend_at, operate};
+use crate::pack_cache::{PackCache, forget_read_track};
 use crate::writer::Writer;
 use ebcdic_names::Dsn;
 use hall_core::{Device, Hall};
@@ -66,39 +65,20 @@ pub(crate) fn operate_settled<H: Hall>(
     alloc: Global,
     hall: &mut H,
     vols: &mut Vec<Vol>,
-    known: &mut Vec<Known>,
+    known: &mut Vec<PackCache>,
     writer: &mut Option<Writer>,
     op: &Op,
 ) -> Result<(), StoreErr>
-    requires indexes { AreIndexes (H.facts hall.old).units vols.old.items }
-    requires order { AreInOrder vols.old.items }
-    requires kept { IsTrue H.tells
-        → AreKept (H.meaning hall.old).state (H.facts hall.old).units vols.old.items }
+    requires ready { AreReady H.tells (H.facts hall.old) (H.meaning hall.old)
+        vols.old.items known.old.items }
     requires lawful { IsLawfulOp op.now }
     requires slot { HasSlot vols.old.items writer.old }
     requires pending { IsTrue H.tells → IsPendingBy (H.meaning hall.old) (H.facts hall.old).units
         vols.old.items writer.old }
-    requires buffers { HaveBuffers vols.old.items known.old.items }
-    requires bodies { IsTrue H.tells → KnowsBodies
-        (shelf_under (names_of (H.facts hall.old).units (units_of vols.old.items)) (H.meaning hall.old).state)
-        known.old.items }
-    requires held { IsTrue H.tells → AreHeld (H.meaning hall.old).state
-        (H.facts hall.old).units vols.old.items known.old.items }
-    ensures shelf { let names = names_of (H.facts hall.old).units (units_of vols.old.items) in
-        let names' = names_of (H.facts hall.new).units (units_of vols.new.items) in
-        IsTrue H.tells → OperatesOnShelf op.now names names' (H.facts hall.new).units
-        vols.old.items vols.new.items (H.meaning hall.old) (H.meaning hall.new) result }
-    ensures indexes { AreIndexes (H.facts hall.new).units vols.new.items }
-    ensures order { sound_after (reported result) ≡ true → AreInOrder vols.new.items }
+    ensures leaves { LeavesPacks H.tells op.now (H.facts hall.old) (H.facts hall.new)
+        (H.meaning hall.old) (H.meaning hall.new) vols.old.items vols.new.items
+        known.old.items known.new.items result }
     ensures writer { sound_after (reported result) ≡ true → writer.new ≡ None }
-    ensures base { base_of (H.facts hall.new) vols.new.items
-        ≡ base_of (H.facts hall.old) vols.old.items }
-    ensures geometries { geometries_of vols.new.items ≡ geometries_of vols.old.items }
-    ensures served { OnOk result (IsServed op.now) }
-    ensures held { IsTrue H.tells → sound_after (reported result) ≡ true → AreHeld (H.meaning hall.new).state
-        (H.facts hall.new).units vols.new.items known.new.items }
-    ensures known { KeepsLists known.old.items known.new.items }
-    ensures faults { StoreCall (H.facts hall.old) (H.facts hall.new) result }
 {
     match settle(hall, writer) {
         Ok(()) => operate(alloc, hall, vols, known, op),
@@ -114,7 +94,7 @@ pub(crate) fn open_writer<H: Hall>(
     v: u8,
     dsn: &Dsn,
     mode: Mode,
-    front: Front,
+    front: AreaStart,
 ) -> Result<bool, Device>
     requires indexes { AreIndexes (H.facts hall.old).units vols.old.items }
     requires order { AreInOrder vols.old.items }
@@ -157,7 +137,7 @@ fn writer_on<H: Hall>(
     v: u8,
     dsn: &Dsn,
     mode: Mode,
-    front: Front,
+    front: AreaStart,
 ) -> Option<Writer>
     requires order { AreInOrder vols.old.items }
     ensures slot { HasSlot vols.old.items result }
@@ -185,7 +165,7 @@ fn writer_at<H: Hall>(
     v: u8,
     dsn: &Dsn,
     mode: Mode,
-    front: Front,
+    front: AreaStart,
 ) -> Option<Writer>
     requires names { AreByName (name_at vol.old.slots.items) vol.old.by_name.items }
     ensures slot { IfSome result (IsInSlot vol.old) }
@@ -216,23 +196,19 @@ fn writer_at<H: Hall>(
 }
 
 // Puts a block behind those of the open writer, where its set owns a track for it.
-pub(crate) fn put_owned<H: Hall>(
+pub(crate) fn put_on_owned_track<H: Hall>(
     hall: &mut H,
     vols: &mut Vec<Vol>,
-    known: &mut Vec<Known>,
+    known: &mut Vec<PackCache>,
     writer: &mut Writer,
     key: &[u8],
     payload: &[u8],
 ) -> Result<Place, PutErr>
-    requires indexes { AreIndexes (H.facts hall.old).units vols.old.items }
-    requires kept { IsTrue H.tells
-        → AreKept (H.meaning hall.old).state (H.facts hall.old).units vols.old.items }
-    requires buffers { HaveBuffers vols.old.items known.old.items }
+    requires ready { AreReady H.tells (H.facts hall.old) (H.meaning hall.old)
+        vols.old.items known.old.items }
     requires slot { HasSlot vols.old.items (Some writer.old) }
     requires pending { IsTrue H.tells → IsPendingBy (H.meaning hall.old) (H.facts hall.old).units
         vols.old.items (Some writer.old) }
-    requires held { IsTrue H.tells → AreHeld (H.meaning hall.old).state
-        (H.facts hall.old).units vols.old.items known.old.items }
     requires key { length key.now ≤ 255 }
     requires payload { length payload.now ≤ 32760 }
     requires due { IsDue writer.old (key.now, payload.now) }
@@ -246,7 +222,8 @@ pub(crate) fn put_owned<H: Hall>(
         (placed_in (H.meaning hall.new).state (H.facts hall.new).units vols.new.items writer.new)
         result }
     ensures indexes { AreIndexes (H.facts hall.new).units vols.new.items }
-    ensures order { AreInOrder vols.old.items → AreInOrder vols.new.items }
+    ensures ready { ¬ IsErrOf result PutErr.Device → AreReady H.tells (H.facts hall.new) (H.meaning hall.new)
+        vols.new.items known.new.items }
     ensures slot { HasSlot vols.new.items (Some writer.new) }
     ensures same { writer.new ≡ record writer.old { inner = writer.new.inner } }
     ensures placed { OnOk result (0 < writer.new.inner.blocks) }
@@ -254,13 +231,11 @@ pub(crate) fn put_owned<H: Hall>(
     ensures base { base_of (H.facts hall.new) vols.new.items
         ≡ base_of (H.facts hall.old) vols.old.items }
     ensures buffers { HaveBuffers vols.new.items known.new.items }
-    ensures known { (shelf : Shelf) → KnowsBodies shelf known.old.items
-        → KnowsBodies shelf known.new.items }
     ensures faults { ReportedCall (IsErrOf result PutErr.Device) (H.facts hall.old)
         (H.facts hall.new) }
 {
     let k = usize::from(writer.v);
-    forget_on(known, k);
+    forget_read_track(known, k);
     put(hall, &mut vols[k], &mut writer.inner, key, payload)
 }
 
@@ -268,29 +243,17 @@ pub(crate) fn put_owned<H: Hall>(
 pub(crate) fn make_room<H: Hall>(
     hall: &mut H,
     vols: &mut Vec<Vol>,
-    known: &mut Vec<Known>,
+    known: &mut Vec<PackCache>,
     writer: &mut Writer,
 ) -> Result<(), StoreErr>
-    requires indexes { AreIndexes (H.facts hall.old).units vols.old.items }
-    requires order { AreInOrder vols.old.items }
-    requires kept { IsTrue H.tells
-        → AreKept (H.meaning hall.old).state (H.facts hall.old).units vols.old.items }
+    requires ready { AreReady H.tells (H.facts hall.old) (H.meaning hall.old)
+        vols.old.items known.old.items }
     requires slot { HasSlot vols.old.items (Some writer.old) }
     requires pending { IsTrue H.tells → IsPendingBy (H.meaning hall.old) (H.facts hall.old).units
         vols.old.items (Some writer.old) }
-    requires buffers { HaveBuffers vols.old.items known.old.items }
-    requires bodies { IsTrue H.tells → KnowsBodies
-        (shelf_under (names_of (H.facts hall.old).units (units_of vols.old.items)) (H.meaning hall.old).state)
-        known.old.items }
-    requires held { IsTrue H.tells → AreHeld (H.meaning hall.old).state
-        (H.facts hall.old).units vols.old.items known.old.items }
-    ensures shelf { let names = names_of (H.facts hall.old).units (units_of vols.old.items) in
-        let names' = names_of (H.facts hall.new).units (units_of vols.new.items) in
-        IsTrue H.tells → OperatesOnShelf (Op.Extend writer.old.v writer.old.dsn) names names'
-        (H.facts hall.new).units vols.old.items vols.new.items (H.meaning hall.old)
-        (H.meaning hall.new) result }
-    ensures indexes { AreIndexes (H.facts hall.new).units vols.new.items }
-    ensures order { sound_after (reported result) ≡ true → AreInOrder vols.new.items }
+    ensures leaves { LeavesPacks H.tells (Op.Extend writer.old.v writer.old.dsn) (H.facts hall.old) (H.facts hall.new)
+        (H.meaning hall.old) (H.meaning hall.new) vols.old.items vols.new.items
+        known.old.items known.new.items result }
     ensures slot { sound_after (reported result) ≡ true → HasSlot vols.new.items (Some writer.new) }
     ensures pending { IsTrue H.tells → sound_after (reported result) ≡ true
         → IsPendingBy (H.meaning hall.new) (H.facts hall.new).units vols.new.items (Some writer.new) }
@@ -300,48 +263,32 @@ pub(crate) fn make_room<H: Hall>(
     ensures same { let inner = record (writer.old.inner) { slot = writer.new.inner.slot } in
         writer.new ≡ record writer.old { inner = inner } }
     ensures memory { ¬ IsErrOf result StoreErr.Memory }
-    ensures base { base_of (H.facts hall.new) vols.new.items
-        ≡ base_of (H.facts hall.old) vols.old.items }
-    ensures geometries { geometries_of vols.new.items ≡ geometries_of vols.old.items }
-    ensures held { IsTrue H.tells → sound_after (reported result) ≡ true → AreHeld (H.meaning hall.new).state
-        (H.facts hall.new).units vols.new.items known.new.items }
-    ensures known { KeepsLists known.old.items known.new.items }
-    ensures faults { StoreCall (H.facts hall.old) (H.facts hall.new) result }
+    ensures low { writer.old.inner.last.tt < 65536 }
 {
+    // read, so that its range is known
+    let _track = writer.inner.last.tt;
     match hall.sync() {
-        Ok(()) => make_room_settled(hall, vols, known, writer),
+        Ok(()) => extend_durably(hall, vols, known, writer),
         Err(_) => Err(StoreErr::Device),
     }
 }
 
 // The same, where all is durable already.
-fn make_room_settled<H: Hall>(
+fn extend_durably<H: Hall>(
     hall: &mut H,
     vols: &mut Vec<Vol>,
-    known: &mut Vec<Known>,
+    known: &mut Vec<PackCache>,
     writer: &mut Writer,
 ) -> Result<(), StoreErr>
-    requires indexes { AreIndexes (H.facts hall.old).units vols.old.items }
-    requires order { AreInOrder vols.old.items }
-    requires kept { IsTrue H.tells
-        → AreKept (H.meaning hall.old).state (H.facts hall.old).units vols.old.items }
+    requires ready { AreReady H.tells (H.facts hall.old) (H.meaning hall.old)
+        vols.old.items known.old.items }
     requires durable { IsTrue H.tells → IsDurable (H.meaning hall.old) }
     requires slot { HasSlot vols.old.items (Some writer.old) }
     requires pending { IsTrue H.tells → IsPendingBy (H.meaning hall.old) (H.facts hall.old).units
         vols.old.items (Some writer.old) }
-    requires buffers { HaveBuffers vols.old.items known.old.items }
-    requires bodies { IsTrue H.tells → KnowsBodies
-        (shelf_under (names_of (H.facts hall.old).units (units_of vols.old.items)) (H.meaning hall.old).state)
-        known.old.items }
-    requires held { IsTrue H.tells → AreHeld (H.meaning hall.old).state
-        (H.facts hall.old).units vols.old.items known.old.items }
-    ensures shelf { let names = names_of (H.facts hall.old).units (units_of vols.old.items) in
-        let names' = names_of (H.facts hall.new).units (units_of vols.new.items) in
-        IsTrue H.tells → OperatesOnShelf (Op.Extend writer.old.v writer.old.dsn) names names'
-        (H.facts hall.new).units vols.old.items vols.new.items (H.meaning hall.old)
-        (H.meaning hall.new) result }
-    ensures indexes { AreIndexes (H.facts hall.new).units vols.new.items }
-    ensures order { sound_after (reported result) ≡ true → AreInOrder vols.new.items }
+    ensures leaves { LeavesPacks H.tells (Op.Extend writer.old.v writer.old.dsn) (H.facts hall.old) (H.facts hall.new)
+        (H.meaning hall.old) (H.meaning hall.new) vols.old.items vols.new.items
+        known.old.items known.new.items result }
     ensures slot { sound_after (reported result) ≡ true → HasSlot vols.new.items (Some writer.new) }
     ensures pending { IsTrue H.tells → sound_after (reported result) ≡ true
         → IsPendingBy (H.meaning hall.new) (H.facts hall.new).units vols.new.items (Some writer.new) }
@@ -351,15 +298,8 @@ fn make_room_settled<H: Hall>(
     ensures same { let inner = record (writer.old.inner) { slot = writer.new.inner.slot } in
         writer.new ≡ record writer.old { inner = inner } }
     ensures memory { ¬ IsErrOf result StoreErr.Memory }
-    ensures base { base_of (H.facts hall.new) vols.new.items
-        ≡ base_of (H.facts hall.old) vols.old.items }
-    ensures geometries { geometries_of vols.new.items ≡ geometries_of vols.old.items }
-    ensures held { IsTrue H.tells → sound_after (reported result) ≡ true → AreHeld (H.meaning hall.new).state
-        (H.facts hall.new).units vols.new.items known.new.items }
-    ensures known { KeepsLists known.old.items known.new.items }
-    ensures faults { StoreCall (H.facts hall.old) (H.facts hall.new) result }
 {
-    extend_on(hall, vols, known, writer.v, &writer.dsn)?;
+    extend_at(hall, vols, known, writer.v, &writer.dsn)?;
     match find_slot(hall, &vols[usize::from(writer.v)], writer) {
         Ok(()) => Ok(()),
         Err(Device) => Err(StoreErr::Device),

@@ -1,7 +1,8 @@
 -- The calls of a change of one entry: what each of their answers is, and the index then.
 use Rattle.std.proofs.Common.{◌≡◌, ℕ, List, Result, Ok, Err, refl, sym, ap, subst}
 use Rattle.std.specs.Prelude.{IsErrOf, OnOk}
-use Rattle.hall_core.specs.Facts.{Attached, unit_of}
+use Rattle.hall_core.specs.Facts.{Attached, Facts, unit_of}
+use Rattle.hall_core.specs.Images.{image_in}
 use Rattle.pack_spec.specs.Volume.{volume_of}
 use Rattle.stop_model.specs.Files.{File}
 use Rattle.stop_model.specs.Moments.{Meaning}
@@ -55,6 +56,21 @@ module _ {T U : Type 0} (name : List ℕ) (operation : Volume → Result Volume 
   }
 
 -- it isn't begun
+pub not_memory : (r : Refusal) → errors.Refused r ≡ errors.Memory → ⊥
+not_memory r same = cc
+
+pub as_other : {T U : Type 0} {e d : StoreErr} → IsErrOf {T = T} (Err e) d → IsErrOf {T = U} (Err e) d
+as_other is = cc
+
+-- an image is mounted as before where the pack and its index are the same
+pub failed_mounted : {H T : Type 0} (meaning : H → Meaning (List File)) (facts : H → Facts) (h0 h1 : H) (v0 v1 : Vol) (e : StoreErr) → IsMounted (image_in (meaning h0) (facts h0) v0.unit) v0
+    → (IsErrOf {T = T} (Err e) errors.Device → ⊥) → (IsErrOf {T = T} (Err e) errors.Memory → (h1 ≡ h0) × (v1 ≡ v0)) → ((q : Refusal) → IsErrOf {T = T} (Err e) (errors.Refused q) → (h1 ≡ h0) × (v1 ≡ v0))
+    → IsMounted (image_in (meaning h1) (facts h1) v0.unit) v1
+failed_mounted {H = H} {T = T} meaning facts h0 h1 v0 v1 e before other memory refused = but_device {T = T} (Err e) other tt (λ is. as_before (memory is)) (λ q is. as_before (refused q is))
+  where
+    as_before : (h1 ≡ h0) × (v1 ≡ v0) → IsMounted (image_in (meaning h1) (facts h1) v0.unit) v1
+    as_before same = subst (λ (h : H). IsMounted (image_in (meaning h) (facts h) v0.unit) v1) (sym same.0) (subst (λ (u : Vol). IsMounted (image_in (meaning h0) (facts h0) v0.unit) u) (sym same.1) before)
+
 pub not_operated : {T : Type 0} (name : List ℕ) (operation : Volume → Result Volume Refusal) (v : Vol) (Changes : List ℕ → List ℕ → Type 0) (old : Meaning (List File)) (counts : CountsNow old) (e : StoreErr) (volume : Volume)
     → volume_of (image_named old.state name) ≡ Ok volume → ((r : Refusal) → e ≡ errors.Refused r → operation volume ≡ Err r) → Operates {T = T} name operation v Changes old old (Err e)
 not_operated name operation v Changes old counts e volume stands refused = record {

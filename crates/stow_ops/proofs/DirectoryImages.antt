@@ -1,26 +1,22 @@
 -- Images that differ on tracks of one partitioned data set alone: they differ in the body of that set, and both are mounted.
-use Rattle.std.proofs.Common.{◌≡◌, ◌≢◌, ◌⊎◌, ℕ, zero, suc, Bool, true, false, cond, List, [], ◌∷◌, length, take, map, Option, Some, None, Ok, inl, inr, refl, sym, ap, ap₂, ◌∙◌, subst, arith, ⊎_elim}
+use Rattle.std.proofs.Common.{◌≡◌, ◌≢◌, ◌⊎◌, ℕ, zero, suc, Bool, true, false, cond, List, [], ◌∷◌, length, take, map, Option, Some, None, Ok, inl, inr, refl, sym, ap, ap₂, ◌∙◌, subst, ⊎_elim}
 use Rattle.std.specs.Prelude.{slice_get, slice_range, unwrap_or, if◌then◌else◌}
 use Rattle.std.specs.List.{AllByRecursion, IsDistinct, list_any}
-use Rattle.std.specs.Option.{option_map}
 use Rattle.std.specs.Str.{bytes_eq}
-use Rattle.std.proofs.lemmas.Bool.Decides.{eqb_tells, nat_tests}
+use Rattle.std.proofs.lemmas.Bool.Decides.{eqb_tells}
 use Rattle.std.proofs.lemmas.Slice.Eq.{bytes_eq-Decides}
 use Rattle.ckd_image.specs.declared.header.Geometry.{Geometry}
-use Rattle.ckd_image.specs.Header.{geometry_of}
 use Rattle.dscb_codec.specs.declared.F1.{F1}
 use Rattle.pack_spec.specs.declared.slot.VtocSlot.{VtocSlot}
-use Rattle.pack_spec.specs.Alike.{IsIn}
 use Rattle.pack_spec.specs.Blocks.{owned_tracks}
 use Rattle.pack_spec.specs.Bodies.{body_of, catalog_of}
 use Rattle.pack_spec.specs.FreeChain.{IsChain, entries_of, free_entries}
 use Rattle.pack_spec.specs.Label.{heads_of, label_of, track_bytes}
 use Rattle.pack_spec.specs.Owned.{volume_faults}
-use Rattle.pack_spec.specs.Rules.{name_faults, slots_faults}
+use Rattle.pack_spec.specs.Rules.{name_faults}
 use Rattle.pack_spec.specs.Settled.{AreGuarded, AreSettled, IsGuarded, IsSettledVtoc, slots_for}
-use Rattle.pack_spec.specs.Slots.{slots_of_vtoc, track_faults}
+use Rattle.pack_spec.specs.Slots.{slots_of_vtoc}
 use Rattle.pack_spec.specs.Volume.{attr_of, counted_runs, data_set_of, data_sets_in, volume_by, volume_of, volume_with}
-use Rattle.pack_spec.specs.Vtoc.{vtoc_of}
 use Rattle.pack_spec.proofs.BodyKinds.{body_same}
 use Rattle.pack_spec.proofs.Lawful.{groups_hold, lawful_volume}
 use Rattle.pack_spec.proofs.SetNames.{names_apart, same_name}
@@ -33,15 +29,16 @@ use Rattle.vol_model.specs.declared.contents.DataSet.{DataSet}
 use Rattle.vol_model.specs.declared.contents.Volume.{Volume}
 use Rattle.vol_model.specs.Order.{IsAscending, in_order}
 use Rattle.vol_model.specs.Shelf.{catalog_name, changed, has_name, with_set}
-use Rattle.vol_model.specs.Space.{free_runs, is_in}
+use Rattle.vol_model.specs.Space.{free_runs}
 use Rattle.vtoc_index.specs.declared.vol.Vol.{Vol}
-use Rattle.vtoc_index.specs.Index.{AreDscbs, IsMounted}
-use Rattle.vtoc_index.proofs.ExtentLaw.{volume_is}
+use Rattle.vtoc_index.specs.Index.{IsMounted}
 use Rattle.vtoc_sets.specs.Sets.{extents_in}
 use Rattle.pds_directory.specs.Directories.{IsPartIn, data_in, owned_in}
-use Rattle.stow_ops.proofs.ChangedSets.{changed_in_order, faults_kept, free_kept}
-use Rattle.stow_ops.proofs.OwnedSets.{among, fs, not_first, on_same, others_apart, outside, set_out, slots}
-use Rattle.stow_ops.proofs.SameSlots.{by_bytes, extent_same, faults_same, firsts_same, label_same, slots_same}
+use Rattle.slot_laws.proofs.ChangedSets.{changed_in_order, faults_kept, free_kept}
+use Rattle.pds_directory.proofs.PartSets.{among, fs, not_first, not_in_vtoc, others_apart, set_out, slots}
+use Rattle.vtoc_sets.proofs.Owners.{on_same}
+use Rattle.slot_laws.proofs.SameSlots.{KeepsVtoc, by_bytes, label_kept, mounted_same}
+use Rattle.slot_laws.proofs.SameSlots.{slots_kept as kept_slots}
 
 -- images that differ on tracks of a data set alone
 pub record DifferOnOwned (v : Vol) (f : F1) (before after : List ℕ) : Type 0 where
@@ -68,28 +65,25 @@ once_named (z ∷ xs) (suc n) zero x y apart first second same = let here : z �
     none (w ∷ ys) (suc m) y all is same = none ys m y all.1 is same
 once_named (z ∷ xs) (suc n) (suc m) x y apart first second same = ap suc (once_named xs n m x y apart.1 first second same)
 
-map_at : {X Y Z : Type 0} (f : X → Z) (h : Y → Z) (g : X → Y) (xs : List X) → ((m : ℕ) (x : X) → slice_get xs m ≡ Some x → f x ≡ h (g x)) → map f xs ≡ map h (map g xs)
-map_at f h g [] same = refl
-map_at {Z = Z} f h g (x ∷ xs) same = ap₂ (λ (y : Z) (ys : List Z). y ∷ ys) (same zero x refl) (map_at f h g xs (λ m y is. same (suc m) y is))
+map_through : {X Y Z : Type 0} (f : X → Z) (h : Y → Z) (g : X → Y) (xs : List X) → ((m : ℕ) (x : X) → slice_get xs m ≡ Some x → f x ≡ h (g x)) → map f xs ≡ map h (map g xs)
+map_through f h g [] same = refl
+map_through {Z = Z} f h g (x ∷ xs) same = ap₂ (λ (y : Z) (ys : List Z). y ∷ ys) (same zero x refl) (map_through f h g xs (λ m y is. same (suc m) y is))
 
 module _ (before after : List ℕ) (v : Vol) (f : F1) (part : IsPartIn before v f) (differ : DifferOnOwned v f before after) where
   abbrev g : Geometry
   g = v.geometry
 
-  front : track_bytes after g 0 ≡ track_bytes before g 0
-  front = differ.others 0 (λ k there. not_first before v f part k there)
-
-  in_vtoc : (t : ℕ) → IsIn v.vtoc t → track_bytes after g t ≡ track_bytes before g t
-  in_vtoc t within = differ.others t (λ k there. both (is_in t v.vtoc) (inside t within) (outside before v f part k t there))
-    where
-      inside : (t : ℕ) → IsIn v.vtoc t → is_in t v.vtoc ≡ true
-      inside t within = grind (arith, nat_tests)
-
-      both : (b : Bool) → b ≡ true → b ≡ false → ⊥
-      both b one two = cc
+  -- the label and the VTOC stay
+  keeps : KeepsVtoc v before after
+  keeps = record {
+    size = differ.size;
+    header = differ.header;
+    front = differ.others 0 (λ k there. not_first before v f part k there);
+    vtoc = λ t within. differ.others t (λ k there. not_in_vtoc before v f part k t there within);
+  }
 
   pub slots_kept : slots_of_vtoc after g v.vtoc ≡ slots before v f part
-  slots_kept = slots_same g v.vtoc before after front in_vtoc
+  slots_kept = kept_slots before after v keeps
 
   pub same_extents : (x : F1) → extents_in after v x ≡ extents_in before v x
   same_extents x = ap (λ (ss : List VtocSlot). counted_runs g ss x) slots_kept
@@ -155,7 +149,7 @@ module _ (before after : List ℕ) (v : Vol) (f : F1) (part : IsPartIn before v 
 
     sets_kept : data_sets_in g (data_in after v) all ≡ changed f.name G (data_sets_in g (data_in before v) all)
     unfolding data_sets_in
-    sets_kept = map_at now changed_set was (fs before v f part) one_set
+    sets_kept = map_through now changed_set was (fs before v f part) one_set
 
     up : IsAscending (in_order (data_sets_in g (data_in before v) all))
     unfolding volume_with
@@ -171,7 +165,7 @@ module _ (before after : List ℕ) (v : Vol) (f : F1) (part : IsPartIn before v 
     pub volume_as : volume_by after g v.vtoc ≡ with_set (volume_by before g v.vtoc) f.name G
     unfolding volume_with
     volume_as =
-        ap₂ (λ (o : Option (List ℕ)) (ss : List VtocSlot). volume_with g (data_in after v) (unwrap_or o []) v.vtoc ss) (label_same g v.vtoc before after front in_vtoc) slots_kept
+        ap₂ (λ (o : Option (List ℕ)) (ss : List VtocSlot). volume_with g (data_in after v) (unwrap_or o []) v.vtoc ss) (label_kept before after v keeps) slots_kept
         ∙ (λ i. record {
           serial = record { bytes = slice_range (unwrap_or (label_of before g) []) 4 10 };
           geometry = g;
@@ -189,39 +183,13 @@ module _ (before after : List ℕ) (v : Vol) (f : F1) (part : IsPartIn before v 
   pub volume_kept : volume_by after g v.vtoc ≡ with_set (volume_by before g v.vtoc) f.name with_body
   volume_kept = volume_as with_body (λ x. refl) own_body
 
-  some_label : (o : Option (List ℕ)) → o ≡ label_of before g → option_map (λ (l : List ℕ). slice_range l 4 10) o ≡ Some v.serial.bytes → (label : List ℕ) × (label_of before g ≡ Some label)
-  some_label None is e = cc
-  some_label (Some l) is e = (l, sym is)
-
   space_kept : free_runs (volume_by after g v.vtoc) ≡ free_runs (volume_by before g v.vtoc)
   space_kept = ap free_runs volume_kept ∙ free_kept f.name with_body (λ x. refl) (volume_by before g v.vtoc)
 
   -- and the index of one that is mounted is the other's, but for its buffer
   pub mounted_kept : (b : Buffer) → (b.records ≡ []) ⊎ StandsOn after b → IsMounted after (record v { buf = b })
   mounted_kept b held =
-      let m = part.set.mounted in
-      let labels = label_same g v.vtoc before after front in_vtoc in
-      let label = some_label (label_of before g) refl m.index.serial in
-      let faults : track_faults after g v.vtoc ≡ [] = faults_same g v.vtoc before after front in_vtoc ∙ m.index.tracks in
-      let extent : vtoc_of after g ≡ Ok v.vtoc = extent_same g v.vtoc before after front in_vtoc label.0 label.1 m.vtoc in
-      let header : geometry_of (take 512 after) (length after) ≡ Ok g = ap₂ (λ (l : List ℕ) (n : ℕ). geometry_of l n) differ.header differ.size ∙ m.index.header in
-      let lawful : slots_faults g (slots_of_vtoc after g v.vtoc) ≡ [] = ap (slots_faults g) slots_kept ∙ m.lawful in
-      let whole : volume_faults (volume_by after g v.vtoc) ≡ [] = ap volume_faults volume_kept ∙ faults_kept f.name with_body (λ x. refl) (volume_by before g v.vtoc) ∙ m.whole in
-      record {
-        index = record {
-          header = header;
-          serial = ap (option_map (λ (l : List ℕ). slice_range l 4 10)) labels ∙ m.index.serial;
-          tracks = faults;
-          slots = subst (AreDscbs v.slots.items) (sym slots_kept) m.index.slots;
-          firsts = m.index.firsts ∙ sym (firsts_same g v.vtoc before after front in_vtoc);
-          buffer = held;
-        };
-        vtoc = extent;
-        lawful = lawful;
-        whole = whole;
-        free = m.free ∙ sym space_kept;
-        volume = volume_is after g v.vtoc header extent faults lawful whole;
-      }
+      mounted_same before after v keeps part.set.mounted (ap volume_faults volume_kept ∙ faults_kept f.name with_body (λ x. refl) (volume_by before g v.vtoc)) space_kept b held
 
   pub stands_kept : volume_of after ≡ Ok (volume_by after g v.vtoc)
   stands_kept = (mounted_kept (record (v.buf) { records = [] }) (inl refl)).volume

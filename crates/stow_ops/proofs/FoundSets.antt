@@ -2,10 +2,8 @@
 use Rattle.std.proofs.Common.{◌≡◌, ◌≤◌, ℕ, zero, suc, Bool, true, false, cond, not, ◌&&◌, List, [], ◌∷◌, length, map, filter, Option, Some, Result, Ok, Err, refl, sym, ap, ◌∙◌, subst, arith}
 use Rattle.std.specs.Prelude.{find, nat_lt, slice_get}
 use Rattle.std.specs.List.{AllByRecursion, IsDistinct}
-use Rattle.std.specs.List.Sorted.{ties}
 use Rattle.std.specs.Str.{bytes_eq}
 use Rattle.std.proofs.lemmas.Bool.Decides.{nat_tests}
-use Rattle.std.proofs.lemmas.List.Kept.{IsSortedBy-filter}
 use Rattle.chain_spec.specs.Cut.{IsCut, needed}
 use Rattle.chain_spec.specs.Kept.{joined, kept}
 use Rattle.chain_spec.proofs.NeededLemmas.{needed_is_length}
@@ -25,38 +23,18 @@ use Rattle.vol_model.specs.declared.contents.Entry.{Entry}
 use Rattle.vol_model.specs.declared.contents.Volume.{Volume}
 use Rattle.vol_model.specs.declared.refusals.Refusal.{Refusal}
 use Rattle.vol_model.specs.declared.refusals.Refusal.TheVariants.{DirFull, MemberExists, NoMember, WrongKind}
-use Rattle.vol_model.specs.Order.{in_order, is_before}
+use Rattle.vol_model.specs.Order.{in_order}
 use Rattle.vol_model.specs.Shelf.{drop_on, enter_on, has_member, has_name, in_directory, is_partitioned, on_directory, on_found, refuse, set_of, with_entries, with_entry, with_set}
 use Rattle.vol_model.specs.Slots.{directory_needed, entry_size}
-use Rattle.vol_model.proofs.InOrder.{in_order-sorted, in_order-stable, in_order-unique, is_before-order}
 use Rattle.vol_model.proofs.Steps.{ascending_in_order}
 use Rattle.vtoc_index.specs.declared.vol.Vol.{Vol}
 use Rattle.vtoc_sets.specs.Sets.{extents_in}
 use Rattle.pds_directory.specs.declared.dir.Dir.{Dir}
 use Rattle.pds_directory.specs.Directories.{IsPartIn, IsReadIn, data_in, end_in, entries_read, members_in}
+use Rattle.slot_laws.proofs.ChangedNames.{filter_in_order}
 use Rattle.stow_ops.specs.Stores.{MakesEntries}
 use Rattle.stow_ops.proofs.ChangedEntries.{eq_name, other_name}
-use Rattle.stow_ops.proofs.OwnedSets.{among, fs, slots}
-
--- two tests keep the same in either order
-filters_swapped : {X : Type 0} (p q : X → Bool) (xs : List X) → filter q (filter p xs) ≡ filter p (filter q xs)
-filters_swapped p q [] = refl
-filters_swapped {X = X} p q (x ∷ xs) = by_test (p x) (q x) refl refl (filters_swapped p q xs)
-  where
-    by_test : (a b : Bool) → p x ≡ a → q x ≡ b → filter q (filter p xs) ≡ filter p (filter q xs) → filter q (cond a (x ∷ filter p xs) (filter p xs)) ≡ filter p (cond b (x ∷ filter q xs) (filter q xs))
-    by_test true true is_p is_q rest =
-        ap (λ (c : Bool). cond c (x ∷ filter q (filter p xs)) (filter q (filter p xs))) is_q
-        ∙ ap (λ (l : List X). x ∷ l) rest
-        ∙ sym (ap (λ (c : Bool). cond c (x ∷ filter p (filter q xs)) (filter p (filter q xs))) is_p)
-    by_test true false is_p is_q rest = ap (λ (c : Bool). cond c (x ∷ filter q (filter p xs)) (filter q (filter p xs))) is_q ∙ rest
-    by_test false true is_p is_q rest = rest ∙ sym (ap (λ (c : Bool). cond c (x ∷ filter p (filter q xs)) (filter p (filter q xs))) is_p)
-    by_test false false is_p is_q rest = rest
-
--- some data sets in order are those that the test keeps of all in order
-filter_in_order : (p : DataSet → Bool) (sets : List DataSet) → filter p (in_order sets) ≡ in_order (filter p sets)
-filter_in_order p sets =
-    in_order-unique (filter p sets) (filter p (in_order sets)) (IsSortedBy-filter is_before is_before-order p (in_order sets) (in_order-sorted sets))
-    (λ x. filters_swapped p (ties is_before x) (in_order sets) ∙ ap (filter p) (in_order-stable sets x) ∙ sym (filters_swapped p (ties is_before x) sets))
+use Rattle.pds_directory.proofs.PartSets.{among, fs, slots}
 
 -- the first that passes is the first of those that do
 find_first : (p : DataSet → Bool) (xs : List DataSet) → find p xs ≡ slice_get (filter p xs) 0

@@ -31,8 +31,10 @@ use Rattle.stow_ops.specs.declared.packings.Packing.{Packing}
 use Rattle.stow_ops.specs.Packing.{IsPackingOf}
 use Rattle.stow_ops.specs.Stores.{DifferOn, directory_tracks}
 use Rattle.stow_ops.proofs.DirectoryImages.{DifferOnOwned, same_extents, same_owned, slots_kept}
-use Rattle.stow_ops.proofs.OwnedSets.{among_sets, fs, on_same, owned_some, runs, set_out, sets_once, slots, two_of}
-use Rattle.stow_ops.proofs.SameSlots.{by_bytes}
+use Rattle.pds_directory.proofs.PartSets.{fs, runs, set_out, sets_once, slots}
+use Rattle.vtoc_sets.proofs.OwnedSets.{among_sets}
+use Rattle.vtoc_sets.proofs.Owners.{on_same, owned_some, two_of}
+use Rattle.slot_laws.proofs.SameSlots.{by_bytes}
 use Rattle.stow_ops.proofs.WrittenDirectories.{on_owned}
 
 -- ---- directories on tracks that are read alike

@@ -1,25 +1,19 @@
 -- An image on which a block of a directory is written has the directory with that block, and is else as before.
-use Rattle.std.proofs.Common.{◌≡◌, ◌≢◌, ◌+◌, ◌-◌, ◌≤◌, ◌<◌, ◌/◌, ◌%◌, ℕ, zero, suc, Bool, true, false, cond, ◌||◌, List, [], ◌∷◌, length, map, take, Option, Some, None, refl, sym, ap, ap₂, ◌∙◌, subst, arith, ⊎_elim}
+use Rattle.std.proofs.Common.{◌≡◌, ◌≢◌, ◌+◌, ◌-◌, ◌≤◌, ◌<◌, ◌%◌, ℕ, zero, suc, Bool, true, false, ◌||◌, List, [], ◌∷◌, length, map, take, Option, Some, None, refl, sym, ap, ap₂, ◌∙◌, subst, arith, ⊎_elim}
 use Rattle.std.specs.Prelude.{◌==◌, is_none, position, slice_get, slice_set, unwrap_or}
 use Rattle.std.specs.List.{flat_map, list_any}
 use Rattle.std.specs.Option.{option_map}
-use Rattle.std.proofs.lemmas.Bool.{cases_lt}
 use Rattle.std.proofs.lemmas.Bool.Decides.{eqb_tells, nat_tests}
-use Rattle.std.proofs.lemmas.List.FromFn.{get_or-map-range_with_len}
 use Rattle.chain_spec.specs.Store.{Block as Stored}
 use Rattle.ckd_image.specs.declared.header.Geometry.{Geometry}
-use Rattle.ckd_image.specs.Reading.{records_of}
 use Rattle.dscb_codec.specs.declared.F1.{F1}
-use Rattle.pack_spec.specs.Blocks.{data_track, data_tracks, records_in}
+use Rattle.pack_spec.specs.Blocks.{records_in}
 use Rattle.pack_spec.specs.Directories.{before_end, behind_end, block_entries, end_from, part_tracks, read_to, stored_in}
-use Rattle.pack_spec.specs.Label.{heads_of, records_on, track_bytes, tracks_of}
-use Rattle.track_records.specs.Buffers.{Buffer}
-use Rattle.track_records.specs.Updates.{HasLengths, with_parts}
-use Rattle.track_records.specs.Written.{IsUpdated}
+use Rattle.track_records.specs.Updates.{with_parts}
+use Rattle.set_records.specs.Rewriting.{HasRewritten}
 use Rattle.vol_model.specs.declared.contents.Block.{Block}
 use Rattle.vol_model.specs.declared.contents.Entry.{Entry}
 use Rattle.vol_model.specs.declared.contents.Place.{Place}
-use Rattle.vol_model.specs.declared.contents.Run.{Run}
 use Rattle.vol_model.specs.Places.{is_before}
 use Rattle.vol_model.specs.Space.{is_in}
 use Rattle.vtoc_index.specs.declared.vol.Vol.{Vol}
@@ -27,8 +21,8 @@ use Rattle.pds_directory.specs.Directories.{IsPartIn, blocks_in, broken_in, data
 use Rattle.stow_ops.specs.Stores.{DifferOn, HasStore, directory_tracks, store_in}
 use Rattle.stow_ops.proofs.DirectoryImages.{DifferOnOwned, same_owned}
 use Rattle.stow_ops.proofs.FoundBlocks.{IsFound, block_found}
-use Rattle.stow_ops.proofs.OwnedSets.{data_past, data_read, on_same, outside, own_once}
-use Rattle.stow_ops.proofs.SameSlots.{by_bytes}
+use Rattle.pds_directory.proofs.PartSets.{outside, own_once}
+use Rattle.vtoc_sets.proofs.Owners.{data_read, read_bytes}
 use Rattle.stow_ops.proofs.WrittenBlocks.{change_other, end_kept, place_kept, rewritten, tracks_kept}
 use Rattle.stow_ops.proofs.WrittenStores.{all_apart, all_changed, apart_filter, before_same, behind_same, broken_same, not_both, one_changed, places_same}
 
@@ -63,44 +57,21 @@ on_owned v f before after differ = record {
   others = λ track none. differ.others track (not_there (owned_in before v f) (suc (end_in before v f).tt) track none);
 }
 
--- ---- the data of a track that has the same bytes
-
-in_vtoc : (image : List ℕ) (g : Geometry) (vtoc : Run) (u : Option ℕ) (t : ℕ) → is_in t vtoc ≡ true → t < tracks_of g → records_in g (data_tracks image g vtoc) u t ≡ records_of (t / heads_of g) (t % heads_of g) u []
-unfolding records_in data_tracks
-in_vtoc image g vtoc u t is inside =
-    ap (records_of (t / heads_of g) (t % heads_of g) u)
-    (get_or-map-range_with_len (data_track image g vtoc) 0 (tracks_of g) t t [] inside (omega arith) ∙ ap (λ (b : Bool). cond b [] (track_bytes image g t)) is)
-
-alike_in : (g : Geometry) (vtoc : Run) (before after : List ℕ) (u : Option ℕ) (t : ℕ) → track_bytes after g t ≡ track_bytes before g t → records_in g (data_tracks after g vtoc) u t ≡ records_in g (data_tracks before g vtoc) u t
-alike_in g vtoc before after u t same = by (is_in t vtoc) refl
-  where
-    by : (b : Bool) → is_in t vtoc ≡ b → records_in g (data_tracks after g vtoc) u t ≡ records_in g (data_tracks before g vtoc) u t
-    by false out = on_same g vtoc before after u t out (by_bytes g u t before after same)
-    by true within = ⊎_elim
-        (λ inside. in_vtoc after g vtoc u t within inside ∙ sym (in_vtoc before g vtoc u t within inside))
-        (λ past. data_past after g vtoc u t past ∙ sym (data_past before g vtoc u t past))
-        (cases_lt t (tracks_of g))
-
 -- ---- a block that is written
 
--- a buffer holds the track of a directory block, up to that, and these are the block's new key and data
-pub record Rewrites (v : Vol) (f : F1) (k : ℕ) (place : Place) (buf : Buffer) (key content : List ℕ) (block : Stored Entry) (before : List ℕ) : Type 0 where
+-- this key and these data are those of a block for a place of a directory that can be read
+pub record Rewrites (v : Vol) (f : F1) (k : ℕ) (place : Place) (key content : List ℕ) (block : Stored Entry) (before : List ℕ) : Type 0 where
   pub part : IsPartIn before v f
   pub whole : broken_in before v f ≡ None
   pub b : Block
   pub at : slice_get (directory_in before v f) k ≡ Some b
   pub is : b.place ≡ place
-  pub geometry : buf.geometry ≡ v.geometry
-  pub inside : buf.track < tracks_of v.geometry
-  pub owned : slice_get (owned_in before v f) place.tt ≡ Some buf.track
-  pub stand : records_on before v.geometry (Some place.r) buf.track ≡ Some buf.records
-  pub lengths : HasLengths buf.records (place.r - 1) 8 256
   pub keys : length key ≡ 8
   pub contents : length content ≡ 256
   pub reads : block_entries (map (λ (x : ℕ). x % 256) content) ≡ Some block
 
-module _ (v : Vol) (f : F1) (k : ℕ) (place : Place) (buf : Buffer) (key content : List ℕ) (block : Stored Entry) (before after : List ℕ)
-    (w : Rewrites v f k place buf key content block before) (up : IsUpdated buf (place.r - 1) key content before after) where
+module _ (v : Vol) (f : F1) (k : ℕ) (place : Place) (key content : List ℕ) (block : Stored Entry) (before after : List ℕ)
+    (w : Rewrites v f k place key content block before) (up : HasRewritten v f place key content before after) where
   abbrev g : Geometry
   g = v.geometry
 
@@ -119,23 +90,29 @@ module _ (v : Vol) (f : F1) (k : ℕ) (place : Place) (buf : Buffer) (key conten
   number : 1 + i ≡ place.r
   number = omega (arith, found.0.first)
 
-  out : is_in buf.track v.vtoc ≡ false
-  out = outside before v f w.part place.tt buf.track w.owned
+  same_some : (x y : ℕ) → Some x ≡ Some y → x ≡ y
+  same_some x y e = cc
 
-  others : (t : ℕ) (u : Option ℕ) → t ≢ buf.track → records_in g (data_in after v) u t ≡ records_in g (data_in before v) u t
-  others t u apart = alike_in g v.vtoc before after u t (subst (λ (x : Geometry). track_bytes after x t ≡ track_bytes before x t) w.geometry (up.others t apart))
+  track_is : found.0.track ≡ up.track
+  track_is = same_some found.0.track up.track (sym found.0.there ∙ up.owned)
 
-  mine : (u : Option ℕ) → records_in g (data_in after v) u buf.track ≡ option_map (with_parts i key content) (records_in g (data_in before v) u buf.track)
+  out : is_in up.track v.vtoc ≡ false
+  out = outside before v f w.part place.tt up.track up.owned
+
+  others : (t : ℕ) (u : Option ℕ) → t ≢ up.track → records_in g (data_in after v) u t ≡ records_in g (data_in before v) u t
+  others t u apart = read_bytes g v.vtoc before after u t (up.others t apart)
+
+  mine : (u : Option ℕ) → records_in g (data_in after v) u up.track ≡ option_map (with_parts i key content) (records_in g (data_in before v) u up.track)
   mine u =
-      data_read after g v.vtoc u buf.track out w.inside
-      ∙ subst (λ (x : Geometry). records_on after x u buf.track ≡ option_map (with_parts i key content) (records_on before x u buf.track)) w.geometry (up.records u)
-      ∙ ap (option_map (with_parts i key content)) (sym (data_read before g v.vtoc u buf.track out w.inside))
+      data_read after g v.vtoc u up.track out up.inside
+      ∙ up.records u
+      ∙ ap (option_map (with_parts i key content)) (sym (data_read before g v.vtoc u up.track out up.inside))
 
-  read : records_in g (data_in before v) (Some place.r) buf.track ≡ Some buf.records
-  read = data_read before g v.vtoc (Some place.r) buf.track out w.inside ∙ w.stand
+  read : records_in g (data_in before v) (Some place.r) up.track ≡ Some found.0.held
+  read = ap (records_in g (data_in before v) (Some place.r)) (sym track_is) ∙ found.0.read
 
-  once : (j : ℕ) → slice_get (owned_in before v f) j ≡ Some buf.track → j ≡ place.tt
-  once j there = own_once before v f w.part j place.tt buf.track there w.owned
+  once : (j : ℕ) → slice_get (owned_in before v f) j ≡ Some up.track → j ≡ place.tt
+  once j there = own_once before v f w.part j place.tt up.track there up.owned
 
   low : place.tt ≤ end.tt
   low = before_track place end found.1
@@ -147,7 +124,7 @@ module _ (v : Vol) (f : F1) (k : ℕ) (place : Place) (buf : Buffer) (key conten
   differ = record {
     size = up.size;
     header = up.header;
-    others = λ track none. subst (λ (x : Geometry). track_bytes after x track ≡ track_bytes before x track) w.geometry (up.others track (λ same. never (sym none ∙ ap (λ (t : ℕ). list_any (λ (x : ℕ). x == t) (directory_tracks before v f)) same ∙ any_there (owned_in before v f) (suc end.tt) place.tt buf.track w.owned (omega (arith, low)))));
+    others = λ track none. up.others track (λ same. never (sym none ∙ ap (λ (t : ℕ). list_any (λ (x : ℕ). x == t) (directory_tracks before v f)) same ∙ any_there (owned_in before v f) (suc end.tt) place.tt up.track up.owned (omega (arith, low))));
   }
     where
       never : false ≡ true → ⊥
@@ -160,12 +137,12 @@ module _ (v : Vol) (f : F1) (k : ℕ) (place : Place) (buf : Buffer) (key conten
   owned_after = same_owned before after v f w.part (on_owned v f before after differ) f
 
   end_after : end_in after v f ≡ end
-  end_after = ap (end_from g (data_in after v) 0) owned_after ∙ end_kept place key content w.keys w.contents g (data_in before v) (data_in after v) (owned_in before v f) buf.track i buf.records others mine number read w.lengths w.owned once
+  end_after = ap (end_from g (data_in after v) 0) owned_after ∙ end_kept place key content w.keys w.contents g (data_in before v) (data_in after v) (owned_in before v f) up.track i found.0.held others mine number read found.0.lengths up.owned once
 
   tracks_after : tracks_in after v f ≡ map (option_map (map change)) (tracks_in before v f)
   tracks_after =
       ap₂ (λ (ts : List ℕ) (p : Place). part_tracks g (data_in after v) ts p (read_to p f.lstar)) owned_after end_after
-      ∙ tracks_kept place key content w.keys w.contents g (data_in before v) (data_in after v) (owned_in before v f) buf.track i buf.records others mine number read w.lengths w.owned once end to found.1
+      ∙ tracks_kept place key content w.keys w.contents g (data_in before v) (data_in after v) (owned_in before v f) up.track i found.0.held others mine number read found.0.lengths up.owned once end to found.1
 
   blocks_after : blocks_in after v f ≡ map change (blocks_in before v f)
   blocks_after = ap (λ (ts : List (Option (List Block))). flat_map (λ o. unwrap_or o []) ts) tracks_after ∙ all_changed change (tracks_in before v f)

@@ -1,19 +1,17 @@
 -- The directory of a partitioned data set as a store of blocks, what a write of one of them leaves of it, and what writes in their safe order do, in this project's profile.
-use Rattle.std.specs.Prelude.{◌≡◌, ◌≢◌, ◌⊎◌, ℕ, suc, ◌+◌, ◌-◌, ◌^◌, ◌<◌, ◌==◌, Bool, true, false, List, [], ◌∷◌, length, map, nat_eq, nat_lt, set, take, slice_get, slice_set, Option, Some, None, Result, Ok, OnErr, OnOk}
+use Rattle.std.specs.Prelude.{◌≡◌, ◌≢◌, ◌⊎◌, ℕ, suc, ◌+◌, ◌-◌, ◌^◌, ◌<◌, ◌==◌, false, List, [], ◌∷◌, length, map, nat_eq, nat_lt, set, take, slice_get, slice_set, Option, Some, None, Result, Ok, OnErr, OnOk}
 use Rattle.std.specs.List.{AllByRecursion, list_any}
 use Rattle.chain_spec.specs.Cut.{IsCut}
 use Rattle.chain_spec.specs.Kept.{Rises, joined, kept}
 use Rattle.chain_spec.specs.Store.{Block as Stored}
 use Rattle.ckd_image.specs.declared.header.Geometry.{Geometry}
-use Rattle.ckd_image.specs.Track.{Record}
 use Rattle.dscb_codec.specs.declared.F1.{F1}
 use Rattle.stop_model.specs.Files.{File, file_of}
 use Rattle.stop_model.specs.Moments.{Meaning, IsDurable, Elapses}
 use Rattle.pack_spec.specs.Directories.{name_number, stored_in}
-use Rattle.pack_spec.specs.Label.{records_on, track_bytes}
+use Rattle.pack_spec.specs.Label.{track_bytes}
 use Rattle.pack_spec.specs.Volume.{volume_of}
 use Rattle.sorted_chain.specs.Plan.{ChangesOne, IsPlan, after_writes}
-use Rattle.track_records.specs.Updates.{HasLengths}
 use Rattle.vol_model.specs.declared.contents.Block.{Block}
 use Rattle.vol_model.specs.declared.contents.Entry.{Entry}
 use Rattle.vol_model.specs.declared.contents.Place.{Place}
@@ -65,16 +63,6 @@ IsBlockAt image v f k place = (b : Block) × (slice_get (directory_in image v f)
 -- one of them does
 abbrev pub IsPlaceIn : List ℕ → Vol → F1 → Place → Type 0
 IsPlaceIn image v f place = (k : ℕ) × IsBlockAt image v f k place
-
--- records are read of a track, and the one of a number can be a directory block; or that isn't so
-abbrev pub IsHeldBlock : Bool → Option (List Record) → List Record → ℕ → Type 0
-IsHeldBlock true found records k = found ≡ Some records
-IsHeldBlock false found records k = (xs : List Record) → found ≡ Some xs → HasLengths xs k 8 256 → ⊥
-
--- The buffer of an index holds the records of the track on which a directory block stands, up to that.
-pub record HoldsBlock (image : List ℕ) (v : Vol) (f : F1) (place : Place) : Type 0 where
-  pub owned : slice_get (owned_in image v f) place.tt ≡ Some v.buf.track
-  pub stand : records_on image v.geometry (Some place.r) v.buf.track ≡ Some v.buf.records
 
 -- A directory's block of a number is written and made durable: a stop leaves the files as they were, or with it. Where it is done they have it, and the index is the image's.
 pub record WritesBlock {T E : Type 0} (name : List ℕ) (v : Vol) (f : F1) (k : ℕ) (block : Stored Entry) (v' : Vol)

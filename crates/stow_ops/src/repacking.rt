@@ -13,13 +13,14 @@ ghost use Rattle.stow_ops.specs.Packing.{IsPacking, IsPackingOf, IsSomePacking};
 ghost use Rattle.stow_ops.specs.Stores.{DifferOn, directory_tracks};
 
 use crate::packings::Packing;
-use crate::storing::{END_LEN, ROOM, carry_out, set_at};
+use crate::storing::{END_LEN, ROOM, carry_out};
 use dscb_codec::Dscb;
 use hall_core::{Device, Hall};
 use pds_directory::Dir;
 use sorted_chain::{kept, plan};
 use std::alloc::{AllocError, Global};
 use vtoc_index::Vol;
+use vtoc_sets::set_at;
 
 /// How a directory that was read comes to be packed: its blocks are to be the cut of the entries that
 /// count. The error comes if memory runs out.

@@ -28,6 +28,7 @@ use sorted_chain::{Plan, plan};
 use std::alloc::{AllocError, Global};
 use vol_model::{Entry, Refusal, StoreErr};
 use vtoc_index::Vol;
+use vtoc_sets::set_at;
 
 // The bytes that a directory block has for entries, and those of the end entry.
 pub(crate) const ROOM: u16 = 254;
@@ -112,17 +113,6 @@ fn written(writes: Vec<(u32, Vec<DirEntry>)>, mut blocks: Vec<Vec<DirEntry>>) ->
         blocks[at as usize] = block;
     }
     blocks
-}
-
-// The format 1 in a slot.
-pub(crate) fn set_at(vol: &Vol, slot: u32) -> F1
-    requires { is_some (name_at vol.now.slots.items slot) ≡ true }
-    ensures { slice_get vol.now.slots.items slot ≡ Some (Dscb.F1 result) }
-{
-    match &vol.slots[slot as usize] {
-        Dscb::F1(set) => *set,
-        _ => unreachable!(),
-    }
 }
 
 // How a directory that was read comes to hold these entries, unless they need more blocks than it

@@ -1,5 +1,12 @@
 pub mod CountedRows
 pub mod CountedSpace
+pub mod DataPlaces
+pub mod EndTracks
 pub mod FewRuns
+pub mod KeptBodies
+pub mod OtherBuffers
+pub mod OwnedPlaces
+pub mod OwnedSets
+pub mod Owners
 pub mod SlotAddresses
 pub mod TakenSlots

@@ -1,12 +1,12 @@
 -- The data sets in an index of a VTOC, and the extents in their DSCBs (System Control Blocks GC28-6628).
-use Rattle.std.specs.Prelude.{◌≡◌, ℕ, ◌&&◌, Bool, true, List, [], ◌++◌, length, map, nat_lt, sum_by, if◌then◌else◌, Option, Some, None, Ok}
+use Rattle.std.specs.Prelude.{◌≡◌, ℕ, ◌&&◌, Bool, true, List, [], ◌++◌, length, map, nat_lt, slice_get, sum_by, if◌then◌else◌, Option, Some, None, Ok}
 use Rattle.std.specs.Str.{bytes_eq}
 use Rattle.ckd_image.specs.declared.header.Geometry.{Geometry}
 use Rattle.dscb_codec.specs.declared.Dscb.{Dscb}
 use Rattle.dscb_codec.specs.declared.Dscb.TheVariants as formats
 use Rattle.dscb_codec.specs.declared.F1.{F1}
 use Rattle.dscb_codec.specs.declared.F3.{F3}
-use Rattle.pack_spec.specs.Blocks.{seq_body}
+use Rattle.pack_spec.specs.Blocks.{data_tracks, owned_tracks, seq_body}
 use Rattle.pack_spec.specs.Directories.{part_body}
 use Rattle.pack_spec.specs.Rules.{counted_extents, has_extents, is_f3}
 use Rattle.pack_spec.specs.Slots.{slots_of_vtoc}
@@ -41,6 +41,20 @@ extents_in image v f = map (run_of_extent v.geometry) (counted_extents (slots_of
 pub record HasSet (image : List ℕ) (v : Vol) (f : F1) : Type 0 where
   pub mounted : IsMounted image v
   pub extents : has_extents v.geometry (slots_of_vtoc image v.geometry v.vtoc) f ≡ true
+
+-- A data set of a mounted image by its format 1, which stands in a slot of the index.
+pub record IsSetIn (image : List ℕ) (v : Vol) (f : F1) : Type 0 where
+  pub set : HasSet image v f
+  pub slot : ℕ
+  pub dscb : slice_get v.slots.items slot ≡ Some (formats.F1 f)
+
+-- the tracks of a data set, in relative order
+abbrev pub owned_in : List ℕ → Vol → F1 → List ℕ
+owned_in image v f = owned_tracks (extents_in image v f)
+
+-- the bytes of the tracks outside the VTOC
+abbrev pub data_in : List ℕ → Vol → List (List ℕ)
+data_in image v = data_tracks image v.geometry v.vtoc
 
 -- the volume of an image, by its index
 abbrev pub volume_in : List ℕ → Vol → Volume

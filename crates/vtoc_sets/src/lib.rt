@@ -5,7 +5,9 @@
 mod extents;
 mod sets;
 mod space;
+mod tracks;
 
 pub use extents::{Space, run_at, space_of};
-pub use sets::{BodyKind, attr_of, body_kind, fits_mode, has_no_block};
+pub use sets::{BodyKind, attr_of, body_kind, fits_mode, has_no_block, set_at};
 pub use space::{slots_for, slots_needed, slots_of_sets, tracks_in};
+pub use tracks::track_at;

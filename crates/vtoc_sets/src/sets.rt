@@ -1,16 +1,18 @@
 //! What the format 1 DSCB of a data set says of it, by System Control Blocks, GC28-6628.
-ghost use Rattle.std.specs.Prelude.{◌≡◌, ℕ, ◌^◌, ◌<◌, List};
+ghost use Rattle.std.specs.Prelude.{◌≡◌, ℕ, ◌^◌, ◌<◌, List, Some, is_some, slice_get, true};
 ghost use Rattle.ckd_image.specs.declared.header.Geometry.{Geometry};
 ghost use Rattle.pack_spec.specs.Blocks.{has_no_block};
 ghost use Rattle.pack_spec.specs.Bodies.{body_of};
 ghost use Rattle.pack_spec.specs.Volume.{attr_of, secondary_of, space_flags};
 ghost use Rattle.vol_model.specs.declared.contents.Run.{Run};
 ghost use Rattle.vol_model.specs.Shelf.{fits_mode, is_catalog, is_partitioned, is_sequential};
+ghost use Rattle.vtoc_index.specs.Names.{name_at};
 ghost use Rattle.vtoc_sets.specs.Sets.{body_by, kind_by};
 
-use dscb_codec::F1;
+use dscb_codec::{Dscb, F1};
 use ebcdic_names::Dsn;
 use vol_model::{Attr, Mode, is_catalog};
+use vtoc_index::Vol;
 
 // One more than the greatest secondary quantity, which has the lower three bytes of SCALO; its flags stand above.
 const QUANTITIES: u32 = 0x0100_0000;
@@ -28,6 +30,17 @@ const UNTOLD: u16 = 0x0200;
 const SEQUENTIAL: u16 = 0x4000 / UNTOLD;
 
 const PARTITIONED: u16 = 0x0200 / UNTOLD;
+
+/// The format 1 of the data set in a slot, counted from 0 over the tracks of the VTOC.
+pub fn set_at(vol: &Vol, slot: u32) -> F1
+    requires { is_some (name_at vol.now.slots.items slot) ≡ true }
+    ensures { slice_get vol.now.slots.items slot ≡ Some (Dscb.F1 result) }
+{
+    match &vol.slots[slot as usize] {
+        Dscb::F1(set) => *set,
+        _ => unreachable!(),
+    }
+}
 
 /// The attributes of a data set, by its format 1; dates and flags are those of the standard.
 #[tactic(auto, unfolding(pack_spec::specs::Volume::attr_of))]

@@ -10,7 +10,6 @@ use Rattle.pack_spec.specs.Volume.{volume_of}
 use Rattle.space_alloc.specs.Units.{listed}
 use Rattle.vol_model.specs.declared.answers.StoreErr.{StoreErr}
 use Rattle.vol_model.specs.declared.answers.StoreErr.TheVariants.{Refused}
-use Rattle.vol_model.specs.declared.refusals.Refusal.{Refusal}
 use Rattle.vol_model.specs.Places.{tracks_in}
 use Rattle.vol_model.specs.Shelf.{allocate_on, lacks_room}
 use Rattle.vtoc_index.specs.Index.{IsMounted}
@@ -33,17 +32,15 @@ returns-in_err-extents-clause-files g c told =
     let operation = allocate_on c.args.dsn.now c.args.attr.now c.args.request.now c.args.dir in
     let mounted = c.requires.mounted told in
     let p = err_from_is_err_and c.from_residual.result c.from_residual.ensures.1 in
-    let r : Refusal = c.in_err-extents.field-0.0 in
-    let given : c.from_residual.result ≡ Err (Refused r) = p.1 ∙ ap (λ (e : StoreErr). Err e) p.2 in
+    let given : c.from_residual.result ≡ Err (Refused c.in_err-extents.field-0.0) = p.1 ∙ ap (λ (e : StoreErr). Err e) p.2 in
     subst (λ (x : Result (Unit {0}) StoreErr). Operates name operation v (InNewSet c.args.request.now c.args.dir v) m m x) (sym given)
-    (operates_none name operation v (InNewSet c.args.request.now c.args.dir v) m _ r mounted.volume (c.in_err-extents.ensures.refused _ _ mounted mounted.volume) (same_none m (g.met.H.Hall.counts_now hall)))
+    (operates_none name operation v (InNewSet c.args.request.now c.args.dir v) m _ c.in_err-extents.field-0.0 mounted.volume (c.in_err-extents.ensures.refused _ _ mounted mounted.volume) (same_none m (g.met.H.Hall.counts_now hall)))
 
 pub returns-in_default-clause-files : goal.returns-in_default-clause-files
 returns-in_default-clause-files g c told =
     let hall = c.args.hall.now in
-    let v = c.args.vol.now in
     let m = g.H.Hall.meaning hall in
-    let name : List ℕ = (unit_of (g.H.Hall.facts hall).units v.unit).name in
+    let name : List ℕ = (unit_of (g.H.Hall.facts hall).units c.args.vol.now.unit).name in
     operates_memory name (allocate_on c.args.dsn.now c.args.attr.now c.args.request.now c.args.dir) c.reserve_name.new.vol (InNewSet c.args.request.now c.args.dir c.reserve_name.new.vol) m _ (c.requires.mounted told).volume (same_none m (g.met.H.Hall.counts_now hall))
 
 pub returns-in_default-clause-unit : goal.returns-in_default-clause-unit
@@ -57,10 +54,8 @@ carry_out-requires-clause-unit g c = unit_reordered (g.H.Hall.facts c.args.hall.
 
 pub carry_out-requires-clause-names : goal.carry_out-requires-clause-names
 carry_out-requires-clause-names g c =
-    let v0 = c.args.vol.now in
-    let v1 = c.reserve_name.new.vol in
-    subst (λ (x : Vol). AreByName (name_at x.slots.items) v1.by_name.items) (sym c.reserve_name.ensures.others)
-    (subst (AreByName (name_at v0.slots.items)) (sym c.reserve_name.ensures.items) c.requires.names)
+    subst (λ (x : Vol). AreByName (name_at x.slots.items) c.reserve_name.new.vol.by_name.items) (sym c.reserve_name.ensures.others)
+    (subst (AreByName (name_at c.args.vol.now.slots.items)) (sym c.reserve_name.ensures.items) c.requires.names)
 
 pub carry_out-requires-clause-absent : goal.carry_out-requires-clause-absent
 carry_out-requires-clause-absent g c = subst (λ (x : Vol). IsAbsent c.args.dsn.now.bytes x.slots.items) (sym c.reserve_name.ensures.others) c.in_ok-extents.ensures.absent
@@ -77,56 +72,44 @@ carry_out-requires-clause-tracks_room g c =
 
 pub carry_out-requires-clause-plan : goal.carry_out-requires-clause-plan
 carry_out-requires-clause-plan g c told =
-    let m = g.H.Hall.meaning c.args.hall.now in
     let units = (g.H.Hall.facts c.args.hall.now).units in
-    subst (λ (x : Vol). HasPlan (image_named m.state (unit_of units x.unit).name) c.args.dsn.now c.args.attr.now c.args.request.now c.args.dir (listed c.in_ok-extents.extents)) (sym c.reserve_name.ensures.others)
+    subst (λ (x : Vol). HasPlan (image_named (g.H.Hall.meaning c.args.hall.now).state (unit_of units x.unit).name) c.args.dsn.now c.args.attr.now c.args.request.now c.args.dir (listed c.in_ok-extents.extents)) (sym c.reserve_name.ensures.others)
     (c.in_ok-extents.ensures.plan _ (c.requires.mounted told))
 
 pub carry_out-requires-clause-mounted : goal.carry_out-requires-clause-mounted
 carry_out-requires-clause-mounted g c told =
-    let m = g.H.Hall.meaning c.args.hall.now in
     let units = (g.H.Hall.facts c.args.hall.now).units in
-    let v1 = c.reserve_name.new.vol in
-    subst (λ (x : Vol). IsMounted (image_named m.state (unit_of units x.unit).name) v1) (sym c.reserve_name.ensures.others)
-    (mounted_reordered _ c.args.vol.now v1 c.reserve_name.ensures.others (c.requires.mounted told))
+    subst (λ (x : Vol). IsMounted (image_named (g.H.Hall.meaning c.args.hall.now).state (unit_of units x.unit).name) c.reserve_name.new.vol) (sym c.reserve_name.ensures.others)
+    (mounted_reordered _ c.args.vol.now c.reserve_name.new.vol c.reserve_name.ensures.others (c.requires.mounted told))
 
 pub carry_out-requires-clause-settled : goal.carry_out-requires-clause-settled
 carry_out-requires-clause-settled g c told =
-    let m = g.H.Hall.meaning c.args.hall.now in
     let units = (g.H.Hall.facts c.args.hall.now).units in
-    subst (λ (x : Vol). IsSettledVtoc (image_named m.state (unit_of units x.unit).name)) (sym c.reserve_name.ensures.others) (c.requires.settled told)
+    subst (λ (x : Vol). IsSettledVtoc (image_named (g.H.Hall.meaning c.args.hall.now).state (unit_of units x.unit).name)) (sym c.reserve_name.ensures.others) (c.requires.settled told)
 
 pub returns-in-Ok-carry_out-clause-files : goal.returns-in-Ok-carry_out-clause-files
 returns-in-Ok-carry_out-clause-files g c told =
-    let hall = c.args.hall.now in
-    let v = c.args.vol.now in
-    let units = (g.H.Hall.facts hall).units in
-    let m = g.H.Hall.meaning hall in
+    let units = (g.H.Hall.facts c.args.hall.now).units in
+    let m = g.H.Hall.meaning c.args.hall.now in
     let n = g.H.Hall.meaning c.carry_out.new.hall in
     let w = c.carry_out.new.vol in
-    let dsn = c.args.dsn.now in
-    let attr = c.args.attr.now in
     let q = c.args.request.now in
-    let name : List ℕ = (unit_of units v.unit).name in
+    let name : List ℕ = (unit_of units c.args.vol.now.unit).name in
     let by : (unit_of units c.reserve_name.new.vol.unit).name ≡ name = ap (λ (x : Vol). (unit_of units x.unit).name) c.reserve_name.ensures.others in
-    let does = subst (λ (s : List ℕ). DoesOperation {T = Unit {0}} {E = Device} s (allocate_on dsn attr q c.args.dir) w (InNewSet q c.args.dir w) m n (Ok tt)) by (c.in-Ok-carry_out.ensures.files told) in
-    operates_planned name dsn attr q c.args.dir w (InNewSet q c.args.dir w) m n (listed c.in_ok-extents.extents) (c.in_ok-extents.ensures.plan _ (c.requires.mounted told)) tt does
+    let does = subst (λ (s : List ℕ). DoesOperation {T = Unit {0}} {E = Device} s (allocate_on c.args.dsn.now c.args.attr.now q c.args.dir) w (InNewSet q c.args.dir w) m n (Ok tt)) by (c.in-Ok-carry_out.ensures.files told) in
+    operates_planned name c.args.dsn.now c.args.attr.now q c.args.dir w (InNewSet q c.args.dir w) m n (listed c.in_ok-extents.extents) (c.in_ok-extents.ensures.plan _ (c.requires.mounted told)) tt does
 
 pub returns-in-Err-clause-files : goal.returns-in-Err-clause-files
 returns-in-Err-clause-files g c told =
-    let hall = c.args.hall.now in
-    let v = c.args.vol.now in
-    let units = (g.H.Hall.facts hall).units in
-    let m = g.H.Hall.meaning hall in
+    let units = (g.H.Hall.facts c.args.hall.now).units in
+    let m = g.H.Hall.meaning c.args.hall.now in
     let n = g.H.Hall.meaning c.carry_out.new.hall in
     let w = c.carry_out.new.vol in
-    let dsn = c.args.dsn.now in
-    let attr = c.args.attr.now in
     let q = c.args.request.now in
-    let name : List ℕ = (unit_of units v.unit).name in
+    let name : List ℕ = (unit_of units c.args.vol.now.unit).name in
     let by : (unit_of units c.reserve_name.new.vol.unit).name ≡ name = ap (λ (x : Vol). (unit_of units x.unit).name) c.reserve_name.ensures.others in
-    let does = subst (λ (s : List ℕ). DoesOperation {T = Unit {0}} {E = Device} s (allocate_on dsn attr q c.args.dir) w (InNewSet q c.args.dir w) m n c.carry_out.result) by (c.carry_out.ensures.files told) in
-    operates_failed name dsn attr q c.args.dir w (InNewSet q c.args.dir w) m n (listed c.in_ok-extents.extents) (c.in_ok-extents.ensures.plan _ (c.requires.mounted told)) does
+    let does = subst (λ (s : List ℕ). DoesOperation {T = Unit {0}} {E = Device} s (allocate_on c.args.dsn.now c.args.attr.now q c.args.dir) w (InNewSet q c.args.dir w) m n c.carry_out.result) by (c.carry_out.ensures.files told) in
+    operates_failed name c.args.dsn.now c.args.attr.now q c.args.dir w (InNewSet q c.args.dir w) m n (listed c.in_ok-extents.extents) (c.in_ok-extents.ensures.plan _ (c.requires.mounted told)) does
 
 pub returns-in-Ok-carry_out-clause-index : goal.returns-in-Ok-carry_out-clause-index
 returns-in-Ok-carry_out-clause-index g c =
@@ -154,9 +137,5 @@ returns-in-Err-clause-room g c = c.carry_out.ensures.room ∙ ap (λ (x : Vol). 
 pub returns-in-Ok-carry_out-clause-directory : goal.returns-in-Ok-carry_out-clause-directory
 returns-in-Ok-carry_out-clause-directory g c told =
     let units = (g.H.Hall.facts c.args.hall.now).units in
-    let m = g.H.Hall.meaning c.args.hall.now in
-    let n = g.H.Hall.meaning c.carry_out.new.hall in
-    let w = c.carry_out.new.vol in
-    let q = c.args.request.now in
     let by : (unit_of units c.reserve_name.new.vol.unit).name ≡ (unit_of units c.args.vol.now.unit).name = ap (λ (x : Vol). (unit_of units x.unit).name) c.reserve_name.ensures.others in
-    subst (λ (s : List ℕ). HasDirectory (image_named n.state s) w.geometry (new_tracks q c.args.dir (volume_of (image_named m.state s))) c.args.dir) by (c.in-Ok-carry_out.ensures.directory told)
+    subst (λ (s : List ℕ). HasDirectory (image_named (g.H.Hall.meaning c.carry_out.new.hall).state s) c.carry_out.new.vol.geometry (new_tracks c.args.request.now c.args.dir (volume_of (image_named (g.H.Hall.meaning c.args.hall.now).state s))) c.args.dir) by (c.in-Ok-carry_out.ensures.directory told)

@@ -40,14 +40,11 @@ returns-in_err-pointer-clause-files g c dsn is told =
     let v0 = c.args.vol.now in
     let name : List ℕ = (unit_of (g.H.Hall.facts c.args.hall.now).units v0.unit).name in
     let v1 = c.mark.new.vol in
-    let f1 = g.H.Hall.facts c.mark.new.hall in
-    let m1 = g.H.Hall.meaning c.mark.new.hall in
     let v2 = c.put_added.new.vol in
-    let m2 = g.H.Hall.meaning c.put_added.new.hall in
     let one = slots_changed v0 v1 c.mark.ensures.others in
     let two = slots_changed v1 v2 c.put_added.ensures.others in
-    let by1 = name_kept (g.H.Hall.facts c.args.hall.now).units f1.units v0 v1 c.in_ok-mark.ensures.faults.units one in
-    let more = subst (λ (n : List ℕ). Marks {T = List ℕ} {E = Device} n v2 m1 m2 c.put_added.result) by1 (c.put_added.ensures.files told) in
+    let by1 = name_kept (g.H.Hall.facts c.args.hall.now).units (g.H.Hall.facts c.mark.new.hall).units v0 v1 c.in_ok-mark.ensures.faults.units one in
+    let more = subst (λ (n : List ℕ). Marks {T = List ℕ} {E = Device} n v2 (g.H.Hall.meaning c.mark.new.hall) (g.H.Hall.meaning c.put_added.new.hall) c.put_added.result) by1 (c.put_added.ensures.files told) in
     ends_writing name (extend_on dsn) v0 v2 (g.H.Hall.meaning c.args.hall.now) (c.requires.mounted told) (vtoc_then v0 v1 v2 one two) (InVtoc v2) (vtoc_goes_on v2 _)
     (c.in_ok-mark.ensures.files told) c.from_residual-in_err-pointer.result c.from_residual-in_err-pointer.ensures.0 more
 
@@ -58,18 +55,15 @@ returns-in_err-put_extended-clause-files g c dsn is told =
     let name : List ℕ = (unit_of f0.units v0.unit).name in
     let v1 = c.mark.new.vol in
     let f1 = g.H.Hall.facts c.mark.new.hall in
-    let m1 = g.H.Hall.meaning c.mark.new.hall in
     let v2 = c.put_added.new.vol in
-    let f2 = g.H.Hall.facts c.put_added.new.hall in
     let m2 = g.H.Hall.meaning c.put_added.new.hall in
     let v3 = c.put_extended.new.vol in
-    let m3 = g.H.Hall.meaning c.put_extended.new.hall in
     let one = slots_changed v0 v1 c.mark.ensures.others in
     let two = slots_changed v1 v2 c.put_added.ensures.others in
     let by1 = name_kept f0.units f1.units v0 v1 c.in_ok-mark.ensures.faults.units one in
-    let by2 = name_kept f1.units f2.units v1 v2 c.in_ok-pointer.ensures.faults.units two ∙ by1 in
-    let more = subst (λ (n : List ℕ). Marks {T = List ℕ} {E = Device} n v2 m1 m2 (Ok c.in_ok-pointer.pointer)) by1 (c.in_ok-pointer.ensures.files told) in
-    let decides = subst (λ (n : List ℕ). Decides {T = Unit {0}} {E = Device} n (extend_on dsn) v3 m2 m3 c.put_extended.result) by2 (c.put_extended.ensures.files dsn is told) in
+    let by2 = name_kept f1.units (g.H.Hall.facts c.put_added.new.hall).units v1 v2 c.in_ok-pointer.ensures.faults.units two ∙ by1 in
+    let more = subst (λ (n : List ℕ). Marks {T = List ℕ} {E = Device} n v2 (g.H.Hall.meaning c.mark.new.hall) m2 (Ok c.in_ok-pointer.pointer)) by1 (c.in_ok-pointer.ensures.files told) in
+    let decides = subst (λ (n : List ℕ). Decides {T = Unit {0}} {E = Device} n (extend_on dsn) v3 m2 (g.H.Hall.meaning c.put_extended.new.hall) c.put_extended.result) by2 (c.put_extended.ensures.files dsn is told) in
     ends_deciding name (extend_on dsn) v0 v3 (g.H.Hall.meaning c.args.hall.now) (c.requires.mounted told) (vtoc_then v0 v1 v3 one (vtoc_then v1 v2 v3 two (same_vtoc v2 v3 c.put_extended.ensures.index))) (InVtoc v3) (vtoc_goes_on v3 _)
     (c.in_ok-mark.ensures.files told) more c.from_residual-in_err-put_extended.result c.from_residual-in_err-put_extended.ensures.0 decides
 
@@ -80,51 +74,41 @@ returns-clause-files g c dsn is told =
     let name : List ℕ = (unit_of f0.units v0.unit).name in
     let v1 = c.mark.new.vol in
     let f1 = g.H.Hall.facts c.mark.new.hall in
-    let m1 = g.H.Hall.meaning c.mark.new.hall in
     let v2 = c.put_added.new.vol in
     let f2 = g.H.Hall.facts c.put_added.new.hall in
     let m2 = g.H.Hall.meaning c.put_added.new.hall in
     let v3 = c.put_extended.new.vol in
-    let f3 = g.H.Hall.facts c.put_extended.new.hall in
     let m3 = g.H.Hall.meaning c.put_extended.new.hall in
     let v4 = c.conclude.new.vol in
-    let m4 = g.H.Hall.meaning c.conclude.new.hall in
     let one = slots_changed v0 v1 c.mark.ensures.others in
     let two = slots_changed v1 v2 c.put_added.ensures.others in
     let three = same_vtoc v2 v3 c.put_extended.ensures.index in
     let four = slots_changed v3 v4 c.conclude.ensures.others in
     let by1 = name_kept f0.units f1.units v0 v1 c.in_ok-mark.ensures.faults.units one in
     let by2 = name_kept f1.units f2.units v1 v2 c.in_ok-pointer.ensures.faults.units two ∙ by1 in
-    let by3 = name_kept f2.units f3.units v2 v3 c.in_ok-put_extended.ensures.faults.units three ∙ by2 in
-    let more = subst (λ (n : List ℕ). Marks {T = List ℕ} {E = Device} n v2 m1 m2 (Ok c.in_ok-pointer.pointer)) by1 (c.in_ok-pointer.ensures.files told) in
+    let by3 = name_kept f2.units (g.H.Hall.facts c.put_extended.new.hall).units v2 v3 c.in_ok-put_extended.ensures.faults.units three ∙ by2 in
+    let more = subst (λ (n : List ℕ). Marks {T = List ℕ} {E = Device} n v2 (g.H.Hall.meaning c.mark.new.hall) m2 (Ok c.in_ok-pointer.pointer)) by1 (c.in_ok-pointer.ensures.files told) in
     let decides = subst (λ (n : List ℕ). Decides {T = Unit {0}} {E = Device} n (extend_on dsn) v3 m2 m3 (Ok tt)) by2 (c.in_ok-put_extended.ensures.files dsn is told) in
-    let concludes = subst (λ (n : List ℕ). Concludes {T = Unit {0}} {E = Device} n v4 m3 m4 c.conclude.result) by3 (c.conclude.ensures.files told) in
+    let concludes = subst (λ (n : List ℕ). Concludes {T = Unit {0}} {E = Device} n v4 m3 (g.H.Hall.meaning c.conclude.new.hall) c.conclude.result) by3 (c.conclude.ensures.files told) in
     ends name (extend_on dsn) v0 v4 (g.H.Hall.meaning c.args.hall.now) (c.requires.mounted told) (vtoc_then v0 v1 v4 one (vtoc_then v1 v2 v4 two (vtoc_then v2 v3 v4 three four))) (InVtoc v4) (vtoc_goes_on v4 _)
     (c.in_ok-mark.ensures.files told) more c.conclude.result decides concludes
 
 pub returns-clause-index : goal.returns-clause-index
 returns-clause-index g c =
-    let v0 = c.args.vol.now in
     let v1 = c.mark.new.vol in
     let v2 = c.put_added.new.vol in
-    let v3 = c.put_extended.new.vol in
     let v4 = c.conclude.new.vol in
-    changes_then v0 v1 v4 (only_slots v0 v1 c.mark.ensures.others) (changes_then v1 v2 v4 (only_slots v1 v2 c.put_added.ensures.others) (changes_then v2 v3 v4 c.put_extended.ensures.index (only_slots v3 v4 c.conclude.ensures.others)))
+    changes_then c.args.vol.now v1 v4 (only_slots c.args.vol.now v1 c.mark.ensures.others) (changes_then v1 v2 v4 (only_slots v1 v2 c.put_added.ensures.others) (changes_then v2 c.put_extended.new.vol v4 c.put_extended.ensures.index (only_slots c.put_extended.new.vol v4 c.conclude.ensures.others)))
 
 pub returns-in_err-put_extended-clause-index : goal.returns-in_err-put_extended-clause-index
 returns-in_err-put_extended-clause-index g c =
-    let v0 = c.args.vol.now in
     let v1 = c.mark.new.vol in
-    let v2 = c.put_added.new.vol in
-    let v3 = c.put_extended.new.vol in
-    changes_then v0 v1 v3 (only_slots v0 v1 c.mark.ensures.others) (changes_then v1 v2 v3 (only_slots v1 v2 c.put_added.ensures.others) c.put_extended.ensures.index)
+    changes_then c.args.vol.now v1 c.put_extended.new.vol (only_slots c.args.vol.now v1 c.mark.ensures.others) (changes_then v1 c.put_added.new.vol c.put_extended.new.vol (only_slots v1 c.put_added.new.vol c.put_added.ensures.others) c.put_extended.ensures.index)
 
 pub returns-in_err-pointer-clause-index : goal.returns-in_err-pointer-clause-index
 returns-in_err-pointer-clause-index g c =
-    let v0 = c.args.vol.now in
     let v1 = c.mark.new.vol in
-    let v2 = c.put_added.new.vol in
-    changes_then v0 v1 v2 (only_slots v0 v1 c.mark.ensures.others) (only_slots v1 v2 c.put_added.ensures.others)
+    changes_then c.args.vol.now v1 c.put_added.new.vol (only_slots c.args.vol.now v1 c.mark.ensures.others) (only_slots v1 c.put_added.new.vol c.put_added.ensures.others)
 
 pub returns-in_err-mark-clause-index : goal.returns-in_err-mark-clause-index
 returns-in_err-mark-clause-index g c = only_slots c.args.vol.now c.mark.new.vol c.mark.ensures.others
@@ -138,20 +122,16 @@ pub put_added-requires-clause-slots : goal.put_added-requires-clause-slots
 put_added-requires-clause-slots g c told =
     let v0 = c.args.vol.now in
     let f0 = g.H.Hall.facts c.args.hall.now in
-    let m0 = g.H.Hall.meaning c.args.hall.now in
-    let v1 = c.mark.new.vol in
     let runs = listed c.args.extents.now in
-    let room = further_room (image_named m0.state (unit_of f0.units v0.unit).name) v0 (c.requires.mounted told) c.args.slot c.args.set.now c.requires.set (low_tracks f0.units v0 c.requires.unit) (c.requires.settled told) runs (c.requires.plan told) in
-    let same : open_slots v1.slots.items ≡ open_slots v0.slots.items = ap open_slots c.in_ok-mark.ensures.index.items ∙ open_marked v0.slots.items (with_bit true (slice_index_or v0.slots.items 0 formats.F0)) in
+    let room = further_room (image_named (g.H.Hall.meaning c.args.hall.now).state (unit_of f0.units v0.unit).name) v0 (c.requires.mounted told) c.args.slot c.args.set.now c.requires.set (low_tracks f0.units v0 c.requires.unit) (c.requires.settled told) runs (c.requires.plan told) in
+    let same : open_slots c.mark.new.vol.slots.items ≡ open_slots v0.slots.items = ap open_slots c.in_ok-mark.ensures.index.items ∙ open_marked v0.slots.items (with_bit true (slice_index_or v0.slots.items 0 formats.F0)) in
     subst (λ (n : ℕ). further_slots c.args.set.now.extents runs ≤ n) (sym same) room
 
 pub put_added-requires-clause-mounted : goal.put_added-requires-clause-mounted
 put_added-requires-clause-mounted g c told =
-    let v0 = c.args.vol.now in
     let v1 = c.mark.new.vol in
-    let m1 = g.H.Hall.meaning c.mark.new.hall in
-    let by1 = name_kept (g.H.Hall.facts c.args.hall.now).units (g.H.Hall.facts c.mark.new.hall).units v0 v1 c.in_ok-mark.ensures.faults.units (slots_changed v0 v1 c.mark.ensures.others) in
-    subst (λ (n : List ℕ). IsMounted (image_named m1.state n) v1) (sym by1) (c.in_ok-mark.ensures.files told).index
+    let by1 = name_kept (g.H.Hall.facts c.args.hall.now).units (g.H.Hall.facts c.mark.new.hall).units c.args.vol.now v1 c.in_ok-mark.ensures.faults.units (slots_changed c.args.vol.now v1 c.mark.ensures.others) in
+    subst (λ (n : List ℕ). IsMounted (image_named (g.H.Hall.meaning c.mark.new.hall).state n) v1) (sym by1) (c.in_ok-mark.ensures.files told).index
 
 pub put_added-requires-clause-marked : goal.put_added-requires-clause-marked
 put_added-requires-clause-marked g c told =
@@ -179,65 +159,53 @@ pub put_extended-requires-clause-plan : goal.put_extended-requires-clause-plan
 put_extended-requires-clause-plan g c told =
     let v0 = c.args.vol.now in
     let f0 = g.H.Hall.facts c.args.hall.now in
-    let m0 = g.H.Hall.meaning c.args.hall.now in
     let name : List ℕ = (unit_of f0.units v0.unit).name in
     let v1 = c.mark.new.vol in
     let f1 = g.H.Hall.facts c.mark.new.hall in
     let m1 = g.H.Hall.meaning c.mark.new.hall in
     let v2 = c.put_added.new.vol in
-    let f2 = g.H.Hall.facts c.put_added.new.hall in
     let m2 = g.H.Hall.meaning c.put_added.new.hall in
     let runs = listed c.args.extents.now in
     let by1 = name_kept f0.units f1.units v0 v1 c.in_ok-mark.ensures.faults.units (slots_changed v0 v1 c.mark.ensures.others) in
-    let by2 = name_kept f1.units f2.units v1 v2 c.in_ok-pointer.ensures.faults.units (slots_changed v1 v2 c.put_added.ensures.others) ∙ by1 in
+    let by2 = name_kept f1.units (g.H.Hall.facts c.put_added.new.hall).units v1 v2 c.in_ok-pointer.ensures.faults.units (slots_changed v1 v2 c.put_added.ensures.others) ∙ by1 in
     let more = subst (λ (n : List ℕ). Marks {T = List ℕ} {E = Device} n v2 m1 m2 (Ok c.in_ok-pointer.pointer)) by1 (c.in_ok-pointer.ensures.files told) in
     subst (λ (n : List ℕ). HasExtension (image_named m2.state n) c.args.set.now runs) (sym by2)
-    (still_extended name v2 m1 m2 more c.args.set.now runs (still_extended name v1 m0 m1 (c.in_ok-mark.ensures.files told) c.args.set.now runs (c.requires.plan told)))
+    (still_extended name v2 m1 m2 more c.args.set.now runs (still_extended name v1 (g.H.Hall.meaning c.args.hall.now) m1 (c.in_ok-mark.ensures.files told) c.args.set.now runs (c.requires.plan told)))
 
 pub put_extended-requires-clause-body : goal.put_extended-requires-clause-body
 put_extended-requires-clause-body g c told =
     let v0 = c.args.vol.now in
     let f0 = g.H.Hall.facts c.args.hall.now in
-    let m0 = g.H.Hall.meaning c.args.hall.now in
     let name : List ℕ = (unit_of f0.units v0.unit).name in
     let v1 = c.mark.new.vol in
     let f1 = g.H.Hall.facts c.mark.new.hall in
     let m1 = g.H.Hall.meaning c.mark.new.hall in
     let v2 = c.put_added.new.vol in
-    let f2 = g.H.Hall.facts c.put_added.new.hall in
     let m2 = g.H.Hall.meaning c.put_added.new.hall in
     let by1 = name_kept f0.units f1.units v0 v1 c.in_ok-mark.ensures.faults.units (slots_changed v0 v1 c.mark.ensures.others) in
-    let by2 = name_kept f1.units f2.units v1 v2 c.in_ok-pointer.ensures.faults.units (slots_changed v1 v2 c.put_added.ensures.others) ∙ by1 in
+    let by2 = name_kept f1.units (g.H.Hall.facts c.put_added.new.hall).units v1 v2 c.in_ok-pointer.ensures.faults.units (slots_changed v1 v2 c.put_added.ensures.others) ∙ by1 in
     let more = subst (λ (n : List ℕ). Marks {T = List ℕ} {E = Device} n v2 m1 m2 (Ok c.in_ok-pointer.pointer)) by1 (c.in_ok-pointer.ensures.files told) in
     subst (λ (n : List ℕ). IsReadable (image_named m2.state n) c.args.set.now.name) (sym by2)
-    (readable_stays name v2 m1 m2 more c.args.set.now.name (readable_stays name v1 m0 m1 (c.in_ok-mark.ensures.files told) c.args.set.now.name (c.requires.body told)))
+    (readable_stays name v2 m1 m2 more c.args.set.now.name (readable_stays name v1 (g.H.Hall.meaning c.args.hall.now) m1 (c.in_ok-mark.ensures.files told) c.args.set.now.name (c.requires.body told)))
 
 pub put_extended-requires-clause-added : goal.put_extended-requires-clause-added
 put_extended-requires-clause-added g c told =
-    let f2 = g.H.Hall.facts c.put_added.new.hall in
-    let m2 = g.H.Hall.meaning c.put_added.new.hall in
-    let set = c.args.set.now in
-    subst (λ (x : Vol). HoldAdded (slots_of_vtoc (image_named m2.state (unit_of f2.units x.unit).name) x.geometry x.vtoc) x.geometry (added_type (attr_of set)) c.args.slot set (listed c.args.extents.now) c.in_ok-pointer.pointer) (sym c.put_added.ensures.others)
+    subst (λ (x : Vol). HoldAdded (slots_of_vtoc (image_named (g.H.Hall.meaning c.put_added.new.hall).state (unit_of (g.H.Hall.facts c.put_added.new.hall).units x.unit).name) x.geometry x.vtoc) x.geometry (added_type (attr_of c.args.set.now)) c.args.slot c.args.set.now (listed c.args.extents.now) c.in_ok-pointer.pointer) (sym c.put_added.ensures.others)
     (c.in_ok-pointer.ensures.added told)
 
 pub put_extended-requires-clause-mounted : goal.put_extended-requires-clause-mounted
 put_extended-requires-clause-mounted g c told =
-    let v1 = c.mark.new.vol in
-    let f1 = g.H.Hall.facts c.mark.new.hall in
     let v2 = c.put_added.new.vol in
-    let f2 = g.H.Hall.facts c.put_added.new.hall in
-    let m2 = g.H.Hall.meaning c.put_added.new.hall in
-    let by = name_kept f1.units f2.units v1 v2 c.in_ok-pointer.ensures.faults.units (slots_changed v1 v2 c.put_added.ensures.others) in
-    subst (λ (n : List ℕ). IsMounted (image_named m2.state n) v2) (sym by) (c.in_ok-pointer.ensures.files told).index
+    let by = name_kept (g.H.Hall.facts c.mark.new.hall).units (g.H.Hall.facts c.put_added.new.hall).units c.mark.new.vol v2 c.in_ok-pointer.ensures.faults.units (slots_changed c.mark.new.vol v2 c.put_added.ensures.others) in
+    subst (λ (n : List ℕ). IsMounted (image_named (g.H.Hall.meaning c.put_added.new.hall).state n) v2) (sym by) (c.in_ok-pointer.ensures.files told).index
 
 pub put_extended-requires-clause-marked : goal.put_extended-requires-clause-marked
 put_extended-requires-clause-marked g c told =
     let v1 = c.mark.new.vol in
     let f1 = g.H.Hall.facts c.mark.new.hall in
     let v2 = c.put_added.new.vol in
-    let f2 = g.H.Hall.facts c.put_added.new.hall in
     let m2 = g.H.Hall.meaning c.put_added.new.hall in
-    let by = name_kept f1.units f2.units v1 v2 c.in_ok-pointer.ensures.faults.units (slots_changed v1 v2 c.put_added.ensures.others) in
+    let by = name_kept f1.units (g.H.Hall.facts c.put_added.new.hall).units v1 v2 c.in_ok-pointer.ensures.faults.units (slots_changed v1 v2 c.put_added.ensures.others) in
     subst (λ (n : List ℕ). IsMarked (slots_of_vtoc (image_named m2.state n) v2.geometry v2.vtoc)) (sym by)
     (still_marked (unit_of f1.units v1.unit).name v2 (g.H.Hall.meaning c.mark.new.hall) m2 (c.in_ok-pointer.ensures.files told))
 
@@ -248,22 +216,17 @@ put_extended-requires-clause-durable g c told = (c.in_ok-pointer.ensures.files t
 
 pub conclude-requires-clause-mounted : goal.conclude-requires-clause-mounted
 conclude-requires-clause-mounted g c told =
-    let v2 = c.put_added.new.vol in
-    let f2 = g.H.Hall.facts c.put_added.new.hall in
     let v3 = c.put_extended.new.vol in
-    let f3 = g.H.Hall.facts c.put_extended.new.hall in
-    let m3 = g.H.Hall.meaning c.put_extended.new.hall in
-    let by = name_kept f2.units f3.units v2 v3 c.in_ok-put_extended.ensures.faults.units (same_vtoc v2 v3 c.put_extended.ensures.index) in
-    subst (λ (n : List ℕ). IsMounted (image_named m3.state n) v3) (sym by) (c.in_ok-put_extended.ensures.files (record { bytes = c.args.set.now.name }) refl told).index
+    let by = name_kept (g.H.Hall.facts c.put_added.new.hall).units (g.H.Hall.facts c.put_extended.new.hall).units c.put_added.new.vol v3 c.in_ok-put_extended.ensures.faults.units (same_vtoc c.put_added.new.vol v3 c.put_extended.ensures.index) in
+    subst (λ (n : List ℕ). IsMounted (image_named (g.H.Hall.meaning c.put_extended.new.hall).state n) v3) (sym by) (c.in_ok-put_extended.ensures.files (record { bytes = c.args.set.now.name }) refl told).index
 
 pub conclude-requires-clause-marked : goal.conclude-requires-clause-marked
 conclude-requires-clause-marked g c told =
     let v2 = c.put_added.new.vol in
     let f2 = g.H.Hall.facts c.put_added.new.hall in
     let v3 = c.put_extended.new.vol in
-    let f3 = g.H.Hall.facts c.put_extended.new.hall in
     let m3 = g.H.Hall.meaning c.put_extended.new.hall in
-    let by = name_kept f2.units f3.units v2 v3 c.in_ok-put_extended.ensures.faults.units (same_vtoc v2 v3 c.put_extended.ensures.index) in
+    let by = name_kept f2.units (g.H.Hall.facts c.put_extended.new.hall).units v2 v3 c.in_ok-put_extended.ensures.faults.units (same_vtoc v2 v3 c.put_extended.ensures.index) in
     subst (λ (n : List ℕ). IsMarked (slots_of_vtoc (image_named m3.state n) v3.geometry v3.vtoc)) (sym by)
     (decided_marked (unit_of f2.units v2.unit).name (extend_on (record { bytes = c.args.set.now.name })) v3 (g.H.Hall.meaning c.put_added.new.hall) m3 (c.in_ok-put_extended.ensures.files (record { bytes = c.args.set.now.name }) refl told))
 

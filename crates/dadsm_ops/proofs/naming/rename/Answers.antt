@@ -33,11 +33,11 @@ returns-in-Ok-clause-files g c told =
     let v = c.args.vol.now in
     let put = c.in-Ok.ensures in
     let found : IsToRename v.slots.items c.args.old.now.bytes c.args.new.now.bytes c.in_ok-slot.slot = search rules in
-    renames (unit_of (g.H.Hall.facts hall).units v.unit).name v c.put_through.new.vol c.args.old.now c.args.new.now c.in_ok-slot.slot c.index.result.now c.under_name-dscb.result (g.H.Hall.meaning hall) (g.H.Hall.meaning c.put_through.new.hall)
+    renames (unit_of (g.H.Hall.facts hall).units v.unit).name v c.put_durably.new.vol c.args.old.now c.args.new.now c.in_ok-slot.slot c.index.result.now c.under_name-dscb.result (g.H.Hall.meaning hall) (g.H.Hall.meaning c.put_durably.new.hall)
     (c.requires.mounted told) found c.index.ensures c.under_name-dscb.ensures _ c.reorder.new.vol put.others c.reorder.ensures.others put.index (put.files told)
 
 pub returns-in-Ok-clause-unit : goal.returns-in-Ok-clause-unit
-returns-in-Ok-clause-unit g c = unit_reordered _ c.put_through.new.vol c.reorder.new.vol c.reorder.ensures.others c.in-Ok.ensures.unit
+returns-in-Ok-clause-unit g c = unit_reordered _ c.put_durably.new.vol c.reorder.new.vol c.reorder.ensures.others c.in-Ok.ensures.unit
 
 pub returns-in-Ok-clause-names : goal.returns-in-Ok-clause-names
 returns-in-Ok-clause-names g c =
@@ -45,13 +45,13 @@ returns-in-Ok-clause-names g c =
     let found : IsToRename v.slots.items c.args.old.now.bytes c.args.new.now.bytes c.in_ok-slot.slot = search rules in
     c.reorder.ensures.names v.slots.items
     (subst (λ (x : Vol). AreByName (name_at v.slots.items) x.by_name.items) (sym c.in-Ok.ensures.others) c.requires.names)
-    (is_renamed v c.put_through.new.vol c.args.old.now c.args.new.now c.in_ok-slot.slot c.index.result.now c.under_name-dscb.result found c.index.ensures c.under_name-dscb.ensures c.in-Ok.ensures.index)
+    (is_renamed v c.put_durably.new.vol c.args.old.now c.args.new.now c.in_ok-slot.slot c.index.result.now c.under_name-dscb.result found c.index.ensures c.under_name-dscb.ensures c.in-Ok.ensures.index)
 
 pub returns-in-Ok-clause-index : goal.returns-in-Ok-clause-index
-returns-in-Ok-clause-index g c = order_changes c.args.vol.now c.put_through.new.vol c.reorder.new.vol c.in-Ok.ensures.others c.reorder.ensures.others
+returns-in-Ok-clause-index g c = order_changes c.args.vol.now c.put_durably.new.vol c.reorder.new.vol c.in-Ok.ensures.others c.reorder.ensures.others
 
 pub returns-in-Err-clause-index : goal.returns-in-Err-clause-index
-returns-in-Err-clause-index g c = put_changes c.args.vol.now c.put_through.new.vol c.in-Err.ensures.others
+returns-in-Err-clause-index g c = put_changes c.args.vol.now c.put_durably.new.vol c.in-Err.ensures.others
 
 pub returns-in-Err-clause-files : goal.returns-in-Err-clause-files
 returns-in-Err-clause-files g c told =
@@ -59,5 +59,5 @@ returns-in-Err-clause-files g c told =
     let v = c.args.vol.now in
     let put = c.in-Err.ensures in
     let found : IsToRename v.slots.items c.args.old.now.bytes c.args.new.now.bytes c.in_ok-slot.slot = search rules in
-    renames_not (unit_of (g.H.Hall.facts hall).units v.unit).name v c.put_through.new.vol c.args.old.now c.args.new.now c.in_ok-slot.slot c.index.result.now c.under_name-dscb.result (g.H.Hall.meaning hall) (g.H.Hall.meaning c.put_through.new.hall)
+    renames_not (unit_of (g.H.Hall.facts hall).units v.unit).name v c.put_durably.new.vol c.args.old.now c.args.new.now c.in_ok-slot.slot c.index.result.now c.under_name-dscb.result (g.H.Hall.meaning hall) (g.H.Hall.meaning c.put_durably.new.hall)
     (c.requires.mounted told) found c.index.ensures c.under_name-dscb.ensures put.others (put.files told)

@@ -57,3 +57,11 @@ returns-clause-slots g c =
     let v0 = c.args.vol.now in
     let inv = c.loop-slot.invariant in
     cleared_upto (address_in v0) c.loop-slot.slot v0.slots.items c.loop-slot.vol.slots.items (omega (arith, c.loop-slot-test.false, c.len-slot-end.ensures)) inv.cleared
+
+pub returns-clause-files : goal.returns-clause-files
+returns-clause-files g c told = c.loop-slot.invariant.files told
+
+pub returns-clause-index : goal.returns-clause-index
+returns-clause-index g c told =
+    let unit : c.loop-slot.vol.unit ≡ c.args.vol.now.unit = ap (λ (v : Vol). v.unit) c.loop-slot.invariant.others in
+    subst (λ (u : ℕ). IsIndexOf (image_in (g.H.Hall.meaning c.loop-slot.hall) (g.H.Hall.facts c.loop-slot.hall) u) c.loop-slot.vol) unit (c.loop-slot.invariant.index told)

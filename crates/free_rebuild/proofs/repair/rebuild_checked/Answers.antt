@@ -10,7 +10,7 @@ use Rattle.vtoc_index.specs.Index.{IsIndexOf, address_in}
 use Rattle.vtoc_index.specs.declared.vol.Vol.{Vol}
 use Rattle.vtoc_index.specs.Bits.{with_bit}
 use Rattle.free_rebuild.specs.Clearing.{free_in, highest_among}
-use Rattle.free_rebuild.specs.Clearing.{told as told_by}
+use Rattle.free_rebuild.specs.Clearing.{with_counts}
 use Rattle.free_rebuild.specs.Durable.{PutsDurably, StaysAlike}
 use Rattle.free_rebuild.specs.Repairs.{image_named}
 use Rattle.dscb_codec.specs.declared.Dscb.TheVariants as formats
@@ -31,9 +31,7 @@ returns-in_err-mark_durably-clause-files g c told =
     let low = low_tracks f0.units v0 c.requires.unit in
     let mounted = c.requires.mounted told in
     let durable = c.requires.durable told in
-    let v1 = c.mark_durably.new.vol in
-    let m1 = g.H.Hall.meaning c.mark_durably.new.hall in
-    repairs_not name v0 m0 low there mounted durable v1 c.from_residual.result c.from_residual.ensures.0 (mark_since name v0 m0 low there mounted durable v1 m1 c.mark_durably.result (c.mark_durably.ensures.files told))
+    repairs_not name v0 m0 low there mounted durable c.mark_durably.new.vol c.from_residual.result c.from_residual.ensures.0 (mark_since name v0 m0 low there mounted durable c.mark_durably.new.vol (g.H.Hall.meaning c.mark_durably.new.hall) c.mark_durably.result (c.mark_durably.ensures.files told))
 
 pub returns-in_err-clear_durably-clause-files : goal.returns-in_err-clear_durably-clause-files
 returns-in_err-clear_durably-clause-files g c told =
@@ -47,20 +45,16 @@ returns-in_err-clear_durably-clause-files g c told =
     let durable = c.requires.durable told in
     let v1 = c.mark_durably.new.vol in
     let m1 = g.H.Hall.meaning c.mark_durably.new.hall in
-    let f1 = g.H.Hall.facts c.mark_durably.new.hall in
     let puts1 = c.in_ok-mark_durably.ensures.files told in
-    let name1 : (unit_of f1.units v1.unit).name ≡ name = ap (λ (us : List Attached). (unit_of us v1.unit).name) c.in_ok-mark_durably.ensures.faults.units ∙ ap (λ (v : Vol). (unit_of f0.units v.unit).name) c.mark_durably.ensures.others in
+    let name1 : (unit_of (g.H.Hall.facts c.mark_durably.new.hall).units v1.unit).name ≡ name = ap (λ (us : List Attached). (unit_of us v1.unit).name) c.in_ok-mark_durably.ensures.faults.units ∙ ap (λ (v : Vol). (unit_of f0.units v.unit).name) c.mark_durably.ensures.others in
     let on = mark_done name v0 m0 low there mounted durable v1 m1 _ puts1 puts1.index c.mark_durably.ensures.others c.in_ok-mark_durably.ensures.index.items puts1.step.done in
-    let v2 = c.clear_durably.new.vol in
-    let m2 = g.H.Hall.meaning c.clear_durably.new.hall in
-    let stays = subst (λ (n : List ℕ). StaysAlike {T = Unit {0}} {E = Device} n v1 m1 m2 c.clear_durably.result) name1 (c.clear_durably.ensures.files told) in
-    repairs_not name v0 m0 low there mounted durable v2 c.from_residual-in_err-clear_durably.result c.from_residual-in_err-clear_durably.ensures.0 (alike_since name v0 m0 low there mounted durable m1 v1 on on.since (clear_leaves name v0 m0 low there mounted durable m1 v1 on stays))
+    let stays = subst (λ (n : List ℕ). StaysAlike {T = Unit {0}} {E = Device} n v1 m1 (g.H.Hall.meaning c.clear_durably.new.hall) c.clear_durably.result) name1 (c.clear_durably.ensures.files told) in
+    repairs_not name v0 m0 low there mounted durable c.clear_durably.new.vol c.from_residual-in_err-clear_durably.result c.from_residual-in_err-clear_durably.ensures.0 (alike_since name v0 m0 low there mounted durable m1 v1 on on.since (clear_leaves name v0 m0 low there mounted durable m1 v1 on stays))
 
 pub write_durably-requires-clause-index : goal.write_durably-requires-clause-index
 write_durably-requires-clause-index g c told =
-    let v2 = c.clear_durably.new.vol in
-    let unit : v2.unit ≡ c.mark_durably.new.vol.unit = ap (λ (v : Vol). v.unit) c.clear_durably.ensures.others in
-    subst (λ (u : ℕ). IsIndexOf (image_in (g.H.Hall.meaning c.clear_durably.new.hall) (g.H.Hall.facts c.clear_durably.new.hall) u) v2) (sym unit) (c.in_ok-clear_durably.ensures.index told)
+    let unit : c.clear_durably.new.vol.unit ≡ c.mark_durably.new.vol.unit = ap (λ (v : Vol). v.unit) c.clear_durably.ensures.others in
+    subst (λ (u : ℕ). IsIndexOf (image_in (g.H.Hall.meaning c.clear_durably.new.hall) (g.H.Hall.facts c.clear_durably.new.hall) u) c.clear_durably.new.vol) (sym unit) (c.in_ok-clear_durably.ensures.index told)
 
 pub write_durably-requires-clause-first : goal.write_durably-requires-clause-first
 write_durably-requires-clause-first g c told =
@@ -84,16 +78,13 @@ returns-in_err-write_durably-clause-files g c told =
     let on = mark_done name v0 m0 low there mounted durable v1 m1 _ puts1 puts1.index c.mark_durably.ensures.others c.in_ok-mark_durably.ensures.index.items puts1.step.done in
     let v2 = c.clear_durably.new.vol in
     let m2 = g.H.Hall.meaning c.clear_durably.new.hall in
-    let f2 = g.H.Hall.facts c.clear_durably.new.hall in
     let stays2 = subst (λ (n : List ℕ). StaysAlike {T = Unit {0}} {E = Device} n v1 m1 m2 (Ok c.in_ok-clear_durably.field-0)) name1 (c.in_ok-clear_durably.ensures.files told) in
-    let name2 : (unit_of f2.units v2.unit).name ≡ name = ap (λ (us : List Attached). (unit_of us v2.unit).name) c.in_ok-clear_durably.ensures.faults.units ∙ ap (λ (v : Vol). (unit_of f1.units v.unit).name) c.clear_durably.ensures.others ∙ name1 in
+    let name2 : (unit_of (g.H.Hall.facts c.clear_durably.new.hall).units v2.unit).name ≡ name = ap (λ (us : List Attached). (unit_of us v2.unit).name) c.in_ok-clear_durably.ensures.faults.units ∙ ap (λ (v : Vol). (unit_of f1.units v.unit).name) c.clear_durably.ensures.others ∙ name1 in
     let leaves2 = clear_leaves name v0 m0 low there mounted durable m1 v1 on stays2 in
     let since2 = alike_since name v0 m0 low there mounted durable m1 v1 on on.since leaves2 in
-    let v3 = c.write_durably.new.vol in
-    let m3 = g.H.Hall.meaning c.write_durably.new.hall in
-    let stays = subst (λ (n : List ℕ). StaysAlike {T = Unit {0}} {E = Device} n v2 m2 m3 c.write_durably.result) name2 (c.write_durably.ensures.files told) in
+    let stays = subst (λ (n : List ℕ). StaysAlike {T = Unit {0}} {E = Device} n v2 m2 (g.H.Hall.meaning c.write_durably.new.hall) c.write_durably.result) name2 (c.write_durably.ensures.files told) in
     let leaves = write_leaves name v0 m0 low there mounted durable m1 v1 on v2 c.clear_durably.ensures.others leaves2.done.1 stays in
-    repairs_not name v0 m0 low there mounted durable v3 c.from_residual-in_err-write_durably.result c.from_residual-in_err-write_durably.ensures.0 (alike_since name v0 m0 low there mounted durable m1 v1 on since2 leaves)
+    repairs_not name v0 m0 low there mounted durable c.write_durably.new.vol c.from_residual-in_err-write_durably.result c.from_residual-in_err-write_durably.ensures.0 (alike_since name v0 m0 low there mounted durable m1 v1 on since2 leaves)
 
 pub settle-requires-clause-some : goal.settle-requires-clause-some
 settle-requires-clause-some g c =
@@ -104,9 +95,8 @@ settle-requires-clause-some g c =
 
 pub settle-requires-clause-index : goal.settle-requires-clause-index
 settle-requires-clause-index g c told =
-    let v3 = c.write_durably.new.vol in
-    let unit : v3.unit ≡ c.clear_durably.new.vol.unit = ap (λ (v : Vol). v.unit) c.write_durably.ensures.others in
-    subst (λ (u : ℕ). IsIndexOf (image_in (g.H.Hall.meaning c.write_durably.new.hall) (g.H.Hall.facts c.write_durably.new.hall) u) v3) (sym unit) (c.in_ok-write_durably.ensures.index told)
+    let unit : c.write_durably.new.vol.unit ≡ c.clear_durably.new.vol.unit = ap (λ (v : Vol). v.unit) c.write_durably.ensures.others in
+    subst (λ (u : ℕ). IsIndexOf (image_in (g.H.Hall.meaning c.write_durably.new.hall) (g.H.Hall.facts c.write_durably.new.hall) u) c.write_durably.new.vol) (sym unit) (c.in_ok-write_durably.ensures.index told)
 
 pub returns-clause-files : goal.returns-clause-files
 returns-clause-files g c told =
@@ -126,9 +116,8 @@ returns-clause-files g c told =
     let on = mark_done name v0 m0 low there mounted durable v1 m1 _ puts1 puts1.index c.mark_durably.ensures.others c.in_ok-mark_durably.ensures.index.items puts1.step.done in
     let v2 = c.clear_durably.new.vol in
     let m2 = g.H.Hall.meaning c.clear_durably.new.hall in
-    let f2 = g.H.Hall.facts c.clear_durably.new.hall in
     let stays2 = subst (λ (n : List ℕ). StaysAlike {T = Unit {0}} {E = Device} n v1 m1 m2 (Ok c.in_ok-clear_durably.field-0)) name1 (c.in_ok-clear_durably.ensures.files told) in
-    let name2 : (unit_of f2.units v2.unit).name ≡ name = ap (λ (us : List Attached). (unit_of us v2.unit).name) c.in_ok-clear_durably.ensures.faults.units ∙ ap (λ (v : Vol). (unit_of f1.units v.unit).name) c.clear_durably.ensures.others ∙ name1 in
+    let name2 : (unit_of (g.H.Hall.facts c.clear_durably.new.hall).units v2.unit).name ≡ name = ap (λ (us : List Attached). (unit_of us v2.unit).name) c.in_ok-clear_durably.ensures.faults.units ∙ ap (λ (v : Vol). (unit_of f1.units v.unit).name) c.clear_durably.ensures.others ∙ name1 in
     let leaves2 = clear_leaves name v0 m0 low there mounted durable m1 v1 on stays2 in
     let since2 = alike_since name v0 m0 low there mounted durable m1 v1 on on.since leaves2 in
     let v3 = c.write_durably.new.vol in
@@ -140,24 +129,22 @@ returns-clause-files g c told =
     let leaves3 = write_leaves name v0 m0 low there mounted durable m1 v1 on v2 c.clear_durably.ensures.others leaves2.done.1 stays3 in
     let since3 = alike_since name v0 m0 low there mounted durable m1 v1 on since2 leaves3 in
     let index3 = subst (λ (n : List ℕ). IsIndexOf (image_named m3.state n) v3) name23 (c.in_ok-write_durably.ensures.index told) in
-    let v4 = c.settle.new.vol in
     let m4 = g.H.Hall.meaning c.settle.new.hall in
-    let last = told_by (free_in v3.slots.items) (highest_among (address_in v3) v3.slots.items) (slice_index_or v3.slots.items 0 formats.F0) in
-    let puts = subst (λ (n : List ℕ). PutsDurably {T = Unit {0}} {E = Device} n v3 0 last v4 m3 m4 c.settle.result) name3 (c.settle.ensures.files told) in
+    let last = with_counts (free_in v3.slots.items) (highest_among (address_in v3) v3.slots.items) (slice_index_or v3.slots.items 0 formats.F0) in
+    let puts = subst (λ (n : List ℕ). PutsDurably {T = Unit {0}} {E = Device} n v3 0 last c.settle.new.vol m3 m4 c.settle.result) name3 (c.settle.ensures.files told) in
     let others3 = c.write_durably.ensures.others ∙ ap (λ (x : Vol). record x { slots = v3.slots; buf = v3.buf }) c.clear_durably.ensures.others in
     let written = rewritten v1 v2 v3.slots.items c.clear_durably.ensures.others c.in_ok-clear_durably.ensures.slots c.in_ok-write_durably.ensures.chain in
-    repairs name v0 m0 low there mounted durable m1 v1 on v3 m3 leaves3.done.1 index3 others3 written v4 m4 c.settle.result puts since3 (on_ok_weaker c.settle.result (λ is. is.items) c.settle.ensures.index) c.settle.ensures.others
+    repairs name v0 m0 low there mounted durable m1 v1 on v3 m3 leaves3.done.1 index3 others3 written c.settle.new.vol m4 c.settle.result puts since3 (on_ok_weaker c.settle.result (λ is. is.items) c.settle.ensures.index) c.settle.ensures.others
 
 pub returns-clause-names : goal.returns-clause-names
 returns-clause-names g c ordered =
-    let v0 = c.args.vol.now in
     let v1 = c.mark_durably.new.vol in
     let v2 = c.clear_durably.new.vol in
     let v3 = c.write_durably.new.vol in
-    let items = v0.slots.items in
+    let items = c.args.vol.now.slots.items in
     let some : 2 ≤ length items = omega (arith, get_low items 1 c.requires.first.0 c.requires.first.1) in
     let many = as_many (address_in v1) (address_in v2) items v1.slots.items v2.slots.items v3.slots.items (with_bit true (slice_index_or items 0 formats.F0)) (entries_of (heads_of v2.geometry) v2.free.items) c.in_ok-mark_durably.ensures.index.items c.in_ok-clear_durably.ensures.slots c.in_ok-write_durably.ensures.chain in
-    let one = names_kept v0 v1 c.mark_durably.ensures.others (mark_names items v1.slots.items c.in_ok-mark_durably.ensures.index.items) ordered in
+    let one = names_kept c.args.vol.now v1 c.mark_durably.ensures.others (mark_names items v1.slots.items c.in_ok-mark_durably.ensures.index.items) ordered in
     let two = names_kept v1 v2 c.clear_durably.ensures.others (clear_names (address_in v1) v1.slots.items v2.slots.items c.in_ok-clear_durably.ensures.slots) one in
     let three = c.in_ok-write_durably.ensures.names two in
     on_ok_weaker c.settle.result (λ is. names_kept v3 c.settle.new.vol c.settle.ensures.others (tell_names v3.slots.items c.settle.new.vol.slots.items (free_in v3.slots.items) (highest_among (address_in v3) v3.slots.items) (omega (arith, some, many)) is.items) three) c.settle.ensures.index

@@ -8,7 +8,7 @@ use Rattle.dscb_codec.specs.declared.Dscb.TheVariants as formats
 use Rattle.vtoc_index.specs.Index.{IsIndexOf, address_in}
 use Rattle.vtoc_index.specs.declared.vol.Vol.{Vol}
 use Rattle.free_rebuild.specs.Clearing.{free_in, highest_among}
-use Rattle.free_rebuild.specs.Clearing.{told as told_by}
+use Rattle.free_rebuild.specs.Clearing.{with_counts}
 use Rattle.free_rebuild.specs.Durable.{PutsDurably}
 use Rattle.free_rebuild.specs.Repairs.{image_named}
 use Rattle.free_rebuild.proofs.ChainLemmas.{get_low}
@@ -34,15 +34,13 @@ returns-in_err-rewrite_durably-clause-files g c told =
 
 pub settle-requires-clause-some : goal.settle-requires-clause-some
 settle-requires-clause-some g c =
-    let v0 = c.args.vol.now in
-    let many = rewritten_length v0 c.rewrite_durably.new.vol.slots.items c.in_ok-rewrite_durably.ensures.slots in
-    omega (arith, many, get_low v0.slots.items 1 c.requires.first.0 c.requires.first.1)
+    let many = rewritten_length c.args.vol.now c.rewrite_durably.new.vol.slots.items c.in_ok-rewrite_durably.ensures.slots in
+    omega (arith, many, get_low c.args.vol.now.slots.items 1 c.requires.first.0 c.requires.first.1)
 
 pub settle-requires-clause-index : goal.settle-requires-clause-index
 settle-requires-clause-index g c told =
-    let v1 = c.rewrite_durably.new.vol in
-    let unit : v1.unit ≡ c.args.vol.now.unit = ap (λ (v : Vol). v.unit) c.rewrite_durably.ensures.others in
-    subst (λ (u : ℕ). IsIndexOf (image_in (g.H.Hall.meaning c.rewrite_durably.new.hall) (g.H.Hall.facts c.rewrite_durably.new.hall) u) v1) (sym unit) (c.in_ok-rewrite_durably.ensures.index told)
+    let unit : c.rewrite_durably.new.vol.unit ≡ c.args.vol.now.unit = ap (λ (v : Vol). v.unit) c.rewrite_durably.ensures.others in
+    subst (λ (u : ℕ). IsIndexOf (image_in (g.H.Hall.meaning c.rewrite_durably.new.hall) (g.H.Hall.facts c.rewrite_durably.new.hall) u) c.rewrite_durably.new.vol) (sym unit) (c.in_ok-rewrite_durably.ensures.index told)
 
 pub returns-clause-files : goal.returns-clause-files
 returns-clause-files g c told =
@@ -63,17 +61,15 @@ returns-clause-files g c told =
     let by_units : (unit_of f1.units v0.unit).name ≡ name = ap (λ (us : List Attached). (unit_of us v0.unit).name) c.in_ok-rewrite_durably.ensures.faults.units in
     let by_index : (unit_of f1.units v1.unit).name ≡ name = ap (λ (v : Vol). (unit_of f1.units v.unit).name) c.rewrite_durably.ensures.others ∙ by_units in
     let index = subst (λ (n : List ℕ). IsIndexOf (image_named m1.state n) v1) by_units (c.in_ok-rewrite_durably.ensures.index told) in
-    let v2 = c.settle.new.vol in
     let m2 = g.H.Hall.meaning c.settle.new.hall in
-    let last = told_by (free_in v1.slots.items) (highest_among (address_in v1) v1.slots.items) (slice_index_or v1.slots.items 0 formats.F0) in
-    let puts = subst (λ (n : List ℕ). PutsDurably {T = Unit {0}} {E = Device} n v1 0 last v2 m1 m2 c.settle.result) by_index (c.settle.ensures.files told) in
-    concludes name v0 m0 low there mounted durable m0 v0 on v1 m1 leaves.done.1 index c.rewrite_durably.ensures.others c.in_ok-rewrite_durably.ensures.slots v2 m2 c.settle.result puts since (on_ok_weaker c.settle.result (λ is. is.items) c.settle.ensures.index) c.settle.ensures.others
+    let last = with_counts (free_in v1.slots.items) (highest_among (address_in v1) v1.slots.items) (slice_index_or v1.slots.items 0 formats.F0) in
+    let puts = subst (λ (n : List ℕ). PutsDurably {T = Unit {0}} {E = Device} n v1 0 last c.settle.new.vol m1 m2 c.settle.result) by_index (c.settle.ensures.files told) in
+    concludes name v0 m0 low there mounted durable m0 v0 on v1 m1 leaves.done.1 index c.rewrite_durably.ensures.others c.in_ok-rewrite_durably.ensures.slots c.settle.new.vol m2 c.settle.result puts since (on_ok_weaker c.settle.result (λ is. is.items) c.settle.ensures.index) c.settle.ensures.others
 
 pub returns-clause-names : goal.returns-clause-names
 returns-clause-names g c ordered =
-    let v0 = c.args.vol.now in
     let v1 = c.rewrite_durably.new.vol in
-    let many = rewritten_length v0 v1.slots.items c.in_ok-rewrite_durably.ensures.slots in
-    let low = get_low v0.slots.items 1 c.requires.first.0 c.requires.first.1 in
+    let many = rewritten_length c.args.vol.now v1.slots.items c.in_ok-rewrite_durably.ensures.slots in
+    let low = get_low c.args.vol.now.slots.items 1 c.requires.first.0 c.requires.first.1 in
     let one = c.in_ok-rewrite_durably.ensures.names ordered in
     on_ok_weaker c.settle.result (λ is. names_kept v1 c.settle.new.vol c.settle.ensures.others (tell_names v1.slots.items c.settle.new.vol.slots.items (free_in v1.slots.items) (highest_among (address_in v1) v1.slots.items) (omega (arith, low, many)) is.items) one) c.settle.ensures.index

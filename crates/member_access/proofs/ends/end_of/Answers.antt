@@ -1,5 +1,5 @@
 use Rattle.stop_model.proofs.MomentLemmas.{same_then}
-use Rattle.pds_directory.proofs.OnlyReading.{call_done}
+use Rattle.vtoc_sets.proofs.OtherBuffers.{call_done}
 use Rattle.member_access.proofs.EndCalls.{readable_now, set_now}
 use Rattle.member_access.proofs.ends.end_of.Goals as goal
 

@@ -6,7 +6,7 @@ use Rattle.vtoc_index.proofs.HeldLemmas.{noted}
 use Rattle.pds_directory.specs.Directories.{end_in}
 use Rattle.pds_directory.specs.Reading.{SeeksOn}
 use Rattle.pds_directory.proofs.EndWalks.{behind_now, seeks_end, seeks_first, seeks_more, seeks_past, set_now}
-use Rattle.pds_directory.proofs.OnlyReading.{call_done}
+use Rattle.vtoc_sets.proofs.OtherBuffers.{call_done}
 use Rattle.pds_directory.proofs.ends.find_end.Goals as goal
 
 pub loop-k-init : goal.loop-k-init

@@ -5,7 +5,7 @@ use Rattle.track_records.specs.Written.{StandsOn}
 use Rattle.track_records.specs.declared.error.TrackErr.{TrackErr}
 use Rattle.track_records.specs.declared.error.TrackErr.TheVariants as errors
 use Rattle.vtoc_index.proofs.HeldLemmas.{broken_none}
-use Rattle.pds_directory.proofs.OnlyReading.{mounted_with, read_as}
+use Rattle.vtoc_sets.proofs.OtherBuffers.{mounted_with, read_as}
 use Rattle.pds_directory.proofs.ends.read_up_to.Goals as goal
 
 pub returns-in-Ok-clause-mounted : goal.returns-in-Ok-clause-mounted

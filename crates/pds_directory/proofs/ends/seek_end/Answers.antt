@@ -6,7 +6,7 @@ use Rattle.pds_directory.specs.declared.ends.Reached.{Reached}
 use Rattle.pds_directory.specs.Reading.{IsLastEnd, IsReadUpTo}
 use Rattle.pds_directory.proofs.EndReads.{held_last}
 use Rattle.pds_directory.proofs.EndSeeks.{seeks_all, seeks_broken, seeks_first, seeks_found, seeks_more}
-use Rattle.pds_directory.proofs.OnlyReading.{call_done}
+use Rattle.vtoc_sets.proofs.OtherBuffers.{call_done}
 use Rattle.pds_directory.proofs.ends.seek_end.Goals as goal
 
 pub loop-before-init : goal.loop-before-init

@@ -5,7 +5,7 @@ use Rattle.pack_spec.specs.Label.{records_on}
 use Rattle.pds_directory.specs.declared.ends.Reached.{Reached}
 use Rattle.pds_directory.specs.Directories.{data_in}
 use Rattle.pds_directory.specs.Reading.{IsHeld, Reaches}
-use Rattle.pds_directory.proofs.OnlyReading.{call_as, call_done}
+use Rattle.vtoc_sets.proofs.OtherBuffers.{call_as, call_done}
 use Rattle.pds_directory.proofs.ReadSteps.{broken_track, has_bytes, holds_whole, no_track, reads_track}
 use Rattle.pds_directory.proofs.reading.read_track.Goals as goal
 

@@ -11,7 +11,7 @@ use Rattle.pds_directory.specs.declared.dir.DirWalk.{DirWalk}
 use Rattle.pds_directory.specs.Directories.{ReadsDir, end_in}
 use Rattle.pds_directory.specs.Reading.{HoldsWhole, ReadsTrack, at_in, dir_walked}
 use Rattle.pds_directory.proofs.DirectoryWalks.{before_now, lawful_dir, part_now, walk_end, walk_err, walk_front, walk_held, walk_more, walk_none, walk_past, walk_place}
-use Rattle.pds_directory.proofs.OnlyReading.{call_as}
+use Rattle.vtoc_sets.proofs.OtherBuffers.{call_as}
 use Rattle.pds_directory.proofs.reading.walk_dir.Goals as goal
 
 -- a track that was read reports no fault

@@ -9,7 +9,7 @@ use Rattle.track_records.specs.Written.{StandsOn}
 use Rattle.track_records.specs.declared.error.TrackErr.{TrackErr}
 use Rattle.track_records.specs.declared.error.TrackErr.TheVariants as errors
 use Rattle.vtoc_index.proofs.HeldLemmas.{broken_none, noted}
-use Rattle.seq_access.proofs.Checked.{mounted_with}
+use Rattle.vtoc_sets.proofs.OtherBuffers.{mounted_with}
 use Rattle.seq_access.proofs.HeldTracks.{held_up_to}
 use Rattle.seq_access.proofs.holding.hold.Goals as goal
 

@@ -7,7 +7,7 @@ use Rattle.pack_spec.specs.Label.{records_on}
 use Rattle.vtoc_index.proofs.HeldLemmas.{noted}
 use Rattle.seq_access.specs.Bodies.{owned_in}
 use Rattle.seq_access.proofs.Checked.{broken, read_as}
-use Rattle.seq_access.proofs.DataPlaces.{blocks_none, few_owned_tracks}
+use Rattle.vtoc_sets.proofs.DataPlaces.{blocks_none, few_owned_tracks}
 use Rattle.seq_access.proofs.Seeking.{blocks_found, finds_none, finds_some, none_unfit}
 use Rattle.seq_access.proofs.reading.seek_on.Goals.{then-at-eq65535-via-then-at-eq65535, then-at-eq65535-via-else-at-eq65535+then-not-is_block}
 use Rattle.seq_access.proofs.reading.seek_on.Goals as goal

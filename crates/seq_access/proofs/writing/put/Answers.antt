@@ -13,19 +13,17 @@ use Rattle.seq_access.proofs.writing.put.Goals as goal
 
 pub returns-in_err-place-clause-spares : goal.returns-in_err-place-clause-spares
 returns-in_err-place-clause-spares g c told is =
-    let v0 = c.args.vol.now in
-    let name : List ℕ = (unit_of (g.H.Hall.facts c.args.hall.now).units v0.unit).name in
-    spares_as name v0 is.f _ (g.H.Hall.meaning c.args.hall.now) (g.H.Hall.meaning c.make_ready.new.hall) c.make_ready.result _ (c.make_ready.ensures.spares told is)
+    let name : List ℕ = (unit_of (g.H.Hall.facts c.args.hall.now).units c.args.vol.now.unit).name in
+    spares_as name c.args.vol.now is.f _ (g.H.Hall.meaning c.args.hall.now) (g.H.Hall.meaning c.make_ready.new.hall) c.make_ready.result _ (c.make_ready.ensures.spares told is)
 
 pub returns-in_err-place-clause-mounted : goal.returns-in_err-place-clause-mounted
 returns-in_err-place-clause-mounted g c told not = c.make_ready.ensures.mounted told (λ device. not (search rules))
 
 pub returns-in_err-place-clause-need : goal.returns-in_err-place-clause-need
 returns-in_err-place-clause-need g c told of is =
-    let v0 = c.args.vol.now in
-    let image = image_in (g.H.Hall.meaning c.args.hall.now) (g.H.Hall.facts c.args.hall.now) v0.unit in
+    let image = image_in (g.H.Hall.meaning c.args.hall.now) (g.H.Hall.facts c.args.hall.now) c.args.vol.now.unit in
     let need = c.make_ready.ensures.need told (search rules) is (c.args.key.now, c.args.payload.now) refl in
-    omega (arith, need, ap (λ (p : Place). p.tt) (next_same image v0 c.args.writer.now is (omega arith) (c.args.key.now, c.args.payload.now)))
+    omega (arith, need, ap (λ (p : Place). p.tt) (next_same image c.args.vol.now c.args.writer.now is (omega arith) (c.args.key.now, c.args.payload.now)))
 
 pub append-requires-clause-few : goal.append-requires-clause-few
 append-requires-clause-few g c = fits_few c.make_ready.new.vol.buf c.args.vol.now.geometry.device (length c.args.key.now) (length c.args.payload.now) c.in_ok-place.ensures.fits
@@ -39,69 +37,31 @@ append-requires-clause-room g c =
 
 pub returns-in_err-append-clause-spares : goal.returns-in_err-append-clause-spares
 returns-in_err-append-clause-spares g c told is =
-    let v0 = c.args.vol.now in
     let v1 = c.make_ready.new.vol in
-    let m0 = g.H.Hall.meaning c.args.hall.now in
-    let m1 = g.H.Hall.meaning c.make_ready.new.hall in
-    let m2 = g.H.Hall.meaning c.append.new.hall in
-    let f0 = g.H.Hall.facts c.args.hall.now in
-    let f1 = g.H.Hall.facts c.make_ready.new.hall in
-    let f2 = g.H.Hall.facts c.append.new.hall in
-    let key : List ℕ = c.args.key.now in
-    let payload : List ℕ = c.args.payload.now in
     let units = c.in_ok-place.ensures.faults.units in
     let ready = c.in_ok-place.ensures.ready told is in
     let geometry : v1.buf.geometry ≡ c.args.vol.now.geometry = c.in_ok-place.ensures.unit.buffer.0 ∙ ap (λ (v : Vol). v.geometry) c.in_ok-place.ensures.others in
     let lawful : is_track_size c.args.vol.now.geometry.device v1.buf.geometry.track_size ≡ true = subst (λ (x : Geometry). is_track_size x.device v1.buf.geometry.track_size ≡ true) geometry c.in_ok-place.ensures.roomy.track.whole.track_size in
-    call_spares m0 m1 m2 f0 f1 f2 v0 v1 c.args.writer.now is (length key) (length payload) c.in_ok-place.place c.in_ok-place.ensures.others c.in_ok-place.ensures.unit units ready c.in_ok-place.ensures.numbers.0 c.in_ok-place.ensures.numbers.1 key payload refl c.in_ok-place.place c.append.result _ (c.in_ok-place.ensures.spares told is) (fits_room v1.buf c.args.vol.now.geometry.device (length c.args.key.now) (length c.args.payload.now) c.in_ok-place.ensures.fits lawful) (c.append.ensures.files told)
+    call_spares (g.H.Hall.meaning c.args.hall.now) (g.H.Hall.meaning c.make_ready.new.hall) (g.H.Hall.meaning c.append.new.hall) (g.H.Hall.facts c.args.hall.now) (g.H.Hall.facts c.make_ready.new.hall) (g.H.Hall.facts c.append.new.hall) c.args.vol.now v1 c.args.writer.now is (length c.args.key.now) (length c.args.payload.now) c.in_ok-place.place c.in_ok-place.ensures.others c.in_ok-place.ensures.unit units ready c.in_ok-place.ensures.numbers.0 c.in_ok-place.ensures.numbers.1 c.args.key.now c.args.payload.now refl c.in_ok-place.place c.append.result _ (c.in_ok-place.ensures.spares told is) (fits_room v1.buf c.args.vol.now.geometry.device (length c.args.key.now) (length c.args.payload.now) c.in_ok-place.ensures.fits lawful) (c.append.ensures.files told)
 
 pub returns-clause-put : goal.returns-clause-put
 returns-clause-put g c told is =
-    let v0 = c.args.vol.now in
-    let v1 = c.make_ready.new.vol in
-    let m0 = g.H.Hall.meaning c.args.hall.now in
-    let m1 = g.H.Hall.meaning c.make_ready.new.hall in
-    let m2 = g.H.Hall.meaning c.append.new.hall in
-    let f0 = g.H.Hall.facts c.args.hall.now in
-    let f1 = g.H.Hall.facts c.make_ready.new.hall in
-    let f2 = g.H.Hall.facts c.append.new.hall in
-    let key : List ℕ = c.args.key.now in
-    let payload : List ℕ = c.args.payload.now in
     let units = c.in_ok-place.ensures.faults.units in
     let ready = c.in_ok-place.ensures.ready told is in
-    call_puts m0 m1 m2 f0 f1 f2 v0 v1 c.args.writer.now is (length key) (length payload) c.in_ok-place.place c.in_ok-place.ensures.others c.in_ok-place.ensures.unit units ready c.in_ok-place.ensures.numbers.0 c.in_ok-place.ensures.numbers.1 key payload refl c.append.new.buf c.append.ensures.buffer (c.in_ok-append.ensures.record told) c.requires.key c.requires.payload (omega arith) (omega arith) c.saturating_add.result (omega arith)
+    call_puts (g.H.Hall.meaning c.args.hall.now) (g.H.Hall.meaning c.make_ready.new.hall) (g.H.Hall.meaning c.append.new.hall) (g.H.Hall.facts c.args.hall.now) (g.H.Hall.facts c.make_ready.new.hall) (g.H.Hall.facts c.append.new.hall) c.args.vol.now c.make_ready.new.vol c.args.writer.now is (length c.args.key.now) (length c.args.payload.now) c.in_ok-place.place c.in_ok-place.ensures.others c.in_ok-place.ensures.unit units ready c.in_ok-place.ensures.numbers.0 c.in_ok-place.ensures.numbers.1 c.args.key.now c.args.payload.now refl c.append.new.buf c.append.ensures.buffer (c.in_ok-append.ensures.record told) c.requires.key c.requires.payload (omega arith) (omega arith) c.saturating_add.result (omega arith)
 
 pub returns-clause-spares : goal.returns-clause-spares
 returns-clause-spares g c told is =
-    let v0 = c.args.vol.now in
     let v1 = c.make_ready.new.vol in
-    let m0 = g.H.Hall.meaning c.args.hall.now in
-    let m1 = g.H.Hall.meaning c.make_ready.new.hall in
-    let m2 = g.H.Hall.meaning c.append.new.hall in
-    let f0 = g.H.Hall.facts c.args.hall.now in
-    let f1 = g.H.Hall.facts c.make_ready.new.hall in
-    let f2 = g.H.Hall.facts c.append.new.hall in
-    let key : List ℕ = c.args.key.now in
-    let payload : List ℕ = c.args.payload.now in
     let units = c.in_ok-place.ensures.faults.units in
     let ready = c.in_ok-place.ensures.ready told is in
     let geometry : v1.buf.geometry ≡ c.args.vol.now.geometry = c.in_ok-place.ensures.unit.buffer.0 ∙ ap (λ (v : Vol). v.geometry) c.in_ok-place.ensures.others in
     let lawful : is_track_size c.args.vol.now.geometry.device v1.buf.geometry.track_size ≡ true = subst (λ (x : Geometry). is_track_size x.device v1.buf.geometry.track_size ≡ true) geometry c.in_ok-place.ensures.roomy.track.whole.track_size in
-    call_spares m0 m1 m2 f0 f1 f2 v0 v1 c.args.writer.now is (length key) (length payload) c.in_ok-place.place c.in_ok-place.ensures.others c.in_ok-place.ensures.unit units ready c.in_ok-place.ensures.numbers.0 c.in_ok-place.ensures.numbers.1 key payload refl c.in_ok-place.place c.append.result _ (c.in_ok-place.ensures.spares told is) (fits_room v1.buf c.args.vol.now.geometry.device (length c.args.key.now) (length c.args.payload.now) c.in_ok-place.ensures.fits lawful) (c.append.ensures.files told)
+    call_spares (g.H.Hall.meaning c.args.hall.now) (g.H.Hall.meaning c.make_ready.new.hall) (g.H.Hall.meaning c.append.new.hall) (g.H.Hall.facts c.args.hall.now) (g.H.Hall.facts c.make_ready.new.hall) (g.H.Hall.facts c.append.new.hall) c.args.vol.now v1 c.args.writer.now is (length c.args.key.now) (length c.args.payload.now) c.in_ok-place.place c.in_ok-place.ensures.others c.in_ok-place.ensures.unit units ready c.in_ok-place.ensures.numbers.0 c.in_ok-place.ensures.numbers.1 c.args.key.now c.args.payload.now refl c.in_ok-place.place c.append.result _ (c.in_ok-place.ensures.spares told is) (fits_room v1.buf c.args.vol.now.geometry.device (length c.args.key.now) (length c.args.payload.now) c.in_ok-place.ensures.fits lawful) (c.append.ensures.files told)
 
 pub returns-clause-mounted : goal.returns-clause-mounted
 returns-clause-mounted g c told not =
     let is = c.requires.writing told in
-    let v0 = c.args.vol.now in
-    let v1 = c.make_ready.new.vol in
-    let m0 = g.H.Hall.meaning c.args.hall.now in
-    let m1 = g.H.Hall.meaning c.make_ready.new.hall in
-    let m2 = g.H.Hall.meaning c.append.new.hall in
-    let f0 = g.H.Hall.facts c.args.hall.now in
-    let f1 = g.H.Hall.facts c.make_ready.new.hall in
-    let f2 = g.H.Hall.facts c.append.new.hall in
-    let key : List ℕ = c.args.key.now in
-    let payload : List ℕ = c.args.payload.now in
     let units = c.in_ok-place.ensures.faults.units in
     let ready = c.in_ok-place.ensures.ready told is in
-    call_mounted m0 m1 m2 f0 f1 f2 v0 v1 c.args.writer.now is (length key) (length payload) c.in_ok-place.place c.in_ok-place.ensures.others c.in_ok-place.ensures.unit units ready c.in_ok-place.ensures.numbers.0 c.in_ok-place.ensures.numbers.1 key payload refl c.append.new.buf c.append.ensures.buffer (c.in_ok-append.ensures.record told)
+    call_mounted (g.H.Hall.meaning c.args.hall.now) (g.H.Hall.meaning c.make_ready.new.hall) (g.H.Hall.meaning c.append.new.hall) (g.H.Hall.facts c.args.hall.now) (g.H.Hall.facts c.make_ready.new.hall) (g.H.Hall.facts c.append.new.hall) c.args.vol.now c.make_ready.new.vol c.args.writer.now is (length c.args.key.now) (length c.args.payload.now) c.in_ok-place.place c.in_ok-place.ensures.others c.in_ok-place.ensures.unit units ready c.in_ok-place.ensures.numbers.0 c.in_ok-place.ensures.numbers.1 c.args.key.now c.args.payload.now refl c.append.new.buf c.append.ensures.buffer (c.in_ok-append.ensures.record told)

@@ -1,11 +1,12 @@
 use Rattle.std.proofs.Common.{List, ℕ, ap, refl, ◌∙◌}
-use Rattle.std.specs.Prelude.{slice_index_or}
+use Rattle.std.specs.Prelude.{slice_get, slice_index_or}
 use Rattle.dscb_codec.specs.declared.Dscb.{Dscb}
 use Rattle.dscb_codec.specs.declared.Dscb.TheVariants as formats
 use Rattle.hall_core.specs.Facts.{Attached, unit_of}
 use Rattle.vtoc_index.specs.Last.{with_last}
 use Rattle.vtoc_index.specs.Names.{name_at}
 use Rattle.free_rebuild.specs.Repairs.{image_named}
+use Rattle.free_rebuild.proofs.ChainLemmas.{get_set}
 use Rattle.free_rebuild.proofs.DurableLemmas.{put_fails, put_synced}
 use Rattle.free_rebuild.proofs.WriteLemmas.{image_there}
 use Rattle.seq_access.proofs.RaisedNames.{names_raised}
@@ -36,3 +37,10 @@ pub returns-clause-names : goal.returns-clause-names
 returns-clause-names g c = on_ok c.make_durable.result (λ k.
     ap (λ (items : List Dscb). name_at items k) c.in_ok-set_last.ensures.index.done.items
     ∙ names_raised c.args.vol.now.slots.items c.args.writer.slot c.args.writer.last c.args.balance _ c.requires.slot refl k)
+
+pub returns-clause-slot : goal.returns-clause-slot
+returns-clause-slot g c =
+    let v = c.args.vol.now in
+    let d : Dscb = with_last c.args.writer.last c.args.balance (slice_index_or v.slots.items c.args.writer.slot formats.F0) in
+    on_ok c.make_durable.result
+    (ap (λ (items : List Dscb). slice_get items c.args.writer.slot) c.in_ok-set_last.ensures.index.done.items ∙ get_set v.slots.items c.args.writer.slot d c.requires.slot)

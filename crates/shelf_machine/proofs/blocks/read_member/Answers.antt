@@ -3,7 +3,7 @@ use Rattle.seq_access.specs.Bodies.{IsReadablePart, IsSetIn, end_in, part_in}
 use Rattle.seq_access.specs.Reading.{GivesMembers, HoldsTrack}
 use Rattle.stop_model.proofs.MomentLemmas.{same_then}
 use Rattle.vtoc_index.specs.declared.vol.Vol.{Vol}
-use Rattle.shelf_machine.specs.declared.known.Known.{Known}
+use Rattle.shelf_machine.specs.declared.pack_cache.PackCache.{PackCache}
 use Rattle.shelf_machine.proofs.ReadBlocks.{part_blocks, part_set}
 use Rattle.shelf_machine.proofs.Settling.{reported_behind}
 use Rattle.shelf_machine.proofs.StillPacks.{stayed, stays, unit_stays}
@@ -50,7 +50,7 @@ pub returns-in-Ok-clause-buffer : goal.returns-in-Ok-clause-buffer
 returns-in-Ok-clause-buffer g c = c.read_part_block.ensures.buffer ∙ ap (λ (w : Vol). w.geometry) c.in-Ok.ensures.vol
 
 pub returns-in-Ok-clause-others : goal.returns-in-Ok-clause-others
-returns-in-Ok-clause-others g c = ap (λ (b : Known). record b { buf = c.read_part_block.new.buf }) c.in-Ok.ensures.others
+returns-in-Ok-clause-others g c = ap (λ (b : PackCache). record b { buf = c.read_part_block.new.buf }) c.in-Ok.ensures.others
 
 pub returns-in-Ok-clause-held : goal.returns-in-Ok-clause-held
 returns-in-Ok-clause-held g c told =

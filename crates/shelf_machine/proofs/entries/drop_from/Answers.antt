@@ -36,73 +36,73 @@ returns-in-Err-clause-libraries g c told sound = c.requires.libraries told
 
 -- ---- the library
 
-pub take_library-requires-clause-part : goal.take_library-requires-clause-part
-take_library-requires-clause-part g c told =
+pub lend_library-requires-clause-part : goal.lend_library-requires-clause-part
+lend_library-requires-clause-part g c told =
     (c.in-Ok.ensures.part (image_in (g.H.Hall.meaning c.args.hall.now) (g.H.Hall.facts c.args.hall.now) c.args.vol.now.unit) (c.requires.mounted told) (c.requires.bodies told)).1
 
 -- it wasn't read
-unread : (g : Over) (c : goal.In-Err-take_library g) → IsTrue g.H.Hall.tells
-    → ChangesSet {T = Unit {0}} (unit_of (g.H.Hall.facts c.args.hall.now).units c.args.vol.now.unit).name (drop_on c.args.dsn.now c.args.name.now) c.args.vol.now c.take_library.new.vol (g.H.Hall.meaning c.args.hall.now) (g.H.Hall.meaning c.take_library.new.hall)
-    (Err c.in-Err-take_library.error) c.take_library.new.known.libraries.items
+unread : (g : Over) (c : goal.In-Err-lend_library g) → IsTrue g.H.Hall.tells
+    → ChangesSet {T = Unit {0}} (unit_of (g.H.Hall.facts c.args.hall.now).units c.args.vol.now.unit).name (drop_on c.args.dsn.now c.args.name.now) c.args.vol.now c.lend_library.new.vol (g.H.Hall.meaning c.args.hall.now) (g.H.Hall.meaning c.lend_library.new.hall)
+    (Err c.in-Err-lend_library.error) c.lend_library.new.known.libraries.items
 unread g c told =
     let v = c.args.vol.now in
     let m = g.H.Hall.meaning c.args.hall.now in
     let mounted = c.requires.mounted told in
-    set_unread m (g.H.Hall.meaning c.take_library.new.hall) (g.H.Hall.facts c.args.hall.now) (g.H.Hall.facts c.take_library.new.hall) v c.take_library.new.vol (c.in-Err-take_library.ensures.same told) c.in-Err-take_library.ensures.faults.units c.in-Err-take_library.ensures.vol
-    (c.requires.durable told) (λ (d : Dsn). drop_on d c.args.name.now) c.args.dsn.now c.in-Ok.found.1 _ (volume_in (image_in m (g.H.Hall.facts c.args.hall.now) v.unit) v) mounted.volume c.in-Err-take_library.error
-    (λ why is. c.in-Err-take_library.ensures.refused why (ap (λ (e : StoreErr). Err e) is)) c.args.known.now.libraries.items c.take_library.new.known.libraries.items (ap (λ ls. ls.items) c.in-Err-take_library.ensures.failed) (c.requires.libraries told)
+    set_unread m (g.H.Hall.meaning c.lend_library.new.hall) (g.H.Hall.facts c.args.hall.now) (g.H.Hall.facts c.lend_library.new.hall) v c.lend_library.new.vol (c.in-Err-lend_library.ensures.same told) c.in-Err-lend_library.ensures.faults.units c.in-Err-lend_library.ensures.vol
+    (c.requires.durable told) (λ (d : Dsn). drop_on d c.args.name.now) c.args.dsn.now c.in-Ok.found.1 _ (volume_in (image_in m (g.H.Hall.facts c.args.hall.now) v.unit) v) mounted.volume c.in-Err-lend_library.error
+    (λ why is. c.in-Err-lend_library.ensures.refused why (ap (λ (e : StoreErr). Err e) is)) c.args.known.now.libraries.items c.lend_library.new.known.libraries.items (ap (λ ls. ls.items) c.in-Err-lend_library.ensures.failed) (c.requires.libraries told)
 
-pub returns-in-Err-take_library-clause-files : goal.returns-in-Err-take_library-clause-files
-returns-in-Err-take_library-clause-files g c told = (unread g c told).files
+pub returns-in-Err-lend_library-clause-files : goal.returns-in-Err-lend_library-clause-files
+returns-in-Err-lend_library-clause-files g c told = (unread g c told).files
 
-pub returns-in-Err-take_library-clause-libraries : goal.returns-in-Err-take_library-clause-libraries
-returns-in-Err-take_library-clause-libraries g c told sound =
-    subst (λ us. HoldLibraries (image_named (g.H.Hall.meaning c.take_library.new.hall).state (unit_of us c.args.vol.now.unit).name) c.take_library.new.vol c.take_library.new.known.libraries.items) (sym c.in-Err-take_library.ensures.faults.units) ((unread g c told).libraries sound)
+pub returns-in-Err-lend_library-clause-libraries : goal.returns-in-Err-lend_library-clause-libraries
+returns-in-Err-lend_library-clause-libraries g c told sound =
+    subst (λ us. HoldLibraries (image_named (g.H.Hall.meaning c.lend_library.new.hall).state (unit_of us c.args.vol.now.unit).name) c.lend_library.new.vol c.lend_library.new.known.libraries.items) (sym c.in-Err-lend_library.ensures.faults.units) ((unread g c told).libraries sound)
 
 -- ---- the change
 
 pub drop_entry-dropped-requires-clause-part : goal.drop_entry-dropped-requires-clause-part
 drop_entry-dropped-requires-clause-part g c told f is =
     let v = c.args.vol.now in
-    let v' = c.take_library.new.vol in
+    let v' = c.lend_library.new.vol in
     let set = c.in-Ok.found.1 in
     let m = g.H.Hall.meaning c.args.hall.now in
-    let mid = g.H.Hall.meaning c.take_library.new.hall in
-    let took = c.in-Ok-take_library.ensures in
+    let mid = g.H.Hall.meaning c.lend_library.new.hall in
+    let took = c.in-Ok-lend_library.ensures in
     let part = (c.in-Ok.ensures.part (image_in m (g.H.Hall.facts c.args.hall.now) v.unit) (c.requires.mounted told) (c.requires.bodies told)).1 in
-    subst (λ (x : F1). IsReadablePart (image_in mid (g.H.Hall.facts c.take_library.new.hall) v'.unit) v' x) (one_f1 v v' c.in-Ok.found.0 set f took.vol c.in-Ok.ensures.set is)
-    (stays m mid (g.H.Hall.facts c.args.hall.now) (g.H.Hall.facts c.take_library.new.hall) v v' (took.same told).state took.faults.units took.vol (λ i w. IsReadablePart i w set) part)
+    subst (λ (x : F1). IsReadablePart (image_in mid (g.H.Hall.facts c.lend_library.new.hall) v'.unit) v' x) (one_f1 v v' c.in-Ok.found.0 set f took.vol c.in-Ok.ensures.set is)
+    (stays m mid (g.H.Hall.facts c.args.hall.now) (g.H.Hall.facts c.lend_library.new.hall) v v' (took.same told).state took.faults.units took.vol (λ i w. IsReadablePart i w set) part)
 
 pub drop_entry-dropped-requires-clause-packed : goal.drop_entry-dropped-requires-clause-packed
 drop_entry-dropped-requires-clause-packed g c told f is =
     let v = c.args.vol.now in
-    let v' = c.take_library.new.vol in
+    let v' = c.lend_library.new.vol in
     let set = c.in-Ok.found.1 in
     let m = g.H.Hall.meaning c.args.hall.now in
-    let mid = g.H.Hall.meaning c.take_library.new.hall in
+    let mid = g.H.Hall.meaning c.lend_library.new.hall in
     let image = image_in m (g.H.Hall.facts c.args.hall.now) v.unit in
     let mounted = c.requires.mounted told in
-    let took = c.in-Ok-take_library.ensures in
+    let took = c.in-Ok-lend_library.ensures in
     let part = (c.in-Ok.ensures.part image mounted (c.requires.bodies told)).1 in
     let packed = packed_in image v (volume_in image v) mounted mounted.volume (are_packed_of image (volume_in image v) mounted.volume (c.requires.packed told)) set c.in-Ok.found.0 c.in-Ok.ensures.set part.part.partitioned part.readable in
-    subst (λ (x : F1). IsPacked (directory_in (image_in mid (g.H.Hall.facts c.take_library.new.hall) v'.unit) v' x)) (one_f1 v v' c.in-Ok.found.0 set f took.vol c.in-Ok.ensures.set is)
-    (stays m mid (g.H.Hall.facts c.args.hall.now) (g.H.Hall.facts c.take_library.new.hall) v v' (took.same told).state took.faults.units took.vol (λ i w. IsPacked (directory_in i w set)) packed)
+    subst (λ (x : F1). IsPacked (directory_in (image_in mid (g.H.Hall.facts c.lend_library.new.hall) v'.unit) v' x)) (one_f1 v v' c.in-Ok.found.0 set f took.vol c.in-Ok.ensures.set is)
+    (stays m mid (g.H.Hall.facts c.args.hall.now) (g.H.Hall.facts c.lend_library.new.hall) v v' (took.same told).state took.faults.units took.vol (λ i w. IsPacked (directory_in i w set)) packed)
 
-changed : (g : Over) (c : goal.After-put_back g) → IsTrue g.H.Hall.tells
+changed : (g : Over) (c : goal.After-give_back g) → IsTrue g.H.Hall.tells
     → ChangesSet (unit_of (g.H.Hall.facts c.args.hall.now).units c.args.vol.now.unit).name (drop_on c.args.dsn.now c.args.name.now) c.args.vol.now c.drop_entry-dropped.new.vol (g.H.Hall.meaning c.args.hall.now) (g.H.Hall.meaning c.drop_entry-dropped.new.hall)
-    c.put_back.result c.put_back.new.libraries.items
+    c.give_back.result c.give_back.new.libraries.items
 changed g c told =
     let v = c.args.vol.now in
     let set = c.in-Ok.found.1 in
     let m = g.H.Hall.meaning c.args.hall.now in
-    let took = c.in-Ok-take_library.ensures in
+    let took = c.in-Ok-lend_library.ensures in
     let its = c.in-Ok.ensures.part (image_in m (g.H.Hall.facts c.args.hall.now) v.unit) (c.requires.mounted told) (c.requires.bodies told) in
-    let there : slice_get c.take_library.new.vol.slots.items c.in-Ok.found.0 ≡ _ = ap (λ (w : Vol). slice_get w.slots.items c.in-Ok.found.0) took.vol ∙ c.in-Ok.ensures.set in
+    let there : slice_get c.lend_library.new.vol.slots.items c.in-Ok.found.0 ≡ _ = ap (λ (w : Vol). slice_get w.slots.items c.in-Ok.found.0) took.vol ∙ c.in-Ok.ensures.set in
     let e = c.drop_entry-dropped.ensures in
-    set_changed m (g.H.Hall.meaning c.take_library.new.hall) (g.H.Hall.facts c.args.hall.now) (g.H.Hall.facts c.take_library.new.hall) v c.take_library.new.vol (took.same told) took.faults.units took.vol (c.requires.durable told)
+    set_changed m (g.H.Hall.meaning c.lend_library.new.hall) (g.H.Hall.facts c.args.hall.now) (g.H.Hall.facts c.lend_library.new.hall) v c.lend_library.new.vol (took.same told) took.faults.units took.vol (c.requires.durable told)
     (λ (d : Dsn). drop_on d c.args.name.now) c.args.dsn.now set (g.H.Hall.meaning c.drop_entry-dropped.new.hall) (g.H.Hall.facts c.drop_entry-dropped.new.hall) c.drop_entry-dropped.new.vol e.faults.units c.drop_entry-dropped.result e.others (e.files told set there) its.0 its.1 (c.requires.packed told)
-    (λ (d : Dsn). directories.drop_keeps d c.args.name.now) (e.packed told set there) (e.mounted told) c.in-Ok-take_library.library.start (took.library told).start c.in-Ok-take_library.library.dir c.drop_entry-dropped.new.dir (took.library told).dir (e.dir told set there) e.stays
-    c.args.known.now.libraries.items c.take_library.new.known.libraries.items c.put_back.new.libraries.items (c.requires.libraries told) took.others c.put_back.ensures.libraries c.put_back.result c.put_back.ensures.answer
+    (λ (d : Dsn). directories.drop_keeps d c.args.name.now) (e.packed told set there) (e.mounted told) c.in-Ok-lend_library.library.start (took.library told).start c.in-Ok-lend_library.library.dir c.drop_entry-dropped.new.dir (took.library told).dir (e.dir told set there) e.stays
+    c.args.known.now.libraries.items c.lend_library.new.known.libraries.items c.give_back.new.libraries.items (c.requires.libraries told) took.others c.give_back.ensures.libraries c.give_back.result c.give_back.ensures.answer
 
 pub returns-clause-files : goal.returns-clause-files
 returns-clause-files g c told = (changed g c told).files
@@ -112,4 +112,4 @@ returns-clause-idle g c told kept e is differs = (changed g c told).idle kept e 
 
 pub returns-clause-libraries : goal.returns-clause-libraries
 returns-clause-libraries g c told sound =
-    subst (λ us. HoldLibraries (image_named (g.H.Hall.meaning c.drop_entry-dropped.new.hall).state (unit_of us c.args.vol.now.unit).name) c.drop_entry-dropped.new.vol c.put_back.new.libraries.items) (sym (c.drop_entry-dropped.ensures.faults.units ∙ c.in-Ok-take_library.ensures.faults.units)) ((changed g c told).libraries sound)
+    subst (λ us. HoldLibraries (image_named (g.H.Hall.meaning c.drop_entry-dropped.new.hall).state (unit_of us c.args.vol.now.unit).name) c.drop_entry-dropped.new.vol c.give_back.new.libraries.items) (sym (c.drop_entry-dropped.ensures.faults.units ∙ c.in-Ok-lend_library.ensures.faults.units)) ((changed g c told).libraries sound)

@@ -10,7 +10,7 @@ use Rattle.shelf_machine.specs.Known.{KnowsBodies}
 use Rattle.shelf_machine.specs.Machine.{AreIndexes, serials_of, shelf_under, units_of}
 use Rattle.shelf_machine.specs.Opening.{AreApart, names_of}
 use Rattle.shelf_machine.specs.Packs.{AreKnown, StopsAtTwice, indexes_of}
-use Rattle.shelf_machine.specs.declared.stopped.Stopped.{Stopped}
+use Rattle.shelf_machine.specs.declared.open_failure.OpenFailure.{OpenFailure}
 use Rattle.shelf_machine.proofs.ForgottenTracks.{knows_kept}
 use Rattle.shelf_machine.proofs.KnownLemmas.{known_repaired}
 use Rattle.shelf_machine.proofs.KnownPacks.{known_bodies}
@@ -30,14 +30,14 @@ returns-in-Some-clause-refused g c told =
 pub returns-in_err-known-clause-unit : goal.returns-in_err-known-clause-unit
 returns-in_err-known-clause-unit g c =
     let p = err_from_is_err_and c.from_residual-in_err-known.result c.from_residual-in_err-known.ensures.1 in
-    subst (λ r. IfErr r (λ (s : Stopped). s.unit < length c.args.units.now)) (sym (p.1 ∙ ap Err p.2))
+    subst (λ r. IfErr r (λ (s : OpenFailure). s.unit < length c.args.units.now)) (sym (p.1 ∙ ap Err p.2))
     (number_low c.args.units.now c.in_err-known.field-0.0.unit c.requires.units.numbered
     (subst (λ (us : List ℕ). Contains us c.in_err-known.field-0.0.unit) (ap (λ (l : List Scan). units_of (indexes_of l)) c.deref-2.ensures.value ∙ c.in_ok-scans.ensures.scanned.numbers) c.in_err-known.ensures.unit))
 
 pub returns-in_err-vols-clause-unit : goal.returns-in_err-vols-clause-unit
 returns-in_err-vols-clause-unit g c =
     let p = err_from_is_err_and c.from_residual-in_err-vols.result c.from_residual-in_err-vols.ensures.1 in
-    subst (λ r. IfErr r (λ (s : Stopped). s.unit < length c.args.units.now)) (sym (p.1 ∙ ap Err p.2))
+    subst (λ r. IfErr r (λ (s : OpenFailure). s.unit < length c.args.units.now)) (sym (p.1 ∙ ap Err p.2))
     (number_low c.args.units.now c.in_err-vols.field-0.0.unit c.requires.units.numbered
     (subst (λ (us : List ℕ). Contains us c.in_err-vols.field-0.0.unit) (ap (λ (l : List Scan). units_of (indexes_of l)) c.deref-3.ensures.value ∙ c.in_ok-scans.ensures.scanned.numbers) c.in_err-vols.ensures.unit))
 
@@ -59,7 +59,7 @@ repair_all-requires-clause-scanned g c k s at = subst (λ (us : List Attached). 
 pub returns-in_err-repair_all-clause-unit : goal.returns-in_err-repair_all-clause-unit
 returns-in_err-repair_all-clause-unit g c =
     let p = err_from_is_err_and c.from_residual-in_err-repair_all.result c.from_residual-in_err-repair_all.ensures.1 in
-    subst (λ r. IfErr r (λ (s : Stopped). s.unit < length c.args.units.now)) (sym (p.1 ∙ ap Err p.2))
+    subst (λ r. IfErr r (λ (s : OpenFailure). s.unit < length c.args.units.now)) (sym (p.1 ∙ ap Err p.2))
     (number_low c.args.units.now c.in_err-repair_all.field-0.0.unit c.requires.units.numbered
     (subst (λ (us : List ℕ). Contains us c.in_err-repair_all.field-0.0.unit) c.in_ok-scans.ensures.scanned.numbers c.in_err-repair_all.ensures.unit))
 

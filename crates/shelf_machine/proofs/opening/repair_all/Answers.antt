@@ -13,7 +13,7 @@ use Rattle.shelf_machine.specs.Known.{HoldsOn}
 use Rattle.shelf_machine.specs.Machine.{AreInOrder, units_of}
 use Rattle.shelf_machine.specs.Opening.{names_of}
 use Rattle.shelf_machine.specs.Packs.{RepairsAll, indexes_of}
-use Rattle.shelf_machine.specs.declared.stopped.Stopped.{Stopped}
+use Rattle.shelf_machine.specs.declared.open_failure.OpenFailure.{OpenFailure}
 use Rattle.shelf_machine.proofs.KnownPacks.{scan_unit}
 use Rattle.shelf_machine.proofs.ReadingPacks.{mounted_scans}
 use Rattle.shelf_machine.proofs.OpenedLibraries.{HeldSoFar, held_done, held_next, held_none}
@@ -56,7 +56,7 @@ returns-in_err-vol-clause-files g c told =
     let vec = c.into_iter-scanned-iterator.ensures.into_iter_gives in
     let turn = YieldsList-turn (YieldsList-from_vec {s = c.into_iter-scanned-iterator.result} scans vec.0 (vec.1 ∙ c.args.scans.ok.0)) l.yielded l.scanned-iterator l.yielded_by c.next.result c.next.new.self c.in-Some.scanned c.in-Some.is c.next.ensures.steps in
     let p = err_from_is_err_and c.from_residual.result c.from_residual.ensures.1 in
-    subst (λ r. RepairsAll {T = Unit} {E = Stopped} (names_of (g.H.Hall.facts c.args.hall.now).units (units_of (indexes_of scans))) (g.H.Hall.facts c.args.hall.now).units l.vols.items (g.H.Hall.meaning c.args.hall.now) (g.H.Hall.meaning c.repair_pack.new.hall) r) (sym p.1)
+    subst (λ r. RepairsAll {T = Unit} {E = OpenFailure} (names_of (g.H.Hall.facts c.args.hall.now).units (units_of (indexes_of scans))) (g.H.Hall.facts c.args.hall.now).units l.vols.items (g.H.Hall.meaning c.args.hall.now) (g.H.Hall.meaning c.repair_pack.new.hall) r) (sym p.1)
     (opened_stopped g.H.Hall.tells _ _ _ _ scans l.vols.items (length l.yielded) l.invariant.0 c.in-Some.scanned (at_next scans (length l.yielded) c.in-Some.scanned turn) told c.requires.indexes
     (mounted_scans (g.H.Hall.meaning c.args.hall.now).state (g.H.Hall.facts c.args.hall.now).units scans (c.requires.images told)) (g.H.Hall.meaning c.repair_pack.new.hall) c.repair_pack.result p.0 l.vols.items (c.repair_pack.ensures.files told))
 
@@ -67,7 +67,7 @@ returns-in_err-vol-clause-unit g c =
     let vec = c.into_iter-scanned-iterator.ensures.into_iter_gives in
     let turn = YieldsList-turn (YieldsList-from_vec {s = c.into_iter-scanned-iterator.result} scans vec.0 (vec.1 ∙ c.args.scans.ok.0)) l.yielded l.scanned-iterator l.yielded_by c.next.result c.next.new.self c.in-Some.scanned c.in-Some.is c.next.ensures.steps in
     let p = err_from_is_err_and c.from_residual.result c.from_residual.ensures.1 in
-    subst (λ r. IfErr r (λ (s : Stopped). Contains (units_of (indexes_of scans)) s.unit)) (sym (p.1 ∙ ap Err p.2))
+    subst (λ r. IfErr r (λ (s : OpenFailure). Contains (units_of (indexes_of scans)) s.unit)) (sym (p.1 ∙ ap Err p.2))
     (subst (λ (n : ℕ). Contains (units_of (indexes_of scans)) n) (sym c.in_err-vol.ensures.place) (scan_unit scans (length l.yielded) c.in-Some.scanned (at_next scans (length l.yielded) c.in-Some.scanned turn)))
 
 pub loop-scanned-preserved : goal.loop-scanned-preserved

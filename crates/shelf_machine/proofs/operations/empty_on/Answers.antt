@@ -1,122 +1,28 @@
-use Rattle.std.proofs.Common.{◌≡◌, Some, None, refl, sym, ap, ◌∙◌, arith}
-use Rattle.std.specs.Prelude.{slice_get}
-use Rattle.std.proofs.lemmas.Option.{slice_get-get_or}
-use Rattle.dadsm_ops.specs.Operations.{InVtoc}
-use Rattle.hall_core.specs.Facts.{unit_of}
-use Rattle.vol_model.specs.Shelf.{empty_on, step_on}
+use Rattle.std.proofs.Common.{refl, ap, ◌∙◌}
 use Rattle.pds_directory.proofs.PackedTracks as directories
-use Rattle.vol_model.specs.declared.requests.Op.TheVariants.{Empty}
+use Rattle.seq_access.specs.declared.read_buf.ReadBuf.{ReadBuf}
+use Rattle.vol_model.specs.Shelf.{empty_on}
 use Rattle.vtoc_index.proofs.KeptLemmas.{mounted_of}
-use Rattle.vtoc_index.specs.declared.vol.Vol.{Vol}
-use Rattle.shelf_machine.proofs.ForgottenTracks.{keeps_lists, knows_still, same_lists}
-use Rattle.shelf_machine.proofs.HeldOperations.{held_vtoc, libraries_forgot}
-use Rattle.shelf_machine.proofs.KnownLemmas.{as_many, at_index, known_low, lists_held}
-use Rattle.shelf_machine.proofs.ListPlaces.{map_set_same, not_there}
-use Rattle.shelf_machine.proofs.OneVolume.{kept_idle, order_kept}
-use Rattle.shelf_machine.specs.Operating.{IsSamePack}
-use Rattle.shelf_machine.proofs.Operating.{base_same, indexes_after, operates, operates_nowhere, order_after, empty_keeps}
-use Rattle.shelf_machine.proofs.PackedImages.{vtoc_still}
-use Rattle.shelf_machine.proofs.operations.empty_on.Given.{Over}
+use Rattle.shelf_machine.proofs.Following.{empty_after}
+use Rattle.shelf_machine.proofs.Leaving.{leaves_vtoc, on_err, on_ok}
 use Rattle.shelf_machine.proofs.operations.empty_on.Goals as goal
 
-pub returns-then-k-len-clause-shelf : goal.returns-then-k-len-clause-shelf
-returns-then-k-len-clause-shelf g c told =
-    let none : slice_get c.args.vols.now.items c.args.v ≡ None = not_there c.args.vols.now.items c.args.v (omega (arith, c.if-k-len.true, c.len.ensures, c.from-k.ensures)) in
-    operates_nowhere (Empty c.args.v c.args.dsn.now c.args.attr.now) (g.H.Hall.facts c.args.hall.now).units c.args.vols.now.items (g.H.Hall.meaning c.args.hall.now)
-    c.requires.indexes (g.met.H.Hall.counts_now c.args.hall.now) (c.requires.kept told) (c.requires.durable told) none
-
--- the index of the pack of this number
-here : (g : Over) (c : goal.After-index g) → slice_get c.args.vols.now.items c.from-k.result ≡ Some c.index_mut.result.now
-here g c =
-    slice_get-get_or c.args.vols.now.items c.from-k.result _ (omega (arith, c.if-k-len.false, c.len.ensures)) ∙ ap (λ (w : Vol). Some w) (sym c.index_mut.ensures.value)
-
-pub empty_set-requires-clause-unit : goal.empty_set-requires-clause-unit
-empty_set-requires-clause-unit g c = c.requires.indexes.each c.from-k.result c.index_mut.result.now (here g c)
-
-pub empty_set-requires-clause-names : goal.empty_set-requires-clause-names
-empty_set-requires-clause-names g c = c.requires.order c.from-k.result c.index_mut.result.now (here g c)
-
 pub empty_set-requires-clause-mounted : goal.empty_set-requires-clause-mounted
-empty_set-requires-clause-mounted g c told = mounted_of _ _ (c.requires.kept told c.from-k.result c.index_mut.result.now (here g c)).kept
-
-there : (g : Over) (c : goal.After-vols-1 g) → slice_get c.args.vols.now.items c.from-k.result ≡ Some c.index_mut.result.now
-there g c =
-    slice_get-get_or c.args.vols.now.items c.from-k.result _ (omega (arith, c.if-k-len.false, c.len.ensures)) ∙ ap (λ (w : Vol). Some w) (sym c.index_mut.ensures.value)
-
-alike : (g : Over) (c : goal.After-vols-1 g) → IsSamePack c.index_mut.result.now c.empty_set.new.vol
-alike g c = c.empty_set.ensures.index
-
-pub returns-clause-shelf : goal.returns-clause-shelf
-unfolding step_on
-returns-clause-shelf g c told =
-    operates (Empty c.args.v c.args.dsn.now c.args.attr.now) (empty_keeps c.args.v c.args.dsn.now c.args.attr.now)
-    (g.H.Hall.facts c.args.hall.now) (g.H.Hall.facts c.empty_set.new.hall) c.args.vols.now.items c.from-k.result (sym c.from-k.ensures)
-    c.index_mut.result.now c.empty_set.new.vol (there g c) (alike g c) c.empty_set.ensures.faults.units c.requires.indexes
-    (InVtoc c.empty_set.new.vol) (g.H.Hall.meaning c.args.hall.now) (g.H.Hall.meaning c.empty_set.new.hall) c.empty_set.result
-    (g.met.H.Hall.counts_now c.args.hall.now) (g.met.H.Hall.leaves_state c.args.hall.now) (c.requires.kept told) (c.requires.durable told) (c.empty_set.ensures.files told)
-    (kept_idle c.index_mut.result.now c.empty_set.new.vol c.empty_set.result (λ why is. c.empty_set.ensures.refused why is) (λ is. c.empty_set.ensures.memory is))
-    (vtoc_still (unit_of (g.H.Hall.facts c.args.hall.now).units c.index_mut.result.now.unit).name (g.H.Hall.meaning c.args.hall.now) (g.H.Hall.meaning c.empty_set.new.hall) c.empty_set.new.vol (empty_on c.args.dsn.now c.args.attr.now) c.empty_set.result
-    (directories.empty_keeps c.args.dsn.now c.args.attr.now) (c.empty_set.ensures.files told))
-
-pub returns-clause-indexes : goal.returns-clause-indexes
-returns-clause-indexes g c =
-    indexes_after (g.H.Hall.facts c.args.hall.now) (g.H.Hall.facts c.empty_set.new.hall) c.args.vols.now.items c.from-k.result
-    c.index_mut.result.now c.empty_set.new.vol (there g c) (alike g c) c.empty_set.ensures.faults.units c.requires.indexes c.empty_set.ensures.unit
-
-pub returns-clause-order : goal.returns-clause-order
-returns-clause-order g c sound =
-    order_after (g.H.Hall.facts c.args.hall.now) (g.H.Hall.facts c.empty_set.new.hall) c.args.vols.now.items c.from-k.result
-    c.index_mut.result.now c.empty_set.new.vol (there g c) (alike g c) c.empty_set.ensures.faults.units c.requires.order
-    (order_kept c.index_mut.result.now c.empty_set.new.vol c.empty_set.result (λ why is. c.empty_set.ensures.refused why is) (λ is. c.empty_set.ensures.memory is)
-    c.empty_set.ensures.names (c.requires.order c.from-k.result c.index_mut.result.now (there g c)) sound)
-
-pub returns-clause-base : goal.returns-clause-base
-returns-clause-base g c =
-    base_same (g.H.Hall.facts c.args.hall.now) (g.H.Hall.facts c.empty_set.new.hall) c.args.vols.now.items c.from-k.result
-    c.index_mut.result.now c.empty_set.new.vol (there g c) (alike g c) c.empty_set.ensures.faults.units c.empty_set.ensures.faults.references
-
-pub returns-clause-geometries : goal.returns-clause-geometries
-returns-clause-geometries g c = map_set_same (λ (v : Vol). v.geometry) c.args.vols.now.items c.from-k.result c.index_mut.result.now c.empty_set.new.vol (there g c) (alike g c).geometry
-
-pub index-requires : goal.index-requires
-index-requires g c =
-    let at : slice_get c.args.vols.now.items c.from-k.result ≡ Some c.index_mut.result.now = slice_get-get_or c.args.vols.now.items c.from-k.result _ (omega (arith, c.if-k-len.false, c.len.ensures)) ∙ ap (λ (w : Vol). Some w) (sym c.index_mut.ensures.value) in
-    let low = known_low c.args.vols.now.items c.forget_on.new.known.items c.from-k.result c.index_mut.result.now (c.forget_on.ensures.buffers ∙ c.requires.buffers) at in
-    omega (arith, low, c.forget_on.new.known.ok)
-
--- what is known of the pack of this number
-known_here : (g : Over) (c : goal.After-index g) → slice_get c.forget_on.new.known.items c.from-k.result ≡ Some c.index.result.now
-known_here g c =
-    let there = here g c in
-    at_index c.forget_on.new.known.items c.from-k.result c.from-k.result c.index.result.now refl
-    (known_low c.args.vols.now.items c.forget_on.new.known.items c.from-k.result c.index_mut.result.now (c.forget_on.ensures.buffers ∙ c.requires.buffers) there) c.index.ensures
+empty_set-requires-clause-mounted g c told = mounted_of _ _ (c.requires.ready.image told).kept.kept
 
 pub empty_set-requires-clause-bodies : goal.empty_set-requires-clause-bodies
-empty_set-requires-clause-bodies g c told =
-    lists_held (g.H.Hall.meaning c.args.hall.now).state (g.H.Hall.facts c.args.hall.now).units c.args.vols.now.items c.forget_on.new.known.items c.from-k.result
-    c.index_mut.result.now c.index.result.now c.requires.indexes (c.requires.kept told) (knows_still c.from-k.result c.args.known.now.items c.forget_on.new.known.items c.forget_on.ensures _ (c.requires.bodies told)) (here g c) (known_here g c)
+empty_set-requires-clause-bodies g c told = (c.requires.ready.image told).lists
 
 pub empty_set-requires-clause-library : goal.empty_set-requires-clause-library
-empty_set-requires-clause-library g c told =
-    libraries_forgot (g.H.Hall.meaning c.args.hall.now).state (g.H.Hall.facts c.args.hall.now).units c.args.vols.now.items c.args.known.now.items c.forget_on.new.known.items c.from-k.result
-    c.index_mut.result.now c.index.result.now c.forget_on.ensures (c.requires.held told) (here g c) (known_here g c)
+empty_set-requires-clause-library g c told = (c.requires.ready.image told).held.libraries
 
-pub forget_on-requires : goal.forget_on-requires
-forget_on-requires g c =
-    let many = as_many c.args.vols.now.items c.args.known.now.items c.requires.buffers in
-    omega (arith, many, c.if-k-len.false, c.len.ensures)
-
-pub returns-then-k-len-clause-held : goal.returns-then-k-len-clause-held
-returns-then-k-len-clause-held g c told sound = c.requires.held told
-
-pub returns-then-k-len-clause-known : goal.returns-then-k-len-clause-known
-returns-then-k-len-clause-known g c = same_lists c.args.known.now.items
-
-pub returns-clause-held : goal.returns-clause-held
-returns-clause-held g c told sound =
-    held_vtoc (g.H.Hall.facts c.args.hall.now) (g.H.Hall.facts c.empty_set.new.hall) c.args.vols.now.items c.from-k.result c.index_mut.result.now c.empty_set.new.vol (there g c) (alike g c) c.empty_set.ensures.faults.units c.requires.indexes
-    c.args.known.now.items c.forget_on.new.known.items (empty_on c.args.dsn.now c.args.attr.now) (g.H.Hall.meaning c.args.hall.now) (g.H.Hall.meaning c.empty_set.new.hall) (c.requires.held told) c.empty_set.result
-    (mounted_of _ _ (c.requires.kept told c.from-k.result c.index_mut.result.now (there g c)).kept) (directories.empty_keeps c.args.dsn.now c.args.attr.now) (c.empty_set.ensures.files told) c.forget_on.ensures sound
-
-pub returns-clause-known : goal.returns-clause-known
-returns-clause-known g c = keeps_lists c.from-k.result c.args.known.now.items c.forget_on.new.known.items c.forget_on.ensures
+pub returns : goal.returns
+returns g c =
+    let ran = c.empty_set.ensures in
+    record {
+      leaves = leaves_vtoc g.H.Hall.tells (empty_on c.args.dsn.now c.args.attr.now) (g.H.Hall.facts c.args.hall.now) (g.H.Hall.facts c.empty_set.new.hall) (g.H.Hall.meaning c.args.hall.now) (g.H.Hall.meaning c.empty_set.new.hall) c.args.vol.now c.empty_set.new.vol c.args.known.now _ c.empty_set.result
+          c.requires.ready c.requires.durable ran.index ran.unit (ap (λ (b : ReadBuf). b.records.geometry) c.forget.ensures ∙ c.requires.ready.buffer) ran.faults
+          ran.names ran.refused ran.memory (directories.empty_keeps c.args.dsn.now c.args.attr.now) ran.files
+          (on_ok c.empty_set.result (λ w w' done lists. empty_after c.args.dsn.now c.args.attr.now w w' done c.args.known.now.unread.items lists)) (on_err c.empty_set.result refl)
+          (ap (λ (b : ReadBuf). b.reach) c.forget.ensures) refl;
+    }

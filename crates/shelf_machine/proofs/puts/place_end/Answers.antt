@@ -6,10 +6,10 @@ use Rattle.shelf_machine.proofs.puts.place_end.Goals as goal
 
 pub returns-in-Ok-clause-shelf : goal.returns-in-Ok-clause-shelf
 returns-in-Ok-clause-shelf g c told =
-    places_as end_of_file (g.H.Hall.facts c.args.hall.now).units (g.H.Hall.facts c.place_block.new.hall).units c.args.vols.now.items c.place_block.new.vols.items c.place_block.new.known.items c.args.writer.now c.place_block.new.writer
+    places_as end_of_file (g.H.Hall.facts c.args.hall.now).units (g.H.Hall.facts c.place_block.new.hall).units c.args.vols.now.items c.place_block.new.vols.items c.args.writer.now c.place_block.new.writer
     (g.H.Hall.meaning c.args.hall.now) (g.H.Hall.meaning c.place_block.new.hall) c.args.done.now c.place_block.new.done (Ok c.in-Ok._place) (c.in-Ok.ensures.shelf told) tt
 
 pub returns-in-Err-clause-shelf : goal.returns-in-Err-clause-shelf
 returns-in-Err-clause-shelf g c told =
-    places_as end_of_file (g.H.Hall.facts c.args.hall.now).units (g.H.Hall.facts c.place_block.new.hall).units c.args.vols.now.items c.place_block.new.vols.items c.place_block.new.known.items c.args.writer.now c.place_block.new.writer
+    places_as end_of_file (g.H.Hall.facts c.args.hall.now).units (g.H.Hall.facts c.place_block.new.hall).units c.args.vols.now.items c.place_block.new.vols.items c.args.writer.now c.place_block.new.writer
     (g.H.Hall.meaning c.args.hall.now) (g.H.Hall.meaning c.place_block.new.hall) c.args.done.now c.place_block.new.done (Err c.in-Err.error) (c.in-Err.ensures.shelf told) tt

@@ -1,5 +1,5 @@
 -- What is due in front is an end-of-file block or nothing.
-use Rattle.std.proofs.Common.{List, Ok, sym, ap, subst, ◌∙◌}
+use Rattle.std.proofs.Common.{List, Ok, sym, subst, ◌∙◌}
 use Rattle.vol_model.specs.Places.{Content}
 use Rattle.shelf_machine.specs.Machine.{placed_in}
 use Rattle.shelf_machine.specs.PutBlocks.{PlacesAll, shelf_on}
@@ -12,13 +12,12 @@ pub returns-then-not-is_due-clause-shelf : goal.returns-then-not-is_due-clause-s
 returns-then-not-is_due-clause-shelf g c told =
     let us = (g.H.Hall.facts c.args.hall.now).units in
     let vols = c.args.vols.now.items in
-    let known = c.args.known.now.items in
     let w = c.args.writer.now in
     let m = g.H.Hall.meaning c.args.hall.now in
     let n = c.args.done.now in
-    let well = places_well m us vols c.requires.indexes (c.requires.kept told) w c.requires.slot (c.requires.pending told) c.is_due.ensures.low in
-    subst (λ (cs : List Content). PlacesAll cs (tt {0}) us us vols vols known w w m m n n (Ok (tt {0}))) (sym (not_due (shelf_on m.state us vols) w (placed_in m.state us vols w) well (sym c.if-not-is_due.true ∙ c.is_due.ensures.value)))
-    (places_none us vols known w m n (c.requires.kept told) (c.requires.pending told) (c.requires.held told) (c.requires.bodies told))
+    let well = places_well m us vols c.requires.ready.indexes (c.requires.ready.kept told) w c.requires.slot (c.requires.pending told) c.is_due.ensures.low in
+    subst (λ (cs : List Content). PlacesAll cs (tt {0}) us us vols vols w w m m n n (Ok (tt {0}))) (sym (not_due (shelf_on m.state us vols) w (placed_in m.state us vols w) well (sym c.if-not-is_due.true ∙ c.is_due.ensures.value)))
+    (places_none us vols w m n (c.requires.pending told))
 
 pub returns-clause-shelf : goal.returns-clause-shelf
 returns-clause-shelf g c told =
@@ -29,6 +28,6 @@ returns-clause-shelf g c told =
     let w = c.args.writer.now in
     let m = g.H.Hall.meaning c.args.hall.now in
     let m' = g.H.Hall.meaning c.place_end.new.hall in
-    let well = places_well m us vols c.requires.indexes (c.requires.kept told) w c.requires.slot (c.requires.pending told) c.is_due.ensures.low in
-    subst (λ (cs : List Content). PlacesAll cs tt us us' vols vols' c.place_end.new.known.items w c.place_end.new.writer m m' c.args.done.now c.place_end.new.done c.place_end.result)
+    let well = places_well m us vols c.requires.ready.indexes (c.requires.ready.kept told) w c.requires.slot (c.requires.pending told) c.is_due.ensures.low in
+    subst (λ (cs : List Content). PlacesAll cs tt us us' vols vols' w c.place_end.new.writer m m' c.args.done.now c.place_end.new.done c.place_end.result)
     (sym (now_due (shelf_on m.state us vols) w (placed_in m.state us vols w) well (sym c.if-not-is_due.false ∙ c.is_due.ensures.value))) (c.place_end.ensures.shelf told)

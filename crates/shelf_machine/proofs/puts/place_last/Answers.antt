@@ -10,9 +10,8 @@ pub returns-in-Fill-clause-shelf : goal.returns-in-Fill-clause-shelf
 returns-in-Fill-clause-shelf g c told =
     let us = (g.H.Hall.facts c.args.hall.now).units in
     let vols = c.args.vols.now.items in
-    let known = c.args.known.now.items in
     let w = c.args.writer.now in
     let m = g.H.Hall.meaning c.args.hall.now in
     let n = c.args.done.now in
-    subst (λ (cs : List Content). PlacesAll cs (tt {0}) us us vols vols known w w m m n n (Ok (tt {0}))) (sym (ap put_last c.in-Fill.is))
-    (places_none us vols known w m n (c.requires.kept told) (c.requires.pending told) (c.requires.held told) (c.requires.bodies told))
+    subst (λ (cs : List Content). PlacesAll cs (tt {0}) us us vols vols w w m m n n (Ok (tt {0}))) (sym (ap put_last c.in-Fill.is))
+    (places_none us vols w m n (c.requires.pending told))

@@ -1,5 +1,5 @@
 -- A put places what is due in front of its block, and then the block.
-use Rattle.std.proofs.Common.{◌≡◌, List, [], ◌∷◌, ◌++◌, Err, refl, sym, ap, ◌∙◌}
+use Rattle.std.proofs.Common.{◌≡◌, List, [], ◌∷◌, Err, refl, ap, ◌∙◌}
 use Rattle.vol_model.specs.Places.{Content}
 use Rattle.vol_model.specs.Writing.{place_on}
 use Rattle.vol_model.specs.declared.answers.MachErr.{MachErr}
@@ -13,14 +13,11 @@ use Rattle.shelf_machine.proofs.PlacedAll.{places_one, places_stop, places_then}
 use Rattle.shelf_machine.proofs.PutBehind.{place, place_same, puts_all, stands_behind, stands_first}
 use Rattle.shelf_machine.proofs.puts.put_block.Goals as goal
 
-pub place_block-requires-clause-order : goal.place_block-requires-clause-order
-place_block-requires-clause-order g c = c.in-Ok.ensures.order refl
+pub place_block-requires-clause-ready : goal.place_block-requires-clause-ready
+place_block-requires-clause-ready g c = c.in-Ok.ensures.ready refl
 
 pub place_block-requires-clause-pending : goal.place_block-requires-clause-pending
 place_block-requires-clause-pending g c told = (c.in-Ok.ensures.shelf told).pending refl
-
-pub place_block-requires-clause-held : goal.place_block-requires-clause-held
-place_block-requires-clause-held g c told = (c.in-Ok.ensures.shelf told).held refl
 
 pub returns-in-Ok-clause-shelf : goal.returns-in-Ok-clause-shelf
 returns-in-Ok-clause-shelf g c told =
@@ -30,8 +27,6 @@ returns-in-Ok-clause-shelf g c told =
     let vols = c.args.vols.now.items in
     let vols1 = c.place_first.new.vols.items in
     let vols' = c.place_block.new.vols.items in
-    let known1 = c.place_first.new.known.items in
-    let known' = c.place_block.new.known.items in
     let w = c.args.writer.now in
     let w1 = c.place_first.new.writer in
     let w' = c.place_block.new.writer in
@@ -48,13 +43,13 @@ returns-in-Ok-clause-shelf g c told =
     let first = c.in-Ok.ensures.shelf told in
     let run = c.place_block.ensures.shelf told in
     let front : List Content = due_on m.state us vols w in
-    let well = places_well m us vols c.requires.indexes (c.requires.kept told) w c.requires.slot (c.requires.pending told) c.place_first.ensures.low in
-    let all = places_then front (block ∷ []) (tt {0}) y us mid us' vols vols1 vols' known1 known' w w1 w' m m1 m' n k l (tt {0}) r c.place_block.ensures.memory first (places_one block mid us' vols1 vols' known' w1 w' m1 m' k l r run) in
-    puts_all us mid us' vols vols1 vols' known' w w1 w' m m1 m' n l block y r well
-    (place_same us mid us' vols vols1 vols' known' w w1 w' m m1 m' n l block well (shelf_on m1.state mid vols1) between first.does.state.0 first.done)
+    let well = places_well m us vols c.requires.ready.indexes (c.requires.ready.kept told) w c.requires.slot (c.requires.pending told) c.place_first.ensures.low in
+    let all = places_then front (block ∷ []) (tt {0}) y us mid us' vols vols1 vols' w w1 w' m m1 m' n k l (tt {0}) r c.place_block.ensures.memory first (places_one block mid us' vols1 vols' w1 w' m1 m' k l r run) in
+    puts_all us mid us' vols vols1 vols' w w1 w' m m1 m' n l block y r well
+    (place_same us mid us' vols vols1 vols' w w1 w' m m1 m' n l block well (shelf_on m1.state mid vols1) between first.does.state.0 first.done)
     (ap (λ (x : Writer). x.first) c.place_block.ensures.same ∙ ap (λ (x : Writer). x.first) c.place_first.ensures.same)
     c.place_block.ensures.print all
-    (stands_behind us mid us' vols vols1 vols' known' w w1 w' m m1 m' n l block r between c.place_block.ensures.print first.done run.records)
+    (stands_behind us mid us' vols vols1 vols' w w1 w' m m1 m' n l block r between c.place_block.ensures.print first.done run.records)
 
 pub returns-in-Err-clause-shelf : goal.returns-in-Err-clause-shelf
 returns-in-Err-clause-shelf g c told =
@@ -62,7 +57,6 @@ returns-in-Err-clause-shelf g c told =
     let mid = (g.H.Hall.facts c.place_first.new.hall).units in
     let vols = c.args.vols.now.items in
     let vols1 = c.place_first.new.vols.items in
-    let known1 = c.place_first.new.known.items in
     let w = c.args.writer.now in
     let w1 = c.place_first.new.writer in
     let m = g.H.Hall.meaning c.args.hall.now in
@@ -71,10 +65,10 @@ returns-in-Err-clause-shelf g c told =
     let k = c.place_first.new.done in
     let block : Content = (c.args.key.now, c.args.payload.now) in
     let e = c.in-Err.error in
-    let well = places_well m us vols c.requires.indexes (c.requires.kept told) w c.requires.slot (c.requires.pending told) c.place_first.ensures.low in
-    let y : Place = place us mid mid vols vols1 vols1 known1 w w1 w1 m m1 m1 n k block in
-    let all = places_stop (due_on m.state us vols w) (block ∷ []) (tt {0}) y us mid mid vols vols1 vols1 known1 known1 w w1 w1 m m1 m1 n k k e (λ is. c.in-Err.ensures.memory (ap (λ (x : MachErr). Err x) is)) (c.in-Err.ensures.shelf told) in
-    puts_all us mid mid vols vols1 vols1 known1 w w1 w1 m m1 m1 n k block y (Err e) well refl
+    let well = places_well m us vols c.requires.ready.indexes (c.requires.ready.kept told) w c.requires.slot (c.requires.pending told) c.place_first.ensures.low in
+    let y : Place = place us mid mid vols vols1 vols1 w w1 w1 m m1 m1 n k block in
+    let all = places_stop (due_on m.state us vols w) (block ∷ []) (tt {0}) y us mid mid vols vols1 vols1 w w1 w1 m m1 m1 n k k e (λ is. c.in-Err.ensures.memory (ap (λ (x : MachErr). Err x) is)) (c.in-Err.ensures.shelf told) in
+    puts_all us mid mid vols vols1 vols1 w w1 w1 m m1 m1 n k block y (Err e) well refl
     (ap (λ (x : Writer). x.first) c.place_first.ensures.same)
     (λ is. c.in-Err.ensures.print (let same : e ≡ Print = cc in ap (λ (x : MachErr). Err x) same)) all
-    (stands_first us mid mid vols vols1 vols1 known1 w w1 w1 m m1 m1 n k block e (c.in-Err.ensures.stands told))
+    (stands_first us mid mid vols vols1 vols1 w w1 w1 m m1 m1 n k block e (c.in-Err.ensures.stands told))

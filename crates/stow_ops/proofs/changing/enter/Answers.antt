@@ -1,6 +1,5 @@
 use Rattle.std.proofs.lemmas.Result.{err_from_is_err_and}
-use Rattle.std.proofs.Common.{◌≡◌, ◌&&◌, ◌∙◌, ℕ, Bool, true, false, not, List, Result, Err, refl, sym, ap, subst, ⊎_elim}
-use Rattle.std.specs.Prelude.{IsErrOf}
+use Rattle.std.proofs.Common.{◌≡◌, ◌∙◌, ℕ, true, List, Result, Err, refl, sym, ap, subst}
 use Rattle.chain_spec.specs.Kept.{joined, kept}
 use Rattle.hall_core.specs.Facts.{unit_of}
 use Rattle.hall_core.specs.Images.{image_in}
@@ -8,62 +7,49 @@ use Rattle.pack_spec.specs.Directories.{name_number}
 use Rattle.pack_spec.specs.Volume.{volume_by}
 use Rattle.sorted_chain.specs.Plan.{ChangesOne}
 use Rattle.vol_model.specs.declared.answers.StoreErr.{StoreErr}
-use Rattle.vol_model.specs.declared.answers.StoreErr.TheVariants as errors
 use Rattle.vol_model.specs.declared.contents.Entry.{Entry}
 use Rattle.vol_model.specs.declared.contents.Volume.{Volume}
 use Rattle.vol_model.specs.declared.refusals.Refusal.{Refusal}
-use Rattle.vol_model.specs.Shelf.{enter_on, has_member, with_entry}
+use Rattle.vol_model.specs.Shelf.{enter_on, has_member}
 use Rattle.vtoc_index.specs.declared.vol.Vol.{Vol}
-use Rattle.vtoc_index.specs.Index.{IsMounted}
 use Rattle.pds_directory.specs.declared.dir.Dir.{Dir}
-use Rattle.pds_directory.specs.Directories.{IsReadIn, entries_read}
+use Rattle.pds_directory.specs.Directories.{entries_read}
 use Rattle.free_rebuild.specs.Operations.{Operates}
 use Rattle.stow_ops.specs.Stores.{AreForDir, DifferOn, directory_tracks}
-use Rattle.stow_ops.proofs.ChangedEntries.{entered_changes, entered_with, no_member, stands_member}
-use Rattle.stow_ops.proofs.ChangingSteps.{but_device, done_as, failed_as, index_by, not_operated}
-use Rattle.stow_ops.proofs.FoundSets.{enter_refused, makes_enter}
+use Rattle.stow_ops.proofs.ChangedEntries.{entered_changes, stands_member}
+use Rattle.stow_ops.proofs.ChangingSteps.{as_other, done_as, failed_as, failed_mounted, index_by, not_memory, not_operated}
+use Rattle.stow_ops.proofs.FoundSets.{enter_refused}
 use Rattle.stow_ops.proofs.ReadLists.{enter_for, packed_read, read_named, read_rises}
-use Rattle.stow_ops.proofs.Tellings.{named_set}
+use Rattle.stow_ops.proofs.MadeEntries.{entered_makes}
+use Rattle.stow_ops.proofs.NamedSlots.{named_set}
 use Rattle.stow_ops.proofs.changing.enter.Goals as goal
 
 pub with_entry-requires : goal.with_entry-requires
 with_entry-requires g c = record { rise = read_rises c.args.dir.now c.requires.dir c.in_ok-kept_of.field-0.items c.in_ok-kept_of.ensures.kept }
 
-none_there : (b : Bool) → (b && false) ≡ false
-none_there true = refl
-none_there false = refl
-
-not_memory : (r : Refusal) → errors.Refused r ≡ errors.Memory → ⊥
-not_memory r same = cc
-
 pub returns-in_err-kept_of-clause-files : goal.returns-in_err-kept_of-clause-files
 returns-in_err-kept_of-clause-files g c = λ told f is.
     let v : Vol = c.args.vol.now in
     let m0 = g.H.Hall.meaning c.args.hall.now in
-    let name : List ℕ = (unit_of (g.H.Hall.facts c.args.hall.now).units v.unit).name in
     let image : List ℕ = image_in m0 (g.H.Hall.facts c.args.hall.now) v.unit in
-    let part = c.requires.part told f is in
     let operation : Volume → Result Volume Refusal = enter_on (record { bytes = f.name }) c.args.entry.now c.args.replace in
-    let changes : List ℕ → List ℕ → Type 0 = DifferOn v.geometry (directory_tracks image v f) in
     let p = err_from_is_err_and c.from_residual.result c.from_residual.ensures.1 in
-    let given : c.from_residual.result ≡ Err c.in_err-kept_of.field-0.0 = p.1 ∙ ap (λ (e : StoreErr). Err e) p.2 in
-    subst (λ r. Operates name operation v changes m0 m0 r) (sym given)
-    (not_operated name operation v changes m0 (g.met.H.Hall.counts_now c.args.hall.now) (c.in_err-kept_of.field-0.0) (volume_by image v.geometry v.vtoc) part.part.set.mounted.volume
+    subst (λ r. Operates (unit_of (g.H.Hall.facts c.args.hall.now).units v.unit).name operation v (DifferOn v.geometry (directory_tracks image v f)) m0 m0 r) (sym (p.1 ∙ ap (λ (e : StoreErr). Err e) p.2))
+    (not_operated (unit_of (g.H.Hall.facts c.args.hall.now).units v.unit).name operation v (DifferOn v.geometry (directory_tracks image v f)) m0 (g.met.H.Hall.counts_now c.args.hall.now) (c.in_err-kept_of.field-0.0) (volume_by image v.geometry v.vtoc) (c.requires.part told f is).part.set.mounted.volume
     (λ r why. absurd (not_memory r (sym why ∙ c.in_err-kept_of.ensures.memory c.in_err-kept_of.field-0.0 refl))))
+
+pub returns-in_err-kept_of-clause-mounted : goal.returns-in_err-kept_of-clause-mounted
+returns-in_err-kept_of-clause-mounted g c = λ told other. let set = named_set c.args.vol.now.slots.items c.args.slot c.requires.set in (c.requires.part told set.0 set.1).part.set.mounted
 
 pub returns-in_err-entries-clause-files : goal.returns-in_err-entries-clause-files
 returns-in_err-entries-clause-files g c = λ told f is.
     let v : Vol = c.args.vol.now in
     let m0 = g.H.Hall.meaning c.args.hall.now in
-    let name : List ℕ = (unit_of (g.H.Hall.facts c.args.hall.now).units v.unit).name in
     let image : List ℕ = image_in m0 (g.H.Hall.facts c.args.hall.now) v.unit in
-    let part = c.requires.part told f is in
     let operation : Volume → Result Volume Refusal = enter_on (record { bytes = f.name }) c.args.entry.now c.args.replace in
-    let changes : List ℕ → List ℕ → Type 0 = DifferOn v.geometry (directory_tracks image v f) in
     let p = err_from_is_err_and c.from_residual-in_err-entries.result c.from_residual-in_err-entries.ensures.1 in
-    let given : c.from_residual-in_err-entries.result ≡ Err c.in_err-entries.field-0.0 = p.1 ∙ ap (λ (e : StoreErr). Err e) p.2 in
-    subst (λ r. Operates name operation v changes m0 m0 r) (sym given)
-    (not_operated name operation v changes m0 (g.met.H.Hall.counts_now c.args.hall.now) (c.in_err-entries.field-0.0) (volume_by image v.geometry v.vtoc) part.part.set.mounted.volume
+    subst (λ r. Operates (unit_of (g.H.Hall.facts c.args.hall.now).units v.unit).name operation v (DifferOn v.geometry (directory_tracks image v f)) m0 m0 r) (sym (p.1 ∙ ap (λ (e : StoreErr). Err e) p.2))
+    (not_operated (unit_of (g.H.Hall.facts c.args.hall.now).units v.unit).name operation v (DifferOn v.geometry (directory_tracks image v f)) m0 (g.met.H.Hall.counts_now c.args.hall.now) (c.in_err-entries.field-0.0) (volume_by image v.geometry v.vtoc) (c.requires.part told f is).part.set.mounted.volume
     (λ r why.
     let dir : Dir = c.args.dir.now in
     let old : List Entry = c.in_ok-kept_of.field-0.items in
@@ -71,7 +57,10 @@ returns-in_err-entries-clause-files g c = λ told f is.
     let refused = c.in_err-entries.ensures.refused r (ap Err why) in
     let rise = read_rises dir c.requires.dir old list in
     let member : has_member c.args.entry.now.name.bytes old ≡ true = stands_member c.args.entry.now old old rise c.in_err-entries.ensures.named (read_named dir c.requires.dir old list) refused.2.0 refused.2.1 in
-    enter_refused image v f part.part dir (c.requires.read told f is) c.args.entry.now c.args.replace refused.1 (subst (λ (es : List Entry). has_member c.args.entry.now.name.bytes es ≡ true) list member) ∙ ap Err (sym refused.0)))
+    enter_refused image v f (c.requires.part told f is).part dir (c.requires.read told f is) c.args.entry.now c.args.replace refused.1 (subst (λ (es : List Entry). has_member c.args.entry.now.name.bytes es ≡ true) list member) ∙ ap Err (sym refused.0)))
+
+pub returns-in_err-entries-clause-mounted : goal.returns-in_err-entries-clause-mounted
+returns-in_err-entries-clause-mounted g c = λ told other. let set = named_set c.args.vol.now.slots.items c.args.slot c.requires.set in (c.requires.part told set.0 set.1).part.set.mounted
 
 pub store-requires-clause-entries : goal.store-requires-clause-entries
 store-requires-clause-entries g c = subst AreForDir (sym c.deref.ensures.value) (enter_for c.args.dir.now c.requires.dir c.in_ok-kept_of.field-0.items c.in_ok-kept_of.ensures.kept c.args.entry.now c.in_ok-entries.entries.items c.requires.entry c.in_ok-entries.ensures.named c.in_ok-entries.ensures.entered)
@@ -91,39 +80,23 @@ store-requires-clause-change g c = λ told f is.
           (subst (λ (es : List Entry). ChangesOne name_number es c.in_ok-entries.entries.items) list (entered_changes c.args.entry.now old c.in_ok-entries.entries.items rise c.in_ok-entries.ensures.entered));
     }
 
-as_other : {T U : Type 0} {e d : StoreErr} → IsErrOf {T = T} (Err e) d → IsErrOf {T = U} (Err e) d
-as_other is = cc
-
 pub returns-in_err-store-clause-files : goal.returns-in_err-store-clause-files
 returns-in_err-store-clause-files g c = λ told f is.
     let v : Vol = c.args.vol.now in
     let m0 = g.H.Hall.meaning c.args.hall.now in
-    let name : List ℕ = (unit_of (g.H.Hall.facts c.args.hall.now).units v.unit).name in
     let image : List ℕ = image_in m0 (g.H.Hall.facts c.args.hall.now) v.unit in
-    let part = c.requires.part told f is in
     let operation : Volume → Result Volume Refusal = enter_on (record { bytes = f.name }) c.args.entry.now c.args.replace in
-    let changes : List ℕ → List ℕ → Type 0 = DifferOn v.geometry (directory_tracks image v f) in
-    let dir : Dir = c.args.dir.now in
-    let read : IsReadIn image v f dir = c.requires.read told f is in
-    let old : List Entry = c.in_ok-kept_of.field-0.items in
-    let list : old ≡ kept name_number (joined (entries_read dir)) = c.in_ok-kept_of.ensures.kept in
-    let rise = read_rises dir c.requires.dir old list in
-    let new : List Entry = c.in_ok-entries.entries.items in
-    let named = c.in_ok-entries.ensures.named in
-    let all = read_named dir c.requires.dir old list in
-    let after : c.deref.result.now ≡ with_entry c.args.entry.now (kept name_number (joined (entries_read dir))) =
-    c.deref.ensures.value ∙ entered_with c.args.entry.now old new rise named all c.in_ok-entries.ensures.entered ∙ ap (with_entry c.args.entry.now) list in
-    let free : (not c.args.replace && has_member c.args.entry.now.name.bytes old) ≡ false = ⊎_elim
-    (λ replaced. ap (λ (b : Bool). not b && has_member c.args.entry.now.name.bytes old) replaced)
-    (λ none. ap (λ (b : Bool). not c.args.replace && b) (no_member c.args.entry.now old new rise named all none) ∙ none_there (not c.args.replace))
-    c.in_ok-entries.ensures.replaced in
-    let allowed : (not c.args.replace && has_member c.args.entry.now.name.bytes (kept name_number (joined (entries_read dir)))) ≡ false =
-    subst (λ (es : List Entry). (not c.args.replace && has_member c.args.entry.now.name.bytes es) ≡ false) list free in
-    let makes = makes_enter image v f part.part dir read c.args.entry.now c.args.replace c.deref.result.now after allowed in
+    let makes = entered_makes image v f (c.requires.part told f is).part c.args.dir.now c.requires.dir (c.requires.read told f is) c.in_ok-kept_of.field-0.items c.in_ok-entries.entries.items c.deref.result.now c.in_ok-kept_of.ensures.kept c.deref.ensures.value c.args.entry.now c.args.replace c.in_ok-entries.ensures.named c.in_ok-entries.ensures.entered c.in_ok-entries.ensures.replaced in
     let p = err_from_is_err_and c.from_residual-in_err-store.result c.from_residual-in_err-store.ensures.1 in
-    let given : c.from_residual-in_err-store.result ≡ Err c.in_err-store.field-0.0 = p.1 ∙ ap (λ (e : StoreErr). Err e) p.2 in
-    subst (λ r. Operates name operation c.store.new.vol changes m0 (g.H.Hall.meaning c.store.new.hall) r) (sym given)
-    (failed_as name operation c.store.new.vol changes m0 (g.H.Hall.meaning c.store.new.hall) c.in_err-store.field-0.0 (c.in_err-store.ensures.files told f operation is makes))
+    subst (λ r. Operates (unit_of (g.H.Hall.facts c.args.hall.now).units v.unit).name operation c.store.new.vol (DifferOn v.geometry (directory_tracks image v f)) m0 (g.H.Hall.meaning c.store.new.hall) r) (sym (p.1 ∙ ap (λ (e : StoreErr). Err e) p.2))
+    (failed_as (unit_of (g.H.Hall.facts c.args.hall.now).units v.unit).name operation c.store.new.vol (DifferOn v.geometry (directory_tracks image v f)) m0 (g.H.Hall.meaning c.store.new.hall) c.in_err-store.field-0.0 (c.in_err-store.ensures.files told f operation is makes))
+
+pub returns-in_err-store-clause-mounted : goal.returns-in_err-store-clause-mounted
+returns-in_err-store-clause-mounted g c = λ told other.
+    let set = named_set c.args.vol.now.slots.items c.args.slot c.requires.set in
+    let p = err_from_is_err_and c.from_residual-in_err-store.result c.from_residual-in_err-store.ensures.1 in
+    failed_mounted {T = Unit {0}} g.H.Hall.meaning g.H.Hall.facts c.args.hall.now c.store.new.hall c.args.vol.now c.store.new.vol c.in_err-store.field-0.0 (c.requires.part told set.0 set.1).part.set.mounted
+    (λ is. other (p.1 ∙ ap (λ (e : StoreErr). Err e) p.2 ∙ as_other is)) c.in_err-store.ensures.memory c.in_err-store.ensures.refused
 
 pub returns-clause-files : goal.returns-clause-files
 returns-clause-files g c = λ told f is.
@@ -131,48 +104,11 @@ returns-clause-files g c = λ told f is.
     let m0 = g.H.Hall.meaning c.args.hall.now in
     let name : List ℕ = (unit_of (g.H.Hall.facts c.args.hall.now).units v.unit).name in
     let image : List ℕ = image_in m0 (g.H.Hall.facts c.args.hall.now) v.unit in
-    let part = c.requires.part told f is in
-    let operation : Volume → Result Volume Refusal = enter_on (record { bytes = f.name }) c.args.entry.now c.args.replace in
-    let changes : List ℕ → List ℕ → Type 0 = DifferOn v.geometry (directory_tracks image v f) in
-    let dir : Dir = c.args.dir.now in
-    let read : IsReadIn image v f dir = c.requires.read told f is in
-    let old : List Entry = c.in_ok-kept_of.field-0.items in
-    let list : old ≡ kept name_number (joined (entries_read dir)) = c.in_ok-kept_of.ensures.kept in
-    let rise = read_rises dir c.requires.dir old list in
-    let new : List Entry = c.in_ok-entries.entries.items in
-    let named = c.in_ok-entries.ensures.named in
-    let all = read_named dir c.requires.dir old list in
-    let after : c.deref.result.now ≡ with_entry c.args.entry.now (kept name_number (joined (entries_read dir))) =
-    c.deref.ensures.value ∙ entered_with c.args.entry.now old new rise named all c.in_ok-entries.ensures.entered ∙ ap (with_entry c.args.entry.now) list in
-    let free : (not c.args.replace && has_member c.args.entry.now.name.bytes old) ≡ false = ⊎_elim
-    (λ replaced. ap (λ (b : Bool). not b && has_member c.args.entry.now.name.bytes old) replaced)
-    (λ none. ap (λ (b : Bool). not c.args.replace && b) (no_member c.args.entry.now old new rise named all none) ∙ none_there (not c.args.replace))
-    c.in_ok-entries.ensures.replaced in
-    let allowed : (not c.args.replace && has_member c.args.entry.now.name.bytes (kept name_number (joined (entries_read dir)))) ≡ false =
-    subst (λ (es : List Entry). (not c.args.replace && has_member c.args.entry.now.name.bytes es) ≡ false) list free in
-    let makes = makes_enter image v f part.part dir read c.args.entry.now c.args.replace c.deref.result.now after allowed in
-    done_as name operation c.store.new.vol changes m0 (g.H.Hall.meaning c.store.new.hall) c.in_ok-store.field-0 c.in_ok-entries.entries (c.in_ok-store.ensures.files told f operation is makes)
+    done_as name (enter_on (record { bytes = f.name }) c.args.entry.now c.args.replace) c.store.new.vol (DifferOn v.geometry (directory_tracks image v f)) m0 (g.H.Hall.meaning c.store.new.hall) c.in_ok-store.field-0 c.in_ok-entries.entries
+    (c.in_ok-store.ensures.files told f (enter_on (record { bytes = f.name }) c.args.entry.now c.args.replace) is (entered_makes image v f (c.requires.part told f is).part c.args.dir.now c.requires.dir (c.requires.read told f is) c.in_ok-kept_of.field-0.items c.in_ok-entries.entries.items c.deref.result.now c.in_ok-kept_of.ensures.kept c.deref.ensures.value c.args.entry.now c.args.replace c.in_ok-entries.ensures.named c.in_ok-entries.ensures.entered c.in_ok-entries.ensures.replaced))
 
 pub returns-clause-mounted : goal.returns-clause-mounted
 returns-clause-mounted g c = λ told other.
     let set = named_set c.args.vol.now.slots.items c.args.slot c.requires.set in
     let does = returns-clause-files g c told set.0 set.1 in
     index_by (g.H.Hall.facts c.args.hall.now).units (g.H.Hall.facts c.store.new.hall).units (g.H.Hall.meaning c.store.new.hall) c.args.vol.now c.store.new.vol c.in_ok-store.ensures.faults.units does.does.done.index
-
-pub returns-in_err-kept_of-clause-mounted : goal.returns-in_err-kept_of-clause-mounted
-returns-in_err-kept_of-clause-mounted g c = λ told other. let set = named_set c.args.vol.now.slots.items c.args.slot c.requires.set in (c.requires.part told set.0 set.1).part.set.mounted
-
-pub returns-in_err-entries-clause-mounted : goal.returns-in_err-entries-clause-mounted
-returns-in_err-entries-clause-mounted g c = λ told other. let set = named_set c.args.vol.now.slots.items c.args.slot c.requires.set in (c.requires.part told set.0 set.1).part.set.mounted
-
-pub returns-in_err-store-clause-mounted : goal.returns-in_err-store-clause-mounted
-returns-in_err-store-clause-mounted g c = λ told other.
-    let set = named_set c.args.vol.now.slots.items c.args.slot c.requires.set in
-    let before = (c.requires.part told set.0 set.1).part.set.mounted in
-    let p = err_from_is_err_and c.from_residual-in_err-store.result c.from_residual-in_err-store.ensures.1 in
-    let given : c.from_residual-in_err-store.result ≡ Err c.in_err-store.field-0.0 = p.1 ∙ ap (λ (e : StoreErr). Err e) p.2 in
-    let as_before = λ (same : (c.store.new.hall ≡ c.args.hall.now) × (c.store.new.vol ≡ c.args.vol.now)). subst (λ h. IsMounted (image_in (g.H.Hall.meaning h) (g.H.Hall.facts h) c.args.vol.now.unit) c.store.new.vol) (sym same.0)
-    (subst (λ (u : Vol). IsMounted (image_in (g.H.Hall.meaning c.args.hall.now) (g.H.Hall.facts c.args.hall.now) c.args.vol.now.unit) u) (sym same.1) before) in
-    but_device {T = Unit {0}} (Err c.in_err-store.field-0.0) (λ is. other (given ∙ as_other is)) tt
-    (λ is. as_before (c.in_err-store.ensures.memory is))
-    (λ q is. as_before (c.in_err-store.ensures.refused q is))

@@ -39,11 +39,10 @@ returns-clause-files g c = λ told f is.
     let us : List Attached = (g.H.Hall.facts c.args.hall.now).units in
     let name : List ℕ = (unit_of us v.unit).name in
     let ws : List (ℕ × List Entry) = map write_of (vec_items c.args.packing.now.plan.writes) in
-    let blocks : ℕ = c.args.packing.now.plan.blocks in
     let packing : IsPackingOf (image_named m0.state name) v f c.args.packing.now = c.requires.read told f is in
-    let carried : CarriesOut name v f blocks ws c.carry_out.new.vol m0 m1 c.carry_out.result =
-    subst (λ (h : F1). CarriesOut name v h blocks ws c.carry_out.new.vol m0 m1 c.carry_out.result) (same_set c.set_at-set.result f (sym c.set_at-set.ensures ∙ is)) (c.carry_out.ensures.files told) in
-    packs packing.dir blocks ws packing.is.lawful packing.is.plan name v f m0 (c.requires.part told f is) packing.read c.carry_out.new.vol m1 c.carry_out.result carried
+    let carried : CarriesOut name v f c.args.packing.now.plan.blocks ws c.carry_out.new.vol m0 m1 c.carry_out.result =
+    subst (λ (h : F1). CarriesOut name v h c.args.packing.now.plan.blocks ws c.carry_out.new.vol m0 m1 c.carry_out.result) (same_set c.set_at-set.result f (sym c.set_at-set.ensures ∙ is)) (c.carry_out.ensures.files told) in
+    packs packing.dir c.args.packing.now.plan.blocks ws packing.is.lawful packing.is.plan name v f m0 (c.requires.part told f is) packing.read c.carry_out.new.vol m1 c.carry_out.result carried
 
 pub returns-clause-packed : goal.returns-clause-packed
 returns-clause-packed g c = λ told f is.
@@ -53,10 +52,9 @@ returns-clause-packed g c = λ told f is.
     let us : List Attached = (g.H.Hall.facts c.args.hall.now).units in
     let name : List ℕ = (unit_of us v.unit).name in
     let ws : List (ℕ × List Entry) = map write_of (vec_items c.args.packing.now.plan.writes) in
-    let blocks : ℕ = c.args.packing.now.plan.blocks in
     let packing : IsPackingOf (image_named m0.state name) v f c.args.packing.now = c.requires.read told f is in
-    let carried : CarriesOut name v f blocks ws c.carry_out.new.vol m0 m1 c.carry_out.result =
-    subst (λ (h : F1). CarriesOut name v h blocks ws c.carry_out.new.vol m0 m1 c.carry_out.result) (same_set c.set_at-set.result f (sym c.set_at-set.ensures ∙ is)) (c.carry_out.ensures.files told) in
+    let carried : CarriesOut name v f c.args.packing.now.plan.blocks ws c.carry_out.new.vol m0 m1 c.carry_out.result =
+    subst (λ (h : F1). CarriesOut name v h c.args.packing.now.plan.blocks ws c.carry_out.new.vol m0 m1 c.carry_out.result) (same_set c.set_at-set.result f (sym c.set_at-set.ensures ∙ is)) (c.carry_out.ensures.files told) in
     subst (λ (u : Vol). OnOk c.carry_out.result (IsPacked (directory_in (image_in m1 (g.H.Hall.facts c.carry_out.new.hall) v.unit) u f))) (sym c.carry_out.ensures.others)
     (subst (λ (xs : List Attached). OnOk c.carry_out.result (IsPacked (directory_in (image_named m1.state (unit_of xs v.unit).name) v f))) (sym c.carry_out.ensures.faults.units)
-    (packed_now packing.dir blocks ws packing.is.lawful packing.is.plan name v f m0 (c.requires.part told f is) packing.read c.carry_out.new.vol m1 c.carry_out.result carried))
+    (packed_now packing.dir c.args.packing.now.plan.blocks ws packing.is.lawful packing.is.plan name v f m0 (c.requires.part told f is) packing.read c.carry_out.new.vol m1 c.carry_out.result carried))

@@ -13,13 +13,17 @@ invariant_of-result g c =
     let units = c.in-Ok.ensures.faults.units in
     record {
       indexes = subst (λ (us : List Attached). AreIndexes us vols) (sym units) c.in-Ok.ensures.opened.indexes;
-      order = λ sound. c.in-Ok.ensures.opened.order;
-      kept = λ sound told. subst (λ (us : List Attached). AreKept files us vols) (sym units) (c.in-Ok.ensures.files told).kept;
+      ready = λ sound. record {
+        indexes = subst (λ (us : List Attached). AreIndexes us vols) (sym units) c.in-Ok.ensures.opened.indexes;
+        order = c.in-Ok.ensures.opened.order;
+        buffers = c.in-Ok.ensures.buffers;
+        kept = λ told. subst (λ (us : List Attached). AreKept files us vols) (sym units) (c.in-Ok.ensures.files told).kept;
+        bodies = λ told. c.in-Ok.ensures.known told;
+        held = λ told. c.in-Ok.ensures.held told;
+      };
       slot = λ sound. tt;
       pending = λ sound told. (c.in-Ok.ensures.files told).durable;
       buffers = c.in-Ok.ensures.buffers;
-      bodies = λ sound told. c.in-Ok.ensures.known told;
-      held = λ sound told. c.in-Ok.ensures.held told;
     }
 
 pub returns-in-Ok-clause-shelf : goal.returns-in-Ok-clause-shelf

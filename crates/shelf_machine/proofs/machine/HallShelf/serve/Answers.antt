@@ -2,54 +2,41 @@ use Rattle.std.proofs.Common.{sym, ap, subst, ◌∙◌}
 use Rattle.shelf_machine.specs.Machine.{is_open_in}
 use Rattle.shelf_machine.specs.Pending.{HasSlot, IsPendingBy}
 use Rattle.vol_model.specs.Calls.{sound_after}
-use Rattle.shelf_machine.proofs.ForgottenTracks.{knows_kept}
-use Rattle.shelf_machine.proofs.KnownLemmas.{held_after, knows_applied}
 use Rattle.shelf_machine.proofs.Machines.{by_files}
 use Rattle.shelf_machine.proofs.ReportLemmas.{applies_reported, idle_reported, machine_call, not_print, still_sound}
 use Rattle.shelf_machine.proofs.machine.HallShelf.serve.Goals as goal
 
 pub invariant_of-self : goal.invariant_of-self
 invariant_of-self g c = record {
-  indexes = c.operate_settled-ran.ensures.indexes;
-  order = λ sound. c.operate_settled-ran.ensures.order (still_sound c.report.ensures c.requires.sound sound);
-  kept = λ sound told. (c.operate_settled-ran.ensures.shelf told).kept (still_sound c.report.ensures c.requires.sound sound);
+  indexes = c.operate_settled-ran.ensures.leaves.indexes;
+  ready = λ sound. c.operate_settled-ran.ensures.leaves.ready (still_sound c.report.ensures c.requires.sound sound);
   slot = λ sound. subst (HasSlot c.operate_settled-ran.new.vols.items) (sym (c.operate_settled-ran.ensures.writer (still_sound c.report.ensures c.requires.sound sound))) tt;
   pending = λ sound told.
       let still = still_sound c.report.ensures c.requires.sound sound in
       subst (IsPendingBy (g.H.Hall.meaning c.operate_settled-ran.new.hall) (g.H.Hall.facts c.operate_settled-ran.new.hall).units c.operate_settled-ran.new.vols.items) (sym (c.operate_settled-ran.ensures.writer still))
-      ((c.operate_settled-ran.ensures.shelf told).durable still);
-  buffers = c.follow.ensures.buffers ∙ c.operate_settled-ran.ensures.known.buffers ∙ c.args.self.now.buffers ∙ sym c.operate_settled-ran.ensures.geometries;
-  bodies = λ sound told. knows_applied c.operate_settled-ran.result _ c.is_ok.result c.is_ok.ensures.value c.follow.ensures (c.operate_settled-ran.ensures.shelf told).applies c.operate_settled-ran.ensures.served
-      (still_sound c.report.ensures c.requires.sound sound) (knows_kept c.args.self.now.known.items c.operate_settled-ran.new.known.items c.operate_settled-ran.ensures.known _ (c.args.self.now.bodies c.requires.sound told));
-  held = λ sound told. held_after (g.H.Hall.meaning c.operate_settled-ran.new.hall).state (g.H.Hall.facts c.operate_settled-ran.new.hall).units c.operate_settled-ran.new.vols.items c.follow.ensures
-      (c.operate_settled-ran.ensures.held told (still_sound c.report.ensures c.requires.sound sound));
+      ((c.operate_settled-ran.ensures.leaves.shelf told).durable still);
+  buffers = c.operate_settled-ran.ensures.leaves.buffers;
 }
 
 pub returns-clause-shelf : goal.returns-clause-shelf
-returns-clause-shelf g c told = applies_reported c.report.ensures (c.operate_settled-ran.ensures.shelf told).applies
+returns-clause-shelf g c told = applies_reported c.report.ensures (c.operate_settled-ran.ensures.leaves.shelf told).applies
 
 pub returns-clause-promise : goal.returns-clause-promise
-returns-clause-promise g c told = by_files (c.operate_settled-ran.ensures.shelf told).safe
+returns-clause-promise g c told = by_files (c.operate_settled-ran.ensures.leaves.shelf told).safe
 
 pub returns-clause-stays : goal.returns-clause-stays
-returns-clause-stays g c told idle = (c.operate_settled-ran.ensures.shelf told).idle (idle_reported c.report.ensures _ idle)
+returns-clause-stays g c told idle = (c.operate_settled-ran.ensures.leaves.shelf told).idle (idle_reported c.report.ensures _ idle)
 
 pub returns-clause-faults : goal.returns-clause-faults
 returns-clause-faults g c =
     machine_call c.report.ensures (g.H.Hall.facts c.args.self.now.hall) (g.H.Hall.facts c.operate_settled-ran.new.hall) c.args.self.now.vols.items c.operate_settled-ran.new.vols.items c.args.self.now.writer c.operate_settled-ran.new.writer
-    c.requires.sound (λ still. ap is_open_in (c.operate_settled-ran.ensures.writer (ap sound_after (sym c.report.ensures.answer) ∙ still))) c.operate_settled-ran.ensures.base c.operate_settled-ran.ensures.faults
+    c.requires.sound (λ still. ap is_open_in (c.operate_settled-ran.ensures.writer (ap sound_after (sym c.report.ensures.answer) ∙ still))) c.operate_settled-ran.ensures.leaves.base c.operate_settled-ran.ensures.leaves.faults
 
 pub returns-clause-print : goal.returns-clause-print
 returns-clause-print g c is = not_print c.report.ensures is
 
-pub operate_settled-ran-requires-clause-order : goal.operate_settled-ran-requires-clause-order
-operate_settled-ran-requires-clause-order g c = c.args.self.now.order c.requires.sound
+pub operate_settled-ran-requires-clause-ready : goal.operate_settled-ran-requires-clause-ready
+operate_settled-ran-requires-clause-ready g c = c.args.self.now.ready c.requires.sound
 
 pub operate_settled-ran-requires-clause-slot : goal.operate_settled-ran-requires-clause-slot
 operate_settled-ran-requires-clause-slot g c = c.args.self.now.slot c.requires.sound
-
-pub operate_settled-ran-requires-clause-bodies : goal.operate_settled-ran-requires-clause-bodies
-operate_settled-ran-requires-clause-bodies g c = c.args.self.now.bodies c.requires.sound
-
-pub operate_settled-ran-requires-clause-held : goal.operate_settled-ran-requires-clause-held
-operate_settled-ran-requires-clause-held g c = c.args.self.now.held c.requires.sound

@@ -10,14 +10,11 @@ invariant_of-self g c =
     let vols = was.vols.items in
     record {
       indexes = was.indexes;
-      order = λ sound. was.order sound;
-      kept = λ sound told. was.kept sound told;
+      ready = λ sound. was.ready sound;
       slot = λ sound. subst (HasSlot vols) (sym c.abandoned-self.ensures) (slot_closed vols was.writer (was.slot sound));
       pending = λ sound told. subst (IsPendingBy (g.H.Hall.meaning was.hall) (g.H.Hall.facts was.hall).units vols) (sym c.abandoned-self.ensures)
           (pending_closed (g.H.Hall.meaning was.hall) (g.H.Hall.facts was.hall).units vols was.writer (was.pending sound told));
       buffers = was.buffers;
-      bodies = λ sound told. was.bodies sound told;
-      held = λ sound told. was.held sound told;
     }
 
 pub returns-clause-same : goal.returns-clause-same

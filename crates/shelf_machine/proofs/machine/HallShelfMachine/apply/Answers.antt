@@ -14,7 +14,7 @@ pub returns-in-Ok-clause-shelf : goal.returns-in-Ok-clause-shelf
 returns-in-Ok-clause-shelf g c told =
     let was = c.args.self.now in
     applies_behind c.args.op.now (meaning_of was) (meaning_of c.prepare.new.self)
-    (pending_durable (g.H.Hall.meaning was.hall) (g.H.Hall.facts was.hall).units was.vols.items was.writer (was.kept c.requires.sound told) (was.slot c.requires.sound) (was.pending c.requires.sound told))
+    (pending_durable (g.H.Hall.meaning was.hall) (g.H.Hall.facts was.hall).units was.vols.items was.writer ((was.ready c.requires.sound).kept told) (was.slot c.requires.sound) (was.pending c.requires.sound told))
     (c.in-Ok.ensures.idle told).same (meaning_of c.serve.new.self) c.serve.result (c.serve.ensures.shelf told)
 
 pub returns-in-Ok-clause-promise : goal.returns-in-Ok-clause-promise
@@ -41,7 +41,7 @@ pub returns-in-Err-clause-shelf : goal.returns-in-Err-clause-shelf
 returns-in-Err-clause-shelf g c told =
     let was = c.args.self.now in
     stopped_shelf c.in-Err.error c.in-Err.ensures.error c.args.op.now (meaning_of was) (meaning_of c.prepare.new.self)
-    (pending_durable (g.H.Hall.meaning was.hall) (g.H.Hall.facts was.hall).units was.vols.items was.writer (was.kept c.requires.sound told) (was.slot c.requires.sound) (was.pending c.requires.sound told))
+    (pending_durable (g.H.Hall.meaning was.hall) (g.H.Hall.facts was.hall).units was.vols.items was.writer ((was.ready c.requires.sound).kept told) (was.slot c.requires.sound) (was.pending c.requires.sound told))
     (c.in-Err.ensures.idle told).same (counts_now_seen (shelf_under (pack_names c.prepare.new.self)) (g.H.Hall.meaning c.prepare.new.self.hall) (g.met.H.Hall.counts_now c.prepare.new.self.hall))
 
 pub returns-in-Err-clause-promise : goal.returns-in-Err-clause-promise

@@ -14,7 +14,7 @@ use Rattle.shelf_machine.proofs.MachineLibraries.{answered_sound, err_as, read_a
 use Rattle.shelf_machine.proofs.machine.HallShelfMachine.attr.Goals as goal
 
 pub info_on-requires-clause-order : goal.info_on-requires-clause-order
-info_on-requires-clause-order g c = subst AreInOrder (sym c.deref.ensures.value) (c.hold-held.new.self.order (c.hold-held.ensures.faults.others (answered_sound c.hold-held.result c.in-Ok.ensures.read)).0)
+info_on-requires-clause-order g c = subst AreInOrder (sym c.deref.ensures.value) (c.hold-held.new.self.ready (c.hold-held.ensures.faults.others (answered_sound c.hold-held.result c.in-Ok.ensures.read)).0).order
 
 pub returns-in-Ok-clause-value : goal.returns-in-Ok-clause-value
 returns-in-Ok-clause-value g c told =
@@ -23,7 +23,7 @@ returns-in-Ok-clause-value g c told =
     let same : (meaning_of now).state ≡ (meaning_of c.args.self.now).state = (c.hold-held.ensures.idle told).same.state in
     let size = c.in-Ok.ensures.size ∙ size_is c.hold-held.result (body_on (meaning_of c.args.self.now).state c.args.v c.args.dsn.now.bytes) (λ (at : ℕ). library_at (known_of now) c.args.v at) (c.hold-held.ensures.library told) c.in-Ok.ensures.read
     ∙ ap (λ (s : Shelf). directory_size (body_on s c.args.v c.args.dsn.now.bytes)) (sym same) in
-    c.info_on.ensures.info (meaning_of now).state (machine_volumes now c.deref.result.now c.deref.ensures.value sound told) (now.bodies sound told) size
+    c.info_on.ensures.info (meaning_of now).state (machine_volumes now c.deref.result.now c.deref.ensures.value sound told) ((now.ready sound).bodies told) size
     ∙ ap (λ (s : Shelf). option_map set_info (set_on s c.args.v c.args.dsn.now.bytes)) same
 
 pub returns-in-Ok-clause-idle : goal.returns-in-Ok-clause-idle

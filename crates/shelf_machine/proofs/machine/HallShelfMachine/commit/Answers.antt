@@ -4,15 +4,9 @@ use Rattle.shelf_machine.specs.Pending.{HasSlot, IsPendingBy}
 use Rattle.shelf_machine.proofs.Machines.{by_files}
 use Rattle.shelf_machine.proofs.machine.HallShelfMachine.commit.Goals as goal
 
-pub close_writer-closed-requires-clause-order : goal.close_writer-closed-requires-clause-order
-close_writer-closed-requires-clause-order g c = c.args.self.now.order c.requires.sound
-
 pub close_writer-closed-requires-clause-pending : goal.close_writer-closed-requires-clause-pending
 close_writer-closed-requires-clause-pending g c told =
     subst (IsPendingBy (g.H.Hall.meaning c.args.self.now.hall) (g.H.Hall.facts c.args.self.now.hall).units c.args.self.now.vols.items) c.in-Some.is (c.args.self.now.pending c.requires.sound told)
-
-pub close_writer-closed-requires-clause-held : goal.close_writer-closed-requires-clause-held
-close_writer-closed-requires-clause-held g c told = c.args.self.now.held c.requires.sound told
 
 pub invariant_of-self : goal.invariant_of-self
 invariant_of-self g c =
@@ -20,15 +14,15 @@ invariant_of-self g c =
     let new = c.close_writer-closed.new in
     record {
       indexes = run.indexes;
-      order = λ sound. run.order (sym c.is_sound_closed-self.ensures ∙ sound);
-      kept = λ sound told. (run.shelf told).kept (sym c.is_sound_closed-self.ensures ∙ sound);
+      ready = λ sound. run.ready (sym c.is_sound_closed-self.ensures ∙ sound);
       slot = λ sound. subst (HasSlot new.vols.items) (sym c.left_of-self.ensures) (run.slot (sym c.is_sound_closed-self.ensures ∙ sound));
       pending = λ sound told. subst (IsPendingBy (g.H.Hall.meaning new.hall) (g.H.Hall.facts new.hall).units new.vols.items) (sym c.left_of-self.ensures)
           ((run.shelf told).pending (sym c.is_sound_closed-self.ensures ∙ sound));
       buffers = run.buffers;
-      bodies = λ sound told. (run.shelf told).bodies (sym c.is_sound_closed-self.ensures ∙ sound);
-      held = λ sound told. (run.shelf told).held (sym c.is_sound_closed-self.ensures ∙ sound);
     }
 
 pub returns-clause-promise : goal.returns-clause-promise
 returns-clause-promise g c told = by_files (c.close_writer-closed.ensures.shelf told).safe
+
+pub close_writer-closed-requires-clause-ready : goal.close_writer-closed-requires-clause-ready
+close_writer-closed-requires-clause-ready g c = c.args.self.now.ready c.requires.sound

@@ -11,4 +11,4 @@ pub returns-clause-idle : goal.returns-clause-idle
 returns-clause-idle g c told = idles _ _ (g.met.H.Hall.counts_now c.args.self.now.hall)
 
 pub extent_on-requires-clause-order : goal.extent_on-requires-clause-order
-extent_on-requires-clause-order g c = subst AreInOrder (sym c.deref.ensures.value) (c.args.self.now.order c.requires.sound)
+extent_on-requires-clause-order g c = subst AreInOrder (sym c.deref.ensures.value) ((c.args.self.now.ready c.requires.sound).order)

@@ -11,4 +11,4 @@ pub returns-clause-idle : goal.returns-clause-idle
 returns-clause-idle g c told = idles _ _ (g.met.H.Hall.counts_now c.args.self.now.hall)
 
 pub name_on-requires : goal.name_on-requires
-name_on-requires g c = record { order = subst AreInOrder (sym c.deref.ensures.value) (c.args.self.now.order c.requires.sound) }
+name_on-requires g c = record { order = subst AreInOrder (sym c.deref.ensures.value) ((c.args.self.now.ready c.requires.sound).order) }

@@ -9,27 +9,24 @@ use Rattle.shelf_machine.specs.Parts.{pack_names}
 use Rattle.shelf_machine.proofs.Machines.{by_files, just_printed, keeps_printed, printed_at, prints_at, prints_done, prints_failed}
 use Rattle.shelf_machine.specs.PendingShelves.{pending_left}
 use Rattle.shelf_machine.proofs.Pendings.{pending_same, writer_same}
+use Rattle.shelf_machine.proofs.SeveralPacks.{ready_later}
 use Rattle.shelf_machine.proofs.machine.HallShelfMachine.print.Goals as goal
 
 pub invariant_of-self : goal.invariant_of-self
 invariant_of-self g c =
     let was = c.args.self.now in
-    let vols = was.vols.items in
     let run = c.print.ensures in
     record {
-      indexes = subst (λ (us : List Attached). AreIndexes us vols) (sym run.faults.units) was.indexes;
-      order = λ sound. was.order sound;
-      kept = λ sound told. both_same (λ (fs : List File) (us : List Attached). AreKept fs us vols) (run.files told).state run.faults.units (was.kept sound told);
-      slot = λ sound. was.slot sound;
-      pending = λ sound told. pending_same (g.H.Hall.meaning was.hall) (g.H.Hall.meaning c.print.new.self) (g.H.Hall.facts was.hall).units (g.H.Hall.facts c.print.new.self).units vols was.writer (run.files told).state (λ j left. ((run.files told).left j).0 left) run.faults.units (was.pending sound told);
+      indexes = subst (λ (us : List Attached). AreIndexes us was.vols.items) (sym run.faults.units) was.indexes;
       buffers = was.buffers;
-      bodies = λ sound told. both_same (λ (fs : List File) (us : List Attached). KnowsBodies (shelf_under (names_of us (units_of vols)) fs) was.known.items) (run.files told).state run.faults.units (was.bodies sound told);
-      held = λ sound told. both_same (λ (fs : List File) (us : List Attached). AreHeld fs us vols was.known.items) (run.files told).state run.faults.units (was.held sound told);
+      ready = λ sound. ready_later g.H.Hall.tells (g.H.Hall.facts was.hall) (g.H.Hall.facts c.print.new.self) (g.H.Hall.meaning was.hall) (g.H.Hall.meaning c.print.new.self) was.vols.items was.known.items run.faults.units (λ told. (run.files told).state) (was.ready sound);
+      slot = λ sound. was.slot sound;
+      pending = λ sound told. pending_same (g.H.Hall.meaning was.hall) (g.H.Hall.meaning c.print.new.self) (g.H.Hall.facts was.hall).units (g.H.Hall.facts c.print.new.self).units was.vols.items was.writer (run.files told).state (λ j left. ((run.files told).left j).0 left) run.faults.units (was.pending sound told);
     }
 
 pub returns-in-Ok-clause-shelf : goal.returns-in-Ok-clause-shelf
 returns-in-Ok-clause-shelf g c told = prints_at _ _ (units_of c.args.self.now.vols.items) c.print.ensures.faults.units (g.H.Hall.meaning c.args.self.now.hall) (g.H.Hall.meaning c.print.new.self)
-    (prints_done (shelf_under (pack_names c.args.self.now)) g.H.Hall.tells (pending_left (g.H.Hall.meaning c.args.self.now.hall) (g.H.Hall.facts c.args.self.now.hall).units c.args.self.now.vols.items c.args.self.now.writer (c.args.self.now.kept c.requires.sound told) (c.args.self.now.slot c.requires.sound) (c.args.self.now.pending c.requires.sound told)) _ _ (c.in-Ok.ensures.files told))
+    (prints_done (shelf_under (pack_names c.args.self.now)) g.H.Hall.tells (pending_left (g.H.Hall.meaning c.args.self.now.hall) (g.H.Hall.facts c.args.self.now.hall).units c.args.self.now.vols.items c.args.self.now.writer ((c.args.self.now.ready c.requires.sound).kept told) (c.args.self.now.slot c.requires.sound) (c.args.self.now.pending c.requires.sound told)) _ _ (c.in-Ok.ensures.files told))
 
 pub returns-in-Ok-clause-promise : goal.returns-in-Ok-clause-promise
 returns-in-Ok-clause-promise g c told = by_files (printed_at _ _ (units_of c.args.self.now.vols.items) c.print.ensures.faults.units c.args.self.now.vols.items (g.H.Hall.meaning c.args.self.now.hall) (g.H.Hall.meaning c.print.new.self)
@@ -37,7 +34,7 @@ returns-in-Ok-clause-promise g c told = by_files (printed_at _ _ (units_of c.arg
 
 pub returns-in-Err-clause-shelf : goal.returns-in-Err-clause-shelf
 returns-in-Err-clause-shelf g c told = prints_at _ _ (units_of c.args.self.now.vols.items) c.print.ensures.faults.units (g.H.Hall.meaning c.args.self.now.hall) (g.H.Hall.meaning c.print.new.self)
-    (prints_failed (shelf_under (pack_names c.args.self.now)) g.H.Hall.tells (pending_left (g.H.Hall.meaning c.args.self.now.hall) (g.H.Hall.facts c.args.self.now.hall).units c.args.self.now.vols.items c.args.self.now.writer (c.args.self.now.kept c.requires.sound told) (c.args.self.now.slot c.requires.sound) (c.args.self.now.pending c.requires.sound told)) c.fault.result c.fault.ensures.error (c.print.ensures.files told))
+    (prints_failed (shelf_under (pack_names c.args.self.now)) g.H.Hall.tells (pending_left (g.H.Hall.meaning c.args.self.now.hall) (g.H.Hall.facts c.args.self.now.hall).units c.args.self.now.vols.items c.args.self.now.writer ((c.args.self.now.ready c.requires.sound).kept told) (c.args.self.now.slot c.requires.sound) (c.args.self.now.pending c.requires.sound told)) c.fault.result c.fault.ensures.error (c.print.ensures.files told))
 
 pub returns-in-Err-clause-promise : goal.returns-in-Err-clause-promise
 returns-in-Err-clause-promise g c told = by_files (printed_at _ _ (units_of c.args.self.now.vols.items) c.print.ensures.faults.units c.args.self.now.vols.items (g.H.Hall.meaning c.args.self.now.hall) (g.H.Hall.meaning c.print.new.self)

@@ -1,0 +1,3 @@
+pub mod HeldLengths
+pub mod RecordWrites
+pub mod Tellings

@@ -1,9 +1,0 @@
-//! Where an opening stops.
-use vtoc_index::MountErr;
-
-// Where an opening stopped, by the number of the unit, and why.
-#[derive(Clone, Copy, Debug)]
-pub(crate) struct Stopped {
-    pub(crate) unit: u8,
-    pub(crate) why: MountErr,
-}

@@ -1,0 +1,11 @@
+pub mod ChangedLists
+pub mod ChangedNames
+pub mod ChangedSets
+pub mod ChangedSlots
+pub mod ChangedVolumes
+pub mod FoundSlots
+pub mod KeptGuards
+pub mod KeptSlots
+pub mod ReplacedSets
+pub mod SameSlots
+pub mod StandingPuts
