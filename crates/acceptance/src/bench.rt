@@ -32,7 +32,7 @@ pub struct Bench {
     pub fails: Vec<u64>,
     /// The reads of the cards that fail.
     pub card_fails: Vec<u64>,
-    /// How many reads of the hall give what the files hold; those behind them give zeros.
+    /// How many reads of the hall give what the files hold; those after them give zeros.
     pub sound_reads: u64,
     /// How many bytes each print takes before it fails, if prints fail.
     pub cut: Option<usize>,

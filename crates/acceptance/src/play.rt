@@ -174,7 +174,7 @@ fn called(alloc: Global, words: &[&str]) -> Result<Vec<String>> {
     Ok(owned)
 }
 
-// The words of a call that comes behind another, or none.
+// The words of a call that comes after another, or none.
 fn next_called(alloc: Global, words: &[&str]) -> Result<Vec<String>> {
     if words.is_empty() {
         return Ok(Vec::new(alloc));

@@ -52,7 +52,7 @@ pub fn end_of(hall: &MemHall) -> Result<Left> {
     Ok(hall.left_at(u64::MAX, ALL)?)
 }
 
-/// What a run answered, printed and changed, behind its calls where the case asks for them.
+/// What a run answered, printed and changed, after its calls where the case asks for them.
 pub fn report(
     alloc: Global,
     bench: &Bench,
@@ -159,7 +159,7 @@ fn left_text(alloc: Global, bench: &Bench, left: Left) -> Result<String> {
     Ok(text)
 }
 
-// Numbers with equal outcomes, one behind the other.
+// Numbers with equal outcomes, one after the other.
 #[derive(Drop)]
 struct Groups<'a> {
     which: &'a str,

@@ -4,7 +4,7 @@ ghost use Rattle.hall_core.specs.Memory.{facts_of};
 
 use hall_core::{Hall, HallErr, MemHall, fault};
 
-/// A hall in memory that tells nothing: reads may give zeros, and prints may fail behind a part.
+/// A hall in memory that tells nothing: reads may give zeros, and prints may fail after a part.
 #[derive(Drop)]
 pub struct Unsteady {
     /// What takes the calls.
@@ -16,8 +16,8 @@ pub struct Unsteady {
 }
 
 impl Unsteady {
-    /// A hall of which so many reads give what its file holds, and those behind them zeros; and of which each
-    /// print fails behind so many bytes, if there is a number.
+    /// A hall of which so many reads give what its file holds, and those after them zeros; and of which each
+    /// print fails after so many bytes, if there is a number.
     pub fn over(hall: MemHall, sound_reads: u64, cut: Option<usize>) -> Unsteady
         ensures { result.hall ≡ hall }
     {

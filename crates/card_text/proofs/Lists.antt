@@ -26,7 +26,7 @@ from_there p xs i e = take_rest xs i ∙ ap (λ k. drop k xs) (sym (position_is 
 pub from_nowhere : {X : Type 0} (p : X → Bool) (xs : List X) → position p xs ≡ None → [] ≡ drop (position_or_len p xs) xs
 from_nowhere p xs e = sym (drop_all (position_or_len p xs) xs (position_none p xs e))
 
--- up to the first element that passes, and what is behind it
+-- up to the first element that passes, and what is after it
 pub split_there : {X : Type 0} (p : X → Bool) (xs : List X) (i : ℕ) → position p xs ≡ Some i
     → slice_split p xs ≡ take i xs ∷ slice_split p (take (length xs - (i + 1)) (drop (i + 1) xs))
 split_there p [] i e = cc

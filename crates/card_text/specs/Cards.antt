@@ -19,7 +19,7 @@ statement_columns card = take 71 card.1.bytes
 unfoldable pub statement_characters : Bool → ℕ × Card → List Character
 statement_characters quoted card = characters_of quoted card.0 1 (statement_columns card)
 
--- the place of a part that is missing at the end of a card: the second column behind the last that isn't blank
+-- the place of a part that is missing at the end of a card: the second column after the last that isn't blank
 unfoldable pub missing_place : ℕ × Card → CardColumn
 missing_place card =
     record { card = card.0; column = 73 - length (take_while is_space (reverse (statement_columns card))) }
@@ -32,7 +32,7 @@ first_place end (mark ∷ marks) = record { card = mark.character.card; column =
 abbrev pub has_number : ℕ → ℕ × Card → Bool
 has_number number card = card.0 == number
 
--- how many cards behind the first there are up to the card of that number
+-- how many cards after the first there are up to the card of that number
 unfoldable pub cards_up_to : ℕ × Card → List (ℕ × Card) → ℕ → ℕ
 cards_up_to card others number =
     if card.0 == number then 0

@@ -28,7 +28,7 @@ is_digit b = nat_le 48 b && nat_le b 57
 abbrev pub has_only_digits : List ℕ → Bool
 has_only_digits text = list_all is_digit text
 
--- the number that digits write behind a number
+-- the number that digits write after a number
 abbrev pub decimal_value : ℕ → List ℕ → ℕ
 decimal_value number [] = number
 decimal_value number (digit ∷ digits) = decimal_value (10 * number + (digit - 48)) digits

@@ -7,7 +7,7 @@ use Rattle.card_text.specs.declared.characters.Character.{Character}
 use Rattle.card_text.specs.declared.nesting.Mark.{Mark}
 use Rattle.card_text.specs.Characters.{quoted_behind}
 
--- the number of open parentheses behind a character; those in quotes don't count
+-- the number of open parentheses after a character; those in quotes don't count
 abbrev pub depth_behind : ℕ → Character → ℕ
 depth_behind depth c =
     if c.quoted then depth

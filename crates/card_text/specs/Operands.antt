@@ -1,4 +1,4 @@
--- Operands: values, and values behind a keyword (Utilities GC28-6586).
+-- Operands: values, and values after a keyword (Utilities GC28-6586).
 use Rattle.std.specs.Prelude.{◌+◌, ◌==◌, Bool, if◌then◌else◌, List, take, drop, position, Option, Some, None, option_map, option_and_then}
 use Rattle.ebcdic_names.specs.declared.names.Name8.{Name8}
 use Rattle.card_text.specs.declared.operands.Operand.{Operand}
@@ -14,20 +14,20 @@ whole_value text = value 8 0 text
 abbrev pub is_equals : Mark → Bool
 is_equals mark = mark.character.byte == 61
 
--- a word before the first equals sign, and what is behind it
+-- a word before the first equals sign, and what is after it
 abbrev pub keyed : List Mark → Option (List Mark × List Mark)
 keyed text =
     option_and_then (λ at. if is_word (take at text) then Some (take at text, drop (at + 1) text) else None) (position is_equals text)
 
--- the value behind a device: a word or a list
+-- the value after a device: a word or a list
 abbrev pub serial_value : List Mark → Option Tree
 serial_value text = if is_quoted text then None else whole_value text
 
--- the list of a device and what is behind it
+-- the list of a device and what is after it
 abbrev pub pair : List Mark → Tree → Tree
 pair device serial = list (more (word (text_of device)) (more serial none))
 
--- the value behind a key: dev=serial is the list of the two
+-- the value after a key: dev=serial is the list of the two
 abbrev pub value_behind : Option (List Mark × List Mark) → List Mark → Option Tree
 value_behind None text = whole_value text
 value_behind (Some parts) text = option_map (pair parts.0) (serial_value parts.1)

@@ -67,7 +67,7 @@ abbrev pub item : (List Mark → Option Tree) → List Mark → Option Tree
 item value [] = Some empty
 item value (mark ∷ marks) = value (mark ∷ marks)
 
--- the items of a list, behind those that are done
+-- the items of a list, after those that are done
 abbrev pub items : (List Mark → Option Tree) → List Tree → List (List Mark) → Option (List Tree)
 items value done [] = Some done
 items value done (piece ∷ pieces) = option_and_then (λ tree. items value (done ++ tree ∷ []) pieces) (item value piece)

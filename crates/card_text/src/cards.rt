@@ -14,7 +14,7 @@ pub struct Card {
     pub bytes: [u8; 80],
 }
 
-/// A card behind its number in the deck, from 1.
+/// A card after its number in the deck, from 1.
 pub type Numbered = (u32, Card);
 
 /// A column of a card.
@@ -55,7 +55,7 @@ fn trailing_blanks(columns: &[u8]) -> usize
         .count()
 }
 
-/// The place of a part that is missing at the end of a card: the second column behind the last of columns 1 to 71
+/// The place of a part that is missing at the end of a card: the second column after the last of columns 1 to 71
 /// that isn't blank.
 #[tactic(auto, unfolding(crate::specs::Cards::missing_place))]
 pub fn missing_place(card: &Numbered) -> CardColumn
@@ -88,7 +88,7 @@ fn card_at(cards: &[Numbered], number: u32) -> Option<usize>
     cards.iter().position(|card| card.0 == number)
 }
 
-/// How many of the cards behind a first one there are up to the card of this number: 0 where the first has it, and
+/// How many of the cards after a first one there are up to the card of this number: 0 where the first has it, and
 /// all where none has it.
 #[tactic(auto, unfolding(crate::specs::Cards::cards_up_to))]
 pub fn cards_up_to(card: &Numbered, others: &[Numbered], number: u32) -> usize

@@ -15,7 +15,7 @@ pub struct Mark {
     pub depth: usize,
 }
 
-// The number of parentheses that are open behind a character.
+// The number of parentheses that are open after a character.
 fn depth_behind(depth: usize, character: &Character) -> usize
     requires { depth + 1 < 2 ^ 64 }
     ensures { result ≡ depth_behind depth character.now }
@@ -85,7 +85,7 @@ pub fn first_piece(depth: usize, marks: &[Mark]) -> (&[Mark], Option<&[Mark]>)
     }
 }
 
-// Whether a parenthesis is open behind a character.
+// Whether a parenthesis is open after a character.
 fn is_open_behind(mark: &Mark) -> bool
     ensures { result ≡ is_open_behind mark.now }
 {

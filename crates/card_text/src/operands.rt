@@ -1,4 +1,4 @@
-//! Operands: values, and values behind a keyword.
+//! Operands: values, and values after a keyword.
 ghost use Rattle.std.specs.Prelude.{◌≡◌, ◌<◌, length, position, IfOk, IfSome, option_map};
 ghost use Rattle.card_text.specs.Operands.{is_equals, keyed, serial_value, pair, keyed_value, with_key, operand, operand_view};
 ghost use Rattle.card_text.specs.Tree.{value_view};
@@ -45,7 +45,7 @@ pub fn keyed(text: &[Mark]) -> Option<(&[Mark], &[Mark])>
     }
 }
 
-// The value behind a device word: a word or a list.
+// The value after a device word: a word or a list.
 fn serial_value(alloc: Global, text: &[Mark]) -> Result<Option<Value>, AllocError>
     ensures { IfOk result (λ v. option_map value_view v ≡ serial_value text.now) }
 {
@@ -56,7 +56,7 @@ fn serial_value(alloc: Global, text: &[Mark]) -> Result<Option<Value>, AllocErro
     }
 }
 
-// The list of a device word and the value behind it.
+// The list of a device word and the value after it.
 fn pair(alloc: Global, device: &[Mark], value: Value) -> Result<Value, AllocError>
     ensures { IfOk result (λ v. value_view v ≡ pair device.now (value_view value)) }
 {
@@ -66,7 +66,7 @@ fn pair(alloc: Global, device: &[Mark], value: Value) -> Result<Value, AllocErro
     Ok(Value::List(items))
 }
 
-// The value behind a keyword.
+// The value after a keyword.
 fn keyed_value(alloc: Global, text: &[Mark]) -> Result<Option<Value>, AllocError>
     ensures { IfOk result (λ v. option_map value_view v ≡ keyed_value text.now) }
 {
@@ -97,7 +97,7 @@ fn with_key(alloc: Global, key: &[Mark], text: &[Mark]) -> Result<Option<Operand
 
 /// The operand that a text is, if it has one of the forms that statements take (Utilities GC28-6586).
 ///
-/// It is a value, or `KEY=` and a value, where the keyword is a name of one level. Behind `KEY=`, `dev=serial` and
+/// It is a value, or `KEY=` and a value, where the keyword is a name of one level. After `KEY=`, `dev=serial` and
 /// `dev=(serial,..)` are the list of the word and the value. The text has no parentheses around it, and lists nest at
 /// most eight deep in it. The one error is want of memory.
 pub fn read_operand(alloc: Global, text: &[Mark]) -> Result<Option<Operand>, AllocError>

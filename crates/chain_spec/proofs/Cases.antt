@@ -5,7 +5,7 @@ use Rattle.chain_spec.specs.Cut.{needed}
 use Rattle.chain_spec.specs.Kept.{kept}
 use Rattle.chain_spec.specs.Store.{reads, stored}
 
--- [A, B, D] and [C, D, E, end]: C isn't greater than D, so not equal names alone are dropped; behind the end nothing is read
+-- [A, B, D] and [C, D, E, end]: C isn't greater than D, so not equal names alone are dropped; after the end nothing is read
 two_blocks : reads (λ (n : ℕ). n) (Some (record { entries = 1 ∷ 2 ∷ 4 ∷ []; ends = false }) ∷ Some (record { entries = 3 ∷ 4 ∷ 5 ∷ []; ends = true }) ∷ None ∷ []) ≡ Some (1 ∷ 2 ∷ 4 ∷ 5 ∷ [])
 two_blocks = refl
 

@@ -25,7 +25,7 @@ module _ {E : Type 0} (size : E → ℕ) where
   first_size_within end [] (d ∷ ds) = omega arith
   first_size_within end (e ∷ c) cs = omega arith
 
-  -- a block that is full could not take the first of what stands behind it
+  -- a block that is full could not take the first of what stands after it
   pub full_before : (room end : ℕ) (f c : List E) (cs : List (List E)) → room < total size f + first_size size end c cs → total size f ≤ room → IsFull size room end (c ∷ cs) → (y : E) (r : List E) → joined (c ∷ cs) ≡ y ∷ r → room < total size f + size y
   full_before room end f [] [] full fits later y r is = absurd (cc is)
   full_before room end f [] (d ∷ ds) full fits later y r is = absurd (omega (arith, full, fits))

@@ -79,7 +79,7 @@ module _ {E : Type 0} (name : E → ℕ) where
       (λ h. rw (after_passes t e (xs ++ ys) h, after_passes t e xs h) (after-append t xs ys))
       (order t (name e))
 
-  -- behind the first of rising entries the others are kept
+  -- after the first of rising entries the others are kept
   pub kept_behind : (t : ℕ) (xs ys : List E) → RisesFrom name t (xs ++ ys) → kept_from name (after t xs) (xs ++ ys) ≡ ys
   kept_behind t [] ys r = kept_all t t ys (omega arith) r
   kept_behind t (e ∷ xs) ys r = rw (after_keeps t e xs r.0)

@@ -13,7 +13,7 @@ AllFit size room end [] = ⊥
 AllFit size room end (b ∷ []) = total size b + end ≤ room
 AllFit size room end (b ∷ c ∷ cs) = (total size b ≤ room) × AllFit size room end (c ∷ cs)
 
--- the size of the first entry of a block with these blocks behind it: that of the end entry, where the last has no other
+-- the size of the first entry of a block with these blocks after it: that of the end entry, where the last has no other
 abbrev pub first_size : {E : Type 0} → (E → ℕ) → ℕ → List E → List (List E) → ℕ
 first_size size end [] [] = end
 first_size size end [] (d ∷ ds) = 0
@@ -25,7 +25,7 @@ IsFull size room end [] = ⊤
 IsFull size room end (b ∷ []) = ⊤
 IsFull size room end (b ∷ c ∷ cs) = (room < total size b + first_size size end c cs) × IsFull size room end (c ∷ cs)
 
--- these blocks are the cut of these entries, behind which comes an end entry of this size (0: none)
+-- these blocks are the cut of these entries, after which comes an end entry of this size (0: none)
 pub record IsCut {E : Type 0} (size : E → ℕ) (room end : ℕ) (blocks : List (List E)) (entries : List E) : Type 0 where
   pub holds : joined blocks ≡ entries
   pub fits : AllFit size room end blocks

@@ -21,7 +21,7 @@ pub fn cut_law<E>()
 {}
 
 /// For entries of any type, the kept entries rise, and of rising entries all are kept. A chain of blocks that fit gives the kept entries of
-/// the blocks, whatever stands behind its end.
+/// the blocks, whatever stands after its end.
 pub fn reading_law<E>()
     ensures rising { (name : E → ℕ) (list : List E) → Rises name (kept name list) }
     ensures kept { (name : E → ℕ) (list : List E) → Rises name list → kept name list ≡ list }

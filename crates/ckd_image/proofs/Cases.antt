@@ -19,7 +19,7 @@ dscbs_of_a_track :
     × (fits D2311 (replicate 15 (44, 96)) 44 96 ≡ true) × (fits D2311 (replicate 16 (44, 96)) 44 96 ≡ false)
 dscbs_of_a_track = (refl, refl, refl, refl)
 
--- behind 35 directory blocks of 531 an end-of-file record of 185 makes 18770 of 19254, and behind 36 of them 19301
+-- after 35 directory blocks of 531 an end-of-file record of 185 makes 18770 of 19254, and after 36 of them 19301
 directory_of_a_3350_track : (fits D3350 (replicate 35 (8, 256)) 0 0 ≡ true) × (fits D3350 (replicate 36 (8, 256)) 0 0 ≡ false)
 directory_of_a_3350_track = (refl, refl)
 
@@ -52,25 +52,25 @@ r1 = 1 ∷ 2 ∷ 0 ∷ 3 ∷ 1 ∷ 2 ∷ 0 ∷ 3 ∷ 75 ∷ 75 ∷ 68 ∷ 68 ∷
 abbrev first : Record
 first = record { address = 1 ∷ 2 ∷ 0 ∷ 3 ∷ []; key = 75 ∷ 75 ∷ []; «data» = 68 ∷ 68 ∷ 68 ∷ [] }
 
--- they are written so, and zeros stand behind the end marker up to the size of the track
+-- they are written so, and zeros stand after the end marker up to the size of the track
 written :
     (front_bytes 258 3 ≡ front) × (records_bytes 1 (record_on 258 3 (75 ∷ 75 ∷ []) (68 ∷ 68 ∷ 68 ∷ []) ∷ []) ≡ r1)
     × (new_track 258 3 (first ∷ []) 44 ≡ front ++ (r1 ++ (replicate 8 255 ++ (0 ∷ 0 ∷ []))))
 written = (refl, refl, refl)
 
--- what is behind the end marker is no record, and the home address is that of one track
+-- what is after the end marker is no record, and the home address is that of one track
 one_record : (records_of 258 3 None (front ++ (r1 ++ (end_marker ++ (1 ∷ [])))) ≡ Some (first ∷ [])) × (records_of 3 258 None (front ++ (r1 ++ end_marker)) ≡ None)
 unfolding records_of is_front records_to_end
 one_record = (refl, refl)
 
--- where the six X'FF' behind R1 may begin an end marker, the byte behind them breaks it; where R2 is asked for, they are no marker, and the first that breaks is R
+-- where the six X'FF' after R1 may begin an end marker, the byte after them breaks it; where R2 is asked for, they are no marker, and the first that breaks is R
 broken_marker :
     (break_of 258 3 None (front ++ (r1 ++ (replicate 6 255 ++ replicate 8 0))) ≡ Some 40)
     × (break_of 258 3 (Some 2) (front ++ (r1 ++ (replicate 6 255 ++ replicate 8 0))) ≡ Some 38)
 unfolding break_of break_to_end break_up_to pattern_break
 broken_marker = (refl, refl)
 
--- up to R1 at least eight bytes stand behind it, of any kind
+-- up to R1 at least eight bytes stand after it, of any kind
 eight_bytes_behind : (break_of 258 3 (Some 1) (front ++ (r1 ++ replicate 8 0)) ≡ None) × (break_of 258 3 (Some 1) (front ++ (r1 ++ replicate 7 0)) ≡ Some 41)
 unfolding break_of break_up_to pattern_break
 eight_bytes_behind = (refl, refl)

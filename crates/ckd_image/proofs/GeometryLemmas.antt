@@ -23,7 +23,7 @@ holds false is = cc
 same_ok : (g h : Geometry) → ◌≡◌ {A = Result Geometry ImageErr} (Ok g) (Ok h) → g ≡ h
 same_ok g h is = cc
 
--- the cylinders stand whole behind the header
+-- the cylinders stand whole after the header
 whole_cylinders : (d : DiskType) (heads size cylinder len : ℕ) → heads ≡ (row_of d).heads → is_track_size d size ≡ true → cylinder ≡ heads * size → is_length d cylinder len ≡ true → 512 ≤ len
     → HasGeometry len (record { device = d; cylinders = (len - 512) / cylinder; track_size = size })
 whole_cylinders d heads size cylinder len head track is fits long =

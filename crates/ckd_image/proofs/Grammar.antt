@@ -94,7 +94,7 @@ up_some (suc n) r k bytes e =
       ]
     ]
 
--- both behind the front
+-- both after the front
 behind_none : (u : Option ℕ) (bytes : List ℕ) → break_behind u bytes ≡ None → (rs : List Record) × (records_behind u bytes ≡ Some rs)
 behind_none None bytes e = end_none 255 1 bytes e
 behind_none (Some r) bytes e = up_none r 1 bytes e
@@ -108,7 +108,7 @@ pub cases_option : {A : Type 0} (o : Option A) → (o ≡ None) ⊎ ((x : A) × 
 cases_option None = inl refl
 cases_option (Some x) = inr (x, refl)
 
--- the front breaks, or what stands behind it
+-- the front breaks, or what stands after it
 pub break_front : (c h : ℕ) (u : Option ℕ) (k : ℕ) (bytes : List ℕ) → pattern_break (front_pattern c h) bytes ≡ Some k → break_of c h u bytes ≡ Some k
 unfolding break_of
 break_front c h u k bytes e = ap (λ (o : Option ℕ). break_or_after o 21 (break_behind u (drop 21 bytes))) e
@@ -117,7 +117,7 @@ pub break_past : (c h : ℕ) (u : Option ℕ) (bytes : List ℕ) → pattern_bre
 unfolding break_of
 break_past c h u bytes e = ap (λ (o : Option ℕ). break_or_after o 21 (break_behind u (drop 21 bytes))) e
 
--- nothing is read without a front, and behind it the records
+-- nothing is read without a front, and after it the records
 pub read_nothing : (c h : ℕ) (u : Option ℕ) (bytes : List ℕ) → is_front c h bytes ≡ false → records_of c h u bytes ≡ None
 unfolding records_of
 read_nothing c h u bytes e = if_false (is_front c h bytes) _ _ e
@@ -169,7 +169,7 @@ pub record IsUpTo (n r : ℕ) (rs : List Record) (bytes : List ℕ) : Type 0 whe
   pub room : 8 ≤ length rest
   pub number : length rs ≡ n
 
--- one record is read, and the others behind it
+-- one record is read, and the others after it
 pub step_end : (n r : ℕ) (x : Record) (t : List ℕ) → IsRecord r x → records_to_end (suc n) r (record_bytes r x ++ t) ≡ option_map (after x) (records_to_end n (suc r) t)
 step_end n r x t is =
     let w = record_reads r x t is in
@@ -182,7 +182,7 @@ step_up n r x t is =
     up_to_stands n r (record_bytes r x ++ t) w.goes_on w.stands
     ∙ ap₂ (λ (y : Record) (ys : List ℕ). option_map (after y) (records_up_to n (suc r) ys)) w.front w.behind
 
--- the end marker ends a track, whatever stands behind it
+-- the end marker ends a track, whatever stands after it
 pub marker_ends : (rest : List ℕ) → is_at_end (end_marker ++ rest) ≡ true
 marker_ends rest = (bytes_eq-Decides end_marker end_marker).1 refl
 
@@ -223,7 +223,7 @@ follows_read c h (Some r) rs bytes f =
 
 -- ---- what is read follows the grammar
 
--- the bytes behind some are bytes
+-- the bytes after some are bytes
 pub bytes_behind : (n : ℕ) (bytes : List ℕ) → AreBytes bytes → AreBytes (drop n bytes)
 bytes_behind n bytes small i = rw get_or-drop (small (n + i))
 
@@ -300,7 +300,7 @@ up_to_stand (suc n) r rs bytes small e =
       ]
     ]
 
--- a front and what stands behind it are a track
+-- a front and what stands after it are a track
 pub track_to_end : (c h : ℕ) (rs : List Record) (bytes t : List ℕ) (first : ℕ) (r0 : Record) → IsR0 r0 → bytes ≡ home_address first c h ++ (record_bytes 0 r0 ++ t) → IsToEnd 1 rs t → Follows c h None rs bytes
 track_to_end c h rs bytes t first r0 is e w = record {
   first = first;

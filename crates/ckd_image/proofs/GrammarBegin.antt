@@ -47,7 +47,7 @@ short_completes r front l s =
     more_completes r front (replicate (4 - length front) 0)
     (empty_completes r (front ++ replicate (4 - length front) 0) l (omega (arith, length-append front (replicate (4 - length front) 0), length-replicate {A = ℕ} (4 - length front) 0)))
 
--- zeros behind bytes
+-- zeros after bytes
 zeros_read : (n i : ℕ) → ◌≡◌ {A = ℕ} (get_or (replicate n 0) i 0) 0
 zeros_read zero i = refl
 zeros_read (suc n) zero = refl
@@ -67,7 +67,7 @@ bytes_before n bytes small i =
       | inr l ↦ subst (λ (b : ℕ). b < 256) (sym (get_or_past (take n bytes) i 0 (omega (arith, length-take n bytes)))) (omega arith)
     ]
 
--- what the first eight bytes say, whatever stands behind them
+-- what the first eight bytes say, whatever stands after them
 record SaysSame (bytes more : List ℕ) : Type 0 where
   ended : is_at_end (bytes ++ more) ≡ is_at_end bytes
   long : record_length (bytes ++ more) ≡ record_length bytes
@@ -116,7 +116,7 @@ cut_completes r bytes small t l e lack =
       ]
     ]
 
--- what stands behind a part that is kept, by how much of it is
+-- what stands after a part that is kept, by how much of it is
 pub kept_more : (n k : ℕ) (bytes front t rest : List ℕ) → bytes ≡ front ++ t → length front ≡ n → take (n + k) bytes ++ rest ≡ front ++ (take k t ++ rest)
 kept_more n k bytes front t rest e l =
     let back : n + k - n ≡ k = omega arith in
@@ -136,7 +136,7 @@ pub record CanReach (n r : ℕ) (front : List ℕ) : Type 0 where
   pub rest : List ℕ
   pub is : IsUpTo n r records (front ++ rest)
 
--- a record that is completed, and an end behind it
+-- a record that is completed, and an end after it
 completed_ends : (r : ℕ) (front : List ℕ) → Completes r front → CanEnd r front
 completed_ends r front w = record {
   records = w.x ∷ [];
@@ -163,7 +163,7 @@ pub can_reach : (n r : ℕ) → r + n ≤ 256 → CanReach n r []
 can_reach zero r l = record { records = []; rest = replicate 8 0; is = none_up_to r (replicate 8 0) (omega arith) }
 can_reach (suc n) r l = completed_reaches n r [] (short_completes r [] (omega arith) (omega arith)) (can_reach n (suc r) (omega arith))
 
--- behind a whole record
+-- after a whole record
 record_ends : (r k : ℕ) (bytes : List ℕ) → AreBytes bytes → is_at_end bytes ≡ false → is_record_at r bytes ≡ true → CanEnd (suc r) (take k (drop (record_length bytes) bytes)) → CanEnd r (take (record_length bytes + k) bytes)
 record_ends r k bytes small t f w =
     let v = record_split r bytes small t f in

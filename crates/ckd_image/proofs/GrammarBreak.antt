@@ -65,7 +65,7 @@ marker_stops bytes e l s =
     let stops = prefix_len_stops (λ (b : ℕ). b == 255) (take 8 bytes) 0 (omega (arith, length-take 8 bytes)) in
     eqb-false _ _ stops (ap (λ (k : ℕ). get_or (take 8 bytes) k 0) (sym is) ∙ (get_or-take 8 bytes (marker_length bytes) 0 less ∙ s))
 
--- ---- a byte stays where only what stands behind it is changed
+-- ---- a byte stays where only what stands after it is changed
 
 pub byte_stays : (bytes rest : List ℕ) (k n : ℕ) → k < n → k < length bytes → get_or (take n bytes ++ rest) k 0 ≡ get_or bytes k 0
 byte_stays bytes rest k n l m =
@@ -93,7 +93,7 @@ marker_completes bytes =
     let long : length (take (marker_length bytes) bytes) ≡ marker_length bytes = length-take-le (marker_length bytes) bytes most.1 in
     marker_from_reads _ (omega (arith, length-append (take (marker_length bytes) bytes) (replicate (8 - marker_length bytes) 255), length-replicate {A = ℕ} (8 - marker_length bytes) 255, most.0)) (completed_read bytes)
 
--- ---- what stands behind a part that is kept
+-- ---- what stands after a part that is kept
 
 pub kept_part : (n m : ℕ) (bytes front t rest : List ℕ) → bytes ≡ front ++ t → length front ≡ n → n ≤ m → take m bytes ++ rest ≡ front ++ (take (m - n) t ++ rest)
 kept_part n m bytes front t rest e l s =
@@ -107,7 +107,7 @@ kept_part n m bytes front t rest e l s =
 pub part_length : (n : ℕ) (bytes front : List ℕ) → bytes ≡ front ++ drop n bytes → n ≤ length bytes → length front ≡ n
 part_length n bytes front e l = omega (arith, ap length e, length-append front (drop n bytes), length-drop n bytes)
 
--- what behind a part is kept
+-- what after a part is kept
 pub kept_behind : (n m : ℕ) (bytes rest : List ℕ) → n ≤ m → n ≤ length bytes → drop n (take m bytes ++ rest) ≡ take (m - n) (drop n bytes) ++ rest
 kept_behind n m bytes rest s l =
     let sum : m ≡ n + (m - n) = omega arith in
@@ -148,7 +148,7 @@ end_inside (suc n) r k bytes e =
       ]
     ]
 
--- where an end marker is no record: behind its fourth byte, or at its last
+-- where an end marker is no record: after its fourth byte, or at its last
 abbrev pub place : ℕ → ℕ
 place r = if r == 255 then 7 else 4
 
@@ -183,7 +183,7 @@ up_inside (suc n) r k bytes e =
 
 -- ---- nothing is read where the byte at the break stays
 
--- a record that stays, and nothing that is read behind it
+-- a record that stays, and nothing that is read after it
 end_step_none : (n r m : ℕ) (bytes rest : List ℕ) → AreBytes bytes → is_at_end bytes ≡ false → is_record_at r bytes ≡ true → record_length bytes ≤ m
     → records_to_end n (suc r) (take (m - record_length bytes) (drop (record_length bytes) bytes) ++ rest) ≡ None → records_to_end (suc n) r (take m bytes ++ rest) ≡ None
 end_step_none n r m bytes rest small t f l none =

@@ -17,7 +17,7 @@ pub record CanBegin (c h : ℕ) (u : Option ℕ) (front : List ℕ) : Type 0 whe
   pub rest : List ℕ
   pub is : Follows c h u records (front ++ rest)
 
--- the bytes of a front, and others behind it
+-- the bytes of a front, and others after it
 front_then : (c h : ℕ) (front more t : List ℕ) (w : IsFront c h (front ++ more)) → length (front ++ more) ≡ 21
     → front ++ (more ++ t) ≡ home_address w.first c h ++ (record_bytes 0 w.r0 ++ t)
 front_then c h front more t w l =
@@ -27,7 +27,7 @@ front_then c h front more t w l =
     ∙ (ap (λ (ys : List ℕ). ys ++ t) (w.parts ∙ ap (λ (ys : List ℕ). home ++ (record_bytes 0 w.r0 ++ ys)) nothing)
     ∙ (append_assoc home (record_bytes 0 w.r0 ++ []) t ∙ ap (λ (ys : List ℕ). home ++ ys) (append_assoc (record_bytes 0 w.r0) [] t)))
 
--- a front that is completed, and an end behind it
+-- a front that is completed, and an end after it
 front_begins : (c h : ℕ) (u : Option ℕ) (front : List ℕ) → IfSome u (λ r. r < 256) → Fills (front_pattern c h) front → CanBegin c h u front
 front_begins c h None front l f =
     let w = front_split c h (front ++ f.rest) (matches_front c h (front ++ f.rest) f.fits) in
@@ -46,7 +46,7 @@ front_begins c h (Some n) front l f =
       is = track_up_to c h n v.records (front ++ (f.rest ++ v.rest)) v.rest w.first w.r0 w.is (front_then c h front f.rest v.rest w f.long) v.is;
     }
 
--- a front that stays, and what stands behind it
+-- a front that stays, and what stands after it
 front_kept : (c h k : ℕ) (bytes rest : List ℕ) (w : IsFront c h bytes) → 21 ≤ length bytes
     → take (21 + k) bytes ++ rest ≡ home_address w.first c h ++ (record_bytes 0 w.r0 ++ (take k (drop 21 bytes) ++ rest))
 front_kept c h k bytes rest w l =
@@ -55,7 +55,7 @@ front_kept c h k bytes rest w l =
     kept_more 21 k bytes (home ++ record_bytes 0 w.r0) (drop 21 bytes) rest parts (part_length 21 bytes (home ++ record_bytes 0 w.r0) parts l)
     ∙ append_assoc home (record_bytes 0 w.r0) (take k (drop 21 bytes) ++ rest)
 
--- what breaks behind a front can be completed
+-- what breaks after a front can be completed
 behind_begins : (c h : ℕ) (u : Option ℕ) (k : ℕ) (bytes : List ℕ) → AreBytes bytes → IfSome u (λ r. r < 256) → is_front c h bytes ≡ true → 21 ≤ length bytes
     → break_behind u (drop 21 bytes) ≡ Some k → CanBegin c h u (take (21 + k) bytes)
 behind_begins c h None k bytes small l t long e =
@@ -75,7 +75,7 @@ behind_begins c h (Some n) k bytes small l t long e =
       is = track_up_to c h n v.records (take (21 + k) bytes ++ v.rest) (take k (drop 21 bytes) ++ v.rest) w.first w.r0 w.is (front_kept c h k bytes v.rest w long) v.is;
     }
 
--- where what stands behind a front breaks: inside it, and whatever stands behind that place
+-- where what stands after a front breaks: inside it, and whatever stands after that place
 behind_inside : (u : Option ℕ) (k : ℕ) (bytes : List ℕ) → break_behind u bytes ≡ Some k → k ≤ length bytes
 behind_inside None k bytes e = end_inside 255 1 k bytes e
 behind_inside (Some n) k bytes e = up_inside n 1 k bytes e
@@ -84,7 +84,7 @@ behind_stays : (u : Option ℕ) (k m : ℕ) (bytes rest : List ℕ) → AreBytes
 behind_stays None k m bytes rest small e l s = end_stays 255 1 k m bytes rest small e l s
 behind_stays (Some n) k m bytes rest small e l s = up_stays n 1 k m bytes rest small e l s
 
--- where a track breaks: in its front, or behind it
+-- where a track breaks: in its front, or after it
 pub data Place (c h : ℕ) (u : Option ℕ) (bytes : List ℕ) (at : ℕ) : Type 0 where
   in_front : pattern_break (front_pattern c h) bytes ≡ Some at → Place c h u bytes at
   behind : is_front c h bytes ≡ true → 21 ≤ length bytes → (k : ℕ) → break_behind u (drop 21 bytes) ≡ Some k → at ≡ 21 + k → Place c h u bytes at

@@ -9,7 +9,7 @@ use Rattle.ckd_image.specs.Reading.{is_front}
 use Rattle.ckd_image.specs.Break.{pattern_break, front_pattern}
 use Rattle.ckd_image.proofs.GrammarRecord.{at_four, at_eight, made}
 
--- the bytes are a home address, R0 and what stands behind
+-- the bytes are a home address, R0 and what stands after
 pub record IsFront (cylinder head : ℕ) (bytes : List ℕ) : Type 0 where
   pub first : ℕ
   pub r0 : Record
@@ -47,7 +47,7 @@ made_front first c h a b x y content t e =
     and_from _ _ (and_from _ _ (le-leb _ _ (omega arith)) ((bytes_eq-Decides (to_be_bytes w16 c ++ to_be_bytes w16 h) (to_be_bytes w16 c ++ to_be_bytes w16 h)).1 refl))
     ((bytes_eq-Decides (0 ∷ 0 ∷ to_be_bytes w16 (length content)) (0 ∷ 0 ∷ 0 ∷ 8 ∷ [])).1 (r0_count (length content) e))
 
--- the front is read, and what is left behind it
+-- the front is read, and what is left after it
 pub record FrontReads (c h : ℕ) (bytes t : List ℕ) : Type 0 where
   pub stands : is_front c h bytes ≡ true
   pub behind : drop 21 bytes ≡ t
@@ -201,7 +201,7 @@ front_matches c h bytes stands =
     ((bytes_eq-Decides (slice_range bytes 1 5) (to_be_bytes w16 c ++ to_be_bytes w16 h)).0 front.1)
     ((bytes_eq-Decides (slice_range bytes 9 13) (0 ∷ 0 ∷ 0 ∷ 8 ∷ [])).0 parts.1)
 
--- where the pattern breaks: inside the bytes, whatever stands behind the place, and where it can be completed
+-- where the pattern breaks: inside the bytes, whatever stands after the place, and where it can be completed
 pub pattern_inside : (ps : List (Option ℕ)) (bytes : List ℕ) (k : ℕ) → pattern_break ps bytes ≡ Some k → k ≤ length bytes
 unfolding pattern_break
 pattern_inside [] bytes k e = absurd (cc)

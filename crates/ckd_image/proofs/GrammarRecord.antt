@@ -16,7 +16,7 @@ at_four P h (a ∷ b ∷ c ∷ []) e = absurd (omega arith)
 at_four P h (a ∷ b ∷ c ∷ d ∷ []) e = h a b c d
 at_four P h (a ∷ b ∷ c ∷ d ∷ x ∷ xs) e = absurd (omega arith)
 
--- x is read at the front of the bytes as Rr, and t is what stands behind it
+-- x is read at the front of the bytes as Rr, and t is what stands after it
 pub record Reads (r : ℕ) (x : Record) (bytes t : List ℕ) : Type 0 where
   pub goes_on : is_at_end bytes ≡ false
   pub stands : is_record_at r bytes ≡ true
@@ -50,7 +50,7 @@ counted_key a b c d r n key content t =
     let e : 8 + length key - 8 ≡ length key = omega arith in
     rw (e, append_assoc key content t) (take_at key (content ++ t) (length key) refl)
 
--- what stands behind the count and the key
+-- what stands after the count and the key
 counted_past_key : (a b c d r n : ℕ) (key content t : List ℕ)
     → drop (8 + length key) (counted a b c d r (length key) n ++ ((key ++ content) ++ t)) ≡ content ++ t
 counted_past_key a b c d r n key content t =
@@ -64,7 +64,7 @@ counted_data a b c d r n key content t =
     let e : 8 + length key + length content - (8 + length key) ≡ length content = omega arith in
     rw (e, counted_past_key a b c d r n key content t) (take_at content t (length content) refl)
 
--- what stands behind it
+-- what stands after it
 counted_behind : (a b c d r n : ℕ) (key content t : List ℕ)
     → drop (8 + length key + length content) (counted a b c d r (length key) n ++ ((key ++ content) ++ t)) ≡ t
 counted_behind a b c d r n key content t =
@@ -135,7 +135,7 @@ two_bytes g h small_g small_h (suc (suc i)) = omega arith
 two_small : (g h n : ℕ) → g < 256 → h < 256 → n ≡ from_be_bytes w16 (g ∷ h ∷ []) → n < 65536
 two_small g h n small_g small_h e = omega arith
 
--- the bytes are those of a record as Rr and what stands behind
+-- the bytes are those of a record as Rr and what stands after
 pub record IsSplit (r : ℕ) (bytes : List ℕ) : Type 0 where
   pub is : IsRecord r (front_record bytes)
   pub parts : bytes ≡ record_bytes r (front_record bytes) ++ drop (record_length bytes) bytes

@@ -16,7 +16,7 @@ use Rattle.ckd_image.specs.Header.{HasGeometry, heads_field, track_size_field, s
 use Rattle.ckd_image.specs.declared.header.ImageErr.{ImageErr}
 use Rattle.ckd_image.proofs.GrammarFront.{if_false}
 
--- bytes put behind those that stand already, over equal ones
+-- bytes put after those that stand already, over equal ones
 pub put_behind : (x n k m : ℕ) (front ys : List ℕ) → length front ≡ n → put_mid n k (front ++ replicate m x) ys ≡ (front ++ ys) ++ replicate (m - k) x
 put_behind x n k m front ys e =
     let behind : post_of n k (front ++ replicate m x) ≡ replicate (m - k) x = ap (drop k) (drop_at front (replicate m x) n e) ∙ drop-replicate k m x in
@@ -36,7 +36,7 @@ some_heads D2314 = (omega arith, omega arith)
 some_heads D3330 = (omega arith, omega arith)
 some_heads D3350 = (omega arith, omega arith)
 
--- whole cylinders behind the header
+-- whole cylinders after the header
 whole_length : (d : DiskType) (n c : ℕ) → 1 ≤ c → 1 ≤ n → n ≤ (row_of d).most_cylinders → is_length d c (512 + n * c) ≡ true
 whole_length d n c some one most =
     let behind : 512 + n * c - 512 ≡ n * c = omega arith in
@@ -101,7 +101,7 @@ written_read g len has =
 
 -- ---- the bytes that are written
 
--- text, heads and track size, each behind the other over zeros, and then the type
+-- text, heads and track size, each after the other over zeros, and then the type
 laid : (a b s : List ℕ) (t : ℕ) → length a ≡ 8 → length b ≡ 4 → length s ≡ 4
     → set (put_mid 12 4 (put_mid 8 4 (a ++ drop 8 (replicate 512 0)) b) s) 16 t ≡ a ++ (b ++ (s ++ (t ∷ 0 ∷ 0 ∷ 0 ∷ replicate 492 0)))
 laid a b s t la lb ls =

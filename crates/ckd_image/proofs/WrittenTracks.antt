@@ -38,7 +38,7 @@ r0_stands c h = record {
   eight = refl;
 }
 
--- records behind others go on with their numbers
+-- records after others go on with their numbers
 pub records_bytes-append : (r : ℕ) (front back : List Record) → records_bytes r (front ++ back) ≡ records_bytes r front ++ records_bytes (r + length front) back
 records_bytes-append r [] back = ap (λ k. records_bytes k back) (omega arith)
 records_bytes-append r (x ∷ xs) back =

@@ -41,14 +41,14 @@ break_to_end (suc left) r bytes =
     if is_at_end bytes then None
     else break_or_after (record_break true r bytes) (record_length bytes) (break_to_end left (suc r) (drop (record_length bytes) bytes))
 
--- where so many records from Rr on break, and the eight bytes behind them; of an end marker in the place of Rr the count may have CC and HH, and that of R255 also R, KL and the first byte of DL
+-- where so many records from Rr on break, and the eight bytes after them; of an end marker in the place of Rr the count may have CC and HH, and that of R255 also R, KL and the first byte of DL
 unfoldable pub break_up_to : ℕ → ℕ → List ℕ → Option ℕ
 break_up_to zero r bytes = if nat_le 8 (length bytes) then None else Some (length bytes)
 break_up_to (suc left) r bytes =
     if is_at_end bytes then Some (if r == 255 then 7 else 4)
     else break_or_after (record_break false r bytes) (record_length bytes) (break_up_to left (suc r) (drop (record_length bytes) bytes))
 
--- where the records behind R0 break, to the end marker or up to a record
+-- where the records after R0 break, to the end marker or up to a record
 abbrev pub break_behind : Option ℕ → List ℕ → Option ℕ
 break_behind None bytes = break_to_end 255 1 bytes
 break_behind (Some r) bytes = break_up_to r 1 bytes

@@ -36,7 +36,7 @@ has_magic text bytes = bytes_eq (take 8 bytes) text
 abbrev pub is_track_size : DiskType → ℕ → Bool
 is_track_size device size = (size % 512 == 0) && nat_le ((row_of device).largest_record + 37) size && nat_le size 65536
 
--- behind the header stand whole cylinders of so many bytes, from one to the device's most
+-- after the header stand whole cylinders of so many bytes, from one to the device's most
 abbrev pub is_length : DiskType → ℕ → ℕ → Bool
 is_length device cylinder len = ((len - 512) % cylinder == 0) && nat_le cylinder (len - 512) && nat_le (len - 512) ((row_of device).most_cylinders * cylinder)
 
@@ -64,7 +64,7 @@ geometry_of bytes len =
     else (if not (has_magic (codes "CKD_P370") bytes) then Err BadMagic
     else geometry_at (device_of (type_field bytes)) bytes len))
 
--- an image of this length has the geometry: its cylinders stand whole behind the header
+-- an image of this length has the geometry: its cylinders stand whole after the header
 pub record HasGeometry (len : ℕ) (g : Geometry) : Type 0 where
   pub cylinders : 1 ≤ g.cylinders
   pub most : g.cylinders ≤ (row_of g.device).most_cylinders

@@ -34,14 +34,14 @@ front_record bytes = record {
 abbrev pub is_record_at : ℕ → List ℕ → Bool
 is_record_at r bytes = nat_le 8 (length bytes) && (slice_index bytes 4 == r) && nat_le (record_length bytes) (length bytes)
 
--- the records from Rr on to the end marker, which stands behind at most so many
+-- the records from Rr on to the end marker, which stands after at most so many
 unfoldable pub records_to_end : ℕ → ℕ → List ℕ → Option (List Record)
 records_to_end zero r bytes = if is_at_end bytes then Some [] else None
 records_to_end (suc left) r bytes =
     if is_at_end bytes then Some []
     else (if is_record_at r bytes then option_map (λ xs. front_record bytes ∷ xs) (records_to_end left (suc r) (drop (record_length bytes) bytes)) else None)
 
--- so many records from Rr on, with at least eight bytes behind them
+-- so many records from Rr on, with at least eight bytes after them
 unfoldable pub records_up_to : ℕ → ℕ → List ℕ → Option (List Record)
 records_up_to zero r bytes = if nat_le 8 (length bytes) then Some [] else None
 records_up_to (suc left) r bytes =
@@ -55,11 +55,11 @@ is_front cylinder head bytes =
     && bytes_eq (slice_range bytes 1 5) (to_be_bytes w16 cylinder ++ to_be_bytes w16 head)
     && bytes_eq (slice_range bytes 9 13) (0 ∷ 0 ∷ 0 ∷ 8 ∷ [])
 
--- the records behind the front
+-- the records after the front
 abbrev pub records_behind : Option ℕ → List ℕ → Option (List Record)
 records_behind None bytes = records_to_end 255 1 bytes
 records_behind (Some r) bytes = records_up_to r 1 bytes
 
--- the records behind R0 of a track, to its end marker or up to a record; nothing where the bytes break the grammar
+-- the records after R0 of a track, to its end marker or up to a record; nothing where the bytes break the grammar
 unfoldable pub records_of : ℕ → ℕ → Option ℕ → List ℕ → Option (List Record)
 records_of cylinder head upto bytes = if is_front cylinder head bytes then records_behind upto (drop 21 bytes) else None

@@ -49,7 +49,7 @@ pub record IsR0 (x : Record) : Type 0 where
 abbrev pub home_address : ℕ → ℕ → ℕ → List ℕ
 home_address first cylinder head = first ∷ (to_be_bytes w16 cylinder ++ to_be_bytes w16 head)
 
--- the bytes are a track with these records behind R0
+-- the bytes are a track with these records after R0
 pub record IsTrack (cylinder head : ℕ) (records : List Record) (bytes : List ℕ) : Type 0 where
   pub first : ℕ
   pub r0 : Record
@@ -58,7 +58,7 @@ pub record IsTrack (cylinder head : ℕ) (records : List Record) (bytes : List �
   pub stand : AreRecords 1 records
   pub parts : bytes ≡ home_address first cylinder head ++ (record_bytes 0 r0 ++ (records_bytes 1 records ++ (end_marker ++ rest)))
 
--- the bytes are a track up to the last of these records: at least eight bytes stand behind it
+-- the bytes are a track up to the last of these records: at least eight bytes stand after it
 pub record IsTrackUpTo (cylinder head : ℕ) (records : List Record) (bytes : List ℕ) : Type 0 where
   pub first : ℕ
   pub r0 : Record

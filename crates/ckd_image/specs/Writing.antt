@@ -15,10 +15,10 @@ record_on cylinder head key content = record {
 abbrev pub front_bytes : ℕ → ℕ → List ℕ
 front_bytes cylinder head = home_address 0 cylinder head ++ record_bytes 0 (record_on cylinder head [] (replicate 8 0))
 
--- a track with these records behind R0, and any rest behind its end marker
+-- a track with these records after R0, and any rest after its end marker
 abbrev pub track_bytes : ℕ → ℕ → List Record → List ℕ → List ℕ
 track_bytes cylinder head records rest = front_bytes cylinder head ++ (records_bytes 1 records ++ (end_marker ++ rest))
 
--- the same with zeros behind its end marker up to its size
+-- the same with zeros after its end marker up to its size
 abbrev pub new_track : ℕ → ℕ → List Record → ℕ → List ℕ
 new_track cylinder head records size = track_bytes cylinder head records (replicate (size - (29 + length (records_bytes 1 records))) 0)

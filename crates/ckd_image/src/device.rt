@@ -88,7 +88,7 @@ impl DiskType {
         }
     }
 
-    /// The bytes of a track that its records behind R0 share, each at its cost.
+    /// The bytes of a track that its records after R0 share, each at its cost.
     ///
     /// This and the numbers up to the tolerance stand in fields of a format 4 DSCB (System Control Blocks,
     /// GC28-6628); their values are those of this project's profile.

@@ -9,7 +9,7 @@ use crate::device::DiskType;
 const TOLERANCE_UNIT: u32 = 512;
 
 /// Whether a record with a key of `kl` bytes and data of `dl` fits a track of the device as the last
-/// one, behind `earlier` ones of these key and data lengths.
+/// one, after `earlier` ones of these key and data lengths.
 ///
 /// The numbers are in fields of the device's format 4 DSCB (System Control Blocks, GC28-6628); their use
 /// and the rounding are this project's profile. Each earlier record takes the overhead and, for its

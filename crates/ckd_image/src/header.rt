@@ -15,7 +15,7 @@ const MAGIC: &[u8; 8] = b"CKD_P370";
 
 const COMPRESSED_MAGIC: &[u8; 8] = b"CKD_C370";
 
-// The places of the fields behind the magic: heads and track size in four bytes, then the type
+// The places of the fields after the magic: heads and track size in four bytes, then the type
 // and the file sequence in one each, then the high cylinder in two.
 const HEADS_AT: usize = 8;
 

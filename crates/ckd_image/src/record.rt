@@ -23,7 +23,7 @@ pub(crate) const KEY_LENGTH_AT: usize = 5;
 
 pub(crate) const DATA_LENGTH_AT: usize = 6;
 
-/// The record R = `number` at the front of these bytes of a track, and the bytes behind it.
+/// The record R = `number` at the front of these bytes of a track, and the bytes after it.
 ///
 /// `None` where no such record stands there whole. An end marker isn't looked for: it reads as a count of R255.
 pub fn record_at(bytes: &[u8], number: u8) -> Option<(RecordParts<'_>, &[u8])>

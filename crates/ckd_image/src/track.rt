@@ -11,7 +11,7 @@ use byteorder::{BigEndian, ByteOrder};
 /// The bytes of the home address and R0 of a track, which stand before R1.
 pub const FRONT_LEN: usize = 21;
 
-// What stands behind the last record.
+// What stands after the last record.
 pub(crate) const END_MARKER: &[u8; 8] = &[0xFF; 8];
 
 /// Where a track breaks the grammar: the offset of the first byte that no such track has there, or
@@ -22,12 +22,12 @@ pub struct BadCount {
     pub at: u32,
 }
 
-/// The number of records behind R0 of a track: up to the record R = `upto`, or to the end marker.
+/// The number of records after R0 of a track: up to the record R = `upto`, or to the end marker.
 ///
 /// The layout is that of a Hercules CKD image: the home address, R0 without a key and with eight bytes
-/// of data, then R1, R2 and so on, each behind its count, R rising by one, and eight X'FF'. Free are the
-/// first byte, the cylinder and head of each count, keys, data, and all bytes behind the end marker. Up
-/// to R = `upto` no end marker is needed, but at least eight bytes behind that record.
+/// of data, then R1, R2 and so on, each after its count, R rising by one, and eight X'FF'. Free are the
+/// first byte, the cylinder and head of each count, keys, data, and all bytes after the end marker. Up
+/// to R = `upto` no end marker is needed, but at least eight bytes after that record.
 pub fn track_of(bytes: &[u8], cylinder: u16, head: u16, upto: Option<u8>) -> Result<u8, BadCount>
     // The records that are read are those by which the bytes follow the grammar, and no others are.
     ensures reads { IfOk result (λ n. (records : List Record) × (records_of cylinder head upto bytes.now ≡ Some records) × Follows cylinder head upto records bytes.now × (n ≡ length records)) }
@@ -41,7 +41,7 @@ pub fn track_of(bytes: &[u8], cylinder: u16, head: u16, upto: Option<u8>) -> Res
     }
 }
 
-// The number of records behind R0 of a track, or the offset of the byte at which it breaks.
+// The number of records after R0 of a track, or the offset of the byte at which it breaks.
 fn walk(bytes: &[u8], cylinder: u16, head: u16, upto: Option<u8>) -> Result<u8, usize>
     ensures reading { IsReadingOf (break_of cylinder head upto bytes.now) (records_of cylinder head upto bytes.now) result }
     ensures bound { IfErr result (λ at. at ≤ 255 * 65798 + 29) }
@@ -56,7 +56,7 @@ fn walk(bytes: &[u8], cylinder: u16, head: u16, upto: Option<u8>) -> Result<u8, 
     }
 }
 
-// The number of records behind R0, of which these bytes begin with R1, or the offset at which they break.
+// The number of records after R0, of which these bytes begin with R1, or the offset at which they break.
 fn records_behind(bytes: &[u8], upto: Option<u8>) -> Result<u8, usize>
     ensures reading { IsReadingOf (break_behind upto bytes.now) (records_behind upto bytes.now) result }
     ensures bound { IfErr result (λ at. at ≤ 255 * 65798 + 8) }
@@ -146,7 +146,7 @@ fn records_to_end(bytes: &[u8]) -> Result<u8, usize>
 }
 
 // The number of records from R1 on up to R = `last`, or the offset at which they, or the eight bytes
-// behind them, break.
+// after them, break.
 fn records_up_to(bytes: &[u8], last: u8) -> Result<u8, usize>
     ensures reading { IsReadingOf (break_up_to last 1 bytes.now) (records_up_to last 1 bytes.now) result }
     ensures bound { IfErr result (λ at. at ≤ 255 * 65798 + 8) }

@@ -54,7 +54,7 @@ pub fn push_record(
     Ok(())
 }
 
-/// Adds the end marker of a track, and zeros behind it until there are `end` bytes; none where there are as many.
+/// Adds the end marker of a track, and zeros after it until there are `end` bytes; none where there are as many.
 ///
 /// The one error is want of memory, and on it nothing is added.
 pub fn push_end(bytes: &mut Vec<u8>, end: usize) -> Result<(), AllocError>
@@ -68,7 +68,7 @@ pub fn push_end(bytes: &mut Vec<u8>, end: usize) -> Result<(), AllocError>
     Ok(())
 }
 
-/// Records that are added one behind the other are a list of records: their bytes are those of the list, and they may
+/// Records that are added one after the other are a list of records: their bytes are those of the list, and they may
 /// stand on a track where each of them may.
 ///
 /// A record that `push_record` adds may stand on a track of any cylinder below 65,535.
@@ -79,7 +79,7 @@ pub fn written_records_law()
 {}
 
 /// What is written is read back: the front, records from R1 on and the end marker are a track with these records,
-/// whatever stands behind them. Up to one of its records, those up to it are read.
+/// whatever stands after them. Up to one of its records, those up to it are read.
 pub fn written_track_law()
     ensures track { (cylinder head : ℕ) (records : List Record) (rest : List ℕ) → AreRecords 1 records → IsTrack cylinder head records (track_bytes cylinder head records rest) }
     ensures whole { (cylinder head : ℕ) (records : List Record) (rest : List ℕ) → AreRecords 1 records → records_of cylinder head None (track_bytes cylinder head records rest) ≡ Some records }

@@ -41,7 +41,7 @@ module _ (g : Geometry) (kind : ℕ) (f : F1) (runs : List Run) (pointer : List 
   unfolding f1_with
   after_pointer = refl
 
-  -- the extents by the rows behind its own
+  -- the extents by the rows after its own
   rows_counted : (own rows : List (List ℕ)) → take count (f.runs ++ own) ≡ take count (f.runs ++ rows) → count + length runs ≤ 3 + length rows
       → take (count + length runs) (added_fields g kind count runs 0 f.runs ++ added_fields g kind count runs 3 rows) ≡ take count (f.runs ++ own) ++ added_extents g kind count runs
   rows_counted own rows same fits =

@@ -1,4 +1,4 @@
--- The fields of the DSCBs of a data set that gets extents: those that it had, and the added ones behind them.
+-- The fields of the DSCBs of a data set that gets extents: those that it had, and the added ones after them.
 use Rattle.std.proofs.Common.{◌≡◌, ◌+◌, ◌-◌, ◌≤◌, ◌<◌, ℕ, zero, suc, Bool, true, false, cond, List, [], ◌∷◌, ◌++◌, length, take, Option, refl, sym, ap, ap₂, ◌∙◌, arith}
 use Rattle.std.specs.Prelude.{nat_lt, slice_get}
 use Rattle.std.specs.Option.{option_map_or}
@@ -49,7 +49,7 @@ module _ (g : Geometry) (kind count : ℕ) (runs : List Run) where
   low_fields (suc n) first (x ∷ xs) low =
       ap₂ (λ (a : List ℕ) (l : List (List ℕ)). a ∷ l) (low_field first x (omega (arith, low))) (low_fields n (first + 1) xs (omega (arith, low)))
 
-  -- those behind them are the added extents
+  -- those after them are the added extents
   behind : (rs : List Run) (j k : ℕ) (xs : List (List ℕ)) → k ≡ count + j → ((i : ℕ) → slice_get runs (j + i) ≡ slice_get rs i) → length rs ≤ length xs → take (length rs) (added_fields g kind count runs k xs) ≡ added_extents g kind k rs
   behind [] j k xs is at fits = take_none (added_fields g kind count runs k xs)
   behind (r ∷ rs) j k [] is at fits = absurd (omega (arith, fits))
@@ -78,7 +78,7 @@ module _ (g : Geometry) (kind count : ℕ) (runs : List Run) where
       ∙ ap₂ (λ (a : List ℕ) (l : List (List ℕ)). a ∷ l) (low_field first x (omega (arith, is)))
       (fields_taken n (first + 1) xs (omega (arith, is)) (omega (arith, fits)))
 
-  -- fields that stand behind others, as far as the set had their extents
+  -- fields that stand after others, as far as the set had their extents
   pub behind_own : (n first : ℕ) (own xs : List (List ℕ)) → first + n ≤ count → take n (own ++ added_fields g kind count runs (first + length own) xs) ≡ take n (own ++ xs)
   behind_own n first [] xs low = low_fields n (first + 0) xs (omega (arith, low))
   behind_own zero first (o ∷ own) xs low = refl

@@ -75,7 +75,7 @@ between_run r some =
 pub none_between : (es : List Run) (low high : ℕ) → high ≤ low → cut_by es (between low high) ≡ []
 none_between es low high none = ap (cut_by es) (between_none low high none) ∙ cut_by_none es
 
--- a run without the tracks of an extent is what lies in front of it and what lies behind it
+-- a run without the tracks of an extent is what lies in front of it and what lies after it
 cut_between : (a b low high : ℕ) → low < high → cut_all a b (between low high) ≡ between low (min a high) ++ between (max low b) high
 cut_between a b low high some =
     let end : low + (high - low) ≡ high = omega arith in
@@ -120,7 +120,7 @@ first_some low rs i r there is apart =
 pub counted_none : (es : List Run) → length (cut_by es []) ≡ 0
 counted_none es = ap length (cut_by_none es)
 
--- the runs behind one lie behind its tracks
+-- the runs after one lie after its tracks
 pub rest_apart : (low count : ℕ) (rs : List Run) (i : ℕ) (r : Run) → i < length rs → r ≡ get_or rs i r → count ≤ r.len → AreApartFrom low (drop i rs) → AreApartFrom (low + count) (drop (i + 1) rs)
 rest_apart low count rs i r there is few apart =
     let both : AreApartFrom low (r ∷ drop (i + 1) rs) = subst (AreApartFrom low) (drop-here rs i r there is) apart in

@@ -26,7 +26,7 @@ last_block device i q track number =
     let r : q.r ≡ (directory_place device i).r = number ∙ by.1 in
     λ j. record { tt = tt j; r = r j }
 
--- the end-of-file record stands behind the last block, on its track or the next
+-- the end-of-file record stands after the last block, on its track or the next
 pub end_by : (device : DiskType) (n : ℕ) (last : Place) (earlier : List (ℕ × ℕ)) (b : Bool) → last ≡ directory_place device (n - 1) → earlier ≡ replicate last.r directory_lengths → b ≡ fits device earlier 0 0
     → cond b (record { tt = last.tt; r = last.r + 1 }) (record { tt = last.tt + 1; r = 1 }) ≡ directory_end device n
 unfolding directory_end

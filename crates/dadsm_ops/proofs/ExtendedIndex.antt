@@ -23,7 +23,7 @@ then_free u v w first second =
     ∙ ap (λ (x : Vol). record x { free = w.free }) first
     ∙ (λ i. record u { slots = sym (ap (λ (x : Vol). x.slots) second) i; free = w.free; buf = sym (ap (λ (x : Vol). x.buf) second) i })
 
--- one change behind another
+-- one change after another
 pub changes_then : (u v w : Vol) → HasNamesOf u v → HasNamesOf v w → HasNamesOf u w
 changes_then u v w first second = second ∙ ap (λ (x : Vol). record x { slots = w.slots; free = w.free; buf = w.buf }) first
 

@@ -30,7 +30,7 @@ use Rattle.vol_model.specs.Space.{is_in}
 use Rattle.vtoc_index.specs.Last.{lstar_of}
 use Rattle.dadsm_ops.specs.Formatting.{IsFormatted, contents_of}
 
--- LSTAR that says the place of the end-of-file record names no block behind it
+-- LSTAR that says the place of the end-of-file record names no block after it
 pub end_said : (p : Place) → p.tt < 65536 → p.r < 256 → is_before p (last_of (lstar_of p)) ≡ false
 end_said p low small =
     let tt_is : from_be_bytes w16 (slice_range (lstar_of p) 0 2) ≡ p.tt = from_be_bytes-to_be_bytes_2 p.tt low in
@@ -91,7 +91,7 @@ module _ (image : List ℕ) (g : Geometry) (vtoc : Run) (runs : List Run) (n : �
         holds = f.holds;
       }
 
-  -- It is a directory of so many blocks without entries, and no block stands behind it.
+  -- It is a directory of so many blocks without entries, and no block stands after it.
   pub formatted_body : part_body g tracks runs lstar ≡ Part n end [] []
   formatted_body = new_part g tracks runs lstar g.device n some last new_on
 

@@ -59,7 +59,7 @@ some_records device n k some low none = elim (eqb_tells (directory_end device n)
         let all : length (map new_block (new_numbers device n k)) ≡ length (new_numbers device n k) = length-map (new_numbers device n k) new_block in
         omega (arith, at.number, at.some, at.few, few, many, all, some, long ((directory_end device n).tt == k), ap length none)
 
--- ---- one track behind another
+-- ---- one track after another
 
 pub formats_none : {E : Type 0} (name : List ℕ) (g : Geometry) (runs : List Run) (n : ℕ) (m : Meaning (List File)) → Formats {T = Unit {0}} {E = E} name g runs n 0 m m (Ok tt)
 formats_none name g runs n m = record { keeps = λ before left. keeps_none (AreOn name g runs before) m left; tracks = λ k low. absurd (omega (arith, low)) }

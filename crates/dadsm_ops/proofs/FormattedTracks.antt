@@ -46,7 +46,7 @@ file_there files name g has = by (file_of files name) refl some
     by None is e = absurd (omega (arith, e))
     by (Some l) is e = is ∙ ap (λ (o : Option (List ℕ)). Some (unwrap_or o [])) (sym is)
 
--- A record is written behind those of a buffer.
+-- A record is written after those of a buffer.
 module _ (name : List ℕ) (b : Buffer) (key content : List ℕ) (old : Meaning (List File)) (here : old.left old.state) (has : HasGeometry (length (image_named old.state name)) b.geometry) (low : b.track < tracks_of b.geometry)
     (room : end_of b + (8 + length key + length content) + 8 ≤ b.geometry.track_size) where
   abbrev g : Geometry
@@ -98,7 +98,7 @@ module _ (name : List ℕ) (b : Buffer) (key content : List ℕ) (old : Meaning 
       by (Ok x) p f = f p
       by (Err e) p f = tt
 
--- ---- one write behind another
+-- ---- one write after another
 
 -- what failed, whatever error the caller makes of its own
 pub writes_not : {T E A B : Type 0} {name : List ℕ} {g : Geometry} {track : ℕ} {xs ys : List Record} {old new : Meaning (List File)} {result : Result T E} (answer : Result A B) → IsErr answer → WritesOn name g track xs old new result → WritesOn name g track ys old new answer
@@ -124,7 +124,7 @@ writes_done a w = record {
 pub writes_as : {T E : Type 0} {name : List ℕ} {g : Geometry} {track : ℕ} {old new : Meaning (List File)} {result : Result T E} (xs ys : List Record) → xs ≡ ys → WritesOn name g track xs old new result → WritesOn name g track ys old new result
 writes_as {name = name} {g = g} {track = track} {old = old} {new = new} {result = result} xs ys same w = subst (λ (zs : List Record). WritesOn name g track zs old new result) same w
 
--- more records behind those that are written
+-- more records after those that are written
 pub writes_then : {T E A B : Type 0} {name : List ℕ} {g : Geometry} {track : ℕ} {xs ys : List Record} {old mid new : Meaning (List File)} {x : T} {result : Result A B} → WritesOn {T = T} {E = E} name g track xs old mid (Ok x) → WritesOn name g track ys mid new result
     → WritesOn name g track ys old new result
 writes_then {A = A} {B = B} {name = name} {g = geometry} {track = track} {old = old} {mid = mid} {new = now} {result = result} one two = record {

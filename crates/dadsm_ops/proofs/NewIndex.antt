@@ -70,7 +70,7 @@ pub order_changed : (u v : Vol) → v ≡ record u { by_name = v.by_name } → H
 order_changed u v first =
     first ∙ (λ i. record u { slots = sym (ap (λ (x : Vol). x.slots) first) i; free = sym (ap (λ (x : Vol). x.free) first) i; by_name = v.by_name; buf = sym (ap (λ (x : Vol). x.buf) first) i })
 
--- one change behind another
+-- one change after another
 pub vtoc_then : (u v w : Vol) → HasVtocOf u v → HasVtocOf v w → HasVtocOf u w
 vtoc_then u v w first second =
     second ∙ ap (λ (x : Vol). record x { slots = w.slots; free = w.free; by_name = w.by_name; buf = w.buf }) first

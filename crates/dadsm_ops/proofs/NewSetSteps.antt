@@ -51,7 +51,7 @@ use Rattle.slot_laws.proofs.ChangedLists.{any_first}
 use Rattle.slot_laws.proofs.StandingPuts.{label_by, put_differs, put_marked, put_mounted, put_stands, slots_by}
 use Rattle.free_rebuild.proofs.DurableLemmas.{slot_put, slot_written}
 
--- a slot that can be put is there, open, and behind the first two
+-- a slot that can be put is there, open, and after the first two
 pub record IsOpenSlot (v : Vol) (slot : ℕ) : Type 0 where
   pub item : Dscb
   pub there : slice_get v.slots.items slot ≡ Some item

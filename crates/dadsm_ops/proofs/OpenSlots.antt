@@ -67,7 +67,7 @@ drop_none : {X : Type 0} (xs : List X) → drop 0 xs ≡ xs
 drop_none [] = refl
 drop_none (x ∷ xs) = refl
 
--- what stands behind the first two items
+-- what stands after the first two items
 pub get_behind : {X : Type 0} (xs : List X) (k : ℕ) → slice_get (drop 2 xs) k ≡ slice_get xs (2 + k)
 get_behind [] k = refl
 get_behind (x ∷ []) k = let e : 2 + k ≡ suc (suc k) = omega arith in sym (ap (slice_get (x ∷ [])) e)

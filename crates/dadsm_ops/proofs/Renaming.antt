@@ -79,7 +79,7 @@ module _ (name : List ℕ) (v v' : Vol) (old new : Dsn) (slot : ℕ) (x d : Dscb
   pub renames_not : {T X Y : Type 0} {result : Result X Y} → v' ≡ record v { slots = v'.slots; buf = v'.buf } → PutsDurably name v slot d v' m n result → Operates {T = T} name (rename_on old new) v' (InVtoc v') m n (Err Device)
   renames_not same put = operates_not name (rename_on old new) v v' (put_changes v v' same) m n _ mounted.volume put.after (leads put _ mounted.volume) put.step
 
--- behind the put the data set in the slot has its new name
+-- after the put the data set in the slot has its new name
 pub is_renamed : (v v' : Vol) (old new : Dsn) (slot : ℕ) (x d : Dscb) → IsToRename v.slots.items old.bytes new.bytes slot → x ≡ get_or v.slots.items slot x → d ≡ under_name new.bytes x → IsReplaced slot d v v' → IsRenamed slot v.slots.items v'.slots.items
 is_renamed v v' old new slot x d found read is replaced =
     let set = set_found old.bytes v.slots.items slot found.found in

@@ -1,4 +1,4 @@
--- The order of names of an index behind a rename, and what else the index says, which the order changes nothing of.
+-- The order of names of an index after a rename, and what else the index says, which the order changes nothing of.
 use Rattle.std.proofs.Common.{◌≡◌, ◌≢◌, ℕ, zero, suc, ◌<◌, true, false, List, [], ◌∷◌, length, Option, Some, None, refl, sym, ap, subst, ◌∙◌, arith}
 use Rattle.std.specs.Prelude.{Ok, is_some, option_and_then, slice_get, slice_set}
 use Rattle.std.specs.List.{AllByRecursion}
@@ -47,7 +47,7 @@ unit_reordered units v w same of =
     } in
     subst (IsOfUnit units) (sym same) there
 
--- what may differ in an index behind a put slot, and behind a new order too
+-- what may differ in an index after a put slot, and after a new order too
 pub put_changes : (v w : Vol) → w ≡ record v { slots = w.slots; buf = w.buf } → w ≡ record v { slots = w.slots; by_name = w.by_name; buf = w.buf }
 put_changes v w same =
     let order = ap (λ (x : Vol). x.by_name) same in

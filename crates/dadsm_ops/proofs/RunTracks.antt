@@ -7,7 +7,7 @@ use Rattle.std.proofs.Math.Seq.{drop-cons}
 use Rattle.pack_spec.specs.Blocks.{owned_tracks}
 use Rattle.vol_model.specs.declared.contents.Run.{Run}
 
--- so many tracks are left of the runs behind the first ones
+-- so many tracks are left of the runs after the first ones
 pub record AreLeft (runs : List Run) (k i left : ℕ) : Type 0 where
   pub same : slice_get (owned_tracks (drop i runs)) left ≡ slice_get (owned_tracks runs) k
   pub there : left < length (owned_tracks (drop i runs))

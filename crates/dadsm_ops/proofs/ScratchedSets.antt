@@ -89,7 +89,7 @@ catalog_without name sets = by_test (is_catalog name) refl
 
 -- ---- the data sets in the slots
 
--- The data sets in slots: those before one of them, it, and those behind it.
+-- The data sets in slots: those before one of them, it, and those after it.
 pub record IsAmong (g : Geometry) (tracks : List (List ℕ)) (slots without : List VtocSlot) (x : DataSet) : Type 0 where
   pub front : List DataSet
   pub back : List DataSet

@@ -20,7 +20,7 @@ use Rattle.pack_spec.proofs.PartBodies.{IsRead, part_end, part_is, part_read}
 abbrev some_blocks : Option (List Block) → List Block
 some_blocks o = unwrap_or o []
 
--- where no record of a track stands behind a place, the last of them doesn't
+-- where no record of a track stands after a place, the last of them doesn't
 last_before : (end : Place) (k r n : ℕ) (xs : List Record) → length xs ≡ suc n → behind_end end (blocks_from k r xs) ≡ [] → is_before end (record { tt = k; r = r + n }) ≡ false
 last_before end k r n [] long none = absurd (omega (arith, long))
 last_before end k r n (x ∷ xs) long none = by (is_before end (record { tt = k; r = r })) refl none (λ m more rest. last_before end k (r + 1) m xs more rest)
@@ -39,7 +39,7 @@ no_parts : {X : Type 0} (xs ys : List X) → xs ++ ys ≡ [] → (xs ≡ []) × 
 no_parts [] ys none = (refl, none)
 no_parts (x ∷ xs) ys none = absurd (cc)
 
--- where no block of the tracks stands behind a place, none of one track does
+-- where no block of the tracks stands after a place, none of one track does
 none_on : (end : Place) (at : ℕ → Option (List Block)) (n low k : ℕ) → low ≤ k → k < low + n → behind_end end (flat_map some_blocks (map at (range_with_len low n))) ≡ [] → behind_end end (some_blocks (at k)) ≡ []
 none_on end at zero low k least most none = absurd (omega (arith, least, most))
 none_on end at (suc n) low k least most none = by (eqb_tells low k) (λ l. none_on end at n (low + 1) k l (omega (arith, most)) parts.1)
@@ -98,7 +98,7 @@ module _ (g : Geometry) (tracks : List (List ℕ)) (extents : List Run) (lstar :
       both : (k r : ℕ) → r ≡ 0 → ((k == k) && (r == 0)) ≡ true
       both k r front = grind (arith, nat_tests)
 
-  -- and doesn't stand behind the directory's end
+  -- and doesn't stand after the directory's end
   not_behind : is_before end to ≡ false
   not_behind = by to.r refl
     where
@@ -120,7 +120,7 @@ module _ (g : Geometry) (tracks : List (List ℕ)) (extents : List Run) (lstar :
           cc
       by false front = ap (λ (b : Bool). cond b (last_of lstar) end) front
 
-  -- and its last block, by LSTAR, doesn't stand behind that
+  -- and its last block, by LSTAR, doesn't stand after that
   pub vacant_front : is_before end (last_of lstar) ≡ false
   vacant_front = by (is_before end (last_of lstar)) refl
     where

@@ -110,7 +110,7 @@ new_f1 name serial attr g kind runs pointer dir = record {
   pointer = pointer;
 }
 
--- the format 3 of a data set: its extents behind the first three
+-- the format 3 of a data set: its extents after the first three
 unfoldable pub new_f3 : Geometry → ℕ → List Run → F3
 new_f3 g kind runs = record {
   id = 0x03030303;

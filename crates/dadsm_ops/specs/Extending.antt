@@ -1,4 +1,4 @@
--- A data set that gets extents behind its own: what it gets, and its DSCBs then (System Control Blocks GC28-6628).
+-- A data set that gets extents after its own: what it gets, and its DSCBs then (System Control Blocks GC28-6628).
 use Rattle.std.specs.Prelude.{◌≡◌, ℕ, ◌+◌, ◌-◌, ◌/◌, ◌≤◌, ◌<◌, ◌==◌, ◌&&◌, nat_le, nat_lt, is_some, true, false, List, ◌++◌, length, map, replicate, slice_get, Option, Some, None, Ok, Err, if◌then◌else◌}
 use Rattle.std.specs.List.{enumerate_from}
 use Rattle.std.specs.Option.{option_map, option_map_or}
@@ -49,11 +49,11 @@ secondary_request attr = if attr.secondary == 0 then None
 abbrev pub added_type : Attr → ℕ
 added_type attr = if attr.scalo / 64 == 3 then 0x81 else 0x01
 
--- runs as extents behind so many
+-- runs as extents after so many
 abbrev pub added_extents : Geometry → ℕ → ℕ → List Run → List (List ℕ)
 added_extents g kind count runs = map (λ p. extent_bytes g kind p.0 p.1) (enumerate_from count runs)
 
--- the field for the extent of a number, where runs are added behind so many extents, and it was this
+-- the field for the extent of a number, where runs are added after so many extents, and it was this
 abbrev pub added_field : Geometry → ℕ → ℕ → List Run → ℕ → List ℕ → List ℕ
 added_field g kind count runs k field =
     if nat_lt k count then field else option_map_or (extent_bytes g kind k) (slice_get runs (k - count)) field

@@ -1,4 +1,4 @@
-//! The DSCBs of a data set that gets extents behind its own.
+//! The DSCBs of a data set that gets extents after its own.
 ghost use Rattle.std.specs.Prelude.{◌≡◌, ℕ, ◌+◌, ◌≤◌, List, length};
 ghost use Rattle.dadsm_ops.specs.Allocating.{AreExtents};
 ghost use Rattle.dadsm_ops.specs.Extending.{added_field, added_type, f1_with, f3_with, further_slots, secondary_request, secondary_unit};
@@ -82,7 +82,7 @@ pub(crate) fn further_slots(count: u8, extents: &Extents) -> u32
     }
 }
 
-// The field for the extent of a number, where these are added behind so many extents, and it was this.
+// The field for the extent of a number, where these are added after so many extents, and it was this.
 fn added_field(
     geometry: &Geometry,
     kind: u8,

@@ -48,7 +48,7 @@ fn last_block(device: DiskType, dir: u32) -> Place
     }
 }
 
-// The place of the end-of-file record behind a new directory of so many blocks.
+// The place of the end-of-file record after a new directory of so many blocks.
 pub(crate) fn directory_end(device: DiskType, dir: u32) -> Place
     requires some { 1 ≤ dir }
     requires most { dir ≤ 2000 }
@@ -81,7 +81,7 @@ pub(crate) fn lacks_room(device: DiskType, dir: u32, tracks: u32) -> bool
     dir > 0 && tracks <= u32::from(directory_end(device, dir).tt)
 }
 
-// Writes a record behind the last one of a buffer, which has all records of its track.
+// Writes a record after the last one of a buffer, which has all records of its track.
 fn put_record<H: Hall>(
     hall: &mut H,
     buf: &mut TrackBuf,

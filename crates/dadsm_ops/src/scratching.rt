@@ -86,7 +86,7 @@ fn forget_set(vol: &mut Vol, slot: u32, runs: &[Run])
     forget_name(vol, slot);
 }
 
-// The extents of the data set whose format 1 a slot holds; the places behind them have no track.
+// The extents of the data set whose format 1 a slot holds; the places after them have no track.
 fn runs_at(vol: &Vol, slot: u32) -> [Run; 16]
     requires unit { (units : List Attached) × IsOfUnit units vol.now }
     requires slot { slot < length vol.now.slots.items }
@@ -100,7 +100,7 @@ fn runs_at(vol: &Vol, slot: u32) -> [Run; 16]
     }
 }
 
-// The extents of a data set; the places behind them have no track.
+// The extents of a data set; the places after them have no track.
 fn runs_of(vol: &Vol, set: &F1) -> [Run; 16]
     requires unit { (units : List Attached) × IsOfUnit units vol.now }
     ensures { (image : List ℕ) → HasSet image vol.now set.now

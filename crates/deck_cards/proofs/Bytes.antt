@@ -19,7 +19,7 @@ no_fault card line h narrow =
     let same : prefix_len is_printable line ≡ length line = rw (sym (append-nil line)) (rw (append-nil line) (omega (arith, subst (λ l. prefix_len is_printable l ≡ length line + 0) (append-nil line) printable))) in
     grind (arith, nat_tests, same, narrow)
 
--- the fault of a byte behind printable columns
+-- the fault of a byte after printable columns
 byte_fault : (card : ℕ) (line : List ℕ) (b : ℕ) (more : List ℕ) → list_all is_printable line ≡ true → length line ≤ 80
     → (is_printable b ≡ false) ⊎ (length line ≡ 80) → line_fault card (line ++ b ∷ more) ≡ Some (fault card (length line))
 unfolding line_fault
@@ -61,7 +61,7 @@ fed_behind : (cards : List Card) (line : List ℕ) (returned : Bool) (rest : Lis
 fed_behind cards line true rest few h narrow = ap (cards_with cards) (lines_returned line rest h) ∙ card_more cards line (lines rest) few h narrow
 fed_behind cards line false rest few h narrow = ap (cards_with cards) (lines_fed line rest h) ∙ card_more cards line (lines rest) few h narrow
 
--- a byte behind the last card is one too many
+-- a byte after the last card is one too many
 pub full_behind : (cards : List Card) (line : List ℕ) (b : ℕ) (rest : List ℕ) → length cards ≡ 100000 → length line ≡ 0
     → cards_behind cards line false (b ∷ rest) ≡ Err Long
 full_behind cards [] b rest full e =
@@ -131,7 +131,7 @@ pub byte_refused : (e : DeckErr) (reader : Reader) (b : ℕ) → e ≡ fault (le
 byte_refused e reader b same fit few going no_feed no_return why =
     refuses_as e reader b same (byte_refuses reader b fit few going no_feed no_return why)
 
--- the end of input behind a carriage return
+-- the end of input after a carriage return
 pub end_refused : (e : DeckErr) (reader : Reader) → e ≡ fault (length reader.cards.items + 1) (length reader.line.items)
     → IsFit reader → length reader.cards.items < 100000 → reader.returned ≡ true → Refuses e (deck_of reader [] ≡ Err e) ⊥
 unfolding deck_of
@@ -149,14 +149,14 @@ last_behind cards (b ∷ bs) few some h narrow =
     ap (λ l. cards_with cards (lines l)) (append-nil (b ∷ bs)) ∙ ap (cards_with cards) (last_line b bs h)
     ∙ card_more cards (b ∷ bs) [] few h narrow
 
--- the end of input behind columns
+-- the end of input after columns
 pub line_ends : (reader : Reader) (cards : List Card) → IsFit reader → length reader.cards.items < 100000 → reader.returned ≡ false
     → 0 < length reader.line.items → cards ≡ reader.cards.items ++ card_of reader.line.items ∷ [] → deck_of reader [] ≡ Ok cards
 unfolding deck_of
 line_ends reader cards fit few going some same =
     rw going (rw same (last_behind reader.cards.items reader.line.items few some fit.printable fit.line))
 
--- the end of input behind whole cards
+-- the end of input after whole cards
 pub cards_end : (reader : Reader) → reader.returned ≡ false → length reader.line.items ≡ 0 → deck_of reader [] ≡ Ok reader.cards.items
 unfolding deck_of
 cards_end reader going none = rw going (rw (nil_from_length reader.line.items none) refl)

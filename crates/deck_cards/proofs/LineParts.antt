@@ -43,7 +43,7 @@ stripped_printable (b ∷ bs) h =
     let last = last_printable b bs h in
     grind (arith, nat_tests, last)
 
--- the byte behind others
+-- the byte after others
 last_byte : (line : List ℕ) (b : ℕ) → slice_index (line ++ b ∷ []) (length line) ≡ b
 last_byte [] b = refl
 last_byte (c ∷ cs) b = grind (arith, last_byte cs b)

@@ -15,7 +15,7 @@ is_printable b = nat_le 32 b && nat_le b 126
 abbrev pub card_of : List ℕ → Card
 card_of line = record { bytes = line ++ replicate (80 - length line) 32 }
 
--- the fault behind so many printable columns of a card
+-- the fault after so many printable columns of a card
 abbrev pub fault : ℕ → ℕ → DeckErr
 fault card columns = if columns == 80 then Wide card else Byte card (columns + 1)
 
@@ -40,7 +40,7 @@ cards_with cards (line ∷ others) =
 unfoldable pub deck : List ℕ → Result (List Card) DeckErr
 deck bytes = cards_with [] (lines bytes)
 
--- what cards and the columns of one more line, with a carriage return behind them, become with the bytes still to come
+-- what cards and the columns of one more line, with a carriage return after them, become with the bytes still to come
 abbrev pub cards_behind : List Card → List ℕ → Bool → List ℕ → Result (List Card) DeckErr
 cards_behind cards line returned rest = cards_with cards (lines (line ++ (if returned then 13 ∷ rest else rest)))
 

@@ -61,7 +61,7 @@ fn card_of(line: &[u8]) -> Card
     Card { bytes }
 }
 
-// The fault of a byte behind so many whole cards and columns of one more.
+// The fault of a byte after so many whole cards and columns of one more.
 fn fault(cards: usize, columns: usize) -> DeckErr
     requires cards { cards ≤ 100000 }
     requires columns { columns ≤ 80 }

@@ -1,4 +1,4 @@
--- Parts of bytes, copied one behind another: part i of xs has the bytes f (xs at i).
+-- Parts of bytes, copied one after another: part i of xs has the bytes f (xs at i).
 use Rattle.std.proofs.Common.{◌≡◌, ℕ, ◌+◌, ◌≤◌, ◌<◌, List, [], ◌∷◌, ◌++◌, map, length, take, drop, get_or, refl, arith, ap, sym, ◌∙◌, append_assoc, drop-cons}
 use Rattle.std.specs.List.{concat}
 use Rattle.std.proofs.Math.Numerals.{suc-eq-add-one}
@@ -10,7 +10,7 @@ split_at {X = X} f xs i d before below is =
     let parts : drop i xs ≡ get_or xs i d ∷ drop (i + 1) xs = drop-cons xs i d below ∙ ap (λ (j : ℕ). get_or xs i d ∷ drop j xs) (suc-eq-add-one i) in
     ap (λ (ys : List X). before ++ concat (map f ys)) (sym parts) ∙ is
 
--- a part that stands behind what is written fits where the whole does
+-- a part that stands after what is written fits where the whole does
 pub room : (out part rest whole : List ℕ) (at : ℕ) → at ≤ length out → take at out ++ (part ++ rest) ≡ whole → at + length part ≤ length whole
 room out part rest whole at within is =
     omega (arith, ap length is, length-append (take at out) (part ++ rest), length-append part rest, length-take-le at out within)

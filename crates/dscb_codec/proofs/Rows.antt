@@ -1,4 +1,4 @@
--- Rows that stand one behind another, cut and joined.
+-- Rows that stand one after another, cut and joined.
 use Rattle.std.proofs.Common.{◌≡◌, ℕ, zero, suc, ◌+◌, ◌*◌, ◌<◌, get_or, List, [], ◌∷◌, ◌++◌, length, take, drop, arith, ap, refl, sym, ◌∙◌}
 use Rattle.std.specs.List.{AllByRecursion, concat}
 use Rattle.std.specs.Simd.{first_chunks}

@@ -1,4 +1,4 @@
--- The fields of a DSCB in the order of their places, and bytes that have them one behind another.
+-- The fields of a DSCB in the order of their places, and bytes that have them one after another.
 use Rattle.std.proofs.Common.{◌≡◌, ℕ, ◌+◌, ◌-◌, ◌≤◌, ◌==◌, List, [], ◌∷◌, ◌++◌, Bool, true, false, ◌&&◌, map, length, take, drop, slice_range, refl, arith, ap, sym, ◌∙◌, append_assoc}
 use Rattle.std.specs.List.{AllByRecursion, concat}
 use Rattle.std.specs.Int.{w16, w32, to_be_bytes}
@@ -110,7 +110,7 @@ abbrev pub covers : ℕ → List Field → ℕ → Bool
 covers start [] end = start == end
 covers start (f ∷ fields) end = f.at == start && covers (start + f.len) fields end
 
--- the bytes of the fields, one behind another
+-- the bytes of the fields, one after another
 abbrev pub bytes_of : List Field → List ℕ
 bytes_of fields = concat (map (λ field. field.bytes) fields)
 
@@ -131,7 +131,7 @@ stands before part rest bytes at len here wide is =
     ∙ ap (λ (l : List ℕ). take (at + len - at) l) (drop_at before (part ++ rest) at here)
     ∙ take_at part rest (at + len - at) (omega arith)
 
--- bytes that are those of the fields, one behind another, have the fields
+-- bytes that are those of the fields, one after another, have the fields
 pub has_fields : (fields : List Field) (start end : ℕ) (before bytes : List ℕ) → covers start fields end ≡ true → HasWidths fields → length before ≡ start → bytes ≡ before ++ bytes_of fields → HasFields bytes fields
 has_fields [] start end before bytes covered wide here is = tt
 has_fields (f ∷ fields) start end before bytes covered wide here is =

@@ -22,7 +22,7 @@ fn word_bytes(number: u32) -> [u8; 4]
     number.to_be_bytes()
 }
 
-// Copies a part to its place and gives the offset behind it. Nothing is said of the bytes from there on: parts
+// Copies a part to its place and gives the offset after it. Nothing is said of the bytes from there on: parts
 // are copied from front to back, so these are still to come.
 fn copy_part(out: &mut [u8], from: usize, part: &[u8]) -> usize
     requires { from + length part.now ≤ length out.old }
@@ -59,7 +59,7 @@ fn flat<const N: usize, const M: usize, const T: usize>(rows: &[[u8; N]; M]) -> 
     out
 }
 
-// The bytes of the fields, one behind another.
+// The bytes of the fields, one after another.
 fn joined(parts: &[&[u8]]) -> [u8; 140]
     requires { length (concat (map (λ part. part.now) parts.now)) ≡ 140 }
     ensures { result ≡ concat (map (λ part. part.now) parts.now) }

@@ -9,7 +9,7 @@ mod encoding;
 pub use decoding::decode;
 pub use encoding::encode;
 
-// Where the format byte stands, behind the 44 bytes of the key.
+// Where the format byte stands, after the 44 bytes of the key.
 const FORMAT_AT: usize = 44;
 
 // The format bytes, the digits of the formats' numbers in EBCDIC.
@@ -90,7 +90,7 @@ pub struct F3 {
     pub id: u32,
     /// The four extents of the key, each in the form of those of format 1.
     pub front: [[u8; 10]; 4],
-    /// The nine extents behind the format byte.
+    /// The nine extents after the format byte.
     pub back: [[u8; 10]; 9],
     /// The address CCHHR of the next format 3 DSCB, or zeros.
     pub pointer: [u8; 5],
@@ -149,7 +149,7 @@ pub struct F5 {
     /// The eight entries of the key: each a relative track, whole cylinders (two bytes each) and further
     /// tracks (one); zeros are none.
     pub front: [[u8; 5]; 8],
-    /// The eighteen entries behind the format byte.
+    /// The eighteen entries after the format byte.
     pub back: [[u8; 5]; 18],
     /// The address CCHHR of the next format 5 DSCB, or zeros.
     pub pointer: [u8; 5],

@@ -1,4 +1,4 @@
--- A name and the blanks behind it.
+-- A name and the blanks after it.
 use Rattle.std.proofs.Common.{◌≡◌, ◌≢◌, ℕ, suc, ◌-◌, Bool, true, false, cond, eqb, List, [], ◌∷◌, ◌++◌, length, replicate, take, reverse, length-append, refl, sym, ap, ◌∙◌, arith}
 use Rattle.std.specs.Prelude.{◌&&◌}
 use Rattle.std.specs.List.{take_while}
@@ -24,7 +24,7 @@ front_cases P b bs blank more =
     let all : (v : Bool) → Q v = λ v. elim v as Q [ true ↦ blank | false ↦ more ] in
     all (are_blanks (b ∷ bs)) refl
 
--- bytes are a name and blanks alone behind it
+-- bytes are a name and blanks alone after it
 pub without_blanks-blanks : (bs : List ℕ) → bs ≡ without_blanks bs ++ replicate (length bs - length (without_blanks bs)) 64
 without_blanks-blanks [] = refl
 without_blanks-blanks (b ∷ bs) =
@@ -46,7 +46,7 @@ without_blanks-end (b ∷ bs) [] =
 without_blanks-end (b ∷ bs) (f ∷ front) =
     front_cases (λ w. w ≢ f ∷ (front ++ 64 ∷ [])) b bs (λ h e. cc) (λ h e. let rest : without_blanks bs ≡ front ++ 64 ∷ [] = cc in without_blanks-end bs front rest)
 
--- a blank behind other bytes
+-- a blank after other bytes
 same_blanks : (bs : List ℕ) → are_blanks (bs ++ 64 ∷ []) ≡ are_blanks bs
 same_blanks [] = refl
 same_blanks (b ∷ bs) = ap (λ (v : Bool). eqb b 64 && v) (same_blanks bs)
@@ -57,7 +57,7 @@ push_blank (b ∷ bs) =
     ap (λ (v : Bool). cond (eqb b 64 && v) [] (b ∷ without_blanks (bs ++ 64 ∷ []))) (same_blanks bs)
     ∙ ap (λ (w : List ℕ). cond (are_blanks (b ∷ bs)) [] (b ∷ w)) (push_blank bs)
 
--- another byte behind them
+-- another byte after them
 and_false : (v : Bool) → (v && false) ≡ false
 and_false true = refl
 and_false false = refl

@@ -33,7 +33,7 @@ rest_whole j k o ((c ∷ cs) ∷ ls) = refl
 not_zero : (i : ℕ) → i ≢ 0 → eqb i 0 ≡ false
 not_zero i n = grind arith
 
--- behind its first character a level isn't empty
+-- after its first character a level isn't empty
 level_rest_more : (j : NameForm) (k i o : ℕ) (l : List ℕ) → level_rest j k (i + 1) o l ≡ char_faults_from j k (i + 1) o l
 level_rest_more j k i o [] = ap (λ (b : Bool). cond b (BadLevel k ∷ []) []) (not_zero (i + 1) (λ e. omega (arith, e)))
 level_rest_more j k i o (c ∷ cs) = refl
@@ -87,21 +87,21 @@ period_parts j k i o c cs turn e =
     ∙ ap (λ (ls : List (List ℕ)). slice_get (rest_faults j k i o ls) 0) (cond-true (ends_level j c) ([] ∷ levels j (drop (o + 1) cs)) (onto_first c (levels j (drop (o + 1) cs))) e)
     ∙ ap (λ (p : ℕ). slice_get (cond (eqb i 0) (BadLevel k ∷ []) [] ++ levels_faults j (k + 1) (p + 1) (levels j (drop (o + 1) cs))) 0) (let same : o + 0 ≡ o = omega arith in same)
 
--- a period behind an empty level
+-- a period after an empty level
 pub at_empty : (j : NameForm) (k i o c : ℕ) (cs : List ℕ) → (o < length cs) × (c ≡ get_or cs o c) → ends_level j c ≡ true → i ≡ 0 → rest_fault j k i o (drop o cs) ≡ Some (BadLevel k)
 at_empty j k i o c cs turn e n =
     period_parts j k i o c cs turn e
     ∙ ap (λ (m : ℕ). slice_get (cond (eqb m 0) (BadLevel k ∷ []) [] ++ levels_faults j (k + 1) (o + 1) (levels j (drop (o + 1) cs))) 0) n
 
--- the end of the text behind an empty level
+-- the end of the text after an empty level
 pub at_end_empty : (j : NameForm) (k i o : ℕ) → i ≡ 0 → rest_fault j k i o [] ≡ Some (BadLevel k)
 at_end_empty j k i o n = ap (λ (m : ℕ). slice_get (cond (eqb m 0) (BadLevel k ∷ []) [] ++ []) 0) n
 
--- the end of the text behind a level
+-- the end of the text after a level
 pub at_end : (j : NameForm) (k i o : ℕ) → i ≢ 0 → rest_fault j k i o [] ≡ None
 at_end j k i o n = ap (λ (b : Bool). slice_get (cond b (BadLevel k ∷ []) [] ++ []) 0) (not_zero i n)
 
--- what is left behind a period
+-- what is left after a period
 pub after_period : (j : NameForm) (k i k' i' o c : ℕ) (cs : List ℕ) (fault : Option NameErr)
     → (o < length cs) × (c ≡ get_or cs o c) → ends_level j c ≡ true → i ≢ 0 → k' ≡ k + 1 → i' ≡ 0
     → rest_fault j k i o (drop o cs) ≡ fault → rest_fault j k' i' (o + 1) (drop (o + 1) cs) ≡ fault
@@ -111,7 +111,7 @@ after_period j k i k' i' o c cs fault turn e n level start before =
     ∙ sym (period_parts j k i o c cs turn e)
     ∙ before
 
--- what is left behind a character with no fault
+-- what is left after a character with no fault
 pub after_char : (j : NameForm) (k i k' i' o c : ℕ) (cs : List ℕ) (fault : Option NameErr)
     → (o < length cs) × (c ≡ get_or cs o c) → ends_level j c ≡ false → slice_get (char_faults j k i o c) 0 ≡ None → k' ≡ k → i' ≡ i + 1
     → rest_fault j k i o (drop o cs) ≡ fault → rest_fault j k' i' (o + 1) (drop (o + 1) cs) ≡ fault
@@ -175,7 +175,7 @@ serial_good o c cs h = ap (λ (b : Bool). slice_get (cond b [] (BadChar o ∷ []
 pub serial_next : (o : ℕ) (cs : List ℕ) (n c : ℕ) → (n < length cs) × (c ≡ get_or cs n c) → serial_rest o (drop n cs) ≡ serial_rest o (c ∷ drop (n + 1) cs)
 serial_next o cs n c h = at_drop_more (serial_rest o) cs n c h.0 ∙ ap (λ (x : ℕ). serial_rest o (x ∷ drop (n + 1) cs)) (sym h.1)
 
--- what is left behind a character that is allowed
+-- what is left after a character that is allowed
 pub after_serial_char : (cs ys : List ℕ) (c : ℕ) (fault : Option NameErr) → (length ys < length cs) × (c ≡ get_or cs (length ys) c) → serial_allows c ≡ true
     → serial_rest (length ys) (drop (length ys) cs) ≡ fault → serial_rest (length (ys ++ c ∷ [])) (drop (length (ys ++ c ∷ [])) cs) ≡ fault
 after_serial_char cs ys c fault turn good before =

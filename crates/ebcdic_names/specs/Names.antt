@@ -116,11 +116,11 @@ serial_of cs = unless_fault (serial_fault cs) (record { bytes = padded 6 cs })
 abbrev pub are_blanks : List ℕ → Bool
 are_blanks bs = list_all (λ b. b == 0x40) bs
 
--- the bytes without the blanks behind them: a byte stays where it or one behind it isn't a blank
+-- the bytes without the blanks after them: a byte stays where it or one after it isn't a blank
 abbrev pub without_blanks : List ℕ → List ℕ
 without_blanks [] = []
 without_blanks (b ∷ bs) = if are_blanks (b ∷ bs) then [] else b ∷ without_blanks bs
 
--- the characters of a name without the blanks behind them
+-- the characters of a name without the blanks after them
 unfoldable pub shown : List ℕ → List ℕ
 shown bs = map ascii_of (without_blanks bs)

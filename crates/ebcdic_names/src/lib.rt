@@ -67,8 +67,10 @@ pub fn code_page_law()
     ensures byte { (e : ℕ) → Contains code_page e → ebcdic_of (ascii_of e) ≡ Some e }
 {}
 
+mod lists;
 mod names;
 
+pub use lists::{Listed, Text};
 pub use names::{Dsn, Name8, NameErr, Serial, push_name_in_ascii, without_blanks};
 
 #[cfg(test)]

@@ -34,7 +34,7 @@ pub enum NameErr {
     BadChar(u8),
 }
 
-/// A data set name in EBCDIC. One that `read` gives is a name with blanks behind it; one from a pack has
+/// A data set name in EBCDIC. One that `read` gives is a name with blanks after it; one from a pack has
 /// the bytes that stand there. Names are ordered by their bytes.
 #[derive(Clone, Copy, Debug, PartialEq, Eq, PartialOrd, Ord)]
 pub struct Dsn {
@@ -43,7 +43,7 @@ pub struct Dsn {
 }
 
 /// A name of up to eight characters in EBCDIC, as of a member. One that `read` gives is a name with blanks
-/// behind it; one from a pack has the bytes that stand there. Names are ordered by their bytes.
+/// after it; one from a pack has the bytes that stand there. Names are ordered by their bytes.
 #[derive(Clone, Copy, Debug, PartialEq, Eq, PartialOrd, Ord)]
 pub struct Name8 {
     /// The eight bytes, as an entry of a partitioned set's directory has them (System Control
@@ -51,7 +51,7 @@ pub struct Name8 {
     pub bytes: [u8; 8],
 }
 
-/// A volume serial in EBCDIC. One that `read` gives is a serial with blanks behind it; one from a pack has
+/// A volume serial in EBCDIC. One that `read` gives is a serial with blanks after it; one from a pack has
 /// the bytes that stand there. Serials are ordered by their bytes.
 #[derive(Clone, Copy, Debug, PartialEq, Eq, PartialOrd, Ord)]
 pub struct Serial {
@@ -257,7 +257,7 @@ fn is_digit(c: char) -> bool
     '0' <= c && c <= '9'
 }
 
-// The EBCDIC bytes of a text with blanks behind them.
+// The EBCDIC bytes of a text with blanks after them.
 fn encode<const N: usize>(text: &str) -> [u8; N]
     requires { length (chars text.now) ≤ N }
     ensures { result ≡ padded N (chars text.now) }
@@ -305,7 +305,7 @@ impl fmt::Display for Serial {
     }
 }
 
-// Writes the characters of a name without the blanks behind them.
+// Writes the characters of a name without the blanks after them.
 fn write_characters<W: fmt::Write>(bytes: &[u8], f: &mut fmt::Formatter<W>) -> fmt::Result
     ensures { DisplaysOnOk W.write_str_gives f.old result (Some (shown bytes.now)) f.new }
 {
@@ -315,7 +315,7 @@ fn write_characters<W: fmt::Write>(bytes: &[u8], f: &mut fmt::Formatter<W>) -> f
     Ok(())
 }
 
-/// The bytes of a name without the blanks, X'40', behind them.
+/// The bytes of a name without the blanks, X'40', after them.
 ///
 /// Blanks before or between other bytes stay, and a name of blanks alone gives no bytes.
 pub fn without_blanks(bytes: &[u8]) -> &[u8]
@@ -326,7 +326,7 @@ pub fn without_blanks(bytes: &[u8]) -> &[u8]
     &bytes[..bytes.len() - trailing_blanks(bytes)]
 }
 
-/// Adds a name in ASCII as `Display` prints it: without the blanks, X'40', behind it.
+/// Adds a name in ASCII as `Display` prints it: without the blanks, X'40', after it.
 ///
 /// A name of blanks alone adds nothing. The one error is want of memory, and on it nothing is added.
 #[tactic(auto, unfolding(crate::specs::Names::shown))]

@@ -1,7 +1,7 @@
 use super::{Dsn, Name8, NameErr, Serial, push_name_in_ascii, to_ascii, to_ebcdic};
 use std::test::Fail;
 
-// The characters of the code page, each row behind the byte of its first character.
+// The characters of the code page, each row after the byte of its first character.
 const ROWS: [(u8, &[u8]); 16] = [
     (0x40, b" "),
     (0x4B, b".<(+|&"),

@@ -68,7 +68,7 @@ count_more p x xs = sum_by-cons (λ y. cond (p y) 1 0) x xs
 abbrev pub fives : List Dscb → ℕ
 fives ds = count_by is_five ds
 
--- no format 5 stands behind a slot
+-- no format 5 stands after a slot
 abbrev pub NoneBehind : List Dscb → ℕ → Type 0
 NoneBehind ds k = (j : ℕ) (d : Dscb) → k < j → slice_get ds j ≡ Some d → is_five d ≡ false
 
@@ -76,7 +76,7 @@ none_at_all : (ds : List Dscb) → ((j : ℕ) (d : Dscb) → slice_get ds j ≡ 
 none_at_all [] none = refl
 none_at_all (x ∷ ds) none = count_more is_five x ds ∙ ap (λ (t : Bool). cond t 1 0 + fives ds) (none 0 x refl) ∙ omega (arith, none_at_all ds (λ j d is. none (suc j) d is))
 
--- those up to a slot, where none stands behind
+-- those up to a slot, where none stands after
 fives_set : (ds : List Dscb) (k : ℕ) (x e : Dscb) → slice_get ds k ≡ Some x → is_five e ≡ true → NoneBehind ds k → fives (set ds k e) ≡ fives (take k ds) + 1
 fives_set [] k x e there five none = cc
 fives_set (y ∷ ds) zero x e there five none = count_more is_five e ds ∙ ap (λ (t : Bool). cond t 1 0 + fives ds) five ∙ omega (arith, none_at_all ds (λ j d is. none (suc j) d (omega arith) is))

@@ -107,7 +107,7 @@ pub next_alike : (ds es : List Dscb) (from : ℕ) → map is_open ds ≡ map is_
 next_alike ds es from same = ap (option_map (λ (i : ℕ). from + i)) (position_alike is_open is_open (drop from ds) (drop from es)
     (drop_map is_open from ds ∙ ap (drop from) same ∙ sym (drop_map is_open from es)))
 
--- the slot that is found is behind and open
+-- the slot that is found is after and open
 pub record Opened (ds : List Dscb) (from n : ℕ) : Type 0 where
   pub behind : from ≤ n
   pub there : Dscb

@@ -1,4 +1,4 @@
--- What clearing leaves: data sets and what they lead to, no format 5 behind slot 1, and no unused format 3.
+-- What clearing leaves: data sets and what they lead to, no format 5 after slot 1, and no unused format 3.
 use Rattle.std.proofs.Common.{◌≡◌, ◌≢◌, ◌+◌, ◌≤◌, ℕ, suc, Bool, true, false, cond, not, ◌||◌, ◌&&◌, List, [], ◌∷◌, length, Some, Ok, refl, sym, ap, ◌∙◌, ⊎_elim, arith}
 use Rattle.std.specs.Prelude.{nat_le, nat_lt, slice_get}
 use Rattle.std.proofs.Math.ListN.{set}

@@ -215,7 +215,7 @@ module _ (slots : List VtocSlot) (heads : ℕ) (runs : List Run) where
       chain_head slots k i ess (let many = entries_many heads runs in omega (arith, low, many))
       ∙ ap (λ (es : List (List ℕ)). option_map_or (λ (n : ℕ). is_chain slots n (drop (i + 1) ess)) (next_linked slots k es) false) (entries_at heads runs i (omega (arith, low)))
 
-  -- the rest of the chain is told by that behind the next slot
+  -- the rest of the chain is told by that after the next slot
   pub chain_goes : (k i n : ℕ) → i + 1 < dscbs_for (length runs) → next_linked slots k (entries_in heads runs i) ≡ Some n → is_chain slots n (drop (i + 1) (entries_of heads runs)) ≡ is_chain slots k (drop i (entries_of heads runs))
   chain_goes k i n low next = sym (linked k i low ∙ ap (λ (o : Option ℕ). option_map_or (λ (m : ℕ). is_chain slots m (drop (i + 1) ess)) o false) next)
 
@@ -286,7 +286,7 @@ held_not_linked v k entries free =
     let found : ℕ → Option ℕ = λ m. cond (leads_on (slots_held v) k entries m) (Some m) None in
     ap (option_and_then found) free
 
--- none is free behind the last slot
+-- none is free after the last slot
 pub none_past : (ds : List Dscb) (from : ℕ) → length ds ≤ from → next_open ds from ≡ None
 none_past ds from high = ap (λ (l : List Dscb). option_map (λ (i : ℕ). from + i) (position is_open l)) (drop_all from ds high)
 

@@ -54,7 +54,7 @@ none_pass : {X : Type 0} (p : X → Bool) (xs : List X) → ((k : ℕ) (x : X) �
 none_pass p [] none = refl
 none_pass p (x ∷ xs) none = count_more p x xs ∙ ap (λ (t : Bool). cond t 1 0 + count_by p xs) (none 0 x refl) ∙ omega (arith, none_pass p xs (λ k y is. none (suc k) y is))
 
--- one of format 4 at most, where none stands behind slot 0
+-- one of format 4 at most, where none stands after slot 0
 pub fours_few : (ds : List Dscb) → ((k : ℕ) (d : Dscb) → slice_get ds (suc k) ≡ Some d → is_f4 (Ok d) ≡ false) → fours ds ≤ 1
 fours_few [] none = omega arith
 fours_few (x ∷ ds) none =
@@ -62,7 +62,7 @@ fours_few (x ∷ ds) none =
     let one : (t : Bool) → cond t 1 0 ≤ 1 = λ t. elim t as (λ b. cond b 1 0 ≤ 1) [ true ↦ omega arith | false ↦ omega arith ] in
     omega (arith, count_more (λ d. is_f4 (Ok d)) x ds, rest, one (is_f4 (Ok x)))
 
--- open slots behind slot 1, where slot 0 isn't open and slot 1 is
+-- open slots after slot 1, where slot 0 isn't open and slot 1 is
 pub opens_behind : (ds : List Dscb) (a b : Dscb) → slice_get ds 0 ≡ Some a → is_open a ≡ false → slice_get ds 1 ≡ Some b → is_open b ≡ true → count_by is_open ds ≡ 1 + open_from ds 2
 opens_behind [] a b one closed two opened = cc
 opens_behind (x ∷ []) a b one closed two opened = cc

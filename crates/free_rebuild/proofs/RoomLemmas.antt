@@ -13,7 +13,7 @@ use Rattle.free_rebuild.proofs.ChainLemmas.{HasRoom}
 abbrev pub open_from : List Dscb → ℕ → ℕ
 open_from ds from = count_by is_open (drop from ds)
 
--- where the first open slot stands, and how many stand behind it
+-- where the first open slot stands, and how many stand after it
 record First (xs : List Dscb) : Type 0 where
   low : position_or_len is_open xs < length xs
   rest : count_by is_open (drop (suc (position_or_len is_open xs)) xs) + 1 ≡ count_by is_open xs
@@ -48,7 +48,7 @@ drop_both {X = X} (suc n) m [] = nothing m ∙ sym (nothing (suc n + m))
     nothing (suc k) = refl
 drop_both (suc n) m (x ∷ xs) = let e : suc (n + m) ≡ suc n + m = omega arith in drop_both n m xs ∙ ap (λ (k : ℕ). drop k (x ∷ xs)) e
 
--- so many DSCBs have room behind a slot
+-- so many DSCBs have room after a slot
 pub room_of : (ds : List Dscb) (k : ℕ) (ess : List (List (List ℕ))) → length ess ≤ 1 + open_from ds (k + 1) → HasRoom ds k ess
 room_of ds k [] many = tt
 room_of ds k (es ∷ []) many = tt

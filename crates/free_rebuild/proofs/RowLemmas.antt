@@ -4,7 +4,7 @@ use Rattle.std.proofs.Math.ListN.{set}
 use Rattle.std.proofs.lemmas.List.{take_all, take_more_set}
 use Rattle.std.specs.List.{range_with_len}
 
--- so many numbers, and so many behind them
+-- so many numbers, and so many after them
 pub range_split : (a n m : ℕ) → range_with_len a n ++ range_with_len (a + n) m ≡ range_with_len a (n + m)
 range_split a zero m =
     let e : a + 0 ≡ a = omega arith in

@@ -144,7 +144,7 @@ module _ (at : ℕ → List ℕ) (ds cleared final : List Dscb) (ess : List (Lis
   mid_first : slice_get mid 0 ≡ Some (formats.F4 is.first)
   mid_first = chained_front at cleared 1 0 ess is.room is.one cleared_second is.open_one (omega arith) ∙ cleared_first
 
-  -- what stands behind slot 1 after the clearing belongs to something
+  -- what stands after slot 1 after the clearing belongs to something
   kept_item : (k : ℕ) (d : Dscb) → 2 ≤ k → slice_get cleared k ≡ Some d → (d ≡ formats.F0) ⊎ ((slice_get ds k ≡ Some d) × (is_extra ds (at k) d ≡ false))
   kept_item k d two there =
       let low : k < length ds = let in_cleared = get_low cleared k d there in omega (arith, in_cleared, is.clears.size) in

@@ -17,7 +17,7 @@ is_open d = is_f5_or_f0 (Ok d)
 abbrev pub next_open : List Dscb → ℕ → Option ℕ
 next_open dscbs from = option_map (λ i. from + i) (position is_open (drop from dscbs))
 
--- the first open slot behind one, or that itself where there is none
+-- the first open slot after one, or that itself where there is none
 abbrev pub next_or : List Dscb → ℕ → ℕ
 next_or dscbs k = unwrap_or (next_open dscbs (k + 1)) k
 

@@ -28,7 +28,7 @@ is_extra_at address dscbs k = is_extra dscbs address (slice_index_or dscbs k for
 abbrev pub clear_at : List ℕ → List Dscb → ℕ → List Dscb
 clear_at address dscbs k = if is_extra_at address dscbs k then slice_set dscbs k formats.F0 else dscbs
 
--- slots behind slot 1 and before another are cleared where they hold what belongs to nothing; `at` gives the address of a slot
+-- slots after slot 1 and before another are cleared where they hold what belongs to nothing; `at` gives the address of a slot
 pub record AreCleared (at : ℕ → List ℕ) (upto : ℕ) (before after : List Dscb) : Type 0 where
   pub size : length after ≡ length before
   pub each : (k : ℕ) (d : Dscb) → slice_get before k ≡ Some d → slice_get after k

@@ -49,7 +49,7 @@ abbrev pub leads_on : List VtocSlot → ℕ → List (List ℕ) → ℕ → Bool
 leads_on slots k entries n = option_map_or (λ next. has_space slots k entries next.address)
     (slice_get slots n) false
 
--- the lowest free slot behind this one, where this one has these entries and leads to it
+-- the lowest free slot after this one, where this one has these entries and leads to it
 abbrev pub next_linked : List VtocSlot → ℕ → List (List ℕ) → Option ℕ
 next_linked slots k entries =
     option_and_then (λ n. if leads_on slots k entries n then Some n else None)

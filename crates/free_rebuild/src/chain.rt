@@ -99,7 +99,7 @@ fn link_at(vol: &Vol, slot: u32, number: usize, more: bool) -> Link
     }
 }
 
-// The first slot behind one that is free, or of format 5; that slot itself where there is none.
+// The first slot after one that is free, or of format 5; that slot itself where there is none.
 fn next_slot(vol: &Vol, slot: u32) -> u32
     requires few { length vol.now.slots.items ≤ 65535 }
     requires slot { slot < length vol.now.slots.items }

@@ -12,7 +12,7 @@ use dscb_codec::Dscb;
 use hall_core::{Device, Hall};
 use vtoc_index::{Vol, put_slot, slot_address};
 
-// Clears the slots behind slot 1 that belong to nothing: format 5 DSCBs, and each format 3 that no data set
+// Clears the slots after slot 1 that belong to nothing: format 5 DSCBs, and each format 3 that no data set
 // leads to. The writes are pending until a sync is done; a stop leaves any of them.
 pub(crate) fn clear_unused<H: Hall>(hall: &mut H, vol: &mut Vol) -> Result<(), Device>
     requires unit { IsOfUnit (H.facts hall.old).units vol.old }
@@ -34,7 +34,7 @@ pub(crate) fn clear_unused<H: Hall>(hall: &mut H, vol: &mut Vol) -> Result<(), D
     Ok(())
 }
 
-// Clears a slot behind slot 1, where it belongs to nothing.
+// Clears a slot after slot 1, where it belongs to nothing.
 fn clear_slot<H: Hall>(hall: &mut H, vol: &mut Vol, slot: u32) -> Result<(), Device>
     requires unit { IsOfUnit (H.facts hall.old).units vol.old }
     requires behind { 2 ≤ slot }

@@ -112,7 +112,7 @@ fn next_linked(vol: &Vol, slot: usize, number: usize) -> Option<usize>
     }
 }
 
-// The first slot behind one that is free, or of format 5.
+// The first slot after one that is free, or of format 5.
 fn next_free(vol: &Vol, slot: usize) -> Option<usize>
     requires few { length vol.now.slots.items ≤ 65535 }
     ensures next { result ≡ next_free (slots_held vol.now) (slot + 1) }

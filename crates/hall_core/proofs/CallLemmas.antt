@@ -19,7 +19,7 @@ only_nothing : (q r : List ℕ) → q ++ r ≡ [] → q ≡ []
 only_nothing [] r is = refl
 only_nothing (x ∷ q) r is = absurd (cc is)
 
--- a creation behind which nothing changed but the time
+-- a creation after which nothing changed but the time
 pub creates_nothing : (name : List ℕ) (len : ℕ) (old new : Meaning (List File)) (e : HallErr) → Same old new → (IsErrOf {T = ℕ} {E = HallErr} (Err e) Exists → (image : List ℕ) × (file_of old.state name ≡ Some image)) → ¬ IsErrOf {T = ℕ} {E = HallErr} (Err e) Memory → Creates name len old new (Err e)
 creates_nothing name len old new e same exists fine = record {
   fresh = tt;

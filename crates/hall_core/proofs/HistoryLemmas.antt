@@ -50,12 +50,12 @@ module _ (first : List File) (es : List Event) (e : Event) where
   during_since : (t : ℕ) (j : List File) (p : List ℕ) → t ≤ length es → LeftIn old bytes j p → MayLeaveSince first es' t j p
   during_since t j p le left = (length es, le, omega (arith, longer), of_at first es' (length es) old bytes j p here_disk here_print left)
 
-  -- a stop behind it
+  -- a stop after it
   behind_since : (t : ℕ) (j : List File) (p : List ℕ) → t ≤ length es → MayLeave (after old e) j → p ≡ (after old e).text → MayLeaveSince first es' t j p
   behind_since t j p le left is =
       now_since first es' t j p (omega (arith, longer)) (subst (λ (x : Disk). MayLeave x j) (sym next_disk) left) (is ∙ ap (λ (x : Disk). x.text) (sym next_disk))
 
-  -- a stop since an earlier moment leaves what one left before, or is in the event, or behind it
+  -- a stop since an earlier moment leaves what one left before, or is in the event, or after it
   since_more : (t : ℕ) (j : List File) (p : List ℕ) → t ≤ length es → MayLeaveSince first es' t j p → MayLeaveSince first es t j p ⊎ (LeftIn old bytes j p ⊎ (MayLeave (after old e) j × (p ≡ (after old e).text)))
   since_more t j p le (k, low, high, left) = ⊎_elim before (λ not_before. ⊎_elim (past not_before) (here not_before) (cases_lt (length es) k)) (cases_lt k (length es))
     where
@@ -91,7 +91,7 @@ module _ (first : List File) (es : List Event) (e : Event) where
           let now = since_now first es j p (length es, omega arith, omega arith, subst (λ (n : ℕ). MayLeaveAt first es n j p) same left) in
           during_since t j p le (now_in old bytes j p now)
 
-  -- time goes on by the event, where what has P is left in it or behind it, or was left before
+  -- time goes on by the event, where what has P is left in it or after it, or was left before
   pub elapses : (P : List File → List ℕ → Type 0)
       → ((j : List File) (p : List ℕ) → LeftIn old bytes j p → (MayLeave old j × (p ≡ old.text)) ⊎ P j p)
       → ((j : List File) (p : List ℕ) → MayLeave (after old e) j → p ≡ (after old e).text → (MayLeave old j × (p ≡ old.text)) ⊎ P j p)

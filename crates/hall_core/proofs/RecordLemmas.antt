@@ -117,7 +117,7 @@ units_grown shapes more (place ∷ places) firsts =
     ap (λ (u : Attached). u ∷ units_at (shapes ++ more) places) (get_or_append_left shapes more _ place (firsts 0 (omega arith)).inside)
     ∙ ap (λ (l : List Attached). unit_of shapes place ∷ l) (units_grown shapes more places (λ k low. firsts (suc k) (omega arith)))
 
--- the first file of its name stays so, where files come behind
+-- the first file of its name stays so, where files come after
 first_grown : (shapes more : List Attached) (place : ℕ) → IsFirst shapes place → IsFirst (shapes ++ more) place
 first_grown shapes more place first = record {
   inside = omega (arith, first.inside, length-append shapes more);

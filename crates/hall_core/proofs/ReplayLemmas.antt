@@ -93,7 +93,7 @@ disk_more : (first : List File) (units : List Attached) (pool text : List ℕ) (
 disk_more first units pool text steps s = ap (after_all (new_disk first)) (map-append (event_of units pool text) steps (s ∷ [])) ∙ after_all_more (new_disk first) (events_at units pool text steps) (event_of units pool text s)
 
 module _ (steps : List Step) (from : ℕ) (was : IsPendingFrom steps from) where
-  -- behind a step that is no sync
+  -- after a step that is no sync
   stays : (s : Step) → ((d : Disk) (units : List Attached) (pool text : List ℕ) → (after d (event_of units pool text s)).stable ≡ d.stable)
       → ((d : Disk) (units : List Attached) (pool text : List ℕ) → (after d (event_of units pool text s)).pending ≡ d.pending ++ changes_at units pool (s ∷ []))
       → IsPendingFrom (steps ++ s ∷ []) from
@@ -107,7 +107,7 @@ module _ (steps : List Step) (from : ℕ) (was : IsPendingFrom steps from) where
         ∙ ap (λ (l : List Step). with_changes first (done_of (changes_at units pool l))) (sym (take-append-le from steps (s ∷ []) was.within));
   }
 
-  -- behind a sync
+  -- after a sync
   past_sync : IsPendingFrom (steps ++ Sync ∷ []) (length steps + 1)
   past_sync =
       let size : length (steps ++ Sync ∷ []) ≡ length steps + 1 = length-append steps (Sync ∷ []) in
@@ -184,7 +184,7 @@ text_step text steps i s out out' low is so_far now =
 pub step_read : (steps : List Step) (i : ℕ) (d : Step) → i < length steps → get_or steps i d ≡ get_or steps i Pass
 step_read steps i d low = get_or_default steps i d Pass low
 
--- behind the last step nothing is left
+-- after the last step nothing is left
 pub none_left : (units : List Attached) (pool : List ℕ) (steps : List Step) (flags : List Bool) (files : List File) (i : ℕ) → length steps ≤ i → with_changes files (kept flags (changes_at units pool (drop i steps))) ≡ files
 none_left units pool [] flags files zero le = refl
 none_left units pool [] flags files (suc i) le = refl
@@ -251,7 +251,7 @@ printed_within units pool text steps within k low = (within k low).from_text
 
 -- what is made again of the first files of a hall, from lists that are those of the hall
 module _ (hall : MemHall) (moment last from : ℕ) (keep : List Bool) (files : List File) (out : List ℕ) (is : last ≡ min (length hall.steps.items) moment) where
-  -- the first files with the changes before the place that were done, and over them with those behind it that are kept
+  -- the first files with the changes before the place that were done, and over them with those after it that are kept
   abbrev made_of : List File → List Attached → List ℕ → List Step → List File
   made_of copied units pool steps = with_changes (with_changes copied (done_of (changes_at units pool (take from steps)))) (kept keep (changes_at units pool (drop from steps)))
 

@@ -29,7 +29,7 @@ pub record Attaches (name : List ℕ) (old new : Meaning (List File)) (result : 
 abbrev pub zeros_named : List ℕ → ℕ → File
 zeros_named name len = record { name = name; bytes = replicate len 0 }
 
--- the files, and one of this name behind them, of so many zero bytes
+-- the files, and one of this name after them, of so many zero bytes
 abbrev pub created : List File → List ℕ → ℕ → List File
 created files name len = files ++ zeros_named name len ∷ []
 
@@ -42,7 +42,7 @@ pub record LeavesPartlyCreated (name : List ℕ) (len : ℕ) (old new : Meaning 
   pub only : (j : List File) → new.left j → (d : List File) × old.left d × IsPartlyCreated name len d j
   pub each : (d : List File) → old.left d → (j : List File) × new.left j × IsPartlyCreated name len d j
 
--- A creation makes the file behind the others, durably, where none has its name; where one has it nothing changes but the time.
+-- A creation makes the file after the others, durably, where none has its name; where one has it nothing changes but the time.
 pub record Creates (name : List ℕ) (len : ℕ) (old new : Meaning (List File)) (result : Result ℕ HallErr) : Type 0 where
   pub fresh : OnOk result (file_of old.state name ≡ None)
   pub state : OnOk result (new.state ≡ created old.state name len)

@@ -169,7 +169,7 @@ prints_at text (Pass ∷ steps) = prints_at text steps
 abbrev pub disk_after : List File → List Attached → List ℕ → List ℕ → List Step → Disk
 disk_after first units pool text steps = after_all (new_disk first) (events_at units pool text steps)
 
--- the place from which on changes are pending behind the i-th step, where it was this place before it
+-- the place from which on changes are pending after the i-th step, where it was this place before it
 abbrev pub pending_place : Step → ℕ → ℕ → ℕ
 pending_place Sync i from = i + 1
 pending_place (Write unit at start len is_done) i from = from

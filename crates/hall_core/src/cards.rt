@@ -25,7 +25,7 @@ pub trait Cards {
     /// the end. It may be less than what fits, also before the end.
     ///
     /// The count of faults rises where a fault comes, and only there, and what is to come is then
-    /// as before. After a fault the buffer may hold anything, and so may its bytes behind those that
+    /// as before. After a fault the buffer may hold anything, and so may its bytes after those that
     /// were given.
     fn read(&mut self, buf: &mut [u8]) -> Result<usize, ReadFault>
         requires { 0 < length buf.old }

@@ -174,7 +174,7 @@ impl MemHall {
     /// What a stop leaves at a moment: before the call of this number, counted from 0. The i-th
     /// flag says whether the i-th write that is pending then is kept; a write without a flag isn't.
     ///
-    /// From the number behind the last call on it is what a stop leaves now. Fails only for want of
+    /// From the number after the last call on it is what a stop leaves now. Fails only for want of
     /// memory.
     pub fn left_at(&self, moment: u64, keep: &[bool]) -> Result<Left, AllocError>
         ensures files { IfOk result (λ left. files_of left.files.items

@@ -89,7 +89,7 @@ mod tests {
         }
     }
 
-    // Nor is it passed over behind bytes that don't fill the buffer.
+    // Nor is it passed over after bytes that don't fill the buffer.
     #[test]
     fn a_failed_read_is_not_tried_again(rt: HostRuntime) {
         let mut cards = StdCards::new(Interrupted {

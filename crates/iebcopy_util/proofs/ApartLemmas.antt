@@ -19,7 +19,8 @@ use Rattle.iebcopy_util.specs.declared.sets.Input.{Input}
 use Rattle.iebcopy_util.specs.declared.tasks.Source.{Source}
 use Rattle.iebcopy_util.specs.declared.tasks.Task.{Task}
 use Rattle.iebcopy_util.specs.Items.{tasks_if}
-use Rattle.iebcopy_util.specs.Sets.{entries_of, is_among, is_same, library}
+use Rattle.record_files.specs.Members.{entries_of}
+use Rattle.iebcopy_util.specs.Sets.{is_among, is_same, library}
 use Rattle.iebcopy_util.specs.Tasks.{is_name, is_taken, on_library, source_for, task, tasks_of, wanted, with_source}
 use Rattle.iebcopy_util.proofs.TaskLemmas.{all_append}
 

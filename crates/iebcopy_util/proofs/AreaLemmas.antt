@@ -82,7 +82,7 @@ module _ {tells : Bool} {from : SetRef} {bs member : List Block} {w0 w : OpenWri
   pub puts_there : {left : List Place} → Puts tells from bs member left w0 w to0 to old now n m → source old.state from ≡ Ok bs → source now.state from ≡ Ok bs
   puts_there so is = ap readable (so.kept.bodies from.v from.dsn.bytes) ∙ is
 
--- The next block is that at this place, and those behind it are left.
+-- The next block is that at this place, and those after it are left.
 pub record PutsNext (tells : Bool) (from : SetRef) (bs member : List Block) (p : Place) (behind : List Place) (w0 w : OpenWriter) (to0 to : List Place) (old now : Meaning Shelf) (n m : ℕ) : Type 0 where
   pub block : Block
   pub more : List Block

@@ -1,8 +1,7 @@
 -- A member is copied, case by case.
 use Rattle.std.proofs.Common.{◌≡◌, ℕ, Bool, true, false, not, List, refl, sym, ◌∙◌, ap, subst}
-use Rattle.std.specs.Prelude.{Option, Some, None, Result, Ok, Err, IsErr, if◌then◌else◌}
+use Rattle.std.specs.Prelude.{Option, Some, None, Result, Ok, Err, IsErr, IsErrAnd, IsTrue, if◌then◌else◌}
 use Rattle.std.specs.List.{list_all}
-use Rattle.stop_model.specs.Moments.{Meaning}
 use Rattle.vol_model.specs.declared.answers.Stop.{Stop}
 use Rattle.vol_model.specs.declared.contents.Block.{Block}
 use Rattle.vol_model.specs.declared.contents.DataSet.{DataSet}
@@ -15,26 +14,30 @@ use Rattle.vol_model.specs.declared.requests.Op.TheVariants.{Empty}
 use Rattle.vol_model.specs.Did.{Did, answered, because, with_reason}
 use Rattle.vol_model.specs.Events.{after_operations, behind}
 use Rattle.vol_model.specs.Reading.{member}
-use Rattle.vol_model.specs.Runs.{Works}
+use Rattle.vol_model.specs.declared.machine.Machine.{Ghosts}
 use Rattle.vol_model.specs.Shelf.{blocks_of, step}
 use Rattle.vol_model.specs.Writing.{body_on, by_step, did_apply}
-use Rattle.vol_model.proofs.Working.{done_state, has_done, works_ends, works_stops, works_then}
-use Rattle.util_steps.specs.declared.calls.Fault.TheVariants.{Refused}
+use Rattle.vol_model.proofs.Working.{done_state, has_done}
+use Rattle.util_steps.specs.declared.calls.Fault.{Fault}
+use Rattle.util_steps.specs.declared.calls.Fault.TheVariants.{BadRecord, Refused}
 use Rattle.util_steps.specs.declared.calls.SetRef.{SetRef}
 use Rattle.util_steps.specs.Copying.{has_data, source}
 use Rattle.util_steps.specs.Steps.{AreApart}
+use Rattle.util_steps.specs.Taking.{Takes}
 use Rattle.util_steps.proofs.Ending.{source_kept}
 use Rattle.util_syntax.specs.declared.listing.Outcome.{Outcome}
 use Rattle.util_syntax.specs.declared.listing.Outcome.TheVariants as outcome
+use Rattle.util_program.specs.Outcomes.{outcome_for, performed}
 use Rattle.iebcopy_util.specs.declared.copying.Copy.{Copy}
 use Rattle.iebcopy_util.specs.declared.copying.Found.{Found}
 use Rattle.iebcopy_util.specs.declared.tasks.Task.{Task}
 use Rattle.iebcopy_util.specs.declared.walking.Walk.{Walk}
-use Rattle.iebcopy_util.specs.Copying.{can_move, copied, copied_again, copied_anew, copied_from, copied_if, copied_or_again, copy_before, first_refusal, found_of, member_copied, outcome_for, performed, places, readied, unless_refused, written}
+use Rattle.iebcopy_util.specs.Copying.{can_move, copied, copied_again, copied_anew, copied_from, copied_if, copied_or_again, copy_before, first_refusal, found_of, member_copied, places, readied, unless_refused, written}
 use Rattle.iebcopy_util.specs.Sets.{library}
-use Rattle.iebcopy_util.specs.Steps.{HasPart, IsClosed}
-use Rattle.iebcopy_util.proofs.KeepLemmas.{IsReadable, emptied_readable, read_all}
-use Rattle.iebcopy_util.proofs.WholeLemmas.{part_then}
+use Rattle.iebcopy_util.specs.Steps.{HasWalked, IsClosed, IsRead, LooksAt, TakesWhole, Tells}
+use Rattle.record_files.proofs.KeepLemmas.{IsReadable}
+use Rattle.iebcopy_util.proofs.KeepLemmas.{emptied_readable}
+use Rattle.iebcopy_util.proofs.WholeLemmas.{performed_closed, whole_as, whole_ends, whole_stops, whole_then}
 
 -- ---- a blank output
 
@@ -47,18 +50,6 @@ performed_step s op x is = by_result (step s op) refl is
     by_result (Ok after) at is = ap Ok (sym (ap (behind s) at))
     by_result (Err r) at is = let never : ⊥ = cc in absurd never
 
-performed_closed : (s : Shelf) (out : SetRef) (t : Task) → IsClosed (performed s (Empty out.v out.dsn t.source.given)).operations
-unfolding did_apply with_reason
-performed_closed s out t = by_result (step s (Empty out.v out.dsn t.source.given))
-  where
-    by_result : (q : Result Shelf Refusal) → IsClosed (by_step (Empty out.v out.dsn t.source.given) q).operations
-    by_result (Ok after) = refl
-    by_result (Err r) = tt
-
-readied_closed : (s : Shelf) (out : SetRef) (t : Task) (blank : Bool) → IsClosed (readied s out t blank).operations
-readied_closed s out t true = performed_closed s out t
-readied_closed s out t false = tt
-
 -- the input stays
 readied_keeps : (s : Shelf) (out from : SetRef) (t : Task) (blank : Bool) (x : Unit {0}) → AreApart out from → Ok x ≡ (readied s out t blank).answer → source (after_operations s (readied s out t blank).operations) from ≡ source s from
 readied_keeps s out from t true x apart is = source_kept s (after_operations s (readied s out t true).operations) from out t.source.given apart (performed_step s (Empty out.v out.dsn t.source.given) x is)
@@ -69,35 +60,49 @@ readied_reads : (s : Shelf) (out : SetRef) (t : Task) (blank : Bool) (x : Unit {
 readied_reads s out t true x is read = emptied_readable s (after_operations s (readied s out t true).operations) out.v out.dsn t.source.given out.v out.dsn.bytes (performed_step s (Empty out.v out.dsn t.source.given) x is) read
 readied_reads s out t false x is read = read
 
--- ---- made ready, and written
+module _ {X : Type 0} (g : Ghosts X) (out : SetRef) (t : Task) (blank : Bool) where
+  abbrev first : Shelf → Did (Unit {0}) Outcome
+  first s = readied s out t blank
 
-module _ (out : SetRef) (t : Task) (blank : Bool) (bs : List Block) {tells : Bool} {old mid : Meaning Shelf} {n k : ℕ} where
-  pub copied_stopped : (q : Result (Result (Unit {0}) Outcome) Stop) (r : Result (Result (Option Copy) Outcome) Stop) → IsErr r → Works tells (readied old.state out t blank) old mid n k q → Works tells (copied old.state out t blank bs) old mid n k r
-  unfolding copied
-  copied_stopped q r failed works = works_stops (readied old.state out t blank) (λ (x : Unit {0}) (u : Shelf). written u out t bs) q r failed works
+  readied_closed : (s : Shelf) → IsClosed (first s).operations
+  readied_closed s = by_blank blank
+    where
+      by_blank : (b : Bool) → IsClosed (readied s out t b).operations
+      by_blank true = performed_closed s (Empty out.v out.dsn t.source.given) refl
+      by_blank false = tt
 
-  pub copied_refused : (e : Outcome) → Works tells (readied old.state out t blank) old mid n k (Ok (Err e)) → Works tells (copied old.state out t blank bs) old mid n k (Ok (Err e))
-  unfolding copied
-  copied_refused e works = works_ends (readied old.state out t blank) (λ (x : Unit {0}) (u : Shelf). written u out t bs) e works
+  module _ {old mid : X} (x : Unit {0}) (one : Takes g first old mid (Ok (Ok x))) (told : IsTrue g.tells) where
+    ready_state : (g.meaning mid).state ≡ after_operations (g.meaning old).state (first (g.meaning old).state).operations
+    ready_state = done_state (has_done (one.works told))
 
-  module _ (x : Unit {0}) (works : Works tells (readied old.state out t blank) old mid n k (Ok (Ok x))) where
-    pub copied_all : {new : Meaning Shelf} {m : ℕ} (r : Result (Result (Option Copy) Outcome) Stop) → Works tells (written mid.state out t bs) mid new k m r → Works tells (copied old.state out t blank bs) old new n m r
+    -- the input stays
+    pub ready_input : (from : SetRef) → AreApart out from → source (g.meaning mid).state from ≡ source (g.meaning old).state from
+    ready_input from apart = ap (λ (u : Shelf). source u from) ready_state ∙ readied_keeps (g.meaning old).state out from t blank x apart (one.works told).answer
+
+    -- and the output can be read
+    pub ready_output : IsRead (g.meaning old).state out → IsRead (g.meaning mid).state out
+    ready_output read = subst (λ (u : Shelf). IsRead u out) (sym ready_state) (readied_reads (g.meaning old).state out t blank x (one.works told).answer read)
+
+  -- ---- made ready, and written
+
+  abbrev more : List Block → Unit {0} → Shelf → Did (Option Copy) Outcome
+  more bs x u = written u out t bs
+
+  module _ (blocks : Shelf → List Block) {old : X} where
+    pub copied_stops : {new : X} {e : Stop} (q : Result (Result (Option Copy) Outcome) Stop) → IsErr q × IsErrAnd q (λ f. f ≡ e) → TakesWhole g first old new (Err e) → TakesWhole g (λ s. copied s out t blank (blocks s)) old new q
     unfolding copied
-    copied_all r second = works_then (readied old.state out t blank) (λ (x : Unit {0}) (u : Shelf). written u out t bs) x r works second
+    copied_stops q same one = whole_as g (λ told. refl) (whole_stops g first (more (blocks (g.meaning old).state)) q same one)
 
-    pub ready_input : (from : SetRef) (is : List Block) → AreApart out from → source old.state from ≡ Ok is → source mid.state from ≡ Ok is
-    ready_input from is apart there = ap (λ (u : Shelf). source u from) (done_state (has_done works)) ∙ readied_keeps old.state out from t blank x apart works.answer ∙ there
-
-    pub ready_output : (obs : List Block) → source old.state out ≡ Ok obs → source mid.state out ≡ Ok (blocks_of (body_on mid.state out.v out.dsn.bytes))
-    ready_output obs there =
-        subst (λ (u : Shelf). IsReadable (body_on u out.v out.dsn.bytes)) (sym (done_state (has_done works)))
-        (readied_reads old.state out t blank x works.answer (read_all (body_on old.state out.v out.dsn.bytes) obs there))
-
-    pub copied_part : (u : Shelf) → HasPart (written mid.state out t bs).operations mid.state u → HasPart (copied old.state out t blank bs).operations old.state u
+    pub copied_ends : {new : X} {e : Outcome} → Takes g first old new (Ok (Err e)) → TakesWhole g (λ s. copied s out t blank (blocks s)) old new (Ok (Err e))
     unfolding copied
-    copied_part u part =
-        part_then old.state u (readied old.state out t blank) (λ (y : Unit {0}) (v : Shelf). written v out t bs) x works.answer (readied_closed old.state out t blank)
-        (subst (λ (v : Shelf). HasPart (written v out t bs).operations v u) (done_state (has_done works)) part)
+    copied_ends one = whole_as g (λ told. refl) (whole_ends g first (more (blocks (g.meaning old).state)) one)
+
+    pub copied_then : {mid new : X} (x : Unit {0}) {r : Result (Result (Option Copy) Outcome) Stop} → Takes g first old mid (Ok (Ok x)) → (IsTrue g.tells → blocks (g.meaning mid).state ≡ blocks (g.meaning old).state)
+        → TakesWhole g (λ u. written u out t (blocks u)) mid new r → TakesWhole g (λ s. copied s out t blank (blocks s)) old new r
+    unfolding copied
+    copied_then {mid = mid} x one same two =
+        whole_as g (λ told. refl)
+        (whole_then g first (more (blocks (g.meaning old).state)) (λ told. readied_closed (g.meaning old).state) one (whole_as g (λ told. ap (written (g.meaning mid).state out t) (sym (same told))) two))
 
 -- ---- walked first
 
@@ -108,27 +113,21 @@ pub record WalkTold (src : Result (List Block) ℕ) (place : Place) (walk : Walk
   pub at : walk.places.items ≡ places (member all_blocks place)
   pub data_is : walk.has_data ≡ list_all has_data (member all_blocks place)
 
-abbrev pub Answer : Type 0
-Answer = Result Walk Refusal
-
 -- what a walk answers of an input
-abbrev pub Walked : Result (List Block) ℕ → Place → Answer → Type 0
-Walked src place answer = (bs : List Block) → src ≡ Ok bs → (walk : Walk) × (answer ≡ Ok walk) × (walk.places.items ≡ places (member bs place)) × (walk.has_data ≡ list_all has_data (member bs place))
+abbrev pub Walked : Result (List Block) ℕ → Place → Result Walk Fault → Type 0
+Walked src place answer = Tells src (λ bs a. HasWalked (member bs place) a) answer
 
-abbrev pub Unwalked : Result (List Block) ℕ → Answer → Type 0
-Unwalked src answer = (track : ℕ) → src ≡ Err track → answer ≡ Err (Unreadable track)
-
-pub walk_told : (src : Result (List Block) ℕ) (place : Place) (walk : Walk) → Walked src place (Ok walk) → Unwalked src (Ok walk) → WalkTold src place walk
-walk_told (Ok bs) place walk told refused =
-    let so = told bs refl in
+pub walk_told : (src : Result (List Block) ℕ) (place : Place) (walk : Walk) → Walked src place (Ok walk) → WalkTold src place walk
+walk_told (Ok bs) place walk tells =
+    let so = tells.blocks bs refl in
     let same : so.0 ≡ walk = cc in
     record { all_blocks = bs; is = refl; at = ap (λ (w : Walk). w.places.items) (sym same) ∙ so.2; data_is = ap (λ (w : Walk). w.has_data) (sym same) ∙ so.3 }
-walk_told (Err track) place walk told refused = let no = refused track refl in let never : ⊥ = cc in absurd never
+walk_told (Err track) place walk tells = let no = tells.unreadable track refl in let never : ⊥ = cc in absurd never
 
 -- an input that can't be read
-pub walk_refused : (s : Shelf) (out : SetRef) (t : Task) (blank : Bool) (src : Result (List Block) ℕ) (place : Place) (r : Refusal) → Walked src place (Err r) → Unwalked src (Err r) → copied_from s out t blank src ≡ answered (Err (outcome.Refused r))
-walk_refused s out t blank (Ok bs) place r told refused = let no = (told bs refl).1 in let never : ⊥ = cc in absurd never
-walk_refused s out t blank (Err track) place r told refused = let same = refused track refl in let is : r ≡ Unreadable track = cc in ap (λ (q : Refusal). answered (Err (outcome.Refused q))) (sym is)
+pub walk_refused : (s : Shelf) (out : SetRef) (t : Task) (blank : Bool) (src : Result (List Block) ℕ) (place : Place) (f : Fault) → Walked src place (Err f) → copied_from s out t blank src ≡ answered (Err (outcome_for f))
+walk_refused s out t blank (Ok bs) place f tells = let no = (tells.blocks bs refl).1 in let never : ⊥ = cc in absurd never
+walk_refused s out t blank (Err track) place f tells = let same = tells.unreadable track refl in let is : f ≡ Refused (Unreadable track) = cc in ap (λ (q : Fault). answered (Err (outcome_for q))) (sym is)
 
 module _ (s : Shelf) (out : SetRef) (t : Task) (blank : Bool) (walk : Walk) (src : Result (List Block) ℕ) (so : WalkTold src t.entry.place walk) where
   abbrev bs : List Block
@@ -161,9 +160,10 @@ module _ (s : Shelf) (out : SetRef) (t : Task) (blank : Bool) (walk : Walk) (src
 -- ---- a member
 
 module _ (s : Shelf) (out : SetRef) (copies : List Copy) (t : Task) where
-  pub member_none : (r : Refusal) → library s out ≡ Err r → member_copied s out copies t ≡ answered (Err (outcome.Refused r))
+  pub member_none : (f : Fault) → LooksAt (Err f) t (library s out) → member_copied s out copies t ≡ answered (Err (outcome_for f))
   unfolding member_copied
-  member_none r is = ap (copied_if s out copies t) is
+  member_none (Refused r) is = ap (copied_if s out copies t) is
+  member_none BadRecord is = absurd is
 
   module _ (x : DataSet) (found : Found) (is : library s out ≡ Ok x) (told : found ≡ found_of t x) where
     member_found : member_copied s out copies t ≡ unless_refused (first_refusal t found) (copied_or_again s out t found.is_blank (copy_before copies t))

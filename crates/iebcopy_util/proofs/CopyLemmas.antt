@@ -20,7 +20,10 @@ use Rattle.vol_model.specs.Runs.{Works}
 use Rattle.vol_model.specs.Shelf.{blocks_of, has_member}
 use Rattle.vol_model.specs.Writing.{body_on}
 use Rattle.vol_model.proofs.Working.{works_ends, works_none, works_stops, works_then}
+use Rattle.util_steps.specs.declared.calls.Fault.{Fault}
+use Rattle.util_steps.specs.declared.calls.Fault.TheVariants.{Refused}
 use Rattle.util_steps.specs.declared.calls.SetRef.{SetRef}
+use Rattle.util_steps.specs.Steps.{Finds}
 use Rattle.util_steps.specs.Copying.{source}
 use Rattle.util_steps.proofs.Progress.{all_from_start}
 use Rattle.util_syntax.specs.declared.listing.Outcome.{Outcome}
@@ -28,25 +31,17 @@ use Rattle.util_syntax.specs.declared.listing.Outcome.TheVariants as outcome
 use Rattle.iebcopy_util.specs.declared.copying.Copy.{Copy}
 use Rattle.iebcopy_util.specs.declared.copying.Found.{Found}
 use Rattle.iebcopy_util.specs.declared.tasks.Task.{Task}
-use Rattle.iebcopy_util.specs.Copying.{can_move, copied_again, entered, found_of, is_blank}
-use Rattle.iebcopy_util.specs.Sets.{entries_of, library}
-use Rattle.iebcopy_util.specs.Steps.{FindsBlock}
-use Rattle.iebcopy_util.proofs.SetLemmas.{is_library, library_blocks, library_body}
+use Rattle.iebcopy_util.specs.Copying.{can_move, copied_again, entered, entry_for, found_of, is_blank}
+use Rattle.iebcopy_util.specs.Steps.{IsClosed, IsRead}
+use Rattle.iebcopy_util.proofs.WholeLemmas.{performed_closed}
+use Rattle.record_files.proofs.KeepLemmas.{read_all}
+use Rattle.vol_model.specs.declared.requests.Op.TheVariants.{Enter}
+use Rattle.record_files.specs.Members.{entries_of}
+use Rattle.iebcopy_util.specs.Sets.{library}
+use Rattle.record_files.specs.declared.attributes.Purpose.TheVariants as purposes
+use Rattle.record_files.proofs.FoundLemmas.{set_reads}
 
 -- ---- what is found of the output
-
-found_first : (name : List ℕ) (e : Entry) (es : List Entry) (t : Bool) → is_some (find (λ (x : Entry). bytes_eq x.name.bytes name) es) ≡ has_member name es → is_some (cond t (Some e) (find (λ (x : Entry). bytes_eq x.name.bytes name) es)) ≡ (t || has_member name es)
-found_first name e es true rest = refl
-found_first name e es false rest = rest
-
--- an entry of a name is found where there is one
-found_some : (name : List ℕ) (es : List Entry) → is_some (find (λ (x : Entry). bytes_eq x.name.bytes name) es) ≡ has_member name es
-found_some name [] = refl
-found_some name (e ∷ es) = found_first name e es (bytes_eq e.name.bytes name) (found_some name es)
-
-pub entry_told : (name : List ℕ) (r : Result (List Entry) ℕ) (es : List Entry) (found : Option Entry) → r ≡ Ok es → Picks (Ok found) r (λ (l : List Entry). find (λ (x : Entry). bytes_eq x.name.bytes name) l) → is_some found ≡ has_member name es
-entry_told name (Ok l) es found is picks = let same : l ≡ es = cc in ap is_some picks ∙ found_some name l ∙ ap (has_member name) same
-entry_told name (Err t) es found is picks = let never : ⊥ = cc in absurd never
 
 pub some_length : {X : Type 0} (xs : List X) (x : X) → slice_get xs 0 ≡ Some x → (length xs == 0) ≡ false
 some_length [] x is = cc
@@ -62,11 +57,7 @@ and_false false = refl
 
 module _ (s : Shelf) (out : SetRef) (x : DataSet) (is : library s out ≡ Ok x) where
   blocks_there : (bs : List Block) → source s out ≡ Ok bs → bs ≡ blocks_of x.body
-  blocks_there bs at =
-      let here = library_blocks s out x (is_library s out x is) in
-      let same = sym at ∙ here in
-      let found : bs ≡ blocks_of (body_on s out.v out.dsn.bytes) = cc in
-      found ∙ ap blocks_of (library_body s out x (is_library s out x is))
+  blocks_there bs at = let same = sym at ∙ set_reads s purposes.Members out x is in cc
 
   -- there is a block
   pub has_blocks : (a : Bool) (b : Block) → ((bs : List Block) × (source s out ≡ Ok bs) × FirstOf true (blocks_from (record { tt = 0; r = 0 }) bs) b) → (a && (length (blocks_of x.body) == 0)) ≡ false
@@ -96,18 +87,12 @@ found_told t x info blank vacant has told b v h =
 
 -- ---- a copy is entered
 
-abbrev pub entered_then : SetRef → Task → Copy → Option Copy → Shelf → Did (Option Copy) Outcome
-entered_then out t c given s = and_then s (entered s out t c) (λ x u. answered (Ok given))
+-- its one operation is no extension
+pub entered_closed : (s : Shelf) (out : SetRef) (t : Task) (c : Copy) → IsClosed (entered s out t c).operations
+entered_closed s out t c = performed_closed s (Enter out.v out.dsn (entry_for t c) t.replace) refl
 
-module _ (out : SetRef) (t : Task) (c : Copy) (given : Option Copy) {tells : Bool} {old new : Meaning Shelf} {n m : ℕ} where
-  pub enter_stopped : (q : Result (Result (Unit {0}) Outcome) Stop) (r : Result (Result (Option Copy) Outcome) Stop) → IsErr r → Works tells (entered old.state out t c) old new n m q → Works tells (entered_then out t c given old.state) old new n m r
-  enter_stopped q r failed works = works_stops (entered old.state out t c) (λ (x : Unit {0}) (u : Shelf). answered (Ok given)) q r failed works
-
-  pub enter_refused : (e : Outcome) → Works tells (entered old.state out t c) old new n m (Ok (Err e)) → Works tells (entered_then out t c given old.state) old new n m (Ok (Err e))
-  enter_refused e works = works_ends (entered old.state out t c) (λ (x : Unit {0}) (u : Shelf). answered (Ok given)) e works
-
-  pub enter_done : (x : Unit {0}) → Works tells (entered old.state out t c) old new n m (Ok (Ok x)) → Works tells (entered_then out t c given old.state) old new n m (Ok (Ok given))
-  enter_done x works = works_then (entered old.state out t c) (λ (x : Unit {0}) (u : Shelf). answered (Ok given)) x (Ok (Ok given)) works (works_none tells new m (Ok given))
+pub can_as : (e : Entry) (b t : Bool) (l m : List Place) → b ≡ can_move l e → l ≡ m → b ≡ t → can_move m e ≡ t
+can_as e b t l m is same at = ap (λ (k : List Place). can_move k e) (sym same) ∙ sym is ∙ at
 
 -- TTRs of a member that was copied before can be moved, or not
 pub again_moved : (s : Shelf) (out : SetRef) (t : Task) (c : Copy) → can_move c.from t.entry ≡ true → copied_again s out t c ≡ and_then s (entered s out t c) (λ x u. answered (Ok None))
@@ -118,10 +103,11 @@ pub again_bad : (s : Shelf) (out : SetRef) (t : Task) (c : Copy) → can_move c.
 unfolding copied_again
 again_bad s out t c is = ap (λ (b : Bool). if b then and_then s (entered s out t c) (λ x u. answered {X = Option Copy} (Ok None)) else answered (Err outcome.BadTtr)) is
 
--- a set that can be read isn't refused where it is read
-pub read_refused : (body : Result (List Block) ℕ) (bs : List Block) (r : Refusal) (place : Place) (b : Block) → body ≡ Ok bs → FindsBlock (Err r) body place b → ⊥
-read_refused body bs (Unreadable track) place b is found = let same = sym is ∙ found in cc
-read_refused body bs _ place b is found = found
+-- a library that can be read isn't refused where it is read
+pub never_refused : (s : Shelf) (out : SetRef) (x : DataSet) (f : Fault) (place : Place) (b : Block) → library s out ≡ Ok x → Finds (Err f) (source s out) place b → ⊥
+never_refused s out x (Refused (Unreadable track)) place b is found = let same = sym (set_reads s purposes.Members out x is) ∙ found in cc
+never_refused s out x _ place b is found = found
 
-pub never_refused : (s : Shelf) (out : SetRef) (x : DataSet) (r : Refusal) (place : Place) (b : Block) → library s out ≡ Ok x → FindsBlock (Err r) (source s out) place b → ⊥
-never_refused s out x r place b is found = read_refused (source s out) _ r place b (library_blocks s out x (is_library s out x is)) found
+-- a library that is found can be read
+pub library_read : (s : Shelf) (out : SetRef) (x : DataSet) → library s out ≡ Ok x → IsRead s out
+library_read s out x is = read_all (body_on s out.v out.dsn.bytes) (blocks_of x.body) (set_reads s purposes.Members out x is)

@@ -77,7 +77,7 @@ does_idle items Answers {old = old} {new = new} r failed same durable =
 pub does_handed : {T U : Type 0} {tells roomy : Bool} {items : List Item} {A : T → Type 0} (B : U → Type 0) {old new : Meaning Shelf} {n m k : ℕ} (q : Result T Stop) (r : Result U Stop) → IsErr r → (IsErrOf r Memory → IsErrOf q Memory) → DoesItems tells roomy items A old new n m q → DoesItems tells roomy items B old new n k r
 does_handed B q r failed same does = does_err r failed does.runs.moments (λ room memory. does.memory room (same memory))
 
--- ---- some behind others
+-- ---- some after others
 
 -- Some items were done, with this highest code, and these of all are left.
 pub record SoFar (tells : Bool) (all left : List Item) (code : ℕ) (old now : Meaning Shelf) (n m : ℕ) : Type 0 where

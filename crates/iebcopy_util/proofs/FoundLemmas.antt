@@ -1,9 +1,9 @@
 -- Each block of a member is found at its place.
-use Rattle.std.proofs.Common.{◌≡◌, ℕ, Bool, true, false, cond, not, ◌&&◌, ◌||◌, List, [], ◌∷◌, refl, sym, ◌∙◌, ap, subst, arith}
+use Rattle.std.proofs.Common.{◌≡◌, ℕ, Bool, true, false, cond, not, ◌&&◌, ◌||◌, List, [], ◌∷◌, ◌++◌, refl, sym, ◌∙◌, ap, subst, arith}
 use Rattle.std.proofs.lemmas.Bool.Decides.{nat_tests}
 use Rattle.std.proofs.lemmas.List.Sums.{take_while-cons}
-use Rattle.std.specs.Prelude.{nat_lt, ◌==◌}
-use Rattle.std.specs.List.{take_while}
+use Rattle.std.specs.Prelude.{Result, Ok, nat_lt, ◌==◌, take}
+use Rattle.std.specs.List.{AllByRecursion, flat_map, take_while}
 use Rattle.vol_model.specs.declared.contents.Block.{Block}
 use Rattle.vol_model.specs.declared.contents.Place.{Place}
 use Rattle.vol_model.specs.Places.{is_before, is_end_of_file}
@@ -11,8 +11,9 @@ use Rattle.vol_model.specs.Reading.{blocks_from, member}
 use Rattle.vol_model.proofs.Keeping.{AreBlocks, RiseFrom}
 use Rattle.util_steps.specs.Copying.{behind_place}
 use Rattle.util_steps.proofs.Progress.{first_passes}
-use Rattle.iebcopy_util.specs.Steps.{AreFound}
-use Rattle.iebcopy_util.proofs.WalkLemmas.{left_blocks}
+use Rattle.iebcopy_util.specs.Copying.{places}
+use Rattle.iebcopy_util.specs.Steps.{AreFound, HasBlocks, blocks_at}
+use Rattle.record_files.proofs.BlockLemmas.{left_blocks}
 
 -- ---- the order of places
 
@@ -31,7 +32,7 @@ keep_first p b bs e = ap (λ (t : Bool). cond (not t) (b ∷ blocks_from p bs) (
 drop_first : (p : Place) (b : Block) (bs : List Block) → is_before b.place p ≡ true → blocks_from p (b ∷ bs) ≡ blocks_from p bs
 drop_first p b bs e = ap (λ (t : Bool). cond (not t) (b ∷ blocks_from p bs) (blocks_from p bs)) e
 
--- blocks that rise from a place are all at or after one that isn't behind it
+-- blocks that rise from a place are all at or after one that isn't after it
 kept_all : (q p : Place) (bs : List Block) → RiseFrom q bs → is_before q p ≡ false → blocks_from p bs ≡ bs
 kept_all q p [] rise high = refl
 kept_all q p (b ∷ bs) rise high =
@@ -70,3 +71,50 @@ found_up_to bs p (b ∷ rest) are is = by_end (is_end_of_file b) refl (found_up_
 pub member_found : (bs : List Block) (place : Place) → AreBlocks bs → AreFound bs (member bs place)
 unfolding member
 member_found bs place are = found_up_to bs place (blocks_from place bs) are refl
+
+-- ---- blocks at places
+
+module _ (bs : List Block) where
+  abbrev first_at : Place → List Block
+  first_at p = take 1 (blocks_from p bs)
+
+  abbrev IsAt : Place → Type 0
+  IsAt p = (b : Block) × (rest : List Block) × (blocks_from p bs ≡ b ∷ rest) × (b.place ≡ p)
+
+  all_stand : (ps : List Place) → AllByRecursion IsAt ps → ps ≡ places (flat_map first_at ps)
+  all_stand [] all = refl
+  all_stand (p ∷ ps) all =
+      let one : first_at p ≡ all.0.0 ∷ [] = ap (take 1) all.0.2 in
+      ap (λ (l : List Place). p ∷ l) (all_stand ps all.1) ∙ ap (λ (q : Place). q ∷ places (flat_map first_at ps)) (sym all.0.3) ∙ ap (λ (l : List Block). places (l ++ flat_map first_at ps)) (sym one)
+
+  all_found : (ps : List Place) → AllByRecursion IsAt ps → AreFound bs (flat_map first_at ps)
+  all_found [] all = tt
+  all_found (p ∷ ps) all =
+      let one : first_at p ≡ all.0.0 ∷ [] = ap (take 1) all.0.2 in
+      subst (λ (l : List Block). AreFound bs (l ++ flat_map first_at ps)) (sym one) ((all.0.1, ap (λ (q : Place). blocks_from q bs) all.0.3 ∙ all.0.2), all_found ps all.1)
+
+  found_at : (found : List Block) → AreFound bs found → flat_map first_at (places found) ≡ found
+  found_at [] all = refl
+  found_at (b ∷ more) all = ap (λ (l : List Block). take 1 l ++ flat_map first_at (places more)) all.0.1 ∙ ap (λ (l : List Block). b ∷ l) (found_at more all.1)
+
+  are_at : (found : List Block) → AreFound bs found → AllByRecursion IsAt (places found)
+  are_at [] all = tt
+  are_at (b ∷ more) all = ((b, all.0.0, all.0.1, refl), are_at more all.1)
+
+module _ {input : Result (List Block) ℕ} {ps : List Place} (has : HasBlocks input ps) where
+  -- the blocks at places stand there
+  pub blocks_stand : ps ≡ places (blocks_at input ps)
+  blocks_stand = all_stand has.all ps has.at ∙ ap (λ (r : Result (List Block) ℕ). places (blocks_at r ps)) (sym has.read)
+
+  -- and are found there
+  pub blocks_found : AreFound has.all (blocks_at input ps)
+  blocks_found = subst (λ (r : Result (List Block) ℕ). AreFound has.all (blocks_at r ps)) (sym has.read) (all_found has.all ps has.at)
+
+module _ (input : Result (List Block) ℕ) (bs : List Block) (start : Place) (ps : List Place) (read : input ≡ Ok bs) (are : AreBlocks bs) (at : ps ≡ places (member bs start)) where
+  -- the blocks of a member stand at their places
+  pub has_member : HasBlocks input ps
+  has_member = record { all = bs; read = read; at = subst (λ (l : List Place). AllByRecursion (IsAt bs) l) (sym at) (are_at bs (member bs start) (member_found bs start are)) }
+
+  -- and are those at their places
+  pub member_at : blocks_at input ps ≡ member bs start
+  member_at = ap (λ (r : Result (List Block) ℕ). blocks_at r ps) read ∙ ap (flat_map (first_at bs)) at ∙ found_at bs (member bs start) (member_found bs start are)

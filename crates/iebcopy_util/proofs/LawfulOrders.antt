@@ -19,7 +19,8 @@ use Rattle.iebcopy_util.specs.declared.requests.Request.TheVariants.{Copy, Selec
 use Rattle.iebcopy_util.specs.Orders.{asked, asked_for, chosen, closed, opened_card, orders_at, orders_of, unless_ended}
 use Rattle.iebcopy_util.specs.Requests.{copy_of, is_replace, members_value, name_in, names_in, new_name, pick_among, pick_in, pick_or_name, pick_with, picks_among, picks_in, picks_or_one, request_of}
 use Rattle.iebcopy_util.specs.Tasks.{IsLawfulChoice, IsLawfulOrder, IsLawfulPick}
-use Rattle.iebcopy_util.proofs.MemberNames.{IsMemberName, name_lawful}
+use Rattle.util_syntax.specs.Forms.{IsMemberName}
+use Rattle.util_syntax.proofs.MemberNames.{name_lawful}
 use Rattle.iebcopy_util.proofs.TaskLemmas.{all_append}
 
 -- ---- members that SELECT names

@@ -1,5 +1,4 @@
 mod OrderLemmas
-mod SetLemmas
 mod TaskLemmas
 mod WalkLemmas
 mod AreaLemmas
@@ -13,6 +12,7 @@ mod CopiedLemmas
 mod DoesItemsLemmas
 mod MemberItems
 mod LawfulOrders
-mod MemberNames
+mod Reading
 mod ApartLemmas
 mod StepItems
+pub mod AcceptedLemmas

@@ -46,7 +46,7 @@ pub members_none : (s : Shelf) (card : ℕ) (out : SetRef) (copies : List Copy) 
 members_none s card out copies [] none = refl
 members_none s card out copies (t ∷ ts) none = absurd (omega arith)
 
--- the item of the first member, and those behind it
+-- the item of the first member, and those after it
 pub members_first : (s : Shelf) (card : ℕ) (out : SetRef) (copies held : List Copy) (t : Task) (ts tasks : List Task) → copies ≡ held → tasks ≡ t ∷ ts
     → (rest : List Item) × ((members s card out held tasks).items ≡ member_item card out t (member_copied s out copies t) ∷ rest)
 members_first s card out copies held t ts tasks same is =
@@ -102,7 +102,7 @@ module _ {tells roomy : Bool} (card : ℕ) (out : SetRef) (t : Task) (did : Did 
   member_stopped q r failed same works part =
       one_stopped did (member_line card out t.name (outcome_of did.answer) ∷ []) (copy_code (outcome_of did.answer)) (λ (a : Result (Option Copy) Outcome). a ≡ did.answer) q r failed same works part
 
-  -- the shelf behind it
+  -- the shelf after it
   pub member_behind : {A : Result (Option Copy) Outcome → Type 0} {old new : Meaning Shelf} {n m : ℕ} {x : Result (Option Copy) Outcome} → DoesItems tells roomy (member_item card out t did ∷ []) A old new n m (Ok x) → new.state ≡ after_operations old.state did.operations
   unfolding member_item
   member_behind {old = old} does = does.runs.shelf ∙ after_item old.state (member_item card out t did) []

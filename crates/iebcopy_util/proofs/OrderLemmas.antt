@@ -17,7 +17,7 @@ chosen_fault Idle card own choice more not = refl
 chosen_fault (Open o) card own choice more not = absurd (not o refl)
 chosen_fault Ended card own choice more not = refl
 
--- behind a fault nothing is ordered
+-- after a fault nothing is ordered
 pub orders_ended : (items : List ItemView) → orders_of Ended items ≡ []
 orders_ended [] = refl
 orders_ended (item ∷ items) = refl

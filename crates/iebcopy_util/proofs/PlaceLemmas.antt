@@ -27,7 +27,7 @@ with_more bodies.Catalog xs ys = refl
 with_more bodies.Other xs ys = refl
 with_more (bodies.Unreadable track) xs ys = refl
 
--- contents behind others
+-- contents after others
 placed_joined : (d : DiskType) (xs ys : List Content) (body : Body) → placed d body (xs ++ ys) ≡ placed d body xs ++ placed d (with_blocks body (placed d body xs)) ys
 unfolding placed
 placed_joined d [] ys body = ap (λ (b : Body). placed d b ys) (sym (with_none body))
@@ -55,7 +55,7 @@ module _ (s : Shelf) (t : Target) where
   abbrev front : List Content
   front = put_first t.mode (target_body s t)
 
-  -- the body once some contents stand behind it
+  -- the body once some contents stand after it
   abbrev behind : List Content → Body
   behind cs = with_blocks body (placed device body cs)
 

@@ -89,11 +89,11 @@ pub order_fault : (step : StepIn) (s : Shelf) (o : Order) (f : StatementFault) �
 unfolding order_items
 order_fault step s o f is = ap (order_items step s) is
 
--- the items behind those of an order
+-- the items after those of an order
 abbrev pub items_behind : StepIn → Shelf → List Order → Course → Bool → List Item
 items_behind step s os course b = if b then orders_items step (shelf_behind s (events_of course.items)) os else []
 
--- the items of the first order, and those behind it
+-- the items of the first order, and those after it
 pub orders_first : (step : StepIn) (s : Shelf) (o : Order) (os orders : List Order) → orders ≡ o ∷ os → orders_items step s orders ≡ (order_items step s o).items ++ items_behind step s os (order_items step s o) (order_items step s o).goes_on
 orders_first step s o os orders is = ap (orders_items step s) is
 

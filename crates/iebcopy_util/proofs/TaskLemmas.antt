@@ -1,8 +1,9 @@
 -- The members that a copy takes, case by case.
 use Rattle.std.proofs.Common.{◌≡◌, ℕ, zero, suc, ◌+◌, ◌*◌, ◌≤◌, ◌<◌, min, Bool, true, false, cond, List, [], ◌∷◌, ◌++◌, length, map, filter, take, drop, refl, sym, ◌∙◌, ap, subst, arith, append_assoc}
-use Rattle.std.specs.Prelude.{Option, Some, None, Result, Ok, nat_le, unwrap_or, slice_get, find, option_and_then}
+use Rattle.std.specs.Prelude.{Option, Some, None, Result, Ok, Err, if◌then◌else◌, nat_le, unwrap_or, slice_get, find, option_and_then}
 use Rattle.std.specs.List.{AllByRecursion, flat_map, list_any}
 use Rattle.std.proofs.lemmas.List.{append-nil}
+use Rattle.std.proofs.lemmas.Option.{slice_get_within}
 use Rattle.std.proofs.lemmas.Bool.Decides.{nat_tests}
 use Rattle.ebcdic_names.specs.declared.names.Name8.{Name8}
 use Rattle.chain_spec.specs.Cut.{needed_from}
@@ -15,9 +16,10 @@ use Rattle.vol_model.specs.declared.contents.Entry.{Entry}
 use Rattle.vol_model.specs.declared.contents.Shelf.{Shelf}
 use Rattle.vol_model.specs.declared.contents.Volume.{Volume}
 use Rattle.vol_model.specs.declared.refusals.Refusal.{Refusal}
+use Rattle.vol_model.specs.declared.refusals.Refusal.TheVariants.{WrongKind}
 use Rattle.vol_model.specs.Lawful.{IsLawful, IsLawfulBody, IsLawfulEntry, IsLawfulSet, IsLawfulVolume}
 use Rattle.vol_model.specs.Places.{tracks_in}
-use Rattle.vol_model.specs.Shelf.{has_name, set_of}
+use Rattle.vol_model.specs.Shelf.{has_name, is_partitioned, set_of, unreadable}
 use Rattle.vol_model.specs.Slots.{directory_needed, entry_size}
 use Rattle.vol_model.specs.Reading.{entries_in, set_info}
 use Rattle.vol_model.specs.Writing.{body_on, set_on}
@@ -28,9 +30,12 @@ use Rattle.iebcopy_util.specs.declared.requests.Pick.{Pick}
 use Rattle.iebcopy_util.specs.declared.sets.Input.{Input}
 use Rattle.iebcopy_util.specs.declared.tasks.Source.{Source}
 use Rattle.iebcopy_util.specs.declared.tasks.Task.{Task}
-use Rattle.iebcopy_util.specs.Sets.{entries_of, library}
+use Rattle.record_files.specs.Members.{entries_of}
+use Rattle.iebcopy_util.specs.Sets.{library}
 use Rattle.iebcopy_util.specs.Tasks.{IsLawfulChoice, IsLawfulPick, IsLawfulTask, is_name, is_taken, on_library, source_for, task, tasks_of, wanted, with_source}
-use Rattle.iebcopy_util.proofs.SetLemmas.{is_library, library_entries}
+use Rattle.record_files.specs.declared.attributes.Purpose.TheVariants as purposes
+use Rattle.record_files.specs.Attributes.{set_if_mounted, set_if_there, unless_refused, usable_set}
+use Rattle.record_files.proofs.FoundLemmas.{library_entries}
 
 -- an entry that is left out
 pub none_wanted : (choice : Choice) (names : List Name8) (earlier : List Task) (source : Source) (e : Entry) → choice ≡ Exclude names → list_any (λ (n : Name8). is_name n e.name) names ≡ true → wanted choice earlier source e ≡ []
@@ -133,15 +138,6 @@ drop_past [] (suc k) at = refl
 drop_past (y ∷ xs) zero at = cc
 drop_past (y ∷ xs) (suc k) at = drop_past xs k at
 
-pub within_at : {X : Type 0} (xs : List X) (k : ℕ) (x : X) → slice_get xs k ≡ Some x → k < length xs
-within_at [] k x at = cc
-within_at (y ∷ xs) zero x at = omega arith
-within_at (y ∷ xs) (suc k) x at = omega (arith, within_at xs k x at)
-
-pub take_front : {X : Type 0} (xs ys : List X) → take (length xs) (xs ++ ys) ≡ xs
-take_front [] ys = refl
-take_front {X = X} (x ∷ xs) ys = ap (λ (l : List X). x ∷ l) (take_front xs ys)
-
 module _ {X Y : Type 0} (f : X → List Y) (es : List X) (k : ℕ) (now whole : List Y) (so : now ++ flat_map f (drop k es) ≡ whole) where
   -- one item more is passed
   pub passed_one : (e : X) (new : List Y) (next : ℕ) → slice_get es k ≡ Some e → new ≡ now ++ f e → next ≡ k + 1 → new ++ flat_map f (drop next es) ≡ whole
@@ -155,13 +151,31 @@ module _ {X Y : Type 0} (f : X → List Y) (es : List X) (k : ℕ) (now whole : 
 
 -- the entries of an input that is found stay
 pub entries_there : (s0 s1 : Shelf) (set : SetRef) (x : DataSet) → s1 ≡ s0 → library s0 set ≡ Ok x → entries_in (body_on s1 set.v set.dsn.bytes) ≡ Ok (entries_of x.body)
-entries_there s0 s1 set x same is = ap (λ (s : Shelf). entries_in (body_on s set.v set.dsn.bytes)) same ∙ library_entries s0 set x (is_library s0 set x is)
+entries_there s0 s1 set x same is = ap (λ (s : Shelf). entries_in (body_on s set.v set.dsn.bytes)) same ∙ library_entries s0 set x is
+
+-- a library that is found is there
+set_there : (s : Shelf) (set : SetRef) (x : DataSet) → library s set ≡ Ok x → set_on s set.v set.dsn.bytes ≡ Some x
+unfolding usable_set set_on
+set_there s set x is = by_volume (slice_get s.volumes set.v) is
+  where
+    by_test : (y : DataSet) (o : Option Refusal) (t : Bool) → (if t then unless_refused y o else Err WrongKind) ≡ Ok x → (let found : Option DataSet = Some y in found) ≡ Some x
+    by_test y None true at = let same : y ≡ x = cc in ap (λ (z : DataSet). Some z) same
+    by_test y (Some r) true at = let never : ⊥ = cc in absurd never
+    by_test y o false at = let never : ⊥ = cc in absurd never
+
+    by_set : (o : Option DataSet) → set_if_there purposes.Members set.dsn.bytes o ≡ Ok x → o ≡ Some x
+    by_set None at = let never : ⊥ = cc in absurd never
+    by_set (Some y) at = by_test y (unreadable y.body) (is_partitioned set.dsn.bytes y.attr) at
+
+    by_volume : (o : Option Volume) → set_if_mounted purposes.Members set.dsn o ≡ Ok x → option_and_then (set_of set.dsn.bytes) o ≡ Some x
+    by_volume None at = let never : ⊥ = cc in absurd never
+    by_volume (Some volume) at = by_set (set_of set.dsn.bytes volume) at
 
 -- no entry stands past the 32nd bit
 pub no_entry_past : (s : Shelf) (set : SetRef) (x : DataSet) (k : ℕ) (e : Entry) → IsLawful s → library s set ≡ Ok x → slice_get (entries_of x.body) k ≡ Some e → 4294967295 ≤ k → ⊥
 no_entry_past s set x k e lawful is at past =
-    let few = entries_few s set.v set.dsn.bytes x lawful (is_library s set x is).there in
-    let within = within_at (entries_of x.body) k e at in
+    let few = entries_few s set.v set.dsn.bytes x lawful (set_there s set x is) in
+    let within = slice_get_within (entries_of x.body) k e at in
     absurd (omega (arith, few, within, past))
 
 -- ---- the inputs one after another

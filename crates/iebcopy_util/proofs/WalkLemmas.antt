@@ -1,51 +1,37 @@
 -- The blocks of a member one after another, and the last of a library.
-use Rattle.std.proofs.Common.{◌≡◌, ◌⊎◌, ⊎_elim, Bool, true, false, cond, not, ◌&&◌, List, [], ◌∷◌, ◌++◌, refl, sym, ◌∙◌, ap, append_assoc}
+use Rattle.std.proofs.Common.{◌≡◌, ◌⊎◌, ⊎_elim, Bool, true, false, ◌&&◌, List, [], ◌∷◌, ◌++◌, refl, sym, ◌∙◌, ap, append_assoc}
 use Rattle.std.proofs.lemmas.List.{append-nil}
-use Rattle.std.proofs.lemmas.List.Sums.{take_while-cons}
-use Rattle.std.specs.List.{take_while}
 use Rattle.std.specs.List.{list_all}
 use Rattle.vol_model.specs.declared.contents.Block.{Block}
 use Rattle.vol_model.specs.declared.contents.Place.{Place}
-use Rattle.vol_model.specs.Places.{is_end_of_file, last_place}
+use Rattle.vol_model.specs.Places.{is_end_of_file}
 use Rattle.vol_model.specs.Reading.{blocks_from, member}
 use Rattle.vol_model.proofs.Keeping.{AreBlocks}
 use Rattle.util_steps.specs.Copying.{behind_place, has_data}
-use Rattle.util_steps.proofs.Blocks.{next_blocks}
-use Rattle.util_steps.proofs.Progress.{first_passes, low_blocks}
+use Rattle.record_files.proofs.BlockLemmas.{left_end, left_none, next_left}
 use Rattle.iebcopy_util.specs.declared.walking.Walk.{Walk}
 use Rattle.iebcopy_util.specs.Copying.{places}
 
--- the blocks behind the first of those from a place on
-pub left_blocks : (place : Place) (bs : List Block) (b : Block) (rest : List Block) → AreBlocks bs → blocks_from place bs ≡ b ∷ rest → blocks_from (behind_place b.place) bs ≡ rest
-left_blocks place bs b rest are is = next_blocks (record { tt = 0; r = 0 }) place bs are.rise (low_blocks bs are.each) b rest is (first_passes place bs b rest is)
-
--- the blocks in front of the end of a member
-abbrev up_to_end : List Block → List Block
-up_to_end bs = take_while (λ (x : Block). not (is_end_of_file x)) bs
-
-while_one : (b : Block) (rest : List Block) → is_end_of_file b ≡ false → up_to_end (b ∷ rest) ≡ b ∷ up_to_end rest
-while_one b rest is = take_while-cons (λ (x : Block). not (is_end_of_file x)) b rest ∙ ap (λ (t : Bool). cond (not t) (b ∷ up_to_end rest) []) is
-
-while_end : (b : Block) (rest : List Block) → is_end_of_file b ≡ true → up_to_end (b ∷ rest) ≡ []
-while_end b rest is = take_while-cons (λ (x : Block). not (is_end_of_file x)) b rest ∙ ap (λ (t : Bool). cond (not t) (b ∷ up_to_end rest) []) is
-
 module _ (bs : List Block) (place : Place) where
-  -- a block of the member, and those behind it
+  -- a block of the member, and those after it
   pub member_one : (b : Block) (rest : List Block) → AreBlocks bs → blocks_from place bs ≡ b ∷ rest → is_end_of_file b ≡ false → member bs place ≡ b ∷ member bs (behind_place b.place)
-  unfolding member
-  member_one b rest are is within =
-      ap up_to_end is ∙ while_one b rest within
-      ∙ ap (λ (l : List Block). b ∷ up_to_end l) (sym (left_blocks place bs b rest are is))
+  member_one b rest are is within = next_left true bs place b rest are is within
 
   -- the member's end
   pub member_end : (blocks_from place bs ≡ []) ⊎ ((b : Block) × (rest : List Block) × (blocks_from place bs ≡ b ∷ rest) × (is_end_of_file b ≡ true)) → member bs place ≡ []
-  unfolding member
-  member_end end = ⊎_elim (λ none. ap up_to_end none) (λ last. ap up_to_end last.2 ∙ while_end last.0 last.1 last.3) end
+  member_end end = ⊎_elim (λ none. left_none true place bs none) (λ last. left_end true place bs last.0 last.1 last.2 last.3) end
 
 -- How far a member is walked: what is known of its blocks, and those that are left, are all.
 pub record Walks (bs all : List Block) (place : Place) (walk : Walk) : Type 0 where
   pub places : walk.places.items ++ places (member bs place) ≡ places all
   pub has_data : (walk.has_data && list_all has_data (member bs place)) ≡ list_all has_data all
+
+-- none of its blocks is walked yet
+pub walks_begin : (bs : List Block) (start : Place) (walk : Walk) → walk.places.items ≡ [] → walk.has_data ≡ true → Walks bs (member bs start) start walk
+walks_begin bs start walk none all = record {
+  places = ap (λ (l : List Place). l ++ places (member bs start)) none;
+  has_data = ap (λ (t : Bool). t && list_all has_data (member bs start)) all;
+}
 
 module _ (bs all : List Block) (place : Place) (old new : Walk) (so : Walks bs all place old) where
   -- one block more
@@ -76,11 +62,3 @@ module _ (bs all : List Block) (place : Place) (old new : Walk) (so : Walks bs a
       and_true : (x : Bool) → x ≡ (x && true)
       and_true true = refl
       and_true false = refl
-
--- ---- the last block
-
--- one block more is passed
-pub last_further : (bs : List Block) (place last found next whole : Place) (b : Block) (rest : List Block) → AreBlocks bs → blocks_from place bs ≡ b ∷ rest → found ≡ b.place → next ≡ behind_place b.place → last_place last (blocks_from place bs) ≡ whole → last_place found (blocks_from next bs) ≡ whole
-last_further bs place last found next whole b rest are is here at so =
-    ap (λ (p : Place). last_place p (blocks_from next bs)) here ∙ ap (λ (p : Place). last_place b.place (blocks_from p bs)) at
-    ∙ ap (last_place b.place) (left_blocks place bs b rest are is) ∙ sym (ap (last_place last) is) ∙ so

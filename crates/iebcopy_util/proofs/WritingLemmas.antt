@@ -1,6 +1,6 @@
 -- A member is written to the output as a whole, and entered.
 use Rattle.std.proofs.Common.{◌≡◌, ℕ, Bool, true, false, List, [], ◌∷◌, ◌++◌, map, refl, sym, ◌∙◌, ap, subst}
-use Rattle.std.specs.Prelude.{Option, Some, None, Result, Ok, Err, IsErr, if◌then◌else◌}
+use Rattle.std.specs.Prelude.{Option, Some, None, Result, Ok, Err, IsErr, IsErrAnd, if◌then◌else◌}
 use Rattle.std.specs.List.{list_all}
 use Rattle.stop_model.specs.Moments.{Meaning}
 use Rattle.vol_model.specs.declared.answers.Mode.TheVariants as modes
@@ -19,21 +19,25 @@ use Rattle.vol_model.specs.Runs.{Works}
 use Rattle.vol_model.specs.Shelf.{blocks_of, written as all_written}
 use Rattle.vol_model.specs.Writing.{Making, Target, begin_refusal, begun, blocks_for, body_on, by_refusal, did_begin, did_puts, did_write, making_room, target_body, writes}
 use Rattle.vol_model.proofs.Filling.{made, making_keeps}
-use Rattle.vol_model.proofs.Working.{after_append, done_state, has_done, works_because, works_because_broken, works_ends, works_stops, works_then}
+use Rattle.vol_model.proofs.Working.{after_append}
+use Rattle.vol_model.specs.declared.machine.Machine.{Ghosts}
 use Rattle.util_steps.specs.declared.calls.Fault.{Fault}
 use Rattle.util_steps.specs.declared.calls.Fault.TheVariants.{Refused, BadRecord}
 use Rattle.util_steps.specs.declared.calls.SetRef.{SetRef}
 use Rattle.util_steps.specs.Copying.{did_all, filled, has_data, refusing, source, target, with_data}
+use Rattle.util_steps.specs.Taking.{Takes}
+use Rattle.util_steps.proofs.Taking.{takes_because, takes_because_stops}
 use Rattle.util_syntax.specs.declared.listing.Outcome.{Outcome}
 use Rattle.iebcopy_util.specs.declared.copying.Copy.{Copy}
 use Rattle.iebcopy_util.specs.declared.tasks.Task.{Task}
-use Rattle.iebcopy_util.specs.Copying.{copy_made, finished, first_or, outcome_for, places, written}
-use Rattle.iebcopy_util.specs.Steps.{HasPart, put_places}
-use Rattle.iebcopy_util.proofs.KeepLemmas.{IsReadable, area_readable, read_all}
+use Rattle.util_program.specs.Outcomes.{outcome_for}
+use Rattle.iebcopy_util.specs.Copying.{copy_made, finished, first_or, places, written}
+use Rattle.iebcopy_util.specs.Steps.{IsRead, TakesWhole, put_places}
+use Rattle.record_files.proofs.KeepLemmas.{IsReadable, area_readable}
 use Rattle.iebcopy_util.proofs.PlaceLemmas.{put_places_are}
-use Rattle.iebcopy_util.proofs.WholeLemmas.{filled_closed, part_same, part_then}
+use Rattle.iebcopy_util.proofs.WholeLemmas.{filled_closed, memory_of, whole_as, whole_ends, whole_stops, whole_then}
 
--- ---- the output behind an area
+-- ---- the output after an area
 
 module _ (s : Shelf) (out : SetRef) (bs : List Block) (x : Unit {0}) (is : IsReadable (body_on s out.v out.dsn.bytes)) where
   abbrev t : Target
@@ -95,38 +99,30 @@ made_is before after out t bs from to start from_is to_is start_is =
 
 -- ---- written and entered
 
--- the writing of the blocks, and the entry behind it
-abbrev area : Shelf → SetRef → List Block → Did (Unit {0}) Outcome
-area s out bs = with_reason outcome_for (filled s out modes.Area bs)
+-- a library to which blocks were added can be read
+pub output_read : (s u : Shelf) (out : SetRef) (bs : List Block) (x : Unit {0}) → IsRead s out → Ok x ≡ (filled s out modes.Area bs).answer → u ≡ after_operations s (filled s out modes.Area bs).operations → IsRead u out
+output_read s u out bs x is done at = subst (λ (v : Shelf). IsRead v out) (sym at) (filled_readable s out bs x is done)
 
-abbrev entering : Shelf → SetRef → Task → List Block → Unit {0} → Shelf → Did (Option Copy) Outcome
-entering s out t bs x u = finished u out t (copy_made s u out t bs)
+module _ {X : Type 0} (g : Ghosts X) (out : SetRef) (t : Task) (blocks : Shelf → List Block) where
+  -- the writing of the blocks, and the entry after it
+  abbrev area : Shelf → Did (Unit {0}) Fault
+  area s = filled s out modes.Area (blocks s)
 
-module _ (out : SetRef) (t : Task) (bs : List Block) {tells : Bool} {old mid : Meaning Shelf} {n k : ℕ} where
-  pub written_stopped : (q : Result (Result (Unit {0}) Fault) Stop) (r : Result (Result (Option Copy) Outcome) Stop) → IsErr r → Works tells (filled old.state out modes.Area bs) old mid n k q → Works tells (written old.state out t bs) old mid n k r
+  abbrev entering : Shelf → Unit {0} → Shelf → Did (Option Copy) Outcome
+  entering s x u = finished u out t (copy_made s u out t (blocks s))
+
+  pub written_stops : {old new : X} {e : Stop} (q : Result (Result (Option Copy) Outcome) Stop) → IsErr q × IsErrAnd q (λ f. f ≡ e) → TakesWhole g area old new (Err e) → TakesWhole g (λ s. written s out t (blocks s)) old new q
+  unfolding written with_reason
+  written_stops {old = old} {e = e} q same one =
+      whole_as g (λ told. refl) (whole_stops g (λ s. with_reason outcome_for (area s)) (entering (g.meaning old).state) q same (record { takes = takes_because_stops g outcome_for area (Err e) (refl, refl) one.takes; whole = λ told roomy failed. one.whole told roomy (memory_of (Err e) refl failed) }))
+
+  pub written_ends : {old new : X} (e : Fault) → Takes g area old new (Ok (Err e)) → TakesWhole g (λ s. written s out t (blocks s)) old new (Ok (Err (outcome_for e)))
   unfolding written
-  written_stopped q r failed works = works_stops (area old.state out bs) (entering old.state out t bs) (Err Memory) r failed (works_because_broken outcome_for q (Err Memory) refl works)
-
-  pub written_fault : (e : Fault) → Works tells (filled old.state out modes.Area bs) old mid n k (Ok (Err e)) → Works tells (written old.state out t bs) old mid n k (Ok (Err (outcome_for e)))
-  unfolding written
-  written_fault e works = works_ends (area old.state out bs) (entering old.state out t bs) (outcome_for e) (works_because outcome_for (Err e) works)
+  written_ends {old = old} e one = whole_as g (λ told. refl) (whole_ends g (λ s. with_reason outcome_for (area s)) (entering (g.meaning old).state) (takes_because g outcome_for area (Err e) one))
 
   -- the blocks are written, and the entry follows
-  module _ (x : Unit {0}) (works : Works tells (filled old.state out modes.Area bs) old mid n k (Ok (Ok x))) where
-    pub written_all : {new : Meaning Shelf} {m : ℕ} (r : Result (Result (Option Copy) Outcome) Stop) → Works tells (finished mid.state out t (copy_made old.state mid.state out t bs)) mid new k m r → Works tells (written old.state out t bs) old new n m r
-    unfolding written
-    written_all r second = works_then (area old.state out bs) (entering old.state out t bs) x r (works_because outcome_for (Ok x) works) second
-
-    -- the output can be read behind them
-    pub output_read : (obs : List Block) → source old.state out ≡ Ok obs → source mid.state out ≡ Ok (blocks_of (body_on mid.state out.v out.dsn.bytes))
-    output_read obs there =
-        subst (λ (u : Shelf). IsReadable (body_on u out.v out.dsn.bytes)) (sym (done_state (has_done works)))
-        (filled_readable old.state out bs x (read_all (body_on old.state out.v out.dsn.bytes) obs there) works.answer)
-
-    -- nothing is done behind them
-    pub written_part : (t' : Shelf) → t' ≡ mid.state → HasPart (written old.state out t bs).operations old.state t'
-    unfolding written with_reason
-    written_part t' same =
-        let at : mid.state ≡ after_operations old.state (filled old.state out modes.Area bs).operations = done_state (has_done works) in
-        part_then old.state t' (area old.state out bs) (entering old.state out t bs) x (ap (because outcome_for) works.answer) (filled_closed old.state out bs x works.answer)
-        (part_same (entering old.state out t bs x (after_operations old.state (filled old.state out modes.Area bs).operations)).operations (after_operations old.state (filled old.state out modes.Area bs).operations) t' (same ∙ at))
+  pub written_then : {old mid new : X} (x : Unit {0}) {r : Result (Result (Option Copy) Outcome) Stop} → Takes g area old mid (Ok (Ok x)) → TakesWhole g (entering (g.meaning old).state x) mid new r → TakesWhole g (λ s. written s out t (blocks s)) old new r
+  unfolding written with_reason
+  written_then {old = old} x one two =
+      whole_as g (λ told. refl)
+      (whole_then g (λ s. with_reason outcome_for (area s)) (entering (g.meaning old).state) (λ told. filled_closed (g.meaning old).state out (blocks (g.meaning old).state) x (one.works told).answer) (takes_because g outcome_for area (Ok x) one) two)

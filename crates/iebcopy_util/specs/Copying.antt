@@ -10,25 +10,24 @@ use Rattle.vol_model.specs.declared.contents.Place.{Place}
 use Rattle.vol_model.specs.declared.contents.Shelf.{Shelf}
 use Rattle.vol_model.specs.declared.refusals.Refusal.{Refusal}
 use Rattle.vol_model.specs.declared.refusals.Refusal.TheVariants.{MemberExists, Unreadable}
-use Rattle.vol_model.specs.declared.requests.Op.{Op}
 use Rattle.vol_model.specs.declared.requests.Op.TheVariants.{Empty, Enter}
 use Rattle.vol_model.specs.Did.{Did, and_then, answered, with_reason}
 use Rattle.vol_model.specs.Moving.{is_place, moved, ttr_count}
 use Rattle.vol_model.specs.Places.{content, last_place}
 use Rattle.vol_model.specs.Reading.{member}
 use Rattle.vol_model.specs.Shelf.{blocks_of, has_member}
-use Rattle.vol_model.specs.Writing.{blocks_for, body_on, did_apply}
-use Rattle.util_steps.specs.declared.calls.Fault.{Fault}
-use Rattle.util_steps.specs.declared.calls.Fault.TheVariants as faults
+use Rattle.vol_model.specs.Writing.{blocks_for, body_on}
 use Rattle.util_steps.specs.declared.calls.SetRef.{SetRef}
-use Rattle.util_steps.specs.Copying.{filled, has_data, refusing, source, target}
+use Rattle.util_steps.specs.Copying.{filled, has_data, source, target}
 use Rattle.util_syntax.specs.declared.listing.Outcome.{Outcome}
 use Rattle.util_syntax.specs.declared.listing.Outcome.TheVariants as outcome
+use Rattle.util_program.specs.Outcomes.{outcome_for, performed}
 use Rattle.iebcopy_util.specs.declared.copying.Copy.{Copy}
 use Rattle.iebcopy_util.specs.declared.copying.Found.{Found}
 use Rattle.iebcopy_util.specs.declared.tasks.Source.{Source}
 use Rattle.iebcopy_util.specs.declared.tasks.Task.{Task}
-use Rattle.iebcopy_util.specs.Sets.{entries_of, library}
+use Rattle.record_files.specs.Members.{entries_of}
+use Rattle.iebcopy_util.specs.Sets.{library}
 
 -- ---- what is found of the output
 
@@ -72,15 +71,6 @@ moved_user c e = unwrap_or (moved c.from c.to (ttr_count e.flags) e.user) e.user
 unfoldable pub entry_for : Task → Copy → Entry
 entry_for t c = record { name = t.name; place = c.start; flags = t.entry.flags; user = moved_user c t.entry }
 
--- a fault of steps as the outcome of a copy
-abbrev pub outcome_for : Fault → Outcome
-outcome_for (faults.Refused refusal) = outcome.Refused refusal
-outcome_for faults.BadRecord = outcome.BadRecord
-
--- one operation, whose refusal is the outcome
-abbrev pub performed : Shelf → Op → Did (Unit {0}) Outcome
-performed shelf op = with_reason outcome_for (refusing (did_apply shelf op))
-
 abbrev pub entered : Shelf → SetRef → Task → Copy → Did (Unit {0}) Outcome
 entered shelf out t c = performed shelf (Enter out.v out.dsn (entry_for t c) t.replace)
 
@@ -105,7 +95,7 @@ abbrev pub first_or : Place → List Place → Place
 first_or p [] = p
 first_or p (q ∷ ps) = q
 
--- the copy of these blocks, by the shelves before and behind it; without blocks it begins at its end-of-file block, the last of the output
+-- the copy of these blocks, by the shelves before and after it; without blocks it begins at its end-of-file block, the last of the output
 unfoldable pub copy_made : Shelf → Shelf → SetRef → Task → List Block → Copy
 copy_made before behind out t bs =
     let to = places (blocks_for before (target out modes.Area) (map content bs)) in

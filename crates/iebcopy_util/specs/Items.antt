@@ -76,7 +76,7 @@ follow (Ok (Some c)) more = more (c ∷ [])
 follow (Err (outcome.Refused MemberExists)) more = more []
 follow (Err o) more = stopped
 
--- The members of a copy, one after another, each on the shelf behind the others; a refusal ends them, but that a member is there.
+-- The members of a copy, one after another, each on the shelf after the others; a refusal ends them, but that a member is there.
 abbrev pub members : Shelf → ℕ → SetRef → List Copy → List Task → Course
 members shelf card out copies [] = record { items = []; goes_on = true }
 members shelf card out copies (t ∷ ts) =

@@ -1,4 +1,4 @@
--- The copies that the statements of a step order: a COPY, and the SELECT or EXCLUDE behind it (Utilities GC28-6586, in this project's profile).
+-- The copies that the statements of a step order: a COPY, and the SELECT or EXCLUDE after it (Utilities GC28-6586, in this project's profile).
 use Rattle.std.specs.Prelude.{ℕ, List, [], ◌∷◌, ◌++◌, Option, Some, None, Result, Ok, Err}
 use Rattle.util_syntax.specs.declared.operands.SynErr.TheVariants.{BadOperand}
 use Rattle.util_syntax.specs.Items.{ItemView, fault, statement}
@@ -22,7 +22,7 @@ abbrev pub asked_for : ℕ → Option Request → Result (ℕ × Request) Statem
 asked_for card None = Err (bad_operand card)
 asked_for card (Some request) = Ok (card, request)
 
--- what a statement asks for, behind its card, or its fault
+-- what a statement asks for, after its card, or its fault
 unfoldable pub asked : ItemView → Result (ℕ × Request) StatementFault
 asked (fault card column kind) = Err (record { card = card; kind = kind })
 asked (statement s) = asked_for s.card (request_of s)
@@ -47,14 +47,14 @@ abbrev pub opened_card : State → ℕ → ℕ
 opened_card (Open opened) card = opened.card
 opened_card _ card = card
 
--- the orders of a statement and of those behind it; a fault ends them, and a COPY that still takes a statement isn't done then
+-- the orders of a statement and of those after it; a fault ends them, and a COPY that still takes a statement isn't done then
 unfoldable pub orders_at : State → Result (ℕ × Request) StatementFault → (State → List Order) → List Order
 orders_at state (Err f) more = order.Fault f ∷ []
 orders_at state (Ok (card, Copy dds)) more = closed state ++ more (Open (record { card = card; dds = dds }))
 orders_at state (Ok (card, Select picks)) more = chosen state card card (choices.Select picks) more
 orders_at state (Ok (card, Exclude names)) more = chosen state (opened_card state card) card (choices.Exclude names) more
 
--- behind a fault nothing is ordered
+-- after a fault nothing is ordered
 abbrev pub unless_ended : State → List Order → List Order
 unless_ended Ended orders = []
 unless_ended _ orders = orders

@@ -1,27 +1,18 @@
 -- The data sets of a copy: those of its DDs, and what a shelf has of them.
-use Rattle.std.specs.Prelude.{◌≡◌, ℕ, ◌==◌, Bool, ◌&&◌, if◌then◌else◌, List, [], ◌∷◌, slice_get, Option, Some, None, Result, Ok, Err, ok_or}
+use Rattle.std.specs.Prelude.{◌==◌, Bool, ◌&&◌, if◌then◌else◌, List, [], ◌∷◌, Option, Some, None, Result, Ok, Err, ok_or}
 use Rattle.std.specs.List.{list_any}
 use Rattle.std.specs.Map.{lookup}
 use Rattle.std.specs.Str.{bytes_eq}
-use Rattle.ebcdic_names.specs.declared.names.Dsn.{Dsn}
 use Rattle.ebcdic_names.specs.declared.names.Name8.{Name8}
-use Rattle.vol_model.specs.declared.answers.Kind.{Kind}
-use Rattle.vol_model.specs.declared.answers.Kind.TheVariants as kinds
-use Rattle.vol_model.specs.declared.answers.SetInfo.{SetInfo}
-use Rattle.vol_model.specs.declared.contents.Body.{Body}
-use Rattle.vol_model.specs.declared.contents.Body.TheVariants as bodies
 use Rattle.vol_model.specs.declared.contents.DataSet.{DataSet}
-use Rattle.vol_model.specs.declared.contents.Entry.{Entry}
 use Rattle.vol_model.specs.declared.contents.Shelf.{Shelf}
-use Rattle.vol_model.specs.declared.contents.Volume.{Volume}
 use Rattle.vol_model.specs.declared.refusals.Refusal.{Refusal}
-use Rattle.vol_model.specs.declared.refusals.Refusal.TheVariants.{NoSet, NoVolume, Unreadable, WrongKind}
-use Rattle.vol_model.specs.Reading.{set_info}
-use Rattle.vol_model.specs.Shelf.{is_partitioned, set_of, unreadable}
 use Rattle.util_steps.specs.declared.calls.SetRef.{SetRef}
 use Rattle.util_syntax.specs.declared.step.DdIn.{DdIn}
 use Rattle.util_syntax.specs.declared.step.DdIn.TheVariants.{Set}
 use Rattle.util_syntax.specs.Step.{same_name}
+use Rattle.record_files.specs.declared.attributes.Purpose.TheVariants as purposes
+use Rattle.record_files.specs.Attributes.{usable_set}
 use Rattle.iebcopy_util.specs.declared.requests.CopyDds.{CopyDds}
 use Rattle.iebcopy_util.specs.declared.requests.InputDd.{InputDd}
 use Rattle.iebcopy_util.specs.declared.sets.Input.{Input}
@@ -68,40 +59,6 @@ is_same a b = a.v == b.v && bytes_eq a.dsn.bytes b.dsn.bytes
 unfoldable pub is_among : SetRef → List Input → Bool
 is_among out inputs = list_any (λ (i : Input). is_same i.set out) inputs
 
--- ---- libraries
-
-abbrev pub unless_refused : DataSet → Option Refusal → Result DataSet Refusal
-unless_refused x None = Ok x
-unless_refused x (Some r) = Err r
-
-abbrev pub library_if_there : List ℕ → Option DataSet → Result DataSet Refusal
-library_if_there name None = Err NoSet
-library_if_there name (Some x) = if is_partitioned name x.attr then unless_refused x (unreadable x.body) else Err WrongKind
-
-abbrev pub library_if_mounted : Dsn → Option Volume → Result DataSet Refusal
-library_if_mounted dsn None = Err NoVolume
-library_if_mounted dsn (Some volume) = library_if_there dsn.bytes (set_of dsn.bytes volume)
-
 -- a partitioned data set that can be read, or why it is none
-unfoldable pub library : Shelf → SetRef → Result DataSet Refusal
-library shelf s = library_if_mounted s.dsn (slice_get shelf.volumes s.v)
-
--- the directory of a partitioned body
-abbrev pub entries_of : Body → List Entry
-entries_of (bodies.Part dir end entries blocks) = entries
-entries_of body = []
-
--- ---- what a machine tells of a set in short
-
-abbrev pub info_unless : SetInfo → Kind → Result SetInfo Refusal
-info_unless info (kinds.Unreadable track) = Err (Unreadable track)
-info_unless info kind = Ok info
-
--- what is told of a set, if it is partitioned and can be read
-abbrev pub info_if : List ℕ → SetInfo → Result SetInfo Refusal
-info_if name info = if is_partitioned name info.attr then info_unless info info.kind else Err WrongKind
-
--- a set is found, with what is told of it in short, or refused
-abbrev pub FindsLibrary : Result SetInfo Refusal → Result DataSet Refusal → Type 0
-FindsLibrary (Ok info) found = (x : DataSet) × (found ≡ Ok x) × (info ≡ set_info x)
-FindsLibrary (Err r) found = found ≡ Err r
+abbrev pub library : Shelf → SetRef → Result DataSet Refusal
+library shelf s = usable_set shelf purposes.Members s

@@ -1,6 +1,6 @@
 -- What the parts of a copy leave, and where a copy ends for want of memory.
-use Rattle.std.specs.Prelude.{◌≡◌, ◌⊎◌, ℕ, Bool, true, false, List, [], ◌∷◌, ◌++◌, ◌&&◌, Option, Some, None, Result, Ok, Err, IfOk, IsErrOf, IsTrue}
-use Rattle.std.specs.List.{AllByRecursion}
+use Rattle.std.specs.Prelude.{◌≡◌, ◌⊎◌, ℕ, Bool, true, false, List, [], ◌∷◌, ◌++◌, ◌&&◌, Option, Some, None, Result, Ok, Err, IfOk, IsErrOf, IsTrue, map, take}
+use Rattle.std.specs.List.{AllByRecursion, flat_map, list_all}
 use Rattle.stop_model.specs.Moments.{Meaning}
 use Rattle.vol_model.specs.declared.answers.Stop.{Stop}
 use Rattle.vol_model.specs.declared.answers.Stop.TheVariants.{Memory}
@@ -8,27 +8,33 @@ use Rattle.vol_model.specs.declared.contents.Block.{Block}
 use Rattle.vol_model.specs.declared.contents.DataSet.{DataSet}
 use Rattle.vol_model.specs.declared.contents.Place.{Place}
 use Rattle.vol_model.specs.declared.contents.Shelf.{Shelf}
+use Rattle.vol_model.specs.declared.machine.Machine.{Ghosts}
 use Rattle.vol_model.specs.declared.refusals.Refusal.{Refusal}
 use Rattle.vol_model.specs.declared.refusals.Refusal.TheVariants.{Unreadable}
+use Rattle.vol_model.specs.Did.{Did}
 use Rattle.vol_model.specs.declared.requests.Op.{Op}
 use Rattle.vol_model.specs.declared.requests.Op.TheVariants.{Extend}
 use Rattle.vol_model.specs.Events.{Item, after_operations, code_of, events_of}
 use Rattle.vol_model.specs.Places.{Content, is_end_of_file}
-use Rattle.vol_model.specs.Reading.{FirstOf, blocks_from}
+use Rattle.vol_model.specs.Reading.{blocks_from}
 use Rattle.vol_model.specs.Runs.{Counts, Runs}
-use Rattle.vol_model.specs.Shelf.{put_first}
-use Rattle.util_steps.specs.Copying.{behind_place, has_data}
+use Rattle.vol_model.specs.Shelf.{blocks_of, put_first}
+use Rattle.util_steps.specs.declared.calls.Fault.{Fault}
+use Rattle.util_steps.specs.declared.calls.Fault.TheVariants.{BadRecord, Refused}
+use Rattle.util_steps.specs.declared.calls.SetRef.{SetRef}
+use Rattle.util_steps.specs.Copying.{behind_place, has_data, source}
+use Rattle.util_steps.specs.Taking.{Takes}
 use Rattle.iebcopy_util.specs.declared.copying.Found.{Found}
 use Rattle.iebcopy_util.specs.declared.members.Ending.{Ending}
 use Rattle.iebcopy_util.specs.declared.tasks.Task.{Task}
 use Rattle.iebcopy_util.specs.declared.walking.Walk.{Walk}
 use Rattle.iebcopy_util.specs.Copying.{found_of}
 use Rattle.iebcopy_util.specs.Items.{Course}
-use Rattle.vol_model.specs.Writing.{OpenWriter, place_on, target_body, with_puts}
+use Rattle.vol_model.specs.Writing.{OpenWriter, body_on, place_on, target_body, with_puts}
 
 -- ---- want of memory
 
--- an extension, behind which a writing isn't done yet
+-- an extension, after which a writing isn't done yet
 abbrev pub is_extension : Op → Bool
 is_extension (Extend v dsn) = true
 is_extension _ = false
@@ -52,6 +58,11 @@ abbrev pub EndsWhole : List Item → Shelf → Shelf → Type 0
 EndsWhole [] old new = new ≡ old
 EndsWhole (item ∷ items) old new = HasPart item.operations old new ⊎ EndsWhole items (after_operations old item.operations) new
 
+-- Steps are taken; where memory runs out on a roomy machine, no writing is done in part.
+pub record TakesWhole {X A E : Type 0} (g : Ghosts X) (did : Shelf → Did A E) (old new : X) (result : Result (Result A E) Stop) : Type 0 where
+  pub takes : Takes g did old new result
+  pub whole : IsTrue g.tells → IsTrue g.roomy → IsErrOf result Memory → HasPart (did (g.meaning old).state).operations (g.meaning old).state (g.meaning new).state
+
 -- ---- items
 
 -- Items are done one after another, and what is answered has `Answers`; where memory ran out on a roomy machine, no writing is done in part.
@@ -67,18 +78,37 @@ EndsCourse course ending = (ending.code ≡ code_of course.items) × (ending.goe
 
 -- ---- the output
 
+-- a library can be read
+abbrev pub IsRead : Shelf → SetRef → Type 0
+IsRead shelf s = source shelf s ≡ Ok (blocks_of (body_on shelf s.v s.dsn.bytes))
+
 -- an output is found as a library, with what is looked for, or refused
-abbrev pub LooksAt : Result Found Refusal → Task → Result DataSet Refusal → Type 0
+abbrev pub LooksAt : Result Found Fault → Task → Result DataSet Refusal → Type 0
 LooksAt (Ok found) t library = (x : DataSet) × (library ≡ Ok x) × (found ≡ found_of t x)
-LooksAt (Err r) t library = library ≡ Err r
+LooksAt (Err (Refused r)) t library = library ≡ Err r
+LooksAt (Err BadRecord) t library = ⊥
 
 -- ---- blocks
 
--- the first block at or after a place, or none, or the refusal of a set that can't be read
-abbrev pub FindsBlock : Result Bool Refusal → Result (List Block) ℕ → Place → Block → Type 0
-FindsBlock (Ok more) body place b = (bs : List Block) × (body ≡ Ok bs) × FirstOf more (blocks_from place bs) b
-FindsBlock (Err (Unreadable track)) body place b = body ≡ Err track
-FindsBlock (Err _) body place b = ⊥
+-- What is answered of the blocks of a library, or that it can't be read.
+pub record Tells {A : Type 0} (input : Result (List Block) ℕ) (Holds : List Block → Result A Fault → Type 0) (answer : Result A Fault) : Type 0 where
+  pub blocks : (bs : List Block) → input ≡ Ok bs → Holds bs answer
+  pub unreadable : (track : ℕ) → input ≡ Err track → answer ≡ Err (Refused (Unreadable track))
+
+-- the places of the blocks of a member are answered, and whether each has data
+abbrev pub HasWalked : List Block → Result Walk Fault → Type 0
+HasWalked member answer = (walk : Walk) × (answer ≡ Ok walk) × (walk.places.items ≡ map (λ (b : Block). b.place) member) × (walk.has_data ≡ list_all has_data member)
+
+-- the first block at or after each of these places of a library, if that can be read
+abbrev pub blocks_at : Result (List Block) ℕ → List Place → List Block
+blocks_at (Ok bs) ps = flat_map (λ (p : Place). take 1 (blocks_from p bs)) ps
+blocks_at (Err track) ps = []
+
+-- A library can be read, and a block of it stands at each of these places.
+pub record HasBlocks (input : Result (List Block) ℕ) (ps : List Place) : Type 0 where
+  pub all : List Block
+  pub read : input ≡ Ok all
+  pub at : AllByRecursion (λ (p : Place). (b : Block) × (rest : List Block) × (blocks_from p all ≡ b ∷ rest) × (b.place ≡ p)) ps
 
 -- each of these blocks is found at its place among others
 abbrev pub AreFound : List Block → List Block → Type 0
@@ -93,14 +123,14 @@ abbrev pub put_places : Shelf → OpenWriter → List Content → List Place
 put_places shelf w [] = []
 put_places shelf w (c ∷ cs) = put_place shelf w c ∷ put_places shelf (with_puts w (c ∷ [])) cs
 
--- of the blocks of a member that are left the first is taken, and the place behind it is answered; none at the member's end
-abbrev pub TakesBlock : Result (Option Place) Refusal → List Block → Walk → Walk → Type 0
+-- of the blocks of a member that are left the first is taken, and the place after it is answered; none at the member's end
+abbrev pub TakesBlock : Result (Option Place) Fault → List Block → Walk → Walk → Type 0
 TakesBlock (Ok (Some next)) left old new = (b : Block) × (rest : List Block) × (left ≡ b ∷ rest) × (is_end_of_file b ≡ false) × (next ≡ behind_place b.place) × (new.places.items ≡ old.places.items ++ b.place ∷ []) × (new.has_data ≡ (old.has_data && has_data b))
 TakesBlock (Ok None) left old new = (new ≡ old) × ((left ≡ []) ⊎ ((b : Block) × (rest : List Block) × (left ≡ b ∷ rest) × (is_end_of_file b ≡ true)))
 TakesBlock (Err r) left old new = ⊥
 
--- of the blocks that are left the place of the first is answered, and the place behind it
-abbrev pub TakesLast : Result (Option (Place × Place)) Refusal → List Block → Type 0
+-- of the blocks that are left the place of the first is answered, and the place after it
+abbrev pub TakesLast : Result (Option (Place × Place)) Fault → List Block → Type 0
 TakesLast (Ok (Some both)) left = (b : Block) × (rest : List Block) × (left ≡ b ∷ rest) × (both.0 ≡ b.place) × (both.1 ≡ behind_place b.place)
 TakesLast (Ok None) left = left ≡ []
 TakesLast (Err r) left = ⊥

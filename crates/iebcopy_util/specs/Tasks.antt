@@ -19,7 +19,8 @@ use Rattle.iebcopy_util.specs.declared.sets.Input.{Input}
 use Rattle.iebcopy_util.specs.declared.tasks.RefusedSet.{RefusedSet}
 use Rattle.iebcopy_util.specs.declared.tasks.Source.{Source}
 use Rattle.iebcopy_util.specs.declared.tasks.Task.{Task}
-use Rattle.iebcopy_util.specs.Sets.{entries_of, library}
+use Rattle.record_files.specs.Members.{entries_of}
+use Rattle.iebcopy_util.specs.Sets.{library}
 
 -- two names are one
 abbrev pub is_name : Name8 → Name8 → Bool
@@ -51,7 +52,7 @@ abbrev pub on_library : SetRef → Result DataSet Refusal → (DataSet → Resul
 on_library set (Err r) more = Err (record { dsn = set.dsn; refusal = r })
 on_library set (Ok x) more = more x
 
--- The copies of members of inputs, in the order of the inputs and of their entries, behind those of earlier inputs; or the first input that is refused.
+-- The copies of members of inputs, in the order of the inputs and of their entries, after those of earlier inputs; or the first input that is refused.
 abbrev pub tasks_of : Shelf → Choice → ℕ → Option Attr → List Task → List Input → Result (List Task) RefusedSet
 tasks_of shelf choice number given earlier [] = Ok earlier
 tasks_of shelf choice number given earlier (i ∷ is) =

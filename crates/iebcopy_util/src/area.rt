@@ -7,11 +7,10 @@ ghost use Rattle.vol_model.specs.Reading.{blocks_from};
 ghost use Rattle.vol_model.specs.Runs.{RunCall, Works};
 ghost use Rattle.vol_model.specs.Writing.{begun, with_puts};
 ghost use Rattle.util_steps.specs.Copying.{did_all, did_block, did_blocks, filled, source, target};
-ghost use Rattle.iebcopy_util.specs.Copying.{places};
-ghost use Rattle.iebcopy_util.specs.Steps.{AreFound, put_place, put_places};
+ghost use Rattle.util_steps.specs.Taking.{IsReady, Takes};
+ghost use Rattle.iebcopy_util.specs.Steps.{HasBlocks, blocks_at, put_place, put_places};
 
-use crate::calls::{begin, commit, put, read};
-use util_steps::{Fault, SetRef};
+use util_steps::{Fault, SetRef, begin, commit, next_block, put_block};
 use vol_model::{BlockBuf, Machine, Mode, Place, Stop};
 
 // Puts the block at a place of a library, and gives the place of its copy.
@@ -30,10 +29,10 @@ fn put_at<M: Machine>(
     ensures promise { IsTrue M.tells → Keeps (M.meaning machine.old).clock (M.promise machine.old) (M.promise machine.new) }
     ensures faults { RunCall true (M.status machine.old) (M.status machine.new) result }
 {
-    match read(machine, from, place, buf)? {
-        Ok(true) => put(machine, buf),
+    match next_block(machine, from, place, buf)? {
+        Ok(true) => put_block(machine, buf),
         Ok(false) => Ok(Err(Fault::BadRecord)),
-        Err(refusal) => Ok(Err(Fault::Refused(refusal))),
+        Err(fault) => Ok(Err(fault)),
     }
 }
 
@@ -48,10 +47,11 @@ fn put_copies<M: Machine>(
 ) -> Result<Result<(), Fault>, Stop>
     requires sound { IsTrue (M.status machine.old).is_sound }
     requires opened { IsTrue (M.status machine.old).is_open }
+    requires found { IsTrue M.tells → HasBlocks (source (M.meaning machine.old).state from.now) at.now }
     requires room { vec_len to.old + length at.now ≤ vec_capacity to.old }
-    ensures works { IsTrue M.tells → (bs member : List Block) → source (M.meaning machine.old).state from.now ≡ Ok bs → at.now ≡ places member → AreFound bs member → Works M.tells_prints (did_blocks (M.meaning machine.old).state (M.writer machine.old) member) (M.meaning machine.old) (M.meaning machine.new) (M.status machine.old).done (M.status machine.new).done result }
-    ensures writer { IsTrue M.tells → (bs member : List Block) → source (M.meaning machine.old).state from.now ≡ Ok bs → at.now ≡ places member → AreFound bs member → IfOk result (λ answer. OnOk answer (M.writer machine.new ≡ with_puts (M.writer machine.old) (map content member))) }
-    ensures to { IsTrue M.tells → (bs member : List Block) → source (M.meaning machine.old).state from.now ≡ Ok bs → at.now ≡ places member → AreFound bs member → IfOk result (λ answer. OnOk answer (to.new.items ≡ to.old.items ++ put_places (M.meaning machine.old).state (M.writer machine.old) (map content member))) }
+    ensures works { IsTrue M.tells → Works M.tells_prints (did_blocks (M.meaning machine.old).state (M.writer machine.old) (blocks_at (source (M.meaning machine.old).state from.now) at.now)) (M.meaning machine.old) (M.meaning machine.new) (M.status machine.old).done (M.status machine.new).done result }
+    ensures writer { IsTrue M.tells → IfOk result (λ answer. OnOk answer (M.writer machine.new ≡ with_puts (M.writer machine.old) (map content (blocks_at (source (M.meaning machine.old).state from.now) at.now)))) }
+    ensures to { IsTrue M.tells → IfOk result (λ answer. OnOk answer (to.new.items ≡ to.old.items ++ put_places (M.meaning machine.old).state (M.writer machine.old) (map content (blocks_at (source (M.meaning machine.old).state from.now) at.now)))) }
     ensures memory { IsTrue M.roomy → IsErrOf result Stop.Memory → ⊥ }
     ensures later { IsTrue M.tells → (M.meaning machine.old).clock ≤ (M.meaning machine.new).clock }
     ensures promise { IsTrue M.tells → Keeps (M.meaning machine.old).clock (M.promise machine.old) (M.promise machine.new) }
@@ -83,9 +83,11 @@ fn write_copies<M: Machine>(
 ) -> Result<Result<(), Fault>, Stop>
     requires sound { IsTrue (M.status machine.old).is_sound }
     requires opened { IsTrue (M.status machine.old).is_open }
+    requires begins { IsTrue M.tells → M.writer machine.old ≡ begun (M.writer machine.old).target }
+    requires found { IsTrue M.tells → HasBlocks (source (M.meaning machine.old).state from.now) at.now }
     requires room { vec_len to.old + length at.now ≤ vec_capacity to.old }
-    ensures works { IsTrue M.tells → (bs member : List Block) → source (M.meaning machine.old).state from.now ≡ Ok bs → at.now ≡ places member → AreFound bs member → M.writer machine.old ≡ begun (M.writer machine.old).target → Works M.tells_prints (did_all (M.meaning machine.old).state (M.writer machine.old).target member) (M.meaning machine.old) (M.meaning machine.new) (M.status machine.old).done (M.status machine.new).done result }
-    ensures to { IsTrue M.tells → (bs member : List Block) → source (M.meaning machine.old).state from.now ≡ Ok bs → at.now ≡ places member → AreFound bs member → IfOk result (λ answer. OnOk answer (to.new.items ≡ to.old.items ++ put_places (M.meaning machine.old).state (M.writer machine.old) (map content member))) }
+    ensures works { IsTrue M.tells → Works M.tells_prints (did_all (M.meaning machine.old).state (M.writer machine.old).target (blocks_at (source (M.meaning machine.old).state from.now) at.now)) (M.meaning machine.old) (M.meaning machine.new) (M.status machine.old).done (M.status machine.new).done result }
+    ensures to { IsTrue M.tells → IfOk result (λ answer. OnOk answer (to.new.items ≡ to.old.items ++ put_places (M.meaning machine.old).state (M.writer machine.old) (map content (blocks_at (source (M.meaning machine.old).state from.now) at.now)))) }
     ensures memory { IsTrue M.roomy → IsErrOf result Stop.Memory → ⊥ }
     ensures later { IsTrue M.tells → (M.meaning machine.old).clock ≤ (M.meaning machine.new).clock }
     ensures promise { IsTrue M.tells → Keeps (M.meaning machine.old).clock (M.promise machine.old) (M.promise machine.new) }
@@ -116,17 +118,14 @@ pub fn write_area<M: Machine>(
     at: &[Place],
     to: &mut Vec<Place>,
 ) -> Result<Result<(), Fault>, Stop>
-    requires sound { IsTrue (M.status machine.old).is_sound }
-    requires closed { IsFalse (M.status machine.old).is_open }
+    requires ready { IsReady M.Machine machine.old }
+    requires found { IsTrue M.tells → HasBlocks (source (M.meaning machine.old).state from.now) at.now }
     requires room { vec_len to.old + length at.now ≤ vec_capacity to.old }
-    ensures works { IsTrue M.tells → (bs member : List Block) → source (M.meaning machine.old).state from.now ≡ Ok bs → at.now ≡ places member → AreFound bs member → Works M.tells_prints (filled (M.meaning machine.old).state out.now Mode.Area member) (M.meaning machine.old) (M.meaning machine.new) (M.status machine.old).done (M.status machine.new).done result }
-    ensures to { IsTrue M.tells → (bs member : List Block) → source (M.meaning machine.old).state from.now ≡ Ok bs → at.now ≡ places member → AreFound bs member → IfOk result (λ answer. OnOk answer (to.new.items ≡ to.old.items ++ put_places (M.meaning machine.old).state (begun (target out.now Mode.Area)) (map content member))) }
+    ensures takes { Takes M.Machine (λ shelf. filled shelf out.now Mode.Area (blocks_at (source shelf from.now) at.now)) machine.old machine.new result }
+    ensures to { IsTrue M.tells → IfOk result (λ answer. OnOk answer (to.new.items ≡ to.old.items ++ put_places (M.meaning machine.old).state (begun (target out.now Mode.Area)) (map content (blocks_at (source (M.meaning machine.old).state from.now) at.now)))) }
     ensures memory { IsTrue M.tells → IsTrue M.roomy → IsErrOf result Stop.Memory → (M.meaning machine.new).state ≡ (M.meaning machine.old).state }
-    ensures later { IsTrue M.tells → (M.meaning machine.old).clock ≤ (M.meaning machine.new).clock }
-    ensures promise { IsTrue M.tells → Keeps (M.meaning machine.old).clock (M.promise machine.old) (M.promise machine.new) }
-    ensures faults { RunCall false (M.status machine.old) (M.status machine.new) result }
 {
-    if let Err(fault) = begin(machine, out)? {
+    if let Err(fault) = begin(machine, out, Mode::Area)? {
         return Ok(Err(fault));
     }
     write_copies(machine, buf, from, at, to)

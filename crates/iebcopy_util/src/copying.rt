@@ -1,38 +1,29 @@
 //! The copy of a member.
-ghost use Rattle.std.specs.Prelude.{◌≡◌, ◌≤◌, ◌+◌, ◌==◌, ◌&&◌, [], false, true, Ok, List, length, vec_capacity, vec_len, IsTrue, IsFalse, IsErrOf, IfOk};
-ghost use Rattle.std.specs.List.{list_all};
+ghost use Rattle.std.specs.Prelude.{◌≡◌, ◌≤◌, ◌+◌, ◌==◌, ◌&&◌, [], Ok, List, length, vec_capacity, vec_len, IsTrue, IsErrOf, IfOk};
 ghost use Rattle.std.specs.Option.{option_copied};
-ghost use Rattle.stop_model.specs.Moments.{Same};
 ghost use Rattle.vol_model.specs.declared.contents.Block.{Block};
 ghost use Rattle.vol_model.specs.declared.contents.DataSet.{DataSet};
-ghost use Rattle.vol_model.specs.declared.contents.Entry.{Entry};
-ghost use Rattle.vol_model.specs.declared.requests.Op.TheVariants as ops;
-ghost use Rattle.vol_model.specs.Calls.{Keeps};
 ghost use Rattle.vol_model.specs.Lawful.{IsLawfulEntry};
 ghost use Rattle.vol_model.specs.Places.{last_place};
-ghost use Rattle.vol_model.specs.Reading.{entries_in};
-ghost use Rattle.vol_model.specs.Runs.{RunCall, Works};
-ghost use Rattle.vol_model.specs.Shelf.{blocks_of, has_member};
-ghost use Rattle.vol_model.specs.Writing.{body_on};
-ghost use Rattle.util_steps.specs.Copying.{has_data, source};
+ghost use Rattle.vol_model.specs.Shelf.{blocks_of};
+ghost use Rattle.util_steps.specs.Copying.{source};
 ghost use Rattle.util_steps.specs.Steps.{AreApart};
-ghost use Rattle.iebcopy_util.specs.Copying.{can_move, copied, copied_again, copied_from, copy_before, entered, entry_for, finished, first_or, first_refusal, is_at, member_copied, outcome_for, output_attr, performed, places, readied, serves, written};
-ghost use Rattle.iebcopy_util.specs.Sets.{entries_of, library};
-ghost use Rattle.iebcopy_util.specs.Steps.{AreFound, HasPart, LooksAt};
+ghost use Rattle.util_steps.specs.Taking.{IsReady, Reads};
+ghost use Rattle.record_files.specs.Members.{entries_of};
+ghost use Rattle.iebcopy_util.specs.Copying.{can_move, copied, copied_again, copied_from, copy_before, entered, entry_for, finished, first_or, first_refusal, is_at, member_copied, output_attr, readied, serves, written};
+ghost use Rattle.iebcopy_util.specs.Sets.{library};
+ghost use Rattle.iebcopy_util.specs.Steps.{HasBlocks, IsRead, LooksAt, TakesWhole, blocks_at};
 ghost use Rattle.iebcopy_util.specs.Tasks.{IsLawfulTask};
 
 use crate::area::write_area;
-use crate::calls::{perform, read};
-use crate::sets::find_library;
 use crate::tasks::{Source, Task, entry_at};
 use crate::walking::{last_block, walk_member};
-use ebcdic_names::Name8;
+use record_files::{Purpose, find_set, has_entry};
 use std::alloc::{AllocError, Global};
-use util_steps::{Fault, SetRef};
+use util_program::{outcome_for, perform};
+use util_steps::{Fault, SetRef, next_block};
 use util_syntax::Outcome;
-use vol_model::{
-    Attr, BlockBuf, Entry, Listed, Machine, Op, Place, ReadErr, Refusal, Stop, move_ttrs,
-};
+use vol_model::{Attr, BlockBuf, Entry, Listed, Machine, Op, Place, Refusal, Stop, move_ttrs};
 
 /// A copy that was made of the blocks of a member.
 #[derive(Debug, Drop)]
@@ -60,52 +51,24 @@ pub struct Found {
     pub has_name: bool,
 }
 
-// Whether a library has an entry of a name.
-fn has_entry<M: Machine>(
-    machine: &mut M,
-    out: &SetRef,
-    name: &Name8,
-) -> Result<Result<bool, Refusal>, Stop>
-    requires sound { IsTrue (M.status machine.old).is_sound }
-    requires closed { IsFalse (M.status machine.old).is_open }
-    ensures found { IsTrue M.tells → (es : List Entry) → entries_in (body_on (M.meaning machine.old).state out.now.v out.now.dsn.bytes) ≡ Ok es → IfOk result (λ answer. answer ≡ Ok (has_member name.now.bytes es)) }
-    ensures same { IsTrue M.tells → Same (M.meaning machine.old) (M.meaning machine.new) }
-    ensures promise { IsTrue M.tells → Keeps (M.meaning machine.old).clock (M.promise machine.old) (M.promise machine.new) }
-    ensures count { (M.status machine.new).done ≡ (M.status machine.old).done }
-    ensures faults { RunCall false (M.status machine.old) (M.status machine.new) result }
-{
-    match machine.entry(out.v, &out.dsn, name) {
-        Ok(Some(_)) => Ok(Ok(true)),
-        Ok(None) => Ok(Ok(false)),
-        Err(ReadErr::Unreadable(track)) => Ok(Err(Refusal::Unreadable(track))),
-        Err(ReadErr::Memory) => Err(Stop::Memory),
-        Err(ReadErr::Device) => Err(Stop::Device),
-    }
-}
-
 // Whether a library has no entries and no blocks.
 fn is_vacant<M: Machine>(
     machine: &mut M,
     buf: &mut BlockBuf,
     out: &SetRef,
-) -> Result<Result<bool, Refusal>, Stop>
-    requires sound { IsTrue (M.status machine.old).is_sound }
-    requires closed { IsFalse (M.status machine.old).is_open }
-    ensures found { IsTrue M.tells → (x : DataSet) → library (M.meaning machine.old).state out.now ≡ Ok x → IfOk result (λ answer. answer ≡ Ok (length (entries_of x.body) == 0 && length (blocks_of x.body) == 0)) }
-    ensures same { IsTrue M.tells → Same (M.meaning machine.old) (M.meaning machine.new) }
-    ensures promise { IsTrue M.tells → Keeps (M.meaning machine.old).clock (M.promise machine.old) (M.promise machine.new) }
-    ensures count { (M.status machine.new).done ≡ (M.status machine.old).done }
-    ensures faults { RunCall false (M.status machine.old) (M.status machine.new) result }
+) -> Result<Result<bool, Fault>, Stop>
+    requires { IsReady M.Machine machine.old }
+    ensures { Reads M.Machine (λ shelf answer. (x : DataSet) → library shelf out.now ≡ Ok x → answer ≡ Ok (length (entries_of x.body) == 0 && length (blocks_of x.body) == 0)) machine.old machine.new result }
 {
     match entry_at(machine, out, 0)? {
         Ok(None) => (),
         Ok(Some(_)) => return Ok(Ok(false)),
-        Err(refusal) => return Ok(Err(refusal)),
+        Err(refusal) => return Ok(Err(Fault::Refused(refusal))),
     }
-    match read(machine, out, Place { tt: 0, r: 0 }, buf)? {
+    match next_block(machine, out, Place { tt: 0, r: 0 }, buf)? {
         Ok(true) => Ok(Ok(false)),
         Ok(false) => Ok(Ok(true)),
-        Err(refusal) => Ok(Err(refusal)),
+        Err(fault) => Ok(Err(fault)),
     }
 }
 
@@ -115,26 +78,21 @@ fn look<M: Machine>(
     buf: &mut BlockBuf,
     out: &SetRef,
     task: &Task,
-) -> Result<Result<Found, Refusal>, Stop>
-    requires sound { IsTrue (M.status machine.old).is_sound }
-    requires closed { IsFalse (M.status machine.old).is_open }
-    ensures found { IsTrue M.tells → IfOk result (λ answer. LooksAt answer task.now (library (M.meaning machine.old).state out.now)) }
-    ensures same { IsTrue M.tells → Same (M.meaning machine.old) (M.meaning machine.new) }
-    ensures promise { IsTrue M.tells → Keeps (M.meaning machine.old).clock (M.promise machine.old) (M.promise machine.new) }
-    ensures count { (M.status machine.new).done ≡ (M.status machine.old).done }
-    ensures faults { RunCall false (M.status machine.old) (M.status machine.new) result }
+) -> Result<Result<Found, Fault>, Stop>
+    requires { IsReady M.Machine machine.old }
+    ensures { Reads M.Machine (λ shelf answer. LooksAt answer task.now (library shelf out.now)) machine.old machine.new result }
 {
-    let info = match find_library(machine, out)? {
+    let info = match find_set(machine, Purpose::Members, out)? {
         Ok(info) => info,
-        Err(refusal) => return Ok(Err(refusal)),
+        Err(refusal) => return Ok(Err(Fault::Refused(refusal))),
     };
     let has_name = match has_entry(machine, out, &task.name)? {
         Ok(has_name) => has_name,
-        Err(refusal) => return Ok(Err(refusal)),
+        Err(refusal) => return Ok(Err(Fault::Refused(refusal))),
     };
     let vacant = match is_vacant(machine, buf, out)? {
         Ok(vacant) => vacant,
-        Err(refusal) => return Ok(Err(refusal)),
+        Err(fault) => return Ok(Err(fault)),
     };
     Ok(Ok(Found {
         attr: info.attr,
@@ -239,40 +197,6 @@ fn entry_for(task: &Task, copy: &Copy, user: Vec<u8>) -> Entry
     }
 }
 
-// A fault of steps as the outcome of a copy.
-fn outcome_for(fault: Fault) -> Outcome
-    ensures { result ≡ outcome_for fault }
-{
-    match fault {
-        Fault::Refused(refusal) => Outcome::Refused(refusal),
-        Fault::BadRecord => Outcome::BadRecord,
-    }
-}
-
-// Puts an entry into a directory.
-fn enter<M: Machine>(
-    machine: &mut M,
-    out: &SetRef,
-    entry: Entry,
-    replace: bool,
-) -> Result<Result<(), Outcome>, Stop>
-    requires sound { IsTrue (M.status machine.old).is_sound }
-    requires closed { IsFalse (M.status machine.old).is_open }
-    requires lawful { IsLawfulEntry entry }
-    ensures works { IsTrue M.tells → Works M.tells_prints (performed (M.meaning machine.old).state (ops.Enter out.now.v out.now.dsn entry replace)) (M.meaning machine.old) (M.meaning machine.new) (M.status machine.old).done (M.status machine.new).done result }
-    ensures memory { IsTrue M.tells → IsErrOf result Stop.Memory → (M.meaning machine.new).state ≡ (M.meaning machine.old).state }
-    ensures promise { IsTrue M.tells → Keeps (M.meaning machine.old).clock (M.promise machine.old) (M.promise machine.new) }
-    ensures faults { RunCall false (M.status machine.old) (M.status machine.new) result }
-{
-    let op = Op::Enter {
-        v: out.v,
-        dsn: out.dsn,
-        entry,
-        replace,
-    };
-    perform(machine, &op)
-}
-
 // Enters a copy, with the user data of its entry in this memory.
 fn enter_copy<M: Machine>(
     machine: &mut M,
@@ -281,17 +205,18 @@ fn enter_copy<M: Machine>(
     copy: &Copy,
     user: Vec<u8>,
 ) -> Result<Result<(), Outcome>, Stop>
-    requires sound { IsTrue (M.status machine.old).is_sound }
-    requires closed { IsFalse (M.status machine.old).is_open }
+    requires ready { IsReady M.Machine machine.old }
     requires user { user.items ≡ task.now.entry.user }
     requires lawful { IsLawfulTask task.now }
-    ensures works { IsTrue M.tells → Works M.tells_prints (entered (M.meaning machine.old).state out.now task.now copy.now) (M.meaning machine.old) (M.meaning machine.new) (M.status machine.old).done (M.status machine.new).done result }
-    ensures memory { IsTrue M.tells → IsErrOf result Stop.Memory → (M.meaning machine.new).state ≡ (M.meaning machine.old).state }
-    ensures promise { IsTrue M.tells → Keeps (M.meaning machine.old).clock (M.promise machine.old) (M.promise machine.new) }
-    ensures faults { RunCall false (M.status machine.old) (M.status machine.new) result }
+    ensures { TakesWhole M.Machine (λ shelf. entered shelf out.now task.now copy.now) machine.old machine.new result }
 {
-    let entry = entry_for(task, copy, user);
-    enter(machine, out, entry, task.replace)
+    let op = Op::Enter {
+        v: out.v,
+        dsn: out.dsn,
+        entry: entry_for(task, copy, user),
+        replace: task.replace,
+    };
+    perform(machine, &op)
 }
 
 // Enters a copy, and gives it back.
@@ -302,14 +227,10 @@ fn finish<M: Machine>(
     copy: Copy,
     user: Vec<u8>,
 ) -> Result<Result<Option<Copy>, Outcome>, Stop>
-    requires sound { IsTrue (M.status machine.old).is_sound }
-    requires closed { IsFalse (M.status machine.old).is_open }
+    requires ready { IsReady M.Machine machine.old }
     requires user { user.items ≡ task.now.entry.user }
     requires lawful { IsLawfulTask task.now }
-    ensures works { IsTrue M.tells → Works M.tells_prints (finished (M.meaning machine.old).state out.now task.now copy) (M.meaning machine.old) (M.meaning machine.new) (M.status machine.old).done (M.status machine.new).done result }
-    ensures memory { IsTrue M.tells → IsErrOf result Stop.Memory → (M.meaning machine.new).state ≡ (M.meaning machine.old).state }
-    ensures promise { IsTrue M.tells → Keeps (M.meaning machine.old).clock (M.promise machine.old) (M.promise machine.new) }
-    ensures faults { RunCall false (M.status machine.old) (M.status machine.new) result }
+    ensures { TakesWhole M.Machine (λ shelf. finished shelf out.now task.now copy) machine.old machine.new result }
 {
     match enter_copy(machine, out, task, &copy, user)? {
         Ok(()) => Ok(Ok(Some(copy))),
@@ -318,7 +239,6 @@ fn finish<M: Machine>(
 }
 
 // Enters a member whose blocks were copied before.
-#[tactic(auto, unfolding(crate::specs::Copying::copied_again))]
 fn copy_again<M: Machine>(
     alloc: Global,
     machine: &mut M,
@@ -326,23 +246,15 @@ fn copy_again<M: Machine>(
     task: &Task,
     copy: &Copy,
 ) -> Result<Result<Option<Copy>, Outcome>, Stop>
-    requires sound { IsTrue (M.status machine.old).is_sound }
-    requires closed { IsFalse (M.status machine.old).is_open }
+    requires ready { IsReady M.Machine machine.old }
     requires lawful { IsLawfulTask task.now }
-    ensures works { IsTrue M.tells → Works M.tells_prints (copied_again (M.meaning machine.old).state out.now task.now copy.now) (M.meaning machine.old) (M.meaning machine.new) (M.status machine.old).done (M.status machine.new).done result }
-    ensures memory { IsTrue M.tells → IsErrOf result Stop.Memory → (M.meaning machine.new).state ≡ (M.meaning machine.old).state }
-    ensures promise { IsTrue M.tells → Keeps (M.meaning machine.old).clock (M.promise machine.old) (M.promise machine.new) }
-    ensures faults { RunCall false (M.status machine.old) (M.status machine.new) result }
+    ensures { TakesWhole M.Machine (λ shelf. copied_again shelf out.now task.now copy.now) machine.old machine.new result }
 {
-    match can_move(alloc, copy.from.as_slice(), &task.entry) {
-        Ok(true) => (),
-        Ok(false) => return Ok(Err(Outcome::BadTtr)),
-        Err(AllocError) => return Err(Stop::Memory),
+    let can = can_move(alloc, copy.from.as_slice(), &task.entry)?;
+    if !can {
+        return Ok(Err(Outcome::BadTtr));
     }
-    let user = match task.entry.user.as_slice().to_vec(alloc) {
-        Ok(user) => user,
-        Err(AllocError) => return Err(Stop::Memory),
-    };
+    let user = task.entry.user.as_slice().to_vec(alloc)?;
     match enter_copy(machine, out, task, copy, user)? {
         Ok(()) => Ok(Ok(None)),
         Err(outcome) => Ok(Err(outcome)),
@@ -355,15 +267,10 @@ fn start_of<M: Machine>(
     buf: &mut BlockBuf,
     out: &SetRef,
     to: &[Place],
-) -> Result<Result<Place, Refusal>, Stop>
-    requires sound { IsTrue (M.status machine.old).is_sound }
-    requires closed { IsFalse (M.status machine.old).is_open }
-    ensures start { IsTrue M.tells → (bs : List Block) → source (M.meaning machine.old).state out.now ≡ Ok bs → IfOk result (λ answer. answer ≡ Ok (first_or (last_place (record { tt = 0; r = 0 }) bs) to.now)) }
-    ensures same { IsTrue M.tells → Same (M.meaning machine.old) (M.meaning machine.new) }
+) -> Result<Result<Place, Fault>, Stop>
+    requires { IsReady M.Machine machine.old }
+    ensures start { Reads M.Machine (λ shelf answer. (bs : List Block) → source shelf out.now ≡ Ok bs → answer ≡ Ok (first_or (last_place (record { tt = 0; r = 0 }) bs) to.now)) machine.old machine.new result }
     ensures memory { IsErrOf result Stop.Memory → ⊥ }
-    ensures promise { IsTrue M.tells → Keeps (M.meaning machine.old).clock (M.promise machine.old) (M.promise machine.new) }
-    ensures count { (M.status machine.new).done ≡ (M.status machine.old).done }
-    ensures faults { RunCall false (M.status machine.old) (M.status machine.new) result }
 {
     match to.split_first() {
         Some((first, _)) => Ok(Ok(*first)),
@@ -382,17 +289,14 @@ fn write_member<M: Machine>(
     to: Vec<Place>,
     user: Vec<u8>,
 ) -> Result<Result<Option<Copy>, Outcome>, Stop>
-    requires sound { IsTrue (M.status machine.old).is_sound }
-    requires closed { IsFalse (M.status machine.old).is_open }
+    requires ready { IsReady M.Machine machine.old }
     requires lawful { IsLawfulTask task.now }
     requires user { user.items ≡ task.now.entry.user }
     requires none { to.items ≡ [] }
     requires room { vec_len to + length from.items ≤ vec_capacity to }
-    ensures works { IsTrue M.tells → (bs member obs : List Block) → source (M.meaning machine.old).state task.now.source.set ≡ Ok bs → from.items ≡ places member → AreFound bs member → source (M.meaning machine.old).state out.now ≡ Ok obs → Works M.tells_prints (written (M.meaning machine.old).state out.now task.now member) (M.meaning machine.old) (M.meaning machine.new) (M.status machine.old).done (M.status machine.new).done result }
-    ensures later { IsTrue M.tells → (M.meaning machine.old).clock ≤ (M.meaning machine.new).clock }
-    ensures memory { IsTrue M.tells → IsTrue M.roomy → (bs member obs : List Block) → source (M.meaning machine.old).state task.now.source.set ≡ Ok bs → from.items ≡ places member → AreFound bs member → source (M.meaning machine.old).state out.now ≡ Ok obs → IsErrOf result Stop.Memory → HasPart (written (M.meaning machine.old).state out.now task.now member).operations (M.meaning machine.old).state (M.meaning machine.new).state }
-    ensures promise { IsTrue M.tells → Keeps (M.meaning machine.old).clock (M.promise machine.old) (M.promise machine.new) }
-    ensures faults { RunCall false (M.status machine.old) (M.status machine.new) result }
+    requires found { IsTrue M.tells → HasBlocks (source (M.meaning machine.old).state task.now.source.set) from.items }
+    requires output { IsTrue M.tells → IsRead (M.meaning machine.old).state out.now }
+    ensures { TakesWhole M.Machine (λ shelf. written shelf out.now task.now (blocks_at (source shelf task.now.source.set) from.items)) machine.old machine.new result }
 {
     let mut to = to;
     match write_area(machine, buf, &task.source.set, out, &from, &mut to)? {
@@ -401,7 +305,7 @@ fn write_member<M: Machine>(
     }
     let start = match start_of(machine, buf, out, &to)? {
         Ok(start) => start,
-        Err(refusal) => return Ok(Err(Outcome::Refused(refusal))),
+        Err(fault) => return Ok(Err(outcome_for(fault))),
     };
     let copy = Copy {
         input: task.source.number,
@@ -420,12 +324,8 @@ fn ready<M: Machine>(
     task: &Task,
     blank: bool,
 ) -> Result<Result<(), Outcome>, Stop>
-    requires sound { IsTrue (M.status machine.old).is_sound }
-    requires closed { IsFalse (M.status machine.old).is_open }
-    ensures works { IsTrue M.tells → Works M.tells_prints (readied (M.meaning machine.old).state out.now task.now blank) (M.meaning machine.old) (M.meaning machine.new) (M.status machine.old).done (M.status machine.new).done result }
-    ensures memory { IsTrue M.tells → IsErrOf result Stop.Memory → (M.meaning machine.new).state ≡ (M.meaning machine.old).state }
-    ensures promise { IsTrue M.tells → Keeps (M.meaning machine.old).clock (M.promise machine.old) (M.promise machine.new) }
-    ensures faults { RunCall false (M.status machine.old) (M.status machine.new) result }
+    requires { IsReady M.Machine machine.old }
+    ensures { TakesWhole M.Machine (λ shelf. readied shelf out.now task.now blank) machine.old machine.new result }
 {
     if !blank {
         return Ok(Ok(()));
@@ -450,18 +350,15 @@ fn write_copy<M: Machine>(
     to: Vec<Place>,
     user: Vec<u8>,
 ) -> Result<Result<Option<Copy>, Outcome>, Stop>
-    requires sound { IsTrue (M.status machine.old).is_sound }
-    requires closed { IsFalse (M.status machine.old).is_open }
+    requires ready { IsReady M.Machine machine.old }
     requires apart { IsTrue M.tells → AreApart out.now task.now.source.set }
     requires lawful { IsLawfulTask task.now }
     requires user { user.items ≡ task.now.entry.user }
     requires none { to.items ≡ [] }
     requires room { vec_len to + length from.items ≤ vec_capacity to }
-    ensures works { IsTrue M.tells → (bs member obs : List Block) → source (M.meaning machine.old).state task.now.source.set ≡ Ok bs → from.items ≡ places member → AreFound bs member → source (M.meaning machine.old).state out.now ≡ Ok obs → Works M.tells_prints (copied (M.meaning machine.old).state out.now task.now blank member) (M.meaning machine.old) (M.meaning machine.new) (M.status machine.old).done (M.status machine.new).done result }
-    ensures later { IsTrue M.tells → (M.meaning machine.old).clock ≤ (M.meaning machine.new).clock }
-    ensures memory { IsTrue M.tells → IsTrue M.roomy → (bs member obs : List Block) → source (M.meaning machine.old).state task.now.source.set ≡ Ok bs → from.items ≡ places member → AreFound bs member → source (M.meaning machine.old).state out.now ≡ Ok obs → IsErrOf result Stop.Memory → HasPart (copied (M.meaning machine.old).state out.now task.now blank member).operations (M.meaning machine.old).state (M.meaning machine.new).state }
-    ensures promise { IsTrue M.tells → Keeps (M.meaning machine.old).clock (M.promise machine.old) (M.promise machine.new) }
-    ensures faults { RunCall false (M.status machine.old) (M.status machine.new) result }
+    requires found { IsTrue M.tells → HasBlocks (source (M.meaning machine.old).state task.now.source.set) from.items }
+    requires output { IsTrue M.tells → IsRead (M.meaning machine.old).state out.now }
+    ensures { TakesWhole M.Machine (λ shelf. copied shelf out.now task.now blank (blocks_at (source shelf task.now.source.set) from.items)) machine.old machine.new result }
 {
     if let Err(outcome) = ready(machine, out, task, blank)? {
         return Ok(Err(outcome));
@@ -478,36 +375,25 @@ fn copy_anew<M: Machine>(
     task: &Task,
     blank: bool,
 ) -> Result<Result<Option<Copy>, Outcome>, Stop>
-    requires sound { IsTrue (M.status machine.old).is_sound }
-    requires closed { IsFalse (M.status machine.old).is_open }
+    requires ready { IsReady M.Machine machine.old }
     requires apart { IsTrue M.tells → AreApart out.now task.now.source.set }
     requires lawful { IsLawfulTask task.now }
-    ensures works { IsTrue M.tells → (obs : List Block) → source (M.meaning machine.old).state out.now ≡ Ok obs → Works M.tells_prints (copied_from (M.meaning machine.old).state out.now task.now blank (source (M.meaning machine.old).state task.now.source.set)) (M.meaning machine.old) (M.meaning machine.new) (M.status machine.old).done (M.status machine.new).done result }
-    ensures later { IsTrue M.tells → (M.meaning machine.old).clock ≤ (M.meaning machine.new).clock }
-    ensures memory { IsTrue M.tells → IsTrue M.roomy → (obs : List Block) → source (M.meaning machine.old).state out.now ≡ Ok obs → IsErrOf result Stop.Memory → HasPart (copied_from (M.meaning machine.old).state out.now task.now blank (source (M.meaning machine.old).state task.now.source.set)).operations (M.meaning machine.old).state (M.meaning machine.new).state }
-    ensures promise { IsTrue M.tells → Keeps (M.meaning machine.old).clock (M.promise machine.old) (M.promise machine.new) }
-    ensures faults { RunCall false (M.status machine.old) (M.status machine.new) result }
+    requires output { IsTrue M.tells → IsRead (M.meaning machine.old).state out.now }
+    ensures { TakesWhole M.Machine (λ shelf. copied_from shelf out.now task.now blank (source shelf task.now.source.set)) machine.old machine.new result }
 {
     let walk = match walk_member(alloc, machine, buf, &task.source.set, task.entry.place)? {
         Ok(walk) => walk,
-        Err(refusal) => return Ok(Err(Outcome::Refused(refusal))),
+        Err(fault) => return Ok(Err(outcome_for(fault))),
     };
-    match can_move(alloc, &walk.places, &task.entry) {
-        Ok(true) => (),
-        Ok(false) => return Ok(Err(Outcome::BadTtr)),
-        Err(AllocError) => return Err(Stop::Memory),
+    let can = can_move(alloc, &walk.places, &task.entry)?;
+    if !can {
+        return Ok(Err(Outcome::BadTtr));
     }
     if !walk.has_data {
         return Ok(Err(Outcome::BadRecord));
     }
-    let to = match Vec::with_capacity(alloc, walk.places.len()) {
-        Ok(to) => to,
-        Err(AllocError) => return Err(Stop::Memory),
-    };
-    let user = match task.entry.user.as_slice().to_vec(alloc) {
-        Ok(user) => user,
-        Err(AllocError) => return Err(Stop::Memory),
-    };
+    let to = Vec::with_capacity(alloc, walk.places.len())?;
+    let user = task.entry.user.as_slice().to_vec(alloc)?;
     write_copy(machine, buf, out, task, blank, walk.places, to, user)
 }
 
@@ -524,18 +410,14 @@ pub fn copy_member<M: Machine>(
     copies: &[Copy],
     task: &Task,
 ) -> Result<Result<Option<Copy>, Outcome>, Stop>
-    requires sound { IsTrue (M.status machine.old).is_sound }
-    requires closed { IsFalse (M.status machine.old).is_open }
+    requires ready { IsReady M.Machine machine.old }
     requires apart { IsTrue M.tells → AreApart out.now task.now.source.set }
     requires lawful { IsLawfulTask task.now }
-    ensures works { IsTrue M.tells → Works M.tells_prints (member_copied (M.meaning machine.old).state out.now copies.now task.now) (M.meaning machine.old) (M.meaning machine.new) (M.status machine.old).done (M.status machine.new).done result }
-    ensures memory { IsTrue M.tells → IsTrue M.roomy → IsErrOf result Stop.Memory → HasPart (member_copied (M.meaning machine.old).state out.now copies.now task.now).operations (M.meaning machine.old).state (M.meaning machine.new).state }
-    ensures promise { IsTrue M.tells → Keeps (M.meaning machine.old).clock (M.promise machine.old) (M.promise machine.new) }
-    ensures faults { RunCall false (M.status machine.old) (M.status machine.new) result }
+    ensures { TakesWhole M.Machine (λ shelf. member_copied shelf out.now copies.now task.now) machine.old machine.new result }
 {
     let found = match look(machine, buf, out, task)? {
         Ok(found) => found,
-        Err(refusal) => return Ok(Err(Outcome::Refused(refusal))),
+        Err(fault) => return Ok(Err(outcome_for(fault))),
     };
     if let Some(outcome) = first_refusal(task, &found) {
         return Ok(Err(outcome));

@@ -3,7 +3,6 @@
 #![tactic(auto)]
 
 mod area;
-mod calls;
 mod copying;
 mod members;
 mod orders;

@@ -10,12 +10,11 @@ ghost use Rattle.iebcopy_util.specs.Items.{Course, copy_code, follow, member_ite
 ghost use Rattle.iebcopy_util.specs.Steps.{DoesItems, EndsCourse};
 ghost use Rattle.iebcopy_util.specs.Tasks.{IsLawfulTask};
 
-use crate::calls::say;
 use crate::copying::{Copy, copy_member};
 use crate::reporting::higher;
 use crate::tasks::Task;
 use std::alloc::{AllocError, Global};
-use util_steps::SetRef;
+use util_steps::{SetRef, say};
 use util_syntax::{Object, Outcome, item_line};
 use vol_model::{BlockBuf, Machine, Refusal, Stop};
 

@@ -81,7 +81,7 @@ fn bad_operand(card: u32) -> StatementFault
     }
 }
 
-// What a statement asks for, behind its card, or its fault.
+// What a statement asks for, after its card, or its fault.
 #[tactic(auto, unfolding(crate::specs::Orders::asked))]
 fn asked(alloc: Global, item: &Item) -> Result<Result<(u32, Request), StatementFault>, AllocError>
     ensures { IfOk result (λ found. found ≡ asked (item_view item.now)) }
@@ -204,7 +204,7 @@ fn take(
 
 /// What the statements of a step order, in order.
 ///
-/// A COPY goes with the SELECT or the EXCLUDE behind it, or else copies all members. A SELECT or
+/// A COPY goes with the SELECT or the EXCLUDE after it, or else copies all members. A SELECT or
 /// an EXCLUDE that follows no such COPY is `BadOperand`. A fault ends the orders, and the COPY
 /// before it that may still take a statement is none. The one error is want of memory.
 pub fn orders_of(alloc: Global, items: &[Item]) -> Result<Vec<Order>, AllocError>

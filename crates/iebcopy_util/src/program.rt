@@ -18,9 +18,10 @@ use crate::members::{Ending, copy_members};
 use crate::orders::{Choice, CopyOrder, Order, StatementFault, orders_of};
 use crate::reporting::{higher, report_fault, report_missing, report_no_dd, report_refused};
 use crate::requests::Pick;
-use crate::sets::{Sets, find_library, is_among, sets_of};
+use crate::sets::{Sets, is_among, sets_of};
 use crate::tasks::{RefusedSet, Task, tasks_of};
 use ebcdic_names::Name8;
+use record_files::{Purpose, find_set};
 use std::alloc::{AllocError, Global};
 use util_steps::SetRef;
 use util_syntax::{Outcome, SYSIN, StepIn, sysin_statements};
@@ -35,9 +36,9 @@ use vol_model::{BlockBuf, Machine, Stop};
 /// - `COPY OUTDD=dd,INDD=dd` or `INDD=(dd,(dd,R),..)` copies members of the inputs, one after
 ///   another, to the output; with R they replace members of their names. A DD that is no data set
 ///   is `NO-DD` with 16, and ends the step.
-/// - `SELECT MEMBER=name` or `MEMBER=(name,(name,new),(name,,R),(name,new,R),..)` behind it takes
+/// - `SELECT MEMBER=name` or `MEMBER=(name,(name,new),(name,,R),(name,new,R),..)` after it takes
 ///   these members alone, each from the first input that has it.
-/// - `EXCLUDE MEMBER=name` or `MEMBER=(name,..)` behind it takes all members but these.
+/// - `EXCLUDE MEMBER=name` or `MEMBER=(name,..)` after it takes all members but these.
 ///
 /// An output that is an input is `SAME-SET`, and the first data set that is no library that can be
 /// read is refused; no member is copied then. Each member is copied and then answered by one line.
@@ -253,7 +254,7 @@ fn find_tasks<M: Machine>(
     ensures count { (M.status machine.new).done ≡ (M.status machine.old).done }
     ensures faults { RunCall false (M.status machine.old) (M.status machine.new) result }
 {
-    match find_library(machine, &sets.out)? {
+    match find_set(machine, Purpose::Members, &sets.out)? {
         Ok(_) => tasks_of(alloc, machine, choice, sets.inputs.as_slice()),
         Err(refusal) => Ok(Err(RefusedSet {
             dsn: sets.out.dsn,

@@ -9,15 +9,14 @@ ghost use Rattle.iebcopy_util.specs.Items.{missing_item, refused_item};
 ghost use Rattle.iebcopy_util.specs.Steps.{DoesItems};
 ghost use Rattle.iebcopy_util.specs.Tasks.{is_taken};
 
-use crate::calls::say;
 use crate::orders::StatementFault;
 use crate::requests::Pick;
 use crate::tasks::{Task, is_taken};
 use ebcdic_names::{Dsn, Name8};
 use std::alloc::{AllocError, Global};
-use util_steps::SetRef;
+use util_steps::{SetRef, say};
 use util_syntax::{Object, Outcome, item_line, no_dd_line, syntax_line};
-use vol_model::{Machine, Refusal, Stop};
+use vol_model::{Line, Machine, Refusal, Stop};
 
 /// The higher of two codes.
 pub fn higher(a: u8, b: u8) -> u8
@@ -27,7 +26,7 @@ pub fn higher(a: u8, b: u8) -> u8
 }
 
 // Prints the line of an item that does no operation, and gives the item's code.
-fn report<M: Machine>(machine: &mut M, line: &[u8], code: u8) -> Result<u8, Stop>
+fn report<M: Machine>(machine: &mut M, line: &Line, code: u8) -> Result<u8, Stop>
     requires sound { IsTrue (M.status machine.old).is_sound }
     requires closed { IsFalse (M.status machine.old).is_open }
     ensures items { IsTrue M.tells → DoesItems M.tells_prints M.roomy (record { operations = []; lines = line.now ∷ []; code = code } ∷ []) (λ c. c ≡ code) (M.meaning machine.old) (M.meaning machine.new) (M.status machine.old).done (M.status machine.new).done result }

@@ -187,7 +187,7 @@ fn each_of_copy(operands: &[Operand]) -> bool
     operands.iter().all(|operand| is_copy_operand(operand))
 }
 
-// Whether it takes all of them, seen so.
+// The same over the views of the operands.
 fn all_of_copy(operands: &[Operand]) -> bool
     ensures { result ≡ list_all is_copy_operand (map operand_view operands.now) }
 {
@@ -337,7 +337,7 @@ fn each_is_member(operands: &[Operand]) -> bool
         .all(|operand| has_keyword(operand, b"MEMBER"))
 }
 
-// Whether all of them are, seen so.
+// The same over the views of the operands.
 fn all_are_member(operands: &[Operand]) -> bool
     ensures { result ≡ list_all (has_keyword (codes "MEMBER")) (map operand_view operands.now) }
 {

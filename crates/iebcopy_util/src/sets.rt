@@ -4,7 +4,7 @@ ghost use Rattle.std.specs.Result.{result_map_both};
 ghost use Rattle.stop_model.specs.Moments.{Same};
 ghost use Rattle.vol_model.specs.Calls.{Keeps};
 ghost use Rattle.vol_model.specs.Runs.{RunCall};
-ghost use Rattle.iebcopy_util.specs.Sets.{FindsLibrary, info_if, inputs_named, is_among, is_same, library, set_in, set_named, sets_of, sets_with};
+ghost use Rattle.iebcopy_util.specs.Sets.{inputs_named, is_among, is_same, library, set_in, set_named, sets_of, sets_with};
 
 use crate::requests::{CopyDds, InputDd};
 use ebcdic_names::{Dsn, Name8};
@@ -124,40 +124,4 @@ pub fn is_among(out: &SetRef, inputs: &[Input]) -> bool
     ensures { result ≡ is_among out.now inputs.now }
 {
     inputs.iter().any(|input| is_same(&input.set, out))
-}
-
-// What is told of a data set, if it is partitioned and can be read.
-fn info_if(name: &Dsn, info: SetInfo) -> Result<SetInfo, Refusal>
-    ensures { result ≡ info_if name.now.bytes info }
-{
-    if is_catalog(name) || info.attr.dsorg / 512 != 1 {
-        return Err(Refusal::WrongKind);
-    }
-    match info.kind {
-        Kind::Unreadable(track) => Err(Refusal::Unreadable(track)),
-        _ => Ok(info),
-    }
-}
-
-/// What is told of a partitioned data set that can be read, or why it is none.
-pub fn find_library<M: Machine>(
-    machine: &mut M,
-    set: &SetRef,
-) -> Result<Result<SetInfo, Refusal>, Stop>
-    requires sound { IsTrue (M.status machine.old).is_sound }
-    requires closed { IsFalse (M.status machine.old).is_open }
-    ensures found { IsTrue M.tells → IfOk result (λ answer. FindsLibrary answer (library (M.meaning machine.old).state set.now)) }
-    ensures same { IsTrue M.tells → Same (M.meaning machine.old) (M.meaning machine.new) }
-    ensures promise { IsTrue M.tells → Keeps (M.meaning machine.old).clock (M.promise machine.old) (M.promise machine.new) }
-    ensures count { (M.status machine.new).done ≡ (M.status machine.old).done }
-    ensures faults { RunCall false (M.status machine.old) (M.status machine.new) result }
-{
-    let mounted = machine.volume(set.v).is_some();
-    match machine.attr(set.v, &set.dsn) {
-        Ok(Some(info)) => Ok(info_if(&set.dsn, info)),
-        Ok(None) if mounted => Ok(Err(Refusal::NoSet)),
-        Ok(None) => Ok(Err(Refusal::NoVolume)),
-        Err(WorkErr::Memory) => Err(Stop::Memory),
-        Err(WorkErr::Device) => Err(Stop::Device),
-    }
 }

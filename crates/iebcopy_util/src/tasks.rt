@@ -10,13 +10,15 @@ ghost use Rattle.vol_model.specs.Lawful.{IsLawfulEntry};
 ghost use Rattle.vol_model.specs.Reading.{entries_in};
 ghost use Rattle.vol_model.specs.Runs.{RunCall};
 ghost use Rattle.vol_model.specs.Writing.{body_on};
-ghost use Rattle.iebcopy_util.specs.Sets.{entries_of, library};
+ghost use Rattle.record_files.specs.Members.{entries_of};
+ghost use Rattle.iebcopy_util.specs.Sets.{library};
 ghost use Rattle.iebcopy_util.specs.Tasks.{IsLawfulChoice, IsLawfulTask, TakesEntry, TakesInput, is_name, is_taken, task, tasks_of, wanted, with_source};
 
 use crate::orders::Choice;
 use crate::requests::Pick;
-use crate::sets::{Input, find_library};
+use crate::sets::Input;
 use ebcdic_names::{Dsn, Name8};
+use record_files::{Purpose, find_set};
 use std::alloc::{AllocError, Global};
 use util_steps::SetRef;
 use vol_model::{Attr, Entry, Listed, Machine, ReadErr, Refusal, Stop};
@@ -274,7 +276,7 @@ fn take_input<M: Machine>(
     ensures count { (M.status machine.new).done ≡ (M.status machine.old).done }
     ensures faults { RunCall false (M.status machine.old) (M.status machine.new) result }
 {
-    let info = match find_library(machine, &input.set)? {
+    let info = match find_set(machine, Purpose::Members, &input.set)? {
         Ok(info) => info,
         Err(refusal) => return Ok(Err(refused(&input.set, refusal))),
     };

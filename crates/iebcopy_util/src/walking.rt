@@ -1,21 +1,15 @@
 //! The blocks of a member, and the last block of a library.
-ghost use Rattle.std.specs.Prelude.{◌≡◌, ◌≤◌, false, true, Ok, Err, ℕ, List, IsTrue, IsFalse, IfOk, IfSome, IsErrOf};
-ghost use Rattle.std.specs.List.{list_all};
-ghost use Rattle.stop_model.specs.Moments.{Same};
-ghost use Rattle.vol_model.specs.declared.contents.Block.{Block};
-ghost use Rattle.vol_model.specs.Calls.{Keeps};
+ghost use Rattle.std.specs.Prelude.{◌≡◌, ◌≤◌, false, true, Ok, Err, IsTrue, IsErrOf, IfOk, IfSome};
 ghost use Rattle.vol_model.specs.Places.{is_end_of_file, last_place};
 ghost use Rattle.vol_model.specs.Reading.{blocks_from, member};
-ghost use Rattle.vol_model.specs.Runs.{RunCall};
 ghost use Rattle.util_steps.specs.Copying.{has_data, source};
 ghost use Rattle.util_steps.specs.Steps.{IsOnward};
-ghost use Rattle.iebcopy_util.specs.Copying.{places};
-ghost use Rattle.iebcopy_util.specs.Steps.{TakesBlock, TakesLast};
+ghost use Rattle.util_steps.specs.Taking.{IsReady, Reads};
+ghost use Rattle.iebcopy_util.specs.Steps.{HasWalked, TakesBlock, TakesLast, Tells};
 
-use crate::calls::read;
-use std::alloc::{AllocError, Global};
-use util_steps::{SetRef, place_behind};
-use vol_model::{BlockBuf, Machine, Place, Refusal, Stop};
+use std::alloc::Global;
+use util_steps::{Fault, SetRef, next_block, place_behind};
+use vol_model::{BlockBuf, Machine, Place, Stop};
 
 /// What is known of the blocks of a member.
 #[derive(Debug, Drop)]
@@ -40,7 +34,7 @@ fn has_data(buf: &BlockBuf) -> bool
     !buf.payload().is_empty()
 }
 
-// Takes the first block of a member at or after a place, and gives the place behind it; `None` at
+// Takes the first block of a member at or after a place, and gives the place after it; `None` at
 // the member's end.
 fn take_block<M: Machine>(
     machine: &mut M,
@@ -48,21 +42,15 @@ fn take_block<M: Machine>(
     walk: &mut Walk,
     from: &SetRef,
     place: Place,
-) -> Result<Result<Option<Place>, Refusal>, Stop>
-    requires sound { IsTrue (M.status machine.old).is_sound }
-    requires closed { IsFalse (M.status machine.old).is_open }
-    ensures block { IsTrue M.tells → (bs : List Block) → source (M.meaning machine.old).state from.now ≡ Ok bs → IfOk result (λ answer. TakesBlock answer (blocks_from place bs) walk.old walk.new) }
-    ensures refused { IsTrue M.tells → (track : ℕ) → source (M.meaning machine.old).state from.now ≡ Err track → IfOk result (λ answer. answer ≡ Err (Refusal.Unreadable track)) }
+) -> Result<Result<Option<Place>, Fault>, Stop>
+    requires { IsReady M.Machine machine.old }
+    ensures reads { Reads M.Machine (λ shelf answer. Tells (source shelf from.now) (λ bs a. TakesBlock a (blocks_from place bs) walk.old walk.new) answer) machine.old machine.new result }
     ensures onward { IfOk result (λ answer. IfOk answer (λ next. IfSome next (λ p. IsOnward place p))) }
-    ensures same { IsTrue M.tells → Same (M.meaning machine.old) (M.meaning machine.new) }
-    ensures promise { IsTrue M.tells → Keeps (M.meaning machine.old).clock (M.promise machine.old) (M.promise machine.new) }
-    ensures count { (M.status machine.new).done ≡ (M.status machine.old).done }
-    ensures faults { RunCall false (M.status machine.old) (M.status machine.new) result }
 {
-    match read(machine, from, place, buf)? {
+    match next_block(machine, from, place, buf)? {
         Ok(true) => (),
         Ok(false) => return Ok(Ok(None)),
-        Err(refusal) => return Ok(Err(refusal)),
+        Err(fault) => return Ok(Err(fault)),
     }
     if is_end_of_file(buf) {
         return Ok(Ok(None));
@@ -82,15 +70,9 @@ pub fn walk_member<M: Machine>(
     buf: &mut BlockBuf,
     from: &SetRef,
     start: Place,
-) -> Result<Result<Walk, Refusal>, Stop>
-    requires sound { IsTrue (M.status machine.old).is_sound }
-    requires closed { IsFalse (M.status machine.old).is_open }
-    ensures walk { IsTrue M.tells → (bs : List Block) → source (M.meaning machine.old).state from.now ≡ Ok bs → IfOk result (λ answer. (walk : Walk) × (answer ≡ Ok walk) × (walk.places.items ≡ places (member bs start)) × (walk.has_data ≡ list_all has_data (member bs start))) }
-    ensures refused { IsTrue M.tells → (track : ℕ) → source (M.meaning machine.old).state from.now ≡ Err track → IfOk result (λ answer. answer ≡ Err (Refusal.Unreadable track)) }
-    ensures same { IsTrue M.tells → Same (M.meaning machine.old) (M.meaning machine.new) }
-    ensures promise { IsTrue M.tells → Keeps (M.meaning machine.old).clock (M.promise machine.old) (M.promise machine.new) }
-    ensures count { (M.status machine.new).done ≡ (M.status machine.old).done }
-    ensures faults { RunCall false (M.status machine.old) (M.status machine.new) result }
+) -> Result<Result<Walk, Fault>, Stop>
+    requires { IsReady M.Machine machine.old }
+    ensures { Reads M.Machine (λ shelf answer. Tells (source shelf from.now) (λ bs a. HasWalked (member bs start) a) answer) machine.old machine.new result }
 {
     let mut walk = Walk {
         places: Vec::new(alloc),
@@ -101,32 +83,27 @@ pub fn walk_member<M: Machine>(
         match take_block(machine, buf, &mut walk, from, place)? {
             Ok(Some(next)) => place = next,
             Ok(None) => return Ok(Ok(walk)),
-            Err(refusal) => return Ok(Err(refusal)),
+            Err(fault) => return Ok(Err(fault)),
         }
     }
 }
 
-// The place of the first block at or after a place, and the place behind it.
+// The place of the first block at or after a place, and the place after it.
 fn next_place<M: Machine>(
     machine: &mut M,
     buf: &mut BlockBuf,
     set: &SetRef,
     place: Place,
-) -> Result<Result<Option<(Place, Place)>, Refusal>, Stop>
-    requires sound { IsTrue (M.status machine.old).is_sound }
-    requires closed { IsFalse (M.status machine.old).is_open }
-    ensures block { IsTrue M.tells → (bs : List Block) → source (M.meaning machine.old).state set.now ≡ Ok bs → IfOk result (λ answer. TakesLast answer (blocks_from place bs)) }
+) -> Result<Result<Option<(Place, Place)>, Fault>, Stop>
+    requires { IsReady M.Machine machine.old }
+    ensures reads { Reads M.Machine (λ shelf answer. Tells (source shelf set.now) (λ bs a. TakesLast a (blocks_from place bs)) answer) machine.old machine.new result }
     ensures onward { IfOk result (λ answer. IfOk answer (λ found. IfSome found (λ both. IsOnward place both.1))) }
-    ensures same { IsTrue M.tells → Same (M.meaning machine.old) (M.meaning machine.new) }
     ensures memory { IsErrOf result Stop.Memory → ⊥ }
-    ensures promise { IsTrue M.tells → Keeps (M.meaning machine.old).clock (M.promise machine.old) (M.promise machine.new) }
-    ensures count { (M.status machine.new).done ≡ (M.status machine.old).done }
-    ensures faults { RunCall false (M.status machine.old) (M.status machine.new) result }
 {
-    match read(machine, set, place, buf)? {
+    match next_block(machine, set, place, buf)? {
         Ok(true) => Ok(Ok(Some((buf.place(), place_behind(buf.place()))))),
         Ok(false) => Ok(Ok(None)),
-        Err(refusal) => Ok(Err(refusal)),
+        Err(fault) => Ok(Err(fault)),
     }
 }
 
@@ -135,15 +112,10 @@ pub fn last_block<M: Machine>(
     machine: &mut M,
     buf: &mut BlockBuf,
     set: &SetRef,
-) -> Result<Result<Place, Refusal>, Stop>
-    requires sound { IsTrue (M.status machine.old).is_sound }
-    requires closed { IsFalse (M.status machine.old).is_open }
-    ensures place { IsTrue M.tells → (bs : List Block) → source (M.meaning machine.old).state set.now ≡ Ok bs → IfOk result (λ answer. answer ≡ Ok (last_place (record { tt = 0; r = 0 }) bs)) }
-    ensures same { IsTrue M.tells → Same (M.meaning machine.old) (M.meaning machine.new) }
+) -> Result<Result<Place, Fault>, Stop>
+    requires { IsReady M.Machine machine.old }
+    ensures place { Reads M.Machine (λ shelf answer. Tells (source shelf set.now) (λ bs a. a ≡ Ok (last_place (record { tt = 0; r = 0 }) bs)) answer) machine.old machine.new result }
     ensures memory { IsErrOf result Stop.Memory → ⊥ }
-    ensures promise { IsTrue M.tells → Keeps (M.meaning machine.old).clock (M.promise machine.old) (M.promise machine.new) }
-    ensures count { (M.status machine.new).done ≡ (M.status machine.old).done }
-    ensures faults { RunCall false (M.status machine.old) (M.status machine.new) result }
 {
     let mut last = Place { tt: 0, r: 0 };
     let mut place = last;
@@ -154,7 +126,7 @@ pub fn last_block<M: Machine>(
                 place = next;
             }
             Ok(None) => return Ok(Ok(last)),
-            Err(refusal) => return Ok(Err(refusal)),
+            Err(fault) => return Ok(Err(fault)),
         }
     }
 }

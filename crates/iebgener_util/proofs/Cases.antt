@@ -12,8 +12,8 @@ use Rattle.util_syntax.specs.Listing.{item_line, object_text, outcome_text}
 use Rattle.vol_model.specs.declared.contents.Block.{Block}
 use Rattle.record_blocks.specs.declared.formats.Format.{Format}
 use Rattle.record_blocks.specs.Packing.{unspanned_blocks}
-use Rattle.iebgener_util.specs.Editing.{Stream}
-use Rattle.iebgener_util.specs.Writing.{packed}
+use Rattle.record_files.specs.Streams.{Stream}
+use Rattle.record_files.specs.Writing.{packed}
 
 abbrev output : Format
 output = record { recfm = 0x90; lrecl = 80; blksize = 800 }
@@ -31,6 +31,6 @@ test_cards : Dsn
 test_cards = record { bytes = 0xE3 ∷ 0xC5 ∷ 0xE2 ∷ 0xE3 ∷ 0x4B ∷ 0xC3 ∷ 0xC1 ∷ 0xD9 ∷ 0xC4 ∷ 0xE2 ∷ replicate 34 0x40 }
 
 -- the line that answers their copy
-line_of_the_copy : item_line 2 (codes "COPY") (object.Name test_cards) Done ≡ codes "00002 COPY TEST.CARDS OK\n"
+line_of_the_copy : item_line 2 (codes "COPY") (object.Name test_cards) Done ≡ codes "00002 COPY TEST.CARDS OK"
 unfolding item_line object_text outcome_text card_number digits shown test_cards ascii_of code_page
 line_of_the_copy = refl

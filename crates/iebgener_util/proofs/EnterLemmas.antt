@@ -1,5 +1,5 @@
 -- The names of a member are entered, one after another.
-use Rattle.std.proofs.Common.{◌≡◌, ℕ, Bool, true, false, List, [], ◌∷◌, ◌++◌, refl, sym, ◌∙◌, ap, subst, append_assoc}
+use Rattle.std.proofs.Common.{◌≡◌, ℕ, Bool, List, [], ◌∷◌, ◌++◌, refl, sym, ◌∙◌, ap, subst, append_assoc}
 use Rattle.std.specs.Prelude.{Result, Ok, Err, IsErr}
 use Rattle.ebcdic_names.specs.declared.names.Name8.{Name8}
 use Rattle.stop_model.specs.Moments.{Meaning}
@@ -16,8 +16,9 @@ use Rattle.util_steps.specs.declared.calls.Fault.{Fault}
 use Rattle.util_steps.specs.declared.calls.SetRef.{SetRef}
 use Rattle.util_steps.specs.Copying.{refusing}
 use Rattle.iebgener_util.specs.declared.requests.Names.{Names}
-use Rattle.iebgener_util.specs.Advancing.{done}
-use Rattle.iebgener_util.specs.Members.{did_aliases, did_enter, name_entry}
+use Rattle.record_files.specs.Advancing.{done}
+use Rattle.record_files.specs.Members.{name_entry}
+use Rattle.iebgener_util.specs.Members.{did_aliases, did_enter, other_name, own_name}
 
 -- Some of the operations of a whole are done, and the others are still to be done.
 pub record Entered (tells : Bool) (whole rest : Did (Unit {0}) Fault) (old now : Meaning Shelf) (n m : ℕ) : Type 0 where
@@ -49,7 +50,7 @@ module _ {tells : Bool} {whole rest : Did (Unit {0}) Fault} {old now : Meaning S
 
 -- what the first alias comes to, and then the others
 abbrev one : Shelf → SetRef → Place → Name8 → Did (Unit {0}) Fault
-one s to place a = refusing (did_apply s (name_entry to place false a))
+one s to place a = refusing (did_apply s (name_entry to place (other_name a)))
 
 abbrev others : SetRef → Place → List Name8 → Unit {0} → Shelf → Did (Unit {0}) Fault
 others to place ns x u = did_aliases u to place ns
@@ -83,7 +84,7 @@ module _ (to : SetRef) (place : Place) {tells : Bool} {whole : Did (Unit {0}) Fa
 
 -- what the member's own name comes to
 abbrev own : Shelf → SetRef → Place → Names → Did (Unit {0}) Fault
-own s to place n = refusing (did_apply s (name_entry to place true n.name))
+own s to place n = refusing (did_apply s (name_entry to place (own_name n.name)))
 
 module _ (to : SetRef) (place : Place) (n : Names) {tells : Bool} {old mid : Meaning Shelf} {m k : ℕ} where
   pub enter_stopped : (q r : Result (Result (Unit {0}) Fault) Stop) → IsErr r → Works tells (own old.state to place n) old mid m k q → Works tells (did_enter old.state to place n) old mid m k r

@@ -1,21 +1,13 @@
-mod AdvanceLemmas
-mod BeginLemmas
 mod Cases
 mod CopyLemmas
 mod EditLemmas
-mod EditorLemmas
+mod EditedLemmas
 mod EnterLemmas
-mod FoundLemmas
-mod HeldLemmas
-mod KeepLemmas
 mod MemberLemmas
-mod NextLemmas
 mod OrderLemmas
-mod PlaceLemmas
-mod PutLemmas
-mod ReadLemmas
-mod RecordLemmas
+mod OutputLemmas
 mod RequestLemmas
+mod SkipLemmas
 mod StepLemmas
 mod StoreLemmas
-mod WrittenLemmas
+pub mod AcceptedLemmas

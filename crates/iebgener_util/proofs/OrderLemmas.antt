@@ -5,14 +5,14 @@ use Rattle.std.specs.Prelude.{Option, Err, None, Some, is_none}
 use Rattle.util_syntax.specs.Items.{ItemView}
 use Rattle.iebgener_util.specs.declared.orders.Order.{Order}
 use Rattle.iebgener_util.specs.declared.orders.Order.TheVariants as order
-use Rattle.iebgener_util.specs.declared.orders.Part.{Part}
+use Rattle.iebgener_util.specs.declared.orders.OutputOrder.{OutputOrder}
 use Rattle.iebgener_util.specs.declared.orders.State.{State}
 use Rattle.iebgener_util.specs.declared.orders.State.TheVariants.{Begun, Open, Ended}
-use Rattle.iebgener_util.specs.declared.orders.StatementFault.{StatementFault}
+use Rattle.util_syntax.specs.declared.program.StatementFault.{StatementFault}
 use Rattle.iebgener_util.specs.declared.requests.Names.{Names}
 use Rattle.iebgener_util.specs.Orders.{generate_at, member_behind, new_part, orders_at, orders_of, refused_at, unless_ended}
 
--- behind a fault nothing is ordered
+-- after a fault nothing is ordered
 pub orders_ended : (exec : ℕ) (items : List ItemView) → orders_of exec Ended items ≡ []
 orders_ended exec [] = refl
 orders_ended exec (item ∷ items) = refl
@@ -31,8 +31,8 @@ at_fault state f more = refl
 pub last_order : (was now : List Order) (o : Order) (exec : ℕ) (more : List ItemView) → now ≡ was ++ o ∷ [] → was ++ o ∷ [] ≡ now ++ orders_of exec Ended more
 last_order was now o exec more pushed = sym pushed ∙ sym (append-nil now) ∙ ap (λ (l : List Order). now ++ l) (sym (orders_ended exec more))
 
--- a MEMBER behind one that has a name ends it
-pub named_behind : (own : Option Names) (p : Part) (card : ℕ) (names : Names) (more : State → List Order) → is_none own ≡ false → member_behind own p card names more ≡ order.Write p ∷ more (Open (new_part card (Some names)))
+-- a MEMBER after one that has a name ends it
+pub named_behind : (own : Option Names) (p : OutputOrder) (card : ℕ) (names : Names) (more : State → List Order) → is_none own ≡ false → member_behind own p card names more ≡ order.Write p ∷ more (Open (new_part card (Some names)))
 named_behind None p card names more is = cc
 named_behind (Some own) p card names more is = refl
 

@@ -1,58 +1,26 @@
 -- The items of a step, case by case.
 use Rattle.std.proofs.Common.{◌≡◌, ◌+◌, ℕ, zero, suc, Bool, List, ◌∷◌, ◌++◌, [], drop, map, take, refl, sym, ◌∙◌, ap, subst}
-use Rattle.ebcdic_names.specs.declared.names.Name8.{Name8}
 use Rattle.std.proofs.lemmas.List.{drop_more, take_more}
 use Rattle.std.proofs.lemmas.Option.{get_or_from_slice_get, slice_get_within}
-use Rattle.std.specs.Prelude.{codes, slice_get, Option, Some, None, Result, Ok, Err, IsErr}
+use Rattle.std.specs.Prelude.{slice_get, Option, Some, None, Result, Ok, Err, IsErr}
 use Rattle.std.specs.Map.{lookup}
 use Rattle.stop_model.specs.Moments.{Meaning}
 use Rattle.vol_model.specs.declared.answers.Stop.{Stop}
 use Rattle.vol_model.specs.declared.contents.Shelf.{Shelf}
 use Rattle.vol_model.specs.declared.requests.Op.{Op}
 use Rattle.vol_model.specs.Events.{Do, Item, Say, after_operations, events_in, events_of, operations_of}
-use Rattle.vol_model.specs.Runs.{Works}
 use Rattle.vol_model.proofs.Stops.{since_first}
 use Rattle.util_steps.specs.Items.{DoesItem, DoesNext}
-use Rattle.util_steps.proofs.Reporting.{item_after, item_for, item_stopped, lines_item}
-use Rattle.util_syntax.specs.declared.listing.Outcome.{Outcome}
 use Rattle.util_syntax.specs.declared.step.StepIn.{StepIn}
 use Rattle.util_syntax.specs.Items.{ItemView}
-use Rattle.util_syntax.specs.Listing.{item_line}
-use Rattle.util_syntax.specs.Program.{no_dd_item, outcome_code, outcome_of, sysin}
+use Rattle.util_syntax.specs.Program.{no_dd_item, sysin}
 use Rattle.util_syntax.specs.Step.{same_name}
 use Rattle.iebgener_util.specs.declared.copying.Output.{Output}
 use Rattle.iebgener_util.specs.declared.orders.Order.{Order}
 use Rattle.iebgener_util.specs.declared.orders.State.TheVariants.{Begun}
-use Rattle.iebgener_util.specs.declared.requests.Edit.{Edit}
-use Rattle.iebgener_util.specs.declared.requests.Names.{Names}
-use Rattle.iebgener_util.specs.Items.{DoesItems, InputView, copied, copy_item, iebgener_items, input_in, items_if, object_for, order_item, order_items, set_in, statements_if, sysut1, sysut2}
+use Rattle.iebgener_util.specs.Items.{iebgener_items, input_in, items_if, order_item, order_items, set_in, statements_if, sysut1, sysut2}
+use Rattle.record_files.specs.Inputs.{InputView}
 use Rattle.iebgener_util.specs.Orders.{orders_of}
-
--- ---- the copy
-
--- the line that answers a copy
-abbrev pub line_for : ℕ → Output → Option Names → Outcome → List ℕ
-line_for card out names o = item_line card (codes "COPY") (object_for out.to names) o
-
-module _ (card : ℕ) (input : InputView) (out : Output) (names : Option Names) (before : List Order) (edits : List Edit) {tells : Bool} {old : Meaning Shelf} where
-  -- the copy is stopped, or its line isn't printed
-  pub copy_stopped : {new : Meaning Shelf} {n m : ℕ} {answer : Result (Result (Unit {0}) Outcome) Stop} (r : Result ℕ Stop) → IsErr r → Works tells (copied old.state input out names before edits) old new n m answer → DoesItem tells (copy_item old.state card input out names before edits) old new n m r
-  unfolding copy_item
-  copy_stopped r failed works =
-      let did = copied old.state input out names before edits in
-      item_stopped did (line_for card out names (outcome_of did.answer) ∷ []) (outcome_code (outcome_of did.answer)) r failed works
-
-  -- it is done, and its line is printed
-  pub copy_done : {mid new : Meaning Shelf} {n k m : ℕ} (answer : Result (Unit {0}) Outcome) (line : List ℕ) (code : ℕ) (r : Result ℕ Stop) → Works tells (copied old.state input out names before edits) old mid n k (Ok answer) → line ≡ line_for card out names (outcome_of answer)
-      → code ≡ outcome_code (outcome_of answer) → DoesItem tells (lines_item (line ∷ []) code) mid new k m r → DoesItem tells (copy_item old.state card input out names before edits) old new n m r
-  unfolding copy_item
-  copy_done {new = new} {n = n} {m = m} answer line code r works line_is code_is said =
-      let did = copied old.state input out names before edits in
-      let line_so : line ≡ line_for card out names (outcome_of did.answer) = line_is ∙ ap (λ (a : Result (Unit {0}) Outcome). line_for card out names (outcome_of a)) works.answer in
-      let code_so : code ≡ outcome_code (outcome_of did.answer) = code_is ∙ ap (λ (a : Result (Unit {0}) Outcome). outcome_code (outcome_of a)) works.answer in
-      let same : item_for did (line ∷ []) code ≡ item_for did (line_for card out names (outcome_of did.answer) ∷ []) (outcome_code (outcome_of did.answer)) =
-      ap (λ (l : List ℕ). item_for did (l ∷ []) code) line_so ∙ ap (λ (c : ℕ). item_for did (line_for card out names (outcome_of did.answer) ∷ []) c) code_so in
-      subst (λ (i : Item). DoesItem tells i old new n m r) same (item_after did (line ∷ []) code r works said)
 
 -- ---- the DDs
 
@@ -90,10 +58,6 @@ module _ (step : StepIn) (shelf : Shelf) where
       -- all are there
       pub all_there : (input : InputView) (out : Output) → Some input ≡ input_of → Some out ≡ output_of → order_items input out [] shelf (orders_of step.card (Begun None) xs) ≡ iebgener_items step shelf
       all_there input out is at = ap (λ (o : Option Output). by_dds (Some xs) (Some input) o) at ∙ ap (λ (i : Option InputView). by_dds (Some xs) i output_of) is ∙ on_statements
-
--- a step that lacks a DD has one item alone
-pub no_dd_done : {tells : Bool} (card : ℕ) (name : Name8) {old new : Meaning Shelf} {n m : ℕ} {r : Result ℕ Stop} → DoesItem tells (no_dd_item card name) old new n m r → DoesItems tells (no_dd_item card name ∷ []) old new n m r
-no_dd_done card name does = record { runs = does.runs; code = does.code; count = does.count }
 
 -- ---- orders
 

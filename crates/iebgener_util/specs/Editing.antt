@@ -1,6 +1,6 @@
 -- Records that IEBGENER edits, group by group (Utilities GC28-6586, in this project's profile).
-use Rattle.std.specs.Prelude.{ℕ, ◌+◌, ◌-◌, nat_eq, nat_le, nat_lt, Bool, true, false, if◌then◌else◌, List, [], ◌∷◌, ◌++◌, length, take, drop, replicate, Option, Some, None, option_and_then}
-use Rattle.std.specs.List.{starts_with}
+use Rattle.std.specs.Prelude.{ℕ, ◌+◌, ◌-◌, nat_eq, nat_le, Bool, true, false, if◌then◌else◌, List, [], ◌∷◌, ◌++◌, length, take, drop, replicate, Option, Some, None, option_and_then}
+use Rattle.std.specs.List.{list_any, starts_with}
 use Rattle.iebgener_util.specs.declared.orders.Order.{Order}
 use Rattle.iebgener_util.specs.declared.orders.Order.TheVariants as order
 use Rattle.iebgener_util.specs.declared.requests.Edit.{Edit}
@@ -8,23 +8,7 @@ use Rattle.iebgener_util.specs.declared.requests.Field.{Field}
 use Rattle.iebgener_util.specs.declared.requests.Ident.{Ident}
 use Rattle.iebgener_util.specs.declared.requests.Origin.{Origin}
 use Rattle.iebgener_util.specs.declared.requests.Origin.TheVariants.{Column, Text}
-
--- Records one after another, and whether a fault ends them.
-pub record Stream : Type 0 where
-  pub records : List (List ℕ)
-  pub broken : Bool
-
--- a record in front of others
-abbrev pub with_record : List ℕ → Stream → Stream
-with_record rec others = record { records = rec ∷ others.records; broken = others.broken }
-
--- a fault in the place of a record
-abbrev pub at_fault : Stream
-at_fault = record { records = []; broken = true }
-
--- no more records
-abbrev pub at_end : Stream
-at_end = record { records = []; broken = false }
+use Rattle.record_files.specs.Streams.{Stream, at_end, at_fault, with_record}
 
 -- a text of so many bytes: it is cut, or filled with blanks
 abbrev pub sized : ℕ → List ℕ → List ℕ
@@ -53,9 +37,21 @@ abbrev pub with_fields : List Field → List ℕ → List ℕ → Option (List �
 with_fields [] rec new = Some new
 with_fields (f ∷ fs) rec new = option_and_then (λ (further : List ℕ). with_fields fs rec further) (with_field_laid f rec new)
 
--- a record of so many bytes: blanks with the fields laid over them, unless one passes the end of either record
+abbrev pub is_any_field : List Field → Bool
+is_any_field [] = false
+is_any_field (f ∷ fs) = true
+
+-- a group has fields
+abbrev pub has_fields : Edit → Bool
+has_fields edit = is_any_field edit.fields
+
+-- one of the groups has
+abbrev pub have_fields : List Edit → Bool
+have_fields edits = list_any has_fields edits
+
+-- a record of so many bytes: blanks with the fields of its group laid over them, unless one passes the end of either record; it stays as it is where the group has none
 unfoldable pub edited_record : ℕ → Edit → List ℕ → Option (List ℕ)
-edited_record lrecl edit rec = with_fields edit.fields rec (replicate lrecl 0x40)
+edited_record lrecl edit rec = if has_fields edit then with_fields edit.fields rec (replicate lrecl 0x40) else Some rec
 
 -- the record has the text at its column
 unfoldable pub ends_group : Option Ident → List ℕ → Bool
@@ -67,11 +63,11 @@ abbrev pub edited_then : Option (List ℕ) → Stream → Stream
 edited_then None others = at_fault
 edited_then (Some rec) others = with_record rec others
 
--- the groups behind a record
+-- the groups after a record
 abbrev pub groups_behind : Edit → List Edit → List ℕ → List Edit
 groups_behind edit edits rec = if ends_group edit.ident rec then edits else edit ∷ edits
 
--- records edited by groups, one group after another; what stands behind the last group is dropped
+-- records edited by groups, one group after another; what stands after the last group is dropped
 abbrev pub edited : ℕ → Bool → List Edit → List (List ℕ) → Stream
 edited lrecl broken [] recs = at_end
 edited lrecl broken (e ∷ es) [] = record { records = []; broken = broken }
@@ -82,24 +78,19 @@ unfoldable pub edited_by : ℕ → Option (List Edit) → Stream → Stream
 edited_by lrecl None st = st
 edited_by lrecl (Some edits) st = edited lrecl st.broken edits st.records
 
--- records in front of the first that is longer than this
-abbrev pub fitting : ℕ → Bool → List (List ℕ) → Stream
-fitting longest broken [] = record { records = []; broken = broken }
-fitting longest broken (rec ∷ recs) = if nat_lt longest (length rec) then at_fault else with_record rec (fitting longest broken recs)
-
 -- ---- the orders in front
 
--- the records behind a group: those behind the first that ends it
+-- the records after a group: those after the first that ends it
 abbrev pub behind_group : Edit → List (List ℕ) → List (List ℕ)
 behind_group e [] = []
 behind_group e (rec ∷ recs) = if ends_group e.ident rec then recs else behind_group e recs
 
--- the records behind groups that follow each other
+-- the records after groups that follow each other
 abbrev pub behind_groups : List Edit → List (List ℕ) → List (List ℕ)
 behind_groups [] recs = recs
 behind_groups (e ∷ es) recs = behind_groups es (behind_group e recs)
 
--- the records behind a part: one without groups takes all
+-- the records after a part: one without groups takes all
 abbrev pub behind_part : List Edit → List (List ℕ) → List (List ℕ)
 behind_part [] recs = []
 behind_part (e ∷ es) recs = behind_groups (e ∷ es) recs
@@ -109,11 +100,11 @@ abbrev pub groups_in : Order → List Edit
 groups_in (order.Write p) = p.edits
 groups_in (order.Fault f) = []
 
--- the records behind orders that follow each other; nothing follows a fault
+-- the records after orders that follow each other; nothing follows a fault
 abbrev pub behind_orders : List Order → List (List ℕ) → List (List ℕ)
 behind_orders [] recs = recs
 behind_orders (o ∷ os) recs = behind_orders os (behind_part (groups_in o) recs)
 
--- what is left of a stream behind orders; a fault of the input stays to be met
+-- what is left of a stream after orders; a fault of the input stays to be met
 abbrev pub left_behind : List Order → Stream → Stream
 left_behind os st = record { records = behind_orders os st.records; broken = st.broken }

@@ -1,27 +1,19 @@
 -- What IEBGENER does in a step (Utilities GC28-6586, in this project's profile).
-use Rattle.std.specs.Prelude.{◌≡◌, ℕ, ◌==◌, Bool, true, false, ◌&&◌, if◌then◌else◌, List, [], ◌∷◌, ◌++◌, codes, Option, Some, None, IfOk, Result, Ok, Err}
+use Rattle.std.specs.Prelude.{ℕ, ◌==◌, bit_and, not, is_some, Bool, false, ◌&&◌, ◌||◌, if◌then◌else◌, List, [], ◌∷◌, ◌++◌, codes, Option, Some, None, Result, Ok, Err}
 use Rattle.std.specs.Map.{lookup}
 use Rattle.std.specs.Str.{bytes_eq}
 use Rattle.ebcdic_names.specs.declared.names.Name8.{Name8}
-use Rattle.card_text.specs.declared.cards.Card.{Card}
 use Rattle.record_blocks.specs.declared.formats.Format.{Format}
+use Rattle.record_blocks.specs.Formats.{first_fault}
 use Rattle.vol_model.specs.declared.answers.Mode.TheVariants as modes
 use Rattle.vol_model.specs.declared.contents.Attr.{Attr}
-use Rattle.vol_model.specs.declared.contents.Block.{Block}
 use Rattle.vol_model.specs.declared.contents.DataSet.{DataSet}
-use Rattle.vol_model.specs.declared.contents.Place.{Place}
 use Rattle.vol_model.specs.declared.contents.Shelf.{Shelf}
 use Rattle.vol_model.specs.declared.refusals.Refusal.{Refusal}
 use Rattle.vol_model.specs.Did.{Did, answered, with_reason}
-use Rattle.stop_model.specs.Moments.{Meaning}
-use Rattle.vol_model.specs.declared.answers.Stop.{Stop}
-use Rattle.vol_model.specs.Events.{Item, after_operations, code_of, events_of}
-use Rattle.vol_model.specs.Runs.{Counts, Runs}
-use Rattle.vol_model.specs.Shelf.{blocks_of}
+use Rattle.vol_model.specs.Events.{Item, after_operations}
 use Rattle.util_steps.specs.declared.calls.Fault.{Fault}
-use Rattle.util_steps.specs.declared.calls.Fault.TheVariants as faults
 use Rattle.util_steps.specs.declared.calls.SetRef.{SetRef}
-use Rattle.util_steps.specs.Copying.{source}
 use Rattle.util_syntax.specs.declared.listing.Object.{Object}
 use Rattle.util_syntax.specs.declared.listing.Object.TheVariants as object
 use Rattle.util_syntax.specs.declared.listing.Outcome.{Outcome}
@@ -32,89 +24,31 @@ use Rattle.util_syntax.specs.declared.step.StepIn.{StepIn}
 use Rattle.util_syntax.specs.Items.{ItemView}
 use Rattle.util_syntax.specs.Program.{answered_item, no_dd_item, statements_in, syntax_item, sysin}
 use Rattle.util_syntax.specs.Step.{same_name}
-use Rattle.iebgener_util.specs.declared.attributes.Purpose.{Purpose}
-use Rattle.iebgener_util.specs.declared.attributes.Purpose.TheVariants as purposes
-use Rattle.iebgener_util.specs.declared.copying.Input.{Input}
-use Rattle.iebgener_util.specs.declared.copying.Input.TheVariants as inputs
+use Rattle.util_program.specs.Outcomes.{outcome_for}
+use Rattle.record_files.specs.declared.attributes.Purpose.{Purpose}
+use Rattle.record_files.specs.declared.attributes.Purpose.TheVariants as purposes
 use Rattle.iebgener_util.specs.declared.copying.Output.{Output}
-use Rattle.iebgener_util.specs.declared.copying.Source.{Source}
 use Rattle.iebgener_util.specs.declared.orders.Order.{Order}
 use Rattle.iebgener_util.specs.declared.orders.Order.TheVariants as order
 use Rattle.iebgener_util.specs.declared.orders.State.TheVariants.{Begun}
 use Rattle.iebgener_util.specs.declared.requests.Edit.{Edit}
 use Rattle.iebgener_util.specs.declared.requests.Names.{Names}
-use Rattle.iebgener_util.specs.Attributes.{both, format_in, format_with, misfits, output_attr, usable_set}
-use Rattle.iebgener_util.specs.Editing.{Stream, edited_by, left_behind}
-use Rattle.iebgener_util.specs.Members.{blocks_at, library_for, member_in, stored}
+use Rattle.record_files.specs.Attributes.{format_in, found_both, output_attr, usable_set}
+use Rattle.record_files.specs.Inputs.{Found, InputView, attr_of, cards, format_of, found_input, from, records_of}
+use Rattle.iebgener_util.specs.Editing.{edited_by, have_fields, left_behind}
+use Rattle.iebgener_util.specs.Members.{library_for, stored}
 use Rattle.iebgener_util.specs.Orders.{orders_of}
-use Rattle.iebgener_util.specs.Reading.{card_records, set_records}
-use Rattle.iebgener_util.specs.Writing.{Coming, appended, packed, replaced}
+use Rattle.record_files.specs.Writing.{Coming, appended, packed, rewritten}
 
--- ---- the input and the output
+-- ---- formats
 
--- what is read: cards, or a data set or a member of one
-pub data InputView : Type 0 where
-  cards : List (ℕ × Card) → InputView
-  from : SetRef → Option Name8 → InputView
+-- records of one length
+abbrev pub is_fixed : Format → Bool
+is_fixed format = bit_and format.recfm 0xC0 == 0x80
 
-abbrev pub input_view : Input → InputView
-input_view (inputs.Cards cs) = cards cs.now
-input_view (inputs.From s member) = from s member
-
--- what is read, as it was found: cards, or a data set and where its member begins, if one is read
-pub data Found : Type 0 where
-  found_cards : List (ℕ × Card) → Found
-  found_set : DataSet → Option Place → Found
-
-abbrev pub found_whole : Result DataSet Refusal → Result Found Refusal
-found_whole (Ok x) = Ok (found_set x None)
-found_whole (Err r) = Err r
-
-abbrev pub found_member : Result (DataSet × Place) Refusal → Result Found Refusal
-found_member (Ok m) = Ok (found_set m.0 (Some m.1))
-found_member (Err r) = Err r
-
-unfoldable pub found_input : Shelf → InputView → Result Found Refusal
-found_input shelf (cards cs) = Ok (found_cards cs)
-found_input shelf (from s None) = found_whole (usable_set shelf purposes.Records s)
-found_input shelf (from s (Some name)) = found_member (member_in shelf s name)
-
--- its attributes, if it is a data set
-abbrev pub attr_of : Found → Option Attr
-attr_of (found_cards cs) = None
-attr_of (found_set x at) = Some x.attr
-
--- where its member begins, if one is read
-abbrev pub start_of : Found → Option Place
-start_of (found_cards cs) = None
-start_of (found_set x at) = at
-
--- what is known of it before it is read
-abbrev pub source_of : Found → Source
-source_of found = record { attr = attr_of found; start = start_of found }
-
--- its format
-abbrev pub format_of : Found → Format
-format_of found = format_with (attr_of found)
-
--- its records
-abbrev pub records_of : Found → Stream
-records_of (found_cards cs) = card_records cs
-records_of (found_set x at) = set_records (format_in x.attr) (blocks_at at (blocks_of x.body))
-
--- what is known of what is found, or why it can't be read
-abbrev pub IsFound : Result Source Refusal → Result Found Refusal → Type 0
-IsFound (Ok known) found = (f : Found) × (found ≡ Ok f) × (known ≡ source_of f)
-IsFound (Err r) found = found ≡ Err r
-
--- on this shelf what is read still has the records that were found
-abbrev pub ReadsAs : Shelf → InputView → Found → Type 0
-ReadsAs shelf (cards cs) found = found ≡ found_cards cs
-ReadsAs shelf (from s member) found = (x : DataSet) × (at : Option Place) × (found ≡ found_set x at) × (source shelf s ≡ Ok (blocks_of x.body))
-
--- a data set can be read
-abbrev pub IsThere : Shelf → SetRef → Type 0
-IsThere shelf s = (bs : List Block) × (source shelf s ≡ Ok bs)
+-- the formats don't serve: one of them breaks a rule, or fields are laid out and the output has no records of one length
+unfoldable pub formats_clash : Bool → Format → Format → Bool
+formats_clash edits input output = is_some (first_fault input) || (is_some (first_fault output) || (edits && not (is_fixed output)))
 
 -- a sequential data set is its own input
 abbrev pub is_same : InputView → SetRef → Option Names → Bool
@@ -129,30 +63,21 @@ abbrev pub groups : List Edit → Option (List Edit)
 groups [] = None
 groups (e ∷ es) = Some (e ∷ es)
 
-abbrev pub has_edits : List Edit → Bool
-has_edits [] = false
-has_edits (e ∷ es) = true
+-- blocks are written to a member, or to a sequential set, after its own or in their place
+abbrev pub write_output : Shelf → Output → Option Names → Attr → Coming → Did (Unit {0}) Fault
+write_output shelf out (Some n) attr c = stored shelf out.to n c
+write_output shelf out None attr c = if out.append then appended shelf out.to modes.Fill c else rewritten shelf out.to attr c
 
--- a fault of steps as the outcome of the copy
-abbrev pub outcome_for : Fault → Outcome
-outcome_for (faults.Refused refusal) = outcome.Refused refusal
-outcome_for faults.BadRecord = outcome.BadRecord
-
--- blocks are written to a member, or to a sequential set, behind its own or in their place
-abbrev pub put_out : Shelf → Output → Option Names → Attr → Coming → Did (Unit {0}) Fault
-put_out shelf out (Some n) attr c = stored shelf out.to n c
-put_out shelf out None attr c = if out.append then appended shelf out.to modes.Fill c else replaced shelf out.to attr c
-
--- the blocks of the records that are read behind the parts in front, edited and packed in a format
+-- the blocks of the records that are read after the parts in front, edited and packed in a format
 unfoldable pub blocks_in : Format → List Order → List Edit → Found → Coming
 blocks_in format before edits found = packed format (edited_by format.lrecl (groups edits) (left_behind before (records_of found)))
 
 -- they are written, unless the formats don't serve or the output is the input
 abbrev pub copied_with : Shelf → InputView → Output → Option Names → List Order → List Edit → Found → Attr → Did (Unit {0}) Outcome
 copied_with shelf input out names before edits found attr =
-    if misfits (has_edits edits) (format_of found) (format_in attr) then answered (Err outcome.Dcb)
+    if formats_clash (have_fields edits) (format_of found) (format_in attr) then answered (Err outcome.Dcb)
     else (if is_same input out.to names then answered (Err outcome.SameSet)
-    else with_reason outcome_for (put_out shelf out names attr (blocks_in (format_in attr) before edits found)))
+    else with_reason outcome_for (write_output shelf out names attr (blocks_in (format_in attr) before edits found)))
 
 abbrev pub copied_if : Shelf → InputView → Output → Option Names → List Order → List Edit → Result (Found × DataSet) Refusal → Did (Unit {0}) Outcome
 copied_if shelf input out names before edits (Err r) = answered (Err (outcome.Refused r))
@@ -160,16 +85,16 @@ copied_if shelf input out names before edits (Ok both) = copied_with shelf input
 
 -- what a sequential output is found for
 abbrev pub purpose_of : Output → Purpose
-purpose_of out = if out.append then purposes.Records else purposes.Emptied
+purpose_of out = if out.append then purposes.Records else purposes.Rewrite
 
 -- the output: a library that takes a member of these names, or a sequential set
 abbrev pub found_output : Shelf → Output → Option Names → Result DataSet Refusal
 found_output shelf out (Some n) = library_for shelf out.to n
 found_output shelf out None = usable_set shelf (purpose_of out) out.to
 
--- A copy of what is read behind the parts in front: both data sets must be there, of their kind and readable.
+-- A copy of what is read after the parts in front: both data sets must be there, of their kind and readable.
 unfoldable pub copied : Shelf → InputView → Output → Option Names → List Order → List Edit → Did (Unit {0}) Outcome
-copied shelf input out names before edits = copied_if shelf input out names before edits (both (found_input shelf input) (found_output shelf out names))
+copied shelf input out names before edits = copied_if shelf input out names before edits (found_both (found_input shelf input) (found_output shelf out names))
 
 -- ---- parts
 
@@ -188,12 +113,12 @@ object_for to None = object.Name to.dsn
 unfoldable pub copy_item : Shelf → ℕ → InputView → Output → Option Names → List Order → List Edit → Item
 copy_item shelf card input out names before edits = answered_item card (codes "COPY") (object_for out.to names) (copied shelf input out names before edits)
 
--- the item of an order behind others
+-- the item of an order after others
 unfoldable pub order_item : Shelf → InputView → Output → List Order → Order → Item
 order_item shelf input out before (order.Write p) = copy_item shelf p.card input out (names_for p.names out.member) before p.edits
 order_item shelf input out before (order.Fault f) = syntax_item f.card f.kind
 
--- the items of orders, each on the shelf behind the operations of those before it
+-- the items of orders, each on the shelf after the operations of those before it
 abbrev pub order_items : InputView → Output → List Order → Shelf → List Order → List Item
 order_items input out before shelf [] = []
 order_items input out before shelf (o ∷ os) = let item = order_item shelf input out before o in item ∷ order_items input out (before ++ o ∷ []) (after_operations shelf item.operations) os
@@ -237,9 +162,3 @@ items_if shelf card (Some statements) (Some input) (Some out) = order_items inpu
 unfoldable pub iebgener_items : StepIn → Shelf → List Item
 iebgener_items step shelf =
     items_if shelf step.card (statements_if (lookup (same_name sysin) step.dds)) (input_in (lookup (same_name sysut1) step.dds)) (set_in (lookup (same_name sysut2) step.dds))
-
--- Items are done, with their highest code.
-pub record DoesItems (tells : Bool) (items : List Item) (old new : Meaning Shelf) (n m : ℕ) (result : Result ℕ Stop) : Type 0 where
-  pub runs : Runs tells (events_of items) old new result
-  pub code : IfOk result (λ code. code ≡ code_of items)
-  pub count : Counts (events_of items) n m result

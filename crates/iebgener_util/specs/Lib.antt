@@ -1,12 +1,7 @@
 pub mod Requests
 pub mod Orders
 pub mod Editing
-pub mod Reading
-pub mod Attributes
-pub mod Writing
+pub mod SkippedGroups
 pub mod Members
-pub mod RecordWriter
-pub mod Advancing
-pub mod Passing
-pub mod Editor
 pub mod Items
+pub mod Edited

@@ -1,38 +1,34 @@
 -- The parts of the input that the statements of a step order to be written, each to a member of its own or all to one output (Utilities GC28-6586, in this project's profile).
 use Rattle.std.specs.Prelude.{ℕ, List, [], ◌∷◌, ◌++◌, Option, Some, None, Result, Ok, Err}
-use Rattle.util_syntax.specs.declared.operands.SynErr.TheVariants.{BadOperand}
+use Rattle.util_syntax.specs.declared.program.StatementFault.{StatementFault}
 use Rattle.util_syntax.specs.Items.{ItemView, fault, statement}
+use Rattle.util_syntax.specs.Program.{bad_operand}
 use Rattle.iebgener_util.specs.declared.orders.Order.{Order}
 use Rattle.iebgener_util.specs.declared.orders.Order.TheVariants as order
-use Rattle.iebgener_util.specs.declared.orders.Part.{Part}
+use Rattle.iebgener_util.specs.declared.orders.OutputOrder.{OutputOrder}
 use Rattle.iebgener_util.specs.declared.orders.State.{State}
 use Rattle.iebgener_util.specs.declared.orders.State.TheVariants.{Begun, Ended, Open}
-use Rattle.iebgener_util.specs.declared.orders.StatementFault.{StatementFault}
 use Rattle.iebgener_util.specs.declared.requests.Edit.{Edit}
 use Rattle.iebgener_util.specs.declared.requests.Names.{Names}
 use Rattle.iebgener_util.specs.declared.requests.Request.{Request}
 use Rattle.iebgener_util.specs.declared.requests.Request.TheVariants.{Generate, Member, Record}
 use Rattle.iebgener_util.specs.Requests.{request_of}
 
--- a statement without the form of its operation, or in a place that its rule hasn't
-abbrev pub bad_operand : ℕ → StatementFault
-bad_operand card = record { card = card; kind = BadOperand }
-
 abbrev pub asked_for : ℕ → Option Request → Result (ℕ × Request) StatementFault
 asked_for card None = Err (bad_operand card)
 asked_for card (Some request) = Ok (card, request)
 
--- what a statement asks for, behind its card, or its fault
+-- what a statement asks for, after its card, or its fault
 unfoldable pub asked : ItemView → Result (ℕ × Request) StatementFault
 asked (fault card column kind) = Err (record { card = card; kind = kind })
 asked (statement s) = asked_for s.card (request_of s)
 
 -- a part on a card, without edits yet
-abbrev pub new_part : ℕ → Option Names → Part
+abbrev pub new_part : ℕ → Option Names → OutputOrder
 new_part card names = record { card = card; names = names; edits = [] }
 
 -- a part that edits one more group
-abbrev pub with_edit : Part → Edit → Part
+abbrev pub with_edit : OutputOrder → Edit → OutputOrder
 with_edit p edit = record p { edits = p.edits ++ edit ∷ [] }
 
 -- the card of a step that begins: that of the first statement, or of EXEC
@@ -60,8 +56,8 @@ record_at (Begun first) card edit more = more (Open (with_edit (new_part (first_
 record_at (Open p) card edit more = more (Open (with_edit p edit))
 record_at Ended card edit more = refused_at card
 
--- MEMBER ends the member before it; behind a part without a name it has no place
-abbrev pub member_behind : Option Names → Part → ℕ → Names → (State → List Order) → List Order
+-- MEMBER ends the member before it; after a part without a name it has no place
+abbrev pub member_behind : Option Names → OutputOrder → ℕ → Names → (State → List Order) → List Order
 member_behind None p card names more = refused_at card
 member_behind (Some own) p card names more = order.Write p ∷ more (Open (new_part card (Some names)))
 
@@ -70,14 +66,14 @@ member_at (Begun first) card names more = more (Open (new_part card (Some names)
 member_at (Open p) card names more = member_behind p.names p card names more
 member_at Ended card names more = refused_at card
 
--- the orders of a statement and of those behind it; a fault ends them, and a part that still takes statements isn't written then
+-- the orders of a statement and of those after it; a fault ends them, and a part that still takes statements isn't written then
 unfoldable pub orders_at : State → Result (ℕ × Request) StatementFault → (State → List Order) → List Order
 orders_at state (Err f) more = order.Fault f ∷ []
 orders_at state (Ok (card, Generate)) more = generate_at state card more
 orders_at state (Ok (card, Record edit)) more = record_at state card edit more
 orders_at state (Ok (card, Member names)) more = member_at state card names more
 
--- behind a fault nothing is ordered
+-- after a fault nothing is ordered
 abbrev pub unless_ended : State → List Order → List Order
 unless_ended Ended orders = []
 unless_ended _ orders = orders

@@ -1,7 +1,6 @@
 -- What the statements of IEBGENER ask for (Utilities GC28-6586, in this project's profile).
-use Rattle.std.specs.Prelude.{ℕ, ◌==◌, nat_le, Bool, true, false, ◌&&◌, ◌||◌, if◌then◌else◌, List, [], ◌∷◌, codes, map, is_some, Option, Some, None, option_map, option_and_then}
+use Rattle.std.specs.Prelude.{ℕ, ◌==◌, nat_le, Bool, true, false, ◌&&◌, ◌||◌, if◌then◌else◌, List, [], ◌∷◌, codes, is_some, Option, Some, None, option_map, option_and_then}
 use Rattle.std.specs.List.{count_by, list_all}
-use Rattle.ebcdic_names.specs.Names.{byte_of}
 use Rattle.ebcdic_names.specs.declared.names.Name8.{Name8}
 use Rattle.card_text.specs.Names.{name_of, number_of}
 use Rattle.card_text.specs.Operands.{OperandView}
@@ -9,6 +8,7 @@ use Rattle.card_text.specs.Tree.{Tree, Trees, empty, word, quoted, list, more, n
 use Rattle.card_text.specs.declared.values.Value.{Value}
 use Rattle.util_syntax.specs.Forms.{has_keyword, if_given, is_named, value_of}
 use Rattle.util_syntax.specs.Items.{StatementView}
+use Rattle.record_files.specs.Streams.{in_ebcdic}
 use Rattle.iebgener_util.specs.declared.requests.Edit.{Edit}
 use Rattle.iebgener_util.specs.declared.requests.Field.{Field}
 use Rattle.iebgener_util.specs.declared.requests.Ident.{Ident}
@@ -17,10 +17,6 @@ use Rattle.iebgener_util.specs.declared.requests.Origin.{Origin}
 use Rattle.iebgener_util.specs.declared.requests.Origin.TheVariants as origin
 use Rattle.iebgener_util.specs.declared.requests.Request.{Request}
 use Rattle.iebgener_util.specs.declared.requests.Request.TheVariants.{Generate, Member, Record}
-
--- characters in EBCDIC
-abbrev pub in_ebcdic : List ℕ → List ℕ
-in_ebcdic text = map byte_of text
 
 -- ---- the items of a list
 

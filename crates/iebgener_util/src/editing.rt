@@ -1,6 +1,6 @@
 //! Records that are edited, group by group.
 ghost use Rattle.std.specs.Prelude.{◌≡◌, ◌∷◌, option_map, if◌then◌else◌, IfOk, Some, None};
-ghost use Rattle.iebgener_util.specs.Editing.{bytes_at, edited_record, ends_group, groups_behind, laid, sized, with_field_laid, with_fields};
+ghost use Rattle.iebgener_util.specs.Editing.{bytes_at, edited_record, ends_group, groups_behind, has_fields, have_fields, is_any_field, laid, sized, with_field_laid, with_fields};
 
 use crate::requests::{Edit, Field, Ident, Origin};
 use std::alloc::{AllocError, Global};
@@ -81,8 +81,32 @@ fn lay_fields(
     Ok(true)
 }
 
-/// A record of so many bytes, of blanks with the fields of another laid over them; `None` where a field passes the end of
-/// either record. The one error is want of memory.
+// Whether there are fields.
+fn is_any_field(fields: &[Field]) -> bool
+    ensures { result ≡ is_any_field fields.now }
+{
+    match fields.split_first() {
+        Some(_) => true,
+        None => false,
+    }
+}
+
+// Whether a group has fields.
+fn has_fields(edit: &Edit) -> bool
+    ensures { result ≡ has_fields edit.now }
+{
+    is_any_field(edit.fields.as_slice())
+}
+
+/// Whether one of these groups has fields.
+pub fn have_fields(edits: &[Edit]) -> bool
+    ensures { result ≡ have_fields edits.now }
+{
+    edits.iter().any(|edit| has_fields(edit))
+}
+
+/// A record of so many bytes, of blanks with the fields of another laid over them; the other as it is where its group has
+/// no fields, and `None` where a field passes the end of either record. The one error is want of memory.
 #[tactic(auto, unfolding(crate::specs::Editing::edited_record))]
 pub fn edited_record(
     alloc: Global,
@@ -92,6 +116,9 @@ pub fn edited_record(
 ) -> Result<Option<Vec<u8>>, AllocError>
     ensures { IfOk result (λ new. option_map (λ v. v.items) new ≡ edited_record lrecl edit.now rec.now) }
 {
+    if !has_fields(edit) {
+        return Ok(Some(Vec::from_slice(alloc, rec)?));
+    }
     let mut new = sized(alloc, usize::from(lrecl), &[])?;
     if lay_fields(alloc, edit.fields.as_slice(), rec, &mut new)? {
         Ok(Some(new))
@@ -118,7 +145,7 @@ pub fn ends_group(alloc: Global, ident: &Option<Ident>, rec: &[u8]) -> Result<bo
     Ok(rest.starts_with(&text))
 }
 
-/// The groups behind a record of the first: the others where it ends that one. The one error is want of memory.
+/// The groups after a record of the first: the others where it ends that one. The one error is want of memory.
 pub fn groups_behind<'a>(
     alloc: Global,
     edit: &Edit,

@@ -2,19 +2,15 @@
 //! GC28-6586, in this project's profile).
 #![tactic(auto)]
 
-mod attributes;
 mod copying;
+mod edited;
 mod editing;
-mod editor;
 mod members;
 mod orders;
-mod passing;
 mod program;
-mod putting;
-mod reading;
-mod record_writer;
 mod requests;
+mod skipped_groups;
 
-pub use orders::{Order, Part, StatementFault, orders_of};
+pub use orders::{Order, OutputOrder, orders_of};
 pub use program::run;
 pub use requests::{Edit, Field, Ident, Names, Origin, Request, request_of};

@@ -1,83 +1,27 @@
-//! Members that are read and written: their entries in a directory, and where they begin.
-ghost use Rattle.std.specs.Prelude.{◌≡◌, false, unwrap_or, Ok, List, IsTrue, IsFalse, IfOk, IfSome};
+//! The names of members that are written.
+ghost use Rattle.std.specs.Prelude.{◌≡◌, false, Ok, List, IsTrue, IsFalse, IfOk};
 ghost use Rattle.std.specs.List.{list_any};
 ghost use Rattle.stop_model.specs.Moments.{Same};
-ghost use Rattle.vol_model.specs.declared.contents.Block.{Block};
 ghost use Rattle.ebcdic_names.specs.declared.names.Name8.{Name8};
 ghost use Rattle.vol_model.specs.declared.contents.Entry.{Entry};
 ghost use Rattle.vol_model.specs.Calls.{Keeps};
-ghost use Rattle.vol_model.specs.Lawful.{IsLawfulBlock};
-ghost use Rattle.vol_model.specs.Places.{is_before, last_place};
-ghost use Rattle.vol_model.specs.Reading.{blocks_from, entries_in};
+ghost use Rattle.vol_model.specs.Reading.{entries_in};
 ghost use Rattle.vol_model.specs.Runs.{RunCall, Works};
 ghost use Rattle.vol_model.specs.Shelf.{has_member};
-ghost use Rattle.vol_model.specs.Writing.{body_on, did_apply};
-ghost use Rattle.util_steps.specs.Copying.{refusing, source};
-ghost use Rattle.util_steps.specs.Steps.{IsOnward};
-ghost use Rattle.iebgener_util.specs.Attributes.{FindsSet};
-ghost use Rattle.iebgener_util.specs.Members.{FindsBlock, FindsMember, TakesLast, all_names, did_aliases, did_enter, ends_directory, entry_of, has_twice, is_name, library_for, member_in, name_entry};
+ghost use Rattle.vol_model.specs.Writing.{body_on};
+ghost use Rattle.record_files.specs.Attributes.{FindsSet};
+ghost use Rattle.record_files.specs.Members.{ends_directory};
+ghost use Rattle.iebgener_util.specs.Members.{all_names, did_aliases, did_enter, has_twice, is_name, library_for, other_name, own_name};
 
-use crate::attributes::{Purpose, find_set};
 use crate::requests::Names;
 use ebcdic_names::Name8;
+use record_files::{EntryName, Purpose, enter_name, find_set, has_entry};
 use std::alloc::Global;
-use util_steps::{Fault, SetRef, apply, place_behind};
-use vol_model::{
-    BlockBuf, CheckErr, Entry, Listed, Machine, Op, Place, ReadErr, Refusal, SetInfo, Stop,
-};
+use util_steps::{Fault, SetRef};
+use vol_model::{Machine, Place, Refusal, SetInfo, Stop};
 
 // The name that ends a directory.
 const END_NAME: [u8; 8] = [0xFF; 8];
-
-/// A library in short, and where its member of a name begins; or why there is none.
-pub fn find_member<M: Machine>(
-    machine: &mut M,
-    set: &SetRef,
-    name: &Name8,
-) -> Result<Result<(SetInfo, Place), Refusal>, Stop>
-    requires sound { IsTrue (M.status machine.old).is_sound }
-    requires closed { IsFalse (M.status machine.old).is_open }
-    ensures found { IsTrue M.tells → IfOk result (λ answer. FindsMember answer (member_in (M.meaning machine.old).state set.now name.now)) }
-    ensures same { IsTrue M.tells → Same (M.meaning machine.old) (M.meaning machine.new) }
-    ensures promise { IsTrue M.tells → Keeps (M.meaning machine.old).clock (M.promise machine.old) (M.promise machine.new) }
-    ensures count { (M.status machine.new).done ≡ (M.status machine.old).done }
-    ensures faults { RunCall false (M.status machine.old) (M.status machine.new) result }
-{
-    let info = match find_set(machine, Purpose::Members, set)? {
-        Ok(info) => info,
-        Err(refusal) => return Ok(Err(refusal)),
-    };
-    match machine.entry(set.v, &set.dsn, name) {
-        Ok(Some(entry)) => Ok(Ok((info, entry.place))),
-        Ok(None) => Ok(Err(Refusal::NoMember)),
-        Err(ReadErr::Unreadable(track)) => Ok(Err(Refusal::Unreadable(track))),
-        Err(ReadErr::Memory) => Err(Stop::Memory),
-        Err(ReadErr::Device) => Err(Stop::Device),
-    }
-}
-
-// Whether a library has an entry of a name.
-fn has_entry<M: Machine>(
-    machine: &mut M,
-    set: &SetRef,
-    name: &Name8,
-) -> Result<Result<bool, Refusal>, Stop>
-    requires sound { IsTrue (M.status machine.old).is_sound }
-    requires closed { IsFalse (M.status machine.old).is_open }
-    ensures found { IsTrue M.tells → (es : List Entry) → entries_in (body_on (M.meaning machine.old).state set.now.v set.now.dsn.bytes) ≡ Ok es → IfOk result (λ answer. answer ≡ Ok (has_member name.now.bytes es)) }
-    ensures same { IsTrue M.tells → Same (M.meaning machine.old) (M.meaning machine.new) }
-    ensures promise { IsTrue M.tells → Keeps (M.meaning machine.old).clock (M.promise machine.old) (M.promise machine.new) }
-    ensures count { (M.status machine.new).done ≡ (M.status machine.old).done }
-    ensures faults { RunCall false (M.status machine.old) (M.status machine.new) result }
-{
-    match machine.entry(set.v, &set.dsn, name) {
-        Ok(Some(_)) => Ok(Ok(true)),
-        Ok(None) => Ok(Ok(false)),
-        Err(ReadErr::Unreadable(track)) => Ok(Err(Refusal::Unreadable(track))),
-        Err(ReadErr::Memory) => Err(Stop::Memory),
-        Err(ReadErr::Device) => Err(Stop::Device),
-    }
-}
 
 // Whether a library has an entry of one of these names.
 fn has_any_entry<M: Machine>(
@@ -194,138 +138,26 @@ pub fn find_library<M: Machine>(
     Ok(Ok(info))
 }
 
-// Reads the first block of a data set at or after a place; false where there is none.
-fn read<M: Machine>(
-    machine: &mut M,
-    set: &SetRef,
-    place: Place,
-    buf: &mut BlockBuf,
-) -> Result<Result<bool, Refusal>, Stop>
-    requires sound { IsTrue (M.status machine.old).is_sound }
-    requires closed { IsFalse (M.status machine.old).is_open }
-    ensures found { IsTrue M.tells → IfOk result (λ answer. FindsBlock answer (source (M.meaning machine.old).state set.now) place buf.new) }
-    ensures onward { IfOk result (λ answer. IfOk answer (λ more. IsTrue more → is_before buf.new.place place ≡ false)) }
-    ensures lawful { IfOk result (λ answer. IfOk answer (λ more. IsTrue more → IsLawfulBlock buf.new)) }
-    ensures same { IsTrue M.tells → Same (M.meaning machine.old) (M.meaning machine.new) }
-    ensures promise { IsTrue M.tells → Keeps (M.meaning machine.old).clock (M.promise machine.old) (M.promise machine.new) }
-    ensures count { (M.status machine.new).done ≡ (M.status machine.old).done }
-    ensures faults { RunCall false (M.status machine.old) (M.status machine.new) result }
+// The name of a member itself, which replaces an entry.
+fn own_name(name: Name8) -> EntryName
+    ensures { result ≡ own_name name }
 {
-    match machine.read_into(set.v, &set.dsn, place, buf) {
-        Ok(more) => Ok(Ok(more)),
-        Err(CheckErr::Unreadable(track)) => Ok(Err(Refusal::Unreadable(track))),
-        Err(CheckErr::Device) => Err(Stop::Device),
-    }
-}
-
-// The place of the first block at or after a place, and the place behind it.
-fn next_place<M: Machine>(
-    machine: &mut M,
-    buf: &mut BlockBuf,
-    set: &SetRef,
-    place: Place,
-) -> Result<Result<Option<(Place, Place)>, Refusal>, Stop>
-    requires sound { IsTrue (M.status machine.old).is_sound }
-    requires closed { IsFalse (M.status machine.old).is_open }
-    ensures block { IsTrue M.tells → (bs : List Block) → source (M.meaning machine.old).state set.now ≡ Ok bs → IfOk result (λ answer. TakesLast answer (blocks_from place bs)) }
-    ensures onward { IfOk result (λ answer. IfOk answer (λ found. IfSome found (λ both. IsOnward place both.1))) }
-    ensures same { IsTrue M.tells → Same (M.meaning machine.old) (M.meaning machine.new) }
-    ensures promise { IsTrue M.tells → Keeps (M.meaning machine.old).clock (M.promise machine.old) (M.promise machine.new) }
-    ensures count { (M.status machine.new).done ≡ (M.status machine.old).done }
-    ensures faults { RunCall false (M.status machine.old) (M.status machine.new) result }
-{
-    match read(machine, set, place, buf)? {
-        Ok(true) => Ok(Ok(Some((buf.place(), place_behind(buf.place()))))),
-        Ok(false) => Ok(Ok(None)),
-        Err(refusal) => Ok(Err(refusal)),
-    }
-}
-
-// The place of the last block of a library, or zeros where it has none. It takes no memory.
-fn last_block<M: Machine>(
-    machine: &mut M,
-    buf: &mut BlockBuf,
-    set: &SetRef,
-) -> Result<Result<Place, Refusal>, Stop>
-    requires sound { IsTrue (M.status machine.old).is_sound }
-    requires closed { IsFalse (M.status machine.old).is_open }
-    ensures place { IsTrue M.tells → (bs : List Block) → source (M.meaning machine.old).state set.now ≡ Ok bs → IfOk result (λ answer. answer ≡ Ok (last_place (record { tt = 0; r = 0 }) bs)) }
-    ensures same { IsTrue M.tells → Same (M.meaning machine.old) (M.meaning machine.new) }
-    ensures promise { IsTrue M.tells → Keeps (M.meaning machine.old).clock (M.promise machine.old) (M.promise machine.new) }
-    ensures count { (M.status machine.new).done ≡ (M.status machine.old).done }
-    ensures faults { RunCall false (M.status machine.old) (M.status machine.new) result }
-{
-    let mut last = Place { tt: 0, r: 0 };
-    let mut place = last;
-    loop {
-        match next_place(machine, buf, set, place)? {
-            Ok(Some((found, next))) => {
-                last = found;
-                place = next;
-            }
-            Ok(None) => return Ok(Ok(last)),
-            Err(refusal) => return Ok(Err(refusal)),
-        }
-    }
-}
-
-/// Where a member begins that was written last: at its first block, or else at the last block of the library, which ends
-/// it. It takes no memory.
-pub fn start_of<M: Machine>(
-    machine: &mut M,
-    buf: &mut BlockBuf,
-    set: &SetRef,
-    first: Option<Place>,
-) -> Result<Result<Place, Refusal>, Stop>
-    requires sound { IsTrue (M.status machine.old).is_sound }
-    requires closed { IsFalse (M.status machine.old).is_open }
-    ensures start { IsTrue M.tells → (bs : List Block) → source (M.meaning machine.old).state set.now ≡ Ok bs → IfOk result (λ answer. answer ≡ Ok (unwrap_or first (last_place (record { tt = 0; r = 0 }) bs))) }
-    ensures same { IsTrue M.tells → Same (M.meaning machine.old) (M.meaning machine.new) }
-    ensures promise { IsTrue M.tells → Keeps (M.meaning machine.old).clock (M.promise machine.old) (M.promise machine.new) }
-    ensures count { (M.status machine.new).done ≡ (M.status machine.old).done }
-    ensures faults { RunCall false (M.status machine.old) (M.status machine.new) result }
-{
-    match first {
-        Some(place) => Ok(Ok(place)),
-        None => last_block(machine, buf, set),
-    }
-}
-
-// The entry of a name without user data.
-fn entry_of(alloc: Global, place: Place, flags: u8, name: Name8) -> Entry
-    ensures { result ≡ entry_of place flags name }
-{
-    Entry {
+    EntryName {
         name,
-        place,
-        flags,
-        user: Listed::from_vec(Vec::new(alloc)),
+        is_alias: false,
+        replaces: true,
     }
 }
 
-// Enters a name of the member at a place: its own, which replaces one, or another, which is marked and doesn't.
-fn enter_name<M: Machine>(
-    alloc: Global,
-    machine: &mut M,
-    to: &SetRef,
-    place: Place,
-    own: bool,
-    name: Name8,
-) -> Result<Result<(), Fault>, Stop>
-    requires sound { IsTrue (M.status machine.old).is_sound }
-    requires closed { IsFalse (M.status machine.old).is_open }
-    requires lawful { ends_directory name ≡ false }
-    ensures works { IsTrue M.tells → Works M.tells_prints (refusing (did_apply (M.meaning machine.old).state (name_entry to.now place own name))) (M.meaning machine.old) (M.meaning machine.new) (M.status machine.old).done (M.status machine.new).done result }
-    ensures promise { IsTrue M.tells → Keeps (M.meaning machine.old).clock (M.promise machine.old) (M.promise machine.new) }
-    ensures faults { RunCall false (M.status machine.old) (M.status machine.new) result }
+// Another name of it, which is marked and doesn't.
+fn other_name(name: Name8) -> EntryName
+    ensures { result ≡ other_name name }
 {
-    let op = Op::Enter {
-        v: to.v,
-        dsn: to.dsn,
-        entry: entry_of(alloc, place, if own { 0 } else { 0x80 }, name),
-        replace: own,
-    };
-    apply(machine, &op)
+    EntryName {
+        name,
+        is_alias: true,
+        replaces: false,
+    }
 }
 
 // Enters other names of the member at a place, in their order.
@@ -349,7 +181,7 @@ fn enter_aliases<M: Machine>(
             Some(parts) => parts,
             None => return Ok(Ok(())),
         };
-        match enter_name(alloc, machine, to, place, false, *first)? {
+        match enter_name(alloc, machine, to, place, other_name(*first))? {
             Ok(()) => rest = behind,
             Err(fault) => return Ok(Err(fault)),
         }
@@ -371,7 +203,7 @@ pub fn enter<M: Machine>(
     ensures promise { IsTrue M.tells → Keeps (M.meaning machine.old).clock (M.promise machine.old) (M.promise machine.new) }
     ensures faults { RunCall false (M.status machine.old) (M.status machine.new) result }
 {
-    if let Err(fault) = enter_name(alloc, machine, to, place, true, names.name)? {
+    if let Err(fault) = enter_name(alloc, machine, to, place, own_name(names.name))? {
         return Ok(Err(fault));
     }
     enter_aliases(alloc, machine, to, place, names.aliases.as_slice())

@@ -1,17 +1,17 @@
 //! The parts of the input that the statements of a step order to be written.
 ghost use Rattle.std.specs.Prelude.{◌≡◌, ◌++◌, ◌∷◌, [], None, is_none, ℕ, List, map, IfOk, OnOk};
-ghost use Rattle.util_syntax.specs.declared.operands.SynErr.TheVariants.{BadOperand};
+ghost use Rattle.util_syntax.specs.Program.{bad_operand};
 ghost use Rattle.util_syntax.specs.Items.{ItemView, item_view};
 ghost use Rattle.iebgener_util.specs.Orders.{asked, closed, first_card, generate_at, member_at, member_behind, new_part, orders_at, orders_of, record_at, with_edit};
 
 use crate::requests::{Edit, Names, Request, request_of};
 use std::alloc::{AllocError, Global};
-use util_syntax::{Item, SynErr};
+use util_syntax::{Item, StatementFault, bad_operand};
 use vol_model::Listed;
 
 /// A part of the input that is written by itself.
 #[derive(Debug, Drop)]
-pub struct Part {
+pub struct OutputOrder {
     /// The number of the card that its line names.
     pub card: u32,
     /// The names of its member, where a MEMBER begins it.
@@ -20,20 +20,11 @@ pub struct Part {
     pub edits: Listed<Edit>,
 }
 
-/// The fault of a statement, with the card on which it stands.
-#[derive(Clone, Copy, Debug, PartialEq, Eq)]
-pub struct StatementFault {
-    /// The number of the card.
-    pub card: u32,
-    /// The kind of the fault.
-    pub kind: SynErr,
-}
-
 /// What statements order.
 #[derive(Debug, Drop)]
 pub enum Order {
     /// A part is written.
-    Write(Part),
+    Write(OutputOrder),
     /// Nothing: a statement has a fault, which ends the step.
     Fault(StatementFault),
 }
@@ -44,22 +35,12 @@ enum State {
     // Nothing; a GENERATE may stand on this card.
     Begun(Option<u32>),
     // A part, which takes further statements.
-    Open(Part),
+    Open(OutputOrder),
     // Nothing more, since a statement had a fault.
     Ended,
 }
 
-// The fault of a statement that has no place, or not the form of its operation.
-fn bad_operand(card: u32) -> StatementFault
-    ensures { result ≡ record { card = card; kind = BadOperand } }
-{
-    StatementFault {
-        card,
-        kind: SynErr::BadOperand,
-    }
-}
-
-// What a statement asks for, behind its card, or its fault.
+// What a statement asks for, after its card, or its fault.
 #[tactic(auto, unfolding(crate::specs::Orders::asked))]
 fn asked(alloc: Global, item: &Item) -> Result<Result<(u32, Request), StatementFault>, AllocError>
     ensures { IfOk result (λ found. found ≡ asked (item_view item.now)) }
@@ -80,10 +61,10 @@ fn asked(alloc: Global, item: &Item) -> Result<Result<(u32, Request), StatementF
 }
 
 // A part on a card, without edits yet.
-fn new_part(alloc: Global, card: u32, names: Option<Names>) -> Part
+fn new_part(alloc: Global, card: u32, names: Option<Names>) -> OutputOrder
     ensures { result ≡ new_part card names }
 {
-    Part {
+    OutputOrder {
         card,
         names,
         edits: Listed::from_vec(Vec::new(alloc)),
@@ -116,7 +97,7 @@ fn close(alloc: Global, orders: &mut Vec<Order>, exec: u32, state: State) -> Res
 
 // Ends the orders by a statement that has no place.
 fn refuse(orders: &mut Vec<Order>, card: u32) -> Result<State, AllocError>
-    ensures { IfOk result (λ next. (exec : ℕ) (more : List ItemView) → orders.old.items ++ Order.Fault (record { card = card; kind = BadOperand }) ∷ [] ≡ orders.new.items ++ orders_of exec next more) }
+    ensures { IfOk result (λ next. (exec : ℕ) (more : List ItemView) → orders.old.items ++ Order.Fault (bad_operand card) ∷ [] ≡ orders.new.items ++ orders_of exec next more) }
 {
     orders.push(Order::Fault(bad_operand(card)))?;
     Ok(State::Ended)
@@ -133,13 +114,13 @@ fn take_generate(orders: &mut Vec<Order>, state: State, card: u32) -> Result<Sta
 }
 
 // A part that edits one more group.
-fn with_edit(part: Part, edit: Edit) -> Result<Part, AllocError>
+fn with_edit(part: OutputOrder, edit: Edit) -> Result<OutputOrder, AllocError>
     ensures { IfOk result (λ p. p ≡ with_edit part edit) }
 {
-    let Part { card, names, edits } = part;
+    let OutputOrder { card, names, edits } = part;
     let mut edits = edits.into_vec();
     edits.push(edit)?;
-    Ok(Part {
+    Ok(OutputOrder {
         card,
         names,
         edits: Listed::from_vec(edits),
@@ -167,7 +148,7 @@ fn take_record(
 }
 
 // Whether no MEMBER begins a part.
-fn is_unnamed(part: &Part) -> bool
+fn is_unnamed(part: &OutputOrder) -> bool
     ensures { result ≡ is_none part.now.names }
 {
     match part.names {
@@ -176,11 +157,11 @@ fn is_unnamed(part: &Part) -> bool
     }
 }
 
-// Takes a MEMBER behind a part.
+// Takes a MEMBER after a part.
 fn begin_behind(
     alloc: Global,
     orders: &mut Vec<Order>,
-    part: Part,
+    part: OutputOrder,
     card: u32,
     names: Names,
 ) -> Result<State, AllocError>
@@ -251,8 +232,8 @@ fn take(
 
 /// What the statements of a step order, in order, in a step whose EXEC is on this card.
 ///
-/// Each MEMBER begins a part of the input, to which the RECORDs behind it belong; without a MEMBER there is one part. A
-/// GENERATE stands first or not at all, and a MEMBER not behind a RECORD that belongs to none. A fault ends the orders,
+/// Each MEMBER begins a part of the input, to which the RECORDs after it belong; without a MEMBER there is one part. A
+/// GENERATE stands first or not at all, and a MEMBER not after a RECORD that belongs to none. A fault ends the orders,
 /// and the part before it that may still take statements is none. The one error is want of memory.
 pub fn orders_of(alloc: Global, exec: u32, items: &[Item]) -> Result<Vec<Order>, AllocError>
     ensures { IfOk result (λ orders. orders.items ≡ orders_of exec (State.Begun None) (map item_view items.now)) }

@@ -5,13 +5,13 @@ ghost use Rattle.card_text.specs.declared.operands.Operand.{Operand};
 ghost use Rattle.card_text.specs.Names.{number_of};
 ghost use Rattle.card_text.specs.Operands.{operand_view};
 ghost use Rattle.card_text.specs.Tree.{as_word, trees, value_view};
-ghost use Rattle.ebcdic_names.specs.Names.{byte_of};
 ghost use Rattle.util_syntax.specs.Forms.{has_keyword, if_given};
 ghost use Rattle.util_syntax.specs.Program.{statement_view};
-ghost use Rattle.iebgener_util.specs.Requests.{column_in, field_among, field_in, field_of, fields_among, first_item, ident_among, ident_in, ident_of, in_ebcdic, is_end, is_generate, is_limit, is_nothing, is_record_operand, items_behind, member_of, name_in, names_among, names_in, names_listed, names_with, number_or, origin_in, record_of, request_of, seen, stands_once, text_in};
+ghost use Rattle.iebgener_util.specs.Requests.{column_in, field_among, field_in, field_of, fields_among, first_item, ident_among, ident_in, ident_of, is_end, is_generate, is_limit, is_nothing, is_record_operand, items_behind, member_of, name_in, names_among, names_in, names_listed, names_with, number_or, origin_in, record_of, request_of, seen, stands_once, text_in};
 
 use card_text::{name_of, number_of};
-use ebcdic_names::{Name8, to_ebcdic};
+use ebcdic_names::Name8;
+use record_files::in_ebcdic;
 use std::alloc::{AllocError, Global};
 use util_syntax::{Operand, Statement, Value, has_keyword, is_named, value_of};
 use vol_model::{Listed, Text};
@@ -79,26 +79,7 @@ pub enum Request {
     Member(Names),
 }
 
-// The byte of a character in EBCDIC.
-#[tactic(auto, unfolding(ebcdic_names::specs::Names::byte_of))]
-fn byte_of(character: u8) -> u8
-    ensures { result ≡ byte_of character }
-{
-    to_ebcdic(character).unwrap_or(0x40)
-}
-
-/// Characters in EBCDIC; a blank stands for one that has no byte there. The one error is want of memory.
-pub fn in_ebcdic(alloc: Global, text: &[u8]) -> Result<Vec<u8>, AllocError>
-    ensures { IfOk result (λ bytes. bytes.items ≡ in_ebcdic text.now) }
-{
-    let mut bytes = Vec::new(alloc);
-    for character in text {
-        bytes.push(byte_of(*character))?;
-    }
-    Ok(bytes)
-}
-
-// The first item of a list, if it has one, and those behind it.
+// The first item of a list, if it has one, and those after it.
 fn first_item(items: &[Value]) -> (Option<&Value>, &[Value])
     ensures first { seen (option_map (λ v. v.now) result.0) ≡ first_item (trees (map value_view items.now)) }
     ensures behind { trees (map value_view result.1.now) ≡ items_behind (trees (map value_view items.now)) }
@@ -333,7 +314,7 @@ fn each_of_record(operands: &[Operand]) -> bool
     operands.iter().all(|operand| is_record_operand(operand))
 }
 
-// Whether it takes all of them, seen so.
+// The same over the views of the operands.
 fn all_of_record(operands: &[Operand]) -> bool
     ensures { result ≡ list_all is_record_operand (map operand_view operands.now) }
 {
@@ -386,7 +367,7 @@ fn each_of_generate(operands: &[Operand]) -> bool
     operands.iter().all(|operand| is_limit(operand))
 }
 
-// Whether it takes all of them, seen so.
+// The same over the views of the operands.
 fn all_of_generate(operands: &[Operand]) -> bool
     ensures { result ≡ list_all is_limit (map operand_view operands.now) }
 {
@@ -478,7 +459,7 @@ fn each_of_member(operands: &[Operand]) -> bool
     operands.iter().all(|operand| has_keyword(operand, b"NAME"))
 }
 
-// Whether all of them have it, seen so.
+// The same over the views of the operands.
 fn all_of_member(operands: &[Operand]) -> bool
     ensures { result ≡ list_all (has_keyword (codes "NAME")) (map operand_view operands.now) }
 {

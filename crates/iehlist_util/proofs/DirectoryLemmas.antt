@@ -90,7 +90,7 @@ few_entries shelf v name es lawful = by_volume (slice_get shelf.volumes v) refl
     by_volume None at is = none_in es is
     by_volume (Some volume) at is = by_set volume (lawful_at shelf v volume lawful at) (set_of name volume) refl is
 
--- behind the last entry there is none
+-- after the last entry there is none
 pub all_counted : (es : List Entry) (k : ℕ) → slice_get es k ≡ None → k ≤ length es → k ≡ length es
 all_counted es k none most = omega (arith, past_end es k none, most)
 
@@ -191,11 +191,11 @@ directory_parts name d blocks members blocks_are members_are =
 
 -- ---- the lines of entries
 
--- the line of the entry at a place, and of those behind it
+-- the line of the entry at a place, and of those after it
 pub next_entry : (es : List Entry) (k : ℕ) (e : Entry) → Some e ≡ slice_get es k → map entry_line (drop k es) ≡ (entry_line e ∷ []) ++ map entry_line (drop (k + 1) es)
 next_entry es k e is = ap (map entry_line) (left_at es k e (sym is))
 
--- behind the last there is none
+-- after the last there is none
 pub no_entry : (es : List Entry) (k : ℕ) → None ≡ slice_get es k → map entry_line (drop k es) ≡ []
 no_entry es k is = ap (map entry_line) (none_left es k (past_end es k (sym is)))
 
@@ -204,12 +204,12 @@ entries_end es k is = ap (map entry_line) (none_left es k (omega (arith, is)))
 
 -- ---- directories by the names of their sets
 
--- what is listed behind a set, if its directory is
+-- what is listed after a set, if its directory is
 abbrev pub others_of : Volume → Dsn → List Dsn → PdsListing
 others_of volume dsn [] = behind_last dsn
 others_of volume dsn (next ∷ dsns) = pds_listing volume next dsns
 
--- the lines behind a set: none where it is refused
+-- the lines after a set: none where it is refused
 abbrev pub lines_behind : Result Directory Refusal → PdsListing → List (List ℕ)
 lines_behind (Ok d) others = others.lines
 lines_behind (Err r) others = []
@@ -243,7 +243,7 @@ module _ (shelf : Shelf) (v : ℕ) (volume : Volume) (at : slice_get shelf.volum
   listing_here : pds_listing volume dsn dsns ≡ listed_first dsn (directory_on shelf v dsn.bytes) (others_of volume dsn dsns)
   listing_here = by_rest volume dsn dsns ∙ ap (λ (o : Option DataSet). listed_first dsn (directory_of dsn.bytes o) (others_of volume dsn dsns)) (sym (set_at shelf v volume at dsn.bytes))
 
-  -- the lines of a set, and of those behind it
+  -- the lines of a set, and of those after it
   pub listing_lines : (pds_listing volume dsn dsns).lines ≡ lines_of dsn.bytes (directory_on shelf v dsn.bytes) ++ lines_behind (directory_on shelf v dsn.bytes) (others_of volume dsn dsns)
   listing_lines = ap (λ (l : PdsListing). l.lines) listing_here ∙ first_lines dsn (directory_on shelf v dsn.bytes) (others_of volume dsn dsns)
 

@@ -1,7 +1,6 @@
 -- The items of statements.
 use Rattle.std.proofs.Common.{◌≡◌, ℕ, Bool, List, [], ◌∷◌, ◌++◌, length, map, refl, sym, ◌∙◌, ap, subst}
 use Rattle.std.specs.Prelude.{Option, Some, None, Result, Ok, Err, IsErr, option_and_then, option_map, slice_get}
-use Rattle.std.specs.Map.{lookup}
 use Rattle.stop_model.specs.Moments.{Meaning}
 use Rattle.ebcdic_names.specs.declared.names.Serial.{Serial}
 use Rattle.vol_model.specs.declared.answers.Stop.{Stop}
@@ -12,16 +11,12 @@ use Rattle.vol_model.specs.declared.requests.Op.{Op}
 use Rattle.vol_model.specs.Calls.{counted}
 use Rattle.vol_model.specs.Events.{Say, operations_of}
 use Rattle.vol_model.specs.Reading.{volume_info}
-use Rattle.util_steps.specs.Items.{DoesItem, items_along}
+use Rattle.util_steps.specs.Items.{DoesItem}
 use Rattle.util_steps.proofs.Reporting.{HasSaid, StopsSaying, item_broken, has_said, said_then, stops_before, stops_behind}
 use Rattle.util_syntax.specs.declared.listing.Object.{Object}
 use Rattle.util_syntax.specs.declared.listing.Outcome.{Outcome}
-use Rattle.util_syntax.specs.declared.step.StepIn.{StepIn}
-use Rattle.util_syntax.specs.Items.{ItemView}
 use Rattle.util_syntax.specs.Listing.{item_line}
-use Rattle.util_syntax.specs.Program.{no_dd_item, statements_in, sysin}
-use Rattle.util_syntax.specs.Step.{same_name}
-use Rattle.iehlist_util.specs.Items.{FindsVolume, Listing, iehlist_items, items_if, listing_item, statement_item, volume_for, volume_number}
+use Rattle.iehlist_util.specs.Items.{FindsVolume, Listing, listing_item, volume_for, volume_number}
 
 operations_said : (lines : List (List ℕ)) → operations_of (map Say lines) ≡ []
 operations_said [] = refl
@@ -51,16 +46,6 @@ module _ (card : ℕ) (operation : List ℕ) (named : Object) (l : Listing) {tel
             count = record { count = does.count.count ∙ ap (λ (i : ℕ). counted i 0) count ∙ ap (λ (ops : List Op). counted n (length ops)) (sym (operations_said (l.lines ++ last))) };
           }
       by_result (Err e) does = item_broken (Err e) refl (stops_behind l.lines last said does.runs.moments)
-
--- the items of a step that has statements
-pub items_some : (step : StepIn) (shelf : Shelf) (xs : List ItemView) → Some xs ≡ statements_in (lookup (same_name sysin) step.dds) → items_along statement_item shelf xs ≡ iehlist_items step shelf
-unfolding iehlist_items
-items_some step shelf xs is = ap (items_if step.card shelf) is
-
--- and of one that has no SYSIN
-pub items_none : (step : StepIn) (shelf : Shelf) → None ≡ statements_in (lookup (same_name sysin) step.dds) → no_dd_item step.card sysin ∷ [] ≡ iehlist_items step shelf
-unfolding iehlist_items
-items_none step shelf is = ap (items_if step.card shelf) is
 
 -- ---- the volume that is listed
 

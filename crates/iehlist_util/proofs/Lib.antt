@@ -3,3 +3,4 @@ mod DirectoryLemmas
 mod Listings
 mod ItemLemmas
 mod Cases
+pub mod AcceptedLemmas

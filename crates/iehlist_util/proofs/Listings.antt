@@ -1,8 +1,7 @@
 -- Lines that are printed one after another.
-use Rattle.std.proofs.Common.{◌≡◌, ℕ, ◌+◌, Bool, true, false, List, [], ◌∷◌, ◌++◌, length, map, drop, refl, sym, ◌∙◌, ap, subst, arith, append_assoc}
+use Rattle.std.proofs.Common.{◌≡◌, ℕ, Bool, List, [], ◌++◌, map, refl, sym, ◌∙◌, ap, subst, append_assoc}
 use Rattle.std.proofs.lemmas.List.{append-nil}
-use Rattle.std.specs.Prelude.{Option, Some, None, Result, Ok, Err, IsErr, slice_get}
-use Rattle.std.specs.List.{flat_map}
+use Rattle.std.specs.Prelude.{Result, Ok, Err, IsErr}
 use Rattle.stop_model.specs.Moments.{Meaning, Same, IsDurable}
 use Rattle.vol_model.specs.declared.answers.Stop.{Stop}
 use Rattle.vol_model.specs.declared.contents.Shelf.{Shelf}

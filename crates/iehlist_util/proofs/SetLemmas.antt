@@ -1,5 +1,5 @@
 -- Data sets by their names and by their places.
-use Rattle.std.proofs.Common.{◌≡◌, ℕ, zero, suc, ◌+◌, ◌<◌, ◌≤◌, Bool, true, false, cond, List, [], ◌∷◌, ◌++◌, length, refl, sym, ◌∙◌, ap, subst, arith}
+use Rattle.std.proofs.Common.{◌≡◌, ℕ, zero, suc, ◌+◌, ◌≤◌, Bool, true, false, cond, List, [], ◌∷◌, ◌++◌, length, refl, sym, ◌∙◌, ap, subst, arith}
 use Rattle.std.specs.Prelude.{if◌then◌else◌, Option, Some, None, is_some, option_map, option_and_then, drop, find, slice_get}
 use Rattle.std.specs.List.{AllByRecursion, flat_map}
 use Rattle.std.specs.Ordering.{is_lt, is_eq, nat_cmp}
@@ -21,7 +21,7 @@ use Rattle.vol_model.specs.declared.refusals.Refusal.TheVariants.{NoSet}
 use Rattle.vol_model.specs.Reading.{extent_on, name_on, set_info}
 use Rattle.util_syntax.specs.declared.listing.Outcome.TheVariants.{Done, Refused}
 use Rattle.iehlist_util.specs.Lines.{extent_line, set_line}
-use Rattle.iehlist_util.specs.Items.{Listing, extent_lines, lines_of_set, listed_behind, listed_if, listed_sets, set_lines}
+use Rattle.iehlist_util.specs.Items.{Listing, extent_lines, lines_of_set, listed_if, listed_sets, set_lines}
 use Rattle.vol_model.specs.Shelf.{has_name, set_of}
 use Rattle.vol_model.specs.Slots.{slots_needed}
 use Rattle.vol_model.specs.Writing.{set_on}
@@ -120,7 +120,7 @@ left_at {X = X} [] k x is = let never : ⊥ = cc in absurd never
 left_at {X = X} (y ∷ ys) zero x is = let same : y ≡ x = cc in ap (λ (z : X). z ∷ ys) same
 left_at {X = X} (y ∷ ys) (suc k) x is = let more : suc (k + 1) ≡ suc k + 1 = omega arith in left_at ys k x is ∙ ap (λ (n : ℕ). x ∷ drop n (y ∷ ys)) more
 
--- nothing is left behind the last place
+-- nothing is left after the last place
 pub none_left : {X : Type 0} (xs : List X) (k : ℕ) → length xs ≤ k → drop k xs ≡ []
 none_left [] zero long = refl
 none_left [] (suc k) long = refl
@@ -146,13 +146,13 @@ module _ (shelf : Shelf) (v : ℕ) (name : List ℕ) (x : DataSet) (at : set_on 
   pub no_extent : None ≡ extent_on shelf v name k → extent_lines (k + 1) (drop k x.extents) ≡ []
   no_extent told = ap (extent_lines (k + 1)) (none_left x.extents k (past_end x.extents k (sym (told ∙ extent_at))))
 
--- behind the last one there is no line
+-- after the last one there is no line
 pub extents_end : (x : DataSet) (k : ℕ) → k ≡ length x.extents → extent_lines (k + 1) (drop k x.extents) ≡ []
 extents_end x k is = ap (extent_lines (k + 1)) (none_left x.extents k (omega (arith, is)))
 
 -- ---- the lines of sets
 
--- the lines of the set at a place, and of those behind it
+-- the lines of the set at a place, and of those after it
 pub next_set : (format : Bool) (sets : List DataSet) (k : ℕ) (x : DataSet) → slice_get sets k ≡ Some x → flat_map (set_lines format) (drop k sets) ≡ set_lines format x ++ flat_map (set_lines format) (drop (k + 1) sets)
 next_set format sets k x at = ap (flat_map (set_lines format)) (left_at sets k x at)
 
@@ -190,7 +190,7 @@ pub no_set : (o : Option DataSet) → None ≡ option_map set_info o → o ≡ N
 no_set None told = refl
 no_set (Some x) told = let never : ⊥ = cc in absurd never
 
--- the lines of the set at a place, as it is found by its name, and of those behind it
+-- the lines of the set at a place, as it is found by its name, and of those after it
 pub rest_known : (format : Bool) (shelf : Shelf) (v : ℕ) (volume : Volume) → slice_get shelf.volumes v ≡ Some volume → (k : ℕ) (dsn : Dsn) → SetAt volume k dsn
     → flat_map (set_lines format) (drop k volume.sets) ≡ lines_of_set format (set_on shelf v dsn.bytes) ++ flat_map (set_lines format) (drop (k + 1) volume.sets)
 rest_known format shelf v volume at k dsn found =
@@ -199,7 +199,7 @@ rest_known format shelf v volume at k dsn found =
 
 -- ---- data sets by their names
 
--- what is listed behind a set that is named: nothing where it isn't there
+-- what is listed after a set that is named: nothing where it isn't there
 abbrev pub tail_of : Option DataSet → List (List ℕ) → List (List ℕ)
 tail_of None rest = []
 tail_of (Some x) rest = rest

@@ -56,12 +56,12 @@ pub record PdsListing : Type 0 where
   pub lines : List (List ℕ)
   pub answer : PdsAnswer
 
--- a directory, and what is listed behind it: nothing where its set is refused, which the answer names then
+-- a directory, and what is listed after it: nothing where its set is refused, which the answer names then
 abbrev pub listed_first : Dsn → Result Directory Refusal → PdsListing → PdsListing
 listed_first dsn (Ok d) others = record { lines = directory_lines dsn.bytes d ++ others.lines; answer = others.answer }
 listed_first dsn (Err r) others = record { lines = []; answer = record { dsn = dsn; outcome = Refused r } }
 
--- nothing is left behind the last set, which the answer names
+-- nothing is left after the last set, which the answer names
 abbrev pub behind_last : Dsn → PdsListing
 behind_last dsn = record { lines = []; answer = record { dsn = dsn; outcome = Done } }
 

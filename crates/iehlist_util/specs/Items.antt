@@ -1,7 +1,6 @@
 -- What IEHLIST prints in a step, statement by statement (Utilities GC28-6586, in this project's profile).
 use Rattle.std.specs.Prelude.{◌≡◌, ℕ, ◌+◌, Bool, if◌then◌else◌, List, [], ◌∷◌, ◌++◌, codes, replicate, slice_get, Option, Some, None, option_and_then}
 use Rattle.std.specs.List.{flat_map}
-use Rattle.std.specs.Map.{lookup}
 use Rattle.ebcdic_names.specs.declared.names.Dsn.{Dsn}
 use Rattle.ebcdic_names.specs.declared.names.Serial.{Serial}
 use Rattle.vol_model.specs.declared.answers.VolumeInfo.{VolumeInfo}
@@ -13,17 +12,16 @@ use Rattle.vol_model.specs.declared.refusals.Refusal.TheVariants.{NoSet, NoVolum
 use Rattle.vol_model.specs.Events.{Item}
 use Rattle.vol_model.specs.Reading.{set_info, volume_info}
 use Rattle.vol_model.specs.Shelf.{number_of, set_of}
-use Rattle.util_steps.specs.Items.{items_along}
 use Rattle.util_syntax.specs.declared.listing.Object.{Object}
 use Rattle.util_syntax.specs.declared.listing.Object.TheVariants as object
 use Rattle.util_syntax.specs.declared.listing.Outcome.{Outcome}
 use Rattle.util_syntax.specs.declared.listing.Outcome.TheVariants.{Done, Refused}
 use Rattle.util_syntax.specs.declared.operands.SynErr.TheVariants.{BadOperand}
 use Rattle.util_syntax.specs.declared.step.StepIn.{StepIn}
-use Rattle.util_syntax.specs.Items.{ItemView, fault, statement}
+use Rattle.util_syntax.specs.Items.{StatementView}
+use Rattle.util_program.specs.Statements.{program_items}
 use Rattle.util_syntax.specs.Listing.{item_line}
-use Rattle.util_syntax.specs.Program.{no_dd_item, outcome_code, statements_in, syntax_item, sysin}
-use Rattle.util_syntax.specs.Step.{same_name}
+use Rattle.util_syntax.specs.Program.{outcome_code, syntax_item}
 use Rattle.iehlist_util.specs.declared.requests.ListPds.{ListPds}
 use Rattle.iehlist_util.specs.declared.requests.ListVtoc.{ListVtoc}
 use Rattle.iehlist_util.specs.declared.requests.Request.{Request}
@@ -130,16 +128,10 @@ abbrev pub requested_item : Shelf → ℕ → Option Request → Item
 requested_item shelf card None = syntax_item card BadOperand
 requested_item shelf card (Some request) = asked_item shelf card request
 
--- the item of a statement, or of the fault of one
-abbrev pub statement_item : Shelf → ItemView → Item
-statement_item shelf (fault card column kind) = syntax_item card kind
-statement_item shelf (statement s) = requested_item shelf s.card (request_of s)
-
--- the items of statements, one after another, or that SYSIN isn't there
-abbrev pub items_if : ℕ → Shelf → Option (List ItemView) → List Item
-items_if card shelf None = no_dd_item card sysin ∷ []
-items_if card shelf (Some statements) = items_along statement_item shelf statements
+-- the item of a statement
+abbrev pub statement_item : Shelf → StatementView → Item
+statement_item shelf s = requested_item shelf s.card (request_of s)
 
 -- the items of a step
-unfoldable pub iehlist_items : StepIn → Shelf → List Item
-iehlist_items step shelf = items_if step.card shelf (statements_in (lookup (same_name sysin) step.dds))
+abbrev pub iehlist_items : StepIn → Shelf → List Item
+iehlist_items step = program_items statement_item step

@@ -10,7 +10,7 @@ use Rattle.vol_model.specs.declared.contents.Entry.{Entry}
 use Rattle.vol_model.specs.declared.contents.Run.{Run}
 use Rattle.util_syntax.specs.Lines.{next_word}
 
--- a text, and blanks behind it up to so many columns
+-- a text, and blanks after it up to so many columns
 unfoldable pub left_in : ℕ → List ℕ → List ℕ
 left_in columns text = text ++ replicate (columns - length text) 32
 
@@ -22,7 +22,7 @@ padded_number columns filler number = replicate (columns - length (decimal numbe
 abbrev pub right_in : ℕ → ℕ → List ℕ
 right_in columns number = padded_number columns 32 number
 
--- a word and a number, each behind a blank
+-- a word and a number, each after a blank
 abbrev pub word_and_number : List ℕ → ℕ → List ℕ
 word_and_number word number = next_word word ++ next_word (decimal number)
 
@@ -31,7 +31,7 @@ unfoldable pub volume_line : VolumeInfo → List ℕ
 volume_line info =
     codes "VTOC" ++ next_word (shown info.serial.bytes) ++ next_word (row_of info.geometry.device).device_word
     ++ word_and_number (codes "CYLS") info.geometry.cylinders ++ word_and_number (codes "FREE") info.free_tracks
-    ++ word_and_number (codes "RUNS") info.free_runs ++ word_and_number (codes "SLOTS") info.free_slots ++ codes "\n"
+    ++ word_and_number (codes "RUNS") info.free_runs ++ word_and_number (codes "SLOTS") info.free_slots
 
 -- DSORG in two letters, by its first byte without the lowest bit
 unfoldable pub organization_word : ℕ → List ℕ
@@ -74,18 +74,18 @@ space_words info =
 
 -- the line of a data set
 unfoldable pub set_line : List ℕ → SetInfo → List ℕ
-set_line name info = left_in 44 (shown name) ++ attribute_words info ++ space_words info ++ codes "\n"
+set_line name info = left_in 44 (shown name) ++ attribute_words info ++ space_words info
 
 -- the line of an extent of this number, from 1: its first track on the volume, and how many tracks it has
 unfoldable pub extent_line : ℕ → Run → List ℕ
 extent_line number run =
     codes "  EXTENT" ++ next_word (right_in 2 number) ++ codes " START" ++ next_word (right_in 5 run.start)
-    ++ codes " LENGTH" ++ next_word (right_in 5 run.len) ++ codes "\n"
+    ++ codes " LENGTH" ++ next_word (right_in 5 run.len)
 
 -- the line of a directory: its set, how many blocks it has, and how many entries
 unfoldable pub directory_line : List ℕ → ℕ → ℕ → List ℕ
 directory_line name blocks members =
-    codes "PDS" ++ next_word (shown name) ++ word_and_number (codes "DIRECTORY") blocks ++ word_and_number (codes "MEMBERS") members ++ codes "\n"
+    codes "PDS" ++ next_word (shown name) ++ word_and_number (codes "DIRECTORY") blocks ++ word_and_number (codes "MEMBERS") members
 
 -- a hexadecimal digit, in capitals
 abbrev pub hex_digit : ℕ → ℕ
@@ -112,4 +112,4 @@ user_word (b ∷ bs) = next_word (hex_bytes (b ∷ bs))
 unfoldable pub entry_line : Entry → List ℕ
 entry_line e =
     left_in 8 (shown e.name.bytes) ++ next_word (hex_number e.place.tt) ++ next_word (hex_byte e.place.r) ++ next_word (hex_byte e.flags)
-    ++ user_word e.user ++ codes "\n"
+    ++ user_word e.user

@@ -9,6 +9,7 @@ ghost use Rattle.vol_model.specs.Events.{Say};
 ghost use Rattle.vol_model.specs.Reading.{set_info};
 ghost use Rattle.vol_model.specs.Runs.{RunCall, Runs};
 ghost use Rattle.vol_model.specs.Shelf.{is_partitioned};
+ghost use Rattle.util_steps.specs.Taking.{IsReady, Says};
 ghost use Rattle.iehlist_util.specs.Lines.{directory_line, entry_line};
 ghost use Rattle.iehlist_util.specs.Directories.{Directory, HasEntries, answer_of, blocks_in, directory_lines, directory_of, directory_on, lines_of, pds_listing};
 
@@ -16,7 +17,7 @@ use crate::lines::{directory_line, entry_line};
 use crate::listing::read_info;
 use crate::requests::ListPds;
 use ebcdic_names::Dsn;
-use std::alloc::{AllocError, Global};
+use std::alloc::Global;
 use util_steps::say;
 use util_syntax::Outcome;
 use vol_model::{Attr, Entry, Kind, Machine, ReadErr, Refusal, SetInfo, Stop, is_catalog};
@@ -53,8 +54,7 @@ fn blocks_in(dsn: &Dsn, info: &SetInfo) -> Result<u32, Refusal>
 
 // The k-th entry of a directory, from 0. One that can't be read has none here: its set was refused before.
 fn read_entry<M: Machine>(machine: &mut M, v: u8, dsn: &Dsn, k: u32) -> Result<Option<Entry>, Stop>
-    requires sound { IsTrue (M.status machine.old).is_sound }
-    requires closed { IsFalse (M.status machine.old).is_open }
+    requires { IsReady M.Machine machine.old }
     ensures value { IsTrue M.tells → (es : List Entry) → HasEntries (M.meaning machine.old).state v dsn.now.bytes es → IfOk result (λ found. found ≡ slice_get es k) }
     ensures same { IsTrue M.tells → Same (M.meaning machine.old) (M.meaning machine.new) }
     ensures count { (M.status machine.new).done ≡ (M.status machine.old).done }
@@ -90,17 +90,11 @@ fn count_entries<M: Machine>(machine: &mut M, v: u8, dsn: &Dsn) -> Result<u32, S
 
 // Prints the line of an entry.
 fn say_entry<M: Machine>(alloc: Global, machine: &mut M, entry: &Entry) -> Result<(), Stop>
-    requires sound { IsTrue (M.status machine.old).is_sound }
-    requires closed { IsFalse (M.status machine.old).is_open }
-    ensures says { IsTrue M.tells → Runs M.tells_prints (map Say (entry_line entry.now ∷ [])) (M.meaning machine.old) (M.meaning machine.new) result }
-    ensures count { (M.status machine.new).done ≡ (M.status machine.old).done }
-    ensures promise { IsTrue M.tells → Keeps (M.meaning machine.old).clock (M.promise machine.old) (M.promise machine.new) }
-    ensures faults { RunCall false (M.status machine.old) (M.status machine.new) result }
+    requires { IsReady M.Machine machine.old }
+    ensures { Says M.Machine (λ shelf. entry_line entry.now ∷ []) machine.old machine.new result }
 {
-    match entry_line(alloc, entry) {
-        Ok(line) => say(machine, &line),
-        Err(AllocError) => Err(Stop::Memory),
-    }
+    let line = entry_line(alloc, entry)?;
+    say(machine, &line)
 }
 
 // Prints the lines of the entries of a directory that has so many.
@@ -135,17 +129,11 @@ fn say_directory_line<M: Machine>(
     blocks: u32,
     members: u32,
 ) -> Result<(), Stop>
-    requires sound { IsTrue (M.status machine.old).is_sound }
-    requires closed { IsFalse (M.status machine.old).is_open }
-    ensures says { IsTrue M.tells → Runs M.tells_prints (map Say (directory_line dsn.now.bytes blocks members ∷ [])) (M.meaning machine.old) (M.meaning machine.new) result }
-    ensures count { (M.status machine.new).done ≡ (M.status machine.old).done }
-    ensures promise { IsTrue M.tells → Keeps (M.meaning machine.old).clock (M.promise machine.old) (M.promise machine.new) }
-    ensures faults { RunCall false (M.status machine.old) (M.status machine.new) result }
+    requires { IsReady M.Machine machine.old }
+    ensures { Says M.Machine (λ shelf. directory_line dsn.now.bytes blocks members ∷ []) machine.old machine.new result }
 {
-    match directory_line(alloc, dsn, blocks, members) {
-        Ok(line) => say(machine, &line),
-        Err(AllocError) => Err(Stop::Memory),
-    }
+    let line = directory_line(alloc, dsn, blocks, members)?;
+    say(machine, &line)
 }
 
 // Prints the lines of a directory of so many blocks.

@@ -8,7 +8,7 @@ ghost use Rattle.iehlist_util.specs.Lines.{attribute_words, date_word, directory
 use ebcdic_names::{Dsn, push_name_in_ascii};
 use itoa::Buffer;
 use std::alloc::{AllocError, Global};
-use vol_model::{Entry, Run, SetInfo, VolumeInfo};
+use vol_model::{Entry, Line, Run, SetInfo, VolumeInfo};
 
 // The most columns that are filled in front of a number.
 const MOST_COLUMNS: usize = 5;
@@ -26,7 +26,7 @@ const MEMBER_COLUMNS: usize = 8;
 // The columns of a record format.
 const FORMAT_COLUMNS: usize = 4;
 
-// Adds a word behind a blank.
+// Adds a word after a blank.
 fn push_word(line: &mut Vec<u8>, word: &[u8]) -> Result<(), AllocError>
     ensures { OnOk result (line.new.items ≡ line.old.items ++ next_word word.now) }
 {
@@ -34,7 +34,7 @@ fn push_word(line: &mut Vec<u8>, word: &[u8]) -> Result<(), AllocError>
     line.extend_from_slice(word)
 }
 
-// Adds a text, and blanks behind it up to so many columns.
+// Adds a text, and blanks after it up to so many columns.
 #[tactic(auto, unfolding(crate::specs::Lines::left_in))]
 fn push_left(line: &mut Vec<u8>, columns: usize, text: &[u8]) -> Result<(), AllocError>
     requires { columns ≤ 44 }
@@ -68,7 +68,7 @@ fn push_padded(line: &mut Vec<u8>, columns: usize, number: u32) -> Result<(), Al
     line.extend_from_slice(digits.as_bytes())
 }
 
-// Adds a number in decimal behind a blank.
+// Adds a number in decimal after a blank.
 fn push_number(line: &mut Vec<u8>, number: u32) -> Result<(), AllocError>
     ensures { OnOk result (line.new.items ≡ line.old.items ++ next_word (decimal number)) }
 {
@@ -85,7 +85,7 @@ fn push_numbered(line: &mut Vec<u8>, word: &str, number: u32) -> Result<(), Allo
     push_number(line, number)
 }
 
-// Adds a number in so many columns behind a blank.
+// Adds a number in so many columns after a blank.
 fn push_column(line: &mut Vec<u8>, columns: usize, number: u32) -> Result<(), AllocError>
     requires { columns ≤ 44 }
     ensures { OnOk result (line.new.items ≡ line.old.items ++ next_word (right_in columns number)) }
@@ -94,7 +94,7 @@ fn push_column(line: &mut Vec<u8>, columns: usize, number: u32) -> Result<(), Al
     push_right(line, columns, number)
 }
 
-// Adds a name in ASCII behind a blank.
+// Adds a name in ASCII after a blank.
 fn push_name(line: &mut Vec<u8>, name: &[u8]) -> Result<(), AllocError>
     ensures { OnOk result (line.new.items ≡ line.old.items ++ next_word (shown name.now)) }
 {
@@ -107,8 +107,8 @@ fn push_name(line: &mut Vec<u8>, name: &[u8]) -> Result<(), AllocError>
 ///
 /// It ends with a line feed. The one error is want of memory.
 #[tactic(auto, unfolding(crate::specs::Lines::volume_line))]
-pub fn volume_line(alloc: Global, info: &VolumeInfo) -> Result<Vec<u8>, AllocError>
-    ensures { IfOk result (λ line. line.items ≡ volume_line info.now) }
+pub fn volume_line(alloc: Global, info: &VolumeInfo) -> Result<Line, AllocError>
+    ensures { IfOk result (λ line. line ≡ volume_line info.now) }
 {
     let mut line = Vec::new(alloc);
     line.extend_from_slice(b"VTOC".as_slice())?;
@@ -118,8 +118,7 @@ pub fn volume_line(alloc: Global, info: &VolumeInfo) -> Result<Vec<u8>, AllocErr
     push_numbered(&mut line, "FREE", info.free_tracks)?;
     push_numbered(&mut line, "RUNS", info.free_runs)?;
     push_numbered(&mut line, "SLOTS", info.free_slots)?;
-    line.push(b'\n')?;
-    Ok(line)
+    Line::ended(line)
 }
 
 // DSORG in two letters.
@@ -172,7 +171,7 @@ fn format_word(alloc: Global, recfm: u8) -> Result<Vec<u8>, AllocError>
     Ok(word)
 }
 
-// Adds a date as yyddd behind a blank.
+// Adds a date as yyddd after a blank.
 #[tactic(auto, unfolding(crate::specs::Lines::date_word))]
 fn push_date(line: &mut Vec<u8>, date: &[u8; 3]) -> Result<(), AllocError>
     ensures { OnOk result (line.new.items ≡ line.old.items ++ next_word (date_word date.now)) }
@@ -211,8 +210,8 @@ fn push_space(line: &mut Vec<u8>, info: &SetInfo) -> Result<(), AllocError>
 ///
 /// It ends with a line feed. The one error is want of memory.
 #[tactic(auto, unfolding(crate::specs::Lines::set_line))]
-pub fn set_line(alloc: Global, name: &Dsn, info: &SetInfo) -> Result<Vec<u8>, AllocError>
-    ensures { IfOk result (λ line. line.items ≡ set_line name.now.bytes info.now) }
+pub fn set_line(alloc: Global, name: &Dsn, info: &SetInfo) -> Result<Line, AllocError>
+    ensures { IfOk result (λ line. line ≡ set_line name.now.bytes info.now) }
 {
     let mut shown = Vec::new(alloc);
     push_name_in_ascii(&mut shown, &name.bytes)?;
@@ -220,8 +219,7 @@ pub fn set_line(alloc: Global, name: &Dsn, info: &SetInfo) -> Result<Vec<u8>, Al
     push_left(&mut line, NAME_COLUMNS, &shown)?;
     push_attributes(&mut line, alloc, info)?;
     push_space(&mut line, info)?;
-    line.push(b'\n')?;
-    Ok(line)
+    Line::ended(line)
 }
 
 /// The line of an extent: its number in the data set, from 1, its first track on the volume, from 0, and the number of
@@ -229,8 +227,8 @@ pub fn set_line(alloc: Global, name: &Dsn, info: &SetInfo) -> Result<Vec<u8>, Al
 ///
 /// It ends with a line feed. The one error is want of memory.
 #[tactic(auto, unfolding(crate::specs::Lines::extent_line))]
-pub fn extent_line(alloc: Global, number: u8, run: &Run) -> Result<Vec<u8>, AllocError>
-    ensures { IfOk result (λ line. line.items ≡ extent_line number run.now) }
+pub fn extent_line(alloc: Global, number: u8, run: &Run) -> Result<Line, AllocError>
+    ensures { IfOk result (λ line. line ≡ extent_line number run.now) }
 {
     let mut line = Vec::new(alloc);
     line.extend_from_slice(b"  EXTENT".as_slice())?;
@@ -239,8 +237,7 @@ pub fn extent_line(alloc: Global, number: u8, run: &Run) -> Result<Vec<u8>, Allo
     push_column(&mut line, 5, u32::from(run.start))?;
     line.extend_from_slice(b" LENGTH".as_slice())?;
     push_column(&mut line, 5, u32::from(run.len))?;
-    line.push(b'\n')?;
-    Ok(line)
+    Line::ended(line)
 }
 
 /// The line of a directory: `PDS dsn DIRECTORY n MEMBERS m`, with the numbers of its blocks and of its entries.
@@ -252,16 +249,15 @@ pub fn directory_line(
     name: &Dsn,
     blocks: u32,
     members: u32,
-) -> Result<Vec<u8>, AllocError>
-    ensures { IfOk result (λ line. line.items ≡ directory_line name.now.bytes blocks members) }
+) -> Result<Line, AllocError>
+    ensures { IfOk result (λ line. line ≡ directory_line name.now.bytes blocks members) }
 {
     let mut line = Vec::new(alloc);
     line.extend_from_slice(b"PDS".as_slice())?;
     push_name(&mut line, &name.bytes)?;
     push_numbered(&mut line, "DIRECTORY", blocks)?;
     push_numbered(&mut line, "MEMBERS", members)?;
-    line.push(b'\n')?;
-    Ok(line)
+    Line::ended(line)
 }
 
 // A hexadecimal digit, in capitals.
@@ -295,7 +291,7 @@ fn push_hex_bytes(line: &mut Vec<u8>, bytes: &[u8]) -> Result<(), AllocError>
     Ok(())
 }
 
-// Adds a byte in hexadecimal behind a blank.
+// Adds a byte in hexadecimal after a blank.
 fn push_hex_byte(line: &mut Vec<u8>, byte: u8) -> Result<(), AllocError>
     ensures { OnOk result (line.new.items ≡ line.old.items ++ next_word (hex_byte byte)) }
 {
@@ -303,7 +299,7 @@ fn push_hex_byte(line: &mut Vec<u8>, byte: u8) -> Result<(), AllocError>
     push_hex(line, byte)
 }
 
-// Adds a number in four hexadecimal digits behind a blank.
+// Adds a number in four hexadecimal digits after a blank.
 fn push_hex_number(line: &mut Vec<u8>, number: u16) -> Result<(), AllocError>
     ensures { OnOk result (line.new.items ≡ line.old.items ++ next_word (hex_number number)) }
 {
@@ -311,7 +307,7 @@ fn push_hex_number(line: &mut Vec<u8>, number: u16) -> Result<(), AllocError>
     push_hex(line, (number % 256) as u8)
 }
 
-// Adds user data in hexadecimal behind a blank, where there are any.
+// Adds user data in hexadecimal after a blank, where there are any.
 fn push_user(line: &mut Vec<u8>, user: &[u8]) -> Result<(), AllocError>
     ensures { OnOk result (line.new.items ≡ line.old.items ++ user_word user.now) }
 {
@@ -327,8 +323,8 @@ fn push_user(line: &mut Vec<u8>, user: &[u8]) -> Result<(), AllocError>
 ///
 /// It ends with a line feed. The one error is want of memory.
 #[tactic(auto, unfolding(crate::specs::Lines::entry_line))]
-pub fn entry_line(alloc: Global, entry: &Entry) -> Result<Vec<u8>, AllocError>
-    ensures { IfOk result (λ line. line.items ≡ entry_line entry.now) }
+pub fn entry_line(alloc: Global, entry: &Entry) -> Result<Line, AllocError>
+    ensures { IfOk result (λ line. line ≡ entry_line entry.now) }
 {
     let mut shown = Vec::new(alloc);
     push_name_in_ascii(&mut shown, &entry.name.bytes)?;
@@ -338,6 +334,5 @@ pub fn entry_line(alloc: Global, entry: &Entry) -> Result<Vec<u8>, AllocError>
     push_hex_byte(&mut line, entry.place.r)?;
     push_hex_byte(&mut line, entry.flags)?;
     push_user(&mut line, entry.user.as_slice())?;
-    line.push(b'\n')?;
-    Ok(line)
+    Line::ended(line)
 }

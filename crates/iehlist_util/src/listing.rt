@@ -9,84 +9,55 @@ ghost use Rattle.vol_model.specs.Events.{Say};
 ghost use Rattle.vol_model.specs.Runs.{RunCall, Runs};
 ghost use Rattle.vol_model.specs.Reading.{extent_on, name_on, set_info, volume_info};
 ghost use Rattle.vol_model.specs.Writing.{set_on};
+ghost use Rattle.util_steps.specs.Taking.{IsReady, Reads, Says};
 ghost use Rattle.iehlist_util.specs.Lines.{extent_line, set_line, volume_line};
 ghost use Rattle.iehlist_util.specs.Items.{extent_lines, lines_of_set, listed_on, listed_sets, set_lines, volume_listing};
 
 use crate::lines::{extent_line, set_line, volume_line};
 use crate::requests::ListVtoc;
 use ebcdic_names::Dsn;
-use std::alloc::{AllocError, Global};
+use std::alloc::Global;
 use util_steps::say;
 use util_syntax::Outcome;
-use vol_model::{Machine, Refusal, Run, SetInfo, Stop, VolumeInfo, WorkErr};
+use vol_model::{Machine, Refusal, Run, SetInfo, Stop, VolumeInfo};
 
 // The most data sets of a volume; its VTOC has at most 65,535 slots.
 const MOST_SETS: u32 = 65_535;
 
 // The name of the k-th data set of a volume, from 0.
 fn read_name<M: Machine>(machine: &mut M, v: u8, k: u32) -> Result<Option<Dsn>, Stop>
-    requires sound { IsTrue (M.status machine.old).is_sound }
-    requires closed { IsFalse (M.status machine.old).is_open }
-    ensures value { IsTrue M.tells → IfOk result (λ found. found ≡ name_on (M.meaning machine.old).state v k) }
-    ensures same { IsTrue M.tells → Same (M.meaning machine.old) (M.meaning machine.new) }
-    ensures count { (M.status machine.new).done ≡ (M.status machine.old).done }
-    ensures promise { IsTrue M.tells → Keeps (M.meaning machine.old).clock (M.promise machine.old) (M.promise machine.new) }
-    ensures faults { RunCall false (M.status machine.old) (M.status machine.new) result }
+    requires { IsReady M.Machine machine.old }
+    ensures { Reads M.Machine (λ shelf found. found ≡ name_on shelf v k) machine.old machine.new result }
 {
-    match machine.name_at(v, k) {
-        Ok(found) => Ok(found),
-        Err(WorkErr::Memory) => Err(Stop::Memory),
-        Err(WorkErr::Device) => Err(Stop::Device),
-    }
+    let found = machine.name_at(v, k)?;
+    Ok(found)
 }
 
 /// A data set in short.
 pub fn read_info<M: Machine>(machine: &mut M, v: u8, dsn: &Dsn) -> Result<Option<SetInfo>, Stop>
-    requires sound { IsTrue (M.status machine.old).is_sound }
-    requires closed { IsFalse (M.status machine.old).is_open }
-    ensures value { IsTrue M.tells → IfOk result (λ found. found ≡ option_map set_info (set_on (M.meaning machine.old).state v dsn.now.bytes)) }
-    ensures same { IsTrue M.tells → Same (M.meaning machine.old) (M.meaning machine.new) }
-    ensures count { (M.status machine.new).done ≡ (M.status machine.old).done }
-    ensures promise { IsTrue M.tells → Keeps (M.meaning machine.old).clock (M.promise machine.old) (M.promise machine.new) }
-    ensures faults { RunCall false (M.status machine.old) (M.status machine.new) result }
+    requires { IsReady M.Machine machine.old }
+    ensures { Reads M.Machine (λ shelf found. found ≡ option_map set_info (set_on shelf v dsn.now.bytes)) machine.old machine.new result }
 {
-    match machine.attr(v, dsn) {
-        Ok(found) => Ok(found),
-        Err(WorkErr::Memory) => Err(Stop::Memory),
-        Err(WorkErr::Device) => Err(Stop::Device),
-    }
+    let found = machine.attr(v, dsn)?;
+    Ok(found)
 }
 
 // The k-th extent of a data set, from 0.
 fn read_extent<M: Machine>(machine: &mut M, v: u8, dsn: &Dsn, k: u8) -> Result<Option<Run>, Stop>
-    requires sound { IsTrue (M.status machine.old).is_sound }
-    requires closed { IsFalse (M.status machine.old).is_open }
-    ensures value { IsTrue M.tells → IfOk result (λ found. found ≡ extent_on (M.meaning machine.old).state v dsn.now.bytes k) }
-    ensures same { IsTrue M.tells → Same (M.meaning machine.old) (M.meaning machine.new) }
-    ensures count { (M.status machine.new).done ≡ (M.status machine.old).done }
-    ensures promise { IsTrue M.tells → Keeps (M.meaning machine.old).clock (M.promise machine.old) (M.promise machine.new) }
-    ensures faults { RunCall false (M.status machine.old) (M.status machine.new) result }
+    requires { IsReady M.Machine machine.old }
+    ensures { Reads M.Machine (λ shelf found. found ≡ extent_on shelf v dsn.now.bytes k) machine.old machine.new result }
 {
-    match machine.extent(v, dsn, k) {
-        Ok(found) => Ok(found),
-        Err(WorkErr::Memory) => Err(Stop::Memory),
-        Err(WorkErr::Device) => Err(Stop::Device),
-    }
+    let found = machine.extent(v, dsn, k)?;
+    Ok(found)
 }
 
 // Prints the line of an extent.
 fn say_extent<M: Machine>(alloc: Global, machine: &mut M, number: u8, run: &Run) -> Result<(), Stop>
-    requires sound { IsTrue (M.status machine.old).is_sound }
-    requires closed { IsFalse (M.status machine.old).is_open }
-    ensures says { IsTrue M.tells → Runs M.tells_prints (map Say (extent_line number run.now ∷ [])) (M.meaning machine.old) (M.meaning machine.new) result }
-    ensures count { (M.status machine.new).done ≡ (M.status machine.old).done }
-    ensures promise { IsTrue M.tells → Keeps (M.meaning machine.old).clock (M.promise machine.old) (M.promise machine.new) }
-    ensures faults { RunCall false (M.status machine.old) (M.status machine.new) result }
+    requires { IsReady M.Machine machine.old }
+    ensures { Says M.Machine (λ shelf. extent_line number run.now ∷ []) machine.old machine.new result }
 {
-    match extent_line(alloc, number, run) {
-        Ok(line) => say(machine, &line),
-        Err(AllocError) => Err(Stop::Memory),
-    }
+    let line = extent_line(alloc, number, run)?;
+    say(machine, &line)
 }
 
 // Prints the lines of the extents of a data set that has so many.
@@ -120,17 +91,11 @@ fn say_set_line<M: Machine>(
     dsn: &Dsn,
     info: &SetInfo,
 ) -> Result<(), Stop>
-    requires sound { IsTrue (M.status machine.old).is_sound }
-    requires closed { IsFalse (M.status machine.old).is_open }
-    ensures says { IsTrue M.tells → Runs M.tells_prints (map Say (set_line dsn.now.bytes info.now ∷ [])) (M.meaning machine.old) (M.meaning machine.new) result }
-    ensures count { (M.status machine.new).done ≡ (M.status machine.old).done }
-    ensures promise { IsTrue M.tells → Keeps (M.meaning machine.old).clock (M.promise machine.old) (M.promise machine.new) }
-    ensures faults { RunCall false (M.status machine.old) (M.status machine.new) result }
+    requires { IsReady M.Machine machine.old }
+    ensures { Says M.Machine (λ shelf. set_line dsn.now.bytes info.now ∷ []) machine.old machine.new result }
 {
-    match set_line(alloc, dsn, info) {
-        Ok(line) => say(machine, &line),
-        Err(AllocError) => Err(Stop::Memory),
-    }
+    let line = set_line(alloc, dsn, info)?;
+    say(machine, &line)
 }
 
 // Prints the lines of a data set, of which this is known.
@@ -165,8 +130,7 @@ fn say_set<M: Machine>(
     dsn: &Dsn,
     format: bool,
 ) -> Result<bool, Stop>
-    requires sound { IsTrue (M.status machine.old).is_sound }
-    requires closed { IsFalse (M.status machine.old).is_open }
+    requires { IsReady M.Machine machine.old }
     ensures says { IsTrue M.tells → Runs M.tells_prints (map Say (lines_of_set format (set_on (M.meaning machine.old).state v dsn.now.bytes))) (M.meaning machine.old) (M.meaning machine.new) result }
     ensures found { IsTrue M.tells → IfOk result (λ found. found ≡ is_some (set_on (M.meaning machine.old).state v dsn.now.bytes)) }
     ensures count { (M.status machine.new).done ≡ (M.status machine.old).done }
@@ -190,12 +154,8 @@ fn say_known<M: Machine>(
     dsn: &Dsn,
     format: bool,
 ) -> Result<(), Stop>
-    requires sound { IsTrue (M.status machine.old).is_sound }
-    requires closed { IsFalse (M.status machine.old).is_open }
-    ensures says { IsTrue M.tells → Runs M.tells_prints (map Say (lines_of_set format (set_on (M.meaning machine.old).state v dsn.now.bytes))) (M.meaning machine.old) (M.meaning machine.new) result }
-    ensures count { (M.status machine.new).done ≡ (M.status machine.old).done }
-    ensures promise { IsTrue M.tells → Keeps (M.meaning machine.old).clock (M.promise machine.old) (M.promise machine.new) }
-    ensures faults { RunCall false (M.status machine.old) (M.status machine.new) result }
+    requires { IsReady M.Machine machine.old }
+    ensures { Says M.Machine (λ shelf. lines_of_set format (set_on shelf v dsn.now.bytes)) machine.old machine.new result }
 {
     say_set(alloc, machine, v, dsn, format)?;
     Ok(())
@@ -281,17 +241,11 @@ fn say_volume_line<M: Machine>(
     machine: &mut M,
     info: &VolumeInfo,
 ) -> Result<(), Stop>
-    requires sound { IsTrue (M.status machine.old).is_sound }
-    requires closed { IsFalse (M.status machine.old).is_open }
-    ensures says { IsTrue M.tells → Runs M.tells_prints (map Say (volume_line info.now ∷ [])) (M.meaning machine.old) (M.meaning machine.new) result }
-    ensures count { (M.status machine.new).done ≡ (M.status machine.old).done }
-    ensures promise { IsTrue M.tells → Keeps (M.meaning machine.old).clock (M.promise machine.old) (M.promise machine.new) }
-    ensures faults { RunCall false (M.status machine.old) (M.status machine.new) result }
+    requires { IsReady M.Machine machine.old }
+    ensures { Says M.Machine (λ shelf. volume_line info.now ∷ []) machine.old machine.new result }
 {
-    match volume_line(alloc, info) {
-        Ok(line) => say(machine, &line),
-        Err(AllocError) => Err(Stop::Memory),
-    }
+    let line = volume_line(alloc, info)?;
+    say(machine, &line)
 }
 
 /// Prints the lines of a volume and of the data sets that are asked for, and gives what became of that.

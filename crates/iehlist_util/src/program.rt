@@ -2,12 +2,10 @@
 ghost use Rattle.std.specs.Prelude.{◌≡◌, ◌≤◌, [], codes, false, length, map, slice_get, IsTrue, IsFalse, IfOk};
 ghost use Rattle.vol_model.specs.declared.contents.Volume.{Volume};
 ghost use Rattle.vol_model.specs.Calls.{Keeps};
-ghost use Rattle.vol_model.specs.Events.{code_of, events_of};
 ghost use Rattle.vol_model.specs.Reading.{volume_info};
-ghost use Rattle.vol_model.specs.Runs.{Counts, RunCall, Runs};
-ghost use Rattle.util_steps.specs.Items.{DoesItem, items_along};
-ghost use Rattle.util_syntax.specs.Items.{item_view};
-ghost use Rattle.util_syntax.specs.Program.{no_dd_item, syntax_item, sysin};
+ghost use Rattle.vol_model.specs.Runs.{RunCall};
+ghost use Rattle.util_steps.specs.Items.{DoesItem};
+ghost use Rattle.util_steps.specs.Taking.{IsReady, RunsItems, TakesItem};
 ghost use Rattle.iehlist_util.specs.Directories.{pds_listing};
 ghost use Rattle.iehlist_util.specs.Items.{FindsVolume, asked_item, directories_item, iehlist_items, listing_item, named_serial, no_volume_item, pds_item, statement_item, volume_for, volume_listing, vtoc_item};
 
@@ -15,12 +13,10 @@ use crate::directories::say_directories;
 use crate::listing::say_volume;
 use crate::requests::{ListPds, ListVtoc, Request, request_of};
 use ebcdic_names::Serial;
-use std::alloc::{AllocError, Global};
-use util_steps::{Items, find_volume, report, run_items};
-use util_syntax::{
-    Item, Object, Outcome, SYSIN, StepIn, SynErr, item_line, no_dd_line, syntax_line,
-    sysin_statements,
-};
+use std::alloc::Global;
+use util_program::{Program, report_fault, report_outcome, run_program};
+use util_steps::find_volume;
+use util_syntax::{Object, Outcome, Statement, StepIn, SynErr};
 use vol_model::{Machine, Refusal, Stop, VolumeInfo};
 
 // The serial of a volume that isn't named: blanks in EBCDIC.
@@ -30,7 +26,7 @@ const NO_SERIAL: Serial = Serial { bytes: [0x40; 6] };
 /// its statements.
 ///
 /// SYSIN has the statements; it is cards or DUMMY, else the step ends with `NO-DD` and 16. SYSPRINT isn't needed. A
-/// statement lists what is on one volume, which is unit 0 without VOL. Behind its list a line answers it, with `OK`, or
+/// statement lists what is on one volume, which is unit 0 without VOL. After its list a line answers it, with `OK`, or
 /// with the first refusal and 8. Where the volume isn't there, `NO-VOLUME` is the only line.
 ///
 /// - `LISTVTOC [VOL=dev=serial][,FORMAT][,DSNAME=(dsn,..)]` prints a line for the volume, one for each of its data sets,
@@ -44,77 +40,27 @@ const NO_SERIAL: Serial = Serial { bytes: [0x40; 6] };
 /// Any other statement, and one without these operands, is `SYNTAX BAD-OPERAND` with 12, and the next statement is done
 /// all the same.
 pub fn run<M: Machine>(alloc: Global, machine: &mut M, step: &StepIn) -> Result<u8, Stop>
-    requires sound { IsTrue (M.status machine.old).is_sound }
-    requires closed { IsFalse (M.status machine.old).is_open }
-    ensures runs { IsTrue M.tells → Runs M.tells_prints (events_of (iehlist_items step.now (M.meaning machine.old).state)) (M.meaning machine.old) (M.meaning machine.new) result }
-    ensures code { IsTrue M.tells → IfOk result (λ code. code ≡ code_of (iehlist_items step.now (M.meaning machine.old).state)) }
-    ensures count { IsTrue M.tells → Counts (events_of (iehlist_items step.now (M.meaning machine.old).state)) (M.status machine.old).done (M.status machine.new).done result }
-    ensures small { IfOk result (λ code. code ≤ 16) }
-    ensures promise { IsTrue M.tells → Keeps (M.meaning machine.old).clock (M.promise machine.old) (M.promise machine.new) }
-    ensures faults { RunCall false (M.status machine.old) (M.status machine.new) result }
+    requires { IsReady M.Machine machine.old }
+    ensures { RunsItems M.Machine (iehlist_items step.now) machine.old machine.new result }
 {
-    match sysin_statements(alloc, step) {
-        Ok(Some(items)) => run_statements(alloc, machine, &items),
-        Ok(None) => report_no_sysin(alloc, machine, step.card),
-        Err(AllocError) => Err(Stop::Memory),
-    }
+    let program = Iehlist { alloc };
+    run_program(alloc, machine, step, &program)
 }
 
-// What is left of the statements of a step.
+// The program.
 #[derive(Drop)]
-struct Statements<'a> {
+struct Iehlist {
     alloc: Global,
-    rest: &'a [Item],
 }
 
-impl<M: Machine> Items<M> for Statements<'_> {
-    ghost items = { λ work shelf. items_along statement_item shelf (map item_view work.rest.now) };
+impl<M: Machine> Program<M> for Iehlist {
+    ghost item = { λ program. statement_item };
 
-    ghost most = { λ work. length work.rest.now };
-
-    fn next(&mut self, machine: &mut M) -> Result<Option<u8>, Stop> {
-        match self.rest.split_first() {
-            Some((first, behind)) => {
-                let code = do_statement(self.alloc, machine, first)?;
-                self.rest = behind;
-                Ok(Some(code))
-            }
-            None => Ok(None),
+    fn answer(&self, machine: &mut M, statement: &Statement) -> Result<u8, Stop> {
+        match request_of(self.alloc, statement)? {
+            Some(request) => answer(self.alloc, machine, statement.card, &request),
+            None => report_fault(self.alloc, machine, statement.card, SynErr::BadOperand),
         }
-    }
-}
-
-// Does statements one after another.
-fn run_statements<M: Machine>(alloc: Global, machine: &mut M, items: &[Item]) -> Result<u8, Stop>
-    requires sound { IsTrue (M.status machine.old).is_sound }
-    requires closed { IsFalse (M.status machine.old).is_open }
-    ensures runs { IsTrue M.tells → Runs M.tells_prints (events_of (items_along statement_item (M.meaning machine.old).state (map item_view items.now))) (M.meaning machine.old) (M.meaning machine.new) result }
-    ensures code { IsTrue M.tells → IfOk result (λ code. code ≡ code_of (items_along statement_item (M.meaning machine.old).state (map item_view items.now))) }
-    ensures count { IsTrue M.tells → Counts (events_of (items_along statement_item (M.meaning machine.old).state (map item_view items.now))) (M.status machine.old).done (M.status machine.new).done result }
-    ensures small { IfOk result (λ code. code ≤ 16) }
-    ensures promise { IsTrue M.tells → Keeps (M.meaning machine.old).clock (M.promise machine.old) (M.promise machine.new) }
-    ensures faults { RunCall false (M.status machine.old) (M.status machine.new) result }
-{
-    let mut work = Statements { alloc, rest: items };
-    run_items(machine, &mut work)
-}
-
-// Does a statement, or answers its fault.
-fn do_statement<M: Machine>(alloc: Global, machine: &mut M, item: &Item) -> Result<u8, Stop>
-    requires sound { IsTrue (M.status machine.old).is_sound }
-    requires closed { IsFalse (M.status machine.old).is_open }
-    ensures item { IsTrue M.tells → DoesItem M.tells_prints (statement_item (M.meaning machine.old).state (item_view item.now)) (M.meaning machine.old) (M.meaning machine.new) (M.status machine.old).done (M.status machine.new).done result }
-    ensures small { IfOk result (λ code. code ≤ 16) }
-    ensures promise { IsTrue M.tells → Keeps (M.meaning machine.old).clock (M.promise machine.old) (M.promise machine.new) }
-    ensures faults { RunCall false (M.status machine.old) (M.status machine.new) result }
-{
-    match item {
-        Item::Stmt(statement) => match request_of(alloc, statement) {
-            Ok(Some(request)) => answer(alloc, machine, statement.card, &request),
-            Ok(None) => report_fault(alloc, machine, statement.card, SynErr::BadOperand),
-            Err(AllocError) => Err(Stop::Memory),
-        },
-        Item::Fault { card, kind, .. } => report_fault(alloc, machine, *card, *kind),
     }
 }
 
@@ -140,12 +86,8 @@ fn answer<M: Machine>(
     card: u32,
     request: &Request,
 ) -> Result<u8, Stop>
-    requires sound { IsTrue (M.status machine.old).is_sound }
-    requires closed { IsFalse (M.status machine.old).is_open }
-    ensures item { IsTrue M.tells → DoesItem M.tells_prints (asked_item (M.meaning machine.old).state card request.now) (M.meaning machine.old) (M.meaning machine.new) (M.status machine.old).done (M.status machine.new).done result }
-    ensures small { IfOk result (λ code. code ≤ 16) }
-    ensures promise { IsTrue M.tells → Keeps (M.meaning machine.old).clock (M.promise machine.old) (M.promise machine.new) }
-    ensures faults { RunCall false (M.status machine.old) (M.status machine.new) result }
+    requires { IsReady M.Machine machine.old }
+    ensures { TakesItem M.Machine (λ shelf. asked_item shelf card request.now) machine.old machine.new result }
 {
     match request {
         Request::Vtoc(request) => answer_vtoc(alloc, machine, card, request),
@@ -250,28 +192,6 @@ fn list_directories<M: Machine>(
     report_outcome(alloc, machine, card, "LISTPDS", &object, answer.outcome)
 }
 
-// Answers a statement.
-fn report_outcome<M: Machine>(
-    alloc: Global,
-    machine: &mut M,
-    card: u32,
-    operation: &str,
-    object: &Object,
-    outcome: Outcome,
-) -> Result<u8, Stop>
-    requires sound { IsTrue (M.status machine.old).is_sound }
-    requires closed { IsFalse (M.status machine.old).is_open }
-    ensures item { IsTrue M.tells → DoesItem M.tells_prints (listing_item card operation.now object.now (record { lines = []; outcome = outcome })) (M.meaning machine.old) (M.meaning machine.new) (M.status machine.old).done (M.status machine.new).done result }
-    ensures small { IfOk result (λ code. code ≤ 16) }
-    ensures promise { IsTrue M.tells → Keeps (M.meaning machine.old).clock (M.promise machine.old) (M.promise machine.new) }
-    ensures faults { RunCall false (M.status machine.old) (M.status machine.new) result }
-{
-    match item_line(alloc, card, operation, object, outcome) {
-        Ok(line) => report(machine, &line, outcome.code()),
-        Err(AllocError) => Err(Stop::Memory),
-    }
-}
-
 // Answers a statement whose volume isn't there.
 fn report_no_volume<M: Machine>(
     alloc: Global,
@@ -280,12 +200,8 @@ fn report_no_volume<M: Machine>(
     operation: &str,
     object: &Object,
 ) -> Result<u8, Stop>
-    requires sound { IsTrue (M.status machine.old).is_sound }
-    requires closed { IsFalse (M.status machine.old).is_open }
-    ensures item { IsTrue M.tells → DoesItem M.tells_prints (no_volume_item card operation.now object.now) (M.meaning machine.old) (M.meaning machine.new) (M.status machine.old).done (M.status machine.new).done result }
-    ensures small { IfOk result (λ code. code ≤ 16) }
-    ensures promise { IsTrue M.tells → Keeps (M.meaning machine.old).clock (M.promise machine.old) (M.promise machine.new) }
-    ensures faults { RunCall false (M.status machine.old) (M.status machine.new) result }
+    requires { IsReady M.Machine machine.old }
+    ensures { TakesItem M.Machine (λ shelf. no_volume_item card operation.now object.now) machine.old machine.new result }
 {
     report_outcome(
         alloc,
@@ -295,39 +211,4 @@ fn report_no_volume<M: Machine>(
         object,
         Outcome::Refused(Refusal::NoVolume),
     )
-}
-
-// Answers the fault of a statement.
-fn report_fault<M: Machine>(
-    alloc: Global,
-    machine: &mut M,
-    card: u32,
-    kind: SynErr,
-) -> Result<u8, Stop>
-    requires sound { IsTrue (M.status machine.old).is_sound }
-    requires closed { IsFalse (M.status machine.old).is_open }
-    ensures item { IsTrue M.tells → DoesItem M.tells_prints (syntax_item card kind) (M.meaning machine.old) (M.meaning machine.new) (M.status machine.old).done (M.status machine.new).done result }
-    ensures small { IfOk result (λ code. code ≤ 16) }
-    ensures promise { IsTrue M.tells → Keeps (M.meaning machine.old).clock (M.promise machine.old) (M.promise machine.new) }
-    ensures faults { RunCall false (M.status machine.old) (M.status machine.new) result }
-{
-    match syntax_line(alloc, card, kind) {
-        Ok(line) => report(machine, &line, 12),
-        Err(AllocError) => Err(Stop::Memory),
-    }
-}
-
-// Says that a step has no SYSIN.
-fn report_no_sysin<M: Machine>(alloc: Global, machine: &mut M, card: u32) -> Result<u8, Stop>
-    requires sound { IsTrue (M.status machine.old).is_sound }
-    requires closed { IsFalse (M.status machine.old).is_open }
-    ensures item { IsTrue M.tells → DoesItem M.tells_prints (no_dd_item card sysin) (M.meaning machine.old) (M.meaning machine.new) (M.status machine.old).done (M.status machine.new).done result }
-    ensures small { IfOk result (λ code. code ≤ 16) }
-    ensures promise { IsTrue M.tells → Keeps (M.meaning machine.old).clock (M.promise machine.old) (M.promise machine.new) }
-    ensures faults { RunCall false (M.status machine.old) (M.status machine.new) result }
-{
-    match no_dd_line(alloc, card, &SYSIN) {
-        Ok(line) => report(machine, &line, 16),
-        Err(AllocError) => Err(Stop::Memory),
-    }
 }

@@ -32,7 +32,7 @@ pub struct ListPds {
     pub volume: Option<Serial>,
     /// The first data set.
     pub first: Dsn,
-    /// The data sets behind it.
+    /// The data sets after it.
     pub others: Listed<Dsn>,
 }
 
@@ -58,7 +58,7 @@ fn each_of_vtoc(operands: &[Operand]) -> bool
     operands.iter().all(|operand| is_vtoc_operand(operand))
 }
 
-// Whether it takes all of them, seen so.
+// The same over the views of the operands.
 fn all_of_vtoc(operands: &[Operand]) -> bool
     ensures { result ≡ list_all is_vtoc_operand (map operand_view operands.now) }
 {
@@ -106,7 +106,7 @@ fn each_of_pds(operands: &[Operand]) -> bool
     operands.iter().all(|operand| is_pds_operand(operand))
 }
 
-// Whether it takes all of them, seen so.
+// The same over the views of the operands.
 fn all_of_pds(operands: &[Operand]) -> bool
     ensures { result ≡ list_all is_pds_operand (map operand_view operands.now) }
 {

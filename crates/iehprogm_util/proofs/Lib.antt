@@ -1,3 +1,2 @@
-mod MemberLemmas
-mod MemberNames
 mod StepLemmas
+pub mod AcceptedLemmas

@@ -1,54 +1,34 @@
 -- What IEHPROGM does in a step, statement by statement (Utilities GC28-6586, in this project's profile).
-use Rattle.std.specs.Prelude.{ℕ, ◌&&◌, not, Bool, false, if◌then◌else◌, List, [], ◌∷◌, find, codes, Option, Some, None, Result, Ok, Err, ok_or}
-use Rattle.std.specs.Map.{lookup}
+use Rattle.std.specs.Prelude.{ℕ, ◌&&◌, not, Bool, false, if◌then◌else◌, List, find, codes, Option, Some, None, Result, Ok, Err, ok_or}
 use Rattle.std.specs.Option.{option_map_or}
-use Rattle.std.specs.Ordering.{is_lt, nat_cmp}
-use Rattle.std.specs.Cmp.Lexicographic.{slice_cmp}
 use Rattle.std.specs.Str.{bytes_eq}
 use Rattle.ebcdic_names.specs.declared.names.Dsn.{Dsn}
 use Rattle.ebcdic_names.specs.declared.names.Name8.{Name8}
 use Rattle.ebcdic_names.specs.declared.names.Serial.{Serial}
-use Rattle.vol_model.specs.declared.contents.DataSet.{DataSet}
 use Rattle.vol_model.specs.declared.contents.Entry.{Entry}
 use Rattle.vol_model.specs.declared.contents.Shelf.{Shelf}
 use Rattle.vol_model.specs.declared.refusals.Refusal.{Refusal}
 use Rattle.vol_model.specs.declared.refusals.Refusal.TheVariants.{NoVolume, WrongKind, Unreadable, NoMember}
-use Rattle.vol_model.specs.declared.requests.Op.{Op}
 use Rattle.vol_model.specs.declared.requests.Op.TheVariants as ops
-use Rattle.vol_model.specs.Did.{Did, and_then, answered, because, with_reason}
+use Rattle.vol_model.specs.Did.{Did, and_then, answered, because}
 use Rattle.vol_model.specs.Events.{Item}
 use Rattle.vol_model.specs.Reading.{entries_in}
 use Rattle.vol_model.specs.Shelf.{is_partitioned, number_of, on_found, refuse}
-use Rattle.vol_model.specs.Writing.{did_apply, set_on}
-use Rattle.util_steps.specs.declared.calls.Fault.{Fault}
-use Rattle.util_steps.specs.declared.calls.Fault.TheVariants as faults
-use Rattle.util_steps.specs.Copying.{refusing}
-use Rattle.util_steps.specs.Items.{items_along}
+use Rattle.vol_model.specs.Writing.{set_on}
+use Rattle.util_steps.specs.Expiry.{is_unexpired}
 use Rattle.util_syntax.specs.declared.listing.Object.{Object}
 use Rattle.util_syntax.specs.declared.listing.Object.TheVariants as object
 use Rattle.util_syntax.specs.declared.listing.Outcome.{Outcome}
 use Rattle.util_syntax.specs.declared.listing.Outcome.TheVariants as outcome
 use Rattle.util_syntax.specs.declared.operands.SynErr.TheVariants.{BadOperand}
 use Rattle.util_syntax.specs.declared.step.StepIn.{StepIn}
-use Rattle.util_syntax.specs.Items.{ItemView, fault, statement}
-use Rattle.util_syntax.specs.Program.{answered_item, no_dd_item, statements_in, syntax_item, sysin}
-use Rattle.util_syntax.specs.Step.{same_name}
+use Rattle.util_syntax.specs.Items.{StatementView}
+use Rattle.util_syntax.specs.Program.{answered_item, syntax_item}
+use Rattle.util_program.specs.Outcomes.{performed}
+use Rattle.util_program.specs.Statements.{program_items}
 use Rattle.iehprogm_util.specs.declared.requests.Request.{Request}
 use Rattle.iehprogm_util.specs.declared.requests.Request.TheVariants.{Rename, RenameMember, Scratch, ScratchMember}
 use Rattle.iehprogm_util.specs.Requests.{request_of}
-
--- a fault of steps as the outcome of a statement
-abbrev pub outcome_for : Fault → Outcome
-outcome_for (faults.Refused refusal) = outcome.Refused refusal
-outcome_for faults.BadRecord = outcome.BadRecord
-
--- one operation, whose refusal is the outcome
-abbrev pub performed : Shelf → Op → Did (Unit {0}) Outcome
-performed shelf op = with_reason outcome_for (refusing (did_apply shelf op))
-
--- the data set's expiration date is later than the date
-abbrev pub is_unexpired : List ℕ → DataSet → Bool
-is_unexpired date x = is_lt (slice_cmp nat_cmp date x.attr.expires)
 
 -- a data set that goes, unless it is there, unexpired and not to be purged
 unfoldable pub scratched : List ℕ → Shelf → ℕ → Dsn → Bool → Did (Unit {0}) Outcome
@@ -110,7 +90,7 @@ object_of (Scratch serial dsn purge) = object.Name dsn
 object_of (ScratchMember serial dsn member) = object.Member dsn member
 
 -- the item of a statement that has the form of its operation, on a card
-unfoldable pub request_item : List ℕ → Shelf → ℕ → Request → Item
+abbrev pub request_item : List ℕ → Shelf → ℕ → Request → Item
 request_item date shelf card request = answered_item card (operation_word request) (object_of request) (steps_of date shelf request)
 
 -- a statement that asks for nothing that is done here is a fault
@@ -118,16 +98,10 @@ abbrev pub requested_item : List ℕ → Shelf → ℕ → Option Request → It
 requested_item date shelf card None = syntax_item card BadOperand
 requested_item date shelf card (Some request) = request_item date shelf card request
 
--- the item of a statement, or of the fault of one
-abbrev pub statement_item : List ℕ → Shelf → ItemView → Item
-statement_item date shelf (fault card column kind) = syntax_item card kind
-statement_item date shelf (statement s) = requested_item date shelf s.card (request_of s)
-
--- the items of statements, one after another, or that SYSIN isn't there
-abbrev pub items_if : List ℕ → ℕ → Shelf → Option (List ItemView) → List Item
-items_if date card shelf None = no_dd_item card sysin ∷ []
-items_if date card shelf (Some statements) = items_along (statement_item date) shelf statements
+-- the item of a statement
+abbrev pub statement_item : List ℕ → Shelf → StatementView → Item
+statement_item date shelf s = requested_item date shelf s.card (request_of s)
 
 -- the items of a step
-unfoldable pub iehprogm_items : StepIn → Shelf → List Item
-iehprogm_items step shelf = items_if step.date step.card shelf (statements_in (lookup (same_name sysin) step.dds))
+abbrev pub iehprogm_items : StepIn → Shelf → List Item
+iehprogm_items step = program_items (statement_item step.date) step

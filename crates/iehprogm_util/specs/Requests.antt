@@ -1,35 +1,20 @@
 -- What the statements of IEHPROGM ask for (Utilities GC28-6586, in this project's profile).
-use Rattle.std.specs.Prelude.{◌≡◌, ℕ, ◌||◌, Bool, false, if◌then◌else◌, List, replicate, codes, Option, None, option_map, option_and_then}
+use Rattle.std.specs.Prelude.{◌||◌, Bool, if◌then◌else◌, List, codes, Option, None, option_map, option_and_then}
 use Rattle.std.specs.List.{list_all, list_any}
-use Rattle.std.specs.Str.{bytes_eq}
 use Rattle.ebcdic_names.specs.declared.names.Dsn.{Dsn}
 use Rattle.ebcdic_names.specs.declared.names.Name8.{Name8}
 use Rattle.ebcdic_names.specs.declared.names.Serial.{Serial}
-use Rattle.card_text.specs.Names.{name_of}
 use Rattle.card_text.specs.Operands.{OperandView}
-use Rattle.card_text.specs.Tree.{Tree, as_word}
-use Rattle.util_syntax.specs.Forms.{data_set_of, flag_of, has_keyword, is_flag, is_named, value_of, volume_of}
+use Rattle.util_syntax.specs.Forms.{IsMemberName, data_set_of, flag_of, has_keyword, is_flag, is_named, member_of, volume_of}
 use Rattle.util_syntax.specs.Items.{StatementView}
 use Rattle.iehprogm_util.specs.declared.requests.Request.{Request}
 use Rattle.iehprogm_util.specs.declared.requests.Request.TheVariants.{Rename, RenameMember, Scratch, ScratchMember}
 
 -- ---- members
 
--- a name of one level
-unfoldable pub member_in : Tree → Option Name8
-member_in value = option_and_then name_of (as_word value)
-
--- the name of a member behind a keyword, if that stands once
-unfoldable pub member_of : List ℕ → List OperandView → Option Name8
-member_of word operands = option_and_then member_in (value_of word operands)
-
 -- an operand says that a member is meant
 abbrev pub names_member : List OperandView → Bool
 names_member operands = list_any (has_keyword (codes "MEMBER")) operands
-
--- an entry may have this name: it isn't that of the entry which ends a directory
-abbrev pub IsMemberName : Name8 → Type 0
-IsMemberName name = bytes_eq name.bytes (replicate 8 255) ≡ false
 
 -- where an entry is renamed, it may have the new name
 abbrev pub IsLawfulRequest : Request → Type 0

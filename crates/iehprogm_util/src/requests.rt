@@ -6,13 +6,12 @@ ghost use Rattle.card_text.specs.Operands.{operand_view};
 ghost use Rattle.card_text.specs.Tree.{value_view};
 ghost use Rattle.util_syntax.specs.Forms.{has_keyword};
 ghost use Rattle.util_syntax.specs.Program.{statement_view};
-ghost use Rattle.iehprogm_util.specs.Requests.{IsLawfulRequest, IsMemberName, is_rename_operand, is_scratch_operand, member_in, member_of, member_rename_of, member_scratch_of, names_member, rename_of, request_of, scratch_of, set_rename_of, set_scratch_of};
+ghost use Rattle.iehprogm_util.specs.Requests.{IsLawfulRequest, is_rename_operand, is_scratch_operand, member_rename_of, member_scratch_of, names_member, rename_of, request_of, scratch_of, set_rename_of, set_scratch_of};
 ghost use Rattle.iehprogm_util.specs.Items.{object_of, operation_word, serial_in};
 
-use card_text::name_of;
 use ebcdic_names::{Dsn, Name8, Serial};
 use util_syntax::{
-    Object, Operand, Statement, Value, data_set_of, flag_of, has_keyword, is_flag, is_named,
+    Object, Operand, Statement, data_set_of, flag_of, has_keyword, is_flag, is_named, member_of,
     value_of, volume_of,
 };
 
@@ -103,30 +102,6 @@ impl Request {
     }
 }
 
-// The name of a member that a value is.
-#[tactic(auto, unfolding(crate::specs::Requests::member_in))]
-fn member_in(value: &Value) -> Option<Name8>
-    ensures name { result ≡ member_in (value_view value.now) }
-    ensures lawful { IfSome result IsMemberName }
-{
-    match value.as_word() {
-        Some(text) => name_of(text),
-        None => None,
-    }
-}
-
-// The name of a member behind a keyword, if one operand has that, and no second.
-#[tactic(auto, unfolding(crate::specs::Requests::member_of))]
-fn member_of(operands: &[Operand], word: &[u8]) -> Option<Name8>
-    ensures name { result ≡ member_of word.now (map operand_view operands.now) }
-    ensures lawful { IfSome result IsMemberName }
-{
-    match value_of(operands, word) {
-        Some(value) => member_in(value),
-        None => None,
-    }
-}
-
 // Whether one of these operands has the keyword MEMBER.
 fn one_names_member(operands: &[Operand]) -> bool
     ensures { result ≡ list_any (λ (o : Operand). has_keyword (codes "MEMBER") (operand_view o)) operands.now }
@@ -136,7 +111,7 @@ fn one_names_member(operands: &[Operand]) -> bool
         .any(|operand| has_keyword(operand, b"MEMBER"))
 }
 
-// Whether one has it, seen so.
+// The same over the views of the operands.
 fn names_member(operands: &[Operand]) -> bool
     ensures { result ≡ names_member (map operand_view operands.now) }
 {
@@ -159,7 +134,7 @@ fn each_of_rename(operands: &[Operand]) -> bool
     operands.iter().all(|operand| is_rename_operand(operand))
 }
 
-// Whether it takes all of them, seen so.
+// The same over the views of the operands.
 fn all_of_rename(operands: &[Operand]) -> bool
     ensures { result ≡ list_all is_rename_operand (map operand_view operands.now) }
 {
@@ -227,7 +202,7 @@ fn each_of_scratch(operands: &[Operand]) -> bool
     operands.iter().all(|operand| is_scratch_operand(operand))
 }
 
-// Whether it takes all of them, seen so.
+// The same over the views of the operands.
 fn all_of_scratch(operands: &[Operand]) -> bool
     ensures { result ≡ list_all is_scratch_operand (map operand_view operands.now) }
 {

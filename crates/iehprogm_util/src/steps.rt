@@ -1,49 +1,22 @@
 //! What the statements of IEHPROGM do on a machine.
-ghost use Rattle.std.specs.Prelude.{◌≡◌, false, IsTrue, IsFalse, IfOk};
-ghost use Rattle.std.specs.Option.{option_map_or};
-ghost use Rattle.std.specs.Ordering.{is_lt, nat_cmp};
-ghost use Rattle.std.specs.Cmp.Lexicographic.{slice_cmp};
-ghost use Rattle.stop_model.specs.Moments.{Same};
+ghost use Rattle.std.specs.Prelude.{◌≡◌, false, IsTrue, IfOk};
 ghost use Rattle.vol_model.specs.declared.requests.Op.TheVariants as ops;
-ghost use Rattle.vol_model.specs.Calls.{Keeps};
 ghost use Rattle.vol_model.specs.Lawful.{IsLawfulEntry, IsLawfulOp};
 ghost use Rattle.vol_model.specs.Reading.{entries_in};
-ghost use Rattle.vol_model.specs.Runs.{RunCall, Works};
 ghost use Rattle.vol_model.specs.Shelf.{is_partitioned};
 ghost use Rattle.vol_model.specs.Writing.{body_on, set_on};
-ghost use Rattle.iehprogm_util.specs.Items.{entry_in, entry_renamed, is_unexpired, member_on, member_renamed, outcome_for, performed, scratched, steps_of, steps_on};
-ghost use Rattle.iehprogm_util.specs.Requests.{IsLawfulRequest, IsMemberName};
+ghost use Rattle.util_steps.specs.Taking.{IsReady, Reads, Takes};
+ghost use Rattle.util_syntax.specs.Forms.{IsMemberName};
+ghost use Rattle.util_program.specs.Outcomes.{performed};
+ghost use Rattle.iehprogm_util.specs.Items.{entry_in, entry_renamed, member_on, member_renamed, scratched, steps_of, steps_on};
+ghost use Rattle.iehprogm_util.specs.Requests.{IsLawfulRequest};
 
 use crate::requests::Request;
 use ebcdic_names::{Dsn, Name8};
-use util_steps::{Fault, apply, find_volume};
+use util_program::perform;
+use util_steps::{find_volume, is_unexpired};
 use util_syntax::Outcome;
-use vol_model::{Attr, Entry, Machine, Op, ReadErr, Refusal, Stop, WorkErr, is_catalog};
-
-// A fault of steps as the outcome of a statement.
-fn outcome_for(fault: Fault) -> Outcome
-    ensures { result ≡ outcome_for fault }
-{
-    match fault {
-        Fault::Refused(refusal) => Outcome::Refused(refusal),
-        Fault::BadRecord => Outcome::BadRecord,
-    }
-}
-
-// Does one operation.
-fn perform<M: Machine>(machine: &mut M, op: &Op) -> Result<Result<(), Outcome>, Stop>
-    requires sound { IsTrue (M.status machine.old).is_sound }
-    requires closed { IsFalse (M.status machine.old).is_open }
-    requires lawful { IsLawfulOp op.now }
-    ensures works { IsTrue M.tells → Works M.tells_prints (performed (M.meaning machine.old).state op.now) (M.meaning machine.old) (M.meaning machine.new) (M.status machine.old).done (M.status machine.new).done result }
-    ensures promise { IsTrue M.tells → Keeps (M.meaning machine.old).clock (M.promise machine.old) (M.promise machine.new) }
-    ensures faults { RunCall false (M.status machine.old) (M.status machine.new) result }
-{
-    match apply(machine, op)? {
-        Ok(()) => Ok(Ok(())),
-        Err(fault) => Ok(Err(outcome_for(fault))),
-    }
-}
+use vol_model::{Attr, Entry, Machine, Op, ReadErr, Refusal, Stop, is_catalog};
 
 // Gives a data set another name.
 fn rename<M: Machine>(
@@ -52,11 +25,8 @@ fn rename<M: Machine>(
     old: &Dsn,
     new: &Dsn,
 ) -> Result<Result<(), Outcome>, Stop>
-    requires sound { IsTrue (M.status machine.old).is_sound }
-    requires closed { IsFalse (M.status machine.old).is_open }
-    ensures works { IsTrue M.tells → Works M.tells_prints (performed (M.meaning machine.old).state (ops.Rename v old.now new.now)) (M.meaning machine.old) (M.meaning machine.new) (M.status machine.old).done (M.status machine.new).done result }
-    ensures promise { IsTrue M.tells → Keeps (M.meaning machine.old).clock (M.promise machine.old) (M.promise machine.new) }
-    ensures faults { RunCall false (M.status machine.old) (M.status machine.new) result }
+    requires { IsReady M.Machine machine.old }
+    ensures { Takes M.Machine (λ shelf. performed shelf (ops.Rename v old.now new.now)) machine.old machine.new result }
 {
     let op = Op::Rename {
         v,
@@ -68,39 +38,11 @@ fn rename<M: Machine>(
 
 // Lets a data set go, whenever it expires.
 fn purge<M: Machine>(machine: &mut M, v: u8, dsn: &Dsn) -> Result<Result<(), Outcome>, Stop>
-    requires sound { IsTrue (M.status machine.old).is_sound }
-    requires closed { IsFalse (M.status machine.old).is_open }
-    ensures works { IsTrue M.tells → Works M.tells_prints (performed (M.meaning machine.old).state (ops.Scratch v dsn.now)) (M.meaning machine.old) (M.meaning machine.new) (M.status machine.old).done (M.status machine.new).done result }
-    ensures promise { IsTrue M.tells → Keeps (M.meaning machine.old).clock (M.promise machine.old) (M.promise machine.new) }
-    ensures faults { RunCall false (M.status machine.old) (M.status machine.new) result }
+    requires { IsReady M.Machine machine.old }
+    ensures { Takes M.Machine (λ shelf. performed shelf (ops.Scratch v dsn.now)) machine.old machine.new result }
 {
     let op = Op::Scratch { v, dsn: *dsn };
     perform(machine, &op)
-}
-
-// Whether a date stands before another.
-fn is_before(date: &[u8; 3], other: &[u8; 3]) -> bool
-    ensures { result ≡ is_lt (slice_cmp nat_cmp date.now other.now) }
-{
-    date.cmp(other).is_lt()
-}
-
-// Whether a data set is there and expires later than a date.
-fn is_unexpired<M: Machine>(machine: &mut M, date: &[u8; 3], v: u8, dsn: &Dsn) -> Result<bool, Stop>
-    requires sound { IsTrue (M.status machine.old).is_sound }
-    requires closed { IsFalse (M.status machine.old).is_open }
-    ensures value { IsTrue M.tells → IfOk result (λ b. b ≡ option_map_or (is_unexpired date.now) (set_on (M.meaning machine.old).state v dsn.now.bytes) false) }
-    ensures same { IsTrue M.tells → Same (M.meaning machine.old) (M.meaning machine.new) }
-    ensures promise { IsTrue M.tells → Keeps (M.meaning machine.old).clock (M.promise machine.old) (M.promise machine.new) }
-    ensures count { (M.status machine.new).done ≡ (M.status machine.old).done }
-    ensures faults { RunCall false (M.status machine.old) (M.status machine.new) result }
-{
-    match machine.attr(v, dsn) {
-        Ok(Some(info)) => Ok(is_before(date, &info.attr.expires)),
-        Ok(None) => Ok(false),
-        Err(WorkErr::Memory) => Err(Stop::Memory),
-        Err(WorkErr::Device) => Err(Stop::Device),
-    }
 }
 
 // Lets a data set go, unless it is there and unexpired.
@@ -110,11 +52,8 @@ fn scratch<M: Machine>(
     v: u8,
     dsn: &Dsn,
 ) -> Result<Result<(), Outcome>, Stop>
-    requires sound { IsTrue (M.status machine.old).is_sound }
-    requires closed { IsFalse (M.status machine.old).is_open }
-    ensures works { IsTrue M.tells → Works M.tells_prints (scratched date.now (M.meaning machine.old).state v dsn.now false) (M.meaning machine.old) (M.meaning machine.new) (M.status machine.old).done (M.status machine.new).done result }
-    ensures promise { IsTrue M.tells → Keeps (M.meaning machine.old).clock (M.promise machine.old) (M.promise machine.new) }
-    ensures faults { RunCall false (M.status machine.old) (M.status machine.new) result }
+    requires { IsReady M.Machine machine.old }
+    ensures { Takes M.Machine (λ shelf. scratched date.now shelf v dsn.now false) machine.old machine.new result }
 {
     if is_unexpired(machine, date, v, dsn)? {
         return Ok(Err(Outcome::Expires));
@@ -129,11 +68,8 @@ fn drop_member<M: Machine>(
     dsn: &Dsn,
     name: &Name8,
 ) -> Result<Result<(), Outcome>, Stop>
-    requires sound { IsTrue (M.status machine.old).is_sound }
-    requires closed { IsFalse (M.status machine.old).is_open }
-    ensures works { IsTrue M.tells → Works M.tells_prints (performed (M.meaning machine.old).state (ops.Drop v dsn.now name.now)) (M.meaning machine.old) (M.meaning machine.new) (M.status machine.old).done (M.status machine.new).done result }
-    ensures promise { IsTrue M.tells → Keeps (M.meaning machine.old).clock (M.promise machine.old) (M.promise machine.new) }
-    ensures faults { RunCall false (M.status machine.old) (M.status machine.new) result }
+    requires { IsReady M.Machine machine.old }
+    ensures { Takes M.Machine (λ shelf. performed shelf (ops.Drop v dsn.now name.now)) machine.old machine.new result }
 {
     let op = Op::Drop {
         v,
@@ -169,13 +105,10 @@ fn enter_as<M: Machine>(
     entry: Entry,
     new: &Name8,
 ) -> Result<Result<(), Outcome>, Stop>
-    requires sound { IsTrue (M.status machine.old).is_sound }
-    requires closed { IsFalse (M.status machine.old).is_open }
+    requires ready { IsReady M.Machine machine.old }
     requires entry { IsLawfulEntry entry }
     requires name { IsMemberName new.now }
-    ensures works { IsTrue M.tells → Works M.tells_prints (performed (M.meaning machine.old).state (ops.Enter v dsn.now (record entry { name = new.now }) false)) (M.meaning machine.old) (M.meaning machine.new) (M.status machine.old).done (M.status machine.new).done result }
-    ensures promise { IsTrue M.tells → Keeps (M.meaning machine.old).clock (M.promise machine.old) (M.promise machine.new) }
-    ensures faults { RunCall false (M.status machine.old) (M.status machine.new) result }
+    ensures { Takes M.Machine (λ shelf. performed shelf (ops.Enter v dsn.now (record entry { name = new.now }) false)) machine.old machine.new result }
 {
     let op = entering(v, dsn, entry, new);
     perform(machine, &op)
@@ -190,13 +123,10 @@ fn rename_entry<M: Machine>(
     new: &Name8,
     entry: Entry,
 ) -> Result<Result<(), Outcome>, Stop>
-    requires sound { IsTrue (M.status machine.old).is_sound }
-    requires closed { IsFalse (M.status machine.old).is_open }
+    requires ready { IsReady M.Machine machine.old }
     requires entry { IsLawfulEntry entry }
     requires name { IsMemberName new.now }
-    ensures works { IsTrue M.tells → Works M.tells_prints (entry_renamed (M.meaning machine.old).state v dsn.now old.now new.now entry) (M.meaning machine.old) (M.meaning machine.new) (M.status machine.old).done (M.status machine.new).done result }
-    ensures promise { IsTrue M.tells → Keeps (M.meaning machine.old).clock (M.promise machine.old) (M.promise machine.new) }
-    ensures faults { RunCall false (M.status machine.old) (M.status machine.new) result }
+    ensures { Takes M.Machine (λ shelf. entry_renamed shelf v dsn.now old.now new.now entry) machine.old machine.new result }
 {
     match enter_as(machine, v, dsn, entry, new)? {
         Ok(()) => drop_member(machine, v, dsn, old),
@@ -218,14 +148,9 @@ fn find_entry<M: Machine>(
     dsn: &Dsn,
     name: &Name8,
 ) -> Result<Result<Entry, Refusal>, Stop>
-    requires sound { IsTrue (M.status machine.old).is_sound }
-    requires closed { IsFalse (M.status machine.old).is_open }
-    ensures value { IsTrue M.tells → IfOk result (λ answer. answer ≡ entry_in name.now (entries_in (body_on (M.meaning machine.old).state v dsn.now.bytes))) }
-    ensures same { IsTrue M.tells → Same (M.meaning machine.old) (M.meaning machine.new) }
+    requires { IsReady M.Machine machine.old }
+    ensures reads { Reads M.Machine (λ shelf answer. answer ≡ entry_in name.now (entries_in (body_on shelf v dsn.now.bytes))) machine.old machine.new result }
     ensures lawful { IfOk result (λ answer. IfOk answer IsLawfulEntry) }
-    ensures promise { IsTrue M.tells → Keeps (M.meaning machine.old).clock (M.promise machine.old) (M.promise machine.new) }
-    ensures count { (M.status machine.new).done ≡ (M.status machine.old).done }
-    ensures faults { RunCall false (M.status machine.old) (M.status machine.new) result }
 {
     match machine.entry(v, dsn, name) {
         Ok(Some(entry)) => Ok(Ok(entry)),
@@ -243,21 +168,14 @@ fn find_member<M: Machine>(
     dsn: &Dsn,
     name: &Name8,
 ) -> Result<Result<Entry, Refusal>, Stop>
-    requires sound { IsTrue (M.status machine.old).is_sound }
-    requires closed { IsFalse (M.status machine.old).is_open }
-    ensures value { IsTrue M.tells → IfOk result (λ answer. answer ≡ member_on (M.meaning machine.old).state v dsn.now name.now) }
-    ensures same { IsTrue M.tells → Same (M.meaning machine.old) (M.meaning machine.new) }
+    requires { IsReady M.Machine machine.old }
+    ensures reads { Reads M.Machine (λ shelf answer. answer ≡ member_on shelf v dsn.now name.now) machine.old machine.new result }
     ensures lawful { IfOk result (λ answer. IfOk answer IsLawfulEntry) }
-    ensures promise { IsTrue M.tells → Keeps (M.meaning machine.old).clock (M.promise machine.old) (M.promise machine.new) }
-    ensures count { (M.status machine.new).done ≡ (M.status machine.old).done }
-    ensures faults { RunCall false (M.status machine.old) (M.status machine.new) result }
 {
-    match machine.attr(v, dsn) {
-        Ok(Some(info)) if is_partitioned(dsn, &info.attr) => find_entry(machine, v, dsn, name),
-        Ok(Some(_)) => Ok(Err(Refusal::WrongKind)),
-        Ok(None) => Ok(Err(Refusal::NoSet)),
-        Err(WorkErr::Memory) => Err(Stop::Memory),
-        Err(WorkErr::Device) => Err(Stop::Device),
+    match machine.attr(v, dsn)? {
+        Some(info) if is_partitioned(dsn, &info.attr) => find_entry(machine, v, dsn, name),
+        Some(_) => Ok(Err(Refusal::WrongKind)),
+        None => Ok(Err(Refusal::NoSet)),
     }
 }
 
@@ -269,12 +187,9 @@ fn rename_member<M: Machine>(
     old: &Name8,
     new: &Name8,
 ) -> Result<Result<(), Outcome>, Stop>
-    requires sound { IsTrue (M.status machine.old).is_sound }
-    requires closed { IsFalse (M.status machine.old).is_open }
+    requires ready { IsReady M.Machine machine.old }
     requires name { IsMemberName new.now }
-    ensures works { IsTrue M.tells → Works M.tells_prints (member_renamed (M.meaning machine.old).state v dsn.now old.now new.now) (M.meaning machine.old) (M.meaning machine.new) (M.status machine.old).done (M.status machine.new).done result }
-    ensures promise { IsTrue M.tells → Keeps (M.meaning machine.old).clock (M.promise machine.old) (M.promise machine.new) }
-    ensures faults { RunCall false (M.status machine.old) (M.status machine.new) result }
+    ensures { Takes M.Machine (λ shelf. member_renamed shelf v dsn.now old.now new.now) machine.old machine.new result }
 {
     match find_member(machine, v, dsn, old)? {
         Ok(entry) => rename_entry(machine, v, dsn, old, new, entry),
@@ -289,12 +204,9 @@ fn do_on<M: Machine>(
     v: u8,
     request: &Request,
 ) -> Result<Result<(), Outcome>, Stop>
-    requires sound { IsTrue (M.status machine.old).is_sound }
-    requires closed { IsFalse (M.status machine.old).is_open }
+    requires ready { IsReady M.Machine machine.old }
     requires lawful { IsLawfulRequest request.now }
-    ensures works { IsTrue M.tells → Works M.tells_prints (steps_on date.now (M.meaning machine.old).state v request.now) (M.meaning machine.old) (M.meaning machine.new) (M.status machine.old).done (M.status machine.new).done result }
-    ensures promise { IsTrue M.tells → Keeps (M.meaning machine.old).clock (M.promise machine.old) (M.promise machine.new) }
-    ensures faults { RunCall false (M.status machine.old) (M.status machine.new) result }
+    ensures { Takes M.Machine (λ shelf. steps_on date.now shelf v request.now) machine.old machine.new result }
 {
     match request {
         Request::Rename { old, new, .. } => rename(machine, v, old, new),
@@ -319,12 +231,9 @@ pub fn do_request<M: Machine>(
     date: &[u8; 3],
     request: &Request,
 ) -> Result<Result<(), Outcome>, Stop>
-    requires sound { IsTrue (M.status machine.old).is_sound }
-    requires closed { IsFalse (M.status machine.old).is_open }
+    requires ready { IsReady M.Machine machine.old }
     requires lawful { IsLawfulRequest request.now }
-    ensures works { IsTrue M.tells → Works M.tells_prints (steps_of date.now (M.meaning machine.old).state request.now) (M.meaning machine.old) (M.meaning machine.new) (M.status machine.old).done (M.status machine.new).done result }
-    ensures promise { IsTrue M.tells → Keeps (M.meaning machine.old).clock (M.promise machine.old) (M.promise machine.new) }
-    ensures faults { RunCall false (M.status machine.old) (M.status machine.new) result }
+    ensures { Takes M.Machine (λ shelf. steps_of date.now shelf request.now) machine.old machine.new result }
 {
     match find_volume(machine, &request.serial()) {
         Some(v) => do_on(machine, date, v, request),

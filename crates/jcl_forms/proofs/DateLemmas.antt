@@ -51,7 +51,7 @@ day_found day year end h is e same =
     let here : ends_by day year ≡ true = ends_here day year (omega arith) in
     ap (option_map (λ n. date_bytes n (day - days_before n))) (sym same ∙ find_here (ends_by day) year h here)
 
--- a day behind a year
+-- a day after a year
 pub day_behind : (day year end : ℕ) → year < 100 → end ≡ days_before (year + 1) → end < day
     → find (ends_by day) (years_from year) ≡ find (ends_by day) (years_from 0)
     → find (ends_by day) (years_from (year + 1)) ≡ find (ends_by day) (years_from 0)

@@ -8,7 +8,7 @@ use Rattle.jcl_forms.specs.Parts.{before, behind}
 use Rattle.jcl_forms.specs.declared.data_set.DdPart.{DdPart}
 use Rattle.jcl_forms.specs.declared.data_set.DdPart.TheVariants.{Whole, Member, Generation}
 
--- 0, a number behind + or -, or the name of a member
+-- 0, a number after + or -, or the name of a member
 unfoldable pub part_of : List ℕ → Option DdPart
 part_of [] = None
 part_of (b ∷ bs) =
@@ -17,7 +17,7 @@ part_of (b ∷ bs) =
     else (if b == 45 then option_map (λ n. Generation (neg_ℤ (pos n))) (number_below (2 ^ 31) bs)
     else option_map Member (name_of (b ∷ bs))))
 
--- a part, and the parenthesis behind it
+-- a part, and the parenthesis after it
 unfoldable pub closed_part : List ℕ → Option DdPart
 closed_part text =
     if option_map_or (λ b. b == 41) (slice_get text (length text - 1)) false then part_of (take (length text - 1) text) else None

@@ -14,16 +14,16 @@ is_byte separator b = b == separator
 abbrev pub before : ℕ → List ℕ → List ℕ
 before separator text = before_first (is_byte separator) text
 
--- what is behind the first separator, if there is one
+-- what is after the first separator, if there is one
 abbrev pub behind : ℕ → List ℕ → Option (List ℕ)
 behind separator text = option_map (λ at. drop (at + 1) text) (position (is_byte separator) text)
 
--- the parts of what is behind a separator, if there is one
+-- the parts of what is after a separator, if there is one
 abbrev pub other_items : ℕ → Option (Bor (List ℕ)) → List (List ℕ)
 other_items separator None = []
 other_items separator (Some rest) = slice_split (is_byte separator) rest.now
 
--- the items of a list behind its first
+-- the items of a list after its first
 abbrev pub others : List ℕ → List ℕ
 others items = unwrap_or (behind 44 items) []
 

@@ -30,7 +30,7 @@ amounts_of text =
     (number_of (before 44 text))
     else None
 
--- behind the amounts stands nothing, or that the space is contiguous
+-- after the amounts stands nothing, or that the space is contiguous
 unfoldable pub contiguity_of : List ℕ → Option Bool
 contiguity_of text =
     if length text == 0 then Some false else (if is_text (codes ",,CONTIG") text then Some true else None)
@@ -49,7 +49,7 @@ space_with ask amounts contiguity =
 abbrev pub begins_list : List ℕ → Bool
 begins_list text = option_map_or (λ b. b == 40) (slice_get text 0) false
 
--- a primary amount alone, or a list of amounts, and what is behind
+-- a primary amount alone, or a list of amounts, and what is after
 unfoldable pub space_behind : List ℕ → List ℕ → Option Space
 space_behind unit text =
     if begins_list text

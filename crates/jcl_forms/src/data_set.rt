@@ -18,7 +18,7 @@ pub enum DdPart {
     Generation(i32),
 }
 
-// What the text between the parentheses behind a name means.
+// What the text between the parentheses after a name means.
 #[tactic(auto, unfolding(crate::specs::DataSet::part_of))]
 fn part_of(text: &[u8]) -> Option<DdPart>
     ensures { result ≡ part_of text.now }
@@ -43,7 +43,7 @@ fn closed_part(text: &[u8]) -> Option<DdPart>
     }
 }
 
-// What is meant by the text behind an opening parenthesis, if there is one.
+// What is meant by the text after an opening parenthesis, if there is one.
 fn part_behind(text: Option<&[u8]>) -> Option<DdPart>
     ensures { result ≡ part_behind (option_map (λ t. t.now) text.entry) }
 {

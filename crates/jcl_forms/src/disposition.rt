@@ -13,7 +13,7 @@ pub enum DdStatus {
     Old,
     /// It is there, and others may read it.
     Shr,
-    /// It is there and is written behind its last block, or the step makes it.
+    /// It is there and is written after its last block, or the step makes it.
     Mod,
 }
 

@@ -11,7 +11,7 @@ fn separator_at(separator: u8, text: &[u8]) -> Option<usize>
     text.iter().position(|byte| *byte == separator)
 }
 
-// What stands before the first separator, and what is behind it if there is one.
+// What stands before the first separator, and what is after it if there is one.
 #[tactic(auto, using(card_text::proofs::Lists::cuts))]
 pub fn parted(separator: u8, text: &[u8]) -> (&[u8], Option<&[u8]>)
     ensures before { result.0.now ≡ before separator text.now }
@@ -25,7 +25,7 @@ pub fn parted(separator: u8, text: &[u8]) -> (&[u8], Option<&[u8]>)
     }
 }
 
-// The items of a list behind its first.
+// The items of a list after its first.
 pub fn others(items: &[u8]) -> &[u8]
     ensures { result.now ≡ others items.now }
 {

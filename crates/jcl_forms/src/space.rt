@@ -71,7 +71,7 @@ fn amounts_of(text: &[u8]) -> Option<Amounts>
     })
 }
 
-// Whether the text behind the quantities asks for one extent.
+// Whether the text after the quantities asks for one extent.
 #[tactic(auto, unfolding(crate::specs::SpaceRequest::contiguity_of))]
 fn contiguity_of(text: &[u8]) -> Option<bool>
     ensures { result ≡ contiguity_of text.now }
@@ -112,7 +112,7 @@ fn begins_list(text: &[u8]) -> bool
     }
 }
 
-// The space that a unit and the text behind its comma ask for.
+// The space that a unit and the text after its comma ask for.
 #[tactic(auto, unfolding(crate::specs::SpaceRequest::space_behind))]
 fn space_behind(unit: &[u8], text: &[u8]) -> Option<Space>
     ensures { result ≡ space_behind unit.now text.now }

@@ -80,7 +80,7 @@ first_form date text =
     else (if is_sysout (keyed text) then Some form.Sysout
     else option_map form.Keyed (with_dd_parts date no_dd_operands (keyed text))))
 
--- a form with one more operand: behind DUMMY, * and SYSOUT=x there is none
+-- a form with one more operand: after DUMMY, * and SYSOUT=x there is none
 abbrev pub with_dd_operand : List ℕ → DdForm → List Mark → Option DdForm
 with_dd_operand date form.Empty text = first_form date text
 with_dd_operand date form.Dummy text = None

@@ -11,7 +11,7 @@ use Rattle.job_deck.specs.declared.deck.Role.{Role}
 use Rattle.job_deck.specs.declared.deck.Role.TheVariants as role
 use Rattle.job_deck.specs.declared.statements.Operation.TheVariants as operation
 
--- what a card is, behind a statement with these operands: it continues them where they end in a comma
+-- what a card is, after a statement with these operands: it continues them where they end in a comma
 unfoldable pub role_of : List Character → ℕ × Card → Role
 role_of before card =
     if not (is_jcl card) then role.NotJcl
@@ -28,7 +28,7 @@ operands_up_to before card role.NotJcl = []
 operands_up_to before card role.Comment = []
 operands_up_to before card role.Null = []
 
--- cards with their numbers and roles, behind a statement with these operands
+-- cards with their numbers and roles, after a statement with these operands
 abbrev pub cards_of : ℕ → List Character → List Card → List DeckCard
 cards_of number before [] = []
 cards_of number before (card ∷ cards) =
@@ -88,7 +88,7 @@ abbrev pub groups : {A : Type 0} → (A → Bool) → List A → List (A × List
 groups test [] = []
 groups test (item ∷ items) = if test item then (item, before_first test items) ∷ groups test items else groups test items
 
--- of the cards behind the first of a statement: those that continue it
+-- of the cards after the first of a statement: those that continue it
 abbrev pub continuation : List DeckCard → List DeckCard
 continuation cards = before_first continues_none cards
 

@@ -33,7 +33,7 @@ abbrev pub first_some : List (Option JclErr) → Option JclErr
 first_some [] = None
 first_some (found ∷ others) = option_or found (first_some others)
 
--- what is read behind what is read
+-- what is read after what is read
 abbrev pub and_then : {X Y : Type 0} → (X → Result Y JclErr) → Result X JclErr → Result Y JclErr
 and_then next (Err fault) = Err fault
 and_then next (Ok value) = next value

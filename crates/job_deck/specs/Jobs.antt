@@ -35,11 +35,11 @@ abbrev pub stray_fault : List DeckCard → Option JclErr
 stray_fault [] = None
 stray_fault (card ∷ cards) = Some (fault_at (column_of card.card 1) Stray)
 
--- what is read of a statement with such cards behind it
+-- what is read of a statement with such cards after it
 abbrev pub without_stray : {X : Type 0} → List DeckCard → Result X JclErr → Result X JclErr
 without_stray cards read = and_then (λ value. unless (stray_fault cards) (Ok value)) read
 
--- the statement that begins on a card, with those of the cards behind it that continue it
+-- the statement that begins on a card, with those of the cards after it that continue it
 abbrev pub statement_on : DeckCard → List DeckCard → Statement
 statement_on first others = statement first.card (continuation others)
 
@@ -89,7 +89,7 @@ duplicate_faults earlier s (Some name) = if has_dd earlier name then fault_at (c
 abbrev pub what_of_operands : DdOperands → DdWhat
 what_of_operands operands = option_map_or (λ named. what.Set (set_of operands named)) operands.dsn what.Dummy
 
--- what a form defines: the data of a DD * are cards behind the statement
+-- what a form defines: the data of a DD * are cards after the statement
 abbrev pub what_of : DdForm → List DeckCard → DdWhat
 what_of form.Cards behind = what.Cards (map (λ card. card.card) (data_of behind))
 what_of form.Sysout behind = what.Sysout
@@ -97,7 +97,7 @@ what_of (form.Keyed operands) behind = what_of_operands operands
 what_of form.Dummy behind = what.Dummy
 what_of form.Empty behind = what.Dummy
 
--- the cards behind a DD that it doesn't take
+-- the cards after a DD that it doesn't take
 abbrev pub left_by : DdForm → List DeckCard → List DeckCard
 left_by form.Cards behind = behind_data behind
 left_by form.Sysout behind = behind
@@ -110,7 +110,7 @@ dd_with s behind (Err fault) = Err fault
 dd_with s behind (Ok form) =
     without_stray (left_by form behind) (Ok (record { name = name_or_blank s.name; card = s.card.0; what = what_of form behind }))
 
--- a DD, behind the earlier ones of its step
+-- a DD, after the earlier ones of its step
 unfoldable pub dd_of : List ℕ → List Dd → DeckCard → List DeckCard → Result Dd JclErr
 dd_of date earlier first others =
     let s = statement_on first others in
@@ -128,7 +128,7 @@ unfoldable pub with_statements : List ℕ → List Dd → List (DeckCard × List
 with_statements date dds [] = Ok dds
 with_statements date dds (s ∷ others) = and_then (λ more. with_statements date more others) (with_statement date dds s.0 s.1 s.0.role)
 
--- a step: its EXEC and the statements behind it
+-- a step: its EXEC and the statements after it
 unfoldable pub step_of : List ℕ → DeckCard → List DeckCard → Result Step JclErr
 step_of date first others =
     let own = before_first begins_statement others in

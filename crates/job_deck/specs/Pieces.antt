@@ -38,7 +38,7 @@ is_unbalanced_piece piece = is_unbalanced piece.text
 abbrev pub balance_fault : List Piece → Option JclErr
 balance_fault pieces = option_map (λ piece. fault_at piece.place Unbalanced) (find is_unbalanced_piece pieces)
 
--- behind what is read of operands a card may be missing
+-- after what is read of operands a card may be missing
 abbrev pub with_continuation : {X : Type 0} → Joined → Result X JclErr → Result X JclErr
 with_continuation operands (Err fault) = Err fault
 with_continuation operands (Ok value) =

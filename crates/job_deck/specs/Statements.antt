@@ -33,7 +33,7 @@ operation_of word =
     else (if is_text (codes "DD") word then Dd
     else Other)))
 
--- the characters of a card behind its two slashes
+-- the characters of a card after its two slashes
 unfoldable pub behind_slashes : ℕ × Card → List Character
 behind_slashes card = drop 2 (statement_characters false card)
 

@@ -30,7 +30,7 @@ pub struct DeckCard {
     pub role: Role,
 }
 
-// What a card is behind a statement with these operands.
+// What a card is after a statement with these operands.
 #[tactic(auto, unfolding(crate::specs::Deck::role_of))]
 fn role_of(alloc: Global, before: &[Character], card: &Numbered) -> Result<Role, AllocError>
     ensures { IfOk result (λ role. role ≡ role_of before.now card.now) }
@@ -197,7 +197,7 @@ fn end_at(cards: &[DeckCard]) -> Option<usize>
     cards.iter().position(|card| continues_none(card))
 }
 
-// The cards in front that continue a statement, and those behind them.
+// The cards in front that continue a statement, and those after them.
 #[tactic(auto, using(card_text::proofs::Lists::cuts))]
 pub fn split_continuation(cards: &[DeckCard]) -> (&[DeckCard], &[DeckCard])
     ensures continuation { result.0.now ≡ continuation cards.now }
@@ -217,7 +217,7 @@ fn delimiter_at(cards: &[DeckCard]) -> Option<usize>
     cards.iter().position(|card| is_delimiter(card))
 }
 
-// The data in front, and the cards behind the delimiter that ends them.
+// The data in front, and the cards after the delimiter that ends them.
 #[tactic(auto, using(card_text::proofs::Lists::cuts))]
 pub fn split_data(cards: &[DeckCard]) -> (&[DeckCard], &[DeckCard])
     ensures cards { result.0.now ≡ data_of cards.now }

@@ -34,7 +34,7 @@ pub enum JclKind {
 pub struct JclErr {
     /// The number of the card in the deck, from 1.
     pub card: u32,
-    /// The column, from 1: that of the first character of the field, and for a missing field the second behind the last
+    /// The column, from 1: that of the first character of the field, and for a missing field the second after the last
     /// of columns 1 to 71 that isn't blank.
     pub column: u8,
     /// What is wrong.

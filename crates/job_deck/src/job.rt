@@ -2,9 +2,8 @@
 
 use crate::faults::JclErr;
 use card_text::{Card, Text};
-use ebcdic_names::{Dsn, Name8, Serial};
+use ebcdic_names::{Dsn, Listed, Name8, Serial};
 use jcl_forms::{Dcb, DdAfter, DdPart, DdStatus, Space};
-use vol_model::Listed;
 
 /// The steps of a job, in order.
 pub type Steps = Listed<Step>;
@@ -12,7 +11,7 @@ pub type Steps = Listed<Step>;
 /// The DDs of a step, in order.
 pub type Dds = Listed<Dd>;
 
-/// Data cards, each behind its number in the deck.
+/// Data cards, each after its number in the deck.
 pub type DataCards = Listed<(u32, Card)>;
 
 /// A job.

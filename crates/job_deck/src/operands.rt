@@ -7,8 +7,8 @@ ghost use Rattle.job_deck.specs.Pieces.{is_absent, placed_pieces, pieces, is_unb
 use crate::faults::{JclErr, JclKind, fault_at};
 use crate::statements::Joined;
 use card_text::{CardColumn, Mark, first_piece, first_place, is_unbalanced, missing_place, nested};
+use ebcdic_names::Listed;
 use std::alloc::{AllocError, Global};
-use vol_model::Listed;
 
 // An operand.
 #[derive(Drop)]
@@ -94,7 +94,7 @@ pub fn balance_fault(pieces: &[Piece]) -> Option<JclErr>
     None
 }
 
-// What is read of operands, unless a card is missing behind them.
+// What is read of operands, unless a card is missing after them.
 pub fn with_continuation<T: Drop>(operands: &Joined, read: Result<T, JclErr>) -> Result<T, JclErr>
     ensures { result ≡ with_continuation operands.now read }
 {

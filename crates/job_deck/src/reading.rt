@@ -21,9 +21,8 @@ use crate::statements::{
 };
 use crate::taken::add_new_catalog_fault;
 use card_text::{Card, Numbered, name_of};
-use ebcdic_names::Name8;
+use ebcdic_names::{Listed, Name8};
 use std::alloc::{AllocError, Global};
-use vol_model::Listed;
 
 // The fault of cards that are no JCL and that no DD takes.
 fn stray_fault(cards: &[DeckCard]) -> Option<JclErr>
@@ -35,7 +34,7 @@ fn stray_fault(cards: &[DeckCard]) -> Option<JclErr>
     }
 }
 
-// The statement that begins on a card, with those of the cards behind it that continue it.
+// The statement that begins on a card, with those of the cards after it that continue it.
 fn statement_on(
     alloc: Global,
     first: &DeckCard,
@@ -99,7 +98,7 @@ fn early_fault(
     }
 }
 
-// The first fault of the statements behind a JOB, in front of the first EXEC.
+// The first fault of the statements after a JOB, in front of the first EXEC.
 fn early_faults(alloc: Global, cards: &[DeckCard]) -> Result<Option<JclErr>, AllocError>
     ensures { IfOk result (λ fault. fault
         ≡ first_some (map (λ s. early_fault s.0 s.1 s.0.role) (groups begins_statement cards.now))) }
@@ -203,7 +202,7 @@ fn data_cards(alloc: Global, behind: &[DeckCard]) -> Result<Vec<Numbered>, Alloc
     cards.iter().map(|card| card.card).collect(alloc)
 }
 
-// What a form defines, with these cards behind the statement.
+// What a form defines, with these cards after the statement.
 fn what_of(alloc: Global, form: DdForm, behind: &[DeckCard]) -> Result<DdWhat, AllocError>
     ensures { IfOk result (λ what. what ≡ what_of form behind.now) }
 {
@@ -215,7 +214,7 @@ fn what_of(alloc: Global, form: DdForm, behind: &[DeckCard]) -> Result<DdWhat, A
     }
 }
 
-// The first card behind a DD that it doesn't take, as a fault.
+// The first card after a DD that it doesn't take, as a fault.
 fn left_fault(form: DdForm, behind: &[DeckCard]) -> Option<JclErr>
     ensures { result ≡ stray_fault (left_by form behind.now) }
 {
@@ -250,7 +249,7 @@ fn dd_with(
     }
 }
 
-// A DD, behind the earlier ones of its step.
+// A DD, after the earlier ones of its step.
 #[tactic(auto, unfolding(crate::specs::Jobs::dd_of))]
 fn dd_of(
     alloc: Global,
@@ -305,7 +304,7 @@ fn with_statement(
     }
 }
 
-// The DDs of the statements behind an EXEC, or the first fault.
+// The DDs of the statements after an EXEC, or the first fault.
 #[tactic(auto, unfolding(crate::specs::Jobs::with_statements))]
 fn dds_of(
     alloc: Global,
@@ -328,7 +327,7 @@ fn dds_of(
     Ok(Ok(dds))
 }
 
-// A step: its EXEC and the statements behind it.
+// A step: its EXEC and the statements after it.
 #[tactic(auto, unfolding(crate::specs::Jobs::step_of))]
 fn step_of(
     alloc: Global,
@@ -358,7 +357,7 @@ fn step_of(
     }
 }
 
-// The steps of the cards behind a JOB, or the first fault.
+// The steps of the cards after a JOB, or the first fault.
 #[tactic(auto, using(crate::proofs::Steps::steps_read), unfolding(crate::proofs::Steps::with_steps))]
 fn all_steps(
     alloc: Global,

@@ -9,9 +9,8 @@ use card_text::{
     CardColumn, Character, Numbered, Text, bytes_of, ends_in_comma, field_part, first_word,
     missing_place, name_of, past_blanks, statement_characters,
 };
-use ebcdic_names::Name8;
+use ebcdic_names::{Listed, Name8};
 use std::alloc::{AllocError, Global};
-use vol_model::Listed;
 
 // The operation of a statement.
 #[derive(Clone, Copy)]
@@ -30,7 +29,7 @@ pub struct Joined {
     pub field: Listed<Character>,
     // The last card of the statement.
     pub last: Numbered,
-    // Whether a card is missing behind the last.
+    // Whether a card is missing after the last.
     pub missing: bool,
 }
 
@@ -69,7 +68,7 @@ pub fn operation_of(word: &[u8]) -> Operation
     }
 }
 
-// The characters of a card behind its two slashes.
+// The characters of a card after its two slashes.
 #[tactic(auto, unfolding(crate::specs::Statements::behind_slashes))]
 fn behind_slashes(alloc: Global, card: &Numbered) -> Result<Vec<Character>, AllocError>
     ensures { IfOk result (λ v. v.items ≡ behind_slashes card.now) }

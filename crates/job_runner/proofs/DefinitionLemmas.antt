@@ -1,12 +1,10 @@
 -- How DDs are resolved, one after another.
-use Rattle.std.proofs.Common.{◌≡◌, ℕ, Bool, true, false, cond, max, List, [], ◌∷◌, ◌++◌, length, map, refl, sym, ◌∙◌, ap, subst, arith, append_assoc}
+use Rattle.std.proofs.Common.{◌≡◌, ℕ, Bool, true, false, max, List, [], ◌∷◌, ◌++◌, length, map, refl, sym, ◌∙◌, ap, subst, arith, append_assoc}
 use Rattle.std.proofs.lemmas.List.{append-nil}
-use Rattle.std.specs.Prelude.{codes, Option, Some, None, is_some, slice_get, ok_or, Result, Ok, Err, IsErr, IfOk, if◌then◌else◌}
+use Rattle.std.specs.Prelude.{codes, Option, Some, None, is_some, Result, Ok, Err, IsErr, if◌then◌else◌}
 use Rattle.std.specs.List.{cons_option, filter_map}
-use Rattle.std.specs.Option.{option_map_or}
 use Rattle.ebcdic_names.specs.declared.names.Dsn.{Dsn}
 use Rattle.ebcdic_names.specs.declared.names.Name8.{Name8}
-use Rattle.ebcdic_names.specs.declared.names.Serial.{Serial}
 use Rattle.indexmap.specs.IndexMap.{insert_all, insert_entry}
 use Rattle.jcl_forms.specs.declared.disposition.DdStatus.{DdStatus}
 use Rattle.jcl_forms.specs.declared.disposition.DdStatus.TheVariants.{New, Old, Shr, Mod}
@@ -15,23 +13,22 @@ use Rattle.job_deck.specs.declared.job.DdSet.{DdSet}
 use Rattle.job_deck.specs.declared.job.DdWhat.{DdWhat}
 use Rattle.job_deck.specs.declared.job.DdWhat.TheVariants as what
 use Rattle.stop_model.specs.Moments.{Meaning}
-use Rattle.util_steps.specs.Items.{DoesItem}
 use Rattle.util_syntax.specs.declared.step.DdIn.{DdIn}
 use Rattle.util_syntax.specs.Step.{same_name}
 use Rattle.vol_model.specs.declared.answers.Stop.{Stop}
 use Rattle.vol_model.specs.declared.contents.Shelf.{Shelf}
 use Rattle.vol_model.specs.declared.refusals.Refusal.{Refusal}
 use Rattle.vol_model.specs.declared.refusals.Refusal.TheVariants.{NoSet}
-use Rattle.vol_model.specs.Did.{Did, answered}
+use Rattle.vol_model.specs.Did.{Did}
 use Rattle.vol_model.specs.Events.{Item, code_of}
 use Rattle.vol_model.specs.Writing.{did_apply, set_on}
 use Rattle.job_runner.specs.declared.definitions.Defined.{Defined}
 use Rattle.job_runner.specs.declared.new_sets.NewSet.{NewSet}
-use Rattle.job_runner.specs.DataSets.{Definitions, Resolved, allocation, by_name, code_for, definitions, found_on, gives, if_done, is_mod, looked_for, makes, new_set, new_with, not_there, old_set, operation_item, refuses, resolved, resolved_as, set_by, set_given, table_of, wanted, with_first}
+use Rattle.job_runner.specs.DataSets.{Definitions, Resolved, allocation, by_name, code_for, definitions, found_on, gives, if_done, is_mod, looked_for, makes, new_set, new_with, not_there, old_set, refuses, resolved, resolved_as, set_by, set_given, table_of, wanted, with_first}
 use Rattle.job_runner.specs.Dispositions.{deletion_for}
 use Rattle.job_runner.specs.Parts.{DoesItems, behind_items}
-use Rattle.job_runner.specs.Resolving.{Defines, IsDefined, Resolves}
-use Rattle.job_runner.proofs.PartLemmas.{SoFar, code_append, does_broken, does_one, does_state, does_with, so_begins, so_ends, so_further, so_last, so_stops}
+use Rattle.job_runner.specs.Resolving.{Defines, Resolves}
+use Rattle.job_runner.proofs.PartLemmas.{SoFar, code_append, does_broken, does_state, does_with, so_begins, so_ends, so_further, so_last, so_stops}
 
 -- ---- one DD
 

@@ -1,29 +1,17 @@
 -- Deletions, case by case.
-use Rattle.std.proofs.Common.{◌≡◌, ℕ, Bool, true, false, cond, List, [], ◌∷◌, codes, refl, sym, ap, subst}
-use Rattle.std.specs.Prelude.{Option, Some, None, option_map}
+use Rattle.std.proofs.Common.{◌≡◌, ℕ, Bool, true, false, cond, List, codes, sym, ap}
 use Rattle.std.specs.Option.{option_map_or}
-use Rattle.std.specs.Ordering.{is_lt, nat_cmp}
-use Rattle.std.specs.Cmp.Lexicographic.{slice_cmp}
-use Rattle.vol_model.specs.declared.answers.SetInfo.{SetInfo}
-use Rattle.vol_model.specs.declared.contents.DataSet.{DataSet}
-use Rattle.vol_model.specs.Reading.{set_info}
 use Rattle.util_syntax.specs.declared.listing.Object.TheVariants.{Name}
 use Rattle.util_syntax.specs.declared.listing.Outcome.TheVariants.{Expires}
 use Rattle.util_syntax.specs.Listing.{item_line}
 use Rattle.vol_model.specs.declared.contents.Shelf.{Shelf}
 use Rattle.vol_model.specs.declared.requests.Op.TheVariants.{Scratch}
 use Rattle.vol_model.specs.Writing.{did_apply, set_on}
-use Rattle.iehprogm_util.specs.Items.{is_unexpired}
+use Rattle.util_steps.specs.Expiry.{is_unexpired}
 use Rattle.job_runner.specs.declared.dispositions.Deletion.{Deletion}
 use Rattle.job_runner.specs.DataSets.{operation_item}
 use Rattle.job_runner.specs.Dispositions.{deleted}
 use Rattle.job_runner.specs.Parts.{says}
-
--- whether a data set is unexpired, by what a machine tells of it in short
-pub unexpired_by : (date : List ℕ) (o : Option DataSet) (info : SetInfo) → Some info ≡ option_map set_info o → is_lt (slice_cmp nat_cmp date info.attr.expires) ≡ option_map_or (is_unexpired date) o false
-unfolding set_info
-unexpired_by date None info told = let never : ⊥ = cc in absurd never
-unexpired_by date (Some x) info told = let same : info ≡ set_info x = cc in ap (λ (i : SetInfo). is_lt (slice_cmp nat_cmp date i.attr.expires)) same
 
 module _ (date : List ℕ) (shelf : Shelf) (d : Deletion) where
   -- an unexpired set stays

@@ -1,8 +1,7 @@
 -- Steps and jobs, one after another.
 use Rattle.std.proofs.Common.{◌≡◌, ◌≤◌, ℕ, ◌+◌, ◌-◌, ◌^◌, min, Bool, true, false, cond, max, List, [], ◌∷◌, ◌++◌, codes, length, refl, sym, ◌∙◌, ap, subst, arith}
-use Rattle.std.specs.Prelude.{Option, Some, None, Result, Ok, Err, IsErr, IfOk, if◌then◌else◌}
+use Rattle.std.specs.Prelude.{Some, Result, Ok, Err, IsErr, if◌then◌else◌}
 use Rattle.stop_model.specs.Moments.{Meaning}
-use Rattle.job_deck.specs.declared.faults.JclErr.{JclErr}
 use Rattle.job_deck.specs.declared.job.Job.{Job}
 use Rattle.job_deck.specs.declared.job.Step.{Step}
 use Rattle.std.specs.List.{filter_map}
@@ -23,10 +22,10 @@ use Rattle.job_runner.specs.declared.dispositions.Deletion.{Deletion}
 use Rattle.job_runner.specs.Dispositions.{deleted, deletion_for, dispositions}
 use Rattle.job_runner.specs.Jobs.{Work, behind_definitions, body_work, ends_job, job_work, jobs_work, no_work, program_step, program_unless, step_body, step_in, step_items, step_work, steps_work, work_then}
 use Rattle.job_runner.specs.Lines.{code_line, job_line, step_line}
-use Rattle.job_runner.specs.Parts.{DoesCoded, DoesItems, and_next, behind_items, framed, says}
-use Rattle.job_runner.specs.Resolving.{Defines, DoesStep, DoesWork, IsTotal, IsDefined, IsEnd, steps_counted}
+use Rattle.job_runner.specs.Parts.{DoesCoded, DoesItems, and_next, behind_items, says}
+use Rattle.job_runner.specs.Resolving.{Defines, DoesStep, DoesWork, steps_counted}
 use Rattle.job_runner.proofs.DefinitionLemmas.{definitions_code}
-use Rattle.job_runner.proofs.PartLemmas.{SoFar, code_append, code_framed, does_broken, does_next, does_nothing, does_one, does_state, does_stopped, does_with, frame_done, frame_stopped, frame_unsaid, so_begins, so_ends, so_further, so_last, so_stops}
+use Rattle.job_runner.proofs.PartLemmas.{SoFar, code_append, code_framed, does_broken, does_next, does_nothing, does_one, does_state, does_stopped, does_with, frame_done, frame_stopped, frame_unsaid, so_begins, so_ends, so_further, so_stops}
 
 -- ---- a step
 
@@ -64,7 +63,7 @@ module _ (date : List ℕ) (program : Program) (step : Step) {tells : Bool} wher
       let d = definitions date step.dds old.state in
       record { does = does_stopped (behind_definitions date program step d (behind_items old.state d.items)) (Err e) refl defines.does; end = tt }
 
-  -- what stands behind its DDs is stopped
+  -- what stands after its DDs is stopped
   pub known_unfinished : {old mid new : Meaning Shelf} {n k m c : ℕ} {x : Defined} {q : Result ℕ Stop} (r : Result StepEnd Stop) → IsErr r → Defines tells (definitions date step.dds old.state) old mid n k (Ok x) → DoesCoded tells (behind_definitions date program step (definitions date step.dds old.state) mid.state) mid new k m q → DoesStep tells (program_step date program step old.state) ((definitions date step.dds old.state).is_refused) old new n c r
   unfolding program_step
   known_unfinished {old = old} {q = q} r failed defines coded =
@@ -287,10 +286,11 @@ module _ {tells : Bool} (date : List ℕ) {all : Work} {ran : Ran} (rest : List 
     pub steps_stop : {new : Meaning Shelf} {k c : ℕ} {q : Result StepEnd Stop} (r : Result Ran Stop) → IsErr r → DoesStep tells (step_items date step now.state) (ends_job date step now.state) now new m k q → DoesWork tells all old new n c r
     steps_stop r failed does = work_stops so (step_work date step now.state) later_work step_is r failed does.does
 
--- ---- what stands behind the DDs of a step
+-- ---- what stands after the DDs of a step
 
-pub coded_nothing : {tells : Bool} (items : List Item) (m : Meaning Shelf) {n k : ℕ} (e : Stop) → DoesCoded tells items m m n k (Err e)
-coded_nothing items m e = record { does = does_nothing items m e; code = tt }
+pub coded_nothing : {tells : Bool} (items : List Item) (m : Meaning Shelf) {n k : ℕ} (r : Result ℕ Stop) → IsErr r → DoesCoded tells items m m n k r
+coded_nothing items m (Ok x) failed = let no : ⊥ = cc in absurd no
+coded_nothing items m (Err e) failed = record { does = does_nothing items m e; code = tt }
 
 pub step_in_is : (date : List ℕ) (step : Step) (dds : List (Dd × DdIn)) (table : List (Name8 × DdIn)) (parm : List ℕ) → table ≡ table_of dds → parm ≡ step.parm → (let s : StepIn = record { pgm = step.pgm; parm = parm; card = step.card; date = date; dds = table } in s) ≡ step_in date step dds
 unfolding step_in

@@ -1,3 +1,5 @@
+mod ProgramLemmas
+mod AcceptedLemmas
 pub mod PartLemmas
 pub mod OperationLemmas
 pub mod DispositionLemmas

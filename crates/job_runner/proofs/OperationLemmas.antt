@@ -1,5 +1,5 @@
 -- An operation and the line that answers it.
-use Rattle.std.proofs.Common.{◌≡◌, ℕ, Bool, List, [], ◌∷◌, refl, sym, ap, subst}
+use Rattle.std.proofs.Common.{◌≡◌, ℕ, Bool, List, [], ◌∷◌, refl, subst}
 use Rattle.std.specs.Prelude.{Result, Ok, Err, IsErr, IfOk}
 use Rattle.stop_model.specs.Moments.{Meaning, IsDurable, Same}
 use Rattle.ebcdic_names.specs.declared.names.Dsn.{Dsn}

@@ -1,19 +1,22 @@
 -- Parts of a run one after another, in a frame and in a loop.
-use Rattle.std.proofs.Common.{◌≡◌, ℕ, Bool, max, List, [], ◌∷◌, ◌++◌, length, refl, sym, ◌∙◌, ap, subst, arith, append_assoc, length-append}
+use Rattle.std.proofs.Common.{◌≡◌, ℕ, Bool, max, List, [], ◌∷◌, ◌++◌, length, refl, sym, ◌∙◌, ap, subst, arith, append_assoc, length-append, ◌≤◌, false}
 use Rattle.std.proofs.lemmas.List.{append-nil}
-use Rattle.std.specs.Prelude.{Result, Ok, Err, IsErr, IfOk}
+use Rattle.std.specs.Prelude.{Result, Ok, Err, IsErr, IfOk, IsTrue}
 use Rattle.stop_model.specs.Moments.{Meaning, Elapses, IsDurable, Same}
 use Rattle.stop_model.proofs.MomentLemmas.{elapses_none}
 use Rattle.vol_model.specs.declared.answers.Stop.{Stop}
 use Rattle.vol_model.specs.declared.contents.Shelf.{Shelf}
+use Rattle.vol_model.specs.declared.machine.Machine.{Ghosts}
 use Rattle.vol_model.specs.declared.requests.Op.{Op}
-use Rattle.vol_model.specs.Calls.{counted}
-use Rattle.vol_model.specs.Events.{Do, Event, Item, Say, code_of, events_in, events_of, operations_of, shelf_behind}
-use Rattle.vol_model.specs.Runs.{Counts, Runs}
+use Rattle.vol_model.specs.Calls.{Keeps, counted}
+use Rattle.vol_model.specs.Events.{Do, Event, Item, Say, code_of, events_in, events_of, operations_of}
+use Rattle.vol_model.specs.Runs.{Counts, RunCall, Runs}
 use Rattle.vol_model.proofs.Stops.{HasRun, StopsSince, events_append, run_none, run_then, since_first, since_second}
 use Rattle.vol_model.proofs.Working.{counted_twice, idle_since}
 use Rattle.util_steps.specs.Items.{DoesItem}
-use Rattle.job_runner.specs.Parts.{DoesItems, and_next, behind_items, framed, says}
+use Rattle.util_steps.specs.Taking.{IsReady, RunsItems}
+use Rattle.util_steps.proofs.Taking.{call_none}
+use Rattle.job_runner.specs.Parts.{DoesCoded, DoesItems, and_next, behind_items, framed, says}
 
 -- ---- codes
 
@@ -96,7 +99,7 @@ module _ {tells : Bool} where
   does_stopped {xs = xs} ys {old = old} {new = new} r failed first =
       broken_by r failed (subst (λ (es : List Event). Elapses old new (StopsSince tells es old)) (sym (events_append xs ys)) (since_first (events_of xs) (events_of ys) first.runs.moments))
 
-  -- a part behind items, which knows the shelf behind them
+  -- a part after items, which knows the shelf after them
   pub does_next : {T U : Type 0} {xs : List Item} (next : Shelf → List Item) {old mid new : Meaning Shelf} {n k m : ℕ} {x : T} (r : Result U Stop) → DoesItems tells xs old mid n k (Ok x) → DoesItems tells (next mid.state) mid new k m r → DoesItems tells (and_next old.state xs next) old new n m r
   does_next {xs = xs} next {old = old} {mid = mid} {new = new} {k = k} {m = m} r first second =
       does_then r first (subst (λ (s : Shelf). DoesItems tells (next s) mid new k m r) (does_state first) second)
@@ -113,6 +116,36 @@ module _ {tells : Bool} where
 
   pub does_idle_broken : {U : Type 0} (items : List Item) {old mid : Meaning Shelf} {n k : ℕ} (r : Result U Stop) → IsErr r → Same old mid → IsDurable old → DoesItems tells items old mid n k r
   does_idle_broken items {old = old} r failed same durable = broken_by r failed (since_first [] (events_of items) (idle_since same durable))
+
+-- ---- programs
+
+module _ {X : Type 0} (g : Ghosts X) where
+  -- the items of a program, with their code
+  pub coded_by : {items : Shelf → List Item} {old new : X} {r : Result ℕ Stop} → RunsItems g items old new r → IsTrue g.tells → DoesCoded g.tells_prints (items (g.meaning old).state) (g.meaning old) (g.meaning new) (g.status old).done (g.status new).done r
+  coded_by runs told = record { does = record { runs = runs.runs told; count = runs.count told }; code = runs.code told }
+
+  pub runs_by : {items : Shelf → List Item} {old new : X} {r : Result ℕ Stop} → (IsTrue g.tells → DoesCoded g.tells_prints (items (g.meaning old).state) (g.meaning old) (g.meaning new) (g.status old).done (g.status new).done r) → IfOk r (λ code. code ≤ 16) → (IsTrue g.tells → Keeps (g.meaning old).clock (g.promise old) (g.promise new)) → RunCall false (g.status old) (g.status new) r → RunsItems g items old new r
+  runs_by coded small promise faults = record {
+    runs = λ told. (coded told).does.runs;
+    code = λ told. (coded told).code;
+    count = λ told. (coded told).does.count;
+    small = small;
+    promise = promise;
+    faults = faults;
+  }
+
+  -- a program that does nothing
+  pub runs_none : {machine : X} → IsReady g machine → RunsItems g (λ shelf. []) machine machine (Ok 0)
+  runs_none {machine = machine} ready =
+      let none : DoesItems {T = ℕ} g.tells_prints [] (g.meaning machine) (g.meaning machine) (g.status machine).done (g.status machine).done (Ok 0) = does_none (g.meaning machine) (g.status machine).done 0 in
+      record {
+        runs = λ told. none.runs;
+        code = λ told. omega arith;
+        count = λ told. none.count;
+        small = omega arith;
+        promise = λ told t known early kept. kept;
+        faults = call_none g machine 0 ready;
+      }
 
 -- ---- frames
 

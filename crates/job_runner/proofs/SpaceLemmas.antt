@@ -1,6 +1,6 @@
 -- How many blocks a track takes, counted one by one, and what is told of a volume.
-use Rattle.std.proofs.Common.{◌≡◌, ℕ, suc, ◌+◌, ◌-◌, ◌<◌, ◌≤◌, Bool, true, false, cond, List, [], ◌∷◌, take, refl, sym, ◌∙◌, ap, arith}
-use Rattle.std.specs.Prelude.{nat_le, replicate, sum_by, Option, Some, None, option_map, Result, Ok, Err}
+use Rattle.std.proofs.Common.{◌≡◌, ℕ, suc, ◌+◌, ◌-◌, ◌<◌, ◌≤◌, Bool, true, false, cond, take, sym, ◌∙◌, ap, arith}
+use Rattle.std.specs.Prelude.{replicate, Option, Some, None, option_map}
 use Rattle.std.specs.List.{prefix_len, range_with_len}
 use Rattle.std.proofs.lemmas.Bool.Decides.{nat_tests}
 use Rattle.std.proofs.lemmas.List.{take-replicate}
@@ -17,7 +17,7 @@ use Rattle.job_runner.specs.Space.{blocks_per_track, request_on, takes_one_more}
 pub front : (n : ℕ) (x : ℕ × ℕ) → n < 255 → take n (replicate 255 x) ≡ replicate n x
 front n x below = take-replicate n 255 x (omega (arith, below))
 
--- the blocks behind so many
+-- the blocks after so many
 unfoldable pub more_blocks : DiskType → ℕ → ℕ → ℕ
 more_blocks device len n = prefix_len (takes_one_more device len) (range_with_len n (255 - n))
 

@@ -80,7 +80,7 @@ abbrev pub member_of : DdPart → Option Name8
 member_of (Member name) = Some name
 member_of _ = None
 
--- what a DD with a set gives: with MOD, records go behind those that are there
+-- what a DD with a set gives: with MOD, records go after those that are there
 abbrev pub set_given : DdSet → ℕ → DdIn
 set_given set v = given.Set v set.dsn (member_of set.part) (is_mod set.status) set.dcb
 
@@ -156,7 +156,7 @@ abbrev pub with_first : Dd → List Item → Option DdIn → Definitions → Def
 with_first dd items None rest = record { items = items; dds = []; is_refused = true }
 with_first dd items (Some found) rest = record { items = items ++ rest.items; dds = (dd, found) ∷ rest.dds; is_refused = rest.is_refused }
 
--- DDs in order, each on the shelf behind those before it
+-- DDs in order, each on the shelf after those before it
 unfoldable pub definitions : List ℕ → List Dd → Shelf → Definitions
 definitions date [] shelf = record { items = []; dds = []; is_refused = false }
 definitions date (dd ∷ dds) shelf =

@@ -1,5 +1,5 @@
 -- What becomes of the data sets of a step after it, in this project's profile.
-use Rattle.std.specs.Prelude.{ℕ, Bool, true, false, List, [], ◌∷◌, codes, Option, Some, None, if◌then◌else◌}
+use Rattle.std.specs.Prelude.{ℕ, Bool, true, false, List, codes, Option, Some, None, if◌then◌else◌}
 use Rattle.std.specs.List.{filter_map}
 use Rattle.std.specs.Option.{option_map_or}
 use Rattle.jcl_forms.specs.declared.disposition.DdAfter.{DdAfter}
@@ -17,7 +17,7 @@ use Rattle.vol_model.specs.declared.contents.Shelf.{Shelf}
 use Rattle.vol_model.specs.declared.requests.Op.TheVariants.{Scratch}
 use Rattle.vol_model.specs.Events.{Item}
 use Rattle.vol_model.specs.Writing.{did_apply, set_on}
-use Rattle.iehprogm_util.specs.Items.{is_unexpired}
+use Rattle.util_steps.specs.Expiry.{is_unexpired}
 use Rattle.job_runner.specs.declared.dispositions.Deletion.{Deletion}
 use Rattle.job_runner.specs.DataSets.{operation_item}
 use Rattle.job_runner.specs.Parts.{says}

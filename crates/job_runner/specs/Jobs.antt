@@ -1,6 +1,5 @@
 -- Jobs and their steps, in this project's profile.
-use Rattle.std.specs.Prelude.{ℕ, ◌+◌, Bool, true, false, List, [], ◌∷◌, ◌++◌, codes, map, Option, Some, None, Result, Ok, Err, if◌then◌else◌}
-use Rattle.ebcdic_names.specs.declared.names.Name8.{Name8}
+use Rattle.std.specs.Prelude.{ℕ, ◌+◌, Bool, true, false, List, [], ◌∷◌, ◌++◌, codes, Option, Some, None, Result, Ok, Err, if◌then◌else◌}
 use Rattle.job_deck.specs.declared.faults.JclErr.{JclErr}
 use Rattle.job_deck.specs.declared.job.Dd.{Dd}
 use Rattle.job_deck.specs.declared.job.Job.{Job}
@@ -26,7 +25,7 @@ abbrev pub program_unless : Bool → Program → StepIn → Shelf → List Item
 program_unless true program step shelf = []
 program_unless false program step shelf = program_items program step shelf
 
--- what stands behind the DDs of a step: its program and its dispositions
+-- what stands after the DDs of a step: its program and its dispositions
 unfoldable pub behind_definitions : List ℕ → Program → Step → Definitions → Shelf → List Item
 behind_definitions date program step defs shelf =
     and_next shelf (program_unless defs.is_refused program (step_in date step defs.dds) shelf) (dispositions date defs.dds)
@@ -65,7 +64,7 @@ pub record Work : Type 0 where
 abbrev pub no_work : Work
 no_work = record { items = []; steps = 0 }
 
--- some work, and then more on the shelf behind it
+-- some work, and then more on the shelf after it
 abbrev pub work_then : Shelf → Work → (Shelf → Work) → Work
 work_then shelf first next =
     let rest = next (behind_items shelf first.items) in

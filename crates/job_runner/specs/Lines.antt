@@ -22,15 +22,15 @@ code_digits code = replicate (4 - length (decimal code)) 48 ++ decimal code
 
 -- the first line of a job
 unfoldable pub job_line : Name8 → List ℕ
-job_line name = codes "JOB " ++ name_text (Some name) ++ codes "\n"
+job_line name = codes "JOB " ++ name_text (Some name)
 
 -- the first line of a step
 unfoldable pub step_line : Option Name8 → Name8 → List ℕ
-step_line name pgm = codes "STEP " ++ name_text name ++ codes " " ++ shown pgm.bytes ++ codes "\n"
+step_line name pgm = codes "STEP " ++ name_text name ++ codes " " ++ shown pgm.bytes
 
 -- the last line of a job, or of a step, by its word
 unfoldable pub code_line : List ℕ → Option Name8 → ℕ → List ℕ
-code_line word name code = word ++ codes " " ++ name_text name ++ codes " CODE " ++ code_digits code ++ codes "\n"
+code_line word name code = word ++ codes " " ++ name_text name ++ codes " CODE " ++ code_digits code
 
 unfoldable pub kind_words : JclKind → List ℕ
 kind_words NoJob = codes "NO-JOB"

@@ -8,12 +8,13 @@ use Rattle.jcl_forms.specs.declared.space.Space.{Space}
 use Rattle.jcl_forms.specs.declared.space.SpaceAsk.{SpaceAsk}
 use Rattle.jcl_forms.specs.declared.space.SpaceAsk.TheVariants.{Tracks, Cylinders, Length}
 use Rattle.job_deck.specs.declared.job.DdSet.{DdSet}
+use Rattle.vol_model.specs.declared.TheConstants.{MAX_DIR}
 use Rattle.vol_model.specs.declared.contents.Attr.{Attr}
 use Rattle.vol_model.specs.declared.requests.Request.{Request}
 use Rattle.vol_model.specs.declared.requests.SpaceUnit.{SpaceUnit}
 use Rattle.vol_model.specs.declared.requests.SpaceUnit.TheVariants.{Track, Cylinder}
 
--- so many blocks of a length, without keys, stand on a track and one more fits behind them
+-- so many blocks of a length, without keys, stand on a track and one more fits after them
 unfoldable pub takes_one_more : DiskType → ℕ → ℕ → Bool
 takes_one_more device len n = fits device (replicate n (0, len)) 0 len
 
@@ -38,7 +39,7 @@ request_as device space (Length len) = in_blocks space (blocks_per_track device 
 
 -- its quantities are within the limits that those of every deck keep
 abbrev pub is_within_limits : Space → Bool
-is_within_limits space = nat_lt space.secondary (2 ^ 24) && nat_le space.dir 2000
+is_within_limits space = nat_lt space.secondary (2 ^ 24) && nat_le space.dir MAX_DIR
 
 -- what a SPACE asks for on a device; nothing where its blocks fit no track, or past those limits
 unfoldable pub request_on : DiskType → Space → Option Request

@@ -1,15 +1,15 @@
 //! The DDs of a step, which are resolved in order.
-ghost use Rattle.std.specs.Prelude.{◌≡◌, ◌≤◌, ◌<◌, ◌^◌, [], ◌∷◌, ◌++◌, false, is_some, IsTrue, IsFalse, IfOk, OnOk, Ok};
+ghost use Rattle.std.specs.Prelude.{◌≡◌, ◌≤◌, ◌<◌, ◌^◌, [], ◌∷◌, ◌++◌, is_some, IsTrue, IfOk, OnOk, Ok};
 ghost use Rattle.std.specs.List.{filter_map};
 ghost use Rattle.indexmap.specs.IndexMap.{insert_entry};
-ghost use Rattle.stop_model.specs.Moments.{Same};
 ghost use Rattle.util_syntax.specs.declared.step.DdIn.TheVariants as given;
 ghost use Rattle.util_syntax.specs.Step.{same_name};
-ghost use Rattle.vol_model.specs.Calls.{Keeps};
-ghost use Rattle.vol_model.specs.Runs.{RunCall};
+ghost use Rattle.vol_model.specs.declared.TheConstants.{MAX_DIR};
 ghost use Rattle.vol_model.specs.Writing.{did_apply, set_on};
+ghost use Rattle.util_steps.specs.Taking.{IsReady, Reads};
 ghost use Rattle.job_runner.specs.DataSets.{allocation, definitions, found_on, if_done, is_mod, looked_for, makes, member_of, new_set, not_there, old_set, refuses, resolved, set_by, set_given};
 ghost use Rattle.job_runner.specs.Dispositions.{deletion_for};
+ghost use Rattle.job_runner.specs.Parts.{Does};
 ghost use Rattle.job_runner.specs.Resolving.{Defines, Resolves};
 
 use crate::dispositions::{Deletion, deletion_for};
@@ -21,7 +21,7 @@ use job_deck::{Dd, DdPart, DdSet, DdStatus, DdWhat};
 use std::alloc::{AllocError, Global};
 use util_steps::find_volume;
 use util_syntax::{DdIn, DdTable};
-use vol_model::{Listed, Machine, Refusal, Stop, WorkErr};
+use vol_model::{Listed, Machine, Refusal, Stop};
 
 fn is_mod(status: DdStatus) -> bool
     ensures { result ≡ is_mod status }
@@ -60,11 +60,8 @@ fn refuse<M: Machine>(
     word: &str,
     refusal: Refusal,
 ) -> Result<Option<DdIn>, Stop>
-    requires sound { IsTrue (M.status machine.old).is_sound }
-    requires closed { IsFalse (M.status machine.old).is_open }
-    ensures resolves { IsTrue M.tells → Resolves M.tells_prints (refuses word.now card dsn.now refusal) (M.meaning machine.old) (M.meaning machine.new) (M.status machine.old).done (M.status machine.new).done result }
-    ensures promise { IsTrue M.tells → Keeps (M.meaning machine.old).clock (M.promise machine.old) (M.promise machine.new) }
-    ensures faults { RunCall false (M.status machine.old) (M.status machine.new) result }
+    requires { IsReady M.Machine machine.old }
+    ensures { Does M.Machine (Resolves M.tells_prints (refuses word.now card dsn.now refusal)) machine.old machine.new result }
 {
     let subject = Subject { card, dsn: *dsn };
     answer(alloc, machine, &subject, word, 12, Err(refusal))?;
@@ -90,12 +87,9 @@ fn allocate<M: Machine>(
     set: &DdSet,
     wanted: &NewSet,
 ) -> Result<Option<DdIn>, Stop>
-    requires sound { IsTrue (M.status machine.old).is_sound }
-    requires closed { IsFalse (M.status machine.old).is_open }
-    requires lawful { (wanted.now.dir ≤ 2000) × (wanted.now.request.secondary < 2 ^ 24) }
-    ensures resolves { IsTrue M.tells → Resolves M.tells_prints (makes card set.now.dsn (did_apply (M.meaning machine.old).state (allocation date.now set.now wanted.now)) (set_given set.now wanted.now.v)) (M.meaning machine.old) (M.meaning machine.new) (M.status machine.old).done (M.status machine.new).done result }
-    ensures promise { IsTrue M.tells → Keeps (M.meaning machine.old).clock (M.promise machine.old) (M.promise machine.new) }
-    ensures faults { RunCall false (M.status machine.old) (M.status machine.new) result }
+    requires ready { IsReady M.Machine machine.old }
+    requires lawful { (wanted.now.dir ≤ MAX_DIR) × (wanted.now.request.secondary < 2 ^ 24) }
+    ensures { Does M.Machine (Resolves M.tells_prints (makes card set.now.dsn (did_apply (M.meaning machine.old).state (allocation date.now set.now wanted.now)) (set_given set.now wanted.now.v))) machine.old machine.new result }
 {
     let subject = Subject { card, dsn: set.dsn };
     let op = allocation(date, set, wanted);
@@ -112,11 +106,8 @@ fn make_set<M: Machine>(
     card: u32,
     set: &DdSet,
 ) -> Result<Option<DdIn>, Stop>
-    requires sound { IsTrue (M.status machine.old).is_sound }
-    requires closed { IsFalse (M.status machine.old).is_open }
-    ensures resolves { IsTrue M.tells → Resolves M.tells_prints (new_set date.now card set.now (M.meaning machine.old).state) (M.meaning machine.old) (M.meaning machine.new) (M.status machine.old).done (M.status machine.new).done result }
-    ensures promise { IsTrue M.tells → Keeps (M.meaning machine.old).clock (M.promise machine.old) (M.promise machine.new) }
-    ensures faults { RunCall false (M.status machine.old) (M.status machine.new) result }
+    requires { IsReady M.Machine machine.old }
+    ensures { Does M.Machine (Resolves M.tells_prints (new_set date.now card set.now (M.meaning machine.old).state)) machine.old machine.new result }
 {
     match wanted(machine, set) {
         Ok(wanted) => allocate(alloc, machine, date, card, set, &wanted),
@@ -138,19 +129,10 @@ fn looked_for<M: Machine>(machine: &M, set: &DdSet) -> Result<u8, Refusal>
 
 // Whether a set is there.
 fn is_there<M: Machine>(machine: &mut M, v: u8, dsn: &Dsn) -> Result<bool, Stop>
-    requires sound { IsTrue (M.status machine.old).is_sound }
-    requires closed { IsFalse (M.status machine.old).is_open }
-    ensures value { IsTrue M.tells → IfOk result (λ b. b ≡ is_some (set_on (M.meaning machine.old).state v dsn.now.bytes)) }
-    ensures same { IsTrue M.tells → Same (M.meaning machine.old) (M.meaning machine.new) }
-    ensures count { (M.status machine.new).done ≡ (M.status machine.old).done }
-    ensures promise { IsTrue M.tells → Keeps (M.meaning machine.old).clock (M.promise machine.old) (M.promise machine.new) }
-    ensures faults { RunCall false (M.status machine.old) (M.status machine.new) result }
+    requires { IsReady M.Machine machine.old }
+    ensures { Reads M.Machine (λ shelf b. b ≡ is_some (set_on shelf v dsn.now.bytes)) machine.old machine.new result }
 {
-    match machine.attr(v, dsn) {
-        Ok(found) => Ok(found.is_some()),
-        Err(WorkErr::Memory) => Err(Stop::Memory),
-        Err(WorkErr::Device) => Err(Stop::Device),
-    }
+    Ok(machine.attr(v, dsn)?.is_some())
 }
 
 // A DD with a set that isn't on its volume: MOD makes it.
@@ -161,11 +143,8 @@ fn make_missing<M: Machine>(
     card: u32,
     set: &DdSet,
 ) -> Result<Option<DdIn>, Stop>
-    requires sound { IsTrue (M.status machine.old).is_sound }
-    requires closed { IsFalse (M.status machine.old).is_open }
-    ensures resolves { IsTrue M.tells → Resolves M.tells_prints (not_there date.now card set.now (M.meaning machine.old).state) (M.meaning machine.old) (M.meaning machine.new) (M.status machine.old).done (M.status machine.new).done result }
-    ensures promise { IsTrue M.tells → Keeps (M.meaning machine.old).clock (M.promise machine.old) (M.promise machine.new) }
-    ensures faults { RunCall false (M.status machine.old) (M.status machine.new) result }
+    requires { IsReady M.Machine machine.old }
+    ensures { Does M.Machine (Resolves M.tells_prints (not_there date.now card set.now (M.meaning machine.old).state)) machine.old machine.new result }
 {
     if is_mod(set.status) {
         make_set(alloc, machine, date, card, set)
@@ -183,11 +162,8 @@ fn find_on<M: Machine>(
     set: &DdSet,
     v: u8,
 ) -> Result<Option<DdIn>, Stop>
-    requires sound { IsTrue (M.status machine.old).is_sound }
-    requires closed { IsFalse (M.status machine.old).is_open }
-    ensures resolves { IsTrue M.tells → Resolves M.tells_prints (found_on date.now card set.now (M.meaning machine.old).state (Ok v)) (M.meaning machine.old) (M.meaning machine.new) (M.status machine.old).done (M.status machine.new).done result }
-    ensures promise { IsTrue M.tells → Keeps (M.meaning machine.old).clock (M.promise machine.old) (M.promise machine.new) }
-    ensures faults { RunCall false (M.status machine.old) (M.status machine.new) result }
+    requires { IsReady M.Machine machine.old }
+    ensures { Does M.Machine (Resolves M.tells_prints (found_on date.now card set.now (M.meaning machine.old).state (Ok v))) machine.old machine.new result }
 {
     if is_there(machine, v, &set.dsn)? {
         Ok(Some(set_given(set, v)))
@@ -205,11 +181,8 @@ fn find_set<M: Machine>(
     card: u32,
     set: &DdSet,
 ) -> Result<Option<DdIn>, Stop>
-    requires sound { IsTrue (M.status machine.old).is_sound }
-    requires closed { IsFalse (M.status machine.old).is_open }
-    ensures resolves { IsTrue M.tells → Resolves M.tells_prints (old_set date.now card set.now (M.meaning machine.old).state) (M.meaning machine.old) (M.meaning machine.new) (M.status machine.old).done (M.status machine.new).done result }
-    ensures promise { IsTrue M.tells → Keeps (M.meaning machine.old).clock (M.promise machine.old) (M.promise machine.new) }
-    ensures faults { RunCall false (M.status machine.old) (M.status machine.new) result }
+    requires { IsReady M.Machine machine.old }
+    ensures { Does M.Machine (Resolves M.tells_prints (old_set date.now card set.now (M.meaning machine.old).state)) machine.old machine.new result }
 {
     match looked_for(machine, set) {
         Ok(v) => find_on(alloc, machine, date, card, set, v),
@@ -225,11 +198,8 @@ fn resolve_set<M: Machine>(
     card: u32,
     set: &DdSet,
 ) -> Result<Option<DdIn>, Stop>
-    requires sound { IsTrue (M.status machine.old).is_sound }
-    requires closed { IsFalse (M.status machine.old).is_open }
-    ensures resolves { IsTrue M.tells → Resolves M.tells_prints (set_by date.now card set.now (M.meaning machine.old).state set.now.status) (M.meaning machine.old) (M.meaning machine.new) (M.status machine.old).done (M.status machine.new).done result }
-    ensures promise { IsTrue M.tells → Keeps (M.meaning machine.old).clock (M.promise machine.old) (M.promise machine.new) }
-    ensures faults { RunCall false (M.status machine.old) (M.status machine.new) result }
+    requires { IsReady M.Machine machine.old }
+    ensures { Does M.Machine (Resolves M.tells_prints (set_by date.now card set.now (M.meaning machine.old).state set.now.status)) machine.old machine.new result }
 {
     match set.status {
         DdStatus::New => make_set(alloc, machine, date, card, set),
@@ -252,19 +222,13 @@ fn resolve<M: Machine>(
     date: &[u8; 3],
     dd: &Dd,
 ) -> Result<Option<DdIn>, Stop>
-    requires sound { IsTrue (M.status machine.old).is_sound }
-    requires closed { IsFalse (M.status machine.old).is_open }
-    ensures resolves { IsTrue M.tells → Resolves M.tells_prints (resolved date.now dd.now (M.meaning machine.old).state) (M.meaning machine.old) (M.meaning machine.new) (M.status machine.old).done (M.status machine.new).done result }
-    ensures promise { IsTrue M.tells → Keeps (M.meaning machine.old).clock (M.promise machine.old) (M.promise machine.new) }
-    ensures faults { RunCall false (M.status machine.old) (M.status machine.new) result }
+    requires { IsReady M.Machine machine.old }
+    ensures { Does M.Machine (Resolves M.tells_prints (resolved date.now dd.now (M.meaning machine.old).state)) machine.old machine.new result }
 {
     match &dd.what {
         DdWhat::Dummy => Ok(Some(DdIn::Dummy)),
         DdWhat::Sysout => Ok(Some(DdIn::Sysout)),
-        DdWhat::Cards(cards) => match copied_cards(alloc, cards.as_slice()) {
-            Ok(given) => Ok(Some(given)),
-            Err(AllocError) => Err(Stop::Memory),
-        },
+        DdWhat::Cards(cards) => Ok(Some(copied_cards(alloc, cards.as_slice())?)),
         DdWhat::Set(set) => resolve_set(alloc, machine, date, dd.card, set),
     }
 }
@@ -302,11 +266,8 @@ pub fn define<M: Machine>(
     date: &[u8; 3],
     dds: &[Dd],
 ) -> Result<Defined, Stop>
-    requires sound { IsTrue (M.status machine.old).is_sound }
-    requires closed { IsFalse (M.status machine.old).is_open }
-    ensures defines { IsTrue M.tells → Defines M.tells_prints (definitions date.now dds.now (M.meaning machine.old).state) (M.meaning machine.old) (M.meaning machine.new) (M.status machine.old).done (M.status machine.new).done result }
-    ensures promise { IsTrue M.tells → Keeps (M.meaning machine.old).clock (M.promise machine.old) (M.promise machine.new) }
-    ensures faults { RunCall false (M.status machine.old) (M.status machine.new) result }
+    requires { IsReady M.Machine machine.old }
+    ensures { Does M.Machine (Defines M.tells_prints (definitions date.now dds.now (M.meaning machine.old).state)) machine.old machine.new result }
 {
     let mut defined = Defined {
         table: DdTable::new(alloc),
@@ -320,10 +281,10 @@ pub fn define<M: Machine>(
             None => return Ok(defined),
         };
         match resolve(alloc, machine, date, dd)? {
-            Some(given) => match defined.add(dd, given) {
-                Ok(()) => rest = behind,
-                Err(AllocError) => return Err(Stop::Memory),
-            },
+            Some(given) => {
+                defined.add(dd, given)?;
+                rest = behind;
+            }
             None => {
                 defined.is_refused = true;
                 return Ok(defined);

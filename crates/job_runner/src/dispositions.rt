@@ -1,30 +1,23 @@
 //! What becomes of the data sets of a step after it.
-ghost use Rattle.std.specs.Prelude.{◌≡◌, ◌≤◌, ◌<◌, [], ◌∷◌, false, codes, length, ℕ, List, IsTrue, IsFalse, IfOk};
-ghost use Rattle.std.specs.Option.{option_map_or};
-ghost use Rattle.std.specs.Ordering.{is_lt, nat_cmp};
-ghost use Rattle.std.specs.Cmp.Lexicographic.{slice_cmp};
-ghost use Rattle.stop_model.specs.Moments.{Same};
+ghost use Rattle.std.specs.Prelude.{◌≡◌, codes, length};
 ghost use Rattle.vol_model.specs.declared.requests.Op.TheVariants.{Scratch};
-ghost use Rattle.vol_model.specs.Calls.{Keeps};
-ghost use Rattle.vol_model.specs.Events.{code_of};
-ghost use Rattle.vol_model.specs.Runs.{RunCall};
-ghost use Rattle.vol_model.specs.Writing.{did_apply, set_on};
-ghost use Rattle.iehprogm_util.specs.Items.{is_unexpired};
-ghost use Rattle.util_steps.specs.Items.{DoesItem, items_along};
+ghost use Rattle.vol_model.specs.Writing.{did_apply};
+ghost use Rattle.util_steps.specs.Items.{items_along};
+ghost use Rattle.util_steps.specs.Taking.{IsReady, RunsItems, TakesItem};
 ghost use Rattle.util_syntax.specs.declared.listing.Object.TheVariants.{Name};
 ghost use Rattle.util_syntax.specs.declared.listing.Outcome.TheVariants.{Expires};
 ghost use Rattle.util_syntax.specs.Listing.{item_line};
 ghost use Rattle.job_runner.specs.DataSets.{operation_item};
 ghost use Rattle.job_runner.specs.Dispositions.{deleted, deletion_as, deletion_for, says_delete};
-ghost use Rattle.job_runner.specs.Parts.{DoesCoded, says};
+ghost use Rattle.job_runner.specs.Parts.{says};
 
 use crate::operations::{Subject, operate};
 use ebcdic_names::Dsn;
 use job_deck::{Dd, DdAfter, DdWhat};
-use std::alloc::{AllocError, Global};
-use util_steps::{Items, report, run_items};
+use std::alloc::Global;
+use util_steps::{Items, is_unexpired, report, run_items};
 use util_syntax::{DdIn, Object, Outcome, item_line};
-use vol_model::{Machine, Op, Stop, WorkErr};
+use vol_model::{Machine, Op, Stop};
 
 /// A data set that a DD deletes.
 #[derive(Clone, Copy, Debug, PartialEq, Eq)]
@@ -73,55 +66,20 @@ pub fn deletion_for(dd: &Dd, given: &DdIn) -> Option<Deletion>
     }
 }
 
-// Whether a date stands before another.
-fn is_before(date: &[u8; 3], other: &[u8; 3]) -> bool
-    ensures { result ≡ is_lt (slice_cmp nat_cmp date.now other.now) }
-{
-    date.cmp(other).is_lt()
-}
-
-// Whether a data set is there and expires later than a date.
-fn is_unexpired<M: Machine>(machine: &mut M, date: &[u8; 3], v: u8, dsn: &Dsn) -> Result<bool, Stop>
-    requires sound { IsTrue (M.status machine.old).is_sound }
-    requires closed { IsFalse (M.status machine.old).is_open }
-    ensures value { IsTrue M.tells → IfOk result (λ b. b ≡ option_map_or (is_unexpired date.now) (set_on (M.meaning machine.old).state v dsn.now.bytes) false) }
-    ensures same { IsTrue M.tells → Same (M.meaning machine.old) (M.meaning machine.new) }
-    ensures count { (M.status machine.new).done ≡ (M.status machine.old).done }
-    ensures promise { IsTrue M.tells → Keeps (M.meaning machine.old).clock (M.promise machine.old) (M.promise machine.new) }
-    ensures faults { RunCall false (M.status machine.old) (M.status machine.new) result }
-{
-    match machine.attr(v, dsn) {
-        Ok(Some(info)) => Ok(is_before(date, &info.attr.expires)),
-        Ok(None) => Ok(false),
-        Err(WorkErr::Memory) => Err(Stop::Memory),
-        Err(WorkErr::Device) => Err(Stop::Device),
-    }
-}
-
 // Says that a data set is unexpired.
 fn say_expires<M: Machine>(alloc: Global, machine: &mut M, deletion: &Deletion) -> Result<u8, Stop>
-    requires sound { IsTrue (M.status machine.old).is_sound }
-    requires closed { IsFalse (M.status machine.old).is_open }
-    ensures item { IsTrue M.tells → DoesItem M.tells_prints (says 8 (item_line deletion.now.card (codes "DELETE") (Name deletion.now.dsn) Expires)) (M.meaning machine.old) (M.meaning machine.new) (M.status machine.old).done (M.status machine.new).done result }
-    ensures small { IfOk result (λ code. code ≤ 8) }
-    ensures promise { IsTrue M.tells → Keeps (M.meaning machine.old).clock (M.promise machine.old) (M.promise machine.new) }
-    ensures faults { RunCall false (M.status machine.old) (M.status machine.new) result }
+    requires { IsReady M.Machine machine.old }
+    ensures { TakesItem M.Machine (λ shelf. says 8 (item_line deletion.now.card (codes "DELETE") (Name deletion.now.dsn) Expires)) machine.old machine.new result }
 {
     let object = Object::Name(deletion.dsn);
-    match item_line(alloc, deletion.card, "DELETE", &object, Outcome::Expires) {
-        Ok(line) => report(machine, &line, 8),
-        Err(AllocError) => Err(Stop::Memory),
-    }
+    let line = item_line(alloc, deletion.card, "DELETE", &object, Outcome::Expires)?;
+    report(machine, &line, 8)
 }
 
 // Scratches a data set, and says so.
 fn scratch<M: Machine>(alloc: Global, machine: &mut M, deletion: &Deletion) -> Result<u8, Stop>
-    requires sound { IsTrue (M.status machine.old).is_sound }
-    requires closed { IsFalse (M.status machine.old).is_open }
-    ensures item { IsTrue M.tells → DoesItem M.tells_prints (operation_item deletion.now.card (codes "DELETE") deletion.now.dsn 8 (did_apply (M.meaning machine.old).state (Scratch deletion.now.v deletion.now.dsn))) (M.meaning machine.old) (M.meaning machine.new) (M.status machine.old).done (M.status machine.new).done result }
-    ensures small { IfOk result (λ code. code ≤ 8) }
-    ensures promise { IsTrue M.tells → Keeps (M.meaning machine.old).clock (M.promise machine.old) (M.promise machine.new) }
-    ensures faults { RunCall false (M.status machine.old) (M.status machine.new) result }
+    requires { IsReady M.Machine machine.old }
+    ensures { TakesItem M.Machine (λ shelf. operation_item deletion.now.card (codes "DELETE") deletion.now.dsn 8 (did_apply shelf (Scratch deletion.now.v deletion.now.dsn))) machine.old machine.new result }
 {
     let subject = Subject {
         card: deletion.card,
@@ -144,12 +102,8 @@ fn delete<M: Machine>(
     date: &[u8; 3],
     deletion: &Deletion,
 ) -> Result<u8, Stop>
-    requires sound { IsTrue (M.status machine.old).is_sound }
-    requires closed { IsFalse (M.status machine.old).is_open }
-    ensures item { IsTrue M.tells → DoesItem M.tells_prints (deleted date.now (M.meaning machine.old).state deletion.now) (M.meaning machine.old) (M.meaning machine.new) (M.status machine.old).done (M.status machine.new).done result }
-    ensures small { IfOk result (λ code. code ≤ 8) }
-    ensures promise { IsTrue M.tells → Keeps (M.meaning machine.old).clock (M.promise machine.old) (M.promise machine.new) }
-    ensures faults { RunCall false (M.status machine.old) (M.status machine.new) result }
+    requires { IsReady M.Machine machine.old }
+    ensures { TakesItem M.Machine (λ shelf. deleted date.now shelf deletion.now) machine.old machine.new result }
 {
     if is_unexpired(machine, date, deletion.v, &deletion.dsn)? {
         say_expires(alloc, machine, deletion)
@@ -191,12 +145,8 @@ pub fn delete_all<M: Machine>(
     date: &[u8; 3],
     deletions: &[Deletion],
 ) -> Result<u8, Stop>
-    requires sound { IsTrue (M.status machine.old).is_sound }
-    requires closed { IsFalse (M.status machine.old).is_open }
-    ensures items { IsTrue M.tells → DoesCoded M.tells_prints (items_along (deleted date.now) (M.meaning machine.old).state deletions.now) (M.meaning machine.old) (M.meaning machine.new) (M.status machine.old).done (M.status machine.new).done result }
-    ensures small { IfOk result (λ code. code ≤ 16) }
-    ensures promise { IsTrue M.tells → Keeps (M.meaning machine.old).clock (M.promise machine.old) (M.promise machine.new) }
-    ensures faults { RunCall false (M.status machine.old) (M.status machine.new) result }
+    requires { IsReady M.Machine machine.old }
+    ensures { RunsItems M.Machine (λ shelf. items_along (deleted date.now) shelf deletions.now) machine.old machine.new result }
 {
     let mut work = Deletions {
         alloc,

@@ -1,8 +1,14 @@
 //! Jobs, one after another.
-ghost use Rattle.std.specs.Prelude.{◌≡◌, ◌≤◌, ◌+◌, [], Err, false, max, IsTrue, IsFalse, IfOk};
+ghost use Rattle.std.specs.Prelude.{◌≡◌, ◌≤◌, ◌+◌, ℕ, List, [], Err, false, max, IsTrue, IsFalse, IfOk};
+ghost use Rattle.job_deck.specs.declared.job.Job.{Job};
+ghost use Rattle.util_steps.specs.Accepted.{AreAccepted};
 ghost use Rattle.vol_model.specs.Calls.{Keeps};
+ghost use Rattle.vol_model.specs.Events.{events_of};
 ghost use Rattle.vol_model.specs.Runs.{RunCall};
+ghost use Rattle.vol_model.specs.declared.contents.Shelf.{Shelf};
+ghost use Rattle.util_steps.specs.Taking.{IsReady};
 ghost use Rattle.job_runner.specs.Jobs.{body_work, job_work, jobs_work, steps_work};
+ghost use Rattle.job_runner.specs.Parts.{Does};
 ghost use Rattle.job_runner.specs.Resolving.{DoesWork, steps_counted};
 
 use crate::frames::{say_code, say_fault, say_job};
@@ -38,12 +44,9 @@ fn run_steps<M: Machine>(
     date: &[u8; 3],
     steps: &[Step],
 ) -> Result<Ran, Stop>
-    requires sound { IsTrue (M.status machine.old).is_sound }
-    requires closed { IsFalse (M.status machine.old).is_open }
-    ensures works { IsTrue M.tells → DoesWork M.tells_prints (steps_work date.now steps.now (M.meaning machine.old).state) (M.meaning machine.old) (M.meaning machine.new) (M.status machine.old).done (M.status machine.new).done result }
+    requires { IsReady M.Machine machine.old }
+    ensures works { Does M.Machine (DoesWork M.tells_prints (steps_work date.now steps.now (M.meaning machine.old).state)) machine.old machine.new result }
     ensures small { IfOk result (λ ran. ran.code ≤ 16) }
-    ensures promise { IsTrue M.tells → Keeps (M.meaning machine.old).clock (M.promise machine.old) (M.promise machine.new) }
-    ensures faults { RunCall false (M.status machine.old) (M.status machine.new) result }
 {
     let mut ran = Ran { code: 0, steps: 0 };
     let mut rest = steps;
@@ -67,12 +70,9 @@ fn run_steps<M: Machine>(
 
 // Says what is wrong with a job, which isn't run.
 fn refuse_job<M: Machine>(alloc: Global, machine: &mut M, fault: &JclErr) -> Result<Ran, Stop>
-    requires sound { IsTrue (M.status machine.old).is_sound }
-    requires closed { IsFalse (M.status machine.old).is_open }
-    ensures works { IsTrue M.tells → DoesWork M.tells_prints (body_work [] (Err fault.now) (M.meaning machine.old).state) (M.meaning machine.old) (M.meaning machine.new) (M.status machine.old).done (M.status machine.new).done result }
+    requires { IsReady M.Machine machine.old }
+    ensures works { Does M.Machine (DoesWork M.tells_prints (body_work [] (Err fault.now) (M.meaning machine.old).state)) machine.old machine.new result }
     ensures small { IfOk result (λ ran. ran.code ≤ 16) }
-    ensures promise { IsTrue M.tells → Keeps (M.meaning machine.old).clock (M.promise machine.old) (M.promise machine.new) }
-    ensures faults { RunCall false (M.status machine.old) (M.status machine.new) result }
 {
     let code = say_fault(alloc, machine, fault)?;
     Ok(Ran { code, steps: 0 })
@@ -85,12 +85,9 @@ fn run_body<M: Machine>(
     date: &[u8; 3],
     job: &Job,
 ) -> Result<Ran, Stop>
-    requires sound { IsTrue (M.status machine.old).is_sound }
-    requires closed { IsFalse (M.status machine.old).is_open }
-    ensures works { IsTrue M.tells → DoesWork M.tells_prints (body_work date.now job.now.steps (M.meaning machine.old).state) (M.meaning machine.old) (M.meaning machine.new) (M.status machine.old).done (M.status machine.new).done result }
+    requires { IsReady M.Machine machine.old }
+    ensures works { Does M.Machine (DoesWork M.tells_prints (body_work date.now job.now.steps (M.meaning machine.old).state)) machine.old machine.new result }
     ensures small { IfOk result (λ ran. ran.code ≤ 16) }
-    ensures promise { IsTrue M.tells → Keeps (M.meaning machine.old).clock (M.promise machine.old) (M.promise machine.new) }
-    ensures faults { RunCall false (M.status machine.old) (M.status machine.new) result }
 {
     match &job.steps {
         Ok(steps) => run_steps(alloc, machine, date, steps.as_slice()),
@@ -105,12 +102,9 @@ fn run_job<M: Machine>(
     date: &[u8; 3],
     job: &Job,
 ) -> Result<Ran, Stop>
-    requires sound { IsTrue (M.status machine.old).is_sound }
-    requires closed { IsFalse (M.status machine.old).is_open }
-    ensures works { IsTrue M.tells → DoesWork M.tells_prints (job_work date.now job.now (M.meaning machine.old).state) (M.meaning machine.old) (M.meaning machine.new) (M.status machine.old).done (M.status machine.new).done result }
+    requires { IsReady M.Machine machine.old }
+    ensures works { Does M.Machine (DoesWork M.tells_prints (job_work date.now job.now (M.meaning machine.old).state)) machine.old machine.new result }
     ensures small { IfOk result (λ ran. ran.code ≤ 16) }
-    ensures promise { IsTrue M.tells → Keeps (M.meaning machine.old).clock (M.promise machine.old) (M.promise machine.new) }
-    ensures faults { RunCall false (M.status machine.old) (M.status machine.new) result }
 {
     say_job(alloc, machine, &job.name)?;
     let ran = run_body(alloc, machine, date, job)?;
@@ -154,3 +148,9 @@ pub fn run_jobs<M: Machine>(
         rest = behind;
     }
 }
+
+/// None of the operations in jobs is refused, each on the shelf on which it stands.
+pub fn accepted_law()
+    ensures { (date : List ℕ) (jobs : List Job) (shelf : Shelf)
+        → AreAccepted shelf (events_of (jobs_work date jobs shelf).items) }
+{}

@@ -11,4 +11,4 @@ mod operations;
 mod programs;
 mod steps;
 
-pub use jobs::{Ran, run_jobs};
+pub use jobs::{Ran, accepted_law, run_jobs};

@@ -8,6 +8,7 @@ use itoa::Buffer;
 use job_deck::{JclErr, JclKind};
 use std::alloc::{AllocError, Global};
 use util_syntax::jcl_line;
+use vol_model::Line;
 
 // As many zeros as a code has digits.
 const ZEROS: [u8; 4] = [b'0'; 4];
@@ -55,28 +56,26 @@ fn push_shown(line: &mut Vec<u8>, name: &Name8) -> Result<(), AllocError>
 
 /// The first line of a job: `JOB name`, with a hyphen for a name that is blank. The one error is want of memory.
 #[tactic(auto, unfolding(crate::specs::Lines::job_line))]
-pub fn job_line(alloc: Global, name: &Name8) -> Result<Vec<u8>, AllocError>
-    ensures { IfOk result (λ line. line.items ≡ job_line name.now) }
+pub fn job_line(alloc: Global, name: &Name8) -> Result<Line, AllocError>
+    ensures { IfOk result (λ line. line ≡ job_line name.now) }
 {
     let mut line = Vec::new(alloc);
     line.extend_from_slice(b"JOB ".as_slice())?;
     push_name(&mut line, Some(*name))?;
-    line.push(b'\n')?;
-    Ok(line)
+    Line::ended(line)
 }
 
 /// The first line of a step: `STEP name pgm`, with a hyphen for a missing name. The one error is want of memory.
 #[tactic(auto, unfolding(crate::specs::Lines::step_line))]
-pub fn step_line(alloc: Global, name: Option<Name8>, pgm: &Name8) -> Result<Vec<u8>, AllocError>
-    ensures { IfOk result (λ line. line.items ≡ step_line name pgm.now) }
+pub fn step_line(alloc: Global, name: Option<Name8>, pgm: &Name8) -> Result<Line, AllocError>
+    ensures { IfOk result (λ line. line ≡ step_line name pgm.now) }
 {
     let mut line = Vec::new(alloc);
     line.extend_from_slice(b"STEP ".as_slice())?;
     push_name(&mut line, name)?;
     line.push(b' ')?;
     push_name_in_ascii(&mut line, &pgm.bytes)?;
-    line.push(b'\n')?;
-    Ok(line)
+    Line::ended(line)
 }
 
 /// The last line of a job or of a step, by its word: `JOB name CODE nnnn`. The one error is want of memory.
@@ -86,8 +85,8 @@ pub fn code_line(
     word: &str,
     name: Option<Name8>,
     code: u8,
-) -> Result<Vec<u8>, AllocError>
-    ensures { IfOk result (λ line. line.items ≡ code_line word.now name code) }
+) -> Result<Line, AllocError>
+    ensures { IfOk result (λ line. line ≡ code_line word.now name code) }
 {
     let mut line = Vec::new(alloc);
     line.extend_from_slice(word.as_bytes())?;
@@ -95,8 +94,7 @@ pub fn code_line(
     push_name(&mut line, name)?;
     line.extend_from_slice(b" CODE ".as_slice())?;
     push_code(&mut line, code)?;
-    line.push(b'\n')?;
-    Ok(line)
+    Line::ended(line)
 }
 
 // What is wrong with a job, in words.
@@ -119,8 +117,8 @@ fn kind_words(kind: JclKind) -> &'static str
 }
 
 /// The line of the fault that refuses a job. The one error is want of memory.
-pub fn fault_line(alloc: Global, fault: &JclErr) -> Result<Vec<u8>, AllocError>
-    ensures { IfOk result (λ line. line.items ≡ jcl_line fault.now.card fault.now.column (kind_words fault.now.kind)) }
+pub fn fault_line(alloc: Global, fault: &JclErr) -> Result<Line, AllocError>
+    ensures { IfOk result (λ line. line ≡ jcl_line fault.now.card fault.now.column (kind_words fault.now.kind)) }
 {
     jcl_line(alloc, fault.card, fault.column, kind_words(fault.kind))
 }

@@ -96,7 +96,7 @@ fn in_blocks(per: u32, space: &Space) -> Option<Request>
 #[tactic(auto, unfolding(crate::specs::Space::request_on))]
 fn request_on(device: DiskType, space: &Space) -> Option<Request>
     ensures request { result ≡ request_on device space.now }
-    ensures lawful { IfSome result (λ request. (space.now.dir ≤ 2000) × (request.secondary < 2 ^ 24)) }
+    ensures lawful { IfSome result (λ request. (space.now.dir ≤ MAX_DIR) × (request.secondary < 2 ^ 24)) }
 {
     if space.secondary >= 1 << 24 || space.dir > MAX_DIR {
         return None;
@@ -112,7 +112,7 @@ fn request_on(device: DiskType, space: &Space) -> Option<Request>
 fn wanted_on<M: Machine>(machine: &M, space: &Space, v: u8) -> Result<NewSet, Refusal>
     requires { IsTrue (M.status machine.now).is_sound }
     ensures wanted { IsTrue M.tells → result ≡ wanted_on space.now v (slice_get (M.meaning machine.now).state.volumes v) }
-    ensures lawful { IfOk result (λ w. (w.dir ≤ 2000) × (w.request.secondary < 2 ^ 24)) }
+    ensures lawful { IfOk result (λ w. (w.dir ≤ MAX_DIR) × (w.request.secondary < 2 ^ 24)) }
 {
     let Some(info) = machine.volume(v) else {
         return Err(Refusal::NoVolume);
@@ -144,7 +144,7 @@ fn new_number<M: Machine>(machine: &M, set: &DdSet) -> Option<u8>
 pub fn wanted<M: Machine>(machine: &M, set: &DdSet) -> Result<NewSet, Refusal>
     requires { IsTrue (M.status machine.now).is_sound }
     ensures wanted { IsTrue M.tells → result ≡ wanted set.now (M.meaning machine.now).state }
-    ensures lawful { IfOk result (λ w. (w.dir ≤ 2000) × (w.request.secondary < 2 ^ 24)) }
+    ensures lawful { IfOk result (λ w. (w.dir ≤ MAX_DIR) × (w.request.secondary < 2 ^ 24)) }
 {
     let Some(space) = set.space else {
         return Err(Refusal::NoSpace { asked: 0 });

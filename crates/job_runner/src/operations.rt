@@ -1,16 +1,14 @@
 //! The operations of DDs and dispositions on a machine, and the lines that answer them.
-ghost use Rattle.std.specs.Prelude.{◌≡◌, [], ◌∷◌, false, IsTrue, IsFalse, IfOk};
-ghost use Rattle.vol_model.specs.Calls.{Keeps};
+ghost use Rattle.std.specs.Prelude.{◌≡◌, ◌≤◌, [], ◌∷◌, IsTrue, IfOk};
 ghost use Rattle.vol_model.specs.Did.{answered};
 ghost use Rattle.vol_model.specs.Lawful.{IsLawfulOp};
-ghost use Rattle.vol_model.specs.Runs.{RunCall, Works};
 ghost use Rattle.vol_model.specs.Writing.{did_apply};
-ghost use Rattle.util_steps.specs.Items.{DoesItem};
+ghost use Rattle.util_steps.specs.Taking.{IsReady, Takes, TakesItem};
 ghost use Rattle.job_runner.specs.DataSets.{code_for, operation_item, outcome_for};
-ghost use Rattle.job_runner.specs.Parts.{DoesItems};
+ghost use Rattle.job_runner.specs.Parts.{Does, DoesItems};
 
 use ebcdic_names::Dsn;
-use std::alloc::{AllocError, Global};
+use std::alloc::Global;
 use util_steps::report;
 use util_syntax::{Object, Outcome, item_line};
 use vol_model::{MachErr, Machine, Op, Refusal, Stop};
@@ -34,7 +32,9 @@ fn outcome_for(answer: Result<(), Refusal>) -> Outcome
 }
 
 fn code_for(refused: u8, answer: Result<(), Refusal>) -> u8
-    ensures { result ≡ code_for refused answer }
+    requires { refused ≤ 16 }
+    ensures code { result ≡ code_for refused answer }
+    ensures small { result ≤ 16 }
 {
     match answer {
         Ok(()) => 0,
@@ -44,12 +44,9 @@ fn code_for(refused: u8, answer: Result<(), Refusal>) -> u8
 
 // Does an operation. A refusal is answered; memory that runs out, or a failed device, ends the run.
 fn perform<M: Machine>(machine: &mut M, op: &Op) -> Result<Result<(), Refusal>, Stop>
-    requires sound { IsTrue (M.status machine.old).is_sound }
-    requires closed { IsFalse (M.status machine.old).is_open }
+    requires ready { IsReady M.Machine machine.old }
     requires lawful { IsLawfulOp op.now }
-    ensures works { IsTrue M.tells → Works M.tells_prints (did_apply (M.meaning machine.old).state op.now) (M.meaning machine.old) (M.meaning machine.new) (M.status machine.old).done (M.status machine.new).done result }
-    ensures promise { IsTrue M.tells → Keeps (M.meaning machine.old).clock (M.promise machine.old) (M.promise machine.new) }
-    ensures faults { RunCall false (M.status machine.old) (M.status machine.new) result }
+    ensures { Takes M.Machine (λ shelf. did_apply shelf op.now) machine.old machine.new result }
 {
     match machine.apply(op) {
         Ok(()) => Ok(Ok(())),
@@ -69,17 +66,13 @@ pub fn answer<M: Machine>(
     refused: u8,
     answer: Result<(), Refusal>,
 ) -> Result<u8, Stop>
-    requires sound { IsTrue (M.status machine.old).is_sound }
-    requires closed { IsFalse (M.status machine.old).is_open }
-    ensures item { IsTrue M.tells → DoesItem M.tells_prints (operation_item subject.now.card word.now subject.now.dsn refused (answered answer)) (M.meaning machine.old) (M.meaning machine.new) (M.status machine.old).done (M.status machine.new).done result }
-    ensures promise { IsTrue M.tells → Keeps (M.meaning machine.old).clock (M.promise machine.old) (M.promise machine.new) }
-    ensures faults { RunCall false (M.status machine.old) (M.status machine.new) result }
+    requires ready { IsReady M.Machine machine.old }
+    requires small { refused ≤ 16 }
+    ensures { TakesItem M.Machine (λ shelf. operation_item subject.now.card word.now subject.now.dsn refused (answered answer)) machine.old machine.new result }
 {
     let object = Object::Name(subject.dsn);
-    match item_line(alloc, subject.card, word, &object, outcome_for(answer)) {
-        Ok(line) => report(machine, &line, code_for(refused, answer)),
-        Err(AllocError) => Err(Stop::Memory),
-    }
+    let line = item_line(alloc, subject.card, word, &object, outcome_for(answer))?;
+    report(machine, &line, code_for(refused, answer))
 }
 
 /// Does an operation, and prints its line.
@@ -91,13 +84,11 @@ pub fn operate<M: Machine>(
     refused: u8,
     op: &Op,
 ) -> Result<Result<(), Refusal>, Stop>
-    requires sound { IsTrue (M.status machine.old).is_sound }
-    requires closed { IsFalse (M.status machine.old).is_open }
+    requires ready { IsReady M.Machine machine.old }
+    requires small { refused ≤ 16 }
     requires lawful { IsLawfulOp op.now }
-    ensures item { IsTrue M.tells → DoesItems M.tells_prints (operation_item subject.now.card word.now subject.now.dsn refused (did_apply (M.meaning machine.old).state op.now) ∷ []) (M.meaning machine.old) (M.meaning machine.new) (M.status machine.old).done (M.status machine.new).done result }
+    ensures item { Does M.Machine (DoesItems M.tells_prints (operation_item subject.now.card word.now subject.now.dsn refused (did_apply (M.meaning machine.old).state op.now) ∷ [])) machine.old machine.new result }
     ensures answer { IsTrue M.tells → IfOk result (λ a. a ≡ (did_apply (M.meaning machine.old).state op.now).answer) }
-    ensures promise { IsTrue M.tells → Keeps (M.meaning machine.old).clock (M.promise machine.old) (M.promise machine.new) }
-    ensures faults { RunCall false (M.status machine.old) (M.status machine.new) result }
 {
     let done = perform(machine, op)?;
     answer(alloc, machine, subject, word, refused, done)?;

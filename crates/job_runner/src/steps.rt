@@ -1,13 +1,12 @@
 //! The steps of jobs.
-ghost use Rattle.std.specs.Prelude.{◌≡◌, ◌≤◌, [], ◌∷◌, false, codes, max, IsTrue, IsFalse, IfOk, if◌then◌else◌};
+ghost use Rattle.std.specs.Prelude.{◌≡◌, ◌≤◌, [], ◌∷◌, false, codes, max, IfOk, if◌then◌else◌};
 ghost use Rattle.util_syntax.specs.Listing.{named_line};
-ghost use Rattle.vol_model.specs.Calls.{Keeps};
-ghost use Rattle.vol_model.specs.Runs.{RunCall};
 ghost use Rattle.util_steps.specs.Items.{items_along};
+ghost use Rattle.util_steps.specs.Taking.{IsReady, RunsItems};
 ghost use Rattle.job_runner.specs.DataSets.{Definitions, definitions};
 ghost use Rattle.job_runner.specs.Dispositions.{deleted};
 ghost use Rattle.job_runner.specs.Jobs.{behind_definitions, ends_job, program_step, program_unless, step_body, step_items};
-ghost use Rattle.job_runner.specs.Parts.{DoesCoded, and_next, says};
+ghost use Rattle.job_runner.specs.Parts.{Does, DoesCoded, and_next, says};
 ghost use Rattle.job_runner.specs.Resolving.{DoesStep, IsDefined};
 
 use crate::definitions::{Defined, define};
@@ -15,7 +14,7 @@ use crate::dispositions::{Deletion, delete_all};
 use crate::frames::{say_code, say_no_program, say_step};
 use crate::programs::{Program, program_named, run_program};
 use job_deck::Step;
-use std::alloc::{AllocError, Global};
+use std::alloc::Global;
 use util_syntax::StepIn;
 use vol_model::{Machine, Stop};
 
@@ -43,12 +42,8 @@ fn run_unless<M: Machine>(
     program: Program,
     step: &StepIn,
 ) -> Result<u8, Stop>
-    requires sound { IsTrue (M.status machine.old).is_sound }
-    requires closed { IsFalse (M.status machine.old).is_open }
-    ensures items { IsTrue M.tells → DoesCoded M.tells_prints (program_unless is_refused program step.now (M.meaning machine.old).state) (M.meaning machine.old) (M.meaning machine.new) (M.status machine.old).done (M.status machine.new).done result }
-    ensures small { IfOk result (λ code. code ≤ 16) }
-    ensures promise { IsTrue M.tells → Keeps (M.meaning machine.old).clock (M.promise machine.old) (M.promise machine.new) }
-    ensures faults { RunCall false (M.status machine.old) (M.status machine.new) result }
+    requires { IsReady M.Machine machine.old }
+    ensures { RunsItems M.Machine (program_unless is_refused program step.now) machine.old machine.new result }
 {
     if is_refused {
         Ok(0)
@@ -57,7 +52,7 @@ fn run_unless<M: Machine>(
     }
 }
 
-// Runs the program of a step, unless a DD is refused, and deletes data sets behind it.
+// Runs the program of a step, unless a DD is refused, and deletes data sets after it.
 fn finish<M: Machine>(
     alloc: Global,
     machine: &mut M,
@@ -66,19 +61,15 @@ fn finish<M: Machine>(
     step: &StepIn,
     deletions: &[Deletion],
 ) -> Result<u8, Stop>
-    requires sound { IsTrue (M.status machine.old).is_sound }
-    requires closed { IsFalse (M.status machine.old).is_open }
-    ensures items { IsTrue M.tells → DoesCoded M.tells_prints (and_next (M.meaning machine.old).state (program_unless is_refused program step.now (M.meaning machine.old).state) (λ shelf. items_along (deleted step.now.date) shelf deletions.now)) (M.meaning machine.old) (M.meaning machine.new) (M.status machine.old).done (M.status machine.new).done result }
-    ensures small { IfOk result (λ code. code ≤ 16) }
-    ensures promise { IsTrue M.tells → Keeps (M.meaning machine.old).clock (M.promise machine.old) (M.promise machine.new) }
-    ensures faults { RunCall false (M.status machine.old) (M.status machine.new) result }
+    requires { IsReady M.Machine machine.old }
+    ensures { RunsItems M.Machine (λ shelf. and_next shelf (program_unless is_refused program step.now shelf) (λ s. items_along (deleted step.now.date) s deletions.now)) machine.old machine.new result }
 {
     let code = run_unless(alloc, machine, is_refused, program, step)?;
     let after = delete_all(alloc, machine, &step.date, deletions)?;
     Ok(higher(code, after))
 }
 
-// What stands behind the DDs of a step.
+// What stands after the DDs of a step.
 fn run_defined<M: Machine>(
     alloc: Global,
     machine: &mut M,
@@ -87,31 +78,23 @@ fn run_defined<M: Machine>(
     step: &Step,
     defined: Defined,
 ) -> Result<u8, Stop>
-    requires sound { IsTrue (M.status machine.old).is_sound }
-    requires closed { IsFalse (M.status machine.old).is_open }
-    ensures items { IsTrue M.tells → (d : Definitions) → IsDefined d defined → DoesCoded M.tells_prints (behind_definitions date.now program step.now d (M.meaning machine.old).state) (M.meaning machine.old) (M.meaning machine.new) (M.status machine.old).done (M.status machine.new).done result }
+    requires { IsReady M.Machine machine.old }
+    ensures items { Does M.Machine (λ old new n m r. (d : Definitions) → IsDefined d defined → DoesCoded M.tells_prints (behind_definitions date.now program step.now d old.state) old new n m r) machine.old machine.new result }
     ensures small { IfOk result (λ code. code ≤ 16) }
-    ensures promise { IsTrue M.tells → Keeps (M.meaning machine.old).clock (M.promise machine.old) (M.promise machine.new) }
-    ensures faults { RunCall false (M.status machine.old) (M.status machine.new) result }
 {
     let Defined {
         table,
         deletions,
         is_refused,
     } = defined;
-    match step.parm.copy(alloc) {
-        Ok(parm) => {
-            let step_in = StepIn {
-                pgm: step.pgm,
-                parm,
-                card: step.card,
-                date: *date,
-                dds: table,
-            };
-            finish(alloc, machine, is_refused, program, &step_in, &deletions)
-        }
-        Err(AllocError) => Err(Stop::Memory),
-    }
+    let step_in = StepIn {
+        pgm: step.pgm,
+        parm: step.parm.copy(alloc)?,
+        card: step.card,
+        date: *date,
+        dds: table,
+    };
+    finish(alloc, machine, is_refused, program, &step_in, &deletions)
 }
 
 // The code of the DDs of a step.
@@ -129,12 +112,9 @@ fn run_known<M: Machine>(
     program: Program,
     step: &Step,
 ) -> Result<StepEnd, Stop>
-    requires sound { IsTrue (M.status machine.old).is_sound }
-    requires closed { IsFalse (M.status machine.old).is_open }
-    ensures step { IsTrue M.tells → DoesStep M.tells_prints (program_step date.now program step.now (M.meaning machine.old).state) ((definitions date.now step.now.dds (M.meaning machine.old).state).is_refused) (M.meaning machine.old) (M.meaning machine.new) (M.status machine.old).done (M.status machine.new).done result }
+    requires { IsReady M.Machine machine.old }
+    ensures step { Does M.Machine (DoesStep M.tells_prints (program_step date.now program step.now (M.meaning machine.old).state) ((definitions date.now step.now.dds (M.meaning machine.old).state).is_refused)) machine.old machine.new result }
     ensures small { IfOk result (λ end. end.code ≤ 16) }
-    ensures promise { IsTrue M.tells → Keeps (M.meaning machine.old).clock (M.promise machine.old) (M.promise machine.new) }
-    ensures faults { RunCall false (M.status machine.old) (M.status machine.new) result }
 {
     let defined = define(alloc, machine, date, step.dds.as_slice())?;
     let ends_job = defined.is_refused;
@@ -147,12 +127,9 @@ fn run_known<M: Machine>(
 
 // A step whose program isn't known.
 fn refuse_program<M: Machine>(alloc: Global, machine: &mut M, step: &Step) -> Result<StepEnd, Stop>
-    requires sound { IsTrue (M.status machine.old).is_sound }
-    requires closed { IsFalse (M.status machine.old).is_open }
-    ensures step { IsTrue M.tells → DoesStep M.tells_prints (says 16 (named_line step.now.card (codes "NO-PROGRAM") step.now.pgm) ∷ []) false (M.meaning machine.old) (M.meaning machine.new) (M.status machine.old).done (M.status machine.new).done result }
+    requires { IsReady M.Machine machine.old }
+    ensures step { Does M.Machine (DoesStep M.tells_prints (says 16 (named_line step.now.card (codes "NO-PROGRAM") step.now.pgm) ∷ []) false) machine.old machine.new result }
     ensures small { IfOk result (λ end. end.code ≤ 16) }
-    ensures promise { IsTrue M.tells → Keeps (M.meaning machine.old).clock (M.promise machine.old) (M.promise machine.new) }
-    ensures faults { RunCall false (M.status machine.old) (M.status machine.new) result }
 {
     let code = say_no_program(alloc, machine, step)?;
     Ok(StepEnd {
@@ -169,12 +146,9 @@ fn run_body<M: Machine>(
     date: &[u8; 3],
     step: &Step,
 ) -> Result<StepEnd, Stop>
-    requires sound { IsTrue (M.status machine.old).is_sound }
-    requires closed { IsFalse (M.status machine.old).is_open }
-    ensures step { IsTrue M.tells → DoesStep M.tells_prints (step_body date.now step.now (M.meaning machine.old).state) (ends_job date.now step.now (M.meaning machine.old).state) (M.meaning machine.old) (M.meaning machine.new) (M.status machine.old).done (M.status machine.new).done result }
+    requires { IsReady M.Machine machine.old }
+    ensures step { Does M.Machine (DoesStep M.tells_prints (step_body date.now step.now (M.meaning machine.old).state) (ends_job date.now step.now (M.meaning machine.old).state)) machine.old machine.new result }
     ensures small { IfOk result (λ end. end.code ≤ 16) }
-    ensures promise { IsTrue M.tells → Keeps (M.meaning machine.old).clock (M.promise machine.old) (M.promise machine.new) }
-    ensures faults { RunCall false (M.status machine.old) (M.status machine.new) result }
 {
     match program_named(&step.pgm) {
         Some(program) => run_known(alloc, machine, date, program, step),
@@ -189,12 +163,9 @@ pub fn run_step<M: Machine>(
     date: &[u8; 3],
     step: &Step,
 ) -> Result<StepEnd, Stop>
-    requires sound { IsTrue (M.status machine.old).is_sound }
-    requires closed { IsFalse (M.status machine.old).is_open }
-    ensures step { IsTrue M.tells → DoesStep M.tells_prints (step_items date.now step.now (M.meaning machine.old).state) (ends_job date.now step.now (M.meaning machine.old).state) (M.meaning machine.old) (M.meaning machine.new) (M.status machine.old).done (M.status machine.new).done result }
+    requires { IsReady M.Machine machine.old }
+    ensures step { Does M.Machine (DoesStep M.tells_prints (step_items date.now step.now (M.meaning machine.old).state) (ends_job date.now step.now (M.meaning machine.old).state)) machine.old machine.new result }
     ensures small { IfOk result (λ end. end.code ≤ 16) }
-    ensures promise { IsTrue M.tells → Keeps (M.meaning machine.old).clock (M.promise machine.old) (M.promise machine.new) }
-    ensures faults { RunCall false (M.status machine.old) (M.status machine.new) result }
 {
     say_step(alloc, machine, step)?;
     let end = run_body(alloc, machine, date, step)?;

@@ -14,7 +14,7 @@ begins t (r ∷ rs) = t == r.start
 same_number : (t : ℕ) → (t == t) ≡ true
 same_number t = grind arith
 
--- one more track in front makes a run longer, where one begins behind it, and else a run of its own
+-- one more track in front makes a run longer, where one begins after it, and else a run of its own
 front_length_at : (t : ℕ) (r : Run) (rs : List Run) (b : Bool) → (t + 1 == r.start) ≡ b → length (with_front t (r ∷ rs)) ≡ (if b then suc (length rs) else suc (suc (length rs)))
 front_length_at t r rs true e = ap (λ b. length (if b then record { start = t; len = r.len + 1 } ∷ rs else record { start = t; len = 1 } ∷ r ∷ rs)) e
 front_length_at t r rs false e = ap (λ b. length (if b then record { start = t; len = r.len + 1 } ∷ rs else record { start = t; len = 1 } ∷ r ∷ rs)) e
@@ -36,7 +36,7 @@ pub front_begins : (t : ℕ) (rs : List Run) → begins t (with_front t rs) ≡ 
 front_begins t [] = same_number t
 front_begins t (r ∷ rs) = begins_at t r rs (t + 1 == r.start) refl
 
--- where all runs stand behind a track, none begins there
+-- where all runs stand after a track, none begins there
 pub behind_begins : (t : ℕ) (rs : List Run) → AreApartFrom (t + 1) rs → begins t rs ≡ false
 behind_begins t [] apart = refl
 behind_begins t (r ∷ rs) apart = grind (arith, apart.0)

@@ -26,7 +26,7 @@ use Rattle.map_machine.specs.Open.{CanCommit, OpenCanCommit, as_open}
 use Rattle.map_machine.specs.Rooms.{target_in}
 use Rattle.map_machine.proofs.StepLemmas.{steps_found}
 
--- ---- behind an extension
+-- ---- after an extension
 
 -- a target can be written to by its set
 by_set : (s : Shelf) (t : Target) → is_some (begin_refusal s t) ≡ is_some (write_refusal_for t.mode t.dsn.bytes (set_on s t.v t.dsn.bytes))

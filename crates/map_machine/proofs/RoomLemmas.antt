@@ -1,4 +1,4 @@
--- Room made for blocks, one after another, and what is done behind it.
+-- Room made for blocks, one after another, and what is done after it.
 use Rattle.std.proofs.Common.{◌≡◌, ◌⊎◌, inl, inr, ◌≤◌, ◌+◌, ◌^◌, ◌-◌, ℕ, zero, suc, Bool, true, false, List, [], ◌∷◌, ◌++◌, length, map, take, arith, refl, sym, ◌∙◌, ap, subst, length-append}
 use Rattle.std.proofs.Math.Logic.{⊎_elim}
 use Rattle.std.proofs.lemmas.List.{append-nil, take_all}
@@ -95,7 +95,7 @@ module _ (op : Op) (old mid new : Held) (applies : Applies {T = Unit {0}} op (me
   later_stop : (rest : List Op) (shelf : Shelf) (p : List ℕ) → Stop rest mid shelf p → Stop (op ∷ rest) old shelf p
   later_stop rest shelf p stop = (inr (subst (λ s. StopsIn s (map Do rest) shelf []) (sym there) stop.0), stop.1 ∙ applies.printed)
 
-  -- one operation, and others behind it
+  -- one operation, and others after it
   pub came_after : (rest ops : List Op) → Came rest ops mid new → Came (op ∷ rest) (op ∷ ops) old new
   came_after rest ops came = record {
     state = came.state ∙ ap (λ s. after_operations s ops) (sym there);
@@ -125,7 +125,7 @@ pub room_same : (made rest : Making) (old new : Held) (r : Result Bool AllocErro
 room_same made rest old new r is makes = subst (λ m. MakesRoom m old new r) (sym is) makes
 
 module _ (op : Op) (made : Making) (old mid new : Held) where
-  -- behind an extension
+  -- after an extension
   pub room_after : (rest : Making) (r : Result Bool AllocError) → Extends op old mid (Ok true) → made ≡ record { extends = op ∷ rest.extends; all = rest.all } → MakesRoom rest mid new r → MakesRoom made old new r
   room_after rest (Ok b) extends is makes = room_same made _ old new (Ok b) is (makes.0, came_after op old mid new extends.0 extends.1 extends.2 rest.extends rest.extends makes.1)
   room_after rest (Err e) extends is makes =
@@ -159,7 +159,7 @@ module _ {X : Type 0} (made : Making) (x : X) (old new : Held) where
   pub put_short : (k : ℕ) → k ≤ length made.extends → Came made.extends (take k made.extends) old new → Does made.extends (room_made made x) (meaning_in old) (meaning_in new) old.done new.done (Err Memory)
   put_short k few came = record { answer = tt; state = (k, few, (came.state, came.count)); printed = came.printed; moments = came.moments }
 
--- ---- an operation behind others
+-- ---- an operation after others
 
 stops_front : (s : Shelf) (xs ys : List Op) (t : Shelf) → StopsIn s (map Do xs) t [] → StopsIn s (map Do (xs ++ ys)) t []
 stops_front s [] ys t (is, none) = subst (λ u. StopsIn s (map Do ys) u []) (sym is) (stops_start s (map Do ys))
@@ -181,7 +181,7 @@ came_then xs ys zs old mid new first second = record {
       (elapses_weaker second.moments (λ t p stop. (stops_back old.now.shelf xs ys t (subst (λ s. StopsIn s (map Do ys) t []) first.state stop.0), stop.1 ∙ first.printed)));
 }
 
--- extensions, and an operation behind them if there was room
+-- extensions, and an operation after them if there was room
 abbrev pub committed : Making → Op → Did (Unit {0}) Refusal
 committed made op = if_made {X = Unit {0}} made (op ∷ []) tt
 
@@ -198,7 +198,7 @@ module _ (made : Making) (op : Op) (old mid new : Held) where
   no : false ≡ made.all → committed made op ≡ record { operations = made.extends; answer = Err NoRoom }
   no is = ap (λ (b : Bool). let d : Did (Unit {0}) Refusal = if b then with_op else (record { operations = made.extends; answer = Err NoRoom }) in d) (sym is)
 
-  -- the operation is done behind the extensions
+  -- the operation is done after the extensions
   pub commit_does : true ≡ made.all → Came made.extends made.extends old mid → Extends op mid new (Ok true) → Commits (committed made op) new (Ok tt)
   commit_does is came extends =
       let one = came_after op mid new new extends.0 extends.1 extends.2 [] [] (came_none [] new) in

@@ -119,7 +119,7 @@ pub changed : (old new : Held) (v : ℕ) (after volume : Volume) → slice_get o
 changed old new v after volume at shelf log text done writer =
     (volume, at, λ i. record { now = record { shelf = shelf i; text = text i }; log = log i; done = done i; writer = writer i })
 
--- bytes were printed behind the others, and that is on the record
+-- bytes were printed after the others, and that is on the record
 pub printed : (old new : Held) (bytes : List ℕ) (n : ℕ) → n ≡ length old.now.text → new.now.text ≡ old.now.text ++ bytes → new.log ≡ old.log ++ Printed n ∷ []
     → new.now.shelf ≡ old.now.shelf → new.done ≡ old.done → new.writer ≡ old.writer → Prints {T = Unit {0}} true bytes (meaning_in old) (meaning_in new) (Ok tt)
 printed old new bytes n size text log shelf done writer =

@@ -50,6 +50,6 @@ status_of machine = status_in (held_of machine)
 abbrev pub writer_of : MapMachine → OpenWriter
 writer_of machine = writer_in machine.writer
 
--- the writer that is open behind a commit: none, unless memory ran out
+-- the writer that is open after a commit: none, unless memory ran out
 abbrev pub open_after : {T : Type 0} → Result T MachErr → Option Writer → Option Writer
 open_after result w = if open_at_memory result then w else None

@@ -10,12 +10,12 @@ pub record Moment : Type 0 where
   pub shelf : Shelf
   pub text : List ℕ
 
--- The moment before something was done, by the one behind it: the volume is as it was, and what was printed is gone.
+-- The moment before something was done, by the one after it: the volume is as it was, and what was printed is gone.
 abbrev pub before : Done → Moment → Moment
 before (Changed v volume) m = record m { shelf = record { volumes = slice_set m.shelf.volumes v volume } }
 before (Printed n) m = record m { text = take n m.text }
 
--- the moment before all of this was done, in its order, by the one behind it
+-- the moment before all of this was done, in its order, by the one after it
 abbrev pub before_all : List Done → Moment → Moment
 before_all [] m = m
 before_all (done ∷ later) m = before done (before_all later m)

@@ -170,7 +170,7 @@ impl MapMachine {
         })
     }
 
-    // Makes room for contents behind others, and says whether there was room for all.
+    // Makes room for contents after others, and says whether there was room for all.
     fn make_room(
         &mut self,
         target: &Target,

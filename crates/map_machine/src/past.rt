@@ -8,7 +8,7 @@ use vol_model::{Mode, Volume};
 pub(crate) enum Done {
     // The volume of this number was changed, and was this one before.
     Changed { v: usize, before: Volume },
-    // Bytes were printed behind so many.
+    // Bytes were printed after so many.
     Printed(usize),
 }
 

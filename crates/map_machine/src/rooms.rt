@@ -60,7 +60,7 @@ fn tracks_on(shelf: &Shelf, v: u8, dsn: &Dsn) -> Result<u32, AllocError>
     }
 }
 
-// Contents placed behind the body of a target.
+// Contents placed after the body of a target.
 pub(crate) fn placed_on(
     alloc: Global,
     shelf: &Shelf,
@@ -73,7 +73,7 @@ pub(crate) fn placed_on(
     placed(alloc, device_on(shelf, target.v), &body, contents)
 }
 
-// The place of the next content behind others.
+// The place of the next content after others.
 pub(crate) fn place_on(
     alloc: Global,
     shelf: &Shelf,
@@ -96,7 +96,7 @@ pub(crate) fn place_on(
     )
 }
 
-// The room for a content behind others.
+// The room for a content after others.
 #[tactic(auto, unfolding(vol_model::specs::Writing::room_for))]
 pub(crate) fn room_for(
     alloc: Global,
@@ -118,7 +118,7 @@ pub(crate) fn room_for(
     }
 }
 
-// What stands behind the body of a writer's set so far.
+// What stands after the body of a writer's set so far.
 pub(crate) fn so_far(
     alloc: Global,
     mode: Mode,
@@ -133,7 +133,7 @@ pub(crate) fn so_far(
     with_copies(alloc, put_first(alloc, mode, body)?, puts)
 }
 
-// What must find room where a content is put behind earlier ones.
+// What must find room where a content is put after earlier ones.
 pub(crate) fn next_up(
     alloc: Global,
     mode: Mode,
@@ -169,7 +169,7 @@ pub(crate) fn at_close(
     with_copies(alloc, first, put_last(alloc, mode)?.as_slice())
 }
 
-// The blocks behind the first so many.
+// The blocks after the first so many.
 fn behind(blocks: &[Block], n: usize) -> &[Block]
     ensures { result.now ≡ drop n blocks.now }
 {
@@ -193,7 +193,7 @@ pub(crate) fn blocks_for(
     copy_items(alloc, behind(blocks.as_slice(), n))
 }
 
-// The place of a content behind all that was put.
+// The place of a content after all that was put.
 pub(crate) fn put_place(
     alloc: Global,
     shelf: &Shelf,
@@ -298,7 +298,7 @@ pub(crate) fn commit_of(alloc: Global, shelf: &Shelf, writer: &Writer) -> Result
     })
 }
 
-// The room for a content behind others, and these with it.
+// The room for a content after others, and these with it.
 pub(crate) fn room_and_next(
     alloc: Global,
     shelf: &Shelf,

@@ -1,4 +1,4 @@
--- The walk over a member, behind the search for its directory's end.
+-- The walk over a member, after the search for its directory's end.
 use Rattle.std.proofs.Common.{◌≡◌, Bool, IsTrue, List, [], ℕ, None, refl, subst}
 use Rattle.dscb_codec.specs.declared.F1.{F1}
 use Rattle.hall_core.specs.Facts.{Facts}

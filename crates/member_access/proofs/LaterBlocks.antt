@@ -1,4 +1,4 @@
--- The blocks of a lawful body behind a place, by the numbers of places.
+-- The blocks of a lawful body after a place, by the numbers of places.
 use Rattle.std.proofs.Common.{◌≡◌, ◌+◌, ◌*◌, ◌≤◌, ◌<◌, ◌==◌, ◌&&◌, ◌||◌, not, nat_le, nat_lt, ℕ, Bool, true, false, cond, List, [], ◌∷◌, filter, refl, sym, ◌∙◌, ap, subst, arith}
 use Rattle.std.proofs.lemmas.Bool.Decides.{nat_tests}
 use Rattle.std.specs.List.{AllByRecursion}
@@ -38,7 +38,7 @@ module _ {X : Type 0} (n : X → ℕ) where
       by_test true e later here = let same : y ≡ x = cc in subst (λ z. k ≤ n z) same (low k (n y) e)
       by_test false e later here = later here
 
-  -- behind the first of those from a number on are the others
+  -- after the first of those from a number on are the others
   pub others_behind : (k low : ℕ) (xs : List X) (x : X) (rest : List X) → RiseFrom low xs → from_number k xs ≡ x ∷ rest → from_number (n x + 1) xs ≡ rest
   others_behind k low [] x rest rise is = cc
   others_behind k low (y ∷ xs) x rest rise is = by_test (nat_le k (n y)) refl (λ e. others_behind k (n y + 1) xs x rest rise.1 e) (λ e. first_from k xs x rest e) is
@@ -95,7 +95,7 @@ pub ordered : (tracks : ℕ) (p : Place) (bs : List Block) → FollowFrom tracks
 ordered tracks p [] follow lawful = record { rise = tt; each = tt }
 ordered tracks p (b ∷ bs) follow lawful = record { rise = (omega arith, rises tracks b.place bs lawful.0.place follow.2 lawful.1); each = lawful }
 
--- behind the first block at or after a place are the others
+-- after the first block at or after a place are the others
 pub blocks_behind : (bs : List Block) → AreOrdered bs → (p next : Place) (b : Block) (rest : List Block) → p.r ≤ 255 → blocks_from p bs ≡ b ∷ rest → IsNextPlace b.place next → blocks_from next bs ≡ rest
 blocks_behind bs are p next b rest low is after =
     from_same next bs after.place.1 are.each

@@ -7,7 +7,7 @@ use Rattle.vol_model.specs.Places.{last_place}
 use Rattle.vol_model.specs.Reading.{blocks_from, member}
 use Rattle.member_access.specs.declared.ends.Walk.{Walk}
 
--- the blocks of the member at a place, and the end-of-file block behind them, if there is one
+-- the blocks of the member at a place, and the end-of-file block after them, if there is one
 abbrev pub whole_member : List Block → Place → List Block
 whole_member bs from = take (suc (length (member bs from))) (blocks_from from bs)
 

@@ -157,7 +157,7 @@ fn pass<H: Hall>(
     Ok(!is_end_of_file(block))
 }
 
-// The place behind that of a block.
+// The place after that of a block.
 fn place_behind(place: Place) -> Place
     requires { place.tt < 65535 }
     ensures { IsNextPlace place result }

@@ -1,4 +1,4 @@
--- The member at a place stays the same where more blocks are written behind those of its set.
+-- The member at a place stays the same where more blocks are written after those of its set.
 use Rattle.std.proofs.Common.{◌≡◌, ◌+◌, ◌<◌, ◌==◌, ◌&&◌, ◌||◌, not, nat_lt, ℕ, zero, suc, Bool, true, false, cond, List, [], ◌∷◌, ◌++◌, length, get_or, refl, sym, ◌∙◌, ap, subst, append_assoc, arith}
 use Rattle.std.proofs.lemmas.Bool.Decides.{nat_tests}
 use Rattle.std.proofs.lemmas.List.Elements.{Contains-append_left, filter-append}
@@ -43,7 +43,7 @@ next_later a r b s c u e next = grind (arith, nat_tests)
 not_self : (t r : ℕ) → (nat_lt t t || (t == t && nat_lt r r)) ≡ false
 not_self t r = grind (arith, nat_tests)
 
--- the last of blocks behind a place isn't before what that isn't before
+-- the last of blocks after a place isn't before what that isn't before
 last_later : (p q : Place) (bs : List Block) → Follow q bs → is_before q p ≡ false → is_before (last_place q bs) p ≡ false
 last_later p q [] h at = at
 last_later p q (b ∷ bs) h at = last_later p b.place bs h.1 (next_later p.tt p.r q.tt q.r b.place.tt b.place.r at h.0)
@@ -81,7 +81,7 @@ module _ (d : DiskType) (dir : ℕ) (end : Place) (es : List Entry) (bs : List B
   last_at : is_before (last_place end bs) p ≡ false
   last_at = subst (λ (x : Place). is_before (last_place end bs) x ≡ false) named.2 (last_behind end bs named.0 named.1.0 named.1.1 named.1.2 h)
 
-  -- where the last block ends a member, nothing behind it belongs to one in front
+  -- where the last block ends a member, nothing after it belongs to one in front
   closed : (new : List Block) → is_open_ended bs ≡ false → member (bs ++ new) p ≡ member bs p
   closed new shut = by_end bs refl
     where
@@ -114,12 +114,12 @@ module _ (d : DiskType) (dir : ℕ) (end : Place) (es : List Entry) (bs : List B
           there : (t r : ℕ) → ((t + 1 == t && 1 == r + 1) || (nat_lt t (t + 1) && 1 == 1)) ≡ true
           there t r = grind (arith, nat_tests)
 
-  -- where the last block doesn't end a member, an end-of-file block is put behind it
+  -- where the last block doesn't end a member, an end-of-file block is put after it
   opened : (cs : List Content) → member (bs ++ placed d body (end_of_file ∷ cs)) p ≡ member bs p
   unfolding placed
   opened cs = member_before bs (placed d (bodies.Part dir end es (bs ++ next_block d body end_of_file ∷ [])) cs) (next_block d body end_of_file) p (next_at end_of_file) refl
 
-  -- an area behind blocks leaves the members among them
+  -- an area after blocks leaves the members among them
   pub area_kept : (cs : List Content) → member (bs ++ placed d body (written modes.Area body cs)) p ≡ member bs p
   area_kept cs = by_open (is_open_ended bs) refl
     where

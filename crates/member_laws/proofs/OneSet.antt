@@ -56,7 +56,7 @@ not_vacant bodies.Other e blocks holds = absurd holds
 not_vacant (bodies.Unreadable track) e blocks holds = absurd holds
 
 module _ (volume w : Volume) (h : IsOrderedVolume volume) (set : List ℕ) (e : Entry) (blocks : List Block) (holds : HoldsMember (body_in set volume) e blocks) where
-  -- the member of the set behind the operation
+  -- the member of the set after the operation
   abbrev Stays : Type 0
   Stays = HoldsMember (body_in set w) e blocks
 

@@ -40,7 +40,7 @@ use Rattle.member_laws.proofs.Ordered.{Follow, IsOrdered, IsOrderedBody, IsOrder
 
 -- ---- one body
 
--- blocks that are placed behind others follow them
+-- blocks that are placed after others follow them
 
 place_next : (d : DiskType) (last : Place) (earlier : List (ℕ × ℕ)) (new : ℕ × ℕ) (b : Bool) → is_next last (if b then record { tt = last.tt; r = last.r + 1 } else record { tt = last.tt + 1; r = 1 }) ≡ true
 place_next d last earlier new true = here last.tt last.r

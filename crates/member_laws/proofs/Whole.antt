@@ -36,7 +36,7 @@ all_kept (op ∷ ops) s h = (one_keeps s op h, all_kept ops (behind s (step s op
 pub members_kept : (ops : List Op) (s : Shelf) → IsLawful s → KeepsMembers s ops
 members_kept ops s lawful = all_kept ops s (shelf_ordered s lawful)
 
--- more operations behind the first
+-- more operations after the first
 behind_first : (first more : List Op) (s : Shelf) → KeepsMembers s (first ++ more) → KeepsMembers (after_operations s first) more
 unfolding KeepsMembers
 behind_first [] more s keeps = keeps

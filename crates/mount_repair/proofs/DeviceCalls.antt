@@ -1,4 +1,4 @@
--- Calls of a device, one behind another.
+-- Calls of a device, one after another.
 use Rattle.std.proofs.Common.{◌≡◌, ℕ, refl, subst, ◌∙◌, arith}
 use Rattle.hall_core.specs.Facts.{Facts, ReportedCall}
 use Rattle.stop_model.specs.Counts.{Rose}

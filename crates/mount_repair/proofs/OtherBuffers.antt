@@ -1,4 +1,4 @@
--- Behind a call that changes the buffer of an index alone.
+-- After a call that changes the buffer of an index alone.
 use Rattle.std.proofs.Common.{◌≡◌, ℕ, List, sym, ap, subst, ◌∙◌}
 use Rattle.dscb_codec.specs.declared.F1.{F1}
 use Rattle.free_rebuild.specs.Repairs.{image_named}

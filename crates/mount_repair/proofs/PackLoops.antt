@@ -1,4 +1,4 @@
--- How far the packing of directories has come, and the repair of a pack behind it.
+-- How far the packing of directories has come, and the repair of a pack after it.
 use Rattle.std.proofs.Common.{◌≡◌, ◌≤◌, ◌+◌, inl, inr, ℕ, zero, suc, Bool, true, List, [], ◌∷◌, drop, length, Some, refl, sym, ap, subst, ◌∙◌, arith}
 use Rattle.std.specs.Prelude.{IsTrue, Result, Ok, Err, slice_get, vec_items}
 use Rattle.free_rebuild.specs.Repairs.{Repairs, image_named}
@@ -67,7 +67,7 @@ listed_among all k u slot at listed = by listed.0 listed.1 listed.2 listed.3
     by zero w there here = let same : u ≡ w = cc in (k, u, at, ap (λ (d : Unpacked). d.slot) same ∙ here)
     by (suc j) w there here = absurd cc
 
--- behind it no directory is listed, and the libraries are there still
+-- after it no directory is listed, and the libraries are there still
 pub libraries_left : (image image' : List ℕ) (v v' : Vol) (all : List Unpacked) (libraries : List Library) → KeepsLibraries image v all image' v' → AreLibraries image v all libraries → AreLibraries image' v' [] libraries
 libraries_left image image' v v' all libraries keeps was k l there =
     let is = was k l there in (is.0, λ listed. none_listed listed.0 listed.1 listed.2, keeps is.0 l is.1 is.2)
@@ -227,7 +227,7 @@ module _ {T D : Type 0} (name : List ℕ) (v v' : Vol) (rest : List Unpacked) (m
 
 -- ---- the mounting of a pack
 
--- a repair behind a scan
+-- a repair after a scan
 module _ (name : List ℕ) (m mid m' : Meaning (List File)) (durable : IsDurable m) (same : Same m mid) where
   repaired_then : {E : Type 0} (r : Result Scan E) → (run : RepairsPack name mid m' r) → Elapses m m' (λ files p. StaysVolume name run.volume m.state files × (p ≡ m.printed))
   repaired_then r run =

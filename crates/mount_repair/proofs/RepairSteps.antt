@@ -1,4 +1,4 @@
--- The steps of a repair, one behind another.
+-- The steps of a repair, one after another.
 use Rattle.std.proofs.Common.{◌≡◌, ◌≢◌, ⊎_elim, inl, inr, ℕ, List, Some, refl, sym, ap, subst, ◌∙◌}
 use Rattle.std.specs.Prelude.{◌⊎◌, Result, Ok, Err}
 use Rattle.free_rebuild.specs.Repairs.{HaveSameVtoc, IsSafe, Repairs, image_named}
@@ -45,7 +45,7 @@ module _ (name : List ℕ) (volume : Volume) where
     others = λ other differs. second.others other differs ∙ first.others other differs;
   }
 
--- ---- directories packed one behind another
+-- ---- directories packed one after another
 
 -- none is packed yet
 pub packs_none : {T E : Type 0} (name : List ℕ) (v : Vol) (rest : List Unpacked) (m : Meaning (List File)) (x : T) → IsMounted (image_named m.state name) v → IsDurable m → AreUnpacked (image_named m.state name) v rest → PacksDirs {E = E} name v rest m m (Ok x)

@@ -74,7 +74,7 @@ fn repair_vtoc<H: Hall>(hall: &mut H, vol: &mut Vol) -> Result<(), WorkErr>
     rebuild(hall, vol)
 }
 
-// Packs directories, one behind another.
+// Packs directories, one after another.
 fn pack_all<H: Hall>(hall: &mut H, vol: &mut Vol, unpacked: &[Unpacked]) -> Result<(), WorkErr>
     requires unit { IsOfUnit (H.facts hall.old).units vol.old }
     requires names { AreByName (name_at vol.old.slots.items) vol.old.by_name.items }

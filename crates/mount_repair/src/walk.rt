@@ -124,7 +124,7 @@ fn set_at(vol: &Vol, slot: u32) -> F1
     }
 }
 
-// Puts the name and the kind of a data set behind the others.
+// Puts the name and the kind of a data set after the others.
 fn list(volume: &mut Vec<(Dsn, Kind)>, set: &F1, kind: Kind) -> Result<(), MountErr>
     ensures done { OnOk result (volume.new.items
         ≡ volume.old.items ++ (record { bytes = set.now.name }, kind) ∷ []) }
@@ -294,7 +294,7 @@ fn hold(
     }
 }
 
-// Puts a directory behind the others that aren't packed.
+// Puts a directory after the others that aren't packed.
 fn add(unpacked: &mut Vec<Unpacked>, dir: Unpacked) -> Result<(), MountErr>
     ensures done { OnOk result (unpacked.new.items ≡ unpacked.old.items ++ dir ∷ []) }
     ensures memory { IfErr result (λ e. e ≡ MountErr.Memory) }

@@ -66,7 +66,7 @@ vtoc_inside g n len pack long =
     let room : 1 + n ≤ tracks_of g = omega (arith, pack.room) in
     omega (arith, long, mul-le-mul_right {m = 1 + n} {n = tracks_of g} g.track_size room)
 
--- the VTOC, and then the tracks behind it
+-- the VTOC, and then the tracks after it
 pub tracks_more : {T E A B : Type 0} {x : A} {result : Result T E} (name : List ℕ) (P : List ℕ → Type 0) (g : Geometry) (n at : ℕ) (vtoc : List ℕ) (old mid new : Meaning (List File))
     → at ≡ offset_of g 1
     → Writes {T = A} {E = B} name P (λ image. patched image at vtoc) old mid (Ok x)

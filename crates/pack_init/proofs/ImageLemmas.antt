@@ -25,7 +25,7 @@ use Rattle.pack_init.proofs.EmptyLemmas.{long_track}
 abbrev pub empty_track_at : Geometry → ℕ → List ℕ
 empty_track_at g track = new_track (track / heads_of g) (track % heads_of g) [] g.track_size
 
--- the tracks behind the VTOC
+-- the tracks after the VTOC
 abbrev pub empties : Geometry → ℕ → List ℕ
 empties g n = flat_map (empty_track_at g) (range_with_len (n + 1) (tracks_of g - (n + 1)))
 

@@ -10,7 +10,7 @@ flat_map_next {X = X} f a (suc n) j e =
     let next : a + 1 + n ≡ j = omega arith in
     ap (λ (l : List X). f a ++ l) (flat_map_next f (a + 1) n j next) ∙ sym (append_assoc (f a) (flat_map f (range_with_len (a + 1) n)) (f j))
 
--- one range behind another
+-- one range after another
 pub range_behind : {X : Type 0} (f : ℕ → List X) (a n m b : ℕ) → a + n ≡ b → flat_map f (range_with_len a (n + m)) ≡ flat_map f (range_with_len a n) ++ flat_map f (range_with_len b m)
 range_behind {X = X} f a zero m b e =
     let same : a ≡ b = omega arith in

@@ -116,7 +116,7 @@ module _ (g : Geometry) (serial : List ℕ) (n : ℕ) (name : List ℕ) where
   tracks_moments {old = old} {mid = mid} b w durable = elapses_then (b.moments durable)
       (elapses_weaker (w.moments old.state b.fresh (b.left durable)) (λ j p has. headerless_left old.state old.printed j p (has.0, has.1 ∙ b.printed)))
 
-  -- a fault of the device, behind the creation
+  -- a fault of the device, after the creation
   fault_behind : {old new : Meaning (List File)} (answer : Result (Unit {0}) InitErr) → answer ≡ Err Device → file_of old.state name ≡ None → new.printed ≡ old.printed → (IsDurable old → Elapses old new (λ j p. IsInitLeft g serial n name old.state j × (p ≡ old.printed))) → MakesPack g serial n name old new answer
   fault_behind {old = old} {new = new} answer is fresh printed moments = subst (λ a. MakesPack g serial n name old new a) (sym is) (record {
     fresh = tt;

@@ -4,7 +4,7 @@ use Rattle.std.proofs.lemmas.List.{take_at, drop_at, take-append-le, take-take}
 use Rattle.stop_model.specs.Files.{patched}
 use Rattle.pack_init.specs.Progress.{IsHeaderless}
 
--- over as many bytes behind others
+-- over as many bytes after others
 pub patched_at : (a c b r : List ℕ) (at : ℕ) → length a ≡ at → length c ≡ length b → patched (a ++ (c ++ r)) at b ≡ a ++ (b ++ r)
 unfolding patched
 patched_at a c b r at e same =

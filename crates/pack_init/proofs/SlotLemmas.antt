@@ -32,7 +32,7 @@ pub slots_test : (at : Address) (slots : List (List ℕ)) → AreSlots slots →
 slots_test at [] all = refl
 slots_test at (slot ∷ slots) all = both _ _ (slot_test at slot all.0) (slots_test at slots all.1)
 
--- a slot holds no data set, and breaks no rule behind slot 0
+-- a slot holds no data set, and breaks no rule after slot 0
 pub record IsSpare (g : Geometry) (s : VtocSlot) : Type 0 where
   pub unset : set_in s.content ≡ None
   pub sound : (slots : List VtocSlot) (k : ℕ) → content_fault g slots k s.content ≡ None

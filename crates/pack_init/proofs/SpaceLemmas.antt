@@ -23,7 +23,7 @@ filter_none : (p : ℕ → Bool) → ((t : ℕ) → p t ≡ false) → (xs : Lis
 filter_none p none [] = refl
 filter_none p none (x ∷ xs) = rw (none x) (filter_none p none xs)
 
--- the tracks behind the VTOC, if there are any
+-- the tracks after the VTOC, if there are any
 unfoldable pub spaces : ℕ → ℕ → List Run
 spaces n zero = []
 spaces n (suc k) = record { start = n + 1; len = suc k } ∷ []

@@ -1,4 +1,4 @@
--- Writes and syncs of a file that stands behind others.
+-- Writes and syncs of a file that stands after others.
 use Rattle.std.specs.Prelude.{Result, Ok, Err, OnOk, OnErr, IsErr, IsErrAnd, None}
 use Rattle.std.proofs.Common.{◌≡◌, ◌∷◌, ◌++◌, ℕ, List, [], length, Bool, true, false, ⊎_elim, ap, sym, subst, refl, ◌∙◌, arith}
 use Rattle.std.specs.Str.{bytes_eq}
@@ -14,7 +14,7 @@ use Rattle.pack_init.specs.Init.{with_file}
 use Rattle.pack_init.specs.Layout.{with_front}
 use Rattle.pack_init.specs.Progress.{HasBehind, IsFrontWritten, Writes}
 
--- a write over the file behind others, none of which has its name
+-- a write over the file after others, none of which has its name
 pub written_behind : (base : List File) (name image : List ℕ) (at : ℕ) (bytes : List ℕ) → file_of base name ≡ None → written (with_file base name image) name at bytes ≡ with_file base name (patched image at bytes)
 unfolding written
 written_behind [] name image at bytes fresh = rw (same_name name) refl

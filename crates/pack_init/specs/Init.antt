@@ -26,7 +26,7 @@ error_of hall.Memory = Memory
 abbrev pub size_of : Geometry → ℕ
 size_of g = 512 + tracks_of g * g.track_size
 
--- files, and one of this name behind them
+-- files, and one of this name after them
 abbrev pub with_file : List File → List ℕ → List ℕ → List File
 with_file files name image = files ++ record { name = name; bytes = image } ∷ []
 
@@ -40,7 +40,7 @@ abbrev pub IsInitLeft : Geometry → List ℕ → ℕ → List ℕ → List File
 IsInitLeft g serial tracks name files j = (j ≡ files)
     ⊎ ((image : List ℕ) × (j ≡ with_file files name image) × IsRefusedOrNew g serial tracks image)
 
--- A new pack is made as a file behind the others, durably, where none has its name; where one has it nothing changes but the time. From durable files on, a stop leaves what is said above.
+-- A new pack is made as a file after the others, durably, where none has its name; where one has it nothing changes but the time. From durable files on, a stop leaves what is said above.
 pub record MakesPack (g : Geometry) (serial : List ℕ) (tracks : ℕ) (name : List ℕ) (old new : Meaning (List File)) (result : Result (Unit {0}) InitErr) : Type 0 where
   pub fresh : OnOk result (file_of old.state name ≡ None)
   pub done : OnOk result ((image : List ℕ) × (new.state ≡ with_file old.state name image) × IsNewImage g serial tracks image)
@@ -51,7 +51,7 @@ pub record MakesPack (g : Geometry) (serial : List ℕ) (tracks : ℕ) (name : L
   pub printed : new.printed ≡ old.printed
   pub moments : IsDurable old → Elapses old new (λ j p. IsInitLeft g serial tracks name old.state j × (p ≡ old.printed))
 
--- The file is the next unit when the pack is made, and it may be so behind a fault; the device count rose where the device failed, and else stands still.
+-- The file is the next unit when the pack is made, and it may be so after a fault; the device count rose where the device failed, and else stands still.
 pub record InitCall (name : List ℕ) (len : ℕ) (old new : Facts) (result : Result (Unit {0}) InitErr) : Type 0 where
   pub added : OnOk result (new.units ≡ old.units ++ record { name = name; size = len } ∷ [])
   pub units : (new.units ≡ old.units) ⊎ (new.units ≡ old.units ++ record { name = name; size = len } ∷ [])

@@ -1,10 +1,10 @@
--- Writes of one file that stands behind others, and what a stop in them leaves.
+-- Writes of one file that stands after others, and what a stop in them leaves.
 use Rattle.std.specs.Prelude.{◌≡◌, ℕ, Bool, List, ◌++◌, length, take, replicate, None, Result, OnOk, if◌then◌else◌}
 use Rattle.stop_model.specs.Files.{File, file_of}
 use Rattle.stop_model.specs.Moments.{Meaning, Elapses}
 use Rattle.pack_init.specs.Init.{with_file}
 
--- the files are these, and behind them one of this name whose bytes have P
+-- the files are these, and after them one of this name whose bytes have P
 abbrev pub HasBehind : List File → List ℕ → (List ℕ → Type 0) → List File → Type 0
 HasBehind base name P j = (image : List ℕ) × (j ≡ with_file base name image) × P image
 
@@ -20,7 +20,7 @@ pub record IsHeaderless (size : ℕ) (image : List ℕ) : Type 0 where
   pub whole : length image ≡ size
   pub zeros : take 512 image ≡ replicate 512 0
 
--- a header and a track 0, each written or still zeros, and the tracks behind them
+-- a header and a track 0, each written or still zeros, and the tracks after them
 abbrev pub IsFrontWritten : List ℕ → List ℕ → List ℕ → List ℕ → Type 0
 IsFrontWritten header label rest image =
     (h : Bool) × (l : Bool)

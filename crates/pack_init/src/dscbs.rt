@@ -144,7 +144,7 @@ fn vtoc_extent(geometry: &Geometry, vtoc: u16) -> Extent
     ]
 }
 
-// The entry of the tracks behind a VTOC of so many tracks.
+// The entry of the tracks after a VTOC of so many tracks.
 fn space_entry(geometry: &Geometry, vtoc: u16) -> [u8; 5]
     requires { IsNewPack geometry.now vtoc }
     ensures { result ≡ space_entry geometry.now (new_space geometry.now vtoc) }

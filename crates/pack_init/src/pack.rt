@@ -21,7 +21,7 @@ use std::alloc::Global;
 /// Makes a new pack as a file that isn't there, and attaches it as the next unit.
 ///
 /// The VTOC has `vtoc` tracks, from track 1 of the pack on. Its format 4 and format 5 come first, and show
-/// all tracks behind it as free; all other slots are free, and all other tracks empty. The layout follows
+/// all tracks after it as free; all other slots are free, and all other tracks empty. The layout follows
 /// System Control Blocks, GC28-6628.
 ///
 /// All tracks but track 0 are written and made durable, and then the header and track 0. A stop leaves no
@@ -86,7 +86,7 @@ fn write_tracks<H: Hall>(
     Ok(())
 }
 
-// Writes the tracks behind the VTOC, which have no records.
+// Writes the tracks after the VTOC, which have no records.
 fn write_empty_tracks<H: Hall>(
     hall: &mut H,
     unit: u8,

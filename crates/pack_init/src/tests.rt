@@ -36,7 +36,7 @@ fn hall_with(alloc: Global, files: Vec<(String, Vec<u8>)>) -> Result<MemHall, Al
 
 // Bytes of the image, and what they are to be: heads and track size in the header; the address of the VTOC in
 // the label; in slot 0 the free slots, the size of the pack, and the extent of the VTOC; in slot 1 the one entry;
-// the counts of the first and the last slot on track 5, and the end marker behind it.
+// the counts of the first and the last slot on track 5, and the end marker after it.
 const BYTES: [(usize, &[u8]); 9] = [
     (8, &[0x14, 0, 0, 0, 0, 0x1E, 0, 0]),
     (512 + 21 + 36 + 156 + 12 + 11, &[0, 0, 0, 1, 1, 0x40]),

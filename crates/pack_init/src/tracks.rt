@@ -75,7 +75,7 @@ fn slots_of_track(
     Ok(slots)
 }
 
-/// What stands at the begin of a track without records, behind which a new file has zeros.
+/// What stands at the begin of a track without records, after which a new file has zeros.
 pub fn empty_track(geometry: &Geometry, track: u16) -> [u8; EMPTY_LEN]
     ensures { result ≡ empty_bytes geometry.now track }
 {

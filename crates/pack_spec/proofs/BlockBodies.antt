@@ -99,7 +99,7 @@ tracks_read tracks bs is = by (position (λ o. is_none o) tracks) refl is
     by None none e = (nowhere (λ o. is_none o) tracks none, cc)
     by (Some k) some e = cc
 
--- More extents behind the others leave a body that can be read as it is.
+-- More extents after the others leave a body that can be read as it is.
 module _ (g : Geometry) (tracks : List (List ℕ)) (extents more : List Run) (lstar : List ℕ) where
   abbrev ending : Place
   ending = last_of lstar

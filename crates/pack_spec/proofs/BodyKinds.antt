@@ -61,7 +61,7 @@ module _ (g : Geometry) (a b : List (List ℕ)) (name : List ℕ) (attr : Attr) 
       (same_body g a b extents lstar (λ k t low own. same k t None own) (λ t own. same (last_of lstar).tt t (Some (last_of lstar).r) own))
       (same_part g a b extents lstar same)
 
--- One that can be read is the same with more extents behind the others.
+-- One that can be read is the same with more extents after the others.
 module _ (g : Geometry) (tracks : List (List ℕ)) (name : List ℕ) (attr : Attr) (extents more : List Run) (lstar : List ℕ) where
   seq_more : unreadable (seq_body g tracks extents lstar) ≡ None → seq_body g tracks (extents ++ more) lstar ≡ seq_body g tracks extents lstar
   seq_more = seq_or_unread g tracks extents lstar (λ (b : Body). seq_body g tracks extents lstar ≡ b → unreadable b ≡ None → seq_body g tracks (extents ++ more) lstar ≡ seq_body g tracks extents lstar)

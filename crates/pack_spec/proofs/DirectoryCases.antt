@@ -36,7 +36,7 @@ pub blocks : (block_entries (replicate 256 0) ≡ None)
 unfolding block_entries entries_from
 blocks = (refl, refl, refl, refl, refl)
 
--- whatever the end entry's other bytes are and stands behind it, it ends the directory; but all its 12 bytes are used ones
+-- whatever the end entry's other bytes are and stands after it, it ends the directory; but all its 12 bytes are used ones
 ends : (block_entries (0 ∷ 44 ∷ entry 0xC1 ++ replicate 12 255 ++ entry 0xC1 ++ 9 ∷ 9 ∷ replicate 212 0) ≡ Some (record { entries = read 0xC1 ∷ []; ends = true }))
     × (block_entries (1 ∷ 0 ∷ short_entries 1 20 ++ replicate 14 255) ≡ Some (record { entries = short_read 1 20; ends = true }))
     × (block_entries (0 ∷ 252 ∷ short_entries 1 20 ++ replicate 14 255) ≡ None)

@@ -18,7 +18,7 @@ use Rattle.vol_model.specs.Lawful.{EntriesAscend, IsLawfulEntry}
 use Rattle.vol_model.specs.Shelf.{is_entry_before}
 use Rattle.vol_model.specs.Slots.{directory_needed, entry_size}
 use Rattle.pack_spec.specs.Directories.{block_entries, break_from, directory_break, end_name, entries_from, entries_of, front_entry, front_length, if_rising, name_number, no_entry, rise_from, stored_in, used_bytes, user_length, with_front}
-use Rattle.pack_spec.proofs.ChainRoom.{Fits, chain_room}
+use Rattle.sorted_chain.proofs.ChainRoom.{Fits, chain_room}
 use Rattle.pack_spec.proofs.NameOrder.{AreBytes, HasName, number_before}
 
 -- ---- bytes

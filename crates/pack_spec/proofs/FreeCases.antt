@@ -2,7 +2,7 @@
 use Rattle.std.specs.Prelude.{◌≡◌, ℕ, List, [], ◌∷◌, refl}
 use Rattle.pack_spec.specs.FreeChain.{dscbs_for, entry_of, whole_cylinders}
 
--- behind a VTOC of five tracks of a 2314 with 200 cylinders: 199 cylinders and 14 tracks
+-- after a VTOC of five tracks of a 2314 with 200 cylinders: 199 cylinders and 14 tracks
 new_pack_has_199_cylinders_and_14_tracks : entry_of 20 (record { start = 6; len = 3994 }) ≡ 0 ∷ 6 ∷ 0 ∷ 0xC7 ∷ 0x0E ∷ []
 new_pack_has_199_cylinders_and_14_tracks = refl
 

@@ -16,7 +16,6 @@ pub mod DirectoryCases
 pub mod FrontRecords
 pub mod PartBodies
 pub mod NameOrder
-pub mod ChainRoom
 pub mod DirectoryEntries
 pub mod PartLawful
 pub mod NewPlaces

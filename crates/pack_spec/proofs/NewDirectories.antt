@@ -1,4 +1,4 @@
--- A new directory reads as one without entries, and without blocks behind it.
+-- A new directory reads as one without entries, and without blocks after it.
 use Rattle.std.proofs.Common.{◌≡◌, ◌⊎◌, ◌+◌, ◌%◌, ◌≤◌, ◌<◌, ℕ, zero, suc, Bool, true, false, cond, eqb, ◌&&◌, ◌||◌, List, [], ◌∷◌, ◌++◌, length, map, Option, Some, None, inl, inr, refl, sym, ap, ◌∙◌, arith, append-nil, length-append, option_and_then}
 use Rattle.std.specs.Prelude.{◌==◌, nat_le, slice_get, unwrap_or, is_none}
 use Rattle.std.specs.List.{enumerate_from, flat_map, list_all, list_any, range_with_len}
@@ -47,7 +47,7 @@ is_end x is = ap (λ (c : Content). length c.0 == 0 && length c.1 == 0) is
 may_end : (x : Record) → held x ≡ end_of_file → is_block x ≡ true
 may_end x is = ap (λ (c : Content). nat_le (length c.0) 255 && nat_le (length c.1) 32760) is
 
--- records from Rr of a track on that are these blocks of a new directory, with its end-of-file record behind them or not
+-- records from Rr of a track on that are these blocks of a new directory, with its end-of-file record after them or not
 pub record IsNewFrom (end : Place) (k r : ℕ) (xs : List Record) (is : List ℕ) : Type 0 where
   pub stand : list_all (may_stand end k) (enumerate_from r xs) ≡ true
   pub blocks : map content (before_end end (blocks_from k r xs)) ≡ map new_block is
@@ -99,7 +99,7 @@ no_end_in [] (x ∷ xs) same = absurd (cc)
 no_end_in (i ∷ is) [] same = absurd (cc)
 no_end_in (i ∷ is) (x ∷ xs) same = ap (λ (b : Bool). b || list_any is_end_record xs) (is_no_end x i (cc)) ∙ no_end_in is xs (cc)
 
--- the records of the blocks, and the end-of-file record behind them
+-- the records of the blocks, and the end-of-file record after them
 record IsEnded (is : List ℕ) (xs : List Record) : Type 0 where
   ys : List Record
   z : Record
@@ -174,7 +174,7 @@ module _ (g : Geometry) (tracks : List (List ℕ)) (extents : List Run) (lstar :
   abbrev owned : List ℕ
   owned = owned_tracks extents
 
-  -- R of the end-of-file record is behind those of its track's blocks
+  -- R of the end-of-file record is after those of its track's blocks
   counted : (k : ℕ) (new : IsNewOn g tracks owned device n k) → k ≡ end.tt → end.r ≡ suc (length (new_numbers device n k))
   counted k new same =
       let up : upto_last end k ≡ Some end.r = ap (λ (b : Bool). cond b (Some end.r) None) (eq-eqb k end.tt same) in
@@ -272,7 +272,7 @@ module _ (g : Geometry) (tracks : List (List ℕ)) (extents : List Run) (lstar :
       ∙ ap (λ (bs : List Block). bs ++ behind_end end (on (k + 1) m)) (new_at k (omega (arith, low)) new).none
       ∙ none_later m (k + 1) (omega (arith, low))
 
-  -- A new directory reads as one of so many blocks, without entries and blocks behind it.
+  -- A new directory reads as one of so many blocks, without entries and blocks after it.
   pub new_part : part_body g tracks extents lstar ≡ Part n end [] []
   unfolding part_body part_tracks
   new_part =

@@ -25,7 +25,7 @@ few_fit D2314 r kl dl fit = omega (arith, leb-true _ _ fit, sum_by-replicate (λ
 few_fit D3330 r kl dl fit = omega (arith, leb-true _ _ fit, sum_by-replicate (λ (l : ℕ × ℕ). record_cost D3330 l.0 l.1) r directory_lengths)
 few_fit D3350 r kl dl fit = omega (arith, leb-true _ _ fit, sum_by-replicate (λ (l : ℕ × ℕ). record_cost D3350 l.0 l.1) r directory_lengths)
 
--- a place behind another is on its track or the next, and its record number is one byte above 0
+-- a place after another is on its track or the next, and its record number is one byte above 0
 record IsBehind (p q : Place) : Type 0 where
   track : p.tt ≤ q.tt
   some : 1 ≤ q.r
@@ -280,7 +280,7 @@ numbers_on device n k = some_pass (λ i. (directory_place device i).tt == k) (k 
       ]
     ]
 
--- the end-of-file record stands right behind the blocks on its track
+-- the end-of-file record stands right after the blocks on its track
 pub end_counts : (device : DiskType) (n : ℕ) → 1 ≤ n → (directory_end device n).r ≡ suc (length (new_numbers device n (directory_end device n).tt))
 unfolding directory_end
 end_counts device n some = by (fits device (replicate p.r directory_lengths) 0 0)

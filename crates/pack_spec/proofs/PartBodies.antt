@@ -306,7 +306,7 @@ module _ (g : Geometry) (a b : List (List ℕ)) (extents : List Run) (lstar : Li
       ∙ ap (part_ended g a owned lstar) (sym ended)
       ∙ is
 
--- the end is the same with more tracks behind, where it stands on one of the first
+-- the end is the same with more tracks after, where it stands on one of the first
 end_front : (g : Geometry) (tracks : List (List ℕ)) (k : ℕ) (ts more : List ℕ) → (end_from g tracks k ts).tt < k + length ts → end_from g tracks k (ts ++ more) ≡ end_from g tracks k ts
 unfolding end_from
 end_front g tracks k [] more low = absurd (omega (arith, low))
@@ -317,7 +317,7 @@ end_front g tracks k (t ∷ ts) more low = by (end_record g tracks t) low (λ h.
     by None low later = later (omega (arith, low))
     by (Some r) low later = refl
 
--- More extents behind the others leave a body that can be read as it is.
+-- More extents after the others leave a body that can be read as it is.
 module _ (g : Geometry) (tracks : List (List ℕ)) (extents more : List Run) (lstar : List ℕ) (n : ℕ) (end : Place) (es : List Entry) (bs : List Block)
     (is : part_body g tracks extents lstar ≡ Part n end es bs) where
   abbrev last : Place

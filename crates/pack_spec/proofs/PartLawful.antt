@@ -26,7 +26,7 @@ use Rattle.pack_spec.proofs.DirectoryEntries.{IsLawfulDirectory, lawful_director
 use Rattle.pack_spec.proofs.PartBodies.{IsPart, IsPast, IsRead, part_end, part_is, part_or_unread, part_read, part_within, read_past_end}
 use Rattle.pack_spec.proofs.SeqBodies.{AreBehind, IsReady, few_records, length-owned, on_track, one_track}
 
--- ---- the blocks of a track behind the directory's end
+-- ---- the blocks of a track after the directory's end
 
 -- a record that isn't before the directory's end can be a block
 pub stand_blocks : (end : Place) (k r : ℕ) (xs : List Record) → ((q : ℕ) → r ≤ q → is_before (record { tt = k; r = q }) end ≡ false) → list_all (may_stand end k) (enumerate_from r xs) ≡ true → list_all is_block xs ≡ true
@@ -36,7 +36,7 @@ stand_blocks end k r (x ∷ xs) past are =
     let one : is_block x ≡ true = sym (ap (λ (b : Bool). cond b (is_directory_record x) (is_block x)) (past r (omega arith))) ∙ parts.0 in
     ap (λ (b : Bool). b && list_all is_block xs) one ∙ stand_blocks end k (r + 1) xs (λ q low. past q (omega (arith, low))) parts.1
 
--- all blocks of a later track stand behind it, and none of an earlier one
+-- all blocks of a later track stand after it, and none of an earlier one
 pub all_behind : (end : Place) (k r : ℕ) (xs : List Record) → ((q : ℕ) → r ≤ q → is_before end (record { tt = k; r = q }) ≡ true) → behind_end end (blocks_from k r xs) ≡ blocks_from k r xs
 all_behind end k r [] past = refl
 all_behind end k r (x ∷ xs) past =
@@ -157,7 +157,7 @@ module _ (g : Geometry) (tracks : List (List ℕ)) (owned : List ℕ) (end to : 
   short : (k : ℕ) (read : IsRead g tracks owned end to k) → length read.xs ≤ 255
   short k read = few_records g tracks to k read.track read.xs number read.records
 
-  -- those behind the directory's end
+  -- those after the directory's end
   split : (k n : ℕ) (read : IsRead g tracks owned end to k) → behind_end end (on k (suc n)) ≡ behind_end end (blocks_from k 1 read.xs) ++ behind_end end (on (k + 1) n)
   split k n read = filter-append (λ (b : Block). is_before end b.place) (at k) (on (k + 1) n) ∙ ap (λ (bs : List Block). behind_end end bs ++ behind_end end (on (k + 1) n)) (is_at k read)
 

@@ -46,11 +46,11 @@ few_records g tracks last k track xs low e = by (k == last.tt) e
     by true e = omega (arith, low, length-records_up_to last.r 1 (drop 21 (slice_index_or tracks track [])) xs (taken (is_front (track / heads_of g) (track % heads_of g) (slice_index_or tracks track [])) _ xs e))
     by false e = length-records_to_end 255 1 (drop 21 (slice_index_or tracks track [])) xs (taken (is_front (track / heads_of g) (track % heads_of g) (slice_index_or tracks track [])) _ xs e)
 
--- the first block on each track from this on may stand behind a place
+-- the first block on each track from this on may stand after a place
 abbrev pub IsReady : Place → ℕ → Type 0
 IsReady p k = (j : ℕ) → k ≤ j → is_next p (record { tt = j; r = 1 }) ≡ true
 
--- blocks on tracks from this on, behind any place that is ready
+-- blocks on tracks from this on, after any place that is ready
 abbrev pub AreBehind : ℕ → ℕ → List Block → Type 0
 AreBehind total k bs = ((p : Place) → IsReady p k → FollowFrom total p bs) × AllByRecursion IsLawfulBlock bs
 

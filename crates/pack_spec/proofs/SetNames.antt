@@ -107,7 +107,7 @@ module _ (slots : List VtocSlot) where
       let named : (is_named h.name s.content || false) ≡ false = (neither (list_any (λ u. is_named h.name u.content) front) _ (sym (list_any-append (λ u. is_named h.name u.content) front (s ∷ [])) ∙ apart h is)).1 in
       sym (named_set s.content f h.name here) ∙ (neither (is_named h.name s.content) false named).0
 
-  -- the slots behind those in front, where none has a name that stands before
+  -- the slots after those in front, where none has a name that stands before
   names_behind : (front rest : List VtocSlot) → slots ≡ front ++ rest → slice_get (filter_map (λ p. name_fault slots p.0 p.1) (enumerate_from (length front) rest)) 0 ≡ None
       → AllByRecursion (Apart front) rest × IsDistinct same_name (sets_among rest)
   unfolding IsDistinct

@@ -9,13 +9,13 @@ use Rattle.pack_spec.specs.declared.address.Address.{Address}
 use Rattle.pack_spec.specs.Label.{vol1}
 use Rattle.pack_spec.specs.Written.{label_bytes, slot_record}
 
--- bytes put behind those that stand already, over equal ones
+-- bytes put after those that stand already, over equal ones
 put_behind : (x n k m : ℕ) (front ys : List ℕ) → length front ≡ n → put_mid n k (front ++ replicate m x) ys ≡ (front ++ ys) ++ replicate (m - k) x
 put_behind x n k m front ys e =
     let behind : post_of n k (front ++ replicate m x) ≡ replicate (m - k) x = ap (drop k) (drop_at front (replicate m x) n e) ∙ drop-replicate k m x in
     ap₂ (λ (xs zs : List ℕ). xs ++ (ys ++ zs)) (take_at front (replicate m x) n e) behind ∙ sym (append_assoc front ys (replicate (m - k) x))
 
--- three parts, each put behind the other over blanks
+-- three parts, each put after the other over blanks
 pub laid : (a s z : List ℕ) → length a ≡ 4 → length s ≡ 6 → put_mid 10 6 (put_mid 4 6 (a ++ drop 4 (replicate 80 0x40)) s) z ≡ a ++ (s ++ (z ++ replicate 64 0x40))
 laid a s z la ls =
     let two : length (a ++ s) ≡ 10 = length-append a s ∙ omega arith in
@@ -36,7 +36,7 @@ label_laid a s z c h serial vtoc text number six cc hh last =
     ∙ (ap (λ (xs : List ℕ). vol1 ++ (serial ++ (xs ++ blanks))) last
     ∙ ap₂ (λ (x y : List ℕ). vol1 ++ (serial ++ (0 ∷ slice_index_or x 0 0 ∷ slice_index_or x 1 0 ∷ slice_index_or y 0 0 ∷ slice_index_or y 1 0 ∷ 1 ∷ blanks))) cc hh)))
 
--- three records, each behind the other
+-- three records, each after the other
 pub three_written : (front b c d : List ℕ) (x y z : Record) → b ≡ front ++ record_bytes 1 x → c ≡ b ++ record_bytes 2 y → d ≡ c ++ record_bytes 3 z → d ≡ front ++ records_bytes 1 (x ∷ y ∷ z ∷ [])
 three_written front b c d x y z e f g =
     g
@@ -54,7 +54,7 @@ records_bytes-push r n (x ∷ xs) y e =
     let next : n ≡ suc r + length xs = omega arith in
     ap (λ (bs : List ℕ). record_bytes r x ++ bs) (records_bytes-push (suc r) n xs y next) ∙ sym (append_assoc (record_bytes r x) (records_bytes (suc r) xs) (record_bytes n y))
 
--- the bytes are the front of a track with the first i slots behind it
+-- the bytes are the front of a track with the first i slots after it
 pub record SlotsWritten (at : Address) (slots : List (List ℕ)) (i : ℕ) (bytes : List ℕ) : Type 0 where
   pub parts : bytes ≡ front_bytes at.cylinder at.head ++ records_bytes 1 (map (slot_record at) (take i slots))
   pub size : length (records_bytes 1 (map (slot_record at) (take i slots))) ≡ 148 * i

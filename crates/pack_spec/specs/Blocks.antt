@@ -23,7 +23,7 @@ data_track image g vtoc track = if is_in track vtoc then [] else track_bytes ima
 unfoldable pub data_tracks : List ℕ → Geometry → Run → List (List ℕ)
 data_tracks image g vtoc = map (data_track image g vtoc) (range_with_len 0 (tracks_of g))
 
--- the records behind R0 of one of these tracks, to its end marker or up to a record; nothing where it breaks the grammar
+-- the records after R0 of one of these tracks, to its end marker or up to a record; nothing where it breaks the grammar
 unfoldable pub records_in : Geometry → List (List ℕ) → Option ℕ → ℕ → Option (List Record)
 records_in g tracks upto track = records_of (track / heads_of g) (track % heads_of g) upto
     (slice_index_or tracks track [])

@@ -1,4 +1,4 @@
--- The body of a partitioned data set: its directory, and behind that the blocks of its members (System Control Blocks GC28-6628; which bodies can't be read: this project's profile).
+-- The body of a partitioned data set: its directory, and after that the blocks of its members (System Control Blocks GC28-6628; which bodies can't be read: this project's profile).
 use Rattle.std.specs.Prelude.{ℕ, zero, suc, ◌+◌, ◌*◌, ◌%◌, ◌==◌, ◌&&◌, min, nat_le, nat_lt, Bool, true, false, List, [], ◌∷◌, ◌++◌, length, map, take, drop, replicate, position, is_none, Option, Some, None, option_and_then, option_map, unwrap_or, slice_get, slice_index, slice_range, if◌then◌else◌}
 use Rattle.std.specs.List.{enumerate_from, filter, find, flat_map, list_all, list_any, range_with_len}
 use Rattle.std.specs.Option.{option_map_or}
@@ -99,7 +99,7 @@ is_directory_record x = length x.key == 8 && length x.data == 256
 abbrev pub has_end_by : Geometry → List (List ℕ) → ℕ → ℕ → Bool
 has_end_by g tracks track r = option_map_or (list_any is_end_record) (records_in g tracks (Some r) track) false
 
--- R of the records that may stand behind R0
+-- R of the records that may stand after R0
 unfoldable pub record_numbers : List ℕ
 record_numbers = range_with_len 1 255
 
@@ -112,12 +112,12 @@ abbrev pub end_or : ℕ → Place → Option ℕ → Place
 end_or k later None = later
 end_or k later (Some r) = record { tt = k; r = r }
 
--- the place of the first end-of-file record of tracks, the first of which is relative track k; where they have none, behind them
+-- the place of the first end-of-file record of tracks, the first of which is relative track k; where they have none, after them
 unfoldable pub end_from : Geometry → List (List ℕ) → ℕ → List ℕ → Place
 end_from g tracks k [] = record { tt = k; r = 0 }
 end_from g tracks k (t ∷ ts) = end_or k (end_from g tracks (k + 1) ts) (end_record g tracks t)
 
--- the place up to which a set is read: that of the last block, if this stands behind the directory's end, and else that end
+-- the place up to which a set is read: that of the last block, if this stands after the directory's end, and else that end
 abbrev pub read_to : Place → List ℕ → Place
 read_to end lstar = if is_before end (last_of lstar) then last_of lstar else end
 
@@ -147,11 +147,11 @@ part_tracks g tracks owned end to = map (part_at g tracks owned end to) (range_w
 abbrev pub before_end : Place → List Block → List Block
 before_end end blocks = filter (λ (b : Block). is_before b.place end) blocks
 
--- of blocks those of the members, which stand behind it
+-- of blocks those of the members, which stand after it
 abbrev pub behind_end : Place → List Block → List Block
 behind_end end blocks = filter (λ (b : Block). is_before end b.place) blocks
 
--- the relative track that breaks a directory, by what a block on this track holds and the blocks behind it
+-- the relative track that breaks a directory, by what a block on this track holds and the blocks after it
 abbrev pub break_from : ℕ → Option ℕ → Option (Stored Entry) → Option ℕ
 break_from track later None = Some track
 break_from track later (Some b) = if b.ends then None else later
@@ -190,7 +190,7 @@ part_of end tracks = part_with end (position (λ o. is_none o) tracks) (flat_map
 abbrev pub part_ended : Geometry → List (List ℕ) → List ℕ → List ℕ → Place → Body
 part_ended g tracks owned lstar end = part_of end (part_tracks g tracks owned end (read_to end lstar))
 
--- the body of a partitioned data set with these extents and this LSTAR: a directory up to the first end-of-file record, and the blocks behind it up to the last
+-- the body of a partitioned data set with these extents and this LSTAR: a directory up to the first end-of-file record, and the blocks after it up to the last
 unfoldable pub part_body : Geometry → List (List ℕ) → List Run → List ℕ → Body
 part_body g tracks extents lstar = part_ended g tracks (owned_tracks extents) lstar (end_from g tracks 0 (owned_tracks extents))
 

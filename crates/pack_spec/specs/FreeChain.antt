@@ -59,7 +59,7 @@ abbrev pub HasSpace : List VtocSlot → ℕ → List (List ℕ) → List ℕ →
 HasSpace slots k entries pointer = (s : VtocSlot) × (slice_get slots k ≡ Some s)
     × IsSpace entries pointer s.content
 
--- a chain from this slot on has these entries, DSCB by DSCB: each leads to the lowest free slot behind it, and the last to none
+-- a chain from this slot on has these entries, DSCB by DSCB: each leads to the lowest free slot after it, and the last to none
 abbrev pub IsChain : List VtocSlot → ℕ → List (List (List ℕ)) → Type 0
 IsChain slots k [] = ⊥
 IsChain slots k (entries ∷ []) = HasSpace slots k entries (replicate 5 0)

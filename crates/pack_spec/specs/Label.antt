@@ -20,7 +20,7 @@ tracks_of g = g.cylinders * heads_of g
 unfoldable pub track_bytes : List ℕ → Geometry → ℕ → List ℕ
 track_bytes image g track = take g.track_size (drop (512 + track * g.track_size) image)
 
--- the records behind R0 of a track, to its end marker or up to a record; nothing where it breaks the grammar
+-- the records after R0 of a track, to its end marker or up to a record; nothing where it breaks the grammar
 unfoldable pub records_on : List ℕ → Geometry → Option ℕ → ℕ → Option (List Record)
 records_on image g upto track = records_of (track / heads_of g) (track % heads_of g) upto
     (track_bytes image g track)

@@ -20,7 +20,7 @@ use Rattle.pack_spec.specs.declared.address.Address.{Address}
 use Rattle.pack_spec.specs.Label.{heads_of, tracks_of}
 use Rattle.pack_spec.specs.Written.{label_records, slot_record}
 
--- A new pack may have this geometry and so many VTOC tracks: its primary cylinders or fewer, the track size that is written, and a track behind the VTOC or none.
+-- A new pack may have this geometry and so many VTOC tracks: its primary cylinders or fewer, the track size that is written, and a track after the VTOC or none.
 pub record IsNewPack (g : Geometry) (tracks : ℕ) : Type 0 where
   pub some : 1 ≤ g.cylinders
   pub primary : g.cylinders ≤ (row_of g.device).primary_cylinders
@@ -37,7 +37,7 @@ new_vtoc tracks = record { start = 1; len = tracks }
 abbrev pub new_slots : Geometry → ℕ → ℕ
 new_slots g tracks = tracks * (row_of g.device).dscbs_per_track
 
--- the free tracks, which are all tracks behind the VTOC
+-- the free tracks, which are all tracks after the VTOC
 abbrev pub new_space : Geometry → ℕ → Run
 new_space g tracks = record { start = tracks + 1; len = tracks_of g - (tracks + 1) }
 
@@ -151,7 +151,7 @@ slots_of_track g slot_0 slot_1 track =
     then slot_0 ∷ slot_1 ∷ replicate ((row_of g.device).dscbs_per_track - 2) free_slot
     else replicate (row_of g.device).dscbs_per_track free_slot
 
--- the records behind R0 of a track: the label on track 0, slots on those of the VTOC, and none on any other
+-- the records after R0 of a track: the label on track 0, slots on those of the VTOC, and none on any other
 abbrev pub new_records : Geometry → List ℕ → ℕ → List ℕ → List ℕ → ℕ → List Record
 new_records g serial tracks slot_0 slot_1 track =
     if track == 0 then label_records serial (address_of g 1)
@@ -159,7 +159,7 @@ new_records g serial tracks slot_0 slot_1 track =
     then map (slot_record (address_of g track)) (slots_of_track g slot_0 slot_1 track)
     else [])
 
--- the bytes of a track, in which zeros stand behind the end marker
+-- the bytes of a track, in which zeros stand after the end marker
 unfoldable pub new_track_at : Geometry → List ℕ → ℕ → List ℕ → List ℕ → ℕ → List ℕ
 new_track_at g serial tracks slot_0 slot_1 track =
     new_track (track / heads_of g) (track % heads_of g)

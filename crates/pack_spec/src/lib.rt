@@ -44,7 +44,7 @@ pub enum MountErr {
     NoFormat4,
     /// Slot 1 is neither of format 5 nor of format 0, or isn't there.
     NoFormat5,
-    /// A slot of no known format, or a format 4 behind slot 0. A zero format byte is format 0 where
+    /// A slot of no known format, or a format 4 after slot 0. A zero format byte is format 0 where
     /// each byte of the slot is zero.
     BadDscb {
         /// The slot, counted from 0 over the VTOC, below 65,535.

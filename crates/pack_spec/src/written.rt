@@ -14,7 +14,7 @@ use std::alloc::{AllocError, Global};
 // A blank in EBCDIC.
 const BLANK: u8 = 0x40;
 
-// Where the label has its security byte, behind the serial and before the address of the VTOC.
+// Where the label has its security byte, after the serial and before the address of the VTOC.
 const SECURITY_AT: usize = 10;
 
 // The security byte of a volume that isn't protected.

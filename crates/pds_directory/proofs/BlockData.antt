@@ -14,7 +14,7 @@ use Rattle.pds_directory.proofs.ReadBack.{length_spelled}
 abbrev pub zeros : List ℕ
 zeros = replicate 256 0
 
--- Entries stand behind the count, up to this offset.
+-- Entries stand after the count, up to this offset.
 pub record AreBehindCount (entries : List Entry) (last : Bool) (at : ℕ) (now : List ℕ) : Type 0 where
   pub offset : at ≡ 2 + total entry_size entries + cond last 12 0
   pub put : IsPut 2 (spelled entries last) zeros now
@@ -27,7 +27,7 @@ without_end es at now fit sized offset bytes =
     let put : IsPut 2 (bytes_of es) zeros now = record { fits = omega (arith, fit, long); bytes = bytes ∙ ap (λ (n : ℕ). take 2 zeros ++ bytes_of es ++ drop (2 + n) zeros) (sym long) } in
     record { offset = omega (arith, offset); put = subst (λ (bs : List ℕ). IsPut 2 bs zeros now) (sym (append-nil (bytes_of es))) put }
 
--- and with the end entry behind them
+-- and with the end entry after them
 pub with_end : (es : List Entry) (at behind : ℕ) (old now : List ℕ) → total entry_size es + 12 ≤ 254 → AreSized es → at ≡ 2 + total entry_size es → old ≡ take 2 zeros ++ bytes_of es ++ drop (2 + total entry_size es) zeros
     → length old ≡ 256 → behind ≡ at + 12 → now ≡ take at old ++ end_entry_bytes ++ drop (at + 12) old → AreBehindCount es true behind now
 unfolding spelled

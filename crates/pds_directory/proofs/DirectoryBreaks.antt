@@ -10,7 +10,7 @@ use Rattle.vol_model.specs.declared.contents.Entry.{Entry}
 use Rattle.pack_spec.specs.Directories.{break_from, directory_break, stored_in}
 use Rattle.pds_directory.specs.Reading.{HoldEntries, open_block}
 
--- blocks stand on this relative track or behind it
+-- blocks stand on this relative track or after it
 abbrev pub StandPast : ℕ → List Block → Type 0
 StandPast k bs = AllByRecursion (λ (b : Block). k ≤ b.place.tt) bs
 
@@ -35,7 +35,7 @@ break_open last (b ∷ bs) (e ∷ es) more are =
     let rest : map stored_in bs ≡ map open_block es = cc in
     ap (break_from b.place.tt (directory_break last (bs ++ more))) here ∙ break_open last bs es more rest
 
--- behind one that ends it nothing does
+-- after one that ends it nothing does
 break_ended : (last : ℕ) (bs : List Block) (es : List (List Entry)) (behind : List (Option (Stored Entry))) (more : List Block) → 1 ≤ length es → map stored_in bs ≡ stored es ++ behind → directory_break last (bs ++ more) ≡ None
 break_ended last bs [] behind more some are = absurd (omega (arith, some))
 break_ended last [] (e ∷ []) behind more some are = cc
@@ -48,7 +48,7 @@ break_ended last (b ∷ bs) (e ∷ d ∷ ds) behind more some are =
     let rest : map stored_in bs ≡ stored (d ∷ ds) ++ behind = cc in
     ap (break_from b.place.tt (directory_break last (bs ++ more))) here ∙ break_ended last bs (d ∷ ds) behind more (omega arith) rest
 
--- so the blocks behind those that were read break it on their tracks
+-- so the blocks after those that were read break it on their tracks
 pub break_read : (ended : Bool) (bs : List Block) (es : List (List Entry)) → HoldEntries ended bs es → (k last : ℕ) (more : List Block) → k ≤ last → StandPast k more → (j : ℕ) → directory_break last (bs ++ more) ≡ Some j → k ≤ j
 break_read false bs es hold k last more low past j is = break_late k last more low past j (sym (break_open last bs es more hold) ∙ is)
 break_read true bs es hold k last more low past j is = let none = break_ended last bs es hold.1 more hold.0 hold.2 in cc

@@ -127,7 +127,7 @@ take_more n [] x is = cc
 take_more zero (y ∷ xs) x is = let same : y ≡ x = cc in let one : zero + 1 ≡ suc zero = omega arith in ap (λ (k : ℕ). take k (y ∷ xs)) one ∙ ap (λ (z : Record). z ∷ []) same
 take_more (suc n) (y ∷ xs) x is = let next : suc n + 1 ≡ suc (n + 1) = omega arith in ap (λ (k : ℕ). take k (y ∷ xs)) next ∙ ap (λ (zs : List Record). y ∷ zs) (take_more n xs x is)
 
--- the first records, one of them and those behind it
+-- the first records, one of them and those after it
 taken_at : (n m : ℕ) (xs : List Record) (x : Record) → n < m → slice_get xs n ≡ Some x → (rest : List Record) × (take m xs ≡ take n xs ++ x ∷ rest)
 taken_at n m [] x low is = cc
 taken_at n zero (y ∷ xs) x low is = absurd (omega (arith, low))
@@ -140,7 +140,7 @@ blocks_both k r (x ∷ xs) ys =
     let same : r + 1 + length xs ≡ r + suc (length xs) = omega arith in
     ap (λ (bs : List Block). block_at k r x ∷ bs) (blocks_both k (r + 1) xs ys ∙ ap (λ (n : ℕ). blocks_from k (r + 1) xs ++ blocks_from k n ys) same)
 
--- So many of these records on a relative track were read behind those of the tracks before.
+-- So many of these records on a relative track were read after those of the tracks before.
 pub record AreTaken (k n : ℕ) (records : List Record) (old new : Reading) : Type 0 where
   pub lengths : list_all is_directory_record (take n records) ≡ true
   pub read : (directory : List Block) → AreReadSoFar directory old → AreReadSoFar (directory ++ blocks_from k 1 (take n records)) new

@@ -1,4 +1,4 @@
--- The bytes of entries, put into a block one behind the other.
+-- The bytes of entries, put into a block one after the other.
 use Rattle.std.proofs.Common.{◌≡◌, ◌+◌, ◌≤◌, ◌<◌, ℕ, List, [], ◌∷◌, ◌++◌, length, map, take, drop, get_or, refl, sym, ap, subst, ◌∙◌, arith, append_assoc, length-append}
 use Rattle.std.specs.Int.{w16, to_be_bytes}
 use Rattle.std.specs.List.{concat}
@@ -14,7 +14,7 @@ pub record IsPut (at : ℕ) (part old new : List ℕ) : Type 0 where
   pub fits : at + length part ≤ length old
   pub bytes : new ≡ take at old ++ part ++ drop (at + length part) old
 
--- two parts, one behind the other, are one part
+-- two parts, one after the other, are one part
 pub put_behind : {at n : ℕ} {p q old mid new : List ℕ} → IsPut at p old mid → n ≡ at + length p → IsPut n q mid new → at + length p + length q ≤ length old → IsPut at (p ++ q) old new
 put_behind {at = at} {n = n} {p = p} {q = q} {old = old} {mid = mid} {new = new} first behind second fits =
     let front : length (take at old ++ p) ≡ n = omega (arith, behind, first.fits, length-append (take at old) p, length-take-le at old (omega (arith, first.fits))) in

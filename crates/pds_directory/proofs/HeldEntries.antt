@@ -46,7 +46,7 @@ front_held bytes are some other low = record {
   named = record { eight = omega (arith, some, length-take 8 bytes); bytes = take_bytes 8 bytes are };
 }
 
--- fewer bytes than this number, those behind the entry at the front, hold what is read of them
+-- fewer bytes than this number, those after the entry at the front, hold what is read of them
 abbrev HoldBehind : ℕ → List ℕ → Type 0
 HoldBehind n bytes = (c : Stored Entry) → length (drop (front_length bytes) bytes) < n → read (drop (front_length bytes) bytes) ≡ Some c → IsHeld (length (drop (front_length bytes) bytes)) c
 

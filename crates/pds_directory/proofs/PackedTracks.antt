@@ -151,7 +151,7 @@ module _ {X : Type 0} (P : X → Type 0) where
 each_in_order : (P : DataSet → Type 0) (sets : List DataSet) → Each P sets → Each P (in_order sets)
 each_in_order P sets each = each_from P (in_order sets) (recursion_from_All P (in_order sets) (All-permutation P sets (in_order sets) (in_order-permutation sets) (All-from_recursion P sets (each_to P sets each))))
 
--- The directory of a data set is that of one of these: it ends at the same place, and stands on the same tracks, with more behind them or not.
+-- The directory of a data set is that of one of these: it ends at the same place, and stands on the same tracks, with more after them or not.
 pub record ComesFrom (sets : List DataSet) (y : DataSet) : Type 0 where
   pub number : ℕ
   pub set : DataSet
@@ -355,7 +355,7 @@ empty_keeps dsn attr w w' is =
     let same : after ≡ w' = cc in
     subst (KeepsDirectories w) same (set_keeps w dsn.bytes (emptied attr) (λ y. record { ends = empty_ends y.body; more = []; extents = sym (append-nil y.extents) }))
 
--- blocks behind those of a set
+-- blocks after those of a set
 blocks_ends : (body : Body) (bs : List Block) → end_by (with_blocks body bs) ≡ end_by body
 blocks_ends (bodies.Part dir end entries blocks) bs = refl
 blocks_ends (bodies.Seq blocks) bs = refl
@@ -547,7 +547,7 @@ module _ (g : Geometry) (tracks : List (List ℕ)) (owned : List ℕ) (device : 
   abbrev new_end : Place
   new_end = directory_end device n
 
-  -- the records of its first track are blocks of it, with the end-of-file record behind them or not
+  -- the records of its first track are blocks of it, with the end-of-file record after them or not
   first_blocks : (new : IsNewOn g tracks owned device n 0) → IsNewFrom new_end 0 1 new.xs (new_numbers device n 0)
   first_blocks new = new_from new_end 0 (new_end.tt == 0) (new_numbers device n 0) new.xs 1 new.holds before at
     where

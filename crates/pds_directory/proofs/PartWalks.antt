@@ -74,7 +74,7 @@ module _ (f : Tracks) (n : ℕ) where
         | inr w ↦ let at = is_first i is in absurd (at.2 k (omega (arith, w.1)) none)
       ]
 
--- the lower of two tracks that are this one or stand behind it, of which one is
+-- the lower of two tracks that are this one or stand after it, of which one is
 pub lower_is : (k : ℕ) (a b : Option ℕ) → ((j : ℕ) → a ≡ Some j → k ≤ j) → ((j : ℕ) → b ≡ Some j → k ≤ j) → (a ≡ Some k) ⊎ (b ≡ Some k) → lower_of a b ≡ Some k
 lower_is k None b first second (inl is) = cc
 lower_is k None b first second (inr is) = is
@@ -185,7 +185,7 @@ module _ (g : Geometry) (tracks : List (List ℕ)) (owned : List ℕ) (end to : 
 
   -- the first tracks are before the end
   module _ (k : ℕ) (low : k ≤ end.tt) (past : end.tt ≤ to.tt) where
-    -- the directory's blocks on the tracks behind them
+    -- the directory's blocks on the tracks after them
     abbrev pub behind : List Block
     behind = before_end end (blocks_on k (to.tt + 1 - k))
 
@@ -209,7 +209,7 @@ module _ (g : Geometry) (tracks : List (List ℕ)) (owned : List ℕ) (end to : 
         ap (λ (m : ℕ). before_end end (blocks_on k m)) count
         ∙ filter-append (λ (b : Block). is_before b.place end) (unwrap_or (at k) []) (blocks_on (k + 1) (to.tt - k))
 
-    -- none stands behind the track of the end
+    -- none stands after the track of the end
     pub behind_last : end.tt ≡ k → before_end end (blocks_on (k + 1) (to.tt - k)) ≡ []
     behind_last is = none_stands end (blocks_on (k + 1) (to.tt - k)) (all_weaker _ (λ (b : Block). end.tt < b.place.tt) (λ b on. omega (arith, is, on.0)) (blocks_on (k + 1) (to.tt - k)) (stand_on (to.tt - k) (k + 1)))
 

@@ -40,11 +40,11 @@ front_back (a ∷ b ∷ c ∷ d ∷ e ∷ f ∷ g ∷ h ∷ []) track r flags us
     ∙ ap (λ (xs : List ℕ). option_map (with_front (entry_with name track r flags user)) (read xs)) later
 front_back _ track r flags user rest eight small long other = absurd (omega (arith, eight))
 
--- the bytes behind the entries
+-- the bytes after the entries
 abbrev tail : Bool → List ℕ
 tail last = cond last end_entry_bytes []
 
--- entries are read back, and whether the end entry stands behind them
+-- entries are read back, and whether the end entry stands after them
 back : (es : List Entry) (last : Bool) → AllByRecursion IsLawfulEntry es → AreSized es → read (bytes_of es ++ tail last) ≡ Some (record { entries = es; ends = last })
 back [] true lawful sized = read_end end_entry_bytes (omega arith) refl
 back [] false lawful sized = read_none [] refl

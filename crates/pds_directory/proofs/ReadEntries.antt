@@ -12,7 +12,7 @@ use Rattle.pack_spec.specs.Directories.{end_name, entries_from, front_entry, fro
 abbrev pub read : List ℕ → Option (Stored Entry)
 read bytes = entries_from (length bytes) bytes
 
--- what bytes hold whose first entry has a length that they have room for, with this behind it
+-- what bytes hold whose first entry has a length that they have room for, with this after it
 abbrev if_long : List ℕ → Option (Stored Entry) → Option (Stored Entry)
 if_long bytes o = cond (nat_lt (length bytes) (front_length bytes)) None (option_map (with_front (front_entry bytes)) o)
 
@@ -39,7 +39,7 @@ enough (suc n) zero (x ∷ xs) first second = absurd (omega (arith, second))
 enough (suc n) (suc m) bytes first second =
     ap (by_front bytes) (enough n m (drop (front_length bytes) bytes) (omega (arith, first, length-drop (front_length bytes) bytes)) (omega (arith, second, length-drop (front_length bytes) bytes)))
 
--- the entry at the front is read, and what is behind it
+-- the entry at the front is read, and what is after it
 one : (bytes : List ℕ) → 1 ≤ length bytes → read bytes ≡ if_some bytes (read (drop (front_length bytes) bytes))
 unfolding entries_from
 one [] some = absurd (omega (arith, some))
@@ -89,7 +89,7 @@ read_broken bytes some (inr w) =
     both true x = refl
     both false x = refl
 
--- a block's entries behind others
+-- a block's entries after others
 abbrev pub behind : List Entry → Stored Entry → Stored Entry
 behind done b = record { entries = done ++ b.entries; ends = b.ends }
 

@@ -49,7 +49,7 @@ module _ (image : List ℕ) (v : Vol) (f : F1) (part : IsPartIn image v f) (k : 
   abbrev front : List Block
   front = front_in image v f k
 
-  -- the directory's end isn't behind the last block that is read
+  -- the directory's end isn't after the last block that is read
   end_past : IsPast end to
   end_past = past v.geometry data_bytes owned f.lstar
 
@@ -79,7 +79,7 @@ module _ (image : List ℕ) (v : Vol) (f : F1) (part : IsPartIn image v f) (k : 
       abbrev records : List Record
       records = take reached.before xs
 
-      -- the directory's blocks on the tracks behind it
+      -- the directory's blocks on the tracks after it
       abbrev rest : List Block
       rest = before_end end (blocks_on v.geometry data_bytes owned end to (k + 1) (to.tt - k))
 
@@ -108,7 +108,7 @@ module _ (image : List ℕ) (v : Vol) (f : F1) (part : IsPartIn image v f) (k : 
           ∙ ap (λ (o : Option (List Block)). front ++ (unwrap_or o [] ++ [])) some
           ∙ ap (λ (more : List Block). front ++ more) (append-nil bs)
 
-      -- it was read, and the end stands behind it
+      -- it was read, and the end stands after it
       passed : (new : Reading) → reached.ended ≡ false → list_all is_directory_record records ≡ true → AreReadSoFar (front ++ blocks_from k 1 records) new → IsReadBefore image v f (k + 1) new
       passed new open_track lengths so_far =
           let here = whole_here v.geometry data_bytes owned f.lstar k t (sym there) before.end xs reached is open_track lengths in

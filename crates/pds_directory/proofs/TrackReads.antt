@@ -136,7 +136,7 @@ module _ (g : Geometry) (tracks : List (List ℕ)) (owned lstar : List ℕ) wher
   none_owned k is = ap (option_and_then (part_on g tracks end to k)) is
 
   module _ (k t : ℕ) (there : slice_get owned k ≡ Some t) (low : k ≤ end.tt) where
-    -- the end stands behind a track that has none
+    -- the end stands after a track that has none
     end_later : end_record g tracks t ≡ None → k < end.tt
     end_later none = elim (leb_tells end.tt k) [
       | inl w ↦ let some = end_stands g tracks 0 owned k t there (omega (arith, w.1, low)) in cc
@@ -241,7 +241,7 @@ module _ (g : Geometry) (tracks : List (List ℕ)) (owned lstar : List ℕ) wher
       pub before_here : (bs : List Block) → here k ≡ Some bs → before_end end bs ≡ blocks_from k 1 front
       before_here bs is = let on = known bs is in ap (before_end end) on.1 ∙ on.2.stand
 
-      -- and all its blocks are, where the end stands behind it
+      -- and all its blocks are, where the end stands after it
       pub whole_here : r.ended ≡ false → list_all is_directory_record front ≡ true → (k < end.tt) × (here k ≡ Some (blocks_from k 1 front))
       whole_here is all =
           let less : k < end.tt = end_later (reached.end ∙ ap (λ (c : Bool). cond c (Some (r.before + 1)) None) is) in
@@ -253,7 +253,7 @@ module _ (g : Geometry) (tracks : List (List ℕ)) (owned lstar : List ℕ) wher
       pub ends_here : r.ended ≡ true → end.tt ≡ k
       ends_here is = let at_end = end_here (r.before + 1) (reached.end ∙ ap (λ (c : Bool). cond c (Some (r.before + 1)) None) is) in at_end.0
 
-      -- its place is known where it was met, and else it stands behind the track
+      -- its place is known where it was met, and else it stands after the track
       pub seeks_on : (o : Option Place) → o ≡ end_on k r → SeeksOn end k o
       seeks_on o is = by r.ended refl o is
         where

@@ -35,7 +35,7 @@ pub record IsPartIn (image : List ℕ) (v : Vol) (f : F1) : Type 0 where
 abbrev pub part_in : List ℕ → Vol → F1 → Body
 part_in image v f = part_body v.geometry (data_in image v) (extents_in image v f) f.lstar
 
--- the place of its directory's end-of-file record; where there is none, behind its tracks
+-- the place of its directory's end-of-file record; where there is none, after its tracks
 abbrev pub end_in : List ℕ → Vol → F1 → Place
 end_in image v f = end_from v.geometry (data_in image v) 0 (owned_in image v f)
 

@@ -38,7 +38,7 @@ reached_in r records = take (if r.ended then (r.before + 1) else r.before) recor
 abbrev pub end_on : ℕ → Reached → Option Place
 end_on k r = if r.ended then Some (record { tt = k; r = r.before + 1 }) else None
 
--- the place of a directory's end is given where it stands on this relative track; else it stands behind that
+-- the place of a directory's end is given where it stands on this relative track; else it stands after that
 abbrev pub SeeksOn : Place → ℕ → Option Place → Type 0
 SeeksOn end k (Some place) = place ≡ end
 SeeksOn end k None = k < end.tt
@@ -97,7 +97,7 @@ dir_walked (Err e) = Err e
 abbrev pub front_in : List ℕ → Vol → F1 → ℕ → List Block
 front_in image v f k = flat_map (λ o. unwrap_or o []) (map (at_in image v f) (range_with_len 0 k))
 
--- The first relative tracks of a directory were read, so many; its end is behind them, and none of them breaks the body.
+-- The first relative tracks of a directory were read, so many; its end is after them, and none of them breaks the body.
 pub record IsReadBefore (image : List ℕ) (v : Vol) (f : F1) (k : ℕ) (r : Reading) : Type 0 where
   pub end : k ≤ (end_in image v f).tt
   pub whole : (j : ℕ) → j < k → at_in image v f j ≢ None
@@ -132,7 +132,7 @@ pub record IsLawfulReading (most : ℕ) (r : Reading) : Type 0 where
   pub fit : FitSoFar r.ended (entries_read r.dir)
   pub places : AllByRecursion IsOfRecord r.dir.places.items
 
--- The entries of a directory block were read behind those of others.
+-- The entries of a directory block were read after those of others.
 pub record AddsEntries (block : Option (Stored Entry)) (old new : Reading) : Type 0 where
   pub stored : Stored Entry
   pub reads : block ≡ Some stored
@@ -140,7 +140,7 @@ pub record AddsEntries (block : Option (Stored Entry)) (old new : Reading) : Typ
   pub ended : new.ended ≡ stored.ends
   pub entries : entries_read new.dir ≡ entries_read old.dir ++ stored.entries ∷ []
 
--- a directory block on a relative track, which holds this, is read behind others, or breaks the format
+-- a directory block on a relative track, which holds this, is read after others, or breaks the format
 abbrev pub AddsBlock : Result (Unit {0}) ReadErr → ℕ → Option (Stored Entry) → Reading → Reading → Type 0
 AddsBlock (Ok x) k block old new = AddsEntries block old new × (new.dir.places ≡ old.dir.places)
 AddsBlock (Err (errors.Unreadable j)) k block old new = (j ≡ k) × (block ≡ None)
@@ -152,7 +152,7 @@ abbrev pub AddsEntriesUnless : Bool → Option (Stored Entry) → Reading → Re
 AddsEntriesUnless false block old new = AddsEntries block old new
 AddsEntriesUnless true block old new = (new.ended ≡ true) × (new.dir.blocks ≡ old.dir.blocks)
 
--- The record of a place was read behind others, as a block of a directory.
+-- The record of a place was read after others, as a block of a directory.
 pub record AddsRecord (place : Place) (x : Record) (old new : Reading) : Type 0 where
   pub lengths : is_directory_record x ≡ true
   pub places : new.dir.places.items ≡ old.dir.places.items ++ place ∷ []
@@ -169,12 +169,12 @@ ReadsRecord (Err (errors.Unreadable j)) place x old new = (j ≡ place.tt) × Is
 ReadsRecord (Err errors.Memory) place x old new = Unit {0}
 ReadsRecord (Err errors.Device) place x old new = ⊥
 
--- records on a relative track behind these blocks break the directory: one can't be a block of it, or the first block that breaks the format is among them
+-- records on a relative track after these blocks break the directory: one can't be a block of it, or the first block that breaks the format is among them
 abbrev pub AreBad : ℕ → List Block → List Record → Type 0
 AreBad k directory records = (list_all is_directory_record records ≡ false)
     ⊎ ((last : ℕ) (more : List Block) → directory_break last (directory ++ blocks_from k 1 records ++ more) ≡ Some k)
 
--- records on a relative track are read behind these blocks of a directory, or break it
+-- records on a relative track are read after these blocks of a directory, or break it
 abbrev pub ReadsRecords : Result Bool ReadErr → ℕ → List Block → List Record → Reading → Type 0
 ReadsRecords (Ok ended) k directory records r = (list_all is_directory_record records ≡ true) × AreReadSoFar (directory ++ blocks_from k 1 records) r
 ReadsRecords (Err (errors.Unreadable j)) k directory records r = (j ≡ k) × AreBad k directory records

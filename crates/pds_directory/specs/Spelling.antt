@@ -13,11 +13,11 @@ entry_bytes e = e.name.bytes ++ to_be_bytes w16 e.place.tt ++ (e.place.r ∷ e.f
 abbrev pub end_entry_bytes : List ℕ
 end_entry_bytes = end_name ++ replicate 4 0
 
--- the bytes of a block's entries, and behind those of the last block the end entry
+-- the bytes of a block's entries, and after those of the last block the end entry
 unfoldable pub spelled : List Entry → Bool → List ℕ
 spelled entries last = concat (map entry_bytes entries) ++ (if last then end_entry_bytes else [])
 
--- these bytes of entries as the data of a block: two bytes count those that are used, themselves among them; zeros stand behind the entries
+-- these bytes of entries as the data of a block: two bytes count those that are used, themselves among them; zeros stand after the entries
 abbrev pub counted : List ℕ → List ℕ
 counted bytes = to_be_bytes w16 (2 + length bytes) ++ bytes ++ replicate (254 - length bytes) 0
 

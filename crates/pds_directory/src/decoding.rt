@@ -18,7 +18,7 @@ const NAME_LEN: usize = 8;
 pub struct DirBlock {
     /// Its entries, in the order of their names.
     pub entries: Vec<DirEntry>,
-    /// Whether the end entry stands behind them, so that the block ends the directory.
+    /// Whether the end entry stands after them, so that the block ends the directory.
     pub ends: bool,
 }
 

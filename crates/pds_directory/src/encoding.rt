@@ -52,7 +52,7 @@ fn key_of(entries: &[DirEntry], last: bool) -> [u8; 8]
     }
 }
 
-// Puts entries behind the count of a block's zeros, and gives the offset behind them.
+// Puts entries after the count of a block's zeros, and gives the offset after them.
 fn put_entries(data: &mut [u8], entries: &[DirEntry]) -> usize
     requires fit { 2 + total entry_size entries.now ≤ length data.old }
     ensures behind { result ≡ 2 + total entry_size entries.now }
@@ -67,7 +67,7 @@ fn put_entries(data: &mut [u8], entries: &[DirEntry]) -> usize
     at
 }
 
-// Puts an entry at an offset, and gives the offset behind it.
+// Puts an entry at an offset, and gives the offset after it.
 fn put_entry(data: &mut [u8], at: usize, entry: &DirEntry) -> usize
     requires { at + entry_size entry.now ≤ length data.old }
     ensures behind { result ≡ at + entry_size entry.now }
@@ -83,7 +83,7 @@ fn put_entry(data: &mut [u8], at: usize, entry: &DirEntry) -> usize
     put_part(data, behind, entry.user.as_slice())
 }
 
-// Puts bytes at an offset, and gives the offset behind them.
+// Puts bytes at an offset, and gives the offset after them.
 fn put_part(data: &mut [u8], at: usize, part: &[u8]) -> usize
     requires { at + length part.now ≤ length data.old }
     ensures behind { result ≡ at + length part.now }

@@ -41,7 +41,7 @@ fn all_rise(blocks: &[Vec<DirEntry>]) -> bool
     true
 }
 
-// The number from which names can rise behind those of these entries; `None` where these don't rise
+// The number from which names can rise after those of these entries; `None` where these don't rise
 // from a number.
 fn bound_after(bound: u128, entries: &[DirEntry]) -> Option<u128>
     ensures { (more : List Entry) → rise_from bound (entries.now ++ more)
@@ -73,7 +73,7 @@ fn are_full(blocks: &[Vec<DirEntry>]) -> bool
     true
 }
 
-// Whether a block has room for the first entry of those behind it.
+// Whether a block has room for the first entry of those after it.
 fn has_room(block: &[DirEntry], behind: &[Vec<DirEntry>]) -> bool
     requires { AllFit entry_size 254 12 (block.now ∷ map vec_items behind.now) }
     ensures { are_full (block.now ∷ map vec_items behind.now)

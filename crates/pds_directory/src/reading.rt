@@ -42,10 +42,10 @@ pub(crate) struct Reading {
 /// `Unreadable` carries the first relative track, from 0, that breaks the body, where it is met on the way: one that the
 /// set doesn't own, or that breaks the grammar of a Hercules image before the end-of-file record and before its end
 /// marker; one with a record before that which isn't of the lengths of a directory block, or with a block that breaks the
-/// format; that of the end-of-file record, where no block ends the directory. What stands behind the directory isn't read:
+/// format; that of the end-of-file record, where no block ends the directory. What stands after the directory isn't read:
 /// `Ok` says nothing of that. `Device` comes only where the count of its faults rose.
 ///
-/// Each track is read once into the buffer of the index, unless it breaks the grammar behind the end-of-file record.
+/// Each track is read once into the buffer of the index, unless it breaks the grammar after the end-of-file record.
 pub fn read_dir<H: Hall>(
     alloc: Global,
     hall: &mut H,

@@ -6,7 +6,7 @@ use Rattle.vol_model.specs.declared.contents.Block.{Block}
 use Rattle.vol_model.specs.declared.contents.Body.{Body}
 use Rattle.vol_model.specs.Places.{Content, next_block, placed, with_blocks}
 
--- the first content, and the others behind it
+-- the first content, and the others after it
 placed_cons : (device : DiskType) (body : Body) (c : Content) (cs : List Content) → placed device body (c ∷ cs) ≡ next_block device body c ∷ placed device (with_blocks body (next_block device body c ∷ [])) cs
 unfolding placed
 placed_cons device body c cs = refl
@@ -22,7 +22,7 @@ placed_more device body next blocks after cs i c b inside is made pushed added =
     ∙ ap (λ x. x ∷ placed device (with_blocks body (x ∷ [])) rest) (sym made) ∙ ap (λ y. b ∷ placed device y rest) (sym added) in
     ap (λ l. l ++ placed device next rest) pushed ∙ append_assoc blocks (b ∷ []) (placed device next rest) ∙ ap (λ l. blocks ++ l) (sym whole)
 
--- behind all contents none is left to be placed
+-- after all contents none is left to be placed
 pub placed_all : (device : DiskType) (body next : Body) (blocks : List Block) (cs : List Content) (i : ℕ) → length cs ≤ i → blocks ++ placed device next (drop i cs) ≡ placed device body cs → blocks ≡ placed device body cs
 unfolding placed
 placed_all device body next blocks cs i all so_far = sym (append-nil blocks) ∙ ap (λ l. blocks ++ placed device next l) (sym (drop_all i cs all)) ∙ so_far

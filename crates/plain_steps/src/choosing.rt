@@ -22,7 +22,7 @@ fn extent_of(size: u16, n: u32, run: Run) -> Result<Run, AllocError>
     Ok(Run { start, len })
 }
 
-// Whether a run stands behind the last one that was taken.
+// Whether a run stands after the last one that was taken.
 fn is_behind(last: Option<Run>, run: &Run) -> bool
     ensures { result ≡ is_behind last run.now }
 {
@@ -42,7 +42,7 @@ fn is_longer(run: &Run, best: Option<Run>) -> bool
     }
 }
 
-// The longest of the runs that stand behind the last one that was taken, the first of them.
+// The longest of the runs that stand after the last one that was taken, the first of them.
 fn longest_behind(last: Option<Run>, runs: &[Run]) -> Option<Run>
     ensures { result ≡ longest_from None (left_after last runs.now) }
 {
@@ -55,7 +55,7 @@ fn longest_behind(last: Option<Run>, runs: &[Run]) -> Option<Run>
     best
 }
 
-// So many units in at most so many runs, the longest first, behind the extents that were taken so far.
+// So many units in at most so many runs, the longest first, after the extents that were taken so far.
 #[tactic(auto, using(crate::proofs::Longest::longest_none, crate::proofs::Longest::longest_end, crate::proofs::Longest::longest_fit, crate::proofs::Longest::longest_next))]
 fn longest_first(
     alloc: Global,

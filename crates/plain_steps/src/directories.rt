@@ -42,7 +42,7 @@ impl Test<Entry> for Before<'_> {
     }
 }
 
-// The entries that stand behind one.
+// The entries that stand after one.
 #[derive(Drop)]
 struct Behind<'a> {
     entry: &'a Entry,

@@ -14,7 +14,7 @@ pub fn is_less(bytes: &[u8], others: &[u8]) -> bool
     bytes.cmp(others).is_lt()
 }
 
-/// Items, with copies of others behind them.
+/// Items, with copies of others after them.
 pub fn with_copies<T: Copies>(
     alloc: Global,
     mut before: Listed<T>,
@@ -37,7 +37,7 @@ pub trait Test<T> {
         ensures { result ≡ passes self.now item.now };
 }
 
-/// Items, with copies behind them of those others that pass a test.
+/// Items, with copies after them of those others that pass a test.
 pub fn where_passed<T: Copies, P: Test<T>>(
     alloc: Global,
     mut before: Listed<T>,
@@ -52,7 +52,7 @@ pub fn where_passed<T: Copies, P: Test<T>>(
     Ok(before)
 }
 
-// Puts a copy of an item behind others, if it passes a test.
+// Puts a copy of an item after others, if it passes a test.
 fn push_passed<T: Copies, P: Test<T>>(
     alloc: Global,
     before: &mut Listed<T>,

@@ -50,7 +50,7 @@ impl Measured for Entry {
     }
 }
 
-/// The blocks that a directory of these entries needs, its end entry behind them.
+/// The blocks that a directory of these entries needs, its end entry after them.
 #[tactic(auto, unfolding(vol_model::specs::Slots::directory_needed))]
 pub fn directory_needed(entries: &[Entry]) -> Result<u32, AllocError>
     ensures { IfOk result (λ blocks. blocks ≡ directory_needed entries.now) }

@@ -31,7 +31,7 @@ impl Test<Node> for Before<'_> {
     }
 }
 
-// The nodes whose ways stand behind one.
+// The nodes whose ways stand after one.
 #[derive(Drop)]
 struct Behind<'a> {
     path: &'a CatPath,

@@ -20,7 +20,7 @@ pub(crate) fn lengths_of(key: &[u8], payload: &[u8]) -> Result<(u8, u16), AllocE
     Ok((kl, dl))
 }
 
-// The place behind the last record, where that track's records have these lengths.
+// The place after the last record, where that track's records have these lengths.
 fn place_behind(
     device: DiskType,
     last: Place,
@@ -59,7 +59,7 @@ fn directory_place(alloc: Global, device: DiskType, n: u32) -> Result<Place, All
     Ok(place)
 }
 
-/// The place of the end-of-file record behind a new directory of so many blocks.
+/// The place of the end-of-file record after a new directory of so many blocks.
 #[tactic(auto, unfolding(vol_model::specs::Places::directory_end))]
 pub fn directory_end(alloc: Global, device: DiskType, n: u32) -> Result<Place, AllocError>
     ensures { IfOk result (λ place. place ≡ directory_end device n) }
@@ -80,7 +80,7 @@ fn last_place(first: Place, blocks: &[Block]) -> Place
     place
 }
 
-// Lengths, with those of the blocks on a track behind them.
+// Lengths, with those of the blocks on a track after them.
 fn with_lengths_on(
     mut before: Vec<(u8, u16)>,
     tt: u16,

@@ -27,7 +27,7 @@ fn contents_of(alloc: Global, blocks: &[Block]) -> Result<Contents, AllocError>
     Ok(contents)
 }
 
-// The volume with the contents of blocks written behind those of a data set, or why that is refused.
+// The volume with the contents of blocks written after those of a data set, or why that is refused.
 fn write_blocks_on(
     alloc: Global,
     mode: Mode,

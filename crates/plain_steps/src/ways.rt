@@ -94,7 +94,7 @@ pub(crate) fn way_of(alloc: Global, name: Name8) -> Result<CatPath, AllocError>
     Ok(CatPath { names })
 }
 
-// The way of a name and others behind it.
+// The way of a name and others after it.
 fn way_from(alloc: Global, name: Name8, rest: &[Name8]) -> Result<CatPath, AllocError>
     ensures { IfOk result (λ path. path ≡ way (name ∷ rest.now)) }
 {

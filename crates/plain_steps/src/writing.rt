@@ -1,4 +1,4 @@
-//! Blocks are written behind those of a data set.
+//! Blocks are written after those of a data set.
 ghost use Rattle.std.specs.Prelude.{◌≡◌, ◌∷◌, [], ◌++◌, IfOk, OnOk};
 ghost use Rattle.vol_model.specs.Places.{end_of_file, fits_a_track, is_end_of_file, is_open_ended, next_block, placed, with_blocks};
 ghost use Rattle.vol_model.specs.Shelf.{blocks_of, fits_mode, put_first, put_last, with_written, write_on, write_refusal, written};
@@ -45,7 +45,7 @@ fn next_block(
     })
 }
 
-// Puts a block behind those of a body, if it has blocks.
+// Puts a block after those of a body, if it has blocks.
 fn add_block(body: &mut Body, block: Block) -> Result<(), AllocError>
     ensures { OnOk result (body.new ≡ with_blocks body.old (block ∷ [])) }
 {
@@ -56,7 +56,7 @@ fn add_block(body: &mut Body, block: Block) -> Result<(), AllocError>
     }
 }
 
-/// Contents as the blocks behind a body, each at its next place.
+/// Contents as the blocks after a body, each at its next place.
 pub fn placed(
     alloc: Global,
     device: DiskType,
@@ -104,7 +104,7 @@ fn is_open_ended(blocks: &[Block]) -> bool
     is_open
 }
 
-// Puts an end-of-file block's content behind others.
+// Puts an end-of-file block's content after others.
 fn add_end(alloc: Global, contents: &mut Contents) -> Result<(), AllocError>
     ensures { OnOk result (contents.new ≡ contents.old ++ end_of_file ∷ []) }
 {
@@ -122,7 +122,7 @@ pub fn put_first(alloc: Global, mode: Mode, body: &Body) -> Result<Contents, All
     Ok(first)
 }
 
-/// What it puts last: behind an area an end-of-file block.
+/// What it puts last: after an area an end-of-file block.
 pub fn put_last(alloc: Global, mode: Mode) -> Result<Contents, AllocError>
     ensures { IfOk result (λ last. last ≡ put_last mode) }
 {
@@ -133,7 +133,7 @@ pub fn put_last(alloc: Global, mode: Mode) -> Result<Contents, AllocError>
     Ok(last)
 }
 
-/// All that stands behind a body when these contents were written.
+/// All that stands after a body when these contents were written.
 pub fn written(
     alloc: Global,
     mode: Mode,
@@ -154,7 +154,7 @@ pub fn fits_a_track(device: DiskType, content: &Content) -> Result<bool, AllocEr
     Ok(fits(device, &[], key, data))
 }
 
-/// A body with more blocks behind its last.
+/// A body with more blocks after its last.
 pub fn with_blocks(alloc: Global, body: &Body, blocks: Blocks) -> Result<Body, AllocError>
     ensures { IfOk result (λ after. after ≡ with_blocks body.now blocks) }
 {
@@ -175,7 +175,7 @@ pub fn with_blocks(alloc: Global, body: &Body, blocks: Blocks) -> Result<Body, A
     }
 }
 
-// Contents that are written behind the blocks of a data set.
+// Contents that are written after the blocks of a data set.
 #[derive(Drop)]
 struct NewContents<'a> {
     device: DiskType,
@@ -227,7 +227,7 @@ pub fn write_refusal(mode: Mode, dsn: &Dsn, volume: &Volume) -> Option<Refusal>
     }
 }
 
-/// The volume with contents written behind the blocks of a data set, or why that is refused.
+/// The volume with contents written after the blocks of a data set, or why that is refused.
 #[tactic(auto, unfolding(vol_model::specs::Shelf::write_on))]
 pub fn write_on(
     alloc: Global,

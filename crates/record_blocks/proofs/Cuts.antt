@@ -15,7 +15,7 @@ pieces-more : (format : Format) (recs : List (List ℕ)) (rec : List ℕ) → pi
 pieces-more format [] rec = append-nil (piece_of format rec)
 pieces-more format (r ∷ rs) rec = ap (λ xs. piece_of format r ++ xs) (pieces-more format rs rec) ∙ sym (append_assoc (piece_of format r) (pieces_of format rs) (piece_of format rec))
 
--- an open block and its further records: the rest of the cut behind it
+-- an open block and its further records: the rest of the cut after it
 record Goes (format : Format) (start : List (List ℕ)) (recs : List (List ℕ)) : Type 0 where
   block : List (List ℕ)
   others : List (List (List ℕ))

@@ -130,7 +130,7 @@ first-reads Fixed format s rest t l h = fixed-reads format.lrecl s rest l h.0 h.
 first-reads Variable format s rest t l h = described-reads (greatest_code format) s rest h
 first-reads Undefined format s rest t l h = absurd t
 
--- behind what was read, or at the front, so many may stand
+-- after what was read, or at the front, so many may stand
 abbrev pub Many : Bool → Bool → List Segment → Type 0
 Many begun blocked [] = begun ≡ true
 Many begun blocked (s ∷ ss) = (begun && not blocked ≡ false) × Many true blocked ss

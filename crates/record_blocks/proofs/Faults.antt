@@ -70,7 +70,7 @@ next-stuck format false at rest e h = record { why = inr (piece-none (fault form
 next-stuck format true at [] e h = cc
 next-stuck format true at (b ∷ bs) e h = choice-stuck format true (b ∷ bs) (is_full format true) (fault format at) e refl (rw (not_empty b bs) at h)
 
--- one more segment would be a second one behind these
+-- one more segment would be a second one after these
 abbrev pub IsSecondAt : Bool → Format → List Segment → Type 0
 IsSecondAt begun format [] = (begun ≡ true) × (is_blocked format ≡ false)
 IsSecondAt begun format (s ∷ ss) = is_blocked format ≡ false

@@ -1,4 +1,4 @@
--- The first segment of what is left of a packing into VS or VBS blocks, and what is left behind it.
+-- The first segment of what is left of a packing into VS or VBS blocks, and what is left after it.
 use Rattle.std.proofs.Common.{◌≡◌, ◌∙◌, ap, sym, refl, subst, ℕ, zero, suc, ◌+◌, ◌<◌, ◌≤◌, Bool, true, false, Result, Ok, List, [], ◌∷◌, ◌++◌, length, drop, Option, Some, None, arith, append_assoc, length-append}
 use Rattle.std.specs.Prelude.{if◌then◌else◌, is_some}
 use Rattle.std.specs.List.{AllByRecursion}
@@ -17,7 +17,7 @@ use Rattle.record_blocks.specs.Layout.{all_segments, HasByte, AreFilling, IsFull
 use Rattle.record_blocks.proofs.Exact.{Many}
 use Rattle.record_blocks.proofs.Joins.{part-at, given-one, sound}
 
--- behind so many bytes of a block: its further segments, the blocks behind it, and the records that they hold
+-- after so many bytes of a block: its further segments, the blocks after it, and the records that they hold
 pub record Continues (format : Format) (used : ℕ) (some : Bool) (begun : Option (List ℕ)) (more : List Segment) (others : List (List Segment)) (recs : List (List ℕ)) : Type 0 where
   pub joins : joined_records (longest format) begun (more ++ all_segments others) ≡ Ok recs
   pub codes : AreCodes (more ++ all_segments others)
@@ -85,11 +85,11 @@ goes-on false rec others recs e = e
 abbrev pub begun_behind : Option (List ℕ) → Segment → Option (List ℕ)
 begun_behind begun s = if ends s.code then None else Some (bytes_with begun s.bytes)
 
--- and the records that end behind it
+-- and the records that end after it
 abbrev pub recs_behind : List (List ℕ) → Segment → List (List ℕ)
 recs_behind recs s = if ends s.code then drop 1 recs else recs
 
--- behind the first segment
+-- after the first segment
 pub next : (format : Format) (used : ℕ) (some : Bool) (begun : Option (List ℕ)) (s : Segment) (ss : List Segment) (others : List (List Segment)) (recs : List (List ℕ))
     → Continues format used some begun (s ∷ ss) others recs → Continues format (used + length (described_bytes s)) true (begun_behind begun s) ss others (recs_behind recs s)
 next format used some begun s ss others recs c =

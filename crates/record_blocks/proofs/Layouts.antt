@@ -41,7 +41,7 @@ all-bytes : (format : Format) (layout : List (List Segment)) → AreSpannedBlock
 all-bytes format [] h = tt
 all-bytes format (b ∷ bs) h = let block = h.0 in both-bytes b (all_segments bs) block.bytes (all-bytes format bs h.1)
 
--- behind a full block, a packing goes on to its first block
+-- after a full block, a packing goes on to its first block
 of-layout : (format : Format) (recs : List (List ℕ)) (layout : List (List Segment)) → IsSpannedLayout format recs layout → Continues format (room format) true None [] layout recs
 of-layout format recs layout l =
     let none : room format + length (body_of Variable []) ≡ room format = omega arith in

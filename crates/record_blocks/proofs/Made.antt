@@ -135,7 +135,7 @@ record Takes (format : Format) (opens : List Segment) (some : Bool) (start : Opt
   roomy : length (body_of Variable opens) + least rest ≤ room format
   many : some && not (is_blocked format) ≡ false
 
--- what is left of a record behind its first bytes
+-- what is left of a record after its first bytes
 pub record Left (format : Format) (begun : Option (List ℕ)) (placed : ℕ) (rest : List ℕ) : Type 0 where
   pub parted : is_some begun ≡ nat_lt 0 placed
   pub short : length (bytes_with begun rest) ≤ longest format
@@ -212,7 +212,7 @@ part-byte : (code : ℕ) (bytes : List ℕ) → 0 < length bytes → HasByte (pi
 part-byte code [] h = absurd (omega arith)
 part-byte code (b ∷ bs) h = λ e. cc
 
--- the blocks behind a segment of so many bytes
+-- the blocks after a segment of so many bytes
 abbrev pub MadeBehind : Format → Option (List ℕ) → ℕ → List ℕ → List (List ℕ) → ℕ → Type 0
 MadeBehind format begun placed rest recs n = MadeFirst format [] false (Some (bytes_with begun (take n rest))) ((bytes_with begun (take n rest) ++ drop n rest) ∷ recs) (drop n rest) (spanned_rest format None (placed + n) (drop n rest) recs)
 

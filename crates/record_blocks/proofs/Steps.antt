@@ -1,4 +1,4 @@
--- What is read at a place is its next piece and what is read behind it.
+-- What is read at a place is its next piece and what is read after it.
 use Rattle.std.proofs.Common.{◌≡◌, ◌∙◌, ap, ap₂, refl, ℕ, zero, suc, ◌+◌, ◌-◌, ◌<◌, ◌≤◌, Bool, true, false, cond, Result, Ok, Err, List, [], ◌∷◌, length, drop, Option, Some, None, arith}
 use Rattle.std.specs.Prelude.{◌==◌}
 use Rattle.std.proofs.lemmas.Grind.{common_steps}
@@ -72,7 +72,7 @@ go_on-piece : (behind : Segment → Reading) (e : BlockErr) (o : Option Segment)
 go_on-piece behind e None = refl
 go_on-piece behind e (Some s) = refl
 
--- behind a piece
+-- after a piece
 abbrev pub after : Format → ℕ → List ℕ → Segment → Reading
 after format at rest s = read_from format true (at + size format s) 0 (drop (size format s) rest)
 
@@ -104,7 +104,7 @@ go_on-same f g (Ok None) h = refl
 go_on-same f g (Ok (Some s)) h = ap (with_segment s) (h s)
 go_on-same f g (Err e) h = refl
 
--- what is left at a place of a block is the next piece and what is left behind it
+-- what is left at a place of a block is the next piece and what is left after it
 pub left-next : (format : Format) (block : List ℕ) (begun : Bool) (at : ℕ) → reading_at format block begun at ≡ go_on (λ s. reading_at format block true (at + size format s)) (next_in format block begun at)
 unfolding reading_at
 left-next format block begun at =

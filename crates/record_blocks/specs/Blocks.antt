@@ -17,7 +17,7 @@ piece code bytes = record { code = code; bytes = bytes }
 abbrev pub whole_segment : List ℕ → Segment
 whole_segment bytes = piece 0 bytes
 
--- a descriptor, with the length that counts its own four bytes, the code and a zero byte, and the bytes behind it
+-- a descriptor, with the length that counts its own four bytes, the code and a zero byte, and the bytes after it
 abbrev pub described_bytes : Segment → List ℕ
 described_bytes s = let n = length s.bytes + 4 in n / 256 ∷ n % 256 ∷ s.code ∷ 0 ∷ s.bytes
 
@@ -48,7 +48,7 @@ IsMany blocked [] = ⊥
 IsMany blocked (s ∷ []) = Unit {0}
 IsMany blocked (s ∷ t ∷ ss) = blocked ≡ true
 
--- the bytes of a block of these spelled segments: with V they stand behind a descriptor of the block
+-- the bytes of a block of these spelled segments: with V they stand after a descriptor of the block
 abbrev pub block_as : Base → List ℕ → List ℕ
 block_as Fixed bytes = bytes
 block_as Variable bytes = described_bytes (whole_segment bytes)

@@ -3,15 +3,16 @@ use Rattle.std.specs.Prelude.{◌≡◌, ℕ, Option, Some, None, Result, Ok, Er
 use Rattle.record_blocks.specs.declared.pieces.BlockErr.{BlockErr}
 use Rattle.record_blocks.specs.declared.deblock.Deblock.{Deblock}
 use Rattle.record_blocks.specs.Blocks.{Segment}
-use Rattle.record_blocks.specs.Reading.{Reading, empty_reading, failed_reading, with_segment, reading_at}
+use Rattle.record_blocks.specs.Reading.{Reading, empty_reading, failed_reading, with_segment}
+use Rattle.record_blocks.specs.Marks.{reading_behind}
 
--- the segments that it still gives, and the fault behind them
+-- the segments that it still gives, and the fault after them
 abbrev pub remaining_reading : Deblock → Reading
-remaining_reading deblock = reading_at deblock.format deblock.block.now deblock.begun deblock.at
+remaining_reading deblock = reading_behind deblock.format deblock.block.now deblock.mark
 
 -- the code of the segment that was given last
 abbrev pub code_of : Deblock → ℕ
-code_of deblock = deblock.code
+code_of deblock = deblock.mark.code
 
 -- the same is still to be read, and the code is as before
 pub record IsUnchanged (old new : Deblock) : Type 0 where

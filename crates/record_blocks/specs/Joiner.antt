@@ -45,7 +45,7 @@ pub record IsUnchanged (old new : Joiner) : Type 0 where
   pub whole : new.done ≡ old.done
   pub bytes : new.body.items ≡ old.body.items
 
--- with this segment the records end in this fault, whatever comes behind it
+-- with this segment the records end in this fault, whatever comes after it
 abbrev pub IsFaultOf : JoinErr → Segment → Joiner → Type 0
 IsFaultOf e s joiner = (segments : List Segment) → records_with joiner (s ∷ segments) ≡ Err e
 

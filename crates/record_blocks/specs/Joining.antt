@@ -22,7 +22,7 @@ bytes_taken longest start s =
 abbrev pub records_given : Bool → List ℕ → Result (List (List ℕ)) JoinErr → Result (List (List ℕ)) JoinErr
 records_given whole rec others = if whole then result_map_both (λ recs. rec ∷ recs) (λ e. e) others else others
 
--- a record up to a segment, and the records behind it
+-- a record up to a segment, and the records after it
 abbrev pub go_on : Bool → (Option (List ℕ) → Result (List (List ℕ)) JoinErr) → Result (List ℕ) JoinErr → Result (List (List ℕ)) JoinErr
 go_on whole others (Err e) = Err e
 go_on whole others (Ok bytes) = records_given whole bytes (others (if whole then None else Some bytes))
@@ -32,7 +32,7 @@ abbrev pub at_end : Option (List ℕ) → Result (List (List ℕ)) JoinErr
 at_end None = Ok []
 at_end (Some body) = Err BadSegment
 
--- the records of these segments behind those of an open record, if one is, or the first fault
+-- the records of these segments after those of an open record, if one is, or the first fault
 unfoldable pub joined_records : ℕ → Option (List ℕ) → List Segment → Result (List (List ℕ)) JoinErr
 joined_records longest start [] = at_end start
 joined_records longest start (s ∷ ss) = go_on (ends s.code) (λ behind. joined_records longest behind ss) (bytes_taken longest start s)

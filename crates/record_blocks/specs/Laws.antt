@@ -16,7 +16,7 @@ abbrev pub ReadingIsExact : Type 0
 ReadingIsExact = (format : Format) (block : List ℕ) (segments : List Segment) → first_fault format ≡ None → AreBytes block
     → (reading format block ≡ complete_reading segments) ↔ IsBlock format block segments
 
--- where a fault is read it stands behind the segments in front of it, and none may follow there
+-- where a fault is read it stands after the segments in front of it, and none may follow there
 abbrev pub FaultsAreFirst : Type 0
 FaultsAreFirst = (format : Format) (block : List ℕ) (segments : List Segment) (e : BlockErr) → first_fault format ≡ None
     → AreBytes block → reading format block ≡ broken_reading segments e → IsBroken format block segments e

@@ -25,18 +25,18 @@ all_segments (b ∷ bs) = b ++ all_segments bs
 abbrev pub HasByte : Segment → Type 0
 HasByte s = s.bytes ≡ [] → s.code ≡ 0
 
--- behind so many bytes of the room, each segment that isn't its record's last fills the block
+-- after so many bytes of the room, each segment that isn't its record's last fills the block
 abbrev pub AreFilling : ℕ → ℕ → List Segment → Type 0
 AreFilling total used [] = Unit {0}
 AreFilling total used (s ∷ ss) = (ends s.code ≡ false → used + length (described_bytes s) ≡ total) × AreFilling total (used + length (described_bytes s)) ss
 
--- with B, a block has fewer than 5 free bytes behind so many, or fewer than 4 where the next block begins with an empty record
+-- with B, a block has fewer than 5 free bytes after so many, or fewer than 4 where the next block begins with an empty record
 abbrev pub IsFullFor : Format → ℕ → List (List Segment) → Type 0
 IsFullFor format used [] = Unit {0}
 IsFullFor format used ([] ∷ bs) = Unit {0}
 IsFullFor format used ((s ∷ ss) ∷ bs) = is_blocked format ≡ true → room format < used + least s.bytes
 
--- a block of VS has one segment, one of VBS one or more; the next blocks stand behind it
+-- a block of VS has one segment, one of VBS one or more; the next blocks stand after it
 pub record IsSpannedBlock (format : Format) (block : List Segment) (next : List (List Segment)) : Type 0 where
   pub many : IsMany (is_blocked format) block
   pub fits : length (body_of Variable block) ≤ room format

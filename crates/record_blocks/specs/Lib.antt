@@ -1,6 +1,7 @@
 pub mod Formats
 pub mod Blocks
 pub mod Reading
+pub mod Marks
 pub mod Deblocking
 pub mod Packing
 pub mod Packer

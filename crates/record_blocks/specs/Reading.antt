@@ -138,7 +138,7 @@ next_at format begun at rest =
 abbrev pub next_in : Format → List ℕ → Bool → ℕ → Result (Option Segment) BlockErr
 next_in format block begun at = if has_block_descriptor format block then next_at format begun at (drop at block) else Err (BadDescriptor 0)
 
--- the next record or segment and what is read behind it
+-- the next record or segment and what is read after it
 abbrev pub go_on : (Segment → Reading) → Result (Option Segment) BlockErr → Reading
 go_on behind (Ok (Some s)) = with_segment s (behind s)
 go_on behind (Ok None) = empty_reading
@@ -149,7 +149,7 @@ abbrev pub IsSecond : Format → List Segment → Type 0
 IsSecond format [] = ⊥
 IsSecond format (s ∷ ss) = is_blocked format ≡ false
 
--- behind the segments that stand from this place on is the fault, where no segment stands that may follow
+-- after the segments that stand from this place on is the fault, where no segment stands that may follow
 pub record Breaks (format : Format) (at : ℕ) (rest : List ℕ) (segments : List Segment) (e : BlockErr) : Type 0 where
   pub behind : List ℕ
   pub front : rest ≡ body_of (base_of format) segments ++ behind
@@ -157,7 +157,7 @@ pub record Breaks (format : Format) (at : ℕ) (rest : List ℕ) (segments : Lis
   pub stuck : (s : Segment) (others : List ℕ) → IsLawfulAs (base_of format) format s → behind ≡ segment_bytes (base_of format) s ++ others → IsSecond format segments
   pub place : e ≡ fault format (at + length (body_of (base_of format) segments))
 
--- with V: the block isn't a descriptor of its own length and what stands behind it
+-- with V: the block isn't a descriptor of its own length and what stands after it
 pub record HasNoDescriptor (format : Format) (block : List ℕ) : Type 0 where
   pub variable : base_of format ≡ Variable
   pub none : (body : List ℕ) → block ≡ described_bytes (whole_segment body) → ⊥

@@ -15,12 +15,12 @@ abbrev pub bytes_with : Option (List ℕ) → List ℕ → List ℕ
 bytes_with None bytes = bytes
 bytes_with (Some body) bytes = body ++ bytes
 
--- the segments of a record behind its first one, any number of code 3 and one of code 2, and their bytes
+-- the segments of a record after its first one, any number of code 3 and one of code 2, and their bytes
 pub data AreRestOf : List Segment → List ℕ → Type 0 where
   last : (bytes : List ℕ) → AreRestOf (piece 2 bytes ∷ []) bytes
   middle : (bytes : List ℕ) (others : List Segment) (rest : List ℕ) → AreRestOf others rest → AreRestOf (piece 3 bytes ∷ others) (bytes ++ rest)
 
--- the segments of one record, one of code 0, or one of code 1 and those behind it, and their bytes
+-- the segments of one record, one of code 0, or one of code 1 and those after it, and their bytes
 pub data AreSegmentsOf : List Segment → List ℕ → Type 0 where
   whole : (bytes : List ℕ) → AreSegmentsOf (piece 0 bytes ∷ []) bytes
   parted : (bytes : List ℕ) (others : List Segment) (rest : List ℕ) → AreRestOf others rest → AreSegmentsOf (piece 1 bytes ∷ others) (bytes ++ rest)

@@ -24,7 +24,7 @@ abbrev pub least : List ℕ → ℕ
 least [] = 4
 least (b ∷ bs) = 5
 
--- the blocks where the next segment of this size goes into the open block, or behind it into a new one
+-- the blocks where the next segment of this size goes into the open block, or after it into a new one
 abbrev pub in_open : Format → Option (List ℕ) → ℕ → (List ℕ → List (List ℕ)) → List (List ℕ)
 in_open format None size then_ = then_ []
 in_open format (Some body) size then_ = if closes format body size then block_of format body ∷ then_ [] else then_ body
@@ -51,7 +51,7 @@ segment parted last bytes = described_bytes (piece (segment_code parted last) by
 abbrev pub filled_block : Format → Bool → List ℕ → List ℕ → List ℕ
 filled_block format parted body rest = block_of format (body ++ segment parted false (take (filling format body) rest))
 
--- the blocks of what is left of a record, whose first bytes are passed over, and those behind its last segment
+-- the blocks of what is left of a record, whose first bytes are passed over, and those after its last segment
 unfoldable pub blocks_of_record : Format → (List ℕ → List (List ℕ)) → Option (List ℕ) → Bool → ℕ → List ℕ → List (List ℕ)
 blocks_of_record format behind start parted passed [] = in_open format start 4 (λ body. behind (body ++ segment parted true []))
 blocks_of_record format behind start parted zero (b ∷ bs) = in_open format start 5 (λ body.

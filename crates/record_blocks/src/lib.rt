@@ -7,6 +7,7 @@ mod deblock;
 mod formats;
 mod joiner;
 mod laws;
+mod marks;
 mod packer;
 mod packing;
 mod pieces;
@@ -20,5 +21,6 @@ pub use joiner::{JoinErr, Joiner};
 pub use laws::{
     fault_law, joining_law, packing_law, read_back_law, reading_law, spanned_packing_law,
 };
+pub use marks::BlockMark;
 pub use packer::{PackErr, Packer};
 pub use pieces::BlockErr;

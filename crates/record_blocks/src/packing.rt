@@ -15,7 +15,7 @@ fn descriptor(length: usize, code: u8) -> [u8; 4]
     [(length / 256) as u8, (length % 256) as u8, code, 0]
 }
 
-// Bytes behind a descriptor of their own.
+// Bytes after a descriptor of their own.
 pub(crate) fn write_described(out: &mut Vec<u8>, code: u8, bytes: &[u8]) -> Result<(), AllocError>
     requires { length bytes.now < 65532 }
     ensures { OnOk result (out.new.items ≡ out.old.items ++ described_bytes (record { code = code; bytes = bytes.now })) }

@@ -64,7 +64,7 @@ impl Format {
         !self.is_blocked() || size > self.room() - used
     }
 
-    // Whether so many bytes fit behind those of a block.
+    // Whether so many bytes fit after those of a block.
     pub(crate) fn is_last(&self, used: usize, count: usize) -> bool
         requires { used + 4 ≤ room self.now }
         ensures { result ≡ is_last_at self.now used count }

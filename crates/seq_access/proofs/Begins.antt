@@ -1,4 +1,4 @@
--- A writer that was opened behind the blocks of a data set, and has put none.
+-- A writer that was opened after the blocks of a data set, and has put none.
 use Rattle.std.proofs.Common.{◌≡◌, ◌≤◌, ◌<◌, ℕ, true, false, List, [], ◌∷◌, ◌++◌, length, map, drop, Option, Some, inr, refl, sym, ap, ap₂, ◌∙◌, arith}
 use Rattle.std.specs.Prelude.{slice_get}
 use Rattle.std.specs.Option.{option_map_or}

@@ -240,7 +240,7 @@ module _ (tells : Bool) (f0 f1 : Facts) (m0 m1 : Meaning (List File)) (v0 v1 : V
       ];
     }
 
--- one that begins behind tracks that have their blocks
+-- one that begins after tracks that have their blocks
 pub walk_from : (tells : Bool) (f0 : Facts) (m0 : Meaning (List File)) (v0 : Vol) (on : BlocksOn) (k : ℕ) → (IsTrue tells → Same m0 m0) → (IsTrue tells → IsMounted (image_in m0 f0 v0.unit) v0) → IsOfUnit f0.units v0
     → (IsTrue tells → (j : ℕ) → j < k → on (image_in m0 f0 v0.unit) v0 j ≢ None) → Walks tells f0 f0 m0 m0 v0 v0 on k
 walk_from tells f0 m0 v0 on k same mounted unit before = record {
@@ -272,7 +272,7 @@ module _ (image : List ℕ) (v : Vol) (f : F1) (end : Place) (at : end ≡ end_i
   abbrev to : Place
   to = read_to end f.lstar
 
-  -- the directory's end isn't behind the last record that is read
+  -- the directory's end isn't after the last record that is read
   pub end_low : end.tt ≤ to.tt
   end_low = by (is_before end (last_of f.lstar)) refl
     where

@@ -1,4 +1,4 @@
--- Blocks that become those of their set: behind the sync of the blocks one write of the format 1 decides.
+-- Blocks that become those of their set: after the sync of the blocks one write of the format 1 decides.
 use Rattle.std.proofs.Common.{◌≡◌, ◌≤◌, ◌<◌, ℕ, true, List, [], None, Ok, Err, Result, inl, inr, refl, sym, ap, ◌∙◌, subst, ⊎_elim}
 use Rattle.std.specs.Prelude.{IsErr, OnOk, slice_index_or, unwrap_or, Option}
 use Rattle.std.proofs.lemmas.Option.{get_or_from_slice_get}
@@ -39,7 +39,7 @@ use Rattle.seq_access.proofs.SparedCalls.{differ_by}
 use Rattle.seq_access.proofs.SparedImages.{slots_kept, spared_mounted, volume_kept}
 use Rattle.seq_access.proofs.SparedSets.{bare, bare_set, body_kept, differ_back, ends_kept}
 
--- a body behind which blocks may be put can be read
+-- a body after which blocks may be put can be read
 writable_read : (b : Body) → IsWritable b → unreadable b ≡ None
 writable_read (bodies.Seq bs) is = refl
 writable_read (bodies.Part n end es bs) is = refl
@@ -78,7 +78,7 @@ module _ (name : List ℕ) (v : Vol) (w : Writer) (i0 : List ℕ) (is : IsWritin
   same_volume : (other : Volume) → volume_of image ≡ Ok other → other ≡ old_volume
   same_volume other there = let same : Ok other ≡ Ok old_volume = sym there ∙ set.mounted.volume in cc
 
-  -- what differs behind the last block alone stands for the volume, and its VTOC is the same
+  -- what differs after the last block alone stands for the volume, and its VTOC is the same
   module _ (files : List File) (spared : AreSpared name v f last before files) where
     differ : DifferBehind (bare v) f last image (image_named files name)
     differ = differ_by v (record (v.buf) { records = [] }) f last image (image_named files name) spared.image

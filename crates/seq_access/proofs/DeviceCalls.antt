@@ -4,7 +4,7 @@ use Rattle.std.specs.Prelude.{Err, Ok, Result}
 use Rattle.hall_core.specs.Facts.{DeviceCall, Facts, ReportedCall}
 
 module _ {T U D E : Type 0} (f0 f1 f2 : Facts) (first : ReportedCall ⊥ f0 f1) where
-  -- behind calls that are done one fails
+  -- after calls that are done one fails
   pub device_fails : {d : D} {e : E} (r : Result U E) → DeviceCall {T = T} {E = D} f1 f2 (Err d) → r ≡ Err e → DeviceCall f0 f2 r
   device_fails {e = e} r call is =
       let P : Result U E → Type 0 = λ x. DeviceCall f0 f2 x in

@@ -1,4 +1,4 @@
--- The end of a writer's blocks: what is written behind the last one is none of them, and all is made durable.
+-- The end of a writer's blocks: what is written after the last one is none of them, and all is made durable.
 use Rattle.std.proofs.Common.{◌≡◌, ◌≤◌, ◌<◌, ℕ, zero, suc, true, List, [], ◌++◌, length, map, drop, Result, refl, sym, ap, ◌∙◌, subst, arith, ⊎_elim}
 use Rattle.std.specs.Prelude.{OnOk, Some, slice_get}
 use Rattle.std.proofs.lemmas.Result.{on_ok_weaker}
@@ -44,7 +44,7 @@ nothing_dropped : (n : ℕ) → map content (drop n []) ≡ []
 nothing_dropped zero = refl
 nothing_dropped (suc n) = refl
 
--- where a block was put, the last one is a record behind R0
+-- where a block was put, the last one is a record after R0
 pub first_put : (image : List ℕ) (v : Vol) (w : Writer) (is : IsWriting image v w) → has_put w ≡ true → w.last.tt < 65536 → w.last.r < 256 → 1 ≤ w.last.r
 first_put image v w is put low small = ⊎_elim
     (λ none. absurd (is.some put (
@@ -124,7 +124,7 @@ pub blocks_same_image : (i0 i1 : List ℕ) (v0 v1 : Vol) (w : Writer) (is : IsWr
 blocks_same_image i0 i1 v0 v1 w is image same =
     ap (λ (i : List ℕ). body_so_far i v1 is.f w) image ∙ ap (λ (v : Vol). body_so_far i0 v is.f w) same ∙ is.so_far
 
--- What a stop leaves of calls behind which only a sync comes, or nothing.
+-- What a stop leaves of calls after which only a sync comes, or nothing.
 pub leaves_all : {T E U D : Type 0} (name : List ℕ) (v : Vol) (f : F1) (last : Place) (m0 m1 m2 : Meaning (List File)) (r : Result T E) (answer : Result U D) → Spares name v f last m0 m1 r → OnOk answer (IsDurable m2) → m2.state ≡ m1.state → m2.printed ≡ m1.printed → Elapses m1 m2 (LeftNow m1)
     → (before : List File) → HasSetBy (image_named before name) v f → ((files : List File) → m0.left files → AreSpared name v f last before files) → AreSpared name v f last before m0.state → LeavesAll (AreSpared name v f last before) m0 m2 answer
 leaves_all name v f last m0 m1 m2 r answer spares durable state printed time before set left here =

@@ -1,4 +1,4 @@
--- The end marker is written behind the last block of a set into which none was put yet.
+-- The end marker is written after the last block of a set into which none was put yet.
 use Rattle.std.proofs.Common.{◌≡◌, ◌+◌, ◌/◌, ◌%◌, ◌≤◌, ◌<◌, ℕ, false, List, [], length, take, drop, None, Some, Result, inr, refl, sym, ap, ◌∙◌, subst, arith}
 use Rattle.std.specs.Prelude.{slice_get}
 use Rattle.std.proofs.lemmas.List.{append-nil, take_all}

@@ -1,4 +1,4 @@
--- What calls that write nothing leave of a writer's image, and the buffer of its index behind them.
+-- What calls that write nothing leave of a writer's image, and the buffer of its index after them.
 use Rattle.std.proofs.Common.{◌≡◌, ◌≤◌, ◌<◌, ℕ, List, Some, Result, Ok, Err, sym, ap, ◌∙◌, subst}
 use Rattle.std.specs.Prelude.{IfOk, OnOk, slice_get}
 use Rattle.dscb_codec.specs.declared.Dscb.TheVariants as formats

@@ -1,4 +1,4 @@
--- A body of which the last block's track goes on, or another begins behind it.
+-- A body of which the last block's track goes on, or another begins after it.
 use Rattle.std.proofs.Common.{◌≡◌, ◌+◌, ◌≤◌, ◌<◌, ℕ, zero, suc, Bool, true, false, cond, ◌&&◌, ◌||◌, List, [], ◌∷◌, ◌++◌, length, get_or, map, Option, Some, None, refl, sym, ap, ap₂, ◌∙◌, subst, arith, option_and_then, append_assoc}
 use Rattle.std.specs.Prelude.{◌==◌, is_none, position, slice_get, unwrap_or}
 use Rattle.std.specs.List.{flat_map, list_all, list_any, range_with_len}

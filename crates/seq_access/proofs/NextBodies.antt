@@ -1,4 +1,4 @@
--- The place of a body's next block is the one behind all its records: of a partitioned set those of its directory count on their track.
+-- The place of a body's next block is the one after all its records: of a partitioned set those of its directory count on their track.
 use Rattle.std.proofs.Common.{◌≡◌, ◌⊎◌, ◌+◌, ◌-◌, ◌≤◌, ◌<◌, ℕ, Bool, true, false, cond, List, [], ◌∷◌, ◌++◌, map, inl, inr, refl, sym, ap, ◌∙◌, arith, append_assoc}
 use Rattle.std.specs.Prelude.{◌==◌, replicate}
 use Rattle.std.proofs.lemmas.Bool.Decides.{eqb_tells, nat_tests}
@@ -36,7 +36,7 @@ lengths_both k us ws =
     ap (map (λ (b : Block). lengths (content b))) (filter-append (λ (b : Block). b.place.tt == k) us ws)
     ∙ map-append (λ (b : Block). lengths (content b)) _ _
 
--- the last of blocks behind a place isn't before that
+-- the last of blocks after a place isn't before that
 not_itself : (p : Place) → is_before p p ≡ false
 not_itself p = grind (arith, nat_tests)
 
@@ -47,7 +47,7 @@ last_behind end p (b ∷ bs) low behind = last_behind end b.place bs (not_both e
 from_track : (end p : Place) → is_before p end ≡ false → end.tt ≤ p.tt
 from_track end p low = grind (arith, nat_tests)
 
--- and the next place is behind that
+-- and the next place is after that
 place_past : (device : DiskType) (end last : Place) (earlier : List (ℕ × ℕ)) (new : ℕ × ℕ) → is_before last end ≡ false → is_before end (place_behind device last earlier new) ≡ true
 place_past device end last earlier new low = by (fits device earlier new.0 new.1)
   where
@@ -119,7 +119,7 @@ module _ (device : DiskType) (n : ℕ) (end : Place) (es : List Entry) (front : 
       ∙ ap (λ (l : List Block). placed device (Seq l) cs) (sym (append_assoc front bs (b ∷ []))))
       ∙ ap (λ (d : Block). d ∷ placed device (Seq ((front ++ bs) ++ d ∷ [])) cs) same
 
-  -- all records behind which the next block comes
+  -- all records after which the next block comes
   pub written_part : (bs : List Block) (cs : List Content) → AreBehind end bs → front ++ (bs ++ placed device (Part n end es bs) cs) ≡ (front ++ bs) ++ placed device (Seq (front ++ bs)) cs
   written_part bs cs from = sym (append_assoc front bs (placed device (Part n end es bs) cs)) ∙ ap (λ (l : List Block). (front ++ bs) ++ l) (placed_part bs cs from)
 
@@ -163,7 +163,7 @@ module _ (image : List ℕ) (v : Vol) (w : Writer) (is : IsWriting image v w) (l
         in
         same_blocks is.old _ (sym is.front ∙ here) ∙ parts.all
 
-  -- The next block's place is the one behind them.
+  -- The next block's place is the one after them.
   pub next_same : (c : Content) → place_next is c ≡ record_next is c
   next_same c = by_body v.geometry (data_in image v) is.f.name (attr_of is.f) (extents_in image v is.f) is.f.lstar (place_next is c ≡ record_next is c) is.writable seq part
     where

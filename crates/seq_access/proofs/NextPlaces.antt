@@ -17,7 +17,7 @@ abbrev pub AreBefore : ℕ → List Block → Type 0
 AreBefore k [] = Unit {0}
 AreBefore k (b ∷ bs) = (b.place.tt < k) × AreBefore k bs
 
--- one more content behind the others
+-- one more content after the others
 pub placed_more : (device : DiskType) (old : List Block) (cs : List Content) (c : Content) → placed device (bodies.Seq old) (cs ++ c ∷ []) ≡ placed device (bodies.Seq old) cs ++ next_block device (bodies.Seq (old ++ placed device (bodies.Seq old) cs)) c ∷ []
 unfolding placed
 placed_more device old [] c = ap (λ (l : List Block). next_block device (bodies.Seq l) c ∷ []) (sym (append-nil old))
@@ -71,7 +71,7 @@ pub last_behind : (p : Place) (front : List Block) (k r : ℕ) (x : Record) (xs 
 last_behind p [] k r x xs = last_at p k r x xs
 last_behind p (b ∷ bs) k r x xs = last_behind b.place bs k r x xs
 
--- The next content goes behind the last record, by the lengths of those on its track.
+-- The next content goes after the last record, by the lengths of those on its track.
 pub next_behind : (device : DiskType) (front : List Block) (k : ℕ) (x : Record) (xs : List Record) (c : Content) → AreBefore k front
     → next_place device (bodies.Seq (front ++ blocks_from k 1 (x ∷ xs))) c ≡ place_behind device (record { tt = k; r = length (x ∷ xs) }) (map sizes (x ∷ xs)) (lengths c)
 unfolding next_place

@@ -97,7 +97,7 @@ module _ (image : List ℕ) (v : Vol) (f : F1) (end : Place) (at : end ≡ end_i
   of : (n : ℕ) × (es : List Entry) × (bs : List Block) × (part_in image v f ≡ Part n end es bs)
   of = shape image v f end at readable_part
 
-  -- where no block stands behind the directory's end
+  -- where no block stands after the directory's end
   pub closed_none : is_before end last ≡ false → false ≡ is_open_ended (body_blocks (part_in image v f))
   closed_none none =
       let no : of.2 ≡ [] = no_members g tracks extents f.lstar of.0 end of.1 of.2 of.3 none in

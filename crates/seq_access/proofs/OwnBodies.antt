@@ -31,7 +31,7 @@ use Rattle.seq_access.proofs.PartReading.{all, read_up_to}
 some_record : (m n : ℕ) → ((m == m) && (n == 0)) ≡ false → 1 ≤ n
 some_record m n is = grind (arith, nat_tests)
 
--- a partitioned body that can be read is read up to a record behind R0
+-- a partitioned body that can be read is read up to a record after R0
 pub part_first : (g : Geometry) (tracks : List (List ℕ)) (extents : List Run) (lstar : List ℕ) (n : ℕ) (end : Place) (es : List Entry) (bs : List Block) → part_body g tracks extents lstar ≡ Part n end es bs → 1 ≤ (read_to end lstar).r
 unfolding part_at part_on
 part_first g tracks extents lstar n end es bs is = by_read (part_read g tracks extents lstar n end es bs is (read_to end lstar).tt (omega arith))

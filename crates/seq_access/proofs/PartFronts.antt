@@ -1,4 +1,4 @@
--- The records of a partitioned data set that can be read: those up to its directory's end, and the blocks of its members behind them.
+-- The records of a partitioned data set that can be read: those up to its directory's end, and the blocks of its members after them.
 use Rattle.std.proofs.Common.{◌≡◌, ◌+◌, ◌-◌, ◌≤◌, ◌<◌, ℕ, zero, suc, Bool, true, false, cond, ◌&&◌, ◌||◌, List, [], ◌∷◌, ◌++◌, length, map, take, drop, Option, Some, None, refl, sym, ap, ap₂, ◌∙◌, subst, arith, append_assoc, length-take, take-append-drop}
 use Rattle.std.specs.Prelude.{◌==◌, replicate, unwrap_or}
 use Rattle.std.specs.List.{enumerate_from, find, flat_map, list_all, list_any, range_with_len}
@@ -29,7 +29,7 @@ pub record AreFront (end : Place) (front : List Block) : Type 0 where
   pub here : lengths_on end.tt front ≡ replicate (end.r - 1) directory_lengths ++ (0, 0) ∷ []
   pub later : (k : ℕ) → end.tt < k → lengths_on k front ≡ []
 
--- blocks behind it
+-- blocks after it
 abbrev pub AreBehind : Place → List Block → Type 0
 AreBehind end [] = Unit {0}
 AreBehind end (b ∷ bs) = (is_before end b.place ≡ true) × AreBehind end bs
@@ -77,7 +77,7 @@ not_past end r low = grind (arith, nat_tests)
 before_end_at : (end : Place) (r : ℕ) → r < end.r → is_before (record { tt = end.tt; r = r }) end ≡ true
 before_end_at end r low = grind (arith, nat_tests)
 
--- none of the first records stands behind it
+-- none of the first records stands after it
 none_past : (end : Place) (r : ℕ) (xs : List Record) → r + length xs ≤ end.r + 1 → behind_end end (blocks_from end.tt r xs) ≡ []
 none_past end r [] low = refl
 none_past end r (x ∷ xs) low =
@@ -168,7 +168,7 @@ module _ (g : Geometry) (tracks : List (List ℕ)) (extents : List Run) (lstar :
   past : IsPast end to
   past = read_past_end end lstar
 
-  -- What is read of the end's track: the records up to the end-of-file record, and others behind it.
+  -- What is read of the end's track: the records up to the end-of-file record, and others after it.
   end_track : (read : IsRead g tracks owned end to end.tt) → (end.r ≤ length read.xs) × (list_any is_end_record (take end.r read.xs) ≡ true)
   end_track read = by_some (records_in g tracks (Some end.r) read.track) refl (end_passes g tracks read.track end.r stands)
     where
@@ -197,7 +197,7 @@ module _ (g : Geometry) (tracks : List (List ℕ)) (extents : List Run) (lstar :
     none : behind_end end front ≡ []
     behind : AreBehind end rest
 
-  -- those of later tracks stand behind it
+  -- those of later tracks stand after it
   later_behind : (m low : ℕ) → end.tt < low → low + m ≤ to.tt + 1 → AreBehind end (walk m low)
   later_behind zero low past upto = tt
   later_behind (suc m) low past upto =

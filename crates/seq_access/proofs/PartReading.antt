@@ -1,4 +1,4 @@
--- The records of a partitioned data set that can be read are those of a sequential one up to the same place, and the blocks of its members are those behind its directory's end.
+-- The records of a partitioned data set that can be read are those of a sequential one up to the same place, and the blocks of its members are those after its directory's end.
 use Rattle.std.proofs.Common.{◌≡◌, ◌≢◌, ◌⊎◌, ◌+◌, ◌≤◌, ◌<◌, ℕ, zero, suc, Bool, true, false, cond, not, List, [], ◌∷◌, ◌++◌, length, map, Option, Some, None, inl, inr, refl, sym, ap, ap₂, ◌∙◌, subst, arith, option_and_then}
 use Rattle.std.specs.Prelude.{◌==◌, ◌&&◌, ◌||◌, is_none, nat_le, nat_lt, slice_get, slice_index, unwrap_or, IfOk, IfSome, IsTrue, Result, Ok, Err}
 use Rattle.std.specs.List.{enumerate_from, flat_map, list_all, range_with_len}
@@ -77,9 +77,9 @@ module _ (P : List Block → Type 0) (none : P []) (both : (xs ys : List Block) 
   on_all zero low each = none
   on_all (suc n) low each = both (unwrap_or (at low) []) _ (each low (omega arith) (omega arith)) (on_all n (low + 1) (λ k l u. each k (omega (arith, l)) (omega (arith, u))))
 
--- ---- the blocks behind the end
+-- ---- the blocks after the end
 
--- none of a track's records up to the end stands behind it
+-- none of a track's records up to the end stands after it
 none_past : (end : Place) (r : ℕ) (xs : List Record) → r + length xs ≤ end.r + 1 → behind_end end (blocks_from end.tt r xs) ≡ []
 none_past end r [] low = refl
 none_past end r (x ∷ xs) low =
@@ -180,7 +180,7 @@ module _ (g : Geometry) (tracks : List (List ℕ)) (extents : List Run) (lstar :
       same_at : (k : ℕ) → k < 0 + ((last_of told).tt + 1) → blocks_at g tracks owned (last_of told) k ≡ part_at g tracks owned end to k
       same_at k low = ap (λ (p : Place). blocks_at g tracks owned p k) ends ∙ blocks_same g tracks owned end to k (there k low)
 
-  -- Where no block stands behind the directory's end, there are no members' blocks.
+  -- Where no block stands after the directory's end, there are no members' blocks.
   pub no_members : is_before end last ≡ false → bs ≡ []
   no_members none = sym part.blocks ∙ on_each (λ (xs : List Block). behind_end end xs ≡ []) refl
       (λ xs ys first second. filter-append (λ (b : Block). is_before end b.place) xs ys ∙ ap₂ (λ (us ws : List Block). us ++ ws) first second) each
@@ -245,7 +245,7 @@ module _ (image : List ℕ) (v : Vol) (f : F1) (end : Place) (at : end ≡ end_i
   has_members : readable (part_in image v f) ≡ Ok shape.2
   has_members = ap readable shape.3
 
-  -- where no block stands behind the end, there are no members' blocks
+  -- where no block stands after the end, there are no members' blocks
   module _ (none : false ≡ is_before end (last_of f.lstar)) where
     none_there : shape.2 ≡ []
     none_there = no_members v.geometry (data_in image v) (extents_in image v f) f.lstar shape.0 end shape.1 shape.2 shape.3 (sym none)

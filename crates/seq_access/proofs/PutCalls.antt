@@ -1,4 +1,4 @@
--- What the calls of a put come to: one makes the buffer of the index ready, and one writes behind its records.
+-- What the calls of a put come to: one makes the buffer of the index ready, and one writes after its records.
 use Rattle.std.proofs.Common.{◌≡◌, ◌+◌, ◌≤◌, ◌<◌, ℕ, List, [], ◌∷◌, length, Result, Ok, sym, ap, ◌∙◌, subst}
 use Rattle.std.specs.Prelude.{None, Some, slice_get, unwrap_or}
 use Rattle.ckd_image.specs.declared.header.Geometry.{Geometry}

@@ -1,4 +1,4 @@
--- Where the next block of a writer goes on an image, and what a write behind the records of that track leaves.
+-- Where the next block of a writer goes on an image, and what a write after the records of that track leaves.
 use Rattle.std.proofs.Common.{◌≡◌, ◌≢◌, ◌⊎◌, ◌+◌, ◌≤◌, ◌<◌, ◌/◌, ◌%◌, ℕ, Bool, true, false, cond, List, [], ◌∷◌, ◌++◌, length, map, drop, Option, Some, None, inl, inr, refl, sym, ap, ◌∙◌, subst, arith, ⊎_elim}
 use Rattle.std.specs.Prelude.{slice_get}
 use Rattle.std.specs.List.{range_with_len}
@@ -60,7 +60,7 @@ some_of image v w is = by (lstar_of (last_in image v is.f)) (has_no_block (lstar
 same_blocks : (xs ys : List Block) → Seq xs ≡ Seq ys → xs ≡ ys
 same_blocks xs ys e = cc
 
--- the blocks behind which a writer puts: none, or those up to the last one's track and those on it
+-- the blocks after which a writer puts: none, or those up to the last one's track and those on it
 abbrev pub Stands : {image : List ℕ} {v : Vol} {w : Writer} → IsWriting image v w → Type 0
 Stands {image} {v} {w} is = ((w.last ≡ record { tt = 0; r = 0 }) × (written_by is ≡ [])) ⊎ Parts v.geometry (extents_in image v is.f) (data_in image v) w.last (written_by is)
 
@@ -89,7 +89,7 @@ count_in g tracks r t xs is = count_of (t / heads_of g) (t % heads_of g) r _ xs 
 pub all_on : (image : List ℕ) (g : Geometry) (u : Option ℕ) (t n : ℕ) (xs : List Record) → records_on image g u t ≡ Some xs → n ≡ length xs → records_on image g (Some n) t ≡ Some xs
 all_on image g u t n xs is same = first_on image g u t n xs is (omega (arith, same)) ∙ ap (λ (l : List Record). Some l) (take_all n xs (omega (arith, same)))
 
--- behind the records of the last block's track
+-- after the records of the last block's track
 next_of : (device : DiskType) (front : List Block) (k r : ℕ) (xs : List Record) (c : Content) → length xs ≡ r → 1 ≤ r → AreBefore k front
     → next_place device (Seq (front ++ blocks_from k 1 xs)) c ≡ place_behind device (record { tt = k; r = r }) (map sizes xs) (lengths c)
 next_of device front k r [] c e first before = absurd (omega (arith, e, first))
@@ -115,7 +115,7 @@ pub record PutsAt (image : List ℕ) (v : Vol) (w : Writer) (is : IsWriting imag
   pub low : w.last.tt < 65536
   pub small : w.last.r < 256
 
--- one place is the next behind another, on its track or not
+-- one place is the next after another, on its track or not
 abbrev pub Follows : Place → Place → Type 0
 Follows p last = ((p.tt ≡ last.tt) × (p.r ≡ last.r + 1)) ⊎ ((p.tt ≡ last.tt + 1) × (p.r ≡ 1))
 
@@ -160,7 +160,7 @@ module _ (image : List ℕ) (v : Vol) (w : Writer) (is : IsWriting image v w) (c
       (λ far. ⊎_elim (λ low. absurd (omega (arith, low, same, far.0))) (λ on. absurd (omega (arith, on.0, same, far.0))) before)
       follows
 
-  -- what is written behind them is behind the set's last block
+  -- what is written after them is after the set's last block
   module _ (new : List Record) (after : List ℕ) (put : IsContinued v.buf new image after) where
     pub elsewhere : (track : ℕ) → track ≢ v.buf.track → track_bytes after v.geometry track ≡ track_bytes image v.geometry track
     elsewhere track apart = subst (λ (g : Geometry). track_bytes after g track ≡ track_bytes image g track) at.geometry (put.others track apart)

@@ -1,4 +1,4 @@
--- A put of a writer, step by step: the buffer of the index is made ready, and the block is written behind its records.
+-- A put of a writer, step by step: the buffer of the index is made ready, and the block is written after its records.
 use Rattle.std.proofs.Common.{◌≡◌, ◌+◌, ◌*◌, ◌/◌, ◌%◌, ◌≤◌, ◌<◌, ℕ, true, List, [], ◌∷◌, ◌++◌, length, map, Result, Ok, inr, refl, sym, ap, ap₂, ◌∙◌, subst, arith}
 use Rattle.std.specs.Prelude.{IsErr, slice_get}
 use Rattle.std.proofs.lemmas.List.{length-map}
@@ -40,7 +40,7 @@ use Rattle.seq_access.proofs.PutPlaces.{PutsAt, differs, ends_of, past, same_so_
 use Rattle.seq_access.proofs.SparedFiles.{MayWrite, spared_pends}
 use Rattle.seq_access.proofs.SparedSets.{bare, bare_set, may_write, same_runs, set_kept}
 
--- what fits a track by its capacity fits the bytes behind a buffer's records
+-- what fits a track by its capacity fits the bytes after a buffer's records
 offset_lengths : (xs : List Record) → offset_of xs (length xs) ≡ 8 * length xs + lengths_of (map sizes xs)
 offset_lengths [] = refl
 offset_lengths (x ∷ xs) = omega (arith, offset_lengths xs, sum_by-cons (λ (l : ℕ × ℕ). l.0 + l.1) (sizes x) (map sizes xs))

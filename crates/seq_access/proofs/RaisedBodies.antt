@@ -1,4 +1,4 @@
--- The body that a data set has with a further last block: its own, with what was put behind that.
+-- The body that a data set has with a further last block: its own, with what was put after that.
 use Rattle.std.proofs.Common.{◌≡◌, ◌⊎◌, ◌+◌, ◌≤◌, ◌<◌, ℕ, zero, suc, Bool, true, false, cond, ◌&&◌, List, [], ◌∷◌, ◌++◌, length, map, take, Option, Some, None, inl, inr, refl, sym, ap, ap₂, ◌∙◌, subst, arith, option_and_then, ⊎_elim}
 use Rattle.std.specs.Prelude.{◌==◌, is_none, slice_get, unwrap_or}
 use Rattle.std.specs.List.{enumerate_from, flat_map, list_all, list_any, range_with_len}
@@ -43,7 +43,7 @@ stand_past end k r (x ∷ xs) past are =
     let both = and_parts (is_block x) (list_all is_block xs) are in
     ap₂ (λ (a b : Bool). a && b) (ap (λ (b : Bool). cond b (is_directory_record x) (is_block x)) (past r (omega arith)) ∙ both.0) (stand_past end k (r + 1) xs (λ q low. past q (omega (arith, low))) both.1)
 
--- and behind others that may
+-- and after others that may
 stand_more : (end : Place) (k m r : ℕ) (xs : List Record) → list_all (may_stand end k) (enumerate_from r (take m xs)) ≡ true → ((q : ℕ) → r + m ≤ q → is_before (record { tt = k; r = q }) end ≡ false) → list_all is_block xs ≡ true → list_all (may_stand end k) (enumerate_from r xs) ≡ true
 stand_more end k zero r xs stand past are = stand_past end k r xs (λ q low. past q (omega (arith, low))) are
 stand_more end k (suc m) r [] stand past are = refl

@@ -73,7 +73,7 @@ module _ (name : List ℕ) (last : Place) (balance : ℕ) where
   same_slot : (s : VtocSlot) → has_named name s ≡ false → s ≡ changed_slot (one_raised name last balance) s
   same_slot s apart = ap (λ (d : Result Dscb DscbErr). record s { content = d }) (sym (unnamed s.content apart))
 
--- A data set in a slot has this body, and these contents behind its blocks up to another last block.
+-- A data set in a slot has this body, and these contents after its blocks up to another last block.
 pub record CanRaise (image : List ℕ) (v : Vol) (slot : ℕ) (f : F1) (last : Place) (mode : Mode) (body : Body) (cs : List Content) : Type 0 where
   pub mounted : IsMounted image v
   pub set : slice_get v.slots.items slot ≡ Some (formats.F1 f)

@@ -97,7 +97,7 @@ module _ (image : List ℕ) (v : Vol) (w : Writer) (is : IsWriting image v w) (l
       blocks = parts.blocks;
     }
 
-    -- and the next block goes behind its records
+    -- and the next block goes after its records
     pub next_by : (t : ℕ) (xs : List Record) → slice_get (owned_in image v is.f) w.last.tt ≡ Some t → records_on image v.geometry (Some w.last.r) t ≡ Some xs → (c : Content)
         → record_next is c ≡ place_behind v.geometry.device (record { tt = w.last.tt; r = length xs }) (map sizes xs) (lengths c)
     next_by t xs owned stands c =

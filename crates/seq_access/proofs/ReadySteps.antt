@@ -52,7 +52,7 @@ module _ (image : List ℕ) (v : Vol) (w : Writer) (is : IsWriting image v w) (l
         next_by image v w is low small first b.track b.records held.owned held.stand c
         ∙ ap (place_behind v.geometry.device (record { tt = w.last.tt; r = length b.records }) (map sizes b.records)) same
 
-    -- behind the last block on its track, where it fits that
+    -- after the last block on its track, where it fits that
     pub ready_same : (v' : Vol) (place : Place) → v' ≡ record v { buf = b } → IsMounted image (record v { buf = b }) → b.geometry ≡ v.geometry → fits v.geometry.device (map sizes b.records) kl dl ≡ true → place ≡ record { tt = w.last.tt; r = length b.records + 1 }
         → IsReady is kl dl place image v'
     ready_same v' place same m geometry fit at =

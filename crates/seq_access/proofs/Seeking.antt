@@ -178,7 +178,7 @@ tracks_more at n =
     ∙ flat_map-append (λ o. unwrap_or o []) (map at (range_with_len 0 n)) (at n ∷ [])
     ∙ ap (λ (l : List Block). blocks_on_tracks at n ++ l) (append-nil (unwrap_or (at n) []))
 
--- the blocks on the tracks before one, on it, and behind it
+-- the blocks on the tracks before one, on it, and after it
 tracks_split : (at : ℕ → Option (List Block)) (k d : ℕ) → (more : List Block) × (blocks_on_tracks at (k + 1 + d) ≡ blocks_on_tracks at k ++ (unwrap_or (at k) [] ++ more))
 tracks_split at k zero =
     let same : k + 1 + zero ≡ k + 1 = omega arith in

@@ -1,4 +1,4 @@
--- What calls leave of files that differ behind the last block of a data set alone, one after another and under other buffers of the index.
+-- What calls leave of files that differ after the last block of a data set alone, one after another and under other buffers of the index.
 use Rattle.std.proofs.Common.{◌≡◌, ℕ, List, [], Result, refl, sym, ◌∙◌, subst}
 use Rattle.dscb_codec.specs.declared.F1.{F1}
 use Rattle.stop_model.specs.Files.{File}
@@ -45,7 +45,7 @@ module _ (name : List ℕ) (v : Vol) (f : F1) (last : Place) where
     here,
   )
 
-  -- and others behind them
+  -- and others after them
   pub spares_then : {T E : Type 0} (old mid new : Meaning (List File)) (result : Result T E) → Same old mid → Spares name v f last mid new result → Spares name v f last old new result
   spares_then old mid new result same spares before set left here =
       let k = spares before set (λ files l. left files ((same.left files).0 l)) (subst (AreSpared name v f last before) (sym same.state) here) in (

@@ -1,4 +1,4 @@
--- Files in which a write behind the last block of a data set is pending or done.
+-- Files in which a write after the last block of a data set is pending or done.
 use Rattle.std.proofs.Common.{◌≡◌, ◌+◌, ◌≤◌, ◌<◌, ℕ, List, [], length, take, Option, Some, None, Result, Ok, Err, refl, sym, ap, ◌∙◌, subst, arith, ⊎_elim}
 use Rattle.std.specs.Prelude.{OnOk, slice_get, unwrap_or}
 use Rattle.ckd_image.specs.Header.{HasGeometry}
@@ -19,7 +19,7 @@ use Rattle.seq_access.specs.Bodies.{owned_in}
 use Rattle.seq_access.specs.Writing.{AreSpared, DifferBehind}
 use Rattle.seq_access.proofs.SparedImages.{spared_write}
 
--- What a write behind a buffer's records asks, on the image before: the buffer is of a track of the set that isn't before its last block's, and holds the records up to that block, if it is that track.
+-- What a write after a buffer's records asks, on the image before: the buffer is of a track of the set that isn't before its last block's, and holds the records up to that block, if it is that track.
 pub record MayWrite (before : List ℕ) (v : Vol) (f : F1) (last : Place) (b : Buffer) (new : List Record) : Type 0 where
   pub geometry : b.geometry ≡ v.geometry
   pub whole : HasGeometry (length before) v.geometry

@@ -1,4 +1,4 @@
--- Images that differ on tracks of a data set behind the last record that is read stand for one volume.
+-- Images that differ on tracks of a data set after the last record that is read stand for one volume.
 use Rattle.std.proofs.Common.{◌≡◌, ◌⊎◌, ◌+◌, ◌≤◌, ◌<◌, ℕ, List, [], length, take, Some, None, inl, inr, sym, ap, ◌∙◌, subst, arith}
 use Rattle.std.specs.Prelude.{slice_get}
 use Rattle.std.proofs.lemmas.Bool.Decides.{eqb_tells}
@@ -80,7 +80,7 @@ module _ (before after : List ℕ) (v : Vol) (f : F1) (set : IsSetIn before v f)
     pub spared_mounted : ((v.buf.records ≡ []) ⊎ StandsOn after v.buf) → IsMounted after v
     spared_mounted held = mounted_same before after v keeps set.set.mounted (ap volume_faults volume_kept) (ap free_runs volume_kept) v.buf held
 
--- A write behind the records of a buffer, on a track of the set that isn't before its last block's, leaves images that differ so.
+-- A write after the records of a buffer, on a track of the set that isn't before its last block's, leaves images that differ so.
 pub spared_write : (before image : List ℕ) (v : Vol) (f : F1) (last : Place) (b : Buffer) (new : List Record) (k : ℕ) → b.geometry ≡ v.geometry → HasGeometry (length image) v.geometry → b.track < tracks_of v.geometry → start_behind b.records + length (continuation b new) ≤ v.geometry.track_size
     → slice_get (owned_in before v f) k ≡ Some b.track → last.tt ≤ k
     → (slice_get (owned_in before v f) last.tt ≡ Some b.track → 1 ≤ last.r → (last.r ≤ length b.records) × (records_on before v.geometry (Some last.r) b.track ≡ Some (take last.r b.records)))

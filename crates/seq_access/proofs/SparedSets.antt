@@ -1,4 +1,4 @@
--- A data set on an image, and on one that differs behind its last block alone.
+-- A data set on an image, and on one that differs after its last block alone.
 use Rattle.std.proofs.Common.{◌≡◌, ◌⊎◌, subst, ◌+◌, ◌≤◌, ◌<◌, ◌/◌, ◌%◌, ℕ, Bool, true, cond, List, [], length, take, map, Option, Some, None, inl, refl, sym, ap, ◌∙◌, arith, ⊎_elim}
 use Rattle.std.specs.Prelude.{slice_get}
 use Rattle.std.specs.List.{range_with_len}
@@ -119,7 +119,7 @@ module _ (before after : List ℕ) (v : Vol) (f : F1) (set : IsSetIn before (bar
       extents = ap (λ (ss : List VtocSlot). has_extents v.geometry ss f) (slots_kept before after (bare v) f set last differ_bare) ∙ set.set.extents;
     }
 
-  -- A buffer of a track that isn't before the last record's, which holds the records up to that there, may be written behind.
+  -- A buffer of a track that isn't before the last record's, which holds the records up to that there, may be written after.
   pub may_write : (b : Buffer) (new : List Record) (k : ℕ) → b.geometry ≡ v.geometry → start_behind b.records + length (continuation b new) ≤ v.geometry.track_size
       → slice_get (owned_in after v f) k ≡ Some b.track → last.tt ≤ k → (last.tt ≡ k → last.r ≤ length b.records) → MayContinue after b → MayWrite before v f last b new
   may_write b new k same room owned past low may =

@@ -49,7 +49,7 @@ module _ (image : List ℕ) (v : Vol) (b : Buffer) where
     ended = is.ended;
   }
 
--- the track of the last block that was put ends behind it
+-- the track of the last block that was put ends after it
 pub ended_put : (image : List ℕ) (v : Vol) (w : Writer) (is : IsWriting image v w) → has_put w ≡ true → IsEnded image v is.f is.old w image v
 ended_put image v w is put = record {
   writing = is;

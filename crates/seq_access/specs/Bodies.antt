@@ -50,7 +50,7 @@ Checks (Err Device) body = Unit {0}
 abbrev pub part_in : List ℕ → Vol → F1 → Body
 part_in image v f = part_body v.geometry (data_in image v) (extents_in image v f) f.lstar
 
--- the place of its directory's end-of-file record; where there is none, behind its tracks
+-- the place of its directory's end-of-file record; where there is none, after its tracks
 abbrev pub end_in : List ℕ → Vol → F1 → Place
 end_in image v f = end_from v.geometry (data_in image v) 0 (owned_in image v f)
 
@@ -76,13 +76,13 @@ FindsBroken (Err Device) broken = Unit {0}
 abbrev pub body_of_set : List ℕ → Vol → F1 → Body
 body_of_set image v f = body_of v.geometry (data_in image v) f.name (attr_of f) (extents_in image v f) f.lstar
 
--- blocks may be put behind those of a body: it is sequential or partitioned, and can be read
+-- blocks may be put after those of a body: it is sequential or partitioned, and can be read
 abbrev pub IsWritable : Body → Type 0
 IsWritable (bodies.Seq blocks) = Unit {0}
 IsWritable (bodies.Part dir end entries blocks) = Unit {0}
 IsWritable body = ⊥
 
--- the place of the last record that is read of a body with this LSTAR: behind it the next block goes
+-- the place of the last record that is read of a body with this LSTAR: after it the next block goes
 abbrev pub last_read : Body → List ℕ → Place
 last_read (bodies.Part dir end entries blocks) lstar = read_to end lstar
 last_read body lstar = last_of lstar
@@ -91,7 +91,7 @@ last_read body lstar = last_of lstar
 abbrev pub last_in : List ℕ → Vol → F1 → Place
 last_in image v f = last_read (body_of_set image v f) f.lstar
 
--- Blocks may be put behind those of a data set, whose last record has this place.
+-- Blocks may be put after those of a data set, whose last record has this place.
 abbrev pub IsLastOf : List ℕ → Vol → F1 → Place → Type 0
 IsLastOf image v f last = IsWritable (body_of_set image v f) × (last ≡ last_in image v f)
 

@@ -52,7 +52,7 @@ Finds (Ok None) body from b = (blocks : List Block) × HasBlocks body blocks
     × (blocks_from from blocks ≡ [])
 Finds (Err e) body from b = Unit {0}
 
--- the block at a place on a relative track is the record of its number in a buffer, or none stands there or behind it
+-- the block at a place on a relative track is the record of its number in a buffer, or none stands there or after it
 abbrev pub FindsOn : Result (Option Place) Device → Option (List Block) → Place → Buffer → Type 0
 FindsOn (Ok (Some p)) blocks at b = (on : List Block) × (x : Record) × (blocks ≡ Some on)
     × (slice_get b.records (at.r - 1) ≡ Some x) × (slice_get on (at.r - 1) ≡ Some (block_of at x))
@@ -84,7 +84,7 @@ GivesFirst (Ok None) body from = (blocks : List Block) × HasBlocks body blocks
     × (blocks_from from blocks ≡ [])
 GivesFirst (Err e) body from = Unit {0}
 
--- The blocks at or after a start are those behind a directory's end that aren't before a place; the number of a record is one byte.
+-- The blocks at or after a start are those after a directory's end that aren't before a place; the number of a record is one byte.
 pub record IsStart (end from start : Place) : Type 0 where
   pub same : (p : Place) → p.r ≤ 255 → not (is_before p start) ≡ (is_before end p && not (is_before p from))
 

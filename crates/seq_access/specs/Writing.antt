@@ -1,4 +1,4 @@
--- What a writer has put behind the blocks of a sequential or partitioned data set, and what its writes leave, in this project's profile.
+-- What a writer has put after the blocks of a sequential or partitioned data set, and what its writes leave, in this project's profile.
 use Rattle.std.specs.Prelude.{◌≡◌, ◌≢◌, ◌⊎◌, ℕ, ◌+◌, ◌≤◌, ◌<◌, nat_lt, Bool, true, false, List, [], ◌∷◌, ◌++◌, length, map, drop, take, slice_get, Option, Some, None, Ok, Result, OnOk}
 use Rattle.std.specs.List.{list_all}
 use Rattle.dscb_codec.specs.declared.Dscb.{Dscb}
@@ -43,7 +43,7 @@ body_so_far image v f w = body_upto image v f (lstar_of w.last)
 abbrev pub front_in : List ℕ → Vol → F1 → Body
 front_in image v f = body_upto image v f (lstar_of (last_in image v f))
 
--- what a writer put behind the blocks of a data set
+-- what a writer put after the blocks of a data set
 unfoldable pub puts_in : List ℕ → Vol → F1 → Writer → List Content
 puts_in image v f w = map content
     (drop (length (blocks_of (front_in image v f))) (blocks_of (body_so_far image v f w)))
@@ -61,7 +61,7 @@ abbrev pub EndsAt : Option Place → Body → Type 0
 EndsAt told (bodies.Part dir end entries blocks) = told ≡ Some end
 EndsAt told body = told ≡ None
 
--- A writer stands on an image: the format 1 in its slot is that of a set whose body can be read; behind its records stand those that were put, each at its next place; and the track of the last of these ends there.
+-- A writer stands on an image: the format 1 in its slot is that of a set whose body can be read; after its records stand those that were put, each at its next place; and the track of the last of these ends there.
 pub record IsWriting (image : List ℕ) (v : Vol) (w : Writer) : Type 0 where
   pub f : F1
   pub slot : slice_get v.slots.items w.slot ≡ Some (formats.F1 f)
@@ -85,7 +85,7 @@ body_with {image} {v} {w} is = with_blocks (body_of_set image v is.f) (placed v.
 abbrev pub place_next : {image : List ℕ} {v : Vol} {w : Writer} → IsWriting image v w → Content → Place
 place_next {v = v} is c = next_place v.geometry.device (body_with is) c
 
--- all records behind which the next one comes, as blocks
+-- all records after which the next one comes, as blocks
 abbrev pub written_by : {image : List ℕ} {v : Vol} {w : Writer} → IsWriting image v w → List Block
 written_by {image} {v} {w} is = is.old ++ placed v.geometry.device (bodies.Seq is.old) (puts_in image v is.f w)
 
@@ -146,14 +146,14 @@ abbrev pub HasEnd : {image : List ℕ} {v : Vol} {w : Writer} → IsWriting imag
 HasEnd {image} {v} is image' = (track : ℕ) → slice_get (owned_in image v is.f) (record_next is ([], [])).tt ≡ Some track
     → EndsWithNothing image' v.geometry track (record_next is ([], [])).r
 
--- A buffer holds records that can be blocks, and its track takes an end marker behind them.
+-- A buffer holds records that can be blocks, and its track takes an end marker after them.
 pub record IsRoomy (units : List Attached) (b : Buffer) : Type 0 where
   pub track : HasTrack units b.unit b.geometry b.track
   pub few : length b.records ≤ 255
   pub blocks : list_all is_block b.records ≡ true
   pub room : end_of b + 8 ≤ b.geometry.track_size
 
--- The buffer of an index is that of the track on which the next block of these lengths goes, with the records of the data set before it there; the last block's track ends behind it, if that is another.
+-- The buffer of an index is that of the track on which the next block of these lengths goes, with the records of the data set before it there; the last block's track ends after it, if that is another.
 pub record IsReady {image : List ℕ} {v : Vol} {w : Writer} (is : IsWriting image v w)
     (kl dl : ℕ) (place : Place) (image' : List ℕ) (v' : Vol) : Type 0 where
   pub next : (c : Content) → lengths c ≡ (kl, dl) → place ≡ record_next is c
@@ -170,7 +170,7 @@ pub record IsReady {image : List ℕ} {v : Vol} {w : Writer} (is : IsWriting ima
       → slice_get (owned_in image v is.f) w.last.tt ≡ Some track
       → records_on image' v.geometry None track ≡ records_on image' v.geometry (Some w.last.r) track
 
--- A writer stands as it did before, and the track of its last block ends behind that.
+-- A writer stands as it did before, and the track of its last block ends after that.
 pub record IsEnded (image : List ℕ) (v : Vol) (f : F1) (blocks : List Block) (w : Writer)
     (image' : List ℕ) (v' : Vol) : Type 0 where
   pub writing : IsWriting image' v' w
@@ -182,7 +182,7 @@ pub record IsEnded (image : List ℕ) (v : Vol) (f : F1) (blocks : List Block) (
   pub ended : (track : ℕ) → slice_get (owned_in image v f) w.last.tt ≡ Some track
       → records_on image' v.geometry None track ≡ records_on image' v.geometry (Some w.last.r) track
 
--- Images that differ behind a record of a data set alone, on its tracks.
+-- Images that differ after a record of a data set alone, on its tracks.
 pub record DifferBehind (v : Vol) (f : F1) (last : Place) (before after : List ℕ) : Type 0 where
   pub size : length after ≡ length before
   pub header : take 512 after ≡ take 512 before
@@ -200,7 +200,7 @@ pub record AreSpared (name : List ℕ) (v : Vol) (f : F1) (last : Place) (before
 abbrev pub HasSetBy : List ℕ → Vol → F1 → Type 0
 HasSetBy image v f = HasSet image (record v { buf = record (v.buf) { records = [] } }) f
 
--- Writes that no sync has made durable: where what is read and what a stop leaves differ behind a record of a data set alone, they do so still.
+-- Writes that no sync has made durable: where what is read and what a stop leaves differ after a record of a data set alone, they do so still.
 abbrev pub Spares : {T E : Type 0} → List ℕ → Vol → F1 → Place → Meaning (List File) → Meaning (List File)
     → Result T E → Type 0
 Spares name v f last old new result = (before : List File) → HasSetBy (image_named before name) v f
@@ -221,7 +221,7 @@ pub record IsLeftInCommit (name : List ℕ) (volume : Volume) (stepped : Result 
   pub guarded : IsGuarded (image_named before name) → IsGuarded (image_named files name)
   pub others : (other : List ℕ) → other ≢ name → file_of files other ≡ file_of before other
 
--- Images that differ behind the last record of a data set, which an index gives, and then in the VTOC alone.
+-- Images that differ after the last record of a data set, which an index gives, and then in the VTOC alone.
 pub record WrittenBehind (v : Vol) (before after : List ℕ) : Type 0 where
   pub old : Vol
   pub geometry : v.geometry ≡ old.geometry
@@ -234,7 +234,7 @@ pub record WrittenBehind (v : Vol) (before after : List ℕ) : Type 0 where
   pub behind : DifferBehind old f last before between
   pub alone : DifferInVtoc old.geometry old.vtoc between after
 
--- Once the blocks are the set's, the image stands for that durably, is settled where it was, and the index is the image's; it differs behind the set's last record and in the VTOC alone.
+-- Once the blocks are the set's, the image stands for that durably, is settled where it was, and the index is the image's; it differs after the set's last record and in the VTOC alone.
 pub record IsCommitted (name : List ℕ) (stepped : Result Volume Refusal) (v' : Vol)
     (before : List File) (new : Meaning (List File)) : Type 0 where
   pub after : Volume

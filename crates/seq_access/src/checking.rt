@@ -51,7 +51,7 @@ pub fn check_records<H: Hall>(hall: &mut H, vol: &mut Vol, set: &F1) -> Result<(
 }
 
 /// Walks the records of a partitioned data set from the track with its directory's end up to its last block, or to that end
-/// if this stands behind the last block, by its format 1, which is one of the index, and by the place of the directory's
+/// if this stands after the last block, by its format 1, which is one of the index, and by the place of the directory's
 /// end-of-file record.
 ///
 /// No track before is broken. `whole` tells that the buffer of the index holds all records of the track with the end: then

@@ -14,7 +14,7 @@ use track_records::TrackBuf;
 // The bytes of an end marker.
 const END_LEN: usize = 8;
 
-// Whether each record of a buffer can be a block, and a track of this size takes an end marker behind them.
+// Whether each record of a buffer can be a block, and a track of this size takes an end marker after them.
 pub(crate) fn is_roomy(buf: &TrackBuf, track_size: u32) -> bool
     requires { length buf.now.records ≤ 255 }
     ensures roomy { IsTrue result → (list_all is_block buf.now.records ≡ true)
@@ -54,7 +54,7 @@ fn lengths_of(buf: &TrackBuf) -> ([Lengths; 255], usize)
     (lengths, buf.len())
 }
 
-// Whether a record of these lengths fits a track behind those in a buffer.
+// Whether a record of these lengths fits a track after those in a buffer.
 pub(crate) fn fits_behind(device: DiskType, buf: &TrackBuf, new: Lengths) -> bool
     requires few { length buf.now.records ≤ 255 }
     requires blocks { list_all is_block buf.now.records ≡ true }

@@ -1,4 +1,4 @@
-//! The tracks of a data set in the buffer of an index, to be written behind its last block.
+//! The tracks of a data set in the buffer of an index, to be written after its last block.
 ghost use Rattle.std.specs.Prelude.{◌≡◌, ◌≢◌, ◌≤◌, ◌<◌, [], ℕ, List, Some, None, length, slice_get, IsTrue, IfErr, IfOk, OnOk, OnErr};
 ghost use Rattle.dscb_codec.specs.declared.F1.{F1};
 ghost use Rattle.hall_core.specs.Facts.{Attached, DeviceCall};

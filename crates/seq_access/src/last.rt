@@ -47,7 +47,7 @@ pub fn is_before(p: Place, q: Place) -> bool
     p.tt < q.tt || (p.tt == q.tt && p.r < q.r)
 }
 
-// Up to which place a partitioned data set is read: that of the last block, if it stands behind the directory's end, and
+// Up to which place a partitioned data set is read: that of the last block, if it stands after the directory's end, and
 // else that end.
 pub(crate) fn read_to(set: &F1, end: Place) -> Place
     ensures { result ≡ read_to end set.now.lstar }

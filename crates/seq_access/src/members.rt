@@ -20,7 +20,7 @@ use std::alloc::Global;
 use vol_model::{Block, BlockBuf, Place, WorkErr};
 use vtoc_index::Vol;
 
-/// Reads the first block at or after a place, of those behind the directory, into a block; false where there is none.
+/// Reads the first block at or after a place, of those after the directory, into a block; false where there is none.
 /// The block is blank then, and after an error.
 ///
 /// The set is a partitioned one whose body can be read, by its format 1, which is one of the index, and by the place of
@@ -63,7 +63,7 @@ pub fn read_part_into<H: Hall>(
     read_into(hall, vol, set, members_from(end, from), buf, block)
 }
 
-/// Reads the first block at or after a place, of those behind the directory; `None` where there is none.
+/// Reads the first block at or after a place, of those after the directory; `None` where there is none.
 ///
 /// As `read_part_into`, but for the memory of the block, which is the one other error.
 pub fn read_part_block<H: Hall>(
@@ -102,7 +102,7 @@ pub fn read_part_block<H: Hall>(
     read_block(alloc, hall, vol, set, members_from(end, from), buf)
 }
 
-/// Whether blocks stand behind the directory, and the last of them isn't an end-of-file block.
+/// Whether blocks stand after the directory, and the last of them isn't an end-of-file block.
 ///
 /// As `read_part_into`.
 pub fn is_open_ended<H: Hall>(
@@ -141,7 +141,7 @@ pub fn is_open_ended<H: Hall>(
     }
 }
 
-// From where the blocks at or after a place are read that stand behind a directory's end.
+// From where the blocks at or after a place are read that stand after a directory's end.
 fn members_from(end: Place, from: Place) -> Place
     requires { end.r ≡ 255 → end.tt < 65535 }
     ensures { IsStart end from result }

@@ -37,7 +37,7 @@ impl ReadBuf {
         })
     }
 
-    /// Forgets what was read, as behind a write to the track.
+    /// Forgets what was read, as after a write to the track.
     pub fn forget(&mut self)
         ensures { self.new ≡ record self.old { reach = Reach.Nothing } }
     {

@@ -1,4 +1,4 @@
-//! What writes blocks behind those of a sequential or partitioned data set.
+//! What writes blocks after those of a sequential or partitioned data set.
 ghost use Rattle.std.specs.Prelude.{◌≡◌};
 ghost use Rattle.seq_access.specs.declared.writer.PutErr.TheVariants as put_err;
 

@@ -1,4 +1,4 @@
-//! Blocks written behind those of a sequential or partitioned data set.
+//! Blocks written after those of a sequential or partitioned data set.
 ghost use Rattle.std.specs.Prelude.{◌≡◌, ◌≤◌, ◌<◌, ◌+◌, ◌-◌, ◌^◌, min, [], ℕ, List, Some, Ok, true, false, length, map, slice_get, slice_index_or, IsTrue, IsOk, IsErrOf, OnOk, OnErr, IfOk};
 ghost use Rattle.ckd_image.specs.Fit.{balance, fits};
 ghost use Rattle.dscb_codec.specs.declared.F1.{F1};
@@ -34,7 +34,7 @@ use vol_model::{Mode, Place, WorkErr};
 use vtoc_index::{Vol, set_last};
 use vtoc_sets::{fits_mode, track_at};
 
-/// Opens a writer behind the blocks of the sequential or partitioned data set in a slot, whose body can be read; of a
+/// Opens a writer after the blocks of the sequential or partitioned data set in a slot, whose body can be read; of a
 /// partitioned one by the place of its directory's end-of-file record.
 ///
 /// Nothing is read or written, so no error comes. No memory is taken.
@@ -66,10 +66,10 @@ pub fn begin<H: Hall>(
     })
 }
 
-/// Puts a block behind those of the set and those put so far, and gives its place.
+/// Puts a block after those of the set and those put so far, and gives its place.
 ///
 /// It stands on the track of the last block where it fits that, and else at the front of the set's next track, which
-/// begins anew; the track of the set's own last block is ended first then, so that no record behind it becomes a block.
+/// begins anew; the track of the set's own last block is ended first then, so that no record after it becomes a block.
 /// The writes are pending until the commit; a stop leaves the set as it is. `TooLong` comes exactly where the block
 /// doesn't fit an empty track, and else `NeedExtent` exactly where the set owns no track for it; nothing is written then.
 /// `Device` comes only where the count of its faults rose. No memory is taken.
@@ -129,7 +129,7 @@ pub fn put<H: Hall>(
     Ok(place)
 }
 
-/// Makes the blocks that were put those of the set: behind those of a sequential set an end-of-file record is put where
+/// Makes the blocks that were put those of the set: after those of a sequential set an end-of-file record is put where
 /// the set owns a track for it, all is made durable, and then the format 1 names the last block, durably.
 ///
 /// A stop leaves the set with all of the blocks or with none. Where no block was put, nothing is done. `Device` comes
@@ -305,7 +305,7 @@ fn next_track<H: Hall>(
     Ok(Place { tt: next, r: 1 })
 }
 
-// Ends the track of the set's own last block, whose records the buffer holds, if no block was put behind that yet.
+// Ends the track of the set's own last block, whose records the buffer holds, if no block was put after that yet.
 fn end_last<H: Hall>(hall: &mut H, vol: &mut Vol, writer: Writer) -> Result<(), Device>
     requires unit { IsOfUnit (H.facts hall.old).units vol.old }
     requires roomy { IsRoomy (H.facts hall.old).units vol.old.buf }
@@ -330,7 +330,7 @@ fn end_last<H: Hall>(hall: &mut H, vol: &mut Vol, writer: Writer) -> Result<(), 
     Ok(())
 }
 
-// Puts an end-of-file record behind the last block, where the set owns a track that takes it, makes all that was written
+// Puts an end-of-file record after the last block, where the set owns a track that takes it, makes all that was written
 // durable, and gives the balance of the last block's track.
 fn end_durably<H: Hall>(hall: &mut H, vol: &mut Vol, writer: Writer) -> Result<u16, Device>
     requires unit { IsOfUnit (H.facts hall.old).units vol.old }
@@ -395,7 +395,7 @@ fn last_balance<H: Hall>(hall: &mut H, vol: &mut Vol, writer: Writer) -> Result<
     Ok(balance_of(vol.geometry.device, &vol.buf))
 }
 
-// Puts an end-of-file record behind the last block of a sequential set, where that owns a track that takes it. It isn't
+// Puts an end-of-file record after the last block of a sequential set, where that owns a track that takes it. It isn't
 // a block of the set.
 fn put_end<H: Hall>(hall: &mut H, vol: &mut Vol, writer: Writer) -> Result<(), Device>
     requires unit { IsOfUnit (H.facts hall.old).units vol.old }
@@ -442,7 +442,7 @@ fn ends_with_a_record<H: Hall>(hall: &mut H, vol: &Vol, slot: u32) -> Result<boo
     Ok(fits_mode(&set, Mode::Fill))
 }
 
-// Puts an end-of-file record behind the last block, where the set owns a track that takes it.
+// Puts an end-of-file record after the last block, where the set owns a track that takes it.
 fn put_end_record<H: Hall>(hall: &mut H, vol: &mut Vol, writer: Writer) -> Result<(), Device>
     requires unit { IsOfUnit (H.facts hall.old).units vol.old }
     requires slot { writer.slot < length vol.old.slots.items }

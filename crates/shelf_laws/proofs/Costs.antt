@@ -45,7 +45,7 @@ few D2314 n h = omega arith
 few D3330 n h = omega arith
 few D3350 n h = omega arith
 
--- where a record fits behind others, its number is at most 255
+-- where a record fits after others, its number is at most 255
 pub fits_few : (d : DiskType) (earlier : List (ℕ × ℕ)) (kl dl : ℕ) → fits d earlier kl dl ≡ true → length earlier + 1 ≤ 255
 fits_few d earlier kl dl e =
     let sum = sum_by (λ lengths. record_cost d lengths.0 lengths.1) earlier in

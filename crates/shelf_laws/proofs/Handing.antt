@@ -44,9 +44,9 @@ so_far_closed : (mode : Mode) (body : Body) (puts : List Content) → so_far mod
 so_far_closed mode body [] = ap (λ (l : List Content). l ++ put_last mode) (sym (append-nil (put_first mode body)))
 so_far_closed mode body (c ∷ puts) = refl
 
--- ---- a writer behind extensions
+-- ---- a writer after extensions
 
--- a writer is ready behind extensions of its target
+-- a writer is ready after extensions of its target
 ready_extended : (s u : Shelf) (w : OpenWriter) → IsExtended s u w.target → IsReady s w → IsReady u w
 ready_extended s u w e h =
     let t = w.target in
@@ -102,7 +102,7 @@ after_joined : (xs ys : List Op) (s : Shelf) → after_operations s (xs ++ ys) �
 after_joined [] ys s = refl
 after_joined (x ∷ xs) ys s = after_joined xs ys (behind s (step s x))
 
--- a shelf is lawful behind each of some operations and one more
+-- a shelf is lawful after each of some operations and one more
 each_lawful : (xs : List Op) (op : Op) (s : Shelf) → ((k : ℕ) → IsLawful (after_operations s (take k xs))) → ((u : Shelf) → step (after_operations s xs) op ≡ Ok u → IsLawful u) → (k : ℕ) → IsLawful (after_operations s (take k (xs ++ op ∷ [])))
 each_lawful xs op s each last zero = each 0
 each_lawful [] op s each last (suc k) = by_step (step s op) refl k

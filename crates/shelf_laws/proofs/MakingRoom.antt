@@ -51,7 +51,7 @@ target_lawful s t h = by_volume (slice_get s.volumes t.v) refl
     by_volume None at = (tt, omega arith)
     by_volume (Some volume) at = by_set volume (each_at IsLawfulVolume s.volumes t.v volume h.volumes at) (set_of t.dsn.bytes volume) refl
 
--- the next content stands on an owned track, or on that behind them
+-- the next content stands on an owned track, or on that after them
 place_most : (s : Shelf) (t : Target) (before : List Content) (c : Content) → IsLawful s → AllByRecursion IsContent before → AreOnTracks s t before → (place_on s t before c).tt ≤ tracks s t
 place_most s t before c h is on =
     let lawful = target_lawful s t h in
@@ -68,7 +68,7 @@ one_on s t before c on here =
 
 -- ---- extensions of a target
 
--- A shelf behind extensions: it is lawful, bodies are as before, and the target's set has no fewer tracks.
+-- A shelf after extensions: it is lawful, bodies are as before, and the target's set has no fewer tracks.
 pub record IsExtended (s u : Shelf) (t : Target) : Type 0 where
   pub lawful : IsLawful u
   pub bodies : KeepsBodies s u
@@ -138,7 +138,7 @@ owned_room s t before c e = by_tests (fits_a_track (device_on s t.v) c) (nat_lt 
     by_tests true false is e = cc
     by_tests false false is e = cc
 
--- where there was room for all, they stand on owned tracks behind the extensions
+-- where there was room for all, they stand on owned tracks after the extensions
 abbrev Rooms : Target → List Content → List Content → Shelf → Making → Type 0
 Rooms t before cs s m = m.all ≡ true → AreOnTracks (made s m) t (before ++ cs)
 

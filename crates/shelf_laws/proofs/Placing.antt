@@ -1,4 +1,4 @@
--- Blocks that are placed behind a lawful body, on tracks that its set owns, leave it lawful.
+-- Blocks that are placed after a lawful body, on tracks that its set owns, leave it lawful.
 use Rattle.std.proofs.Common.{◌≡◌, ◌+◌, ◌-◌, ◌≤◌, ◌<◌, ◌==◌, ◌&&◌, ◌||◌, nat_lt, ℕ, zero, suc, Bool, true, false, cond, List, [], ◌∷◌, ◌++◌, length, map, filter, refl, sym, ◌∙◌, ap, subst, append_assoc, length-append, arith}
 use Rattle.std.proofs.lemmas.Bool.Decides.{nat_tests}
 use Rattle.std.proofs.lemmas.List.{append-nil, length-map}
@@ -63,7 +63,7 @@ front_counts end tt = by_test (end.tt == tt)
 
 -- ---- the next place
 
--- a place behind the last: it is next to it, on its track or that behind it, and its number is one byte
+-- a place after the last: it is next to it, on its track or that after it, and its number is one byte
 record IsBehind (last p : Place) : Type 0 where
   next : is_next last p ≡ true
   track : p.tt ≤ last.tt + 1
@@ -139,7 +139,7 @@ module _ (d : DiskType) (tracks : ℕ) (few : tracks < 65535) where
   one_placed bodies.Other c is h on = h
   one_placed (bodies.Unreadable track) c is h on = h
 
-  -- the next block stands on an owned track, or on that behind them
+  -- the next block stands on an owned track, or on that after them
   pub next_track : (body : Body) (c : Content) → IsLawfulBody tracks body → (next_place d body c).tt ≤ tracks
   unfolding next_place
   next_track (bodies.Seq []) c h = omega arith
@@ -181,7 +181,7 @@ all_placed d tracks few (c ∷ cs) body is h on =
     let more = with_blocks body (b ∷ []) in
     subst (IsLawfulBody tracks) (with_more body (b ∷ []) (placed d more cs)) (all_placed d tracks few cs more is.1 (one_placed d tracks few body c is.0 h on.0) on.1)
 
--- contents behind others
+-- contents after others
 pub placed_joined : (d : DiskType) (xs ys : List Content) (body : Body) → placed d body (xs ++ ys) ≡ placed d body xs ++ placed d (with_blocks body (placed d body xs)) ys
 unfolding placed
 placed_joined d [] ys body = ap (λ (b : Body). placed d b ys) (sym (with_none body))

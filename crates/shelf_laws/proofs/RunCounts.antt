@@ -14,7 +14,7 @@ abbrev next : (ℕ → Bool) → ℕ → ℕ → Bool
 next p zero t = false
 next p (suc n) t = p t
 
--- how many tracks of the set, from one on and so many, have none of the set behind them
+-- how many tracks of the set, from one on and so many, have none of the set after them
 abbrev ends : (ℕ → Bool) → ℕ → ℕ → ℕ
 ends p zero low = 0
 ends p (suc n) low = cond (p low && not (next p n (low + 1))) 1 0 + ends p n (low + 1)

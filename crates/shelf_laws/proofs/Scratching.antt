@@ -42,7 +42,7 @@ filter_ascending p [] up = tt
 filter_ascending p (x ∷ xs) up = rise_first x (filter p xs) (p x) (all_filter (λ y. is_before x y ≡ true) p xs up.0) (filter_ascending p xs up.1)
 
 module _ (name : List ℕ) where
-  -- behind a set of the name no other has it
+  -- after a set of the name no other has it
   all_stay : (x : DataSet) (sets : List DataSet) → has_name name x ≡ true → AllByRecursion (λ y. is_before x y ≡ true) sets → others name sets ≡ sets
   all_stay x [] named before = refl
   all_stay x (y ∷ sets) named before = ap (λ b. cond (not b) (y ∷ others name sets) (others name sets)) (unnamed (has_name name y) refl) ∙ ap (λ l. y ∷ l) (all_stay x sets named before.1)

@@ -39,7 +39,7 @@ before_apart x y e = sym (is_eq-slice_cmp x.name.bytes y.name.bytes) ∙ less_ap
 pub named_so : (name : List ℕ) (x : DataSet) → has_name name x ≡ true → x.name.bytes ≡ name
 named_so name x e = same_bytes x.name.bytes name e
 
--- a set behind another of the name hasn't that name
+-- a set after another of the name hasn't that name
 pub behind_named : (name : List ℕ) (x y : DataSet) → has_name name x ≡ true → is_before x y ≡ true → has_name name y ≡ true → ⊥
 behind_named name x y named before other =
     let same : x.name.bytes ≡ y.name.bytes = same_bytes x.name.bytes name named ∙ sym (same_bytes y.name.bytes name other) in

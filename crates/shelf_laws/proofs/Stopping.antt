@@ -1,4 +1,4 @@
--- A stop leaves a lawful shelf, where the shelf stays lawful behind each operation.
+-- A stop leaves a lawful shelf, where the shelf stays lawful after each operation.
 use Rattle.std.proofs.Common.{◌≡◌, ⊎_elim, ℕ, zero, suc, List, [], ◌∷◌, ◌++◌, sym, subst}
 use Rattle.std.specs.Prelude.{Result, Ok, Err}
 use Rattle.std.specs.List.{AllByRecursion}
@@ -26,7 +26,7 @@ asked_lawful (op ∷ ops) s is h (suc k) = asked_lawful ops (behind s (step s op
     by_step (Ok u) keeps = keeps u (λ i. Ok u)
     by_step (Err r) keeps = h
 
--- operations, and more behind them
+-- operations, and more after them
 pub joined_lawful : (first more : List Op) (s : Shelf) → StaysLawful s first → StaysLawful (after_operations s first) more → StaysLawful s (first ++ more)
 joined_lawful [] more s a b k = b k
 joined_lawful (op ∷ first) more s a b zero = a 0

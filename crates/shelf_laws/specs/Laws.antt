@@ -9,15 +9,15 @@ use Rattle.vol_model.specs.Shelf.{step}
 use Rattle.vol_model.specs.Writing.{OpenWriter, did_put, with_puts}
 use Rattle.shelf_laws.specs.Ready.{IsContent, IsReady}
 
--- a lawful shelf is lawful behind an operation that isn't refused
+-- a lawful shelf is lawful after an operation that isn't refused
 abbrev pub KeepsLawful : Op → Type 0
 KeepsLawful op = (before after : Shelf) → IsLawful before → step before op ≡ Ok after → IsLawful after
 
--- a shelf is lawful behind each of some operations, and in front of them
+-- a shelf is lawful after each of some operations, and in front of them
 abbrev pub StaysLawful : Shelf → List Op → Type 0
 StaysLawful shelf ops = (k : ℕ) → IsLawful (after_operations shelf (take k ops))
 
--- a writer is ready behind each of them, and in front of them
+-- a writer is ready after each of them, and in front of them
 abbrev pub StaysReady : Shelf → OpenWriter → List Op → Type 0
 StaysReady shelf w ops = (k : ℕ) → IsReady (after_operations shelf (take k ops)) w
 

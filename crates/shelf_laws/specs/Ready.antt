@@ -10,7 +10,7 @@ use Rattle.vol_model.specs.Writing.{OpenWriter, Target, placed_on, so_far, targe
 abbrev pub IsContent : Content → Type 0
 IsContent c = (length c.0 ≤ 255) × (length c.1 ≤ 32760)
 
--- contents behind the body of a target stand on tracks that its set owns
+-- contents after the body of a target stand on tracks that its set owns
 abbrev pub AreOnTracks : Shelf → Target → List Content → Type 0
 AreOnTracks shelf t cs = AllByRecursion (λ (b : Block). b.place.tt < tracks_on shelf t.v t.dsn.bytes) (placed_on shelf t cs)
 

@@ -44,8 +44,8 @@ pub fn write_law()
         IsLawful s → AllByRecursion IsContent cs → StaysLawful s (did_write s t cs).operations }
 {}
 
-/// Operations that may be asked for keep a lawful shelf lawful, one after another, and operations behind which it stays
-/// so do, with others of that kind behind them.
+/// Operations that may be asked for keep a lawful shelf lawful, one after another, and operations after which it stays
+/// so do, with others of that kind after them.
 pub fn run_law()
     ensures asked { (s : Shelf) (ops : List Op) →
         AllByRecursion IsLawfulOp ops → IsLawful s → StaysLawful s ops }
@@ -53,7 +53,7 @@ pub fn run_law()
         StaysLawful s first → StaysLawful (after_operations s first) more → StaysLawful s (first ++ more) }
 {}
 
-/// A stop in events leaves a lawful shelf, where the shelf stays lawful behind each of their operations.
+/// A stop in events leaves a lawful shelf, where the shelf stays lawful after each of their operations.
 pub fn stop_law()
     ensures { (s left : Shelf) (es : List Event) (printed : List ℕ) →
         StaysLawful s (operations_of es) → StopsIn s es left printed → IsLawful left }

@@ -1,4 +1,4 @@
--- What a machine leaves that opens a writer behind a sync: nothing changes but the time.
+-- What a machine leaves that opens a writer after a sync: nothing changes but the time.
 use Rattle.std.proofs.Common.{◌≡◌, ⊎_elim, ℕ, true, false, List, Option, None, Result, Ok, Err, refl, sym, subst, arith}
 use Rattle.std.specs.Prelude.{◌⊎◌, IfErr, IsErrOf}
 use Rattle.hall_core.specs.Facts.{Attached, DeviceCall, Facts}

@@ -1,4 +1,4 @@
--- A writer behind the blocks of a data set to which blocks can be written.
+-- A writer after the blocks of a data set to which blocks can be written.
 use Rattle.std.proofs.Common.{◌≡◌, ℕ, Bool, true, false, cond, List, [], ◌∷◌, Option, Some, None, refl, sym, ap, ◌∙◌, subst}
 use Rattle.std.specs.Prelude.{Ok, option_and_then, slice_get}
 use Rattle.std.specs.Option.{option_map}

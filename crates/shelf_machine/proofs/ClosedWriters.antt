@@ -35,7 +35,7 @@ use Rattle.shelf_machine.proofs.Pendings.{pending_closed}
 use Rattle.shelf_machine.proofs.PutBehind.{making_end}
 use Rattle.shelf_machine.proofs.Settling.{keeps_then}
 
--- ---- the room that was made, and the operation behind it
+-- ---- the room that was made, and the operation after it
 
 made_all : {X : Type 0} (q : Making) (x z : X) (ops : List Op) → ◌≡◌ {A = Result X Refusal} (room_made q x).answer (Ok z) → if_made q ops (tt {0}) ≡ behind_them q.extends (record { operations = ops; answer = Ok (tt {0}) })
 made_all {X} q x z ops is = by q.all refl is

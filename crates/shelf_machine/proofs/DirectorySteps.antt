@@ -1,6 +1,6 @@
 -- A step that changes the entries of a directory changes those of one data set.
 use Rattle.std.proofs.Common.{◌≡◌, ◌&&◌, ℕ, Bool, not, List, Option, Some, None, sym, ap}
-use Rattle.std.specs.Prelude.{Result, Ok, Err, filter, nat_lt}
+use Rattle.std.specs.Prelude.{Result, Ok, filter, nat_lt}
 use Rattle.std.specs.Str.{bytes_eq}
 use Rattle.ebcdic_names.specs.declared.names.Dsn.{Dsn}
 use Rattle.ebcdic_names.specs.declared.names.Name8.{Name8}

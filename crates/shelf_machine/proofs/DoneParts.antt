@@ -1,4 +1,4 @@
--- Calls of several operations, one behind another: what they come to together.
+-- Calls of several operations, one after another: what they come to together.
 use Rattle.std.proofs.Common.{◌≡◌, ℕ, Bool, true, false, cond, List, [], ◌∷◌, ◌++◌, length, map, refl, sym, ap, ◌∙◌, subst, arith, length-append}
 use Rattle.std.specs.Prelude.{◌⊎◌, Result, Ok, Err, IsErrOf}
 use Rattle.stop_model.specs.Moments.{Elapses, Meaning}
@@ -26,7 +26,7 @@ do_append (x ∷ xs) ys = ap (λ (l : List Event). Do x ∷ l) (do_append xs ys)
 pub stops_in_first : (s : Shelf) (xs ys : List Op) (t : Shelf) → StopsIn s (map Do xs) t [] → StopsIn s (map Do (xs ++ ys)) t []
 stops_in_first s xs ys t stop = subst (λ (es : List Event). StopsIn s es t []) (sym (do_append xs ys)) (stops_first s (map Do xs) (map Do ys) t [] stop)
 
--- and so is one in those behind others
+-- and so is one in those after others
 stops_in_second : (s : Shelf) (xs ys : List Op) (t : Shelf) → StopsIn (after_operations s xs) (map Do ys) t [] → StopsIn s (map Do (xs ++ ys)) t []
 stops_in_second s [] ys t stop = stop
 stops_in_second s (x ∷ xs) ys t stop = inr (stops_in_second (behind s (step s x)) xs ys t stop)
@@ -93,7 +93,7 @@ module _ {X : Type 0} {way : List Op} (first : Did X Refusal) {old mid : Meaning
       (elapses_weaker run.moments (λ s p stop. (stops_in_first old.state first.operations ops s stop.0, stop.1)))
       (elapses_weaker time (λ s p stop. (stops_in_second old.state first.operations ops s (subst (λ (u : Shelf). StopsIn u (map Do ops) s []) run.state.0 stop.0), stop.1 ∙ run.printed)))
 
-  -- the second is done behind the first
+  -- the second is done after the first
   pub does_then : {Y : Type 0} {more : List Op} (second : Did Y Refusal) {new : Meaning Shelf} {l : ℕ} (r : Result Y MachErr) → (IsErrOf r mach.Memory → ⊥) → Does more second mid new k l r → Does (first.operations ++ second.operations) (behind_them first.operations second) old new n l r
   does_then second {new} {l} (Ok y) none next = record { answer = next.answer; state = state_then new.state l second.operations next.state; printed = next.printed ∙ run.printed; moments = moments_then new second.operations next.moments }
   does_then second {new} {l} (Err (mach.Refused why)) none next = record { answer = next.answer; state = state_then new.state l second.operations next.state; printed = next.printed ∙ run.printed; moments = moments_then new second.operations next.moments }
@@ -101,7 +101,7 @@ module _ {X : Type 0} {way : List Op} (first : Did X Refusal) {old mid : Meaning
   does_then second {new} (Err mach.Device) none next = record { answer = tt; state = tt; printed = next.printed ∙ run.printed; moments = moments_then new second.operations next.moments }
   does_then second (Err mach.Print) none next = absurd next.answer
 
--- the first isn't done, and so nothing behind it
+-- the first isn't done, and so nothing after it
 pub does_stop : {X Y : Type 0} {way : List Op} (first : Did X Refusal) (all : Did Y Refusal) {old new : Meaning Shelf} {n k : ℕ} (e : MachErr) → (e ≡ mach.Memory → ⊥) → ((r : Refusal) → first.answer ≡ Err r → all ≡ record { operations = first.operations; answer = Err r })
     → (more : List Op) → all.operations ≡ first.operations ++ more → Does way first old new n k (Err e) → Does all.operations all old new n k (Err e)
 does_stop {X = X} {Y = Y} first all {old} {new} {n} {k} (mach.Refused why) none refused more goes run =

@@ -82,7 +82,7 @@ pub refused_entries : {T : Type 0} (name : List ℕ) (operation : Volume → Res
     → (why : Refusal) → operation volume ≡ Err why → ChangesEntries {T = T} name operation v v m m (Err (store.Refused why))
 refused_entries name operation v m counts volume stands why is = record { operates = operates_refused name operation v (InDirectory v) m counts volume stands why is; packed = tt }
 
--- ---- a change behind the reading of its library
+-- ---- a change after the reading of its library
 
 -- its entries aren't given
 answered : {T : Type 0} {name : List ℕ} {operation : Volume → Result Volume Refusal} {v' : Vol} {Changes : List ℕ → List ℕ → Type 0} {m m' : Meaning (List File)} (r : Result T StoreErr) → Operates name operation v' Changes m m' r → Operates name operation v' Changes m m' (answer_to r)

@@ -1,4 +1,4 @@
--- A writer on an image whose data set got more extents: it stands behind the same blocks, and has put the same.
+-- A writer on an image whose data set got more extents: it stands after the same blocks, and has put the same.
 use Rattle.std.proofs.Common.{◌≡◌, ◌+◌, ◌/◌, ◌%◌, ◌<◌, ℕ, zero, suc, Bool, true, false, cond, List, [], ◌∷◌, ◌++◌, length, map, drop, Option, Some, None, refl, sym, ap, ap₂, ◌∙◌, subst, arith}
 use Rattle.std.specs.Prelude.{Ok, find, slice_get, slice_range}
 use Rattle.std.specs.List.{range_with_len}
@@ -51,7 +51,7 @@ use Rattle.shelf_machine.proofs.ListPlaces.{within}
 use Rattle.shelf_machine.proofs.Operating.{extend_is}
 use Rattle.shelf_machine.proofs.ShelfReads.{no_set}
 
--- ---- the data set that is found behind the extension
+-- ---- the data set that is found after the extension
 
 -- with more extents a data set is found under its name still
 found_extended : (name : List ℕ) (runs : List Run) (sets : List DataSet) (x : DataSet) → find (has_name name) sets ≡ Some x → find (has_name name) (changed name (with_extents runs) sets) ≡ Some (with_extents runs x)
@@ -77,7 +77,7 @@ never same = cc
 same_blocks : (xs ys : List Block) → Seq xs ≡ Seq ys → xs ≡ ys
 same_blocks xs ys e = cc
 
--- what stands in the front of a list stands there with others behind it, and there alone
+-- what stands in the front of a list stands there with others after it, and there alone
 front_there : (xs ys : List ℕ) (k x y : ℕ) → slice_get xs k ≡ Some x → slice_get (xs ++ ys) k ≡ Some y → x ≡ y
 front_there [] ys k x y is other = cc
 front_there (z ∷ xs) ys zero x y is other = cc
@@ -114,7 +114,7 @@ module _ (image image' : List ℕ) (v v' : Vol) (mounted : IsMounted image v) (m
   runs : List Run
   runs = (extend_is dsn (volume_in image v) (volume_in image' v') step).0
 
-  -- the data set before the extension, and behind it
+  -- the data set before the extension, and after it
   abbrev x : DataSet
   x = set_by image v f
 

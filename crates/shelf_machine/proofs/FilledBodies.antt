@@ -1,4 +1,4 @@
--- Which data sets can't be read where blocks are written behind those of one: the same as before.
+-- Which data sets can't be read where blocks are written after those of one: the same as before.
 use Rattle.std.proofs.Common.{◌≡◌, ℕ, Bool, true, false, cond, List, map, set, Option, Some, None, inl, inr, refl, sym, ap, ◌∙◌, subst}
 use Rattle.std.specs.Prelude.{Result, Ok, Err, find, option_and_then, slice_get}
 use Rattle.std.specs.Option.{option_map}

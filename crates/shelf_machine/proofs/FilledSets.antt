@@ -49,7 +49,7 @@ use Rattle.shelf_machine.proofs.PutExtends.{WritesSet}
 use Rattle.shelf_machine.proofs.PutRooms.{body_is, place_is, room_owned, tracks_is, writing_to}
 use Rattle.shelf_machine.proofs.ShelfReads.{is_set}
 
--- ---- the next place behind blocks on so many tracks
+-- ---- the next place after blocks on so many tracks
 
 last_on : (tracks : ℕ) (b : Block) (bs : List Block) → b.place.tt < tracks → FollowFrom tracks b.place bs → (last_place b.place bs).tt < tracks
 last_on tracks b [] low follow = low

@@ -1,9 +1,8 @@
--- Which data sets can't be read behind an operation on the shelf.
-use Rattle.std.proofs.Common.{◌≡◌, ◌≢◌, ⊎_elim, inl, inr, ℕ, Bool, true, false, cond, not, ◌&&◌, ◌||◌, List, [], ◌∷◌, map, set, Option, Some, None, refl, sym, ap, subst, ◌∙◌}
-use Rattle.std.specs.Prelude.{◌⊎◌, ◌==◌, nat_lt, option_and_then, slice_get, Result, Ok, Err, filter, find, if◌then◌else◌}
+-- Which data sets can't be read after an operation on the shelf.
+use Rattle.std.proofs.Common.{◌≡◌, ◌≢◌, ⊎_elim, inl, inr, ℕ, Bool, true, false, cond, not, ◌&&◌, ◌||◌, List, [], ◌∷◌, map, Option, Some, None, refl, sym, ap, subst, ◌∙◌}
+use Rattle.std.specs.Prelude.{◌⊎◌, ◌==◌, nat_lt, option_and_then, Result, Ok, filter, find, if◌then◌else◌}
 use Rattle.std.specs.Option.{option_map}
 use Rattle.std.proofs.lemmas.Bool.{cases_Bool}
-use Rattle.std.proofs.lemmas.Bool.Decides.{eqb_tells}
 use Rattle.std.proofs.lemmas.Slice.Eq.{bytes_eq-Decides}
 use Rattle.std.specs.Str.{bytes_eq}
 use Rattle.ebcdic_names.specs.declared.names.Dsn.{Dsn}
@@ -14,25 +13,19 @@ use Rattle.vol_model.specs.declared.contents.Body.TheVariants as bodies
 use Rattle.vol_model.specs.declared.contents.DataSet.{DataSet}
 use Rattle.vol_model.specs.declared.contents.Entry.{Entry}
 use Rattle.vol_model.specs.declared.contents.Run.{Run}
-use Rattle.vol_model.specs.declared.contents.Shelf.{Shelf}
 use Rattle.vol_model.specs.declared.contents.Volume.{Volume}
 use Rattle.vol_model.specs.declared.refusals.Refusal.{Refusal}
 use Rattle.vol_model.specs.declared.refusals.Refusal.TheVariants.{NoRoom, NoSet, SetExists, VtocFull, WrongKind}
-use Rattle.vol_model.specs.declared.requests.Op.{Op}
-use Rattle.vol_model.specs.declared.requests.Op.TheVariants.{Allocate, Drop, Empty, Enter, Extend, Rename, Scratch}
 use Rattle.vol_model.specs.declared.requests.Request.{Request}
 use Rattle.vol_model.specs.Order.{in_order}
 use Rattle.vol_model.specs.Places.{directory_end, tracks_in}
-use Rattle.vol_model.specs.Shelf.{allocate_on, with_directory, with_entries, emptied, empty_on, empty_set, extend_on, has_name, has_set, if_room, is_catalog, is_partitioned, is_sequential, lacks_room, may_empty, new_attr, new_body, on_choice, on_found, on_volume, organization, refuse, rename_on, rename_refusal, renamed, scratch_on, set_of, step, step_on, unless_refused, volume_number, with_extents, with_name, with_new, with_set, with_volume, without_blocks}
+use Rattle.vol_model.specs.Shelf.{allocate_on, with_directory, with_entries, emptied, empty_on, empty_set, extend_on, has_name, has_set, if_room, is_catalog, is_partitioned, is_sequential, lacks_room, may_empty, new_attr, new_body, on_choice, on_found, organization, refuse, rename_on, rename_refusal, renamed, scratch_on, set_of, unless_refused, with_extents, with_name, with_new, with_set, without_blocks}
 use Rattle.vol_model.specs.Slots.{slots_needed}
 use Rattle.vol_model.specs.Space.{choice}
-use Rattle.vol_model.specs.Writing.{set_on}
-use Rattle.shelf_machine.specs.Known.{ListsBroken, ListsUnread}
+use Rattle.shelf_machine.specs.Known.{ListsBroken}
 use Rattle.shelf_machine.specs.Unread.{broken_at, broken_in, is_of, is_walked, others_of, renamed_in, track_in}
 use Rattle.shelf_machine.specs.declared.unread.Unread.{Unread}
-use Rattle.shelf_machine.proofs.DirectorySteps.{drop_is, enter_is}
 use Rattle.shelf_machine.proofs.FoundByKey.{find_passes, found_changed, found_new, found_old, found_other, none_found, others_none, others_same}
-use Rattle.shelf_machine.proofs.ListPlaces.{get_other, get_set}
 use Rattle.shelf_machine.proofs.Operating.{extend_is, ok_volume, read_through, unrefused}
 use Rattle.mount_repair.proofs.OrderedSets.{find_in_order}
 
@@ -71,7 +64,7 @@ module _ (w : Volume) (unread : List Unread) (lists : ListsBroken w unread) wher
   none_listed : (name : List ℕ) → has_set w name ≡ false → track_in unread name ≡ None
   none_listed name none = lists name ∙ ap (option_and_then broken_in) (none_found (has_name name) w.sets none)
 
-  -- behind a new set
+  -- after a new set
   lists_new : (x : DataSet) (sets : List DataSet) → sets ≡ in_order (x ∷ w.sets) → has_set w x.name.bytes ≡ false → broken_in x ≡ None → (name : List ℕ) → track_in unread name ≡ option_and_then broken_in (find (has_name name) sets)
   lists_new x sets is none whole name =
       by (has_name name x) refl
@@ -83,7 +76,7 @@ module _ (w : Volume) (unread : List Unread) (lists : ListsBroken w unread) wher
           none_listed name (ap (has_set w) (sym this) ∙ none) ∙ sym whole
       by false same = lists name
 
-  -- and behind one that is gone
+  -- and after one that is gone
   lists_gone : (gone name : List ℕ) → track_in (others_of gone unread) name ≡ option_and_then broken_in (find (has_name name) (filter (λ y. not (has_name gone y)) w.sets))
   lists_gone gone name = ⊎_elim
       (λ same. subst (λ (m : List ℕ). track_in (others_of gone unread) m ≡ option_and_then broken_in (find (has_name m) (filter (λ y. not (has_name gone y)) w.sets))) same
@@ -91,7 +84,7 @@ module _ (w : Volume) (unread : List Unread) (lists : ListsBroken w unread) wher
       (λ differs. ap (option_map track_of) (others_same entry_name gone name differs unread) ∙ lists name ∙ sym (ap (option_and_then broken_in) (others_same name_of gone name differs w.sets)))
       (one_name gone name)
 
-  -- and behind one that is changed, but not in whether it can be read
+  -- and after one that is changed, but not in whether it can be read
   module _ (name : List ℕ) (f : DataSet → DataSet) (keeps : (x : DataSet) → name_of (f x) ≡ name_of x) (whole : (x : DataSet) → set_of name w ≡ Some x → broken_in (f x) ≡ broken_in x) where
     lists_changed : ListsBroken (with_set w name f) unread
     lists_changed m = lists m ∙ by (find (has_name m) w.sets) refl ∙ sym (ap (option_and_then broken_in) (found_changed name_of name f keeps m w.sets))
@@ -126,7 +119,7 @@ module _ (w : Volume) (unread : List Unread) (lists : ListsBroken w unread) wher
     body_kept None there = refl
     body_kept (Some x) there = set_kept x (find_passes (has_name old) w.sets x there)
 
-    -- behind one that has another name
+    -- after one that has another name
     lists_renamed : (name : List ℕ) → track_in (map (renamed_in old new) unread) name ≡ option_and_then broken_in (find (has_name name) (map (with_name old new) w.sets))
     lists_renamed name = ⊎_elim
         (λ is_new. subst (λ (m : List ℕ). track_in (map (renamed_in old new) unread) m ≡ option_and_then broken_in (find (has_name m) (map (with_name old new) w.sets))) is_new

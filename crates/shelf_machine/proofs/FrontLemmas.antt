@@ -1,5 +1,5 @@
--- What goes in front of the blocks of a writer, and what was placed behind it.
-use Rattle.std.proofs.Common.{◌≡◌, ◌≢◌, ⊎_elim, inl, inr, Bool, true, false, List, [], ◌∷◌, ◌++◌, refl, sym, ap, ◌∙◌}
+-- What goes in front of the blocks of a writer, and what was placed after it.
+use Rattle.std.proofs.Common.{◌≡◌, ◌≢◌, inl, inr, Bool, true, false, List, [], ◌∷◌, ◌++◌, refl, ap, ◌∙◌}
 use Rattle.std.specs.Prelude.{◌⊎◌}
 use Rattle.std.proofs.lemmas.List.{append-nil}
 use Rattle.seq_access.specs.declared.writer.Writer.{Writer as BlockWriter}
@@ -7,7 +7,7 @@ use Rattle.seq_access.specs.Writing.{has_put}
 use Rattle.vol_model.specs.Places.{Content, end_of_file}
 use Rattle.shelf_machine.specs.Fronts.{BeginsWell, behind_first, due, firsts}
 
--- nothing stands behind nothing
+-- nothing stands after nothing
 pub behind_none : (first : Bool) → behind_first first [] ≡ []
 behind_none true = refl
 behind_none false = refl
@@ -17,7 +17,7 @@ pub begins_none : (first : Bool) → BeginsWell first []
 begins_none true = tt
 begins_none false = tt
 
--- one more content behind others, or the first
+-- one more content after others, or the first
 pub begins_more : (first : Bool) (puts : List Content) (c : Content) → BeginsWell first puts → (puts ≡ [] → first ≡ true → c ≡ end_of_file) → BeginsWell first (puts ++ c ∷ [])
 begins_more true [] c begins is = is refl refl
 begins_more true (d ∷ puts) c begins is = begins
@@ -44,7 +44,7 @@ due_placed true (c ∷ cs) begins = append-nil (c ∷ cs) ∙ ap (λ (d : Conten
 due_placed false [] begins = refl
 due_placed false (c ∷ cs) begins = append-nil (c ∷ cs)
 
--- more behind that which is placed already goes to the rest
+-- more after that which is placed already goes to the rest
 pub behind_more : (first : Bool) (puts : List Content) (c : Content) → (first ≡ true → puts ≢ []) → behind_first first (puts ++ c ∷ []) ≡ behind_first first puts ++ c ∷ []
 behind_more true [] c some = absurd (some refl refl)
 behind_more true (d ∷ puts) c some = refl

@@ -1,4 +1,4 @@
--- The libraries that are held of a pack behind a change of the entries of one of them.
+-- The libraries that are held of a pack after a change of the entries of one of them.
 use Rattle.std.proofs.Common.{◌≡◌, ◌≢◌, ⊎_elim, inl, inr, ℕ, zero, suc, Bool, true, false, cond, List, [], ◌∷◌, Some, refl, sym, ap, ◌∙◌, subst}
 use Rattle.std.specs.Prelude.{◌==◌, not, filter, IsErrOf, OnErr, OnOk, Result, Ok, Err, slice_get}
 use Rattle.std.proofs.lemmas.Bool.{eq-eqb}
@@ -90,7 +90,7 @@ module _ {T : Type 0} (name : List ℕ) (operation : Volume → Result Volume Re
   abbrev with_buffer : Vol
   with_buffer = record v { buf = v'.buf }
 
-  -- the data set that is changed, on the image behind it
+  -- the data set that is changed, on the image after it
   module _ (volume : Volume) (done : IsDone name (operation volume) v' (DifferOn v.geometry (directory_tracks image v f)) m.state m') where
     differ : DifferOnOwned v f image image'
     differ = on_owned v f image image' done.changes.image

@@ -260,7 +260,7 @@ module _ (image : List ℕ) (v : Vol) (f : F1) where
           let found = find_place (λ (x : Library). x.start == start) libraries l is in
           library_held found.0 l found.1 found.2
 
-    -- one that was read and put behind others, or for which memory ran out
+    -- one that was read and put after others, or for which memory ran out
     pub added_part : (r : Result ℕ ReadErr) (l : Library) (old new : List Library) → IfOk r (λ at. (at ≡ length old) × (new ≡ old ++ l ∷ [])) → IfErr r (λ e. e ≡ errors.Memory) → IsLibraryAt image v f l → HoldsPart r (part_in image v f) new
     added_part (Ok at) l old new added memory is = (l, ap (slice_get new) added.0 ∙ ap (λ (ls : List Library). slice_get ls (length old)) added.1 ∙ (at_push old l).1, library_body l is)
     added_part (Err e) l old new added memory is = subst (λ (x : ReadErr). HoldsPart (Err x) (part_in image v f) new) (sym memory) tt

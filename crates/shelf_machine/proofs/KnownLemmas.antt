@@ -1,6 +1,6 @@
 -- What is known of the bodies on several packs, kept through the calls of a machine.
-use Rattle.std.proofs.Common.{◌≡◌, ◌<◌, ◌≤◌, ◌+◌, ⊎_elim, ℕ, zero, suc, Bool, true, false, List, get_or, length, set, Option, Some, refl, sym, ap, subst, ◌∙◌, arith}
-use Rattle.std.specs.Prelude.{OnOk, Result, Ok, Err, is_ok, option_and_then, slice_get}
+use Rattle.std.proofs.Common.{◌≡◌, ◌<◌, ◌≤◌, ⊎_elim, ℕ, List, get_or, length, set, Option, Some, refl, sym, ap, subst, ◌∙◌, arith}
+use Rattle.std.specs.Prelude.{Ok, option_and_then, slice_get}
 use Rattle.std.proofs.lemmas.Bool.{cases_eq}
 use Rattle.std.proofs.lemmas.List.{length-map}
 use Rattle.std.proofs.lemmas.Option.{slice_get-get_or}
@@ -11,14 +11,9 @@ use Rattle.seq_access.specs.Reading.{AreRead, HoldsTrack}
 use Rattle.seq_access.specs.declared.read_buf.Reach.{Reach}
 use Rattle.seq_access.specs.declared.read_buf.Reach.TheVariants.{Nothing}
 use Rattle.stop_model.specs.Files.{File}
-use Rattle.stop_model.specs.Moments.{Meaning}
 use Rattle.ckd_image.specs.declared.header.Geometry.{Geometry}
-use Rattle.vol_model.specs.Calls.{Applies, sound_after}
-use Rattle.vol_model.specs.declared.answers.StoreErr.{StoreErr}
-use Rattle.vol_model.specs.declared.answers.StoreErr.TheVariants as store
 use Rattle.vol_model.specs.declared.contents.Shelf.{Shelf}
 use Rattle.vol_model.specs.declared.contents.Volume.{Volume}
-use Rattle.vol_model.specs.declared.requests.Op.{Op}
 use Rattle.vol_model.specs.Shelf.{set_of}
 use Rattle.vol_model.specs.Writing.{set_on}
 use Rattle.vtoc_index.specs.declared.vol.Vol.{Vol}
@@ -27,11 +22,9 @@ use Rattle.shelf_machine.specs.Blocks.{IsOnImage}
 use Rattle.shelf_machine.specs.Machine.{AreIndexes, AreKept, shelf_or_none, shelf_under, units_of}
 use Rattle.shelf_machine.specs.Opening.{images_named, names_of}
 use Rattle.pack_spec.specs.Shelf.{shelf_of}
-use Rattle.shelf_machine.specs.Known.{AreFresh, AreHeld, HaveBuffers, HoldLibraries, HoldsOn, HoldsPack, IsFresh, KnowsBodies, ListsBroken, ListsUnread, buffers_of}
-use Rattle.shelf_machine.specs.Reporting.{reported}
+use Rattle.shelf_machine.specs.Known.{AreFresh, AreHeld, HaveBuffers, HoldLibraries, HoldsOn, HoldsPack, IsFresh, KnowsBodies, ListsBroken, ListsUnread}
 use Rattle.shelf_machine.specs.declared.pack_cache.PackCache.{PackCache}
 use Rattle.shelf_machine.specs.Unread.{broken_in}
-use Rattle.shelf_machine.specs.declared.unread.Unread.{Unread}
 use Rattle.shelf_machine.proofs.Holding.{kept_mounted, volume_there}
 use Rattle.shelf_machine.proofs.ListPlaces.{get_map, get_other, get_set, map_set_same, set_size, within}
 
@@ -120,7 +113,7 @@ holds_set known k a b libraries there unread buf held = record {
       subst (λ (y : PackCache). (o : PackCache) × (slice_get known k ≡ Some o) × (y.unread ≡ o.unread) × (y.buf ≡ o.buf) × (y.libraries.items ≡ libraries)) this (a, there, unread, buf, held);
 }
 
--- nothing is known of a pack behind the others
+-- nothing is known of a pack after the others
 pub holds_none : (known : List PackCache) (k : ℕ) (libraries : List Library) → length known ≤ k → HoldsOn k libraries known known
 holds_none known k libraries high = record {
   size = refl;

@@ -1,10 +1,9 @@
 -- Why the directory of a data set isn't changed, by why members can't be written to it.
 use Rattle.std.proofs.Common.{◌≡◌, ◌∙◌, ℕ, Bool, true, false, cond, not, List, [], ◌∷◌, Option, Some, None, refl, sym, ap, subst}
-use Rattle.std.specs.Prelude.{Result, Ok, Err, slice_get}
+use Rattle.std.specs.Prelude.{Result, Err, slice_get}
 use Rattle.dscb_codec.specs.declared.Dscb.TheVariants as formats
 use Rattle.dscb_codec.specs.declared.F1.{F1}
 use Rattle.ebcdic_names.specs.declared.names.Dsn.{Dsn}
-use Rattle.pack_spec.specs.Bodies.{body_of}
 use Rattle.pack_spec.specs.Volume.{attr_of}
 use Rattle.pack_spec.proofs.BodyKinds.{partitioned_body}
 use Rattle.pds_directory.specs.Directories.{IsReadablePart, data_in}

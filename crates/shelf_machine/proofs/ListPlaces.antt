@@ -4,7 +4,7 @@ use Rattle.std.specs.Prelude.{Contains, not, position, slice_get}
 use Rattle.std.specs.List.{cons_option, enumerate_from, filter_map, position_or_len}
 use Rattle.std.proofs.lemmas.Bool.{lt-ltb}
 
--- an element behind those of a list isn't there, and one that is there stands within it
+-- an element after those of a list isn't there, and one that is there stands within it
 pub within : {X : Type 0} (xs : List X) (k : ℕ) (x : X) → slice_get xs k ≡ Some x → k < length xs
 within [] k x at = absurd cc
 within (y ∷ xs) zero x at = omega arith

@@ -79,7 +79,7 @@ read_as device r fault s old new from to call = record {
 pub err_as : {T S E : Type 0} (e x : E) → IsErrOf {T = T} (Err e) x → IsErrOf {T = S} (Err e) x
 err_as e x is = let same : e ≡ x = cc in cc
 
--- a read behind which the indexes are as they were
+-- a read after which the indexes are as they were
 pub idles_through : (attached attached' : List Attached) → attached' ≡ attached → (vols vols' : List Vol) → vols' ≡ vols → (m m' : Meaning (List File)) → CountsNow m → Same m m' → (writer : Option Writer)
     → Idles (seen (shelf_under (names_of attached (units_of vols))) m) (seen (shelf_under (names_of attached' (units_of vols'))) m') (writer_in m.state attached vols writer) (writer_in m'.state attached' vols' writer)
     (ByFiles (KeepsSafe (names_of attached (units_of vols)) vols m)) (ByFiles (KeepsSafe (names_of attached' (units_of vols')) vols' m')) (LeavesJust m) (LeavesJust m')
@@ -88,7 +88,7 @@ idles_through attached attached' units vols vols' same m m' counts run writer =
     (ByFiles (KeepsSafe (names_of attached (units_of vols)) vols m)) (ByFiles (KeepsSafe (names_of attached' (units_of vs)) vs m')) (LeavesJust m) (LeavesJust m')) (sym same)
     (idles_read attached attached' (units_of vols) units vols m m' counts run (writer_same m.state m'.state attached attached' vols writer run.state units))
 
--- ---- an operation behind a read
+-- ---- an operation after a read
 
 pub keeps_behind : {X : Type 0} {old mid : ℕ} {P Q R : ℕ → X → Type 0} → old ≤ mid → Keeps old P Q → Keeps mid Q R → Keeps old P R
 keeps_behind {old = old} {mid = mid} later first second t x early was = second t x (omega (arith, early, later)) (first t x early was)

@@ -1,4 +1,4 @@
--- A writer of a machine behind an extension of its set, done or not: it stands on the images as before, and has put the same.
+-- A writer of a machine after an extension of its set, done or not: it stands on the images as before, and has put the same.
 use Rattle.std.proofs.Common.{◌≡◌, ◌<◌, ℕ, true, List, [], length, get_or, Option, Some, refl, sym, ap, ◌∙◌, subst, arith}
 use Rattle.std.specs.Prelude.{Ok, Err, Result, slice_get}
 use Rattle.std.specs.Option.{option_map_or}

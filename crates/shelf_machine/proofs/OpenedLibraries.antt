@@ -1,4 +1,4 @@
--- What is held of packs while one behind another is repaired and its libraries are held.
+-- What is held of packs while one after another is repaired and its libraries are held.
 use Rattle.std.proofs.Common.{◌≡◌, ◌≤◌, ◌+◌, ⊎_elim, ℕ, suc, Bool, List, [], ◌∷◌, ◌++◌, drop, length, set, Some, refl, sym, ap, subst, ◌∙◌, arith}
 use Rattle.std.specs.Prelude.{IsTrue, Ok, slice_get}
 use Rattle.std.proofs.lemmas.Bool.{cases_eq}

@@ -1,4 +1,4 @@
--- An operation behind calls that change nothing, and one that isn't begun.
+-- An operation after calls that change nothing, and one that isn't begun.
 use Rattle.std.proofs.Common.{◌≡◌, ℕ, List, Result, Ok, Err, inl, refl, sym, ◌∙◌, subst}
 use Rattle.std.specs.Prelude.{OnOk}
 use Rattle.pack_spec.specs.Settled.{IsSettledVtoc}

@@ -85,7 +85,7 @@ module _ (vols : List Vol) (k : ℕ) (v v' : Vol) (at : slice_get vols k ≡ Som
 
 -- ---- what the call leaves and answers, where the hall tells
 
--- What a call says that puts a content behind a writer's blocks, or doesn't: as its contract has it.
+-- What a call says that puts a content after a writer's blocks, or doesn't: as its contract has it.
 pub record Puts {image : List ℕ} {v : Vol} {i : BlockWriter} (is : IsWriting image v i) (name after : List ℕ) (c : Content) (v' : Vol) (i' : BlockWriter) (m m' : Meaning (List File)) (r : Result Place PutErr) : Type 0 where
   pub put : IfOk r (λ place. (x : IsWriting image v i) → IsPutBehind x c place (image_named m'.state after) v' i')
   pub spares : Spares name v is.f (last_in image v is.f) m m' r
@@ -179,7 +179,7 @@ module _ (old : Facts) (vols : List Vol) (m : Meaning (List File)) (kept : AreKe
       fills : was ≡ writing_to was.target (puts_in image v f w.inner)
       fills = writer_is m.state old.units vols w v f at found.set
 
-      -- the writer behind the call, by the format 1 of its set
+      -- the writer after the call, by the format 1 of its set
       fills_now : i.slot ≡ w.inner.slot → is_now ≡ writing_to was.target (puts_in (image_named m'.state name) v' f i)
       fills_now same =
           let there : slice_get vols' w.v ≡ Some v' = get_set vols w.v v v' at in

@@ -1,4 +1,4 @@
--- Blocks that are put behind the last record of a data set leave the directories packed, while they are pending and once they are the set's.
+-- Blocks that are put after the last record of a data set leave the directories packed, while they are pending and once they are the set's.
 use Rattle.std.proofs.Common.{◌≡◌, ◌≢◌, ◌⊎◌, ◌≤◌, ℕ, zero, suc, Bool, true, false, cond, List, [], ◌∷◌, map, Option, Some, None, Result, Ok, inl, inr, refl, sym, ap, ◌∙◌, subst, eqb, arith}
 use Rattle.std.specs.Prelude.{slice_get}
 use Rattle.std.specs.List.{cons_option, filter_map}
@@ -16,7 +16,7 @@ use Rattle.pack_spec.specs.Alike.{DifferInVtoc}
 use Rattle.pack_spec.specs.Blocks.{data_tracks, owned_tracks, records_in, upto_last}
 use Rattle.pack_spec.specs.Directories.{read_to}
 use Rattle.pack_spec.specs.Rules.{set_in}
-use Rattle.pack_spec.specs.Settled.{ArePacked, IsSettled}
+use Rattle.pack_spec.specs.Settled.{ArePacked}
 use Rattle.pack_spec.specs.Slots.{slots_of_vtoc}
 use Rattle.pack_spec.specs.Volume.{attr_of, data_set_of, volume_by, volume_of, volume_with}
 use Rattle.pack_spec.specs.declared.slot.VtocSlot.{VtocSlot}
@@ -45,7 +45,7 @@ use Rattle.seq_access.proofs.SparedImages.{spared_mounted, volume_kept}
 use Rattle.seq_access.proofs.SparedSets.{bare, bare_set}
 use Rattle.vtoc_sets.proofs.Owners.{on_same as read_records, read_bytes}
 use Rattle.pds_directory.proofs.PackedTracks.{AgreeUpto, KeepsDirectories, end_by, outside, own_apart, packed_step, packed_vtoc, same_keeps, set_there, sets_apart}
-use Rattle.shelf_machine.proofs.PackedVtoc.{IsPackedImage, packed_of, settled_both, settled_parts}
+use Rattle.shelf_machine.proofs.PackedVtoc.{IsPackedImage, packed_of}
 
 -- the place of a format 1 among the data sets in slots
 among_sets : (slots : List VtocSlot) (dscbs : List Dscb) (k : ℕ) (f : F1) → AreDscbs dscbs slots → slice_get dscbs k ≡ Some (formats.F1 f) → (m : ℕ) × (slice_get (filter_map (λ (s : VtocSlot). set_in s.content) slots) m ≡ Some f)

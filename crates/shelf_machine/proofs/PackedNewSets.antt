@@ -10,7 +10,7 @@ use Rattle.stop_model.specs.Moments.{Meaning}
 use Rattle.pack_spec.specs.Alike.{IsIn}
 use Rattle.pack_spec.specs.Blocks.{data_tracks, last_of, owned_tracks, upto_last}
 use Rattle.pack_spec.specs.Label.{tracks_of}
-use Rattle.pack_spec.specs.Settled.{ArePacked, HasPacked, IsPacked, IsSettled, directory_upto}
+use Rattle.pack_spec.specs.Settled.{ArePacked, HasPacked, IsPacked, directory_upto}
 use Rattle.pack_spec.specs.Volume.{volume_of}
 use Rattle.pack_spec.proofs.Lawful.{lawful_volume}
 use Rattle.shelf_laws.proofs.Tracks.{choice_new}
@@ -32,7 +32,7 @@ use Rattle.dadsm_ops.specs.Formatting.{IsFormatted}
 use Rattle.dadsm_ops.proofs.FormattedBodies.{new_on}
 use Rattle.vtoc_sets.proofs.Owners.{owned_some, read_bytes}
 use Rattle.pds_directory.proofs.PackedTracks.{AddsSet, AgreeUpto, ComesFrom, allocate_adds, end_by, new_packed, on_pack, outside, owned_by, packed_all, packed_if, packed_one}
-use Rattle.shelf_machine.proofs.PackedVtoc.{IsPackedImage, mounted_place, on_both, packed_of, settled_both, settled_parts}
+use Rattle.shelf_machine.proofs.PackedVtoc.{IsPackedImage, mounted_place, on_both, packed_of}
 
 none_owned : (k t : ℕ) → slice_get (owned_tracks []) k ≡ Some t → ⊥
 unfolding owned_tracks

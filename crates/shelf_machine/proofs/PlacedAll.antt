@@ -1,4 +1,4 @@
--- Contents that are placed one behind another, as those of a put and of the closing of a writer.
+-- Contents that are placed one after another, as those of a put and of the closing of a writer.
 use Rattle.std.proofs.Common.{◌≡◌, ℕ, Bool, true, false, cond, List, [], ◌∷◌, ◌++◌, Some, refl, sym, ap, ◌∙◌, subst, append_assoc}
 use Rattle.std.specs.Prelude.{Result, Ok, Err, IsErrOf, OnOk}
 use Rattle.std.proofs.lemmas.List.{append-nil}
@@ -77,7 +77,7 @@ module _ (c : Content) (us us' : List Attached) (vols vols' : List Vol) (w w' : 
     pending = λ sound. run.pending (sym (sound_as r y) ∙ sound);
   }
 
--- ---- some, and more behind them
+-- ---- some, and more after them
 
 -- room that was made for all
 all_made : {X : Type 0} (m : Making) (x z : X) → ◌≡◌ {A = Result X Refusal} (room_made m x).answer (Ok z) → m.all ≡ true

@@ -137,7 +137,7 @@ module _ (us mid us' : List Attached) (vols vols1 vols' : List Vol) (w w1 w' : W
   abbrev pub place : Place
   place = place_on shelf t (put_first t.mode (target_body shelf t) ++ behind_first w.first before.puts) c
 
-  -- it is the one behind what is due, on the shelf as it is then
+  -- it is the one after what is due, on the shelf as it is then
   pub place_same : PlacesWell shelf w before → (s : Shelf) (o : OpenWriter) → s ≡ made shelf making → o ≡ with_puts before front → place_on s o.target o.puts c ≡ place
   place_same well s o is placed_is =
       let keeps = making_keeps t front before.puts shelf in
@@ -197,7 +197,7 @@ module _ (us mid us' : List Attached) (vols vols1 vols' : List Vol) (w w1 w' : W
   stands_first mach.Device is = tt
   stands_first mach.Print is = ap (rest_of w.first) is
 
-  -- and so did what stands behind what is due
+  -- and so did what stands after what is due
   pub stands_behind : (r : Result Place MachErr) (o : OpenWriter) → (IsErrOf r mach.Print → ⊥) → o ≡ with_puts before front → Records r o c after → StandsAgain r (rest_of w.first before) (rest_of w.first after)
   stands_behind r o no_print is records = by r no_print records
     where

@@ -1,4 +1,4 @@
--- A put on one of several packs: alone, behind an extension of its set, and where that isn't done.
+-- A put on one of several packs: alone, after an extension of its set, and where that isn't done.
 use Rattle.std.proofs.Common.{◌≡◌, ◌≢◌, ℕ, true, List, Some, refl, sym, ap, ◌∙◌, subst}
 use Rattle.std.specs.Prelude.{IsErrOf, Result, Ok, Err}
 use Rattle.hall_core.specs.Facts.{Attached}
@@ -70,7 +70,7 @@ puts_alone c attached attached' vols vols' known' w w' m m' n r units numbers ot
 
 -- ---- a track is wanted
 
--- the track is wanted still behind the call that put nothing
+-- the track is wanted still after the call that put nothing
 pub still_wanted : (c : Content) (attached mid : List Attached) (vols vols1 : List Vol) (known1 : List PackCache) (w w1 : Writer) (m m1 : Meaning (List File)) → mid ≡ attached → units_of vols1 ≡ units_of vols
     → PutsOn {T = Place} (names_of attached (units_of vols)) mid vols vols1 known1 w1 m m1 (Err NeedExtent)
     → DidPut (shelf_on m.state attached vols) (placed_in m.state attached vols w) c (placed_in m1.state mid vols1 w1) (Err NeedExtent) → room_on m1.state mid vols1 w1 c ≡ Wanted
@@ -80,7 +80,7 @@ still_wanted c attached mid vols vols1 known1 w w1 m m1 units numbers put did =
     ∙ ap (λ (o : OpenWriter). room_for (shelf_on m.state attached vols) o.target o.puts c) did.1
     ∙ did.0
 
--- what is put behind a call that put nothing is put as well from before it
+-- what is put after a call that put nothing is put as well from before it
 pub puts_after : (c : Content) (attached mid attached' : List Attached) (vols vols1 vols' : List Vol) (known1 : List PackCache) (w w1 w' : Writer) (m m1 m' : Meaning (List File)) (n k : ℕ) (r : Result Place MachErr)
     → mid ≡ attached → units_of vols1 ≡ units_of vols → PutsOn {T = Place} (names_of attached (units_of vols)) mid vols vols1 known1 w1 m m1 (Err NeedExtent)
     → placed_in m1.state mid vols1 w1 ≡ placed_in m.state attached vols w → PlacesBlock c mid attached' vols1 vols' w1 w' m1 m' n k r → PlacesBlock c attached attached' vols vols' w w' m m' n k r
@@ -117,7 +117,7 @@ pub still_sound : (ran : Result (Unit {0}) StoreErr) (e : StoreErr) (a : MachErr
 still_sound ran e a is answer sound =
     ap (λ (r : Result (Unit {0}) StoreErr). sound_after (reported r)) is ∙ sound_unextended e (ap (λ (b : MachErr). sound_after {T = Place} (Err b)) (sym answer) ∙ sound)
 
--- behind the extension, done or not
+-- after the extension, done or not
 module _ (c : Content) (attached mid : List Attached) (vols vols1 : List Vol) (w w1 : Writer) (m m1 : Meaning (List File)) (fills : WritesSet (shelf_on m.state attached vols) (placed_in m.state attached vols w).target (placed_in m.state attached vols w))
     (wanted : room_on m.state attached vols w c ≡ Wanted) (ran : Result (Unit {0}) StoreErr) (run : OperatesOnShelf (Extend w.v w.dsn) (names_of attached (units_of vols)) (names_of mid (units_of vols1)) mid vols vols1 m m1 ran)
     (same : sound_after (reported ran) ≡ true → placed_in m1.state mid vols1 w1 ≡ placed_in m.state attached vols w) where

@@ -46,7 +46,7 @@ module _ (shelf : Shelf) (t : Target) (c : Content) (puts : List Content) (wante
   abbrev place : Place
   place = place_on shelf t puts c
 
-  -- ---- the room behind an extension
+  -- ---- the room after an extension
 
   -- where a track is wanted the block fits one
   wanted_fits : fits_a_track (device_on shelf t.v) c ≡ true
@@ -65,7 +65,7 @@ module _ (shelf : Shelf) (t : Target) (c : Content) (puts : List Content) (wante
         ap (λ (b : Body). next_place (device_on after t.v) (with_blocks b (placed (device_on after t.v) b puts)) c) (keeps.bodies t.v t.dsn.bytes)
         ∙ ap (λ (d : DiskType). next_place d (with_blocks (body_on shelf t.v t.dsn.bytes) (placed d (body_on shelf t.v t.dsn.bytes) puts)) c) (keeps.devices t.v)
 
-    -- and on a track that is owned, if it isn't behind the first that was missing
+    -- and on a track that is owned, if it isn't after the first that was missing
     pub then_owned : place.tt ≤ tracks_on shelf t.v t.dsn.bytes → room_for after t puts c ≡ Owned
     then_owned low =
         room_owned after t c puts
@@ -102,7 +102,7 @@ does_alone old new w w' c n (Err TooLong) other state printed moments did = does
 does_alone old new w w' c n (Err NeedExtent) other state printed moments did = absurd (other refl)
 does_alone old new w w' c n (Err Device) other state printed moments did = does_failed old new printed moments n (did_place old.state w c) n
 
--- what is done behind a call that does nothing is done as well from before it
+-- what is done after a call that does nothing is done as well from before it
 pub does_after : {X : Type 0} {way : List Op} {did : Did X Refusal} {old mid new : Meaning Shelf} {n k : ℕ} {r : Result X MachErr} → mid.state ≡ old.state → mid.printed ≡ old.printed
     → Elapses old mid (λ s p. (s ≡ old.state) × (p ≡ old.printed)) → Does way did mid new n k r → Does way did old new n k r
 does_after {X = X} {way = way} {did = did} {old = old} {mid = mid} {new = new} {n = n} {k = k} {r = r} state printed moments run = record {

@@ -90,7 +90,7 @@ module _ (shelf : Shelf) (n : ℕ) (v : Vol) (has : HasVolume shelf n v) (dsn : 
   pub body_is : body_on shelf n dsn.bytes ≡ body_of_set has.image v f
   body_is = sym (body_found shelf n v has dsn.bytes f set)
 
-  -- the next place behind the set's blocks and those that were put
+  -- the next place after the set's blocks and those that were put
   pub place_is : (mode : Mode) (puts : List Content) (c : Content) → place_on shelf (record { v = n; dsn = dsn; mode = mode }) puts c ≡ next_place v.geometry.device (with_blocks (body_of_set has.image v f) (placed v.geometry.device (body_of_set has.image v f) puts)) c
   place_is mode puts c =
       ap (λ (d : DiskType). next_place d (with_blocks (body_on shelf n dsn.bytes) (placed d (body_on shelf n dsn.bytes) puts)) c) device_is

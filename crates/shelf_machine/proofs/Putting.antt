@@ -1,4 +1,4 @@
--- What a block that is put on one of several packs leaves of their files: they differ behind the last block of one set alone.
+-- What a block that is put on one of several packs leaves of their files: they differ after the last block of one set alone.
 use Rattle.std.proofs.Common.{◌≡◌, ℕ, List, [], Some, refl, sym, ap, ◌∙◌, subst}
 use Rattle.std.specs.Prelude.{Result, slice_get}
 use Rattle.dscb_codec.specs.declared.Dscb.TheVariants as formats
@@ -35,7 +35,7 @@ use Rattle.shelf_machine.proofs.Pendings.{by_writing, writing_of}
 use Rattle.shelf_machine.proofs.Promises.{settled_guarded}
 use Rattle.shelf_machine.proofs.StayingBlocks.{pending_stays, pending_volume}
 
--- What a call leaves that spared the images: what is read, what a stop leaves and what one in it left differ behind the last record of the set alone.
+-- What a call leaves that spared the images: what is read, what a stop leaves and what one in it left differ after the last record of the set alone.
 pub record LeavesBehind (name : List ℕ) (v : Vol) (f : F1) (m m' : Meaning (List File)) : Type 0 where
   pub here : AreSpared name v f (last_in (image_named m.state name) v f) m.state m'.state
   pub left : (files : List File) → m'.left files
@@ -68,7 +68,7 @@ module _ (name : List ℕ) (m : Meaning (List File)) (v : Vol) (kept : IsKeptSet
   abbrev by : IsWritingBy image v f w.inner
   by = on.writing f there
 
-  -- the last record of the set, behind which blocks may be put
+  -- the last record of the set, after which blocks may be put
   abbrev last : Place
   last = last_in image v f
 
@@ -125,7 +125,7 @@ module _ (name : List ℕ) (m : Meaning (List File)) (v : Vol) (kept : IsKeptSet
         subst (DirectoriesStay image image' (volume_in image v)) (sym (pending_volume image image' v f is_set last leaves.here.image ends))
         (pending_stays image image' v f is_set last leaves.here.image ends (volume_in image v) set_here.mounted.volume)
 
-    -- and what a stop leaves differs from what is read now behind that block alone
+    -- and what a stop leaves differs from what is read now after that block alone
     pub spared_still : (b : Buffer) (w' : Writer) → w'.inner.slot ≡ w.inner.slot → LeavesSpared name m' (record v { buf = b }) w'
     spared_still b w' same x at files left =
         let one : f ≡ x = one_set x (ap (slice_get v.slots.items) (sym same) ∙ at) in

@@ -1,4 +1,4 @@
--- Behind what a writer begins, by what is known of the bodies of its pack.
+-- After what a writer begins, by what is known of the bodies of its pack.
 use Rattle.std.proofs.Common.{◌≡◌, ◌≢◌, ◌∙◌, ℕ, Bool, false, List, Option, Some, None, refl, sym, ap, subst}
 use Rattle.std.specs.Prelude.{slice_get}
 use Rattle.std.specs.Option.{option_map_or}

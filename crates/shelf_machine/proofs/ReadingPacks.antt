@@ -1,4 +1,4 @@
--- The packs of several units, scanned one behind another, and their serials compared.
+-- The packs of several units, scanned one after another, and their serials compared.
 use Rattle.std.proofs.Common.{◌≡◌, ◌≢◌, ◌<◌, ◌≤◌, ◌+◌, ⊎_elim, inl, inr, ℕ, zero, suc, Bool, true, false, List, [], ◌∷◌, ◌++◌, length, map, take, Some, None, refl, sym, ap, subst, ◌∙◌, arith}
 use Rattle.std.specs.Prelude.{◌⊎◌, Contains, IsTrue, Err, position, slice_get}
 use Rattle.std.specs.List.{enumerate_from, range_with_len}

@@ -232,7 +232,7 @@ module _ (tells : Bool) (old now : Facts) (m m' : Meaning (List File)) (scans : 
   pub there : slice_get both k ≡ Some s.vol
   there = ap (λ (l : List Vol). slice_get (vols ++ l) k) (rest_at scans k s at) ∙ at_last vols (indexes_of (drop (k + 1) scans)) k s.vol so_far.size
 
-  -- its index as it is repaired stands behind those before
+  -- its index as it is repaired stands after those before
   pub put_there : (v' : Vol) → set both k v' ≡ (vols ++ v' ∷ []) ++ indexes_of (drop (k + 1) scans)
   put_there v' = ap (λ (l : List Vol). set (vols ++ l) k v') (rest_at scans k s at) ∙ set_last vols (indexes_of (drop (k + 1) scans)) k s.vol v' so_far.size
 

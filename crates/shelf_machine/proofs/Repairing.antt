@@ -1,12 +1,12 @@
--- The repair of several packs, one behind another.
-use Rattle.std.proofs.Common.{◌≡◌, ◌≢◌, ◌≤◌, ◌+◌, ⊎_elim, inr, ℕ, true, List, [], Option, Some, refl, sym, ap, subst, ◌∙◌, arith}
-use Rattle.std.specs.Prelude.{Result, Ok, Err, slice_get, unwrap_or}
+-- The repair of several packs, one after another.
+use Rattle.std.proofs.Common.{◌≡◌, ◌≢◌, ◌≤◌, ◌+◌, ⊎_elim, inr, ℕ, List, [], Option, Some, refl, sym, ap, subst, ◌∙◌, arith}
+use Rattle.std.specs.Prelude.{Result, slice_get, unwrap_or}
 use Rattle.std.proofs.lemmas.Bool.{cases_eq}
 use Rattle.free_rebuild.specs.Repairs.{image_named}
 use Rattle.mount_repair.specs.Repairs.{RepairsPack, StaysVolume}
 use Rattle.mount_repair.specs.declared.scanned.Scan.{Scan}
 use Rattle.stop_model.specs.Files.{File}
-use Rattle.stop_model.specs.Moments.{IsDurable, Meaning}
+use Rattle.stop_model.specs.Moments.{Meaning}
 use Rattle.stop_model.proofs.MomentLemmas.{elapses_none, elapses_then, elapses_weaker}
 use Rattle.vol_model.specs.declared.contents.Volume.{Volume}
 use Rattle.shelf_machine.specs.Opening.{AreApart, AreSafe, IsSafeImage, OpensSafely, images_named}

@@ -2,7 +2,7 @@
 use Rattle.std.proofs.Common.{◌≡◌, ◌∙◌, ℕ, Bool, IsTrue, List, set, Option, Some, None, refl, sym, ap, subst}
 use Rattle.std.specs.Prelude.{slice_get}
 use Rattle.free_rebuild.specs.Repairs.{image_named}
-use Rattle.hall_core.specs.Facts.{Attached, Facts, ReportedCall}
+use Rattle.hall_core.specs.Facts.{Facts, ReportedCall}
 use Rattle.stop_model.specs.Files.{File}
 use Rattle.stop_model.specs.Moments.{Meaning, Same}
 use Rattle.stop_model.proofs.MomentLemmas.{CountsNow, same_none}

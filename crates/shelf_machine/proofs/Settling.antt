@@ -46,7 +46,7 @@ base_called old new vols references units =
     ap (λ (n : List ℕ). n ∷ units_of vols ∷ plans_of vols ++ texts_of new.units) references
     ∙ ap (λ (us : List Attached). old.references ∷ units_of vols ∷ plans_of vols ++ texts_of us) units
 
--- calls behind one that is done, and one that failed alone
+-- calls after one that is done, and one that failed alone
 pub reported_behind : {T E : Type 0} {P : Type 0} (a b c : Facts) (x : T) → DeviceCall {E = E} a b (Ok x) → ReportedCall P b c → ReportedCall P a c
 reported_behind a b c x first second = record {
   units = second.units ∙ first.units;
@@ -96,7 +96,7 @@ pub just_time : {m m' : Meaning (List File)} → CountsNow m → ElapsesExactly 
 just_time {m} counts time t files early was j p left =
     ⊎_elim (λ before. was j p before) (λ now. was j m.printed (counts t j early now.0)) ((time.since t j p early).0 left)
 
--- promises that are kept, one behind another
+-- promises that are kept, one after another
 pub keeps_then : {X : Type 0} {clock later : ℕ} {P Q R : ℕ → X → Type 0} → clock ≤ later → Keeps clock P Q → Keeps later Q R → Keeps clock P R
 keeps_then low first second t known early was = second t known (omega (arith, early, low)) (first t known early was)
 
@@ -123,7 +123,7 @@ module _ (f : List File → Shelf) (m m' : Meaning (List File)) (durable : (j : 
       stays (Ok x) w j left = ap f (w.done j left ∙ w.state)
       stays (Err e) w j left = durable j ((w.failed j).0 left)
 
--- an operation behind a call that changes nothing but the time, and a call that failed before the operation
+-- an operation after a call that changes nothing but the time, and a call that failed before the operation
 module _ (op : Op) (old mid : Meaning Shelf) (durable : (s : Shelf) → old.left s → s ≡ old.state) (same : Same old mid) where
   abbrev Within : Shelf → List ℕ → Type 0
   Within s p = ((s ≡ old.state) ⊎ (step old.state op ≡ Ok s)) × (p ≡ old.printed)
@@ -145,7 +145,7 @@ module _ (op : Op) (old mid : Meaning Shelf) (durable : (s : Shelf) → old.left
   pub applies_failed : {T : Type 0} → Applies {T = T} op old mid (Err mach.Device)
   applies_failed = record { answer = tt; idle = λ none. same; printed = same.printed; moments = before_it }
 
--- an operation on the packs behind a sync, done or failed
+-- an operation on the packs after a sync, done or failed
 module _ (op : Op) (names : List (List ℕ)) (vols : List Vol) (m mid : Meaning (List File)) (counts : CountsNow m)
     (durable : (j : List File) → m.left j → shelf_under names j ≡ shelf_under names m.state) (here : m.left m.state) (here' : mid.left mid.state) where
   abbrev before : Meaning Shelf

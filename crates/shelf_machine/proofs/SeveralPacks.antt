@@ -23,7 +23,7 @@ use Rattle.vtoc_index.specs.Kept.{IsKept}
 use Rattle.vtoc_index.specs.declared.vol.Vol.{Vol}
 use Rattle.vtoc_sets.specs.Sets.{volume_in}
 use Rattle.shelf_machine.specs.Known.{AreHeld, HaveBuffers, KnowsBodies, ListsBroken, ListsUnread}
-use Rattle.shelf_machine.specs.Machine.{AreIndexes, AreKept, base_of, shelf_under, units_of}
+use Rattle.shelf_machine.specs.Machine.{AreIndexes, AreKept, shelf_under, units_of}
 use Rattle.shelf_machine.specs.Opening.{names_of}
 use Rattle.shelf_machine.specs.Operating.{OperatesOnShelf}
 use Rattle.shelf_machine.specs.Ready.{Anyhow, AreReady, IsOfImage, IsReady, Leaves, LeavesPacks, file_name}

@@ -1,4 +1,4 @@
--- The directories that stand on an image stay while blocks are put behind the last record of a data set, and once they are the set's.
+-- The directories that stand on an image stay while blocks are put after the last record of a data set, and once they are the set's.
 use Rattle.std.proofs.Common.{◌≡◌, ℕ, List, [], Result, Ok, sym, ap, ◌∙◌, subst}
 use Rattle.dscb_codec.specs.declared.F1.{F1}
 use Rattle.stop_model.specs.Files.{File}

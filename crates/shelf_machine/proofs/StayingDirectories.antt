@@ -30,7 +30,7 @@ use Rattle.shelf_machine.specs.Standing.{DirectoriesStay, IsDirectoryAt, StandsS
 use Rattle.shelf_machine.proofs.PackedBlocks.{part_from}
 use Rattle.shelf_machine.proofs.PackedVtoc.{mounted_place, on_done}
 
--- tracks of which there are some begin as they do with more behind them
+-- tracks of which there are some begin as they do with more after them
 begins_front : (ts more : List ℕ) (start : ℕ) → 0 < length ts → slice_get (ts ++ more) 0 ≡ Some start → slice_get ts 0 ≡ Some start
 begins_front [] more start some is = absurd (omega (arith, some))
 begins_front (t ∷ ts) more start some is = is

@@ -1,4 +1,4 @@
--- A call that leaves the index of a pack and its image as they were, and one behind it.
+-- A call that leaves the index of a pack and its image as they were, and one after it.
 use Rattle.std.proofs.Common.{◌≡◌, ℕ, List, sym, ap, subst, ◌∙◌, arith}
 use Rattle.std.specs.Prelude.{Result, Ok, Err}
 use Rattle.free_rebuild.specs.Repairs.{image_named}
@@ -46,7 +46,7 @@ device_behind a b c x (Err e) first second = record {
   failed = subst (λ (n : ℕ). Rose n c.dev_faults) first.done second.failed;
 }
 
--- a fault that is noted behind other calls
+-- a fault that is noted after other calls
 pub noted_reported : (P S : Type 0) (f0 f1 f2 : Facts) → P → ReportedCall S f0 f1 → NotedCall f1 f2 → Rose f1.dev_faults f2.dev_faults → ReportedCall P f0 f2
 noted_reported P S f0 f1 f2 here call noted rose = record {
   units = noted.units ∙ call.units;

@@ -1,6 +1,6 @@
 -- The operation by which the contents that a writer put are written: its step, and what a call leaves that does it.
-use Rattle.std.proofs.Common.{◌≡◌, ⊎_elim, inl, inr, ℕ, zero, suc, Bool, true, false, List, [], ◌∷◌, ◌++◌, length, map, drop, Option, Some, None, refl, sym, ap, ◌∙◌, subst}
-use Rattle.std.specs.Prelude.{◌⊎◌, Result, Ok, Err}
+use Rattle.std.proofs.Common.{◌≡◌, ℕ, List, [], ◌∷◌, ◌++◌, length, map, drop, Option, Some, None, refl, sym, ap, ◌∙◌}
+use Rattle.std.specs.Prelude.{Ok}
 use Rattle.ckd_image.specs.declared.device.DiskType.{DiskType}
 use Rattle.ebcdic_names.specs.declared.names.Dsn.{Dsn}
 use Rattle.vol_model.specs.declared.answers.Mode.{Mode}
@@ -24,7 +24,7 @@ unfolding placed
 content_placed d b [] = refl
 content_placed d b (c ∷ cs) = ap (λ (l : List Content). c ∷ l) (content_placed d (with_blocks b (next_block d b c ∷ [])) cs)
 
--- and those behind the first of them the others
+-- and those after the first of them the others
 content_behind : (front : List Content) (bs : List Block) (cs : List Content) → map content bs ≡ front ++ cs → map content (drop (length front) bs) ≡ cs
 content_behind [] bs cs is = is
 content_behind (c ∷ front) [] cs is = cc

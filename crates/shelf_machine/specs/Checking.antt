@@ -1,5 +1,5 @@
 -- Which bodies of a volume can't be read, by the kinds of its data sets.
-use Rattle.std.specs.Prelude.{ℕ, List, Option, Some, None, if◌then◌else◌}
+use Rattle.std.specs.Prelude.{List, Option, Some, None, if◌then◌else◌}
 use Rattle.std.specs.List.{filter_map}
 use Rattle.ebcdic_names.specs.declared.names.Dsn.{Dsn}
 use Rattle.mount_repair.specs.Sets.{names_and_kinds}

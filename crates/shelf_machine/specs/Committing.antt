@@ -33,7 +33,7 @@ pub record CommitsOn {E : Type 0} (op : Op) (names names' : List (List ℕ)) (at
   pub held : OnOk result (AreHeld m'.state attached vols' known)
   pub bodies : OnOk result (KnowsBodies (shelf_under names' m'.state) known)
 
--- the writer behind its closing: none, or one that was abandoned, where its blocks aren't its set's
+-- the writer after its closing: none, or one that was abandoned, where its blocks aren't its set's
 abbrev pub writer_after : Result (Unit {0}) MachErr → Writer → Option Writer
 writer_after (Ok x) w = None
 writer_after (Err e) w = closed (Some w)

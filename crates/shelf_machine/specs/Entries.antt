@@ -29,6 +29,6 @@ abbrev pub answer_to : {T : Type 0} → Result T StoreErr → Result (Unit {0}) 
 answer_to (Ok entries) = Ok tt
 answer_to (Err e) = Err e
 
--- the library of this directory, which begins on this track, is put behind others, or memory ran out
+-- the library of this directory, which begins on this track, is put after others, or memory ran out
 abbrev pub IsPutBack : ℕ → Dir → List Library → List Library → Type 0
 IsPutBack start dir old new = ((l : Library) × (l.start ≡ start) × (l.dir ≡ dir) × (new ≡ old ++ l ∷ [])) ⊎ (new ≡ old)

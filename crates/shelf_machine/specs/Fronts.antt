@@ -1,6 +1,5 @@
 -- What goes in front of the blocks that a writer puts, in this project's profile.
-use Rattle.std.specs.Prelude.{◌≡◌, ◌++◌, Bool, true, false, List, [], ◌∷◌, Option, Some, None}
-use Rattle.seq_access.specs.Writing.{EndsAt}
+use Rattle.std.specs.Prelude.{◌≡◌, Bool, true, false, List, [], ◌∷◌, Some, None}
 use Rattle.vol_model.specs.declared.answers.Mode.{Mode}
 use Rattle.vol_model.specs.declared.answers.Mode.TheVariants as modes
 use Rattle.vol_model.specs.declared.contents.Body.{Body}
@@ -36,7 +35,7 @@ IsFrontOf front (bodies.Part dir end entries blocks) = (front.end ≡ Some end)
     × (front.first ≡ is_open_ended blocks)
 IsFrontOf front body = Unit {0}
 
--- a writer for this mode begins so behind a body
+-- a writer for this mode begins so after a body
 abbrev pub IsFrontIn : Mode → AreaStart → Body → Type 0
 IsFrontIn modes.Fill front body = front ≡ record { end = None; first = false }
 IsFrontIn modes.Area front body = IsFrontOf front body

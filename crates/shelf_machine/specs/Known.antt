@@ -1,5 +1,5 @@
 -- What is known of the bodies on several packs, in this project's profile.
-use Rattle.std.specs.Prelude.{◌≡◌, ◌≢◌, ℕ, ◌==◌, Bool, true, false, List, [], length, map, slice_get, Some, option_and_then, if◌then◌else◌}
+use Rattle.std.specs.Prelude.{◌≡◌, ◌≢◌, ℕ, List, [], length, map, slice_get, Some, option_and_then}
 use Rattle.ckd_image.specs.declared.header.Geometry.{Geometry}
 use Rattle.free_rebuild.specs.Repairs.{image_named}
 use Rattle.hall_core.specs.Facts.{Attached, unit_of}
@@ -10,14 +10,12 @@ use Rattle.vol_model.specs.declared.contents.Body.{Body}
 use Rattle.vol_model.specs.declared.contents.Body.TheVariants.{Part}
 use Rattle.vol_model.specs.declared.contents.Shelf.{Shelf}
 use Rattle.vol_model.specs.declared.contents.Volume.{Volume}
-use Rattle.vol_model.specs.declared.requests.Op.{Op}
-use Rattle.vol_model.specs.declared.requests.Op.TheVariants.{Allocate, Drop, Empty, Enter, Extend, Rename, Scratch}
 use Rattle.vol_model.specs.Shelf.{blocks_of, set_of}
 use Rattle.vol_model.specs.Writing.{set_on}
 use Rattle.vtoc_index.specs.declared.vol.Vol.{Vol}
 use Rattle.vtoc_sets.specs.Sets.{volume_in}
 use Rattle.shelf_machine.specs.Standing.{IsDirectoryAt}
-use Rattle.shelf_machine.specs.Unread.{broken_in, others_of, renamed_in, track_in}
+use Rattle.shelf_machine.specs.Unread.{broken_in, track_in}
 use Rattle.shelf_machine.specs.declared.pack_cache.PackCache.{PackCache}
 use Rattle.mount_repair.specs.declared.library.Library.{Library}
 use Rattle.shelf_machine.specs.declared.unread.Unread.{Unread}

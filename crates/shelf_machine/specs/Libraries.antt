@@ -63,7 +63,7 @@ ReadsLibrary (Err Device) image v f = Unit {0}
 abbrev pub AreOthers : ℕ → List Library → List Library → Type 0
 AreOthers start old new = new ≡ filter (λ (l : Library). not (l.start == start)) old
 
--- a library is put behind these, or memory ran out
+-- a library is put after these, or memory ran out
 abbrev pub IsKeptBehind : Library → List Library → List Library → Type 0
 IsKeptBehind l old new = (new ≡ old ++ l ∷ []) ⊎ (new ≡ old)
 

@@ -1,4 +1,4 @@
--- Which directories of a pack are held still behind a new data set, in this project's profile.
+-- Which directories of a pack are held still after a new data set, in this project's profile.
 use Rattle.std.specs.Prelude.{ℕ, ◌==◌, not, List, filter, slice_get, Option, Some, None, option_and_then}
 use Rattle.pack_spec.specs.Blocks.{owned_tracks}
 use Rattle.vol_model.specs.declared.contents.DataSet.{DataSet}

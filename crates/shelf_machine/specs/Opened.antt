@@ -16,7 +16,7 @@ use Rattle.shelf_machine.specs.Parts.{PromisesSafety, hall_of, indexes_of, is_op
 use Rattle.shelf_machine.specs.declared.machine.HallShelf.{HallShelf}
 use Rattle.shelf_machine.specs.declared.open_err.OpenErr.{OpenErr}
 
--- the hall behind an opening
+-- the hall after an opening
 abbrev pub hall_left : {X : Type 0} {g : Ghosts X} → Result (HallShelf X g) (OpenErr X) → X
 hall_left (Ok machine) = hall_of machine
 hall_left (Err e) = e.hall

@@ -38,7 +38,7 @@ pub record IsWritingBy (image : List ℕ) (v : Vol) (f : F1) (w : BlockWriter) :
   pub ended : has_put w ≡ true → (track : ℕ) → slice_get (owned_in image v f) w.last.tt ≡ Some track
       → records_on image v.geometry None track ≡ records_on image v.geometry (Some w.last.r) track
 
--- what a writer put behind the set whose format 1 this is
+-- what a writer put after the set whose format 1 this is
 abbrev pub puts_by : List ℕ → Vol → BlockWriter → Option Dscb → List Content
 puts_by image v w (Some (formats.F1 f)) = puts_in image v f w
 puts_by image v w _ = []
@@ -54,7 +54,7 @@ pub record IsWriterOn (image : List ℕ) (v : Vol) (w : Writer) : Type 0 where
   pub writing : (f : F1) → slice_get v.slots.items w.inner.slot ≡ Some (formats.F1 f)
       → IsWritingBy image v f w.inner
 
--- what a stop leaves differs from what is read behind the last record of a writer's set alone, in the image of this name
+-- what a stop leaves differs from what is read after the last record of a writer's set alone, in the image of this name
 abbrev pub LeavesSpared : List ℕ → Meaning (List File) → Vol → Writer → Type 0
 LeavesSpared name m v w = (f : F1) → slice_get v.slots.items w.inner.slot ≡ Some (formats.F1 f)
     → (files : List File) → m.left files

@@ -40,7 +40,7 @@ room_answer e = mach.Refused NoRoom
 abbrev pub shelf_on : List File → List Attached → List Vol → Shelf
 shelf_on files attached vols = shelf_under (names_of attached (units_of vols)) files
 
--- the room for a content behind those that a writer put
+-- the room for a content after those that a writer put
 abbrev pub room_on : List File → List Attached → List Vol → Writer → Content → Room
 room_on files attached vols w c =
     let writer = placed_in files attached vols w in

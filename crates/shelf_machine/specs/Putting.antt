@@ -34,7 +34,7 @@ pub record PutsOn {T : Type 0} (names : List (List ℕ)) (attached : List Attach
   pub pending : ¬ IsErrOf result Device → IsPendingBy m' attached vols' (Some w)
   pub held : ¬ IsErrOf result Device → AreHeld m'.state attached vols' known
 
--- One content is placed behind those that a writer placed, with an extension where one is wanted.
+-- One content is placed after those that a writer placed, with an extension where one is wanted.
 unfoldable pub did_place : Shelf → OpenWriter → Content → Did Place Refusal
 did_place shelf w c = room_made (making_room shelf w.target w.puts (c ∷ [])) (place_on shelf w.target w.puts c)
 

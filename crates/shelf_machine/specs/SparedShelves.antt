@@ -1,4 +1,4 @@
--- Images of which one differs behind the last block of a data set alone stand for one shelf, and are settled alike.
+-- Images of which one differs after the last block of a data set alone stand for one shelf, and are settled alike.
 use Rattle.std.proofs.Common.{◌≡◌, ◌≢◌, ◌+◌, ◌≤◌, ℕ, Bool, true, false, List, [], ◌∷◌, Option, Some, Result, Ok, inl, refl, sym, ap, ap₂, ◌∙◌, subst}
 use Rattle.std.specs.Prelude.{slice_get, unwrap_or}
 use Rattle.std.specs.Str.{bytes_eq}
@@ -45,7 +45,7 @@ one_volume {a} {b} image first second = ok_same (sym first ∙ second)
 abbrev bare : Vol → Vol
 bare v = record v { buf = record (v.buf) { records = [] } }
 
--- a data set of an image by its index, behind whose last record blocks may be put
+-- a data set of an image by its index, after whose last record blocks may be put
 module _ (before : List ℕ) (v : Vol) (f : F1) (slot : ℕ) (dscb : slice_get v.slots.items slot ≡ Some (formats.F1 f)) (kept : IsKept before v)
     (extents : has_extents v.geometry (slots_of_vtoc before v.geometry v.vtoc) f ≡ true) (last : Place) (ends : IsLastOf before v f last) where
   set_bare : IsSetIn before (bare v) f

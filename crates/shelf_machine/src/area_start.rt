@@ -26,7 +26,7 @@ use seq_access::is_open_ended;
 use vol_model::{Kind, MachErr, Place};
 use vtoc_index::Vol;
 
-// Behind what a writer begins: the directory's end of a partitioned data set, and whether an end-of-file block goes in
+// After what a writer begins: the directory's end of a partitioned data set, and whether an end-of-file block goes in
 // front of what is put, since the last member has none.
 #[derive(Clone, Copy, Debug)]
 pub(crate) struct AreaStart {
@@ -40,7 +40,7 @@ pub(crate) const NO_AREA_START: AreaStart = AreaStart {
     first: false,
 };
 
-// Behind what a writer of an area of a data set begins. No memory is taken.
+// After what a writer of an area of a data set begins. No memory is taken.
 pub(crate) fn area_start_of<H: Hall>(
     hall: &mut H,
     vols: &mut Vec<Vol>,

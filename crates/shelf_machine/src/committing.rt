@@ -64,7 +64,7 @@ pub(crate) fn close_writer<H: Hall>(
     }
 }
 
-// What is left of a writer that was closed: one that was abandoned, where its blocks aren't its set's.
+// The writer that stays after a close: one that was abandoned, whose blocks aren't those of its set.
 pub(crate) fn left_of(closed: &Result<(), MachErr>, writer: Writer) -> Option<Writer>
     ensures { result ≡ writer_after closed.now writer }
 {

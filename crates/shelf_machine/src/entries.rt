@@ -190,7 +190,7 @@ fn drop_from<H: Hall>(
     give_back(&mut known.libraries, start, dir, entries, dropped)
 }
 
-// Puts a library back behind the others, with the entries that it had or those that a change of it gave, and gives what the
+// Puts a library back after the others, with the entries that it had or those that a change of it gave, and gives what the
 // change answered.
 fn give_back(
     libraries: &mut Vec<Library>,

@@ -155,7 +155,7 @@ fn place_of(libraries: &[Library], start: u16) -> Option<usize>
     libraries.iter().position(|library| library.start == start)
 }
 
-// Puts a library behind others, and gives its number among them.
+// Puts a library after others, and gives its number among them.
 fn add(libraries: &mut Vec<Library>, library: Library) -> Result<usize, ReadErr>
     ensures added { IfOk result (λ at. (at ≡ length libraries.old.items)
         × (libraries.new.items ≡ libraries.old.items ++ library ∷ [])) }
@@ -228,7 +228,7 @@ fn take(libraries: &mut Vec<Library>, start: u16) -> Option<Library>
     Some(library)
 }
 
-// Puts a library behind others; where memory runs out it is forgotten, and will be read again.
+// Puts a library after others; where memory runs out it is forgotten, and will be read again.
 pub(crate) fn keep(libraries: &mut Vec<Library>, library: Library)
     ensures { IsKeptBehind library libraries.old.items libraries.new.items }
 {

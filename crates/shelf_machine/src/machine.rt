@@ -73,7 +73,7 @@ impl<H: Hall> HallShelf<H> {
     ///
     /// The error names the unit at which it stopped: the first whose pack breaks a rule of mounting, with the first rule
     /// that it breaks, or else the lowest whose serial an earlier one has (`SameSerial`). `Device` comes only where the
-    /// count of device faults rose. But for that, nothing is written behind an error. A pack that is settled isn't
+    /// count of device faults rose. After any other error nothing was written. A pack that is settled isn't
     /// written to. A stop at any moment leaves images that stand for the same volumes, each guarded or with the VTOC that
     /// it had (the bit of an interrupted update: this project's profile).
     pub fn open(alloc: Global, hall: H, units: &[u8]) -> Result<HallShelf<H>, OpenErr<H>>
@@ -108,7 +108,7 @@ impl<H: Hall> HallShelf<H> {
         }
     }
 
-    /// The hall, as it is: nothing is called. Behind a sound machine its packs are settled; no write is pending but those
+    /// The hall, as it is: nothing is called. After a sound machine its packs are settled; no write is pending but those
     /// of a writer that wasn't committed, and every stop leaves the shelf.
     pub fn close(self) -> H
         ensures hall { result ≡ hall_of self }

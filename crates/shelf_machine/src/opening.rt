@@ -25,7 +25,7 @@ use std::alloc::{AllocError, Global};
 use vtoc_index::{MountErr, Vol};
 
 // The packs on units: all are scanned, then their serials compared, then each that isn't settled is repaired. What was read
-// of their libraries is held. All memory is taken before the first write. Behind an error nothing was written, unless the
+// of their libraries is held. All memory is taken before the first write. After an error nothing was written, unless the
 // device failed.
 pub(crate) fn open_packs<H: Hall>(
     alloc: Global,
@@ -103,7 +103,7 @@ fn scan_pack<H: Hall>(alloc: Global, hall: &mut H, unit: u8) -> Result<Scan, Ope
     }
 }
 
-// Puts an item behind the others; the unit is that of its pack.
+// Puts an item after the others; the unit is that of its pack.
 fn push<T: Drop>(items: &mut Vec<T>, item: T, unit: u8) -> Result<(), OpenFailure>
     ensures done { OnOk result (items.new.items ≡ items.old.items ++ item ∷ []) }
     ensures memory { IfErr result (λ s. s.why ≡ MountErr.Memory) }
@@ -163,7 +163,7 @@ fn know_all(alloc: Global, scans: &[Scan]) -> Result<Vec<PackCache>, OpenFailure
     Ok(known)
 }
 
-// Puts what is known of a pack that was scanned behind the others.
+// Puts what is known of a pack that was scanned after the others.
 fn add_known(alloc: Global, known: &mut Vec<PackCache>, scanned: &Scan) -> Result<(), OpenFailure>
     ensures known { OnOk result ((b : PackCache) × (known.new.items ≡ known.old.items ++ b ∷ [])
         × IsFresh b × (b.buf.records.geometry ≡ scanned.now.vol.geometry)

@@ -144,7 +144,7 @@ fn allocate_on<H: Hall>(
     allocate_set(hall, vol, known, dsn, attr, request, dir)
 }
 
-// Makes a data set on a volume. A set that was scratched may have begun where it does.
+// Makes a data set on a volume, and forgets what was held of a scratched one that began on the same track.
 fn allocate_set<H: Hall>(
     hall: &mut H,
     vol: &mut Vol,

@@ -23,7 +23,7 @@ use seq_access::PutErr;
 use vol_model::{MachErr, Mode, Place, Refusal, StoreErr};
 use vtoc_index::Vol;
 
-// Puts a block behind those of the open writer, and what is due in front of the first. Its set is extended first where it
+// Puts a block after those of the open writer, and what is due in front of the first. Its set is extended first where it
 // owns no track for one of the two.
 pub(crate) fn put_block<H: Hall>(
     hall: &mut H,
@@ -65,7 +65,7 @@ pub(crate) fn put_block<H: Hall>(
 }
 
 // Places the end-of-file blocks of an area that aren't placed yet: what is due in front of the first block, and the one
-// behind the last.
+// after the last.
 pub(crate) fn place_ends<H: Hall>(
     hall: &mut H,
     vols: &mut Vec<Vol>,
@@ -104,7 +104,7 @@ pub(crate) fn place_ends<H: Hall>(
     }
 }
 
-// Places the end-of-file block behind an area.
+// Places the end-of-file block after an area.
 fn place_last<H: Hall>(
     hall: &mut H,
     vols: &mut Vec<Vol>,
@@ -191,7 +191,7 @@ fn is_due(writer: Writer) -> bool
     writer.first && writer.inner.blocks == 0
 }
 
-// Places an end-of-file block behind those of the open writer.
+// Places an end-of-file block after those of the open writer.
 fn place_end<H: Hall>(
     hall: &mut H,
     vols: &mut Vec<Vol>,
@@ -231,7 +231,7 @@ fn place_end<H: Hall>(
     }
 }
 
-// Places a block behind those of the open writer. Its set is extended first where it owns no track.
+// Places a block after those of the open writer. Its set is extended first where it owns no track.
 pub(crate) fn place_block<H: Hall>(
     hall: &mut H,
     vols: &mut Vec<Vol>,
@@ -329,7 +329,7 @@ fn wants_extent(put: &Result<Place, PutErr>) -> bool
     matches!(put, Err(PutErr::NeedExtent))
 }
 
-// What the machine answers to a put. Behind an extension there is a track for the block.
+// What the machine answers to a put. After an extension there is a track for the block.
 fn answer_put(put: Result<Place, PutErr>) -> Result<Place, MachErr>
     ensures { result ≡ put_answer put }
 {

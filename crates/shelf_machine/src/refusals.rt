@@ -41,7 +41,7 @@ fn unread_refusal(known: &PackCache, set: &F1) -> Option<Refusal>
     }
 }
 
-// Whether a data set is of a kind that may be emptied. One that is partitioned may, where it can't be read.
+// Whether a data set is of a kind that may be emptied. One that is partitioned may be, where it can't be read.
 #[tactic(auto, unfolding(pack_spec::specs::Volume::attr_of))]
 fn may_empty(set: &F1) -> bool
     ensures { (g : Geometry) (tracks : List (List ℕ)) (extents : List Run) →

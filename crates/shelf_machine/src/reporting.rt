@@ -34,7 +34,7 @@ pub(crate) fn report(
     }
 }
 
-// Whether a machine is sound behind a read into a block.
+// Whether a machine is sound after a read into a block.
 pub(crate) fn is_sound_into(read: &Result<bool, CheckErr>) -> bool
     ensures failed { IsErrOf read.now CheckErr.Device → result ≡ false }
     ensures others { ¬ IsErrOf read.now CheckErr.Device → result ≡ true }
@@ -42,7 +42,7 @@ pub(crate) fn is_sound_into(read: &Result<bool, CheckErr>) -> bool
     !matches!(read, Err(CheckErr::Device))
 }
 
-// Whether it is sound behind a call that was to hold a library.
+// Whether it is sound after a call that was to hold a library.
 pub(crate) fn is_sound_held(held: &Result<Option<usize>, ReadErr>) -> bool
     ensures failed { IsErrOf held.now ReadErr.Device → result ≡ false }
     ensures others { ¬ IsErrOf held.now ReadErr.Device → result ≡ true }
@@ -50,7 +50,7 @@ pub(crate) fn is_sound_held(held: &Result<Option<usize>, ReadErr>) -> bool
     !matches!(held, Err(ReadErr::Device))
 }
 
-// Whether it is sound behind a read that gives a block.
+// Whether it is sound after a read that gives a block.
 pub(crate) fn is_sound_block(read: &Result<Option<Block>, ReadErr>) -> bool
     ensures failed { IsErrOf read.now ReadErr.Device → result ≡ false }
     ensures others { ¬ IsErrOf read.now ReadErr.Device → result ≡ true }
@@ -58,21 +58,21 @@ pub(crate) fn is_sound_block(read: &Result<Option<Block>, ReadErr>) -> bool
     !matches!(read, Err(ReadErr::Device))
 }
 
-// Whether it is sound behind a put.
+// Whether it is sound after a put.
 pub(crate) fn is_sound_put(put: &Result<Place, MachErr>) -> bool
     ensures { result ≡ sound_after put.now }
 {
     !matches!(put, Err(MachErr::Device | MachErr::Print))
 }
 
-// Whether it is sound behind the closing of a writer.
+// Whether it is sound after the closing of a writer.
 pub(crate) fn is_sound_closed(closed: &Result<(), MachErr>) -> bool
     ensures { result ≡ sound_after closed.now }
 {
     !matches!(closed, Err(MachErr::Device | MachErr::Print))
 }
 
-// Whether it is sound behind a read of where an area begins.
+// Whether it is sound after a read of where an area begins.
 pub(crate) fn is_sound_front(front: &Result<AreaStart, MachErr>) -> bool
     ensures failed { IsErrOf front.now MachErr.Device → result ≡ false }
     ensures others { ¬ IsErrOf front.now MachErr.Device → result ≡ true }

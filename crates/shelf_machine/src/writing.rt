@@ -130,7 +130,7 @@ pub(crate) fn open_writer<H: Hall>(
     }
 }
 
-// A writer behind the blocks of the data set of this name on the pack of this number, where there is one.
+// A writer after the blocks of the data set of this name on the pack of this number, where there is one.
 fn writer_on<H: Hall>(
     hall: &mut H,
     vols: &mut Vec<Vol>,
@@ -195,7 +195,7 @@ fn writer_at<H: Hall>(
     })
 }
 
-// Puts a block behind those of the open writer, where its set owns a track for it.
+// Puts a block after those of the open writer, where its set owns a track for it.
 pub(crate) fn put_on_owned_track<H: Hall>(
     hall: &mut H,
     vols: &mut Vec<Vol>,
@@ -239,7 +239,7 @@ pub(crate) fn put_on_owned_track<H: Hall>(
     put(hall, &mut vols[k], &mut writer.inner, key, payload)
 }
 
-// More tracks for the set of the open writer, once what it put is durable; it stands behind the same blocks then.
+// More tracks for the set of the open writer, once what it put is durable; it stands after the same blocks then.
 pub(crate) fn make_room<H: Hall>(
     hall: &mut H,
     vols: &mut Vec<Vol>,

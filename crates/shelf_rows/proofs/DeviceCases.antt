@@ -39,7 +39,7 @@ sysctlg = record { bytes = catalog_name }
 abbrev one : Request
 one = record { unit = Track; primary = 1; secondary = 0; contig = false }
 
--- 35 directory blocks and the end-of-file record fit on a track of a 3350; a 36th block fits too, but not the record behind it
+-- 35 directory blocks and the end-of-file record fit on a track of a 3350; a 36th block fits too, but not the record after it
 directory_35 : directory_end D3350 35 ≡ place 0 36
 unfolding directory_end
 directory_35 = refl

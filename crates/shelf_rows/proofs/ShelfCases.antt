@@ -15,7 +15,7 @@ module _ (x y z w : Volume) where
   abbrev three : Shelf
   three = record { volumes = x ∷ y ∷ z ∷ [] }
 
-  -- neither the first volume for each, nor one put in front or behind
+  -- neither the first volume for each, nor one put in front or after
   volume_1_is_replaced : with_volume three 1 (Ok w) ≡ Ok (record { volumes = x ∷ w ∷ z ∷ [] })
   volume_1_is_replaced = refl
 
@@ -27,7 +27,7 @@ module _ (x y z w : Volume) where
   unfolding step step_on
   volume_1_is_renamed old new = refl
 
-  -- numbers count from 0, and the one behind the last is refused
+  -- numbers count from 0, and the one after the last is refused
   no_volume_3 : (old new : Dsn) → step three (Rename 3 old new) ≡ Err NoVolume
   unfolding step step_on
   no_volume_3 old new = refl

@@ -72,12 +72,12 @@ module _ (volume : Volume) (attr : Attr) where
   abbrev card : Content
   card = ([], 0xC2 ∷ [])
 
-  -- a member without its end-of-file block gets one first, and the new one gets one behind
+  -- a member without its end-of-file block gets one first, and the new one gets one after
   open_ended : did_write (shelf 0x0200 (bodies.Part 1 (place 0 2) [] (old ∷ []))) into (card ∷ []) ≡ record { operations = Area 0 named (at (place 0 5) card ∷ []) ∷ []; answer = Ok tt }
   unfolding did_write step step_on extend_on choice choice_from chosen longest_first slots_needed room_for next_place placed body_on set_on tracks_on device_on
   open_ended = refl
 
-  -- the first member stands behind the directory's end-of-file record
+  -- the first member stands after the directory's end-of-file record
   first_member : did_write (shelf 0x0200 (bodies.Part 1 (place 0 2) [] [])) into (card ∷ []) ≡ record { operations = Area 0 named (at (place 0 3) card ∷ []) ∷ []; answer = Ok tt }
   unfolding did_write step step_on extend_on choice choice_from chosen longest_first slots_needed room_for next_place placed body_on set_on tracks_on device_on
   first_member = refl

@@ -65,7 +65,7 @@ any-changed p (suc k) d (x ∷ xs) fails none =
     let parts = or_parts (p x) (list_any p xs) none in
     ap (λ (b : Bool). b || list_any p (with_dscb k d xs)) parts.0 ∙ any-changed p k d xs fails parts.1
 
--- the slots before it, it, and those behind it
+-- the slots before it, it, and those after it
 pub split_slots : (k : ℕ) (xs : List VtocSlot) (s : VtocSlot) → slice_get xs k ≡ Some s → xs ≡ take k xs ++ s ∷ drop (suc k) xs
 split_slots k [] s is = cc
 split_slots zero (x ∷ xs) s is = let same : x ≡ s = cc in ap (λ (y : VtocSlot). y ∷ xs) same

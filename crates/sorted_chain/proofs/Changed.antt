@@ -1,4 +1,4 @@
--- A chain of one entry more, or of one that is larger, behind a cut without it.
+-- A chain of one entry more, or of one that is larger, after a cut without it.
 use Rattle.std.proofs.Common.{◌≡◌, ℕ, zero, suc, ◌<◌, ◌≤◌, Bool, true, false, cond, List, [], ◌∷◌, ◌++◌, refl, ap, sym, ◌∙◌, arith, ◌⊎◌, ⊎_elim, inl, inr, append_assoc, take, drop, length, subst, Option, Some, None}
 use Rattle.std.proofs.lemmas.List.{append_cancel_right}
 use Rattle.std.specs.Prelude.{option_map}
@@ -143,7 +143,7 @@ module _ {E : Type 0} (name size : E → ℕ) where
       up : RisesFrom name (suc (name x)) z
       up = rises_behind 0 a x z rises
 
-  -- a cut in front without the entry, blocks behind with it: one of both is found
+  -- a cut in front without the entry, blocks after with it: one of both is found
   pub changed_mixed : (room end : ℕ) (cut whole : List (List E)) (a : List E) (x : E) (ys z : List E) (t s : List (Option (Block E))) (j : ℕ) →
       StandsFor name size x ys → Rises name (a ++ (x ∷ z)) →
       AllFit size room end cut → IsFull size room end cut → joined cut ≡ a ++ (ys ++ z) →

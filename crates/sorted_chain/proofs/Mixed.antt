@@ -1,4 +1,4 @@
--- A chain that is cut in front and as it was behind.
+-- A chain that is cut in front and as it was after.
 use Rattle.std.proofs.Common.{◌≡◌, ℕ, zero, suc, ◌+◌, ◌<◌, ◌≤◌, List, [], ◌∷◌, ◌++◌, refl, ap, sym, ◌∙◌, arith, ⊎_elim, append-nil, take, drop, length, subst, Option, Some}
 use Rattle.std.specs.Prelude.{option_map}
 use Rattle.chain_spec.proofs.KeptLemmas
@@ -23,7 +23,7 @@ module _ {E : Type 0} (name size : E → ℕ) where
       let sums : total size (kept_from name u (b ++ [])) ≡ total size (f ++ joined (c ∷ cs)) = ap (total size) same in
       omega (arith, sums, kept_within u (b ++ []), total-append size b [], total-append size f (joined (c ∷ cs)), first_size_within size end c cs, full, fits)
 
-  -- behind the first block of the cut the kept entries come from the blocks behind the first
+  -- after the first block of the cut the kept entries come from the blocks after the first
   pub next : (u room end : ℕ) (f c : List E) (cs : List (List E)) (b d : List E) (ds : List (List E)) →
       AllFit size room end (f ∷ c ∷ cs) → IsFull size room end (f ∷ c ∷ cs) → AllFit size room end (b ∷ d ∷ ds) →
       kept_from name u (joined (b ∷ d ∷ ds)) ≡ joined (f ∷ c ∷ cs) →
@@ -44,7 +44,7 @@ module _ {E : Type 0} (name size : E → ℕ) where
   abbrev pub Finds : ℕ → List (Option (Block E)) → List E → Type 0
   Finds u store list = (es : List E) × (up_to_end store ≡ Some es) × (kept_from name u es ≡ list)
 
-  -- a cut of the kept entries in front, the blocks as they were behind: the kept entries stay
+  -- a cut of the kept entries in front, the blocks as they were after: the kept entries stay
   pub kept_mixed : (u room end : ℕ) (cut blocks : List (List E)) (t s : List (Option (Block E))) (j : ℕ) →
       AllFit size room end cut → IsFull size room end cut → AllFit size room end blocks →
       kept_from name u (joined blocks) ≡ joined cut →

@@ -21,7 +21,7 @@ module _ {E : Type 0} where
   longer : (front : List (Option (Block E))) (b : Option (Block E)) → length (front ++ (b ∷ [])) ≡ suc (length front)
   longer front b = omega (arith, length-append front (b ∷ []))
 
-  -- after the first writes of a chain from the first to the last, behind these blocks
+  -- after the first writes of a chain from the first to the last, after these blocks
   pub forward_so_far : (n i : ℕ) (front : List (Option (Block E))) (cs : List (List E)) (s : List (Option (Block E))) (k : ℕ) → length front ≡ i → n ≡ i + length cs → length cs ≤ length s →
       (j : ℕ) × (after_writes n (take k (forward_writes i cs)) (front ++ s) ≡ front ++ (take j (stored cs) ++ drop j s))
   forward_so_far n i front [] s zero at all fits = (zero, refl)
@@ -46,7 +46,7 @@ module _ {E : Type 0} where
       let before : after_writes n (reverse (forward_writes (suc i) cs)) (front ++ (y ∷ s)) ≡ front ++ (y ∷ rest) = ap (after_writes n (reverse (forward_writes (suc i) cs))) (sym (append_assoc front (y ∷ []) s)) ∙ inner ∙ append_assoc front (y ∷ []) rest in
       ap (λ ws. after_writes n ws (front ++ (y ∷ s))) (reverse_onto (forward_writes (suc i) cs) (i, c) []) ∙ after_writes-append n (reverse (forward_writes (suc i) cs)) ((i, c) ∷ []) (front ++ (y ∷ s)) ∙ ap (after_write n (i, c)) before ∙ set_at front y rest b i at ∙ ap (λ st. front ++ (st ++ drop (length cs) s)) (sym (stored_more i n c cs all))
 
-  -- after the first writes of a chain from the last to the first, behind these blocks
+  -- after the first writes of a chain from the last to the first, after these blocks
   pub backward_so_far : (n i : ℕ) (front : List (Option (Block E))) (cs : List (List E)) (s : List (Option (Block E))) (k : ℕ) → length front ≡ i → n ≡ i + length cs → length cs ≤ length s →
       (j : ℕ) × (after_writes n (take k (reverse (forward_writes i cs))) (front ++ s) ≡ front ++ (take j s ++ drop j (stored cs ++ drop (length cs) s)))
   backward_so_far n i front [] s k at all fits = (zero, ap (λ ws. after_writes n ws (front ++ s)) (take_all k [] (omega arith)))

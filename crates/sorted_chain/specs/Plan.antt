@@ -39,7 +39,7 @@ pub record IsPlan {E : Type 0} (name size : E → ℕ) (room end : ℕ) (old : L
   pub count : blocks ≡ needed size room end new
   -- each write puts one of them at its place
   pub places : All (λ w. slice_get cut w.0 ≡ Some w.1) writes
-  -- after all writes they stand in front of any store, and what stands behind them stays
+  -- after all writes they stand in front of any store, and what stands after them stays
   pub packs : (store : List (Option (Block E))) → blocks ≤ length store →
       after_writes blocks writes store ≡ stored cut ++ drop blocks store
   -- where one entry of a cut list changes, the old list or the new one is read after any first writes

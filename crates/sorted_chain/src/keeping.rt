@@ -6,7 +6,7 @@ ghost use Rattle.chain_spec.specs.Kept.{bound_after, joined, kept};
 use crate::entry::ChainEntry;
 use std::alloc::{AllocError, Global};
 
-// Whether an entry is kept behind these, which were kept.
+// Whether an entry is kept after these, which were kept.
 fn follows<E: ChainEntry>(entries: &[E], entry: &E) -> bool
     ensures { (es : List E) → entries.now ≡ kept E.name es →
         IsTrue result ↔ (bound_after E.name 0 es ≤ E.name entry.now) }

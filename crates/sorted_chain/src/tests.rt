@@ -89,7 +89,7 @@ fn plans_and_what_is_kept(rt: HostRuntime) -> Result<(), AllocError> {
         // An entry comes, or goes, where a block holds four, or two.
         ("ABDF/G", "ABCDFG", 48, "2 1FG 0ABCD"),
         ("AB/CD", "BCD", 108, "2 0BC 1D"),
-        // A stop left D in two blocks, and C behind D.
+        // A stop left D in two blocks, and C after D.
         ("ABD/CDE", "", 0, "1 0ABDE"),
         // Twenty members of 12 bytes and the end entry fit a block, and one more doesn't.
         (

@@ -14,7 +14,7 @@ use Rattle.space_alloc.specs.Owned.{IsLowestTwice, first_early}
 abbrev pub owners : ℕ → List Run → ℕ
 owners t rs = count_by (is_in t) rs
 
--- the runs begin at a track or behind it, each no earlier than the one in front of it, and have tracks
+-- the runs begin at a track or after it, each no earlier than the one in front of it, and have tracks
 abbrev pub RiseFrom : ℕ → List Run → Type 0
 RiseFrom low [] = Unit {0}
 RiseFrom low (r ∷ rs) = (low ≤ r.start) × (1 ≤ r.len) × RiseFrom r.start rs
@@ -56,7 +56,7 @@ below : (low t : ℕ) (rs : List Run) → RiseFrom low rs → t < low → owners
 below low t [] up l = refl
 below low t (r ∷ rs) up l = without t r rs (has_not t r (omega arith)) ∙ below r.start t rs up.2 (omega arith)
 
--- of a first run and those behind it, which are found from its end on
+-- of a first run and those after it, which are found from its end on
 pub record Found (last : Run) (rs : List Run) (o : Option ℕ) : Type 0 where
   pub none : o ≡ None → (t : ℕ) → owners t (last ∷ rs) ≤ 1
   pub some : (s : ℕ) → o ≡ Some s → (last.start ≤ s) × (2 ≤ owners s (last ∷ rs)) × ((t : ℕ) → t < s → owners t (last ∷ rs) ≤ 1)
@@ -77,7 +77,7 @@ early last r rs up e = record {
           λ t l. let none = without t r rs (has_not t r l) in let lower = below r.start t rs up.2 l in omega (arith, at_most t last (r ∷ rs), none, lower),
         )
 
--- a run that begins at that end or behind it
+-- a run that begins at that end or after it
 late : (last r : Run) (rs : List Run) (o : Option ℕ) → RiseFrom last.start (r ∷ rs) → last.start + last.len ≤ r.start → Found r rs o → Found last (r ∷ rs) o
 late last r rs o up e found = record {
   none = λ is t. few t (found.none is t);

@@ -29,7 +29,7 @@ abbrev pub units : ℕ → List Run → List Run
 units size [] = []
 units size (r ∷ rs) = with_run (units_in size r) (units size rs)
 
--- the longest run so far of those behind the last one taken, with one more run of units
+-- the longest run so far of those after the last one taken, with one more run of units
 abbrev pub better : Option Run → Option Run → Run → Option Run
 better last best u =
     if nat_lt 0 u.len && is_behind last u && is_longer u best then Some u else best

@@ -35,7 +35,7 @@ impl Extents {
         }
     }
 
-    // The same extents with one more behind them.
+    // The same extents with one more after them.
     pub fn with(self, run: Run) -> Extents
         requires { self.n < 5 }
         ensures count { result.n ≡ self.n + 1 }

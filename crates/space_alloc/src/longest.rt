@@ -9,7 +9,7 @@ use crate::extents::{Extents, MOST_EXTENTS};
 use crate::units::{extent_of, units_in};
 use vol_model::Run;
 
-// Whether a run stands behind the last one that was taken, in the order of choice.
+// Whether a run stands after the last one that was taken, in the order of choice.
 fn is_behind(last: Option<Run>, run: Run) -> bool
     ensures { result ≡ is_behind last run }
 {
@@ -29,7 +29,7 @@ fn is_longer(run: Run, best: Option<Run>) -> bool
     }
 }
 
-// The longest run so far of those behind the last one that was taken, with one more run of units.
+// The longest run so far of those after the last one that was taken, with one more run of units.
 fn better(last: Option<Run>, best: Option<Run>, units: Run) -> Option<Run>
     ensures { result ≡ better last best units }
 {
@@ -40,7 +40,7 @@ fn better(last: Option<Run>, best: Option<Run>, units: Run) -> Option<Run>
     }
 }
 
-// The longest run of units behind the last one that was taken, and the lowest of these.
+// The longest run of units after the last one that was taken, and the lowest of these.
 fn next_longest(free: &[Run], size: u16, last: Option<Run>) -> Option<Run>
     requires size { 0 < size }
     requires within { EndBy 65535 free.now }

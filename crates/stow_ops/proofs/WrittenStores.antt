@@ -69,11 +69,11 @@ module _ (h : Block → Block) where
         by true is = ap (λ (x : Block). x ∷ behind_end end bs) (none b is)
         by false is = refl
 
--- no place stands both before and behind another
+-- no place stands both before and after another
 pub not_both : (p q : Place) → is_before p q ≡ true → is_before q p ≡ true → ⊥
 not_both p q first second = grind (arith, nat_tests)
 
--- ---- each block stands behind those before it
+-- ---- each block stands after those before it
 
 abbrev pub IsBehind : Place → Place → Type 0
 IsBehind p q = (p.tt < q.tt) ⊎ ((p.tt ≡ q.tt) × (p.r < q.r))

@@ -4,7 +4,7 @@ use Rattle.std.specs.Str.{bytes_eq}
 use Rattle.vol_model.specs.declared.contents.Entry.{Entry}
 use Rattle.pack_spec.specs.Directories.{name_number}
 
--- Where an entry stands among others, or would: behind those whose names stand before its own, and not behind one whose name doesn't.
+-- Where an entry stands among others, or would: after those whose names stand before its own, and not after one whose name doesn't.
 pub record IsPlaceOf (entries : List Entry) (e : Entry) (at : ℕ) : Type 0 where
   pub before : (k : ℕ) (x : Entry) → k < at → slice_get entries k ≡ Some x → name_number x < name_number e
   pub here : (x : Entry) → slice_get entries at ≡ Some x → name_number e ≤ name_number x

@@ -1,4 +1,4 @@
--- What is read of a track on which records and an end marker were written behind those that stand there.
+-- What is read of a track on which records and an end marker were written after those that stand there.
 use Rattle.std.proofs.Common.{◌≡◌, ◌<◌, ◌≤◌, ◌+◌, ◌-◌, ℕ, zero, suc, Bool, true, false, cond, List, [], ◌∷◌, ◌++◌, length, take, drop, Option, Some, None, refl, sym, ◌∙◌, ap, subst, arith, length-append, length-drop, append_assoc, leb-true}
 use Rattle.std.specs.Prelude.{slice_range, nat_le}
 use Rattle.std.specs.Option.{option_map}
@@ -102,12 +102,12 @@ kept_on r bytes zs (x ∷ xs) stand on size alike =
     let k = first_kept r bytes zs x xs stand.0 stand.1.0 size alike in
     (k.ends ∙ on.0, kept_on (suc r) (drop (record_length bytes) bytes) (drop (record_length zs) zs) xs stand.1.1 on.1 k.size k.rest)
 
--- what stands behind the first record
+-- what stands after the first record
 pub behind_first : (r : ℕ) (bytes : List ℕ) (x : Record) (xs : List Record) (k : ℕ) → is_record_at r bytes ≡ true → x ≡ front_record bytes → drop (length_of x + offset_of xs k) bytes ≡ drop (offset_of xs k) (drop (record_length bytes) bytes)
 behind_first r bytes x xs k stands is =
     ap (λ (n : ℕ). drop (n + offset_of xs k) bytes) (first_length r bytes x stands is) ∙ sym (drop-drop (offset_of xs k) (record_length bytes) bytes)
 
--- records stand one behind another
+-- records stand one after another
 pub stand_more : (r : ℕ) (bytes : List ℕ) (xs ys : List Record) → StandFrom r bytes xs → StandFrom (r + length xs) (drop (offset_of xs (length xs)) bytes) ys → StandFrom r bytes (xs ++ ys)
 stand_more r bytes [] ys stand more = let none : r + 0 ≡ r = omega arith in subst (λ (n : ℕ). StandFrom n bytes ys) none more
 stand_more r bytes (x ∷ xs) ys stand more =
@@ -198,7 +198,7 @@ patched_behind bytes new o inside =
     drop_front : (p q : List ℕ) → length p ≡ o → drop o (p ++ q) ≡ q
     drop_front p q is = drop_at p q o is
 
--- A track that goes on behind its records: what is read of it.
+-- A track that goes on after its records: what is read of it.
 pub record TrackContinued (c h : ℕ) (held zs : List ℕ) (xs new : List Record) : Type 0 where
   pub whole : records_of c h None zs ≡ Some (xs ++ new)
   pub earlier : (r : ℕ) → r ≤ length xs → records_of c h (Some r) zs ≡ records_of c h (Some r) held

@@ -1,4 +1,4 @@
--- What an image is on which a track goes on behind its records, and ends there.
+-- What an image is on which a track goes on after its records, and ends there.
 use Rattle.std.proofs.Common.{◌≡◌, ◌≢◌, ◌⊎◌, ◌<◌, ◌≤◌, ◌+◌, ◌-◌, ◌*◌, ◌/◌, ◌%◌, ℕ, zero, suc, List, [], ◌∷◌, ◌++◌, length, take, drop, get_or, replicate, Option, Some, None, refl, sym, ◌∙◌, ap, subst, ⊎_elim, arith, length-append, length-drop, append_assoc}
 use Rattle.std.proofs.lemmas.Bool.{cases_lt}
 use Rattle.std.proofs.lemmas.List.{length-take-le, append-nil}
@@ -65,7 +65,7 @@ fresh_bytes c h new held =
     ∙ append_assoc (front_bytes c h) (records_bytes 1 new ++ end_marker) rest
     ∙ ap (λ (l : List ℕ). front_bytes c h ++ l) (append_assoc (records_bytes 1 new) end_marker rest)
 
--- what is read of a track that goes on behind records, or begins anew
+-- what is read of a track that goes on after records, or begins anew
 track_goes_on : (c h : ℕ) (held : List ℕ) (xs new : List Record) → (xs ≡ []) ⊎ ((u : Option ℕ) × (records_of c h u held ≡ Some xs)) → AreRecords (length xs + 1) new → length xs + length new ≤ 255
     → start_behind xs + length (bytes_behind c h xs new) ≤ length held
     → (records_of c h None (patched held (start_behind xs) (bytes_behind c h xs new)) ≡ Some (xs ++ new))
@@ -74,7 +74,7 @@ track_goes_on c h held [] new may are few room =
     (ap (records_of c h None) (fresh_bytes c h new held) ∙ written_whole c h new (drop (length (bytes_behind c h [] new)) held) are, λ r first last. absurd (omega (arith, first, last)))
 track_goes_on c h held (x ∷ xs) new may are few room = ⊎_elim (λ none. absurd (cc)) (λ read. let t = track_continued c h read.0 held (x ∷ xs) new read.1 are few room in (t.whole, λ r first last. t.earlier r last)) may
 
--- A write behind a buffer's records makes its track go on with these ones, and changes nothing else: of the image as it is, and so of what a stop leaves while that write is pending.
+-- A write after a buffer's records makes its track go on with these ones, and changes nothing else: of the image as it is, and so of what a stop leaves while that write is pending.
 pub continued : (b : Buffer) (new : List Record) (image : List ℕ) → HasGeometry (length image) b.geometry → b.track < tracks_of b.geometry → MayContinue image b → AreRecords (length b.records + 1) new → length b.records + length new ≤ 255
     → start_behind b.records + length (continuation b new) ≤ b.geometry.track_size → IsContinued b new image (patched image (place_behind b) (continuation b new))
 unfolding records_on
@@ -162,7 +162,7 @@ track_low D2314 cylinders track most low = omega arith
 track_low D3330 cylinders track most low = omega arith
 track_low D3350 cylinders track most low = omega arith
 
--- so a record that is written behind a buffer's may stand there
+-- so a record that is written after a buffer's may stand there
 pub next_stands : (b : Buffer) (len : ℕ) (key content : List ℕ) → HasGeometry len b.geometry → b.track < tracks_of b.geometry → length b.records < 255 → length key < 256 → length content < 65536 → AreRecords (length b.records + 1) (record_of b key content ∷ [])
 next_stands b len key content has low few key_fits data_fits = (
   record_stands (b.track / heads_of b.geometry) (b.track % heads_of b.geometry) (length b.records + 1) key content
@@ -170,7 +170,7 @@ next_stands b len key content has low few key_fits data_fits = (
   tt,
 )
 
--- A write of a record behind a buffer's, and one of the end marker, are what they are to be, on each image that they may go on with.
+-- A write of a record after a buffer's, and one of the end marker, are what they are to be, on each image that they may go on with.
 pub appended : (b : Buffer) (key content image : List ℕ) → HasGeometry (length image) b.geometry → b.track < tracks_of b.geometry → MayContinue image b → length b.records < 255 → length key < 256 → length content < 65536
     → end_of b + (8 + length key + length content) + 8 ≤ b.geometry.track_size → IsAppended b key content image (patched image (place_behind b) (continuation b (record_of b key content ∷ [])))
 appended b key content image has low may few key_fits data_fits room =

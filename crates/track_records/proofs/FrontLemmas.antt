@@ -1,4 +1,4 @@
--- What is read of the first records of a track, and of those that stay when bytes behind them are written over.
+-- What is read of the first records of a track, and of those that stay when bytes after them are written over.
 use Rattle.std.proofs.Common.{◌≡◌, ◌<◌, ◌≤◌, ◌+◌, ◌-◌, ◌*◌, ◌/◌, ◌%◌, ℕ, zero, suc, Bool, true, false, cond, List, [], ◌∷◌, ◌++◌, length, take, drop, Option, Some, None, refl, sym, ◌∙◌, ap, subst, arith, length-take, length-drop, leb-true}
 use Rattle.std.specs.Prelude.{nat_le}
 use Rattle.std.specs.Option.{option_map}
@@ -41,7 +41,7 @@ at_end_long bytes ends =
     let same : take 8 bytes ≡ end_marker = (bytes_eq-Decides (take 8 bytes) end_marker).0 ends in
     omega (arith, ap length same, length-take 8 bytes)
 
--- at least eight bytes stand behind the records that are read
+-- at least eight bytes stand after the records that are read
 room_up : (n r : ℕ) (bytes : List ℕ) (xs : List Record) → records_up_to n r bytes ≡ Some xs → StandFrom r bytes xs → 8 ≤ length (drop (offset_of xs (length xs)) bytes)
 unfolding records_up_to
 room_up zero r bytes [] is stands = by (nat_le 8 (length bytes)) [] refl is
@@ -148,7 +148,7 @@ track_long g track i j same =
     let at : ℕ = 512 + track * g.track_size in
     omega (arith, length-take g.track_size (drop at j), length-take g.track_size (drop at i), length-drop at j, length-drop at i, same)
 
--- A write behind a buffer's records leaves the first of them on any image that has these, though it has not the others.
+-- A write after a buffer's records leaves the first of them on any image that has these, though it has not the others.
 pub kept_behind : (b : Buffer) (new : List Record) (image : List ℕ) (r : ℕ) → HasGeometry (length image) b.geometry → b.track < tracks_of b.geometry → start_behind b.records + length (continuation b new) ≤ b.geometry.track_size → 1 ≤ r → r ≤ length b.records
     → records_on image b.geometry (Some r) b.track ≡ Some (take r b.records) → records_on (patched image (place_behind b) (continuation b new)) b.geometry (Some r) b.track ≡ Some (take r b.records)
 unfolding records_on

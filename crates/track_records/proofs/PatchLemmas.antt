@@ -13,7 +13,7 @@ take-patched image bytes n at low inside =
     let within : n ≤ length (take at image) = omega arith in
     rw (append_assoc (take at image) bytes (drop (at + length bytes) image)) (take-append-le n (take at image) (bytes ++ drop (at + length bytes) image) within ∙ take-take n at image low)
 
--- and so are those behind them
+-- and so are those after them
 pub drop-patched_behind : (image bytes : List ℕ) (n at : ℕ) → n ≡ at + length bytes → at ≤ length image → drop n (patched image at bytes) ≡ drop n image
 unfolding patched
 drop-patched_behind image bytes n at is inside =
@@ -36,7 +36,7 @@ range-patched image bytes at inside =
     ∙ ap (take (length bytes)) (drop_at (take at image) (bytes ++ drop (at + length bytes) image) at whole)
     ∙ take_at bytes (drop (at + length bytes) image) (length bytes) refl
 
--- behind a front part they are the rest of the image, written over nearer
+-- after a front part they are the rest of the image, written over nearer
 pub drop-patched : (image bytes : List ℕ) (n at : ℕ) → n + at ≤ length image → drop n (patched image (n + at) bytes) ≡ patched (drop n image) at bytes
 unfolding patched
 drop-patched image bytes n at inside =
@@ -73,7 +73,7 @@ index_alike n i xs ys low alike = sym (get_or-take n xs i 0 low) ∙ ap (λ (l :
 pub take_alike : (n m : ℕ) (xs ys : List ℕ) → m ≤ n → take n xs ≡ take n ys → take m xs ≡ take m ys
 take_alike n m xs ys low alike = sym (take-take m n xs low) ∙ ap (take m) alike ∙ take-take m n ys low
 
--- two parts that are put one behind the other
+-- two parts that are put one after the other
 pub put_twice : (image first second : List ℕ) (at : ℕ) → at ≤ length image
     → let once : List ℕ = take at image ++ (first ++ drop (length first) (drop at image)) in
     take (at + length first) once ++ (second ++ drop (length second) (drop (at + length first) once)) ≡ patched image at (first ++ second)

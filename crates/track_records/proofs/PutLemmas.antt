@@ -18,7 +18,7 @@ use Rattle.track_records.proofs.UpdateLemmas.{record_fits, part_lengths, places_
 use Rattle.track_records.proofs.BehindLemmas.{kept_stand, stand_more, new_stand, patched_behind}
 use Rattle.track_records.proofs.ContinueLemmas.{fresh_bytes}
 
--- bytes that are put right behind others that were put
+-- bytes that are put right after others that were put
 pub patched_twice : (image first second : List ℕ) (at : ℕ) → at + length first ≤ length image → patched (patched image at first) (at + length first) second ≡ patched image at (first ++ second)
 unfolding patched
 patched_twice image first second at inside =
@@ -50,7 +50,7 @@ begun bytes new front true other is size =
     let n : 21 ≡ 0 + length front = omega (arith, size) in
     ap (λ (l : List ℕ). l ++ drop 21 bytes) is ∙ ap (λ (k : ℕ). front ++ drop k bytes) n
 
--- and what is put behind it, or behind records
+-- and what is put after it, or after records
 pub put_after : (c h at : ℕ) (bytes front put tail : List ℕ) (xs : List Record) (fresh : Bool) → nat_eq (length xs) 0 ≡ fresh → front ≡ (if fresh then patched bytes 0 (front_bytes c h) else bytes) → put ≡ patched front at tail → at ≡ 21 + offset_of xs (length xs) → 21 ≤ length bytes
     → put ≡ patched bytes (start_behind xs) (front_before c h xs ++ tail)
 put_after c h at bytes front put tail [] false empty first second is long = absurd (cc)
@@ -123,7 +123,7 @@ pub none_end : (bytes ps : List ℕ) → length ps ≡ 0 → 21 ≡ 21 + offset_
 none_end bytes [] none = refl
 none_end bytes (p ∷ ps) none = absurd (omega arith)
 
--- where records end that stand one behind another
+-- where records end that stand one after another
 ends_inside : (r : ℕ) (bytes : List ℕ) (xs : List Record) → StandFrom r bytes xs → offset_of xs (length xs) ≤ length bytes
 ends_inside r bytes [] stand = omega arith
 ends_inside r bytes (x ∷ xs) stand =
@@ -134,7 +134,7 @@ ends_inside r bytes (x ∷ xs) stand =
 pub places_inside : (bytes ps : List ℕ) → IsTrue (are_places 1 21 bytes ps) → 21 ≤ length bytes → 21 + offset_of (records_at bytes ps) (length (records_at bytes ps)) ≤ length bytes
 places_inside bytes ps are long = omega (arith, long, ends_inside 1 (drop 21 bytes) (records_at bytes ps) (places_are 1 21 bytes ps are).0, length-drop 21 bytes)
 
--- the places of records and of more behind them
+-- the places of records and of more after them
 places_more : (at : ℕ) (xs ys : List Record) → places_by at (xs ++ ys) ≡ places_by at xs ++ places_by (at + offset_of xs (length xs)) ys
 places_more at [] ys = let none : at ≡ at + 0 = omega arith in ap (λ (n : ℕ). places_by n ys) none
 places_more at (x ∷ xs) ys =

@@ -28,7 +28,7 @@ both : (b c : Bool) → (b && c) ≡ true → (b ≡ true) × (c ≡ true)
 both true c is = (refl, is)
 both false c is = cc
 
--- the records that are read at the front: the first of them, and the others behind it
+-- the records that are read at the front: the first of them, and the others after it
 record FrontOf (r : ℕ) (bytes : List ℕ) (records : List Record) (later : List ℕ → Option (List Record)) : Type 0 where
   stands : is_record_at r bytes ≡ true
   others : List Record
@@ -87,7 +87,7 @@ at_behind : (u : Option ℕ) (bytes : List ℕ) (records : List Record) → reco
 at_behind None bytes records is = at_to_end 255 1 bytes records is
 at_behind (Some r) bytes records is = at_up_to r 1 bytes records is
 
--- a track that is read begins with a home address and R0, and its records stand behind them
+-- a track that is read begins with a home address and R0, and its records stand after them
 pub record Stand (bytes : List ℕ) (records : List Record) : Type 0 where
   pub front : 21 ≤ length bytes
   pub records_stand : StandFrom 1 (drop 21 bytes) records

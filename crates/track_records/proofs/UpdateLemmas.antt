@@ -119,7 +119,7 @@ written_inside r (suc k) bytes key content (x ∷ xs) stand has =
     let first : length_of x ≡ record_length bytes = ap length_of stand.1.0 ∙ (part_lengths bytes fits).whole in
     omega (arith, later, first, length-drop (record_length bytes) bytes)
 
--- a record behind the first was written over
+-- a record after the first was written over
 record LaterWritten (r k : ℕ) (bytes key content : List ℕ) (xs : List Record) (written : List ℕ) : Type 0 where
   ends : is_at_end written ≡ is_at_end bytes
   stands : is_record_at r written ≡ is_record_at r bytes
@@ -338,7 +338,7 @@ buffer_written bytes ps k place key content are has low read =
       records = sym (ap (λ (qs : List ℕ). records_at zs qs) same) ∙ walked.is;
     }
 
--- key and data of the record at a place stand one behind the other
+-- key and data of the record at a place stand one after the other
 pub content_there : (m : Option Record) (bytes slice key content : List ℕ) (r : ℕ) → m ≡ Some (front_record bytes) → is_record_at r bytes ≡ true → slice ≡ bytes → key ≡ (front_record bytes).key → content ≡ (front_record bytes).data
     → IsContentOf m (take (8 + length key + length content - 8) (drop 8 slice))
 content_there m bytes slice key content r is stands same keys contents =

@@ -38,7 +38,7 @@ take-patched_within image bytes n at within inside =
     ∙ ap (λ (l : List ℕ). (take at image ++ bytes) ++ l) (ap (λ (k : ℕ). drop m (take k image)) parts ∙ drop-take m (n - m) image)
     )
 
--- the bytes behind what was written are as they were
+-- the bytes after what was written are as they were
 pub behind : (image bytes : List ℕ) (n at : ℕ) → at + length bytes ≤ n → at ≤ length image → drop n (patched image at bytes) ≡ drop n image
 behind image bytes n at past inside =
     let m : ℕ = at + length bytes in

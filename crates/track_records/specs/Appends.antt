@@ -1,4 +1,4 @@
--- What a write behind the last record of a track does to an image, in this project's profile.
+-- What a write after the last record of a track does to an image, in this project's profile.
 use Rattle.std.specs.Prelude.{◌≡◌, ◌≢◌, ◌⊎◌, ℕ, ◌+◌, ◌*◌, ◌/◌, ◌%◌, ◌≤◌, List, [], ◌∷◌, ◌++◌, length, take, slice_range, IsTrue, Some, None}
 use Rattle.ckd_image.specs.Track.{Record, end_marker, records_bytes}
 use Rattle.ckd_image.specs.Writing.{front_bytes, record_on}
@@ -16,17 +16,17 @@ record_of b key content = record_on (b.track / heads_of b.geometry) (b.track % h
 abbrev pub end_of : Buffer → ℕ
 end_of b = 21 + offset_of b.records (length b.records)
 
--- where what follows records is written, in bytes from the home address: behind them, and with that address if there are none
+-- where what follows records is written, in bytes from the home address: after them, and with that address if there are none
 abbrev pub start_behind : List Record → ℕ
 start_behind [] = 0
 start_behind (x ∷ xs) = 21 + offset_of (x ∷ xs) (length (x ∷ xs))
 
--- the home address and R0, if no records stand behind them yet
+-- the home address and R0, if no records stand after them yet
 abbrev pub front_before : ℕ → ℕ → List Record → List ℕ
 front_before cylinder head [] = front_bytes cylinder head
 front_before cylinder head (x ∷ xs) = []
 
--- what is written behind records: more of them, and the end marker
+-- what is written after records: more of them, and the end marker
 abbrev pub bytes_behind : ℕ → ℕ → List Record → List Record → List ℕ
 bytes_behind cylinder head old new = front_before cylinder head old ++ (records_bytes (length old + 1) new ++ end_marker)
 
@@ -42,7 +42,7 @@ place_behind b = 512 + b.track * b.geometry.track_size + start_behind b.records
 abbrev pub MayContinue : List ℕ → Buffer → Type 0
 MayContinue image b = (b.records ≡ []) ⊎ StandsOn image b
 
--- The track ends behind a buffer's records and these new ones, and nothing before them or on other tracks is changed.
+-- The track ends after a buffer's records and these new ones, and nothing before them or on other tracks is changed.
 pub record IsContinued (b : Buffer) (new : List Record) (image continued : List ℕ) : Type 0 where
   pub bytes : continued ≡ patched image (place_behind b) (continuation b new)
   pub size : length continued ≡ length image

@@ -5,7 +5,7 @@ use Rattle.ckd_image.specs.declared.header.Geometry.{Geometry}
 use Rattle.ckd_image.specs.Track.{Record}
 use Rattle.ckd_image.specs.Reading.{is_record_at, front_record, record_length}
 
--- a buffer: the geometry of its packs, its unit and track, counted from 0, and the records behind R0
+-- a buffer: the geometry of its packs, its unit and track, counted from 0, and the records after R0
 pub record Buffer : Type 0 where
   pub geometry : Geometry
   pub unit : ℕ
@@ -16,7 +16,7 @@ pub record Buffer : Type 0 where
 abbrev pub records_at : List ℕ → List ℕ → List Record
 records_at bytes places = map (λ at. front_record (drop at bytes)) places
 
--- at these offsets records stand one behind another, the first of them as Rr at an offset of its own
+-- at these offsets records stand one after another, the first of them as Rr at an offset of its own
 abbrev pub are_places : ℕ → ℕ → List ℕ → List ℕ → Bool
 are_places r at bytes [] = true
 are_places r at bytes (p ∷ ps) = (p == at) && is_record_at r (drop at bytes) && are_places (suc r)

@@ -6,7 +6,7 @@ use Rattle.pack_spec.specs.Label.{records_on, track_bytes}
 use Rattle.track_records.specs.Buffers.{Buffer}
 use Rattle.track_records.specs.Updates.{offset_of, with_parts}
 
--- where the key of the k-th record of a buffer, counted from 0, stands in the image: behind the header, the tracks
+-- where the key of the k-th record of a buffer, counted from 0, stands in the image: after the header, the tracks
 -- before it, the home address and R0, the records before it, and its count
 abbrev pub place_of : Buffer → ℕ → ℕ
 place_of b k = 512 + b.track * b.geometry.track_size + (21 + offset_of b.records k + 8)

@@ -1,4 +1,4 @@
-//! What writes behind the last record of a track.
+//! What writes after the last record of a track.
 ghost use Rattle.std.specs.Prelude.{◌≡◌, ◌≤◌, ◌<◌, ◌+◌, ◌*◌, ◌/◌, ◌%◌, ◌++◌, [], ◌∷◌, length, IsTrue, IfOk, OnOk, vec_capacity, if◌then◌else◌};
 ghost use Rattle.ckd_image.specs.Track.{end_marker, record_bytes};
 ghost use Rattle.ckd_image.specs.Writing.{front_bytes, record_on};
@@ -16,10 +16,10 @@ use crate::buffer::{TrackBuf, put_parts};
 use ckd_image::{COUNT_LEN, FRONT_LEN, Geometry, HEADER_LEN, record_at};
 use hall_core::{Device, Hall};
 
-// What stands behind the last record of a track.
+// What stands after the last record of a track.
 const END_MARKER: [u8; 8] = [0xFF; 8];
 
-/// Writes a record behind the last one of the buffer, and the end marker behind it, in one write, and
+/// Writes a record after the last one of the buffer, and the end marker after it, in one write, and
 /// gives its R.
 ///
 /// If the buffer holds no record, the write begins with the home address and R0: the track begins anew.
@@ -75,7 +75,7 @@ pub fn append<H: Hall>(
     Ok(buf.places.len() as u8)
 }
 
-/// Writes the end marker behind the last record of the buffer, in one write.
+/// Writes the end marker after the last record of the buffer, in one write.
 ///
 /// If the buffer holds no record, the write begins with the home address and R0: the track begins anew,
 /// and has no record. The write is pending until a sync is done. The error comes only where the count of
@@ -133,7 +133,7 @@ fn write_part<H: Hall>(
     Ok(())
 }
 
-// Puts a record and the end marker behind the records of a track, and gives where what is to be written
+// Puts a record and the end marker after the records of a track, and gives where what is to be written
 // begins and ends.
 fn put_next(
     bytes: &mut [u8],
@@ -171,7 +171,7 @@ fn put_next(
     )
 }
 
-// Puts the end marker behind the records of a track, and gives where what is to be written begins and
+// Puts the end marker after the records of a track, and gives where what is to be written begins and
 // ends.
 fn put_end(bytes: &mut [u8], places: &[usize], geometry: Geometry, track: u16) -> (usize, usize)
     requires are { IsTrue (are_places 1 21 bytes.old places.now) }
@@ -189,7 +189,7 @@ fn put_end(bytes: &mut [u8], places: &[usize], geometry: Geometry, track: u16) -
     (start, end)
 }
 
-// Where the records of a track end: the first byte behind the last of them, or behind R0.
+// Where the records of a track end: the first byte after the last of them, or after R0.
 fn end_of(bytes: &[u8], places: &[usize]) -> usize
     requires are { IsTrue (are_places 1 21 bytes.now places.now) }
     requires few { length places.now ≤ 255 }
@@ -204,7 +204,7 @@ fn end_of(bytes: &[u8], places: &[usize]) -> usize
 }
 
 // Puts the home address and R0 at the begin of a track that has no records, and gives where what is to
-// be written behind an offset begins.
+// be written after an offset begins.
 fn begin(bytes: &mut [u8], cylinder: u16, head: u16, at: usize, fresh: bool) -> usize
     requires { 21 ≤ length bytes.old }
     ensures start { result ≡ (if fresh then 0 else at) }
@@ -223,7 +223,7 @@ fn begin(bytes: &mut [u8], cylinder: u16, head: u16, at: usize, fresh: bool) -> 
     0
 }
 
-// Puts a record at an offset of a track's bytes, and the end marker behind it.
+// Puts a record at an offset of a track's bytes, and the end marker after it.
 fn put_record(
     bytes: &mut [u8],
     at: usize,

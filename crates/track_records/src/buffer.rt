@@ -19,7 +19,7 @@ use hall_core::{Device, Hall, HallErr};
 use std::alloc::{AllocError, Global};
 use std::marker::Model;
 
-// The most records behind R0 of a track.
+// The most records after R0 of a track.
 const MOST_RECORDS: usize = 255;
 
 /// The records of one track, as they were read or written last.
@@ -72,7 +72,7 @@ impl TrackBuf {
         self.places.clear();
     }
 
-    /// The number of records behind R0 that the buffer holds.
+    /// The number of records after R0 that the buffer holds.
     pub fn len(&self) -> usize
         ensures { result ≡ length self.now.records }
     {
@@ -119,7 +119,7 @@ impl TrackBuf {
         place
     }
 
-    // The key and the data of Rr, one behind the other.
+    // The key and the data of Rr, one after the other.
     fn content(&self, r: u8) -> &[u8]
         requires first { 1 ≤ r }
         requires last { r ≤ length self.now.records }
@@ -143,7 +143,7 @@ impl TrackBuf {
     }
 }
 
-/// Reads the records behind R0 of a track into the buffer, up to the record R = `upto` or to the end
+/// Reads the records after R0 of a track into the buffer, up to the record R = `upto` or to the end
 /// marker, and gives their number.
 ///
 /// The track is counted from 0 over the unit. It is read in one read, and follows the grammar of
@@ -247,7 +247,7 @@ pub fn update<H: Hall>(
     Ok(())
 }
 
-// Puts a key and data one behind the other at an offset of the bytes.
+// Puts a key and data one after the other at an offset of the bytes.
 pub(crate) fn put_parts(bytes: &mut [u8], at: usize, key: &[u8], payload: &[u8])
     requires { at + length (key.now ++ payload.now) ≤ length bytes.old }
     ensures { bytes.new ≡ patched bytes.old at (key.now ++ payload.now) }

@@ -7,7 +7,7 @@ ghost use Rattle.track_records.specs.Reads.{IsBrokenTrack};
 use crate::error::TrackErr;
 use ckd_image::{BadCount, FRONT_LEN, record_at, track_of};
 
-// Puts the offsets of the records behind R0 of a track, up to the record R = `upto` or to the end
+// Puts the offsets of the records after R0 of a track, up to the record R = `upto` or to the end
 // marker, into an empty vector that has room for them, and gives their number; puts none where the
 // track breaks the grammar.
 pub(crate) fn put_places(

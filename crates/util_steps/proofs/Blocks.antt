@@ -1,4 +1,4 @@
--- Blocks put one after another, and all at once; and the blocks behind a place.
+-- Blocks put one after another, and all at once; and the blocks after a place.
 use Rattle.std.proofs.Common.{◌≡◌, ◌⊎◌, inl, inr, ⊎_elim, ℕ, ◌+◌, ◌<◌, ◌≤◌, Bool, true, false, cond, not, ◌&&◌, ◌||◌, List, [], ◌∷◌, map, refl, sym, ◌∙◌, ap, subst, arith}
 use Rattle.std.proofs.lemmas.Bool.Decides.{nat_tests}
 use Rattle.std.specs.Prelude.{Ok, Err, nat_lt, ◌==◌, if◌then◌else◌}
@@ -121,7 +121,7 @@ by_last : (p : Place) (t : Bool) → (p.r == 255) ≡ t → IsBefore p (if t the
 by_last p true e = inl (omega arith)
 by_last p false e = inr (refl, omega arith)
 
--- a place stands before the one behind it
+-- a place stands before the one after it
 before_behind : (p : Place) → IsBefore p (behind_place p)
 before_behind p = by_last p (p.r == 255) refl
 
@@ -135,7 +135,7 @@ behind_by p q false e low (inl a) (inr b) = absurd (omega (arith, b.0))
 behind_by p q false e low (inr a) (inl b) = absurd (omega (arith, a.0))
 behind_by p q false e low (inr a) (inr b) = absurd (omega (arith, a.1, b.1))
 
--- what stands behind a place doesn't stand before the one behind it
+-- what stands after a place doesn't stand before the one after it
 behind_is_next : (p q : Place) → q.r ≤ 255 → IsBefore p q → IsBefore q (behind_place p) → ⊥
 behind_is_next p q low a b = behind_by p q (p.r == 255) refl low a b
 
@@ -192,7 +192,7 @@ by_first q p x xs false e up rise low lows b rest h high more =
     ∙ sym (kept_all x.place p xs rise lows (λ y l a. not_before_after p x.place y e a))
     ∙ others)
 
--- the blocks behind the first of those from a place on
+-- the blocks after the first of those from a place on
 pub next_blocks : (q p : Place) (bs : List Block) → RiseFrom q bs → AreLow bs → (b : Block) (rest : List Block) → blocks_from p bs ≡ b ∷ rest → is_before b.place p ≡ false → blocks_from (behind_place b.place) bs ≡ rest
 next_blocks q p [] rise low b rest h high = cc
 next_blocks q p (x ∷ xs) rise low b rest h high = by_first q p x xs (is_before x.place p) refl rise.0 rise.1 low.0 low.1 b rest h high (λ k. next_blocks x.place p xs rise.1 low.1 b rest k high)

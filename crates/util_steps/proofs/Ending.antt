@@ -3,17 +3,14 @@ use Rattle.std.proofs.Common.{◌≡◌, ℕ, Bool, List, [], map, refl, sym, �
 use Rattle.std.specs.Prelude.{Option, Some, None, Result, Ok, Err, IsErr}
 use Rattle.stop_model.specs.Moments.{Meaning, Same, IsDurable}
 use Rattle.vol_model.specs.declared.answers.Mode.{Mode}
-use Rattle.vol_model.specs.declared.answers.Mode.TheVariants as modes
 use Rattle.vol_model.specs.declared.answers.Stop.{Stop}
 use Rattle.vol_model.specs.declared.contents.Attr.{Attr}
 use Rattle.vol_model.specs.declared.contents.Block.{Block}
-use Rattle.vol_model.specs.declared.contents.Place.{Place}
 use Rattle.vol_model.specs.declared.contents.Shelf.{Shelf}
 use Rattle.vol_model.specs.declared.refusals.Refusal.{Refusal}
-use Rattle.vol_model.specs.declared.refusals.Refusal.TheVariants.{Unreadable}
 use Rattle.vol_model.specs.declared.requests.Op.{Op}
 use Rattle.vol_model.specs.declared.requests.Op.TheVariants.{Empty}
-use Rattle.vol_model.specs.Did.{Did, and_then, answered, because, with_reason}
+use Rattle.vol_model.specs.Did.{Did, and_then, because, with_reason}
 use Rattle.vol_model.specs.Events.{after_operations, behind}
 use Rattle.vol_model.specs.Places.{content}
 use Rattle.vol_model.specs.Reading.{readable}
@@ -25,10 +22,9 @@ use Rattle.vol_model.proofs.Working.{done_state, has_done, works_ends, works_kep
 use Rattle.util_steps.specs.declared.calls.Fault.{Fault}
 use Rattle.util_steps.specs.declared.calls.Fault.TheVariants.{Refused}
 use Rattle.util_steps.specs.declared.calls.SetRef.{SetRef}
-use Rattle.util_steps.specs.Copying.{copied, did_all, did_blocks, emptied_and_filled, filled, found, refusing, source, target}
-use Rattle.util_steps.specs.Steps.{AreApart, Finds, RunsNothing}
+use Rattle.util_steps.specs.Copying.{did_all, did_blocks, filled, refusing, source, target}
+use Rattle.util_steps.specs.Steps.{AreApart}
 use Rattle.util_steps.proofs.Blocks.{all_parts}
-use Rattle.util_steps.proofs.Following.{nothing_done}
 
 -- ---- written and closed
 
@@ -96,37 +92,3 @@ module _ {tells : Bool} (to : SetRef) (mode : Mode) (bs : List Block) {old mid :
   unfolding filled
   filled_all {new = new} {m = m} w x r is one two =
       works_then (refusing (did_begin old.state (target to mode))) (λ y u. did_all u (target to mode) bs) x r one (subst (λ (z : OpenWriter). Works tells (did_all mid.state z.target bs) mid new k m r) is two)
-
--- ---- emptied
-
-module _ {tells : Bool} (to : SetRef) (attr : Attr) (bs : List Block) {old mid : Meaning Shelf} {n k : ℕ} where
-  pub emptied_stopped : (q r : Result (Result (Unit {0}) Fault) Stop) → IsErr r → Works tells (refusing (did_apply old.state (Empty to.v to.dsn attr))) old mid n k q → Works tells (emptied_and_filled old.state to attr bs) old mid n k r
-  unfolding emptied_and_filled
-  emptied_stopped q r failed works = works_stops (refusing (did_apply old.state (Empty to.v to.dsn attr))) (λ x u. filled u to modes.Fill bs) q r failed works
-
-  pub emptied_fault : (e : Fault) → Works tells (refusing (did_apply old.state (Empty to.v to.dsn attr))) old mid n k (Ok (Err e)) → Works tells (emptied_and_filled old.state to attr bs) old mid n k (Ok (Err e))
-  unfolding emptied_and_filled
-  emptied_fault e works = works_ends (refusing (did_apply old.state (Empty to.v to.dsn attr))) (λ x u. filled u to modes.Fill bs) e works
-
-  pub emptied_all : {new : Meaning Shelf} {m : ℕ} (x : Unit {0}) (r : Result (Result (Unit {0}) Fault) Stop) → Works tells (refusing (did_apply old.state (Empty to.v to.dsn attr))) old mid n k (Ok (Ok x)) → Works tells (filled mid.state to modes.Fill bs) mid new k m r → Works tells (emptied_and_filled old.state to attr bs) old new n m r
-  unfolding emptied_and_filled
-  emptied_all x r one two = works_then (refusing (did_apply old.state (Empty to.v to.dsn attr))) (λ y u. filled u to modes.Fill bs) x r one two
-
--- ---- copied
-
-fault_found : (src : Result (List Block) ℕ) (place : Place) (b : Block) (e : Fault) → Finds (Err e) src place b → found src ≡ Err e
-fault_found src place b (Refused (Unreadable t)) f = ap found f
-fault_found src place b _ f = absurd f
-
-module _ {T E : Type 0} {tells : Bool} (from to : SetRef) (attr : Attr) {old mid : Meaning Shelf} {n k : ℕ} {result : Result T E} (nothing : RunsNothing tells old mid result) where
-  pub copied_fault : (place : Place) (b : Block) (e : Fault) → k ≡ n → Finds (Err e) (source old.state from) place b → Works tells (copied old.state from to attr) old mid n k (Ok (Err e))
-  unfolding copied
-  copied_fault place b e count finds =
-      works_ends (answered (found (source old.state from))) (λ bs u. emptied_and_filled u to attr bs) e
-      (subst (λ (r : Result (List Block) Fault). Works tells (answered r) old mid n k (Ok (Err e))) (sym (fault_found (source old.state from) place b e finds)) (nothing_done nothing (Err e) count))
-
-  pub copied_all : {new : Meaning Shelf} {m : ℕ} (bs : List Block) (r : Result (Result (Unit {0}) Fault) Stop) → k ≡ n → source old.state from ≡ Ok bs → Works tells (emptied_and_filled mid.state to attr bs) mid new k m r → Works tells (copied old.state from to attr) old new n m r
-  unfolding copied
-  copied_all bs r count is works =
-      works_then (answered (found (source old.state from))) (λ cs u. emptied_and_filled u to attr cs) bs r
-      (subst (λ (q : Result (List Block) Fault). Works tells (answered q) old mid n k (Ok (Ok bs))) (sym (ap found is)) (nothing_done nothing (Ok bs) count)) works

@@ -10,9 +10,9 @@ use Rattle.vol_model.specs.declared.requests.Op.{Op}
 use Rattle.vol_model.specs.Calls.{counted}
 use Rattle.vol_model.specs.Did.{Did}
 use Rattle.vol_model.specs.Events.{Do, Event, Item, Say, after_operations, events_in, events_of, operations_of}
-use Rattle.vol_model.specs.Runs.{Counts, Runs, Works}
+use Rattle.vol_model.specs.Runs.{Runs, Works}
 use Rattle.vol_model.proofs.Stops.{HasRun, StopsSince, run_none, run_then, since_first, since_second}
-use Rattle.vol_model.proofs.Working.{counted_twice, has_done, idle_since, works_behind}
+use Rattle.vol_model.proofs.Working.{has_done, idle_since, works_behind}
 use Rattle.util_steps.specs.Items.{DoesItem, DoesNext, items_along}
 
 -- an item of lines alone
@@ -61,7 +61,7 @@ module _ {X E : Type 0} {tells : Bool} (did : Did X E) (lines : List (List ℕ))
       }
   item_after (Err e) works said = item_broken (Err e) refl (since_second (map Say lines) (has_done works).run said.runs.moments)
 
-  -- the steps are stopped, or no line is printed behind them
+  -- the steps are stopped, or no line is printed after them
   pub item_stopped : {old new : Meaning Shelf} {n m : ℕ} {answer : Result (Result X E) Stop} (r : Result ℕ Stop) → IsErr r → Works tells did old new n m answer → DoesItem tells (item_for did lines code) old new n m r
   item_stopped r failed works = item_broken r failed (since_first (map Do did.operations) (map Say lines) works.runs.moments)
 
@@ -90,7 +90,7 @@ next_stopped {old = old} item_of x xs after (Err e) failed does =
 pub next_none : (tells : Bool) (m : Meaning Shelf) (n : ℕ) (left after : List Item) → left ≡ [] → DoesNext tells left after m m n n (Ok None)
 next_none tells m n left after none = let run = run_none tells m in (none, record { shelf = run.state; printed = run.printed; moments = run.moments }, refl)
 
--- steps behind which nothing but time went on before
+-- steps after which nothing but time went on before
 module _ {old mid : Meaning Shelf} (same : Same old mid) (durable : IsDurable old) where
   idle_run : {tells : Bool} → HasRun tells [] old mid
   idle_run = record { state = same.state; printed = λ told. same.printed ∙ sym (append-nil old.printed); moments = idle_since same durable }
@@ -128,7 +128,7 @@ stops_behind {tells = tells} xs ys {old = old} {new = new} first second = subst 
 pub stops_before : {tells : Bool} (xs ys : List (List ℕ)) {old new : Meaning Shelf} → StopsSaying tells xs old new → StopsSaying tells (xs ++ ys) old new
 stops_before {tells = tells} xs ys {old = old} {new = new} time = subst (λ (es : List Event). Elapses old new (StopsSince tells es old)) (sym (say_append xs ys)) (since_first (map Say xs) (map Say ys) time)
 
--- nothing but time goes on behind lines
+-- nothing but time goes on after lines
 pub said_idle : {tells : Bool} (lines : List (List ℕ)) {old mid new : Meaning Shelf} → HasSaid tells lines old mid → Same mid new → IsDurable mid → HasSaid tells lines old new
 said_idle {tells = tells} lines {old = old} {new = new} said same durable =
     subst (λ (es : List Event). HasRun tells es old new) (append-nil (map Say lines)) (run_then said (idle_run same durable))

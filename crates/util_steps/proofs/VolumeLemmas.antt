@@ -13,7 +13,7 @@ abbrev pub has_serial : List ℕ → Volume → Bool
 has_serial serial volume = bytes_eq volume.serial.bytes serial
 
 module _ {X : Type 0} (p : X → Bool) where
-  -- the first that passes stands behind one that doesn't
+  -- the first that passes stands after one that doesn't
   behind_first : (v n : ℕ) (t : Bool) → suc v ≤ cond (not t) (1 + n) 0 → (v ≤ n → v + 1 ≤ n) → suc v + 1 ≤ cond (not t) (1 + n) 0
   behind_first v n true low more = absurd (omega (arith, low))
   behind_first v n false low more = omega (arith, more (omega (arith, low)))

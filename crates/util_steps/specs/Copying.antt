@@ -1,19 +1,15 @@
 -- What a copy of a sequential data set does on a shelf, and the line that answers it, in this project's profile.
-use Rattle.std.specs.Prelude.{ℕ, ◌+◌, ◌==◌, nat_lt, Bool, List, [], ◌∷◌, length, map, Option, Some, None, Result, Ok, Err, if◌then◌else◌}
+use Rattle.std.specs.Prelude.{ℕ, ◌+◌, ◌==◌, nat_lt, Bool, List, [], ◌∷◌, length, map, Result, Err, if◌then◌else◌}
 use Rattle.std.specs.List.{list_all}
 use Rattle.vol_model.specs.declared.answers.Mode.{Mode}
-use Rattle.vol_model.specs.declared.answers.Mode.TheVariants as modes
-use Rattle.vol_model.specs.declared.contents.Attr.{Attr}
 use Rattle.vol_model.specs.declared.contents.Block.{Block}
 use Rattle.vol_model.specs.declared.contents.Place.{Place}
 use Rattle.vol_model.specs.declared.contents.Shelf.{Shelf}
 use Rattle.vol_model.specs.declared.refusals.Refusal.{Refusal}
-use Rattle.vol_model.specs.declared.refusals.Refusal.TheVariants.{Unreadable}
-use Rattle.vol_model.specs.declared.requests.Op.TheVariants.{Empty}
 use Rattle.vol_model.specs.Did.{Did, and_then, answered, with_reason}
 use Rattle.vol_model.specs.Places.{content}
 use Rattle.vol_model.specs.Reading.{readable}
-use Rattle.vol_model.specs.Writing.{OpenWriter, Target, begun, body_on, did_apply, did_begin, did_put, did_puts, did_write, with_puts}
+use Rattle.vol_model.specs.Writing.{OpenWriter, Target, begun, body_on, did_begin, did_put, did_puts, did_write}
 use Rattle.util_steps.specs.declared.calls.Fault.{Fault}
 use Rattle.util_steps.specs.declared.calls.Fault.TheVariants.{Refused, BadRecord}
 use Rattle.util_steps.specs.declared.calls.SetRef.{SetRef}
@@ -30,11 +26,6 @@ with_data (b ∷ bs) = if has_data b then b ∷ with_data bs else []
 -- the same steps, a refusal being a fault
 abbrev pub refusing : {X : Type 0} → Did X Refusal → Did X Fault
 refusing d = with_reason Refused d
-
--- the blocks of a set that is copied, or the fault that it can't be read
-abbrev pub found : Result (List Block) ℕ → Result (List Block) Fault
-found (Ok bs) = Ok bs
-found (Err track) = Err (Refused (Unreadable track))
 
 -- what a set holds
 abbrev pub source : Shelf → SetRef → Result (List Block) ℕ
@@ -60,28 +51,10 @@ did_all shelf t bs =
 unfoldable pub filled : Shelf → SetRef → Mode → List Block → Did (Unit {0}) Fault
 filled shelf to mode bs = and_then shelf (refusing (did_begin shelf (target to mode))) (λ x u. did_all u (target to mode) bs)
 
--- it is emptied before
-unfoldable pub emptied_and_filled : Shelf → SetRef → Attr → List Block → Did (Unit {0}) Fault
-emptied_and_filled shelf to attr bs = and_then shelf (refusing (did_apply shelf (Empty to.v to.dsn attr))) (λ x u. filled u to modes.Fill bs)
-
--- A set is copied: it must be readable, the other set is emptied, and the blocks are written to it.
-unfoldable pub copied : Shelf → SetRef → SetRef → Attr → Did (Unit {0}) Fault
-copied shelf from to attr = and_then shelf (answered (found (source shelf from))) (λ bs u. emptied_and_filled u to attr bs)
-
--- the place behind a block's
+-- the place after a block's
 abbrev pub behind_place : Place → Place
 behind_place p = if p.r == 255 then record { tt = p.tt + 1; r = 0 } else record { tt = p.tt; r = p.r + 1 }
 
 -- one block is put, or it has no data
 unfoldable pub did_block : Shelf → OpenWriter → Block → Did Place Fault
 did_block shelf w b = if has_data b then refusing (did_put shelf w (content b)) else answered (Err BadRecord)
-
--- the first of these blocks is put, and the place behind it is answered
-unfoldable pub did_first : Shelf → OpenWriter → List Block → Did (Option Place) Fault
-did_first shelf w [] = answered (Ok None)
-did_first shelf w (b ∷ bs) = and_then shelf (did_block shelf w b) (λ p u. answered (Ok (Some (behind_place b.place))))
-
--- the writer behind the first of these
-abbrev pub with_first : OpenWriter → List Block → OpenWriter
-with_first w [] = w
-with_first w (b ∷ bs) = with_puts w (content b ∷ [])

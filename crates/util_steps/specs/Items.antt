@@ -19,7 +19,7 @@ pub record DoesItem (tells : Bool) (item : Item) (old new : Meaning Shelf) (n m 
   pub code : IfOk result (λ code. code ≡ item.code)
   pub count : Counts (events_in item) n m result
 
--- the items of tasks one after another, each on the shelf behind the operations of those before it
+-- the items of tasks one after another, each on the shelf after the operations of those before it
 abbrev pub items_along : {X : Type 0} → (Shelf → X → Item) → Shelf → List X → List Item
 items_along item_of shelf [] = []
 items_along item_of shelf (x ∷ xs) = let item = item_of shelf x in item ∷ items_along item_of (after_operations shelf item.operations) xs

@@ -1,5 +1,5 @@
 -- What the parts of a copy leave.
-use Rattle.std.specs.Prelude.{◌≡◌, ◌≢◌, ◌⊎◌, ◌≤◌, ℕ, length, Bool, true, false, List, Result, Ok, Err}
+use Rattle.std.specs.Prelude.{◌≡◌, ◌≢◌, ◌⊎◌, ◌≤◌, ℕ, Bool, true, false, List, Result, Ok, Err}
 use Rattle.std.specs.Str.{bytes_eq}
 use Rattle.stop_model.specs.Moments.{Meaning, Elapses}
 use Rattle.vol_model.specs.declared.answers.Stop.{Stop}
@@ -40,8 +40,3 @@ pub record IsOnward (p q : Place) : Type 0 where
   pub after : is_before p q ≡ true
   pub track : q.tt ≤ 65535
   pub record_number : q.r ≤ 255
-
--- A block's key and data have lengths that a writer takes.
-pub record HasLengths (b : Block) : Type 0 where
-  pub key : length b.key ≤ 255
-  pub payload : length b.payload ≤ 32760

@@ -25,7 +25,7 @@ words_have_no_numbers : (outcome_text Done ≡ codes "OK") × (outcome_text (Ref
 unfolding outcome_text refusal_words
 words_have_no_numbers = (refl, refl, refl)
 
--- The operation is the item's, and the name has no blanks behind it.
-line_has_the_operation_that_it_answers : item_line 306 (codes "SCRATCH") (Name (record { bytes = 0xD1 ∷ 0x4B ∷ 0xD2 ∷ replicate 41 0x40 })) (Refused NoSet) ≡ codes "00306 SCRATCH J.K NO-SET\n"
+-- The operation is the item's, and the name has no blanks after it.
+line_has_the_operation_that_it_answers : item_line 306 (codes "SCRATCH") (Name (record { bytes = 0xD1 ∷ 0x4B ∷ 0xD2 ∷ replicate 41 0x40 })) (Refused NoSet) ≡ codes "00306 SCRATCH J.K NO-SET"
 unfolding item_line card_number object_text outcome_text digits refusal_words shown ascii_of code_page
 line_has_the_operation_that_it_answers = refl

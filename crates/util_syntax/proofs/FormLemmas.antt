@@ -27,7 +27,7 @@ module _ {X Y : Type 0} (p : Y → Bool) (view : X → Y) where
   seen None = refl
   seen (Some x) = refl
 
-  -- what a search finds, seen so
+  -- what a search finds, over the views
   pub found_seen : (xs : List X) (r : Option (Bor X)) → option_copied r ≡ find (λ x. p (view x)) xs → option_map (λ (x : Bor X). view x.now) r ≡ find p (map view xs)
   found_seen xs r is = seen r ∙ ap (option_map view) is ∙ sym (find_map xs)
 

@@ -3,3 +3,4 @@ pub mod Absent
 pub mod Reading
 pub mod Tables
 pub mod FormLemmas
+pub mod MemberNames

@@ -1,11 +1,11 @@
--- Reading goes on behind a statement, however many cards it may take.
+-- Reading goes on after a statement, however many cards it may take.
 use Rattle.std.proofs.Common.{◌≡◌, ◌∙◌, sym, subst, ℕ, zero, suc, ◌+◌, ◌≤◌, true, false, cond, List, [], ◌∷◌, length, refl, ap, arith, length-drop}
 use Rattle.std.specs.List.{position_or_len}
 use Rattle.card_text.specs.declared.cards.Card.{Card}
 use Rattle.card_text.specs.Cards.{has_number}
 use Rattle.util_syntax.specs.Items.{read, is_comment, cards_after, items_within}
 
--- fewer cards stand behind one of them
+-- fewer cards stand after one of them
 fewer : (number : ℕ) (card : ℕ × Card) (others : List (ℕ × Card)) → length (cards_after number (card ∷ others)) ≤ length others
 fewer number card others = omega (arith, length-drop (position_or_len (has_number number) (card ∷ others) + 1) (card ∷ others))
 

@@ -1,5 +1,5 @@
 -- The operands of statements by their keywords, and the forms of their values (Utilities GC28-6586, in this project's profile).
-use Rattle.std.specs.Prelude.{ℕ, ◌==◌, nat_le, Bool, false, ◌&&◌, if◌then◌else◌, List, [], ◌∷◌, find, count_by, is_none, Option, Some, None, option_map, option_and_then}
+use Rattle.std.specs.Prelude.{◌≡◌, replicate, ℕ, ◌==◌, nat_le, Bool, false, ◌&&◌, if◌then◌else◌, List, [], ◌∷◌, find, count_by, is_none, Option, Some, None, option_map, option_and_then}
 use Rattle.std.specs.Option.{option_map_or}
 use Rattle.std.specs.List.{list_any}
 use Rattle.std.specs.Str.{bytes_eq}
@@ -53,11 +53,23 @@ pair_of (more a (more b (more c rest))) = None
 abbrev pub is_device_word : List ℕ → Bool
 is_device_word word = list_any (λ device. bytes_eq word (row_of device).device_word) (D2311 ∷ D2314 ∷ D3330 ∷ D3350 ∷ [])
 
--- the serial of a volume behind its device
+-- the serial of a volume after its device
 abbrev pub serial_behind : Option (List ℕ) → Option (List ℕ) → Option Serial
 serial_behind None serial = None
 serial_behind (Some device) None = None
 serial_behind (Some device) (Some serial) = if is_device_word device then volume_serial_of serial else None
+
+-- the name of a member
+unfoldable pub member_in : Tree → Option Name8
+member_in value = option_and_then name_of (as_word value)
+
+-- the name of a member after a keyword, if that stands once
+unfoldable pub member_of : List ℕ → List OperandView → Option Name8
+member_of word operands = option_and_then member_in (value_of word operands)
+
+-- an entry may have this name: it isn't that of the entry which ends a directory
+abbrev pub IsMemberName : Name8 → Type 0
+IsMemberName name = bytes_eq name.bytes (replicate 8 255) ≡ false
 
 -- dev=serial, which reads as the list of the two
 unfoldable pub volume_in : Tree → Option Serial
@@ -76,10 +88,10 @@ listed_or_one (Some values) value = data_sets_among values
 unfoldable pub data_sets_in : Tree → Option (List Dsn)
 data_sets_in value = listed_or_one (as_list value) value
 
--- the data set name behind a keyword, if that stands once
+-- the data set name after a keyword, if that stands once
 unfoldable pub data_set_of : List ℕ → List OperandView → Option Dsn
 data_set_of word operands = option_and_then data_set_in (value_of word operands)
 
--- the serial of the volume behind a keyword, if that stands once
+-- the serial of the volume after a keyword, if that stands once
 unfoldable pub volume_of : List ℕ → List OperandView → Option Serial
 volume_of word operands = option_and_then volume_in (value_of word operands)

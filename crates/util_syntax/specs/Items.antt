@@ -31,7 +31,7 @@ continues card = slice_index card.1.bytes 0 == 32
 unfoldable pub continued : List Character → ℕ × Card → List Character
 continued field card = field ++ field_part (past_blanks (statement_characters (in_quotes field) card))
 
--- the operands of a statement, the last card that has some, and whether a card is missing behind it
+-- the operands of a statement, the last card that has some, and whether a card is missing after it
 pub record JoinedView : Type 0 where
   pub field : List Character
   pub last : ℕ × Card
@@ -90,7 +90,7 @@ abbrev pub item_view : Item → ItemView
 item_view (item.Stmt s) = statement (record { card = s.card; name = s.name; op = s.op; operands = map operand_view s.operands.items })
 item_view (item.Fault card column kind) = fault card column kind
 
--- what is read, and the number of the card behind which reading goes on
+-- what is read, and the number of the card after which reading goes on
 pub record ReadView : Type 0 where
   pub item : ItemView
   pub last : ℕ
@@ -98,7 +98,7 @@ pub record ReadView : Type 0 where
 abbrev pub read_view : Read → ReadView
 read_view read = record { item = item_view read.item; last = read.last }
 
--- a fault; reading goes on behind its card
+-- a fault; reading goes on after its card
 abbrev pub refused : Fault → ReadView
 refused f = record { item = fault f.place.card f.place.column f.kind; last = f.place.card }
 
@@ -126,11 +126,11 @@ read card others =
 unfoldable pub is_comment : ℕ × Card → Bool
 is_comment card = slice_index card.1.bytes 0 == 42
 
--- the cards behind the one of that number
+-- the cards after the one of that number
 abbrev pub cards_after : ℕ → List (ℕ × Card) → List (ℕ × Card)
 cards_after number cards = after_first (has_number number) cards
 
--- the statements and faults on cards, of which there are at most so many: behind each, reading goes on at the next card
+-- the statements and faults on cards, of which there are at most so many: after each, reading goes on at the next card
 unfoldable pub items_within : ℕ → List (ℕ × Card) → List ItemView
 items_within limit [] = []
 items_within zero (card ∷ others) = []
@@ -138,6 +138,6 @@ items_within (suc limit) (card ∷ others) =
     if is_comment card then items_within limit others
     else (read card others).item ∷ items_within limit (cards_after (read card others).last (card ∷ others))
 
--- the statements on cards, in order, each or its first fault; behind a fault reading goes on at the card after its own
+-- the statements on cards, in order, each or its first fault; after a fault reading goes on at the card after its own
 abbrev pub items_of : List (ℕ × Card) → List ItemView
 items_of cards = items_within (length cards) cards

@@ -6,6 +6,6 @@ use Rattle.std.specs.Fmt.{decimal}
 unfoldable pub card_number : ℕ → List ℕ
 card_number card = replicate (5 - length (decimal card)) 48 ++ decimal card
 
--- a word behind a blank
+-- a word after a blank
 abbrev pub next_word : List ℕ → List ℕ
 next_word word = codes " " ++ word

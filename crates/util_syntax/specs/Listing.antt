@@ -32,7 +32,7 @@ outcome_text SeqOrder = codes "SEQ-ORDER"
 -- the card on which an item begins, its operation, what it names, and what became of it
 unfoldable pub item_line : ℕ → List ℕ → Object → Outcome → List ℕ
 item_line card operation object outcome =
-    card_number card ++ next_word operation ++ next_word (object_text object) ++ next_word (outcome_text outcome) ++ codes "\n"
+    card_number card ++ next_word operation ++ next_word (object_text object) ++ next_word (outcome_text outcome)
 
 unfoldable pub syntax_words : SynErr → List ℕ
 syntax_words NoOperation = codes "NO-OPERATION"
@@ -42,13 +42,13 @@ syntax_words ContinuationMissing = codes "CONTINUATION-MISSING"
 
 -- the card of a fault of a statement, and its kind
 unfoldable pub syntax_line : ℕ → SynErr → List ℕ
-syntax_line card kind = card_number card ++ next_word (codes "SYNTAX") ++ next_word (syntax_words kind) ++ codes "\n"
+syntax_line card kind = card_number card ++ next_word (codes "SYNTAX") ++ next_word (syntax_words kind)
 
 -- a card, a word and a name
 unfoldable pub named_line : ℕ → List ℕ → Name8 → List ℕ
-named_line card word name = card_number card ++ next_word word ++ next_word (shown name.bytes) ++ codes "\n"
+named_line card word name = card_number card ++ next_word word ++ next_word (shown name.bytes)
 
 -- the card and the column of a fault of a job, and its kind
 unfoldable pub jcl_line : ℕ → ℕ → List ℕ → List ℕ
 jcl_line card column kind =
-    card_number card ++ next_word (decimal column) ++ next_word (codes "JCL") ++ next_word kind ++ codes "\n"
+    card_number card ++ next_word (decimal column) ++ next_word (codes "JCL") ++ next_word kind

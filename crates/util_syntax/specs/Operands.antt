@@ -23,7 +23,7 @@ abbrev pub is_absent : Bool → List Mark → List (List Mark) → Bool
 is_absent missing text [] = missing && (length text == 0)
 is_absent missing text (next ∷ others) = false
 
--- the operands behind those that are done, or the first fault, which stands where its text begins: the rest of the field, and the texts between its commas
+-- the operands after those that are done, or the first fault, which stands where its text begins: the rest of the field, and the texts between its commas
 abbrev pub operands : Bool → CardColumn → List OperandView → List Mark → List (List Mark) → Result (List OperandView) Fault
 operands missing end done rest [] = Ok done
 operands missing end done rest (text ∷ texts) =

@@ -9,6 +9,8 @@ use Rattle.util_syntax.specs.declared.listing.Object.{Object}
 use Rattle.util_syntax.specs.declared.listing.Outcome.{Outcome}
 use Rattle.util_syntax.specs.declared.listing.Outcome.TheVariants.{Done, Refused, Expires, Dcb, SameSet, BadTtr, BadRecord, SeqOrder}
 use Rattle.util_syntax.specs.declared.operands.SynErr.{SynErr}
+use Rattle.util_syntax.specs.declared.operands.SynErr.TheVariants.{BadOperand}
+use Rattle.util_syntax.specs.declared.program.StatementFault.{StatementFault}
 use Rattle.util_syntax.specs.declared.step.DdIn.{DdIn}
 use Rattle.util_syntax.specs.declared.step.DdIn.TheVariants.{Dummy, Sysout, Cards, Set}
 use Rattle.util_syntax.specs.Items.{ItemView, StatementView, items_of}
@@ -37,6 +39,10 @@ syntax_item card kind = record { operations = []; lines = syntax_line card kind 
 -- the item of a step that lacks a DD
 abbrev pub no_dd_item : ℕ → Name8 → Item
 no_dd_item card name = record { operations = []; lines = named_line card (codes "NO-DD") name ∷ []; code = 16 }
+
+-- a statement that has no place, or not the form of its operation
+abbrev pub bad_operand : ℕ → StatementFault
+bad_operand card = record { card = card; kind = BadOperand }
 
 -- what became of steps
 abbrev pub outcome_of : Result (Unit {0}) Outcome → Outcome

@@ -1,10 +1,10 @@
 //! The operands of statements by their keywords, and the forms of their values.
-ghost use Rattle.std.specs.Prelude.{◌≡◌, map, find, count_by, option_map, option_and_then, IfOk};
+ghost use Rattle.std.specs.Prelude.{◌≡◌, map, find, count_by, option_map, option_and_then, IfOk, IfSome};
 ghost use Rattle.std.specs.Option.{option_copied};
 ghost use Rattle.card_text.specs.declared.operands.Operand.{Operand};
 ghost use Rattle.card_text.specs.Operands.{operand_view};
 ghost use Rattle.card_text.specs.Tree.{as_list, as_word, trees, value_view};
-ghost use Rattle.util_syntax.specs.Forms.{is_named, has_keyword, is_flag, value_of, flag_of, if_given, data_set_in, pair_of, is_device_word, serial_behind, volume_in, data_set_of, volume_of, data_sets_among, data_sets_in};
+ghost use Rattle.util_syntax.specs.Forms.{IsMemberName, member_in, member_of, is_named, has_keyword, is_flag, value_of, flag_of, if_given, data_set_in, pair_of, is_device_word, serial_behind, volume_in, data_set_of, volume_of, data_sets_among, data_sets_in};
 
 use card_text::{Operand, Value, data_set_name_of, name_of, volume_serial_of};
 use ckd_image::DiskType;
@@ -80,7 +80,7 @@ fn first_with<'a>(operands: &'a [Operand], word: &[u8]) -> Option<&'a Operand>
     operands.iter().find(|operand| has_keyword(operand, word))
 }
 
-// The first operand with this keyword, seen so.
+// The same over the views of the operands.
 fn first_seen<'a>(operands: &'a [Operand], word: &[u8]) -> Option<&'a Operand>
     ensures { option_map (λ o. operand_view o.now) result ≡ find (has_keyword word.now) (map operand_view operands.now) }
 {
@@ -148,7 +148,7 @@ fn pair_of(value: &Value) -> Option<(&Value, &Value)>
     }
 }
 
-// The serial of a volume behind its device.
+// The serial of a volume after its device.
 fn serial_behind(device: &Value, serial: &Value) -> Option<Serial>
     ensures { result ≡ serial_behind (as_word (value_view device.now)) (as_word (value_view serial.now)) }
 {
@@ -172,7 +172,7 @@ pub fn volume_in(value: &Value) -> Option<Serial>
     }
 }
 
-/// The data set name behind a keyword, if one operand has that, and no second.
+/// The data set name after a keyword, if one operand has that, and no second.
 #[tactic(auto, unfolding(crate::specs::Forms::data_set_of))]
 pub fn data_set_of(operands: &[Operand], word: &[u8]) -> Option<Dsn>
     ensures { result ≡ data_set_of word.now (map operand_view operands.now) }
@@ -183,7 +183,7 @@ pub fn data_set_of(operands: &[Operand], word: &[u8]) -> Option<Dsn>
     }
 }
 
-/// The serial of the volume behind a keyword, if one operand has that, and no second.
+/// The serial of the volume after a keyword, if one operand has that, and no second.
 #[tactic(auto, unfolding(crate::specs::Forms::volume_of))]
 pub fn volume_of(operands: &[Operand], word: &[u8]) -> Option<Serial>
     ensures { result ≡ volume_of word.now (map operand_view operands.now) }
@@ -229,7 +229,7 @@ pub fn data_sets_in(alloc: Global, value: &Value) -> Result<Option<Vec<Dsn>>, Al
     }
 }
 
-/// The serial of the volume behind a keyword, which may be missing; `None` where it stands twice, or has another form.
+/// The serial of the volume after a keyword, which may be missing; `None` where it stands twice, or has another form.
 #[tactic(auto, unfolding(crate::specs::Forms::if_given, crate::specs::Forms::volume_of))]
 pub fn volume_if_given(operands: &[Operand], word: &[u8]) -> Option<Option<Serial>>
     ensures { result ≡ if_given volume_in word.now (map operand_view operands.now) }
@@ -243,7 +243,7 @@ pub fn volume_if_given(operands: &[Operand], word: &[u8]) -> Option<Option<Seria
     }
 }
 
-/// The data set names behind a keyword, which may be missing; `None` where it stands twice, or has another form.
+/// The data set names after a keyword, which may be missing; `None` where it stands twice, or has another form.
 ///
 /// The one error is want of memory.
 #[tactic(auto, unfolding(crate::specs::Forms::if_given))]
@@ -264,5 +264,29 @@ pub fn data_sets_if_given(
     match data_sets_in(alloc, value)? {
         Some(names) => Ok(Some(Some(names))),
         None => Ok(None),
+    }
+}
+
+/// The name of a member that a value is.
+#[tactic(auto, unfolding(crate::specs::Forms::member_in))]
+pub fn member_in(value: &Value) -> Option<Name8>
+    ensures name { result ≡ member_in (value_view value.now) }
+    ensures lawful { IfSome result IsMemberName }
+{
+    match value.as_word() {
+        Some(text) => name_of(text),
+        None => None,
+    }
+}
+
+/// The name of a member after a keyword, if one operand has that, and no second.
+#[tactic(auto, unfolding(crate::specs::Forms::member_of))]
+pub fn member_of(operands: &[Operand], word: &[u8]) -> Option<Name8>
+    ensures name { result ≡ member_of word.now (map operand_view operands.now) }
+    ensures lawful { IfSome result IsMemberName }
+{
+    match value_of(operands, word) {
+        Some(value) => member_in(value),
+        None => None,
     }
 }

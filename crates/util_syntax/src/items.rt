@@ -77,7 +77,7 @@ struct Joined {
     field: Vec<Character>,
     // The last card that has some.
     last: Numbered,
-    // Whether a card is missing behind it.
+    // Whether a card is missing after it.
     missing: bool,
 }
 
@@ -212,7 +212,7 @@ fn field_operands(alloc: Global, joined: &Joined) -> Result<Result<Vec<Operand>,
     operands(alloc, joined.missing, missing_place(&joined.last), &marks)
 }
 
-// What is read, and the number of the card behind which reading goes on.
+// What is read, and the number of the card after which reading goes on.
 #[derive(Drop)]
 struct Read {
     item: Item,
@@ -293,7 +293,7 @@ fn card_at(cards: &[Numbered], number: u32) -> Option<usize>
     cards.iter().position(|card| card.0 == number)
 }
 
-// The cards behind the one of this number.
+// The cards after the one of this number.
 #[tactic(auto, using(card_text::proofs::Lists::cuts))]
 fn cards_after(cards: &[Numbered], number: u32) -> &[Numbered]
     ensures cards { result.now ≡ cards_after number cards.now }
@@ -310,7 +310,7 @@ fn cards_after(cards: &[Numbered], number: u32) -> &[Numbered]
 /// A statement stands in columns 1 to 71: a name from column 1 on, where that isn't blank, then blanks, the operation,
 /// blanks, and operands up to the first blank outside quotes, parted by commas. Operands that end in a comma, or a
 /// character in column 72, go on at the first column of the next card that isn't blank, and column 1 of that card is
-/// blank. A card with `*` in column 1 is a comment. Behind a fault reading goes on at the card after the one on which it
+/// blank. A card with `*` in column 1 is a comment. After a fault reading goes on at the card after the one on which it
 /// stands. The one error is want of memory.
 #[tactic(auto, using(crate::proofs::Reading::reading))]
 pub fn statements(alloc: Global, cards: &[(u32, Card)]) -> Result<Vec<Item>, AllocError>

@@ -21,7 +21,7 @@ pub fn push_card(line: &mut Vec<u8>, card: u32) -> Result<(), AllocError>
     line.extend_from_slice(digits.as_bytes())
 }
 
-// Adds a word behind a blank.
+// Adds a word after a blank.
 pub fn push_word(line: &mut Vec<u8>, word: &[u8]) -> Result<(), AllocError>
     ensures { OnOk result (line.new.items ≡ line.old.items ++ next_word word.now) }
 {
@@ -29,7 +29,7 @@ pub fn push_word(line: &mut Vec<u8>, word: &[u8]) -> Result<(), AllocError>
     line.extend_from_slice(word)
 }
 
-// Adds a name in ASCII, without the blanks behind it.
+// Adds a name in ASCII, without the blanks after it.
 #[tactic(auto, unfolding(ebcdic_names::specs::Names::shown))]
 pub fn push_shown(line: &mut Vec<u8>, name: &[u8]) -> Result<(), AllocError>
     ensures { OnOk result (line.new.items ≡ line.old.items ++ shown name.now) }

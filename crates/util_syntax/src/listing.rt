@@ -10,7 +10,7 @@ use crate::operands::SynErr;
 use ebcdic_names::{Dsn, Name8, Serial};
 use itoa::Buffer;
 use std::alloc::{AllocError, Global};
-use vol_model::Refusal;
+use vol_model::{Line, Refusal};
 
 /// What the line of an item names.
 #[derive(Clone, Copy, Debug, PartialEq, Eq)]
@@ -68,7 +68,7 @@ impl Outcome {
     }
 }
 
-// Adds what a line names, behind a blank.
+// Adds what a line names, after a blank.
 #[tactic(auto, unfolding(crate::specs::Listing::object_text))]
 fn push_object(line: &mut Vec<u8>, object: &Object) -> Result<(), AllocError>
     ensures { OnOk result (line.new.items ≡ line.old.items ++ next_word (object_text object.now)) }
@@ -94,10 +94,10 @@ fn push_member(line: &mut Vec<u8>, set: &Dsn, name: &Name8) -> Result<(), AllocE
 }
 
 /// The line of an item: the card on which it begins, its operation, what it names, and what became of it, parted by
-/// one blank, with a line feed behind them.
+/// one blank.
 ///
 /// The card counts from 1, and its number has five digits, with zeros in front, and more only where it needs them. The
-/// operation is a word in ASCII, without blanks. Names stand without the blanks behind them. The one error is want of
+/// operation is a word in ASCII, without blanks. Names stand without the blanks after them. The one error is want of
 /// memory.
 #[tactic(auto, unfolding(crate::specs::Listing::item_line))]
 pub fn item_line(
@@ -106,16 +106,15 @@ pub fn item_line(
     operation: &str,
     object: &Object,
     outcome: Outcome,
-) -> Result<Vec<u8>, AllocError>
-    ensures { IfOk result (λ line. line.items ≡ item_line card operation.now object.now outcome) }
+) -> Result<Line, AllocError>
+    ensures { IfOk result (λ line. line ≡ item_line card operation.now object.now outcome) }
 {
     let mut line = Vec::new(alloc);
     push_card(&mut line, card)?;
     push_word(&mut line, operation.as_bytes())?;
     push_object(&mut line, object)?;
     push_word(&mut line, outcome.words().as_bytes())?;
-    line.push(b'\n')?;
-    Ok(line)
+    Line::ended(line)
 }
 
 impl SynErr {
@@ -137,36 +136,34 @@ impl SynErr {
 ///
 /// The one error is want of memory.
 #[tactic(auto, unfolding(crate::specs::Listing::syntax_line))]
-pub fn syntax_line(alloc: Global, card: u32, kind: SynErr) -> Result<Vec<u8>, AllocError>
-    ensures { IfOk result (λ line. line.items ≡ syntax_line card kind) }
+pub fn syntax_line(alloc: Global, card: u32, kind: SynErr) -> Result<Line, AllocError>
+    ensures { IfOk result (λ line. line ≡ syntax_line card kind) }
 {
     let mut line = Vec::new(alloc);
     push_card(&mut line, card)?;
     push_word(&mut line, b"SYNTAX".as_slice())?;
     push_word(&mut line, kind.words().as_bytes())?;
-    line.push(b'\n')?;
-    Ok(line)
+    Line::ended(line)
 }
 
 // The line of a card, a word and a name.
 #[tactic(auto, unfolding(crate::specs::Listing::named_line))]
-fn named_line(alloc: Global, card: u32, word: &str, name: &Name8) -> Result<Vec<u8>, AllocError>
-    ensures { IfOk result (λ line. line.items ≡ named_line card word.now name.now) }
+fn named_line(alloc: Global, card: u32, word: &str, name: &Name8) -> Result<Line, AllocError>
+    ensures { IfOk result (λ line. line ≡ named_line card word.now name.now) }
 {
     let mut line = Vec::new(alloc);
     push_card(&mut line, card)?;
     push_word(&mut line, word.as_bytes())?;
     line.push(b' ')?;
     push_shown(&mut line, &name.bytes)?;
-    line.push(b'\n')?;
-    Ok(line)
+    Line::ended(line)
 }
 
 /// The line of a step that lacks a DD: `ccccc NO-DD ddname`, by the step's EXEC card.
 ///
 /// The one error is want of memory.
-pub fn no_dd_line(alloc: Global, card: u32, name: &Name8) -> Result<Vec<u8>, AllocError>
-    ensures { IfOk result (λ line. line.items ≡ named_line card (codes "NO-DD") name.now) }
+pub fn no_dd_line(alloc: Global, card: u32, name: &Name8) -> Result<Line, AllocError>
+    ensures { IfOk result (λ line. line ≡ named_line card (codes "NO-DD") name.now) }
 {
     named_line(alloc, card, "NO-DD", name)
 }
@@ -174,13 +171,13 @@ pub fn no_dd_line(alloc: Global, card: u32, name: &Name8) -> Result<Vec<u8>, All
 /// The line of a step whose program isn't known: `ccccc NO-PROGRAM pgm`, by the step's EXEC card.
 ///
 /// The one error is want of memory.
-pub fn no_program_line(alloc: Global, card: u32, name: &Name8) -> Result<Vec<u8>, AllocError>
-    ensures { IfOk result (λ line. line.items ≡ named_line card (codes "NO-PROGRAM") name.now) }
+pub fn no_program_line(alloc: Global, card: u32, name: &Name8) -> Result<Line, AllocError>
+    ensures { IfOk result (λ line. line ≡ named_line card (codes "NO-PROGRAM") name.now) }
 {
     named_line(alloc, card, "NO-PROGRAM", name)
 }
 
-// Adds a number in decimal behind a blank.
+// Adds a number in decimal after a blank.
 fn push_number(line: &mut Vec<u8>, number: u8) -> Result<(), AllocError>
     ensures { OnOk result (line.new.items ≡ line.old.items ++ next_word (decimal number)) }
 {
@@ -193,14 +190,13 @@ fn push_number(line: &mut Vec<u8>, number: u8) -> Result<(), AllocError>
 ///
 /// The kind is a word in ASCII, without blanks. The one error is want of memory.
 #[tactic(auto, unfolding(crate::specs::Listing::jcl_line))]
-pub fn jcl_line(alloc: Global, card: u32, column: u8, kind: &str) -> Result<Vec<u8>, AllocError>
-    ensures { IfOk result (λ line. line.items ≡ jcl_line card column kind.now) }
+pub fn jcl_line(alloc: Global, card: u32, column: u8, kind: &str) -> Result<Line, AllocError>
+    ensures { IfOk result (λ line. line ≡ jcl_line card column kind.now) }
 {
     let mut line = Vec::new(alloc);
     push_card(&mut line, card)?;
     push_number(&mut line, column)?;
     push_word(&mut line, b"JCL".as_slice())?;
     push_word(&mut line, kind.as_bytes())?;
-    line.push(b'\n')?;
-    Ok(line)
+    Line::ended(line)
 }

@@ -2,11 +2,12 @@
 ghost use Rattle.std.specs.Prelude.{◌≡◌, ◌≤◌, map, option_map, IfOk};
 ghost use Rattle.std.specs.Map.{lookup};
 ghost use Rattle.util_syntax.specs.Items.{item_view};
-ghost use Rattle.util_syntax.specs.Program.{outcome_code, outcome_of, statements_in, sysin};
+ghost use Rattle.util_syntax.specs.Program.{bad_operand, outcome_code, outcome_of, statements_in, sysin};
 ghost use Rattle.util_syntax.specs.Step.{same_name};
 
 use crate::items::{Item, statements};
 use crate::listing::Outcome;
+use crate::operands::SynErr;
 use crate::step::{DdIn, StepIn};
 use ebcdic_names::Name8;
 use std::alloc::{AllocError, Global};
@@ -27,6 +28,25 @@ pub fn sysin_statements(alloc: Global, step: &StepIn) -> Result<Option<Vec<Item>
         Some(DdIn::Dummy) => Ok(Some(Vec::new(alloc))),
         Some(DdIn::Cards(cards)) => Ok(Some(statements(alloc, cards.as_slice())?)),
         _ => Ok(None),
+    }
+}
+
+/// The fault of a statement, with the card on which it stands.
+#[derive(Clone, Copy, Debug, PartialEq, Eq)]
+pub struct StatementFault {
+    /// The number of the card.
+    pub card: u32,
+    /// The kind of the fault.
+    pub kind: SynErr,
+}
+
+/// The fault of a statement that has no place, or not the form of its operation.
+pub fn bad_operand(card: u32) -> StatementFault
+    ensures { result ≡ bad_operand card }
+{
+    StatementFault {
+        card,
+        kind: SynErr::BadOperand,
     }
 }
 

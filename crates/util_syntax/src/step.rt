@@ -13,7 +13,7 @@ use std::alloc::{AllocError, Global};
 use std::marker::Model;
 use vol_model::Listed;
 
-/// Data cards, each behind its number in the deck.
+/// Data cards, each after its number in the deck.
 pub type DataCards = Listed<(u32, Card)>;
 
 /// What a DD gives to the program of a step.
@@ -33,7 +33,7 @@ pub enum DdIn {
         dsn: Dsn,
         /// The member that is meant, if the DD names one.
         member: Option<Name8>,
-        /// Whether records go behind those that it has.
+        /// Whether records go after those that it has.
         append: bool,
         /// The attributes that the DD gives.
         dcb: Dcb,
@@ -89,7 +89,7 @@ impl DdTable {
         }
     }
 
-    /// Puts a DD behind the others, or in the place of the one that has its name. An error leaves all as it was.
+    /// Puts a DD after the others, or in the place of the one that has its name. An error leaves all as it was.
     pub fn insert(&mut self, name: Name8, dd: DdIn) -> Result<(), AllocError>
         ensures ok { OnOk result (self.new ≡ insert_entry same_name self.old name dd) }
         ensures err { OnErr result (self.new ≡ self.old) }

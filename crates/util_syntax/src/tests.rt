@@ -8,7 +8,7 @@ use std::alloc::{AllocError, Global};
 use std::test::Fail;
 use vol_model::Refusal;
 
-// A card of these characters, with blanks behind them.
+// A card of these characters, with blanks after them.
 fn card_of(text: &[u8]) -> Card {
     let mut bytes = [b' '; 80];
     let count = text.len().min(80);
@@ -42,7 +42,7 @@ type Faulty = (&'static [&'static [u8]], u32, u8, SynErr);
 
 #[rattlefmt::skip]
 const FAULTY: [Faulty; 22] = [
-    // A part that is missing would begin in the second column behind the last.
+    // A part that is missing would begin in the second column after the last.
     (&[b""], 1, 2, SynErr::NoOperation),
     (&[b"NAME"], 1, 6, SynErr::NoOperation),
     (&[b"* A COMMENT", b"NAME  "], 2, 6, SynErr::NoOperation),
@@ -145,27 +145,27 @@ fn lines_and_tables(rt: HostRuntime) -> Result<(), Fail> {
     let member = Object::Member { set, name };
     let refused = Outcome::Refused(Refusal::DirFull { blocks: 3 });
     assert_eq!(rt;
-        item_line(alloc, 12, "SCRATCH", &member, refused)?.as_slice(),
+        item_line(alloc, 12, "SCRATCH", &member, refused)?.as_bytes(),
         b"00012 SCRATCH A.B(SYSUT1) DIR-FULL\n".as_slice()
     );
     assert_eq!(rt;
-        item_line(alloc, 7, "LISTVTOC", &Object::Volume(serial), Outcome::Done)?.as_slice(),
+        item_line(alloc, 7, "LISTVTOC", &Object::Volume(serial), Outcome::Done)?.as_bytes(),
         b"00007 LISTVTOC ABC OK\n".as_slice()
     );
     assert_eq!(rt;
-        syntax_line(alloc, 9, SynErr::Unbalanced)?.as_slice(),
+        syntax_line(alloc, 9, SynErr::Unbalanced)?.as_bytes(),
         b"00009 SYNTAX UNBALANCED\n".as_slice()
     );
     assert_eq!(rt;
-        no_dd_line(alloc, 3, &name)?.as_slice(),
+        no_dd_line(alloc, 3, &name)?.as_bytes(),
         b"00003 NO-DD SYSUT1\n".as_slice()
     );
     assert_eq!(rt;
-        no_program_line(alloc, 3, &name)?.as_slice(),
+        no_program_line(alloc, 3, &name)?.as_bytes(),
         b"00003 NO-PROGRAM SYSUT1\n".as_slice()
     );
     assert_eq!(rt;
-        jcl_line(alloc, 2, 11, "NO-PROGRAM")?.as_slice(),
+        jcl_line(alloc, 2, 11, "NO-PROGRAM")?.as_bytes(),
         b"00002 11 JCL NO-PROGRAM\n".as_slice()
     );
     let other = Name8::read("SYSIN").ok().ok_or("a name")?;

@@ -15,7 +15,7 @@ use Rattle.vol_model.specs.Shelf.{put_first, put_last, step, written}
 use Rattle.vol_model.specs.Writing.{Making, OpenWriter, Room, Owned, Wanted, Never, Target, at_close, begun, blocks_for, device_on, did_commit, did_put, did_puts, did_write, extension, if_made, making_by, making_close, making_puts, making_room, next_up, room_for, room_made, so_far, target_body, with_puts, writes}
 use Rattle.vol_model.proofs.Keeping.{KeepsBodies, bodies_kept_none, bodies_kept_then, extension_keeps}
 
--- the shelf behind what was done to make room
+-- the shelf after what was done to make room
 abbrev pub made : Shelf → Making → Shelf
 made s m = after_operations s m.extends
 
@@ -57,7 +57,7 @@ module _ (t : Target) (c : Content) (xs ys : List Content) (before : List Conten
   by_room Wanted (Err r) is more = refl
   by_room Never q is more = refl
 
--- room for some contents and more behind them
+-- room for some contents and more after them
 pub making_append : (t : Target) (xs ys before : List Content) (s : Shelf) → making_room s t before (xs ++ ys) ≡ made_then (making_room s t before xs) (making_room (made s (making_room s t before xs)) t (before ++ xs) ys)
 making_append t [] ys before s = ap (λ (l : List Content). making_room s t l ys) (sym (append-nil before))
 making_append t (c ∷ xs) ys before s = by_room t c xs ys before s (room_for s t before c) (step s (extension t)) refl (λ u. making_append t xs ys (before ++ c ∷ []) u)

@@ -1,3 +1,4 @@
+pub mod LineTexts
 pub mod Ranks
 pub mod InOrder
 pub mod Steps

@@ -15,6 +15,7 @@ use Rattle.vol_model.specs.Calls.{Applies, Does, IsBehind, Prints, counted}
 use Rattle.vol_model.specs.Did.{Did, answered, behind_them, on_answer, and_then, because, with_reason}
 use Rattle.vol_model.specs.Events.{Event, Do, Say, StopsIn, after_operations, behind, listing, operations_of, shelf_behind}
 use Rattle.vol_model.specs.Runs.{Runs, Works}
+use Rattle.vol_model.specs.Printed.{printed_line}
 use Rattle.vol_model.specs.Shelf.{step}
 use Rattle.vol_model.specs.Writing.{by_step, did_apply}
 use Rattle.vol_model.proofs.Stops.{HasRun, StopsSince, run_none, run_then, run_line, since_first, since_line, since_second, stops_start}
@@ -68,7 +69,7 @@ pub works_broken : {X E : Type 0} {tells : Bool} {old new : Meaning Shelf} {n m 
 works_broken did (Ok x) failed time = let no : ⊥ = cc in absurd no
 works_broken did (Err e) failed time = record { runs = record { shelf = tt; printed = tt; moments = time }; answer = tt; count = tt }
 
--- steps behind operations that were done
+-- steps after operations that were done
 pub works_behind : {X E : Type 0} {tells : Bool} {ops : List Op} {d : Did X E} {old mid new : Meaning Shelf} {n k m : ℕ} (r : Result (Result X E) Stop) → HasDone tells ops old mid n k → Works tells d mid new k m r → Works tells (behind_them ops d) old new n m r
 works_behind {d = d} (Ok answer) done works = works_done _ answer (done_then done (has_done works)) works.answer
 works_behind {tells = tells} {ops = ops} {d = d} {old = old} {new = new} (Err e) done works =
@@ -203,20 +204,20 @@ module _ {X E : Type 0} (d : Did X E) (line : List ℕ) where
   abbrev events_for : List Event
   events_for = map Do d.operations ++ Say line ∷ []
 
-  pub item_said : {tells : Bool} {T T' E' : Type 0} {old mid new : Meaning Shelf} {n k : ℕ} {r : Result X E} {x : T} (z : T') → Works tells d old mid n k (Ok r) → Prints tells line mid new (Ok x) → Runs {T = T'} {E = E'} tells events_for old new (Ok z)
+  pub item_said : {tells : Bool} {T T' E' : Type 0} {old mid new : Meaning Shelf} {n k : ℕ} {r : Result X E} {x : T} (z : T') → Works tells d old mid n k (Ok r) → Prints tells (printed_line line) mid new (Ok x) → Runs {T = T'} {E = E'} tells events_for old new (Ok z)
   item_said z works prints =
-      let run = run_then (has_done works).run (run_line prints) in
+      let run = run_then (has_done works).run (run_line line prints) in
       record { shelf = run.state; printed = run.printed; moments = run.moments }
 
-  pub item_unsaid : {tells : Bool} {T T' E' : Type 0} {old mid new : Meaning Shelf} {n k : ℕ} {r : Result X E} {result : Result T MachErr} (q : Result T' E') → IsErr q → Works tells d old mid n k (Ok r) → Prints tells line mid new result → Runs tells events_for old new q
+  pub item_unsaid : {tells : Bool} {T T' E' : Type 0} {old mid new : Meaning Shelf} {n k : ℕ} {r : Result X E} {result : Result T MachErr} (q : Result T' E') → IsErr q → Works tells d old mid n k (Ok r) → Prints tells (printed_line line) mid new result → Runs tells events_for old new q
   item_unsaid (Ok z) failed works prints = let no : ⊥ = cc in absurd no
-  item_unsaid (Err e) failed works prints = record { shelf = tt; printed = tt; moments = since_second (Say line ∷ []) (has_done works).run (since_line prints) }
+  item_unsaid (Err e) failed works prints = record { shelf = tt; printed = tt; moments = since_second (Say line ∷ []) (has_done works).run (since_line line prints) }
 
   pub item_broken : {tells : Bool} {T' E' : Type 0} {old new : Meaning Shelf} {n m : ℕ} {r : Result (Result X E) Stop} (q : Result T' E') → IsErr q → Works tells d old new n m r → Runs tells events_for old new q
   item_broken (Ok z) failed works = let no : ⊥ = cc in absurd no
   item_broken (Err e) failed works = record { shelf = tt; printed = tt; moments = since_first (map Do d.operations) (Say line ∷ []) works.runs.moments }
 
--- further steps behind two are those behind the first, and then the second
+-- further steps after two are those after the first, and then the second
 pub then_then : {X Y Z E : Type 0} (s : Shelf) (d : Did X E) (f : X → Shelf → Did Y E) (g : Y → Shelf → Did Z E) → and_then s (and_then s d f) g ≡ and_then s d (λ x u. and_then u (f x u) g)
 unfolding and_then
 then_then {X} {Y} {Z} {E} s d f g = by_answer d.operations d.answer
@@ -229,7 +230,7 @@ then_then {X} {Y} {Z} {E} s d f g = by_answer d.operations d.answer
     by_answer ops (Ok x) = by_second ops (f x (after_operations s ops)).operations (f x (after_operations s ops)).answer
     by_answer ops (Err e) = refl
 
--- a reason is seen as another before steps or behind them
+-- a reason is seen as another before steps or after them
 pub reason_then : {X Y E F : Type 0} (r : E → F) (s : Shelf) (d : Did X E) (f : X → Shelf → Did Y E) → with_reason r (and_then s d f) ≡ and_then s (with_reason r d) (λ x u. with_reason r (f x u))
 unfolding and_then with_reason
 reason_then {X} {Y} {E} {F} r s d f = by_answer d.operations d.answer
@@ -242,7 +243,7 @@ reason_then {X} {Y} {E} {F} r s d f = by_answer d.operations d.answer
 pub works_none : {X E : Type 0} (tells : Bool) (m : Meaning Shelf) (n : ℕ) (r : Result X E) → Works tells (answered r) m m n n (Ok r)
 works_none tells m n r = works_done (answered r) r (record { run = run_none tells m; count = omega arith }) refl
 
--- steps behind which nothing is done but time goes on
+-- steps after which nothing is done but time goes on
 pub works_kept : {X E : Type 0} {tells : Bool} {d : Did X E} {old mid new : Meaning Shelf} {n k m : ℕ} (r : Result X E) → Works tells d old mid n k (Ok r) → Same mid new → IsDurable mid → m ≡ k → Works tells d old new n m (Ok r)
 works_kept {tells = tells} {d = d} {old = old} {mid = mid} {new = new} r works same durable count =
     let idle : HasRun tells [] mid new = record { state = same.state; printed = λ told. same.printed ∙ sym (append-nil mid.printed); moments = idle_since same durable } in
@@ -251,7 +252,7 @@ works_kept {tells = tells} {d = d} {old = old} {mid = mid} {new = new} r works s
       count = count ∙ works.count;
     }) works.answer
 
--- steps that were stopped, behind which nothing is done but time goes on
+-- steps that were stopped, after which nothing is done but time goes on
 pub works_abandoned : {X E : Type 0} {tells : Bool} {d : Did X E} {old mid new : Meaning Shelf} {n k m : ℕ} {r : Result (Result X E) Stop} (q : Result (Result X E) Stop) → IsErr q → OnlyNow old → CountsNow mid → IsDurable old → Works tells d old mid n k r → Same mid new → Works tells d old new n m q
 works_abandoned {tells = tells} {d = d} {old = old} q failed only counts durable works same =
     let es = map Do d.operations in

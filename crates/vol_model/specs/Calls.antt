@@ -14,7 +14,7 @@ use Rattle.vol_model.specs.Places.{Content}
 use Rattle.vol_model.specs.Shelf.{step}
 use Rattle.vol_model.specs.Writing.{OpenWriter, with_puts}
 
--- What a machine always tells: whether it is sound, whether a writer is open, how many operations it did, what it stands on, as texts and numbers, a number as a list of it alone, and its counts of faults.
+-- What a machine always tells: whether it is sound, whether a writer is open, how many operations it did, the texts and numbers that name what it stands on (each as a list), and its counts of faults.
 pub record Status : Type 0 where
   pub is_sound : Bool
   pub is_open : Bool
@@ -41,12 +41,12 @@ pub record MachineCall {T : Type 0} (opens : Bool) (old new : Status) (result : 
   pub no_device : ¬ IsErrOf result Device → new.dev_faults ≡ old.dev_faults
   pub no_print : ¬ IsErrOf result Print → new.print_faults ≡ old.print_faults
 
--- whether a writer is open behind a call that opens one
+-- whether a writer is open after a call that opens one
 abbrev pub open_at_ok : {T : Type 0} → Result T MachErr → Bool
 open_at_ok (Ok x) = true
 open_at_ok (Err e) = false
 
--- and behind one that closes it, unless memory ran out
+-- and after one that closes it, unless memory ran out
 abbrev pub open_at_memory : {T : Type 0} → Result T MachErr → Bool
 open_at_memory (Err Memory) = true
 open_at_memory _ = false
@@ -79,7 +79,7 @@ Comes (Err Memory) answer = Unit {0}
 Comes (Err Device) answer = Unit {0}
 Comes (Err Print) answer = ⊥
 
--- the shelf and the number done behind these operations
+-- the shelf and the number done after these operations
 abbrev pub IsBehind : List Op → Shelf → Shelf → ℕ → ℕ → Type 0
 IsBehind ops old new n m = (new ≡ after_operations old ops) × (m ≡ counted n (length ops))
 
@@ -91,7 +91,7 @@ ComesTo (Err Memory) way ops old new n m = (k : ℕ) × (k ≤ length way) × Is
 ComesTo (Err Device) way ops old new n m = Unit {0}
 ComesTo (Err Print) way ops old new n m = ⊥
 
--- A call that does several operations, those on its way first: a stop leaves the shelf behind some of them, in order, and the printed bytes as they were.
+-- A call that does several operations, those on its way first: a stop leaves the shelf after some of them, in order, and the printed bytes as they were.
 pub record Does {X : Type 0} (way : List Op) (did : Did X Refusal) (old new : Meaning Shelf) (n m : ℕ) (result : Result X MachErr) : Type 0 where
   pub answer : Comes result did.answer
   pub state : ComesTo result way did.operations old.state new.state n m

@@ -33,7 +33,7 @@ use Rattle.vol_model.specs.Trees.{AreAscending, Node, has_parent}
 abbrev pub IsOnPack : Geometry → Run → Type 0
 IsOnPack g run = (1 ≤ run.len) × (run.start + run.len ≤ g.cylinders * (row_of g.device).heads)
 
--- A block is lawful: its key and data have at most the lengths that are written, and its place can be said in a TTR, as that behind it.
+-- A block is lawful: its key and data have at most the lengths that are written, and its place can be said in a TTR, as that after it.
 pub record IsLawfulBlock (b : Block) : Type 0 where
   pub key : length b.key ≤ 255
   pub payload : length b.payload ≤ 32760
@@ -49,7 +49,7 @@ pub record IsLawfulEntry (e : Entry) : Type 0 where
 abbrev pub is_next : Place → Place → Bool
 is_next p q = (q.tt == p.tt && q.r == p.r + 1) || (nat_lt p.tt q.tt && q.r == 1)
 
--- blocks stand on so many tracks, behind a place, each next to the one before it, so that no track has a gap
+-- blocks stand on so many tracks, after a place, each next to the one before it, so that no track has a gap
 abbrev pub FollowFrom : ℕ → Place → List Block → Type 0
 FollowFrom tracks p [] = Unit {0}
 FollowFrom tracks p (b ∷ bs) = (b.place.tt < tracks) × (is_next p b.place ≡ true) × FollowFrom tracks b.place bs
@@ -135,7 +135,7 @@ pub record IsLawful (shelf : Shelf) : Type 0 where
 abbrev pub control_name : List ℕ
 control_name = 0 ∷ 0 ∷ 0 ∷ 0 ∷ 0 ∷ 0 ∷ 0 ∷ 1 ∷ []
 
--- A name may stand in the catalog: it stands behind that of the control entry, and isn't that of the link entry.
+-- A name may stand in the catalog: it stands after that of the control entry, and isn't that of the link entry.
 pub record IsLawfulName (name : List ℕ) : Type 0 where
   pub above : is_lt (slice_cmp nat_cmp control_name name) ≡ true
   pub no_link : bytes_eq name (replicate 8 255) ≡ false

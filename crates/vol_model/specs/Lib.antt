@@ -5,7 +5,9 @@ pub mod Places
 pub mod Slots
 pub mod Shelf
 pub mod Lawful
+pub mod Printed
 pub mod Events
+pub mod Ends
 pub mod Did
 pub mod Writing
 pub mod Reading

@@ -7,7 +7,7 @@ use Rattle.vol_model.specs.declared.contents.Place.{Place}
 abbrev pub ttr_count : ℕ → ℕ
 ttr_count flags = flags / 32 % 4
 
--- a place as a TTR with the zero behind it
+-- a place as a TTR with the zero after it
 abbrev pub ttr_bytes : Place → List ℕ
 ttr_bytes p = p.tt / 256 ∷ p.tt % 256 ∷ p.r ∷ 0 ∷ []
 
@@ -31,7 +31,7 @@ ttr_in a b r d = if d == 0 then Some (record { tt = a * 256 + b; r = r }) else N
 abbrev pub moved_bytes : List Place → List Place → ℕ → ℕ → ℕ → ℕ → Option (List ℕ)
 moved_bytes from to a b r d = option_and_then (moved_ttr from to) (ttr_in a b r d)
 
--- one TTR, and what is behind it, if both have a new place
+-- one TTR, and what is after it, if both have a new place
 abbrev pub joined_moves : Option (List ℕ) → Option (List ℕ) → Option (List ℕ)
 joined_moves None rest = None
 joined_moves (Some bytes) rest = option_map (λ (more : List ℕ). bytes ++ more) rest

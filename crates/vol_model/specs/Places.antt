@@ -31,7 +31,7 @@ tracks_in runs = sum_by (λ (r : Run). r.len) runs
 abbrev pub is_before : Place → Place → Bool
 is_before p q = nat_lt p.tt q.tt || (p.tt == q.tt && nat_lt p.r q.r)
 
--- the place behind the last record, where that track's records have these lengths: on the track if it fits there, and else at the front of the next
+-- the place after the last record, where that track's records have these lengths: on the track if it fits there, and else at the front of the next
 abbrev pub place_behind : DiskType → Place → List (ℕ × ℕ) → ℕ × ℕ → Place
 place_behind device last earlier new = if fits device earlier new.0 new.1 then record { tt = last.tt; r = last.r + 1 } else record { tt = last.tt + 1; r = 1 }
 
@@ -44,7 +44,7 @@ abbrev pub directory_place : DiskType → ℕ → Place
 directory_place device zero = record { tt = 0; r = 1 }
 directory_place device (suc n) = let last = directory_place device n in place_behind device last (replicate last.r directory_lengths) directory_lengths
 
--- the place of the end-of-file record behind a new directory of so many blocks
+-- the place of the end-of-file record after a new directory of so many blocks
 unfoldable pub directory_end : DiskType → ℕ → Place
 directory_end device n = let last = directory_place device (n - 1) in place_behind device last (replicate last.r directory_lengths) (0, 0)
 
@@ -68,7 +68,7 @@ next_place device (bodies.Seq (b ∷ bs)) c = let last = last_place b.place bs i
 next_place device (bodies.Part dir end entries bs) c = let last = last_place end bs in place_behind device last (front_lengths end last.tt ++ lengths_on last.tt bs) (lengths c)
 next_place device _ c = record { tt = 0; r = 1 }
 
--- a body with more blocks behind its last
+-- a body with more blocks after its last
 abbrev pub with_blocks : Body → List Block → Body
 with_blocks (bodies.Seq old) bs = bodies.Seq (old ++ bs)
 with_blocks (bodies.Part dir end entries old) bs = bodies.Part dir end entries (old ++ bs)
@@ -78,7 +78,7 @@ with_blocks body bs = body
 abbrev pub next_block : DiskType → Body → Content → Block
 next_block device body c = record { place = next_place device body c; key = c.0; payload = c.1 }
 
--- contents as the blocks behind a body, each at its next place
+-- contents as the blocks after a body, each at its next place
 unfoldable pub placed : DiskType → Body → List Content → List Block
 placed device body [] = []
 placed device body (c ∷ cs) = let b = next_block device body c in b ∷ placed device (with_blocks body (b ∷ [])) cs

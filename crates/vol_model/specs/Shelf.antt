@@ -253,16 +253,16 @@ abbrev pub put_first : Mode → Body → List Content
 put_first modes.Fill body = []
 put_first modes.Area body = if is_open_ended (blocks_of body) then end_of_file ∷ [] else []
 
--- what it puts last: behind an area an end-of-file block
+-- what it puts last: after an area an end-of-file block
 abbrev pub put_last : Mode → List Content
 put_last modes.Fill = []
 put_last modes.Area = end_of_file ∷ []
 
--- all that stands behind a body when these contents were written
+-- all that stands after a body when these contents were written
 abbrev pub written : Mode → Body → List Content → List Content
 written mode body cs = put_first mode body ++ cs ++ put_last mode
 
--- a data set with contents written behind its blocks
+-- a data set with contents written after its blocks
 abbrev pub with_written : DiskType → Mode → List Content → DataSet → DataSet
 with_written device mode cs x = record x { body = with_blocks x.body (placed device x.body (written mode x.body cs)) }
 

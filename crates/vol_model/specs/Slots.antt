@@ -20,7 +20,7 @@ slots_needed volume = slots_for (length (free_runs volume)) volume.sets
 abbrev pub entry_size : Entry → ℕ
 entry_size e = 12 + length e.user
 
--- the blocks that a directory of these entries needs, its end entry behind them
+-- the blocks that a directory of these entries needs, its end entry after them
 unfoldable pub directory_needed : List Entry → ℕ
 directory_needed entries = needed entry_size 254 12 entries
 

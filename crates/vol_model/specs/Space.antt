@@ -85,7 +85,7 @@ abbrev pub longest_from : Option Run → List Run → Option Run
 longest_from best [] = best
 longest_from best (x ∷ xs) = longest_from (if is_longer x best then Some x else best) xs
 
--- the runs that stand behind the last one that was taken
+-- the runs that stand after the last one that was taken
 abbrev pub left_after : Option Run → List Run → List Run
 left_after last runs = filter (is_behind last) runs
 

@@ -93,7 +93,7 @@ is_generation _ = false
 abbrev pub inverted : ℕ → ℕ
 inverted c = 0xFF - (c - 0xF0)
 
--- the bytes under which the name of a generation is stored: the digits behind G are inverted, so the newest stands first
+-- the bytes under which the name of a generation is stored: the digits after G are inverted, so the newest stands first
 abbrev pub stored_generation : List ℕ → List ℕ
 stored_generation (g ∷ a ∷ b ∷ c ∷ d ∷ rest) = g ∷ inverted a ∷ inverted b ∷ inverted c ∷ inverted d ∷ rest
 stored_generation name = name

@@ -6,7 +6,7 @@ mod answers;
 mod buffers;
 mod catalogs;
 mod contents;
-mod lists;
+mod lines;
 mod machine;
 mod moving;
 mod quiet;
@@ -22,7 +22,8 @@ pub use contents::{
     Attr, Block, Blocks, Body, DataSet, DataSets, Entries, Entry, Place, Run, Runs, Shelf, Volume,
     Volumes,
 };
-pub use lists::{Listed, Text};
+pub use ebcdic_names::{Listed, Text};
+pub use lines::Line;
 pub use machine::Machine;
 pub use moving::move_ttrs;
 pub use quiet::Quiet;

@@ -51,10 +51,10 @@ pub trait Machine {
     /// Whether it is sound and has a writer open, how many operations it did, what it stands on, and its counts of faults.
     ghost status: { Self → Status };
 
-    /// What it promises besides of every stop since a moment, by what is known of that.
+    /// What else it promises of every stop since a moment, by what was known at that moment.
     ghost promise: { Self → ℕ → Known → Type 0 };
 
-    /// That every stop since a moment leaves just these files, on which it stood then.
+    /// That every stop since a moment leaves just the files of that moment, which are these.
     ghost stays: { Self → ℕ → List File → Type 0 };
 
     /// Whether no fault has come so far.
@@ -179,7 +179,7 @@ pub trait Machine {
         ensures faults { MachineCall (open_at_ok result) (status self.old) (status self.new) result }
         ensures print { IsErrOf result MachErr.Print → ⊥ };
 
-    /// Puts a block behind those put so far, and gives its place. It stands on the shelf once the writer is committed.
+    /// Puts a block after those put so far, and gives its place. It stands on the shelf once the writer is committed.
     ///
     /// Where an owned track is wanted for it, or for the end-of-file block in front of the first block of an area, the
     /// set is extended. `NoRoom` comes where the block fits no track, or such an extension is refused. The writer stands

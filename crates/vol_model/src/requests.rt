@@ -6,7 +6,7 @@ use crate::catalogs::{CatPath, VolRefs};
 use crate::contents::{Attr, Blocks, Entry};
 use ebcdic_names::{Dsn, Name8};
 
-// SYSCTLG in EBCDIC, with blanks behind it.
+// SYSCTLG in EBCDIC, with blanks after it.
 const CATALOG_NAME: [u8; 44] = [
     0xE2, 0xE8, 0xE2, 0xC3, 0xE3, 0xD3, 0xC7, 0x40, 0x40, 0x40, 0x40, 0x40, 0x40, 0x40, 0x40, 0x40,
     0x40, 0x40, 0x40, 0x40, 0x40, 0x40, 0x40, 0x40, 0x40, 0x40, 0x40, 0x40, 0x40, 0x40, 0x40, 0x40,
@@ -90,7 +90,7 @@ pub enum Op {
         /// The attributes whose record format, option codes, block, record and key length and key place it takes.
         attr: Attr,
     },
-    /// Blocks behind those of a sequential set.
+    /// Blocks after those of a sequential set.
     Fill {
         /// The volume's number on the shelf, from 0.
         v: u8,
@@ -99,7 +99,7 @@ pub enum Op {
         /// The blocks. Where they are placed follows from the set.
         blocks: Blocks,
     },
-    /// Blocks of a member behind those of a partitioned set, with an end-of-file block behind them.
+    /// Blocks of a member after those of a partitioned set, with an end-of-file block after them.
     Area {
         /// The volume's number on the shelf, from 0.
         v: u8,

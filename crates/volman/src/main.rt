@@ -14,7 +14,7 @@ use std::fs::{File, Files};
 use std::io::{self, ErrorKind, Input, Print};
 use std::process::ExitCode;
 use std::rt::Env;
-use volume_manager::{Status, volman};
+use volume_manager::{NO_MEMORY, volman};
 
 fn main(rt: HostRuntime) -> ExitCode {
     ExitCode::from(run(&rt))
@@ -26,7 +26,7 @@ fn run<R: Files<File = File> + Input + Print + Env + AllocGlobal>(rt: &R) -> u8
     ensures { IsStatus result }
 {
     let Ok(words) = words_in(rt.alloc(), env::args(rt)) else {
-        return Status::Memory.code();
+        return NO_MEMORY;
     };
     let mut cards = StdCards::new(rt.reader());
     let mut hall = FileHall::new(rt.alloc(), rt);

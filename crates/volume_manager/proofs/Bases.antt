@@ -27,7 +27,7 @@ same_texts (u ∷ us) (v ∷ vs) is =
     let others : texts_of us ≡ texts_of vs = cc in
     ap (λ (x : Attached). x ∷ us) first ∙ ap (λ (xs : List Attached). v ∷ xs) (same_texts us vs others)
 
--- behind as many plans the texts are the same
+-- after as many plans the texts are the same
 behind_plans : (vols vols' : List Vol) (xs ys : List (List ℕ)) → units_of vols ≡ units_of vols' → plans_of vols ++ xs ≡ plans_of vols' ++ ys → xs ≡ ys
 behind_plans [] [] xs ys units is = is
 behind_plans [] (v ∷ vols') xs ys units is = absurd (cc units)

@@ -17,7 +17,7 @@ refusals_final = (inl (omega arith), (inl (omega arith), inr refl))
 faults_not_final : (n : ℕ) → 22 ≤ n → n ≤ 25 → ¬ IsFinal n
 faults_not_final n low high final = ⊎_elim (λ (few : n ≤ 21). omega (arith, low, few)) (λ (deck : n ≡ 26). omega (arith, high, deck)) final
 
--- 16 and 20 are statuses, what stands between them and behind 26 is none
+-- 16 and 20 are statuses, what stands between them and after 26 is none
 statuses : IsStatus 0 × (IsStatus 16 × (IsStatus 20 × IsStatus 26))
 statuses = (inl (omega arith), (inl (omega arith), (inr (omega arith, omega arith), inr (omega arith, omega arith))))
 

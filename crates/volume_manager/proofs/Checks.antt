@@ -1,5 +1,5 @@
 -- What is found on a pack, as it is printed.
-use Rattle.std.proofs.Common.{◌≡◌, ◌≢◌, ℕ, Bool, true, false, List, [], ◌∷◌, sym, ◌∙◌, ap, ap₂, subst}
+use Rattle.std.proofs.Common.{◌≡◌, ◌≢◌, ℕ, Bool, true, false, List, [], ◌∷◌, sym, ◌∙◌, ap, subst}
 use Rattle.std.specs.Prelude.{Option, Some, None, Result, Ok, slice_range, unwrap_or}
 use Rattle.std.specs.Option.{option_map}
 use Rattle.pack_spec.specs.declared.MountErr.{MountErr}
@@ -10,7 +10,7 @@ use Rattle.mount_repair.specs.Settled.{is_settled}
 use Rattle.mount_repair.specs.declared.scanned.Scan.{Scan}
 use Rattle.mount_repair.proofs.SettledTests.{scan_settled}
 use Rattle.pack_spec.specs.Volume.{volume_of, volume_with}
-use Rattle.stop_model.specs.Files.{File, file_of}
+use Rattle.stop_model.specs.Files.{File}
 use Rattle.stop_model.specs.Moments.{Meaning}
 use Rattle.shelf_machine.specs.Checking.{all_unread, unread_in}
 use Rattle.shelf_machine.specs.declared.unread.Unread.{Unread}
@@ -20,7 +20,6 @@ use Rattle.vtoc_index.specs.Index.{IsMounted}
 use Rattle.vtoc_index.specs.declared.vol.Vol.{Vol}
 use Rattle.vtoc_sets.specs.Sets.{volume_in}
 use Rattle.volume_manager.specs.Lines.{check_text}
-use Rattle.volume_manager.specs.Mount.{IsPackIn}
 use Rattle.volume_manager.specs.Run.{FollowsTask}
 use Rattle.volume_manager.specs.Task.{Says, check_code, check_task}
 

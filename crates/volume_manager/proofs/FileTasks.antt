@@ -6,7 +6,6 @@ use Rattle.command_words.specs.declared.action.NewPack.{NewPack}
 use Rattle.command_words.specs.Requests.{Request, Run, Init, Names, Check}
 use Rattle.deck_cards.specs.Deck.{deck}
 use Rattle.deck_cards.specs.declared.reader.DeckErr.{DeckErr}
-use Rattle.job_deck.specs.Jobs.{jobs_of}
 use Rattle.pack_spec.specs.declared.MountErr.{MountErr}
 use Rattle.pack_spec.specs.declared.MountErr.TheVariants as mount
 use Rattle.pack_spec.specs.Shelf.{UnitRefusal, shelf_of}
@@ -23,7 +22,6 @@ use Rattle.volume_manager.specs.Lines.{unit_line, words_line}
 use Rattle.volume_manager.specs.Mount.{IsPackIn, RefusesFile}
 use Rattle.volume_manager.specs.Run.{DoesTask, FollowsTask, IsFinal}
 use Rattle.volume_manager.specs.Task.{Says, Task, cards_task, check_task, deck_task, init_task, items_of, missing_of, names_task, shelf_task, task_for, task_of, task_on}
-use Rattle.volume_manager.proofs.JobLines.{jobs_have_lines}
 use Rattle.volume_manager.proofs.Making.{nothing_made}
 use Rattle.volume_manager.proofs.Tasks.{kept_then, nothing_said}
 use Rattle.volume_manager.proofs.Works.{not_final, nothing_worked}
@@ -52,7 +50,7 @@ nothing_checked file {old} status same other = by_file file check_task (file_of 
 nothing_on_shelf : (date : List ℕ) (names : List (List ℕ)) (cards : List Card) (r : Result Shelf UnitRefusal) {old new : Meaning (List File)} (status : ℕ) → shelf_of (images_named old.state names) ≡ r → IsDurable old → OnlyNow old → Same old new → ¬ IsFinal status
     → FollowsTask (shelf_task date names cards r) old new status
 nothing_on_shelf date names cards (Err r) status is durable only same other = nothing_said _ 21 status same other
-nothing_on_shelf date names cards (Ok shelf) status is durable only same other = nothing_worked names shelf (items_of date cards shelf) status is (jobs_have_lines date (jobs_of date cards) shelf) durable only same other
+nothing_on_shelf date names cards (Ok shelf) status is durable only same other = nothing_worked names shelf (items_of date cards shelf) status is durable only same other
 
 nothing_on_cards : (date : List ℕ) (names : List (List ℕ)) (cards : List Card) (missing : Option (List ℕ)) {old new : Meaning (List File)} (status : ℕ) → IsDurable old → OnlyNow old → Same old new → ¬ IsFinal status
     → FollowsTask (cards_task date names cards old.state missing) old new status

@@ -1,6 +1,5 @@
 mod Listings
 mod Tasks
-mod JobLines
 mod Works
 mod Making
 mod FileTasks

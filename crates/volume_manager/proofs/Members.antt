@@ -17,7 +17,7 @@ use Rattle.stop_model.specs.Moments.{IsDurable, Meaning}
 use Rattle.vol_model.specs.declared.contents.Shelf.{Shelf}
 use Rattle.vol_model.specs.declared.contents.Volume.{Volume}
 use Rattle.vol_model.specs.Events.{events_of, operations_of}
-use Rattle.volume_manager.specs.Run.{DoesTask, Headline, IsFinal, IsUnbegun, LeavesFiles, MembersStayWhole}
+use Rattle.volume_manager.specs.Run.{DoesTask, Headline, IsFinal, IsUnbegun, KeepsFiles, LeavesFiles, MembersStayWhole}
 use Rattle.volume_manager.specs.Task.{Task, cards_task, check_task, deck_task, init_task, items_of, missing_of, names_task, shelf_task, task_for, task_of, task_on}
 use Rattle.volume_manager.specs.Words.{IsRun}
 
@@ -85,7 +85,7 @@ members_stay (Some (Run date names)) cards files = by_deck cards
     by_deck (Ok deck) = on_cards date names deck files (missing_of files names)
 
 -- what is promised of a task that is done or safe
-pub with_members : (request : Option Request) (tells : Bool) (input : List ℕ) (old new : Meaning (List File)) (status : ℕ) → DoesTask request tells input old new status → (IsUnbegun status → LeavesFiles old new)
+pub with_members : (request : Option Request) (tells : Bool) (input : List ℕ) (old new : Meaning (List File)) (status : ℕ) → DoesTask request tells input old new status → (IsUnbegun status → LeavesFiles old new) → (status ≡ 23 → KeepsFiles [] old new)
     → (¬ IsRun request → (status ≡ 22) ⊎ (status ≡ 25) → new.printed ≡ old.printed) → (IsFinal status ⊎ ((status ≡ 23) ⊎ (status ≡ 25)) → IsDurable new) → Headline request tells input old new status
-with_members request tells input old new status does unbegun silent durable =
-    record { does = does; members = members_stay request does.cards old.state; unbegun = unbegun; silent = silent; durable = durable }
+with_members request tells input old new status does unbegun unread silent durable =
+    record { does = does; members = members_stay request does.cards old.state; unbegun = unbegun; unread = unread; silent = silent; durable = durable }

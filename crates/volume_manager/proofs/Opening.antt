@@ -14,8 +14,7 @@ use Rattle.stop_model.specs.Files.{File}
 use Rattle.stop_model.specs.Moments.{Meaning, Same}
 use Rattle.vol_model.specs.declared.contents.Shelf.{Shelf}
 use Rattle.vol_model.specs.declared.contents.Volume.{Volume}
-use Rattle.vol_model.specs.Events.{Item, events_of}
-use Rattle.vol_model.proofs.Stops.{HaveLines}
+use Rattle.vol_model.specs.Events.{Item}
 use Rattle.volume_manager.specs.Lines.{unit_line}
 use Rattle.volume_manager.specs.Run.{FollowsTask, IsFinal, LeftOnlyNow, RunsItems}
 use Rattle.volume_manager.specs.Task.{Says, name_of}
@@ -104,12 +103,12 @@ module _ (names : List (List ℕ)) {old mid new : Meaning (List File)} (unit sta
     (refused : why ≢ mount.Memory → why ≢ mount.Device → shelf_of (images_named old.state names) ≡ Err (record { unit = unit; why = why }))
     (device : why ≡ mount.Device → status ≡ 22) (memory : why ≡ mount.Memory → status ≡ 25) where
   -- items on the shelf that the images stand for
-  pub unopened_items : {items : List Item} (shelf : Shelf) (t : ℕ) → HaveLines (events_of items)
+  pub unopened_items : {items : List Item} (shelf : Shelf) (t : ℕ)
       → ((why ≡ mount.Memory) ⊎ (why ≡ mount.Device) → RunsItems names shelf items t old.state old.printed mid status → RunsItems names shelf items t old.state old.printed new status)
       → shelf_of (images_named old.state names) ≡ Ok shelf → t ≤ old.clock → LeftOnlyNow old t → RunsItems names shelf items t old.state old.printed new status
-  unopened_items shelf t have stay stood early calm =
+  unopened_items shelf t stay stood early calm =
       ⊎_elim
-      (λ silent. stay silent (opening_failed t status have early calm stood (safe.some shelf stood) (unfinished why status device memory silent)))
+      (λ silent. stay silent (opening_failed t status early calm stood (safe.some shelf stood) (unfinished why status device memory silent)))
       (λ loud. let no = sym stood ∙ refused loud.0 loud.1 in absurd (cc no))
       (silent_or_not why)
 

@@ -20,11 +20,11 @@ use Rattle.stop_model.specs.Moments.{IsDurable, Meaning, Same}
 use Rattle.stop_model.proofs.MomentLemmas.{OnlyNow}
 use Rattle.vol_model.specs.declared.contents.Shelf.{Shelf}
 use Rattle.volume_manager.specs.Lines.{deck_line, unit_line}
-use Rattle.volume_manager.specs.Run.{Attachments, Causes, DoesTask, RunFacts, FollowsTask, IsFinal, IsStatus, IsUnasked, LeftOnlyNow, NoCountFell, RunsItems}
+use Rattle.volume_manager.specs.Run.{Attachments, Causes, DoesTask, RunFacts, FollowsTask, IsFinal, IsStatus, IsUnasked, KeepsFiles, LeftOnlyNow, NoCountFell, RunsItems}
 use Rattle.volume_manager.specs.Task.{Says, cards_task, items_of, missing_of, name_of, shelf_task, task_of}
 use Rattle.volume_manager.proofs.Attaching.{attaches_none}
 use Rattle.volume_manager.proofs.FileTasks.{nothing_of_deck, nothing_run, said_then}
-use Rattle.volume_manager.proofs.Tasks.{durable_left}
+use Rattle.volume_manager.proofs.Tasks.{durable_left, files_kept}
 use Rattle.volume_manager.proofs.Works.{calm_now, calm_then, not_final, worked_then}
 
 -- ---- cards over files
@@ -93,6 +93,10 @@ bytes_refused bytes source fault.Memory other ample is = absurd (ample refl)
 bytes_refused bytes source fault.Long other ample is = is
 bytes_refused bytes source (fault.Wide card) other ample is = is
 bytes_refused bytes source (fault.Byte card column) other ample is = is
+
+-- the cards couldn't be read: nothing was printed, and the files stay
+pub unread_keeps : {old new : Meaning (List File)} (e : DeckErr) (status : ℕ) → ((e ≡ fault.Read) ⊎ (e ≡ fault.Memory) → Same old new) → (e ≢ fault.Read → (status ≡ 26) ⊎ ((status ≡ 24) ⊎ (status ≡ 25))) → status ≡ 23 → KeepsFiles [] old new
+unread_keeps e status quiet loud read = ⊎_elim (λ silent. files_kept [] (quiet silent)) (λ other. absurd (omega (arith, read, loud other.0))) (deck_or_not e)
 
 -- one of the source
 pub source_failed : (bytes source : Type 0) (e : DeckErr) → e ≡ fault.Read → Refuses e bytes source → source

@@ -7,7 +7,7 @@ use Rattle.stop_model.specs.Moments.{IsDurable, Meaning, Same}
 use Rattle.volume_manager.specs.Run.{AddsPrefix, FollowsTask, IsFinal, KeepsFiles, LeavesFiles, PrintsText}
 use Rattle.volume_manager.specs.Task.{Says}
 
--- a text between one and the same with more behind it
+-- a text between one and the same with more after it
 between : (old p new q text : List ℕ) → IsPrefixOf old p → IsPrefixOf p new → new ≡ old ++ q → IsPrefixOf q text → AddsPrefix text old p
 between old p new q text begins ends more part =
     let joined : begins.0 ++ ends.0 ≡ q =

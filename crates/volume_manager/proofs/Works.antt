@@ -1,7 +1,8 @@
 -- Items on the shelf of images, from the machine's words to those of the files.
 use Rattle.std.proofs.Common.{◌≡◌, ◌≢◌, ⊎_elim, inr, ℕ, suc, ◌<◌, ◌≤◌, ◌+◌, ◌++◌, Bool, List, [], ◌∷◌, length, refl, sym, ◌∙◌, ap, subst, arith}
-use Rattle.std.specs.Prelude.{◌⊎◌, IsTrue, Option, Some, None, Result, Ok, Err, slice_get, take}
+use Rattle.std.specs.Prelude.{◌⊎◌, IsErrAnd, IsTrue, Option, Some, None, Result, Ok, Err, slice_get, take}
 use Rattle.std.proofs.lemmas.List.{append-nil, length-set}
+use Rattle.std.proofs.lemmas.Result.{err_from_is_err_and}
 use Rattle.free_rebuild.specs.Repairs.{image_named}
 use Rattle.stop_model.specs.Files.{File}
 use Rattle.stop_model.specs.Moments.{IsDurable, Meaning, Same}
@@ -18,8 +19,10 @@ use Rattle.vol_model.specs.declared.contents.Shelf.{Shelf}
 use Rattle.vol_model.specs.declared.contents.Volume.{Volume}
 use Rattle.vol_model.specs.declared.refusals.Refusal.{Refusal}
 use Rattle.vol_model.specs.declared.requests.Op.{Op}
-use Rattle.vol_model.proofs.Stops.{HaveLines, stands, stops_start}
-use Rattle.volume_manager.specs.Run.{AllItemsDone, FollowsTask, IsFinal, IsStopIn, LeavesShelf, LeftOnlyNow, OnlySynced, RunsItems}
+use Rattle.vol_model.proofs.Stops.{stands, stops_start}
+use Rattle.volume_manager.specs.Run.{AllItemsDone, FollowsTask, IsFinal, IsStopIn, LeavesShelf, LeftOnlyNow, OnlySynced, RunsItems, status_of}
+use Rattle.volume_manager.specs.declared.cause.Cause.{Cause}
+use Rattle.volume_manager.specs.declared.cause.Cause.TheVariants as cause
 use Rattle.volume_manager.specs.Task.{Works}
 
 -- ---- the number of volumes
@@ -83,14 +86,14 @@ safe_as : (names : List (List ℕ)) (volumes : List Volume) (before files : List
 safe_as names volumes before files is = subst (λ (all : List File). AreSafe names volumes before all) (sym is) (safe_same names volumes before)
 
 -- a stop while no item has begun
-pub stopped_before : (names : List (List ℕ)) (shelf : Shelf) (items : List Item) (before : List File) (start : List ℕ) (files : List File) (printed : List ℕ) → HaveLines (events_of items) → shelf_of (images_named files names) ≡ Ok shelf → AreSafe names shelf.volumes before files → printed ≡ start
+pub stopped_before : (names : List (List ℕ)) (shelf : Shelf) (items : List Item) (before : List File) (start : List ℕ) (files : List File) (printed : List ℕ) → shelf_of (images_named files names) ≡ Ok shelf → AreSafe names shelf.volumes before files → printed ≡ start
     → IsStopIn names shelf items before start files printed
-stopped_before names shelf items before start files printed have stood safe text = record {
+stopped_before names shelf items before start files printed stood safe text = record {
   left = shelf;
   stands = stood;
   front = [];
   text = text ∙ sym (append-nil start);
-  place = stands shelf (events_of items) shelf [] have (stops_start shelf (events_of items));
+  place = stands shelf (events_of items) shelf [] (stops_start shelf (events_of items));
   safe = safe;
 }
 
@@ -104,6 +107,10 @@ calm_then t same early calm durable files printed left =
     ⊎_elim (λ before. let is = calm files printed before in (is.0 ∙ sym same.state, is.1 ∙ sym same.printed))
     (λ now. (durable files now.0 ∙ sym same.state, now.1 ∙ sym same.printed))
     ((same.time.since t files printed early).0 left)
+
+-- want of memory that a `?` hands on
+pub out_of_memory : (ended : Result ℕ Cause) → IsErrAnd ended (λ e. e ≡ cause.Memory) → status_of ended ≡ 25
+out_of_memory ended given = let p = err_from_is_err_and ended given in ap status_of (p.1 ∙ ap Err p.2)
 
 -- the outcome of items is a status with which the program ends, and no fault
 pub not_final : (status fault : ℕ) → status ≡ fault → 21 < fault → fault < 26 → ¬ IsFinal status
@@ -122,14 +129,14 @@ opened_stop {names} {shelf} {old} t early calm stood opens files printed left =
     (opens.moments.moments t files printed early left)
 
 -- an opening that wasn't done
-pub opening_failed : {names : List (List ℕ)} {shelf : Shelf} {items : List Item} {old new : Meaning (List File)} (t status : ℕ) → HaveLines (events_of items) → t ≤ old.clock → LeftOnlyNow old t → shelf_of (images_named old.state names) ≡ Ok shelf → OpensSafely names shelf old new → ¬ IsFinal status
+pub opening_failed : {names : List (List ℕ)} {shelf : Shelf} {items : List Item} {old new : Meaning (List File)} (t status : ℕ) → t ≤ old.clock → LeftOnlyNow old t → shelf_of (images_named old.state names) ≡ Ok shelf → OpensSafely names shelf old new → ¬ IsFinal status
     → RunsItems names shelf items t old.state old.printed new status
-opening_failed {names} {shelf} {items} {old} {new} t status have early calm stood opens other = record {
+opening_failed {names} {shelf} {items} {old} {new} t status early calm stood opens other = record {
   ends = λ final. absurd (other final);
   later = omega (arith, early, opens.moments.later);
   stops = λ files printed left.
       let stop = opened_stop t early calm stood opens files printed left in
-      stopped_before names shelf items old.state old.printed files printed have stop.0 stop.1.0 stop.1.1;
+      stopped_before names shelf items old.state old.printed files printed stop.0 stop.1.0 stop.1.1;
 }
 
 -- ---- items on a shelf that is open
@@ -143,13 +150,13 @@ pub record AllItemsRun (names : List (List ℕ)) (shelf : Shelf) (items : List I
   pub settled : AreSettledImages names new.state
   pub safe : AreSafe names shelf.volumes before new.state
 
-module _ (names : List (List ℕ)) (shelf : Shelf) (items : List Item) (have : HaveLines (events_of items)) (t : ℕ) (before : List File)
+module _ (names : List (List ℕ)) (shelf : Shelf) (items : List Item) (t : ℕ) (before : List File)
     (shown : List File → Shelf) (shows : Shows names shown shelf) (mid new : Meaning (List File)) (early : t ≤ mid.clock) (begun : LeavesShelf names shelf mid t) (state : shown mid.state ≡ shelf)
     (safe : (files : List File) (printed : List ℕ) → new.left_since t files printed → AreSafe names shelf.volumes before files) where
   -- where a stop stands, by the machine's shelf
   stopped : (files : List File) (printed q : List ℕ) → new.left_since t files printed → printed ≡ mid.printed ++ q → StopsIn shelf (events_of items) (shown files) q → IsStopIn names shelf items before mid.printed files printed
   stopped files printed q left text stop =
-      let place = stands shelf (events_of items) (shown files) q have stop in
+      let place = stands shelf (events_of items) (shown files) q stop in
       record {
         left = shown files;
         stands = shows.back files (ap (λ (s : Shelf). length s.volumes) place.state ∙ volumes_stay (take place.count (operations_of (events_of items))) shelf);
@@ -242,9 +249,9 @@ works_short {t = t} status which counts early synced stops = record {
 -- ---- items as a task
 
 -- items none of which was begun
-pub nothing_worked : (names : List (List ℕ)) (shelf : Shelf) (items : List Item) {old new : Meaning (List File)} (status : ℕ) → shelf_of (images_named old.state names) ≡ Ok shelf → HaveLines (events_of items) → IsDurable old → OnlyNow old → Same old new → ¬ IsFinal status
+pub nothing_worked : (names : List (List ℕ)) (shelf : Shelf) (items : List Item) {old new : Meaning (List File)} (status : ℕ) → shelf_of (images_named old.state names) ≡ Ok shelf → IsDurable old → OnlyNow old → Same old new → ¬ IsFinal status
     → FollowsTask (Works names shelf items) old new status
-nothing_worked names shelf items {old} status stood have durable only same other = record {
+nothing_worked names shelf items {old} status stood durable only same other = record {
   ends = λ final. absurd (other final);
   silent = λ short. tt;
   stops = record {
@@ -252,7 +259,7 @@ nothing_worked names shelf items {old} status stood have durable only same other
     stops = λ files printed left.
         let is = ⊎_elim (λ before. only files printed before) (λ now. now) ((same.time.since old.clock files printed (omega arith)).0 left) in
         let here = durable files is.0 in
-        stopped_before names shelf items old.state old.printed files printed have (ap (λ (all : List File). shelf_of (images_named all names)) here ∙ stood) (safe_as names shelf.volumes old.state files here) is.1;
+        stopped_before names shelf items old.state old.printed files printed (ap (λ (all : List File). shelf_of (images_named all names)) here ∙ stood) (safe_as names shelf.volumes old.state files here) is.1;
   };
 }
 

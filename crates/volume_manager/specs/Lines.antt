@@ -19,11 +19,11 @@ line text = text ++ 10 ∷ []
 unfoldable pub words_line : List ℕ
 words_line = line (codes "VOLMAN WORDS")
 
--- a number in decimal, behind a blank
+-- a number in decimal, after a blank
 abbrev pub number_text : ℕ → List ℕ
 number_text n = 32 ∷ decimal n
 
--- a word, and numbers behind it
+-- a word, and numbers after it
 abbrev pub with_numbers : List ℕ → List ℕ → List ℕ
 with_numbers word numbers = word ++ flat_map number_text numbers
 
@@ -102,7 +102,7 @@ check_text serial settled unread = check_line serial settled ++ flat_map unread_
 unfoldable pub init_line : List ℕ → List ℕ
 init_line serial = line (codes "INIT " ++ shown serial)
 
--- a name on a line of its own, in ASCII and without the blanks behind it
+-- a name on a line of its own, in ASCII and without the blanks after it
 unfoldable pub name_line : List ℕ → List ℕ
 name_line name = line (shown name)
 

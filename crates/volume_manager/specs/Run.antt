@@ -1,5 +1,5 @@
 -- What a run of the program leaves.
-use Rattle.std.specs.Prelude.{◌≡◌, ◌≢◌, ◌⊎◌, ℕ, ◌≤◌, Bool, List, [], ◌∷◌, ◌++◌, map, take, Option, Some, None, Result, Ok, IsTrue, ⊤}
+use Rattle.std.specs.Prelude.{◌≡◌, ◌≢◌, ◌⊎◌, ℕ, ◌≤◌, Bool, List, [], ◌∷◌, ◌++◌, map, take, Option, Some, None, Result, Ok, Err, IsTrue, ⊤}
 use Rattle.card_text.specs.declared.cards.Card.{Card}
 use Rattle.command_words.specs.declared.action.NewPack.{NewPack}
 use Rattle.command_words.specs.Requests.{Request, Run, Init, Names, Check}
@@ -20,20 +20,23 @@ use Rattle.vol_model.specs.Events.{Item, StandsIn, events_of, listing, operation
 use Rattle.volume_manager.specs.Lines.{init_line}
 use Rattle.volume_manager.specs.Task.{IsSilent, Task, Says, Works, Makes, task_of}
 use Rattle.volume_manager.specs.Words.{IsRefused, IsRun}
-use Rattle.volume_manager.specs.declared.status.Status.{Status}
-use Rattle.volume_manager.specs.declared.status.Status.TheVariants.{Done, Unsettled, Words, Unit, Device, Cards, Print, Memory, Deck}
+use Rattle.volume_manager.specs.declared.cause.Cause.{Cause}
+use Rattle.volume_manager.specs.declared.cause.Cause.TheVariants as cause
 
--- the number of a status
-abbrev pub code_of : Status → ℕ
-code_of Done = 0
-code_of Unsettled = 4
-code_of Words = 20
-code_of Unit = 21
-code_of Device = 22
-code_of Cards = 23
-code_of Print = 24
-code_of Memory = 25
-code_of Deck = 26
+-- the status for a cause
+abbrev pub code_of : Cause → ℕ
+code_of cause.Words = 20
+code_of cause.Unit = 21
+code_of cause.Device = 22
+code_of cause.Cards = 23
+code_of cause.Print = 24
+code_of cause.Memory = 25
+code_of cause.Deck = 26
+
+-- the status with which the program ends: a condition code, or that of a cause
+abbrev pub status_of : Result ℕ Cause → ℕ
+status_of (Ok code) = code
+status_of (Err cause) = code_of cause
 
 -- a number with which the program ends: a condition code, or the number of a refusal or a fault
 abbrev pub IsStatus : ℕ → Type 0
@@ -43,7 +46,7 @@ IsStatus n = (n ≤ 16) ⊎ ((20 ≤ n) × (n ≤ 26))
 abbrev pub IsFinal : ℕ → Type 0
 IsFinal n = (n ≤ 21) ⊎ (n ≡ 26)
 
--- a prefix of the text stands behind what was printed
+-- a prefix of the text stands after what was printed
 abbrev pub AddsPrefix : List ℕ → List ℕ → List ℕ → Type 0
 AddsPrefix text old new = (q : List ℕ) × IsPrefixOf q text × (new ≡ old ++ q)
 
@@ -58,7 +61,7 @@ pub record AllItemsDone (names : List (List ℕ)) (shelf : Shelf) (items : List 
   pub durable : IsDurable new
   pub safe : AreSafe names shelf.volumes before new.state
 
--- the whole new pack stands in its file, behind the files that were there
+-- the whole new pack stands in its file, after the files that were there
 abbrev pub HasNewPack : NewPack → List ℕ → List File → List File → Type 0
 HasNewPack pack file files j = (image : List ℕ) × (j ≡ with_file files file image) × IsNewImage pack.geometry pack.serial.bytes pack.vtoc image
 
@@ -75,7 +78,7 @@ IsTaskDone (Says code text) old new status = (status ≡ code) × (new.printed �
 IsTaskDone (Works names shelf items) old new status = AllItemsDone names shelf items old.state old.printed new status
 IsTaskDone (Makes pack file) old new status = PackMade pack file old new status
 
--- What a stop leaves of a run of items: behind what was printed a prefix of their lines; images that stand for the shelf after some of their operations, all that are reported and none that can't have begun; and each image guarded or with the VTOC of the begin, and other files as before.
+-- What a stop leaves of a run of items: after what was printed a prefix of their lines; images that stand for the shelf after some of their operations, all that are reported and none that can't have begun; and each image guarded or with the VTOC of the begin, and other files as before.
 pub record IsStopIn (names : List (List ℕ)) (shelf : Shelf) (items : List Item)
     (before : List File) (start : List ℕ) (files : List File) (printed : List ℕ) : Type 0 where
   pub left : Shelf
@@ -158,17 +161,17 @@ pub record NoCountFell (old new : Facts) : Type 0 where
   pub devices : old.dev_faults ≤ new.dev_faults
   pub prints : old.print_faults ≤ new.print_faults
 
--- The units that stood stay, and at most this file was attached behind them.
+-- The units that stood stay, and at most this file was attached after them.
 abbrev pub AttachesAtMost : List ℕ → Facts → Facts → Type 0
 AttachesAtMost name old new = (new.units ≡ old.units)
     ⊎ ((size : ℕ) × (new.units ≡ old.units ++ record { name = name; size = size } ∷ []))
 
--- The units that stood stay, and some first ones of these files were attached behind them.
+-- The units that stood stay, and some first ones of these files were attached after them.
 abbrev pub AttachesFirst : List (List ℕ) → Facts → Facts → Type 0
 AttachesFirst names old new = (count : ℕ) × (added : List Attached)
     × (map (λ (u : Attached). u.name) added ≡ take count names) × (new.units ≡ old.units ++ added)
 
--- The units that stood stay, and at most the files that are asked for were attached behind them, in order.
+-- The units that stood stay, and at most the files that are asked for were attached after them, in order.
 abbrev pub AttachesAsked : Option Request → Facts → Facts → Type 0
 AttachesAsked None old new = new.units ≡ old.units
 AttachesAsked (Some (Run date files)) old new = AttachesFirst files old new
@@ -216,11 +219,12 @@ abbrev pub MembersStayWhole : Task → Type 0
 MembersStayWhole (Works names shelf items) = StaysWhole shelf (operations_of (events_of items))
 MembersStayWhole task = ⊤
 
--- What the program promises: the task is done or safe, and keeps members whole; where nothing was begun the files stay; a fault in a task without a deck prints nothing; and but for a fault of the device or of the printer no write is pending then.
+-- What the program promises: the task is done or safe, and keeps members whole; where nothing was begun the files stay; where the cards couldn't be read nothing was printed either, and every stop left what was there; a fault in a task without a deck prints nothing; and but for a fault of the device or of the printer no write is pending then.
 pub record Headline (request : Option Request) (tells : Bool) (input : List ℕ) (old new : Meaning (List File)) (status : ℕ) : Type 0 where
   pub does : DoesTask request tells input old new status
   pub members : MembersStayWhole (task_of request does.cards old.state)
   pub unbegun : IsUnbegun status → LeavesFiles old new
+  pub unread : status ≡ 23 → KeepsFiles [] old new
   pub silent : ¬ IsRun request → (status ≡ 22) ⊎ (status ≡ 25) → new.printed ≡ old.printed
   pub durable : IsFinal status ⊎ ((status ≡ 23) ⊎ (status ≡ 25)) → IsDurable new
 

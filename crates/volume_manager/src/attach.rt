@@ -5,6 +5,7 @@ ghost use Rattle.shelf_machine.specs.Opening.{AreApart};
 ghost use Rattle.stop_model.specs.Counts.{Rose};
 ghost use Rattle.stop_model.specs.Files.{file_of};
 ghost use Rattle.stop_model.specs.Moments.{Same};
+ghost use Rattle.vol_model.specs.declared.TheConstants.{MAX_UNITS};
 ghost use Rattle.volume_manager.specs.Run.{AttachesFirst, NoCountFell};
 ghost use Rattle.volume_manager.specs.Task.{missing_of};
 
@@ -53,7 +54,7 @@ pub struct Refused<'a> {
 /// Nothing but the time changes of the files. The reasons are those of [`attach`].
 pub fn attach_all<'a, H: Hall>(hall: &mut H, files: &[&'a str]) -> Result<(), Refused<'a>>
     requires none { (H.facts hall.old).units ≡ [] }
-    requires few { length files.now ≤ 8 }
+    requires few { length files.now ≤ MAX_UNITS }
     requires apart { AreApart (map (λ f. f.now) files.now) }
     ensures files { IsTrue H.tells → Same (H.meaning hall.old) (H.meaning hall.new) }
     ensures there { IsTrue H.tells → OnOk result

@@ -6,12 +6,12 @@ ghost use Rattle.stop_model.specs.Counts.{Rose};
 ghost use Rattle.stop_model.specs.Files.{file_of};
 ghost use Rattle.vtoc_sets.specs.Sets.{volume_in};
 ghost use Rattle.volume_manager.specs.Lines.{check_text};
-ghost use Rattle.volume_manager.specs.Run.{FileFacts, FollowsTask, LeavesFiles, NoCountFell, code_of};
+ghost use Rattle.volume_manager.specs.Run.{FileFacts, FollowsTask, LeavesFiles, NoCountFell, status_of};
 ghost use Rattle.volume_manager.specs.Task.{check_code, check_task, task_on};
 
+use crate::cause::Cause;
 use crate::end::{end, refuse};
 use crate::mount::scan_file;
-use crate::status::Status;
 use crate::text::check_text;
 use hall_core::Hall;
 use mount_repair::Scan;
@@ -20,14 +20,14 @@ use std::alloc::{AllocError, Global};
 
 /// Prints whether the pack in a file is settled, and then each data set but SYSCTLG whose body can't be read, with the
 /// first relative track that breaks it. The status is 0 where it is settled and nothing else is printed, and else 4.
-pub fn check<H: Hall>(alloc: Global, hall: &mut H, file: &str) -> u8
+pub fn check<H: Hall>(alloc: Global, hall: &mut H, file: &str) -> Result<u8, Cause>
     requires { (H.facts hall.old).units ≡ [] }
     ensures task { IsTrue H.tells → FollowsTask (task_on file.now check_task (file_of (H.meaning hall.old).state file.now))
-        (H.meaning hall.old) (H.meaning hall.new) result }
+        (H.meaning hall.old) (H.meaning hall.new) (status_of result) }
     ensures files { IsTrue H.tells → LeavesFiles (H.meaning hall.old) (H.meaning hall.new) }
-    ensures silent { IsTrue H.tells → (result ≡ 22) ⊎ (result ≡ 25)
+    ensures silent { IsTrue H.tells → (status_of result ≡ 22) ⊎ (status_of result ≡ 25)
         → (H.meaning hall.new).printed ≡ (H.meaning hall.old).printed }
-    ensures facts { FileFacts file.now (H.facts hall.old) (H.facts hall.new) result }
+    ensures facts { FileFacts file.now (H.facts hall.old) (H.facts hall.new) (status_of result) }
 {
     match scan_file(alloc, hall, file) {
         Ok(scanned) => say(alloc, hall, &scanned),
@@ -36,45 +36,49 @@ pub fn check<H: Hall>(alloc: Global, hall: &mut H, file: &str) -> u8
 }
 
 // Prints what a scan tells of its pack, and gives the status.
-fn say<H: Hall>(alloc: Global, hall: &mut H, scanned: &Scan) -> u8
+fn say<H: Hall>(alloc: Global, hall: &mut H, scanned: &Scan) -> Result<u8, Cause>
     ensures task { IsTrue H.tells → (image : List ℕ) → IsScanOf image scanned.now
         → FollowsTask (check_task image (volume_in image scanned.now.vol))
-        (H.meaning hall.old) (H.meaning hall.new) result }
+        (H.meaning hall.old) (H.meaning hall.new) (status_of result) }
     ensures files { IsTrue H.tells → LeavesFiles (H.meaning hall.old) (H.meaning hall.new) }
-    ensures silent { result ≡ 25 → hall.new ≡ hall.old }
-    ensures status { (result ≤ 4) ⊎ ((result ≡ 24) ⊎ (result ≡ 25)) }
-    ensures print { result ≡ 24 → Rose (H.facts hall.old).print_faults (H.facts hall.new).print_faults }
+    ensures silent { status_of result ≡ 25 → hall.new ≡ hall.old }
+    ensures status { (status_of result ≤ 4) ⊎ ((status_of result ≡ 24) ⊎ (status_of result ≡ 25)) }
+    ensures print { status_of result ≡ 24 → Rose (H.facts hall.old).print_faults (H.facts hall.new).print_faults }
     ensures later { NoCountFell (H.facts hall.old) (H.facts hall.new) }
     ensures references { (H.facts hall.new).references ≡ (H.facts hall.old).references }
     ensures units { (H.facts hall.new).units ≡ (H.facts hall.old).units }
 {
-    match found(alloc, scanned) {
-        Ok((text, status)) => end(hall, &text, status),
-        Err(AllocError) => Status::Memory.code(),
-    }
+    let found = found(alloc, scanned)?;
+    end(hall, &found.text, Ok(found.code))
 }
 
-// The text on a pack that was scanned, and the status.
-fn found(alloc: Global, scanned: &Scan) -> Result<(Vec<u8>, Status), AllocError>
-    ensures text { let unread = unread_in scanned.now.volume.items in IfOk result (λ r. r.0.items
+// What a scan tells of its pack.
+#[derive(Drop)]
+struct Finding {
+    // The text that is printed.
+    text: Vec<u8>,
+    // The code with which the program ends.
+    code: u8,
+}
+
+// The text on a pack that was scanned, and the code.
+fn found(alloc: Global, scanned: &Scan) -> Result<Finding, AllocError>
+    ensures text { let unread = unread_in scanned.now.volume.items in IfOk result (λ r. r.text.items
         ≡ check_text scanned.now.vol.serial.bytes scanned.now.settled unread) }
     ensures status { let unread = unread_in scanned.now.volume.items in
-        IfOk result (λ r. code_of r.1 ≡ check_code scanned.now.settled unread) }
-    ensures low { IfOk result (λ r. code_of r.1 ≤ 4) }
+        IfOk result (λ r. r.code ≡ check_code scanned.now.settled unread) }
+    ensures low { IfOk result (λ r. r.code ≤ 4) }
 {
     let unread = unread_of(alloc, &scanned.volume)?;
     let text = check_text(alloc, &scanned.vol.serial, scanned.settled, &unread)?;
-    Ok((text, status(scanned.settled, &unread)))
+    let code = code(scanned.settled, &unread);
+    Ok(Finding { text, code })
 }
 
-// The status for a pack that is settled or not, of which these bodies can't be read.
-fn status(settled: bool, unread: &[Unread]) -> Status
-    ensures code { code_of result ≡ check_code settled unread.now }
-    ensures low { code_of result ≤ 4 }
+// The code for a pack that is settled or not, of which these bodies can't be read.
+fn code(settled: bool, unread: &[Unread]) -> u8
+    ensures code { result ≡ check_code settled unread.now }
+    ensures low { result ≤ 4 }
 {
-    if settled && unread.is_empty() {
-        Status::Done
-    } else {
-        Status::Unsettled
-    }
+    if settled && unread.is_empty() { 0 } else { 4 }
 }

@@ -3,6 +3,7 @@
 #![tactic(auto)]
 
 mod attach;
+mod cause;
 mod check;
 mod end;
 mod init;
@@ -10,10 +11,9 @@ mod mount;
 mod names;
 mod reason;
 mod run;
-mod status;
 mod text;
 mod top;
 mod work;
 
-pub use status::Status;
+pub use cause::NO_MEMORY;
 pub use top::volman;

@@ -18,7 +18,7 @@ use vtoc_index::{MountErr, Vol, read_vtoc};
 ///
 /// `NoFile` comes where the file is missing, `Device` where the device failed, and `Memory` where memory
 /// ran out; any other error is the first rule of mounting that the image breaks. Nothing but the time
-/// changes, also behind an error, but that the file may be attached then.
+/// changes, also after an error, but that the file may be attached then.
 #[tactic(auto, using(stop_model::proofs::MomentLemmas::same_then))]
 pub fn mount<H: Hall>(alloc: Global, hall: &mut H, file: &str) -> Result<Vol, MountErr>
     requires { (H.facts hall.old).units ≡ [] }

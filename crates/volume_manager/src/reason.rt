@@ -67,7 +67,7 @@ fn push_image_reason(text: &mut Vec<u8>, why: ImageErr) -> Result<(), AllocError
     }
 }
 
-// Adds a word, and the number of a slot behind it.
+// Adds a word, and the number of a slot after it.
 fn push_slot(text: &mut Vec<u8>, word: &str, slot: u32) -> Result<(), AllocError>
     ensures { OnOk result (text.new.items ≡ text.old.items ++ with_numbers word.now (slot ∷ [])) }
 {
@@ -102,7 +102,7 @@ fn push_place(text: &mut Vec<u8>, word: &str, card: u32, column: u8) -> Result<(
     push_words(text, word, &[u64::from(card), u64::from(column)])
 }
 
-// Adds a word, and numbers behind it.
+// Adds a word, and numbers after it.
 fn push_words(text: &mut Vec<u8>, word: &str, numbers: &[u64]) -> Result<(), AllocError>
     ensures { OnOk result (text.new.items ≡ text.old.items ++ with_numbers word.now numbers.now) }
 {
@@ -113,7 +113,7 @@ fn push_words(text: &mut Vec<u8>, word: &str, numbers: &[u64]) -> Result<(), All
     Ok(())
 }
 
-/// Adds a number in decimal, behind a blank.
+/// Adds a number in decimal, after a blank.
 pub fn push_number(text: &mut Vec<u8>, number: u64) -> Result<(), AllocError>
     ensures { OnOk result (text.new.items ≡ text.old.items ++ number_text number) }
 {

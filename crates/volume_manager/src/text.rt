@@ -114,7 +114,7 @@ pub fn init_line(alloc: Global, serial: &Serial) -> Result<Vec<u8>, AllocError>
     Ok(line)
 }
 
-/// The names, each on a line without the blanks behind it.
+/// The names, each on a line without the blanks after it.
 #[tactic(auto, unfolding(crate::specs::Lines::names_listing))]
 pub fn listing(alloc: Global, names: &[[u8; 44]]) -> Result<Vec<u8>, AllocError>
     ensures { IfOk result (λ text. text.items ≡ names_listing names.now) }

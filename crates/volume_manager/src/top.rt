@@ -1,15 +1,15 @@
 //! The top call: all that the program does.
 ghost use Rattle.std.specs.Prelude.{◌≡◌, [], map, string_bytes, IsTrue};
 ghost use Rattle.command_words.specs.Requests.{request_of};
-ghost use Rattle.volume_manager.specs.Run.{Attachments, Causes, Headline, ReadsDeck};
+ghost use Rattle.volume_manager.specs.Run.{Attachments, Causes, Headline, ReadsDeck, status_of};
 ghost use Rattle.volume_manager.specs.Words.{IsRun};
 
+use crate::cause::{Cause, status_of};
 use crate::check::check;
 use crate::end::end;
 use crate::init::init;
 use crate::names::names;
 use crate::run::run_deck;
-use crate::status::Status;
 use crate::text::WORDS_LINE;
 use command_words::{Action, action_of};
 use hall_core::{Cards, Hall};
@@ -42,7 +42,7 @@ pub fn volman<C: Cards, H: Hall>(alloc: Global, words: &[String], cards: &mut C,
     requires { (H.facts hall.old).units ≡ [] }
 
     // The headline: run without a stop all that is asked for is done and printed; a stop at any moment leaves what a
-    // prefix of the operations leaves; and what is refused changes nothing.
+    // prefix of the operations leaves; and what is refused, or can't be read, changes nothing.
     ensures headline { IsTrue H.tells → Headline (request_of (map string_bytes words.now)) C.tells (C.left cards.old)
         (H.meaning hall.old) (H.meaning hall.new) result }
 
@@ -56,9 +56,29 @@ pub fn volman<C: Cards, H: Hall>(alloc: Global, words: &[String], cards: &mut C,
     ensures units { Attachments (request_of (map string_bytes words.now)) C.tells (C.left cards.old)
         (H.facts hall.old) (H.facts hall.new) result }
 {
+    status_of(act(alloc, words, cards, hall))
+}
+
+// Does what the words ask for, and ends with a condition code, or with the cause of another status.
+fn act<C: Cards, H: Hall>(
+    alloc: Global,
+    words: &[String],
+    cards: &mut C,
+    hall: &mut H,
+) -> Result<u8, Cause>
+    requires { (H.facts hall.old).units ≡ [] }
+    ensures headline { IsTrue H.tells → Headline (request_of (map string_bytes words.now)) C.tells (C.left cards.old)
+        (H.meaning hall.old) (H.meaning hall.new) (status_of result) }
+    ensures causes { Causes (request_of (map string_bytes words.now)) C.tells (C.left cards.old)
+        (C.faults cards.old) (C.faults cards.new) (H.facts hall.old) (H.facts hall.new) (status_of result) }
+    ensures deck { IsTrue C.tells → ReadsDeck (request_of (map string_bytes words.now)) (C.left cards.new) (status_of result) }
+    ensures cards { ¬ IsRun (request_of (map string_bytes words.now)) → cards.new ≡ cards.old }
+    ensures units { Attachments (request_of (map string_bytes words.now)) C.tells (C.left cards.old)
+        (H.facts hall.old) (H.facts hall.new) (status_of result) }
+{
     match action_of(alloc, words) {
-        Err(AllocError) => Status::Memory.code(),
-        Ok(None) => end(hall, WORDS_LINE, Status::Words),
+        Err(AllocError) => Err(Cause::Memory),
+        Ok(None) => end(hall, WORDS_LINE, Err(Cause::Words)),
         Ok(Some(Action::Names { file })) => names(alloc, hall, file),
         Ok(Some(Action::Check { file })) => check(alloc, hall, file),
         Ok(Some(Action::Init { pack, file })) => init(alloc, hall, file, &pack),

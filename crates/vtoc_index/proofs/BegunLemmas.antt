@@ -1,4 +1,4 @@
--- Writes behind reads, and writes that were not begun.
+-- Writes after reads, and writes that were not begun.
 use Rattle.std.proofs.Common.{◌≡◌, ◌⊎◌, inl, inr, ⊎_elim, ◌<◌, ◌≤◌, ℕ, List, [], sym, ◌∙◌, ap, subst, arith}
 use Rattle.std.specs.Prelude.{Result, Ok, Err, IsErr, OnErr, OnOk}
 use Rattle.std.proofs.lemmas.Result.{IfOk-from_err}

@@ -10,7 +10,7 @@ abbrev pub first_from : (ℕ × VtocSlot → Option MountErr) → List VtocSlot 
 first_from rule ss i = slice_get (filter_map rule (enumerate_from i (drop i ss))) 0
 
 module _ (rule : ℕ × VtocSlot → Option MountErr) (ss : List VtocSlot) (i : ℕ) (d : VtocSlot) where
-  -- this one and those behind it
+  -- this one and those after it
   front : i < length ss → first_from rule ss i ≡ slice_get (cons_option (rule (i, get_or ss i d)) (filter_map rule (enumerate_from (i + 1) (drop (i + 1) ss)))) 0
   front below = ap (λ (xs : List VtocSlot). slice_get (filter_map rule (enumerate_from i xs)) 0) (drop_more ss i d below)
 

@@ -5,7 +5,7 @@ use Rattle.std.specs.List.{range_with_len}
 use Rattle.std.proofs.lemmas.Bool.{cases_lt, cond-true, cond-false, le-leb, lt-leb}
 use Rattle.vtoc_index.specs.Index.{AreFirsts, track_index}
 
--- a first slot that doesn't stand behind another
+-- a first slot that doesn't stand after another
 abbrev pub passes : ℕ → ℕ → Bool
 passes slot first = nat_le first slot
 
@@ -15,7 +15,7 @@ kept slot first firsts low = ap length (cond-true (nat_le first slot) (first ∷
 left_out : (slot first : ℕ) (firsts : List ℕ) → slot < first → length (filter (passes slot) (first ∷ firsts)) ≡ length (filter (passes slot) firsts)
 left_out slot first firsts high = ap length (cond-false (nat_le first slot) (first ∷ filter (passes slot) firsts) (filter (passes slot) firsts) (lt-leb first slot high))
 
--- The track that holds a slot, by the first slots of all: the last that doesn't stand behind it.
+-- The track that holds a slot, by the first slots of all: the last that doesn't stand after it.
 pub record Located (firsts : List ℕ) (slot : ℕ) : Type 0 where
   pub index : ℕ
   pub passed : length (filter (passes slot) firsts) ≡ suc index

@@ -41,7 +41,7 @@ behind_first : (b : Bool) (o : Option MountErr) → b ≡ false → cond b None 
 behind_first true o h e = cc
 behind_first false o h e = e
 
--- the format 1 in a slot behind it
+-- the format 1 in a slot after it
 behind_good : (g : Geometry) (ss : List VtocSlot) (k n : ℕ) (s : VtocSlot) (f : F1) → n ≡ suc k → slot_fault g ss n s ≡ None → s.content ≡ Ok (formats.F1 f) → has_extents g ss f ≡ true
 unfolding slot_fault extents_fault
 behind_good g ss k n s f number none is =

@@ -58,7 +58,7 @@ held_more s (Ok d) ds ys is none rest =
     ap (λ (r : Result Dscb DscbErr). r ∷ map (λ (t : VtocSlot). t.content) ys) is ∙ ap (λ (l : List (Result Dscb DscbErr)). Ok d ∷ l) rest
 held_more s (Err e) ds ys is none rest = absurd (none e refl)
 
--- a slot behind slot 0 that breaks no rule holds one
+-- a slot after slot 0 that breaks no rule holds one
 not_refused : (g : Geometry) (ss : List VtocSlot) (k : ℕ) (c : Result Dscb DscbErr) (e : DscbErr) → content_fault g ss k c ≡ None → c ≡ Err e → ⊥
 not_refused g ss k (Ok d) e none is = cc
 not_refused g ss k (Err (Unsupported b)) e none is = cc

@@ -31,7 +31,7 @@ all_insert P key [] (suc q) x here all = (here, tt)
 all_insert P key (y ∷ ys) zero x here all = (here, all)
 all_insert P key (y ∷ ys) (suc q) x here all = (all.0, all_insert P key ys q x here all.1)
 
--- none stands before a name that the first stands behind
+-- none stands before a name that the first stands after
 none_lower : (key : ℕ → List ℕ) (n : List ℕ) (y : List ℕ) (xs : List ℕ) → compare n y ≡ Less → AllByRecursion (λ m. compare y m ≡ Less) (map key xs) → (AllByRecursion (λ m. compare n m ≡ Less) (map key xs)) × (count_by (λ s. is_lt (compare (key s) n)) xs ≡ 0)
 none_lower key n y [] less all = (tt, refl)
 none_lower key n y (x ∷ xs) less all =

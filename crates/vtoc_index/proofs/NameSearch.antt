@@ -13,7 +13,7 @@ use Rattle.std.proofs.lemmas.Option.{slice_get-get_or}
 use Rattle.vtoc_index.specs.Names.{AreByName, IsFrom, is_lower, or_zeros}
 use Rattle.vtoc_index.proofs.NameOrder.{compare, name_there, not_before, place_named, rises, slice_some, truth, zeros_some}
 
--- a name that stands behind another doesn't stand before it
+-- a name that stands after another doesn't stand before it
 pub not_lower : (m n : List ℕ) → compare m n ≡ Less → is_lt (compare n m) ≡ false
 not_lower m n less = ap is_lt (nat_list_cmp_total.antisymm n m ∙ ap ordering_reverse less)
 
@@ -49,7 +49,7 @@ module _ (name : ℕ → Option (List ℕ)) (xs : List ℕ) (order : AreByName n
     | inr w ↦ let same : i ≡ k = omega (arith, w.1, less) in ap (λ (m : ℕ). lower (get_or xs m 0)) (sym same) ∙ is
   ]
 
-  -- and behind one that doesn't, none does
+  -- and after one that doesn't, none does
   pub behind_lower : (i k : ℕ) → lower (get_or xs i 0) ≡ false → i ≤ k → k < length xs → lower (get_or xs k 0) ≡ false
   behind_lower i k is le low = elim (truth (lower (get_or xs k 0))) [
     | inl up ↦ let both : true ≡ false = sym (before_lower k i low up (omega (arith, le))) ∙ is in cc

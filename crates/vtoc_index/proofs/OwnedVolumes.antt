@@ -46,7 +46,7 @@ runs_some g rs all = All-from_recursion (λ (r : Run). 1 ≤ r.len) rs (each rs 
     each [] a = tt
     each (s ∷ ss) a = (a.0.0, each ss a.1)
 
--- no run that ends by a track has it, or one behind it
+-- no run that ends by a track has it, or one after it
 beyond : (t : ℕ) (r : Run) → r.start + r.len ≤ t → is_in t r ≡ false
 beyond t r l = grind (arith, nat_tests)
 

@@ -16,7 +16,7 @@ use Rattle.vtoc_index.specs.Index.{AreDscbs, with_dscb, firsts_of, slots_before,
 use Rattle.vtoc_index.proofs.Firsts.{Counted, counted, passes}
 use Rattle.ckd_image.specs.declared.header.Geometry.{Geometry}
 
--- a slot behind others, or before them
+-- a slot after others, or before them
 put_behind : (k : ℕ) (d : Dscb) (xs ys : List VtocSlot) → with_dscb (length xs + k) d (xs ++ ys) ≡ xs ++ with_dscb k d ys
 put_behind k d [] ys = let none : 0 + k ≡ k = omega arith in ap (λ (n : ℕ). with_dscb n d ys) none
 put_behind k d (x ∷ xs) ys =

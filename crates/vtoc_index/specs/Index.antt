@@ -91,7 +91,7 @@ IsReason image Memory = Unit {0}
 IsReason image Device = Unit {0}
 IsReason image e = volume_of image ≡ Err e
 
--- which track of the VTOC holds a slot, counted from 0: the last whose first slot doesn't stand behind it
+-- which track of the VTOC holds a slot, counted from 0: the last whose first slot doesn't stand after it
 abbrev pub track_index : List ℕ → ℕ → ℕ
 track_index firsts slot = length (filter (λ first. nat_le first slot) firsts) - 1
 
@@ -104,7 +104,7 @@ abbrev pub address_in : Vol → ℕ → List ℕ
 address_in v slot = record_address v.geometry (v.vtoc.start + track_index v.firsts.items slot)
     (slots_in_front v.firsts.items slot + 1)
 
--- where the 140 bytes of a slot stand in the image: behind the header, the tracks before it, the home address
+-- where the 140 bytes of a slot stand in the image: after the header, the tracks before it, the home address
 -- and R0, the slots before it of 148 bytes each, and its count
 abbrev pub place_of_slot : Vol → ℕ → ℕ
 place_of_slot v slot =

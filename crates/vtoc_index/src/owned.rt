@@ -165,7 +165,7 @@ fn slots_of_set(extents: usize) -> u32
     }
 }
 
-// Puts the tracks of extents behind other runs.
+// Puts the tracks of extents after other runs.
 fn push_runs(runs: &mut Vec<Run>, geometry: Geometry, rows: &[Row]) -> Result<(), AllocError>
     requires whole { (len : ℕ) × HasGeometry len geometry }
     requires good { IsTrue (list_all (is_extent geometry) rows.now) }

@@ -96,7 +96,7 @@ fn index_of(vol: &Vol, slot: u32) -> usize
     passed(&vol.firsts, slot) - 1
 }
 
-// How many of these first slots don't stand behind a slot.
+// How many of these first slots don't stand after a slot.
 fn passed(firsts: &[u32], slot: u32) -> usize
     ensures { result ≡ length (filter (λ first. nat_le first slot) firsts.now) }
 {

@@ -154,7 +154,7 @@ fn read_first<H: Hall>(
 }
 
 // Why a VTOC isn't read whose first track breaks the grammar: its extent is judged before what stands
-// behind its first slot.
+// after its first slot.
 #[tactic(auto, using(stop_model::proofs::MomentLemmas::same_then))]
 fn why_broken<H: Hall>(
     hall: &mut H,
@@ -185,7 +185,7 @@ fn why_broken<H: Hall>(
     }
 }
 
-// Reads the tracks of the VTOC behind its first, and adds their slots.
+// Reads the tracks of the VTOC after its first, and adds their slots.
 fn read_others<H: Hall>(
     hall: &mut H,
     unit: u8,

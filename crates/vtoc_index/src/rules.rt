@@ -206,7 +206,7 @@ fn slot_fault(
     }
 }
 
-// The first rule that a DSCB behind slot 0 breaks: it is none of format 4, and the extents of a
+// The first rule that a DSCB after slot 0 breaks: it is none of format 4, and the extents of a
 // format 1 are good.
 fn dscb_fault(
     alloc: Global,

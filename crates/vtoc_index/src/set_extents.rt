@@ -62,7 +62,7 @@ pub(crate) fn counted_extents(
     Ok(rows)
 }
 
-// Puts the extents of a format 3 behind others.
+// Puts the extents of a format 3 after others.
 fn push_further(rows: &mut Vec<Row>, slot: &VtocSlot) -> Result<(), AllocError>
     ensures { OnOk result (rows.new.items ≡ rows.old.items ++ further_extents slot.now.content) }
 {

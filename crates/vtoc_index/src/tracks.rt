@@ -62,7 +62,7 @@ impl ReadSlots {
     }
 }
 
-// Puts the slots of a track, so many, behind others, where the buffer holds its records.
+// Puts the slots of a track, so many, after others, where the buffer holds its records.
 fn push_slots(
     slots: &mut Vec<VtocSlot>,
     geometry: Geometry,

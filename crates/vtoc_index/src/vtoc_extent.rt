@@ -90,7 +90,7 @@ pub(crate) fn slot_held(buf: &TrackBuf, r: u8) -> Option<Slot>
     Some(slot)
 }
 
-// Fills the bytes with two parts, one behind the other.
+// Fills the bytes with two parts, one after the other.
 fn join(bytes: &mut [u8], front: &[u8], back: &[u8])
     requires { length bytes.old ≡ length front.now + length back.now }
     ensures { bytes.new ≡ front.now ++ back.now }

@@ -18,7 +18,7 @@ use Rattle.vtoc_index.proofs.GoodSets.{on_pack}
 use Rattle.vtoc_index.specs.declared.vol.Vol.{Vol}
 use Rattle.vtoc_sets.specs.Sets.{HasSet, extents_in, owned_in}
 
--- of the tracks of a run, and others behind them, the k-th
+-- of the tracks of a run, and others after them, the k-th
 get_front : (a n : ℕ) (ys : List ℕ) (k : ℕ) → k < n → slice_get (range_with_len a n ++ ys) k ≡ Some (a + k)
 get_front a zero ys k low = absurd (omega (arith, low))
 get_front a (suc n) ys zero low = let same : a ≡ a + zero = omega arith in ap Some same
@@ -31,7 +31,7 @@ get_behind a (suc n) ys zero high = absurd (omega (arith, high))
 get_behind a (suc n) ys (suc k) high =
     let same : k - n ≡ suc k - suc n = omega arith in get_behind (a + 1) n ys k (omega (arith, high)) ∙ ap (slice_get ys) same
 
--- from a place on, the element there and those behind it; or none
+-- from a place on, the element there and those after it; or none
 drop_there : {X : Type 0} (xs : List X) (i : ℕ) (x : X) → slice_get xs i ≡ Some x → drop i xs ≡ x ∷ drop (i + 1) xs
 drop_there [] i x is = cc
 drop_there (y ∷ xs) zero x is = let same : y ≡ x = cc in ap (λ y. y ∷ xs) same

@@ -24,7 +24,7 @@ const CYLINDERS: u8 = 0xC0;
 
 const TRACKS: u8 = 0x80;
 
-// The lowest bit of the first byte of DSORG and the bits behind it, which don't tell an organization.
+// The lowest bit of the first byte of DSORG and the bits after it, which don't tell an organization.
 const UNTOLD: u16 = 0x0200;
 
 const SEQUENTIAL: u16 = 0x4000 / UNTOLD;

@@ -43,7 +43,7 @@ fn wrote(step: Step) -> bool
     }
 }
 
-// The place from which on writes are pending behind the i-th step.
+// The place from which on writes are pending after the i-th step.
 fn pending_after(step: Step, i: usize, from: usize) -> usize
     requires { i + 1 < 2 ^ 64 }
     ensures { result ≡ pending_place step i from }
@@ -57,7 +57,7 @@ fn pending_after(step: Step, i: usize, from: usize) -> usize
     }
 }
 
-// The place behind the last sync among the steps, from which on the writes are pending.
+// The place after the last sync among the steps, from which on the writes are pending.
 pub(super) fn pending_from(steps: &[Step]) -> usize
     ensures { IsPendingFrom steps.now result }
 {
@@ -131,7 +131,7 @@ fn flag_at(keep: &[bool], next: usize) -> bool
     next < keep.len() && keep[next]
 }
 
-// The place of the flag behind that of a step.
+// The place of the flag after that of a step.
 fn next_flag(step: Step, next: usize) -> usize
     requires { next + 1 < 2 ^ 64 }
     ensures { result ≡ (if is_write step then next + 1 else next) }

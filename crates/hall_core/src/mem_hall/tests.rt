@@ -154,7 +154,7 @@ fn expect_now(rt: &impl Abort, hall: &MemHall, first: &[u8], second: &[u8], text
     assert_eq!(rt; hall.printed(), text);
 }
 
-// The calls behind the two that attach the files, and what they answer.
+// The calls after the two that attach the files, and what they answer.
 const HISTORY: [(Action, Result<(), HallErr>); 12] = [
     (Action::Write(0, 1, b"XY"), DONE),
     (Action::Write(1, 0, b"PQ"), DONE),

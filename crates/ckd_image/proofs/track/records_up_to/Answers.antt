@@ -1,4 +1,4 @@
--- What is left has an end marker too early, breaks, begins with a record, or stands behind the last.
+-- What is left has an end marker too early, breaks, begins with a record, or stands after the last.
 use Rattle.std.proofs.Common.{◌≡◌, ◌+◌, ◌-◌, ◌<◌, ◌≤◌, suc, true, false, length, drop, Some, sym, ap, ◌∙◌, arith}
 use Rattle.std.proofs.lemmas.List.{take_rest, length-drop}
 use Rattle.ckd_image.specs.Break.{break_up_to}

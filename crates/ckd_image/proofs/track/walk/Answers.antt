@@ -1,4 +1,4 @@
--- The front breaks, or what is behind it is read.
+-- The front breaks, or what is after it is read.
 use Rattle.std.proofs.Common.{◌≡◌, Some, None, sym}
 use Rattle.std.proofs.lemmas.List.{take_rest}
 use Rattle.ckd_image.specs.Break.{front_pattern, pattern_break}

@@ -5,7 +5,7 @@ use Rattle.clap.proofs.WalkLemmas.{first_value-rows, raw_values-rows}
 use Rattle.command_words.specs.Command.{Parts}
 use Rattle.command_words.proofs.command.parts.Goals as goal
 
--- the texts behind references, or none
+-- the texts after references, or none
 texts_or_none : (o : Option (Bor (List (Bor (List ℕ))))) (else : Bor (List (Bor (List ℕ)))) → else.now ≡ [] →
     map (λ s. s.now) (unwrap_or o else).now ≡ unwrap_or (option_map (λ s. map (λ v. v.now) s.now) o) []
 texts_or_none None else none = ap (map (λ (s : Bor (List ℕ)). s.now)) none

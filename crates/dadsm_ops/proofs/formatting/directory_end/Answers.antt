@@ -1,4 +1,4 @@
--- The end-of-file record stands behind the last block where the track takes it, and else on the next.
+-- The end-of-file record stands after the last block where the track takes it, and else on the next.
 use Rattle.std.proofs.Common.{◌≡◌, ◌≤◌, ℕ, take, replicate, sym, ap, ◌∙◌}
 use Rattle.std.proofs.lemmas.List.{take-replicate}
 use Rattle.vol_model.specs.Places.{directory_lengths}

@@ -1,4 +1,4 @@
--- Blocks of a new directory, one behind the other.
+-- Blocks of a new directory, one after the other.
 use Rattle.std.proofs.Common.{◌+◌, ℕ, List, length, ap, ap₂, ◌∙◌, arith}
 use Rattle.track_records.specs.Buffers.{Buffer}
 use Rattle.pack_spec.specs.Directories.{new_block}

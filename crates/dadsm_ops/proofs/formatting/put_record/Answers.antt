@@ -1,4 +1,4 @@
--- One write behind the records of a buffer.
+-- One write after the records of a buffer.
 use Rattle.std.proofs.Common.{sym, ap}
 use Rattle.hall_core.specs.Facts.{name_in}
 use Rattle.track_records.specs.Buffers.{Buffer}

@@ -5,7 +5,7 @@ use Rattle.space_alloc.specs.Units.{listed}
 use Rattle.dadsm_ops.specs.Allocating.{extent_field, extent_fields, new_f3, no_extent}
 use Rattle.dadsm_ops.proofs.new_set.new_f3.Goals as goal
 
--- five extents leave the fields behind them empty
+-- five extents leave the fields after them empty
 no_front : (g : Geometry) (kind : ℕ) (rs : List Run) → length rs ≤ 5 → extent_fields g kind rs 3 4 ≡ extent_field g kind rs 3 ∷ extent_field g kind rs 4 ∷ no_extent ∷ no_extent ∷ []
 no_front g kind [] few = refl
 no_front g kind (a ∷ []) few = refl

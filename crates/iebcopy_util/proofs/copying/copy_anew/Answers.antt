@@ -1,99 +1,80 @@
-use Rattle.std.proofs.Common.{◌≡◌, ◌∙◌, true, false, sym, ap, subst, Ok, Err}
-use Rattle.std.specs.Prelude.{Option}
+use Rattle.std.proofs.Common.{◌≡◌, ◌∙◌, true, false, sym, ap, subst, Ok, Err, refl}
 use Rattle.vol_model.specs.declared.contents.Shelf.{Shelf}
-use Rattle.vol_model.specs.Did.{Did}
 use Rattle.vol_model.specs.Reading.{member}
-use Rattle.vol_model.specs.Runs.{Works}
-use Rattle.vol_model.proofs.Working.{works_idle, works_idle_broken}
 use Rattle.util_steps.specs.Copying.{source}
 use Rattle.util_steps.proofs.Progress.{source_blocks}
-use Rattle.util_steps.proofs.Reporting.{works_later}
-use Rattle.util_syntax.specs.declared.listing.Outcome.{Outcome}
+use Rattle.util_steps.proofs.Taking.{ready_after}
 use Rattle.util_syntax.specs.declared.listing.Outcome.TheVariants as outcome
-use Rattle.iebcopy_util.specs.declared.copying.Copy.{Copy}
+use Rattle.util_program.specs.Outcomes.{outcome_for}
 use Rattle.iebcopy_util.specs.Copying.{can_move, copied, copied_from}
-use Rattle.iebcopy_util.specs.Steps.{HasPart}
+use Rattle.iebcopy_util.specs.Steps.{HasBlocks, IsRead}
 use Rattle.iebcopy_util.proofs.CopiedLemmas.{from_bad_record, from_bad_ttr, from_copied, walk_refused, walk_told}
-use Rattle.iebcopy_util.proofs.FoundLemmas.{member_found}
+use Rattle.iebcopy_util.proofs.CopyLemmas.{can_as}
+use Rattle.iebcopy_util.proofs.FoundLemmas.{has_member, member_at}
+use Rattle.iebcopy_util.proofs.StepItems.{not_false, not_true}
+use Rattle.iebcopy_util.proofs.WholeLemmas.{whole_none, whole_read, whole_unmade, whole_unread}
 use Rattle.iebcopy_util.proofs.copying.copy_anew.Goals as goal
 
-pub returns-in_err-walk-clause-works : goal.returns-in_err-walk-clause-works
-returns-in_err-walk-clause-works g c told obs there =
-    let m = g.M.Machine.meaning in
-    let durable = g.met.M.Machine.durable c.args.machine.now told c.requires.sound in
-    works_idle_broken (c.walk_member.ensures.same told) durable (copied_from (m c.args.machine.now).state c.args.out.now c.args.task.now c.args.blank (source (m c.args.machine.now).state c.args.task.now.source.set)) c.from_residual.result c.from_residual.ensures.0
+pub returns-in_err-walk : goal.returns-in_err-walk
+returns-in_err-walk g c = whole_unread g.M.Machine (λ told. g.met.M.Machine.durable c.args.machine.now told c.requires.ready.sound) _ c.from_residual.result c.from_residual.ensures (rw c.in_err-walk.was at c.walk_member.ensures)
 
-pub returns-in-Err-clause-works : goal.returns-in-Err-clause-works
-returns-in-Err-clause-works g c told obs there =
-    let m = g.M.Machine.meaning in
-    let s = g.M.Machine.status in
-    let t = c.args.task.now in
-    let s0 = (m c.args.machine.now).state in
-    let durable = g.met.M.Machine.durable c.args.machine.now told c.requires.sound in
-    let is = walk_refused s0 c.args.out.now t c.args.blank (source s0 t.source.set) t.entry.place c.in-Err.refusal (rw c.in-Err.is at (c.in_ok-walk.ensures.walk told)) (rw c.in-Err.is at (c.in_ok-walk.ensures.refused told)) in
-    subst (λ (d : Did (Option Copy) Outcome). Works g.M.Machine.tells_prints d (m c.args.machine.now) (m c.walk_member.new.machine) (s c.args.machine.now).done (s c.walk_member.new.machine).done (Ok (Err (outcome.Refused c.in-Err.refusal)))) (sym is)
-    (works_idle (c.walk_member.ensures.same told) durable (Err (outcome.Refused c.in-Err.refusal)) c.walk_member.ensures.count)
+pub returns-in-Err : goal.returns-in-Err
+returns-in-Err g c =
+    let walked = rw c.in-Err.is at c.in_ok-walk.ensures in
+    rw c.outcome_for.ensures
+    (whole_read g.M.Machine (λ told. g.met.M.Machine.durable c.args.machine.now told c.requires.ready.sound) walked
+    (λ told tells. walk_refused (g.M.Machine.meaning c.args.machine.now).state c.args.out.now c.args.task.now c.args.blank (source (g.M.Machine.meaning c.args.machine.now).state c.args.task.now.source.set) c.args.task.now.entry.place c.in-Err.fault tells) (whole_none g.M.Machine (Err (outcome_for c.in-Err.fault)) (ready_after g.M.Machine walked.faults)))
 
-pub returns-in-Ok-false-clause-works : goal.returns-in-Ok-false-clause-works
-returns-in-Ok-false-clause-works g c told obs there =
-    let m = g.M.Machine.meaning in
-    let s = g.M.Machine.status in
+pub returns-in_err-can : goal.returns-in_err-can
+returns-in_err-can g c =
+    let walked = rw c.in-Ok.is at c.in_ok-walk.ensures in
+    whole_read g.M.Machine (λ told. g.met.M.Machine.durable c.args.machine.now told c.requires.ready.sound) walked (λ told tells. refl) (whole_unmade g.M.Machine (λ (s : Shelf). copied_from s c.args.out.now c.args.task.now c.args.blank (source s c.args.task.now.source.set)) c.from_residual-in_err-can.result c.from_residual-in_err-can.ensures (ready_after g.M.Machine walked.faults))
+
+pub returns-then-not-can : goal.returns-then-not-can
+returns-then-not-can g c =
+    let walked = rw c.in-Ok.is at c.in_ok-walk.ensures in
+    let bad : can_move c.in-Ok.walk.places.items c.args.task.now.entry ≡ false = can_as c.args.task.now.entry c.in_ok-can.can false _ _ c.in_ok-can.ensures c.deref.ensures.value (first_of (search (c.if-not-can.true), search (not_true, c.if-not-can.true))) in
+    whole_read g.M.Machine (λ told. g.met.M.Machine.durable c.args.machine.now told c.requires.ready.sound) walked
+    (λ told tells. from_bad_ttr _ c.args.out.now c.args.task.now c.args.blank c.in-Ok.walk _ (walk_told _ _ c.in-Ok.walk tells) bad) (whole_none g.M.Machine (Err outcome.BadTtr) (ready_after g.M.Machine walked.faults))
+
+pub returns-then-not-walk : goal.returns-then-not-walk
+returns-then-not-walk g c =
+    let walked = rw c.in-Ok.is at c.in_ok-walk.ensures in
+    let good : can_move c.in-Ok.walk.places.items c.args.task.now.entry ≡ true = can_as c.args.task.now.entry c.in_ok-can.can true _ _ c.in_ok-can.ensures c.deref.ensures.value (first_of (search (c.if-not-can.false), search (not_false, c.if-not-can.false))) in
+    whole_read g.M.Machine (λ told. g.met.M.Machine.durable c.args.machine.now told c.requires.ready.sound) walked
+    (λ told tells. from_bad_record _ c.args.out.now c.args.task.now c.args.blank c.in-Ok.walk _ (walk_told _ _ c.in-Ok.walk tells) good c.if-not-walk.true) (whole_none g.M.Machine (Err outcome.BadRecord) (ready_after g.M.Machine walked.faults))
+
+pub returns-in_err-to : goal.returns-in_err-to
+returns-in_err-to g c =
+    let walked = rw c.in-Ok.is at c.in_ok-walk.ensures in
+    whole_read g.M.Machine (λ told. g.met.M.Machine.durable c.args.machine.now told c.requires.ready.sound) walked (λ told tells. refl) (whole_unmade g.M.Machine (λ (s : Shelf). copied_from s c.args.out.now c.args.task.now c.args.blank (source s c.args.task.now.source.set)) c.from_residual-in_err-to.result c.from_residual-in_err-to.ensures (ready_after g.M.Machine walked.faults))
+
+pub returns-in_err-user : goal.returns-in_err-user
+returns-in_err-user g c =
+    let walked = rw c.in-Ok.is at c.in_ok-walk.ensures in
+    whole_read g.M.Machine (λ told. g.met.M.Machine.durable c.args.machine.now told c.requires.ready.sound) walked (λ told tells. refl) (whole_unmade g.M.Machine (λ (s : Shelf). copied_from s c.args.out.now c.args.task.now c.args.blank (source s c.args.task.now.source.set)) c.from_residual-in_err-user.result c.from_residual-in_err-user.ensures (ready_after g.M.Machine walked.faults))
+
+pub write_copy-requires-clause-found : goal.write_copy-requires-clause-found
+write_copy-requires-clause-found g c told =
+    let walked = rw c.in-Ok.is at c.in_ok-walk.ensures in
+    let so = walk_told _ _ c.in-Ok.walk (walked.value told) in
+    let are = source_blocks _ c.args.task.now.source.set so.all_blocks (g.met.M.Machine.lawful c.args.machine.now told c.requires.ready.sound) so.is in
+    subst (λ (s : Shelf). HasBlocks (source s c.args.task.now.source.set) c.in-Ok.walk.places.items) (sym (walked.same told).state) (has_member _ so.all_blocks c.args.task.now.entry.place c.in-Ok.walk.places.items so.is are so.at)
+
+pub write_copy-requires-clause-output : goal.write_copy-requires-clause-output
+write_copy-requires-clause-output g c told = subst (λ (s : Shelf). IsRead s c.args.out.now) (sym (c.walk_member.ensures.same told).state) (c.requires.output told)
+
+pub returns : goal.returns
+returns g c =
     let out = c.args.out.now in
     let t = c.args.task.now in
-    let s0 = (m c.args.machine.now).state in
-    let durable = g.met.M.Machine.durable c.args.machine.now told c.requires.sound in
-    let so = walk_told (source s0 t.source.set) t.entry.place c.in-Ok.walk (rw c.in-Ok.is at (c.in_ok-walk.ensures.walk told)) (rw c.in-Ok.is at (c.in_ok-walk.ensures.refused told)) in
-    let bad : can_move c.in-Ok.walk.places.items t.entry ≡ false = cc (c.in-Ok-false.ensures, c.in-Ok-false.field-0-test, c.deref.ensures.value) in
-    subst (λ (d : Did (Option Copy) Outcome). Works g.M.Machine.tells_prints d (m c.args.machine.now) (m c.walk_member.new.machine) (s c.args.machine.now).done (s c.walk_member.new.machine).done (Ok (Err outcome.BadTtr)))
-    (sym (from_bad_ttr s0 out t c.args.blank c.in-Ok.walk (source s0 t.source.set) so bad))
-    (works_idle (c.walk_member.ensures.same told) durable (Err outcome.BadTtr) c.walk_member.ensures.count)
-
-pub returns-then-not-walk-clause-works : goal.returns-then-not-walk-clause-works
-returns-then-not-walk-clause-works g c told obs there =
-    let m = g.M.Machine.meaning in
-    let s = g.M.Machine.status in
-    let out = c.args.out.now in
-    let t = c.args.task.now in
-    let s0 = (m c.args.machine.now).state in
-    let durable = g.met.M.Machine.durable c.args.machine.now told c.requires.sound in
-    let so = walk_told (source s0 t.source.set) t.entry.place c.in-Ok.walk (rw c.in-Ok.is at (c.in_ok-walk.ensures.walk told)) (rw c.in-Ok.is at (c.in_ok-walk.ensures.refused told)) in
-    let good : can_move c.in-Ok.walk.places.items t.entry ≡ true = cc (c.in-Ok-true.ensures, c.in-Ok-true.field-0-test, c.deref.ensures.value) in
-    subst (λ (d : Did (Option Copy) Outcome). Works g.M.Machine.tells_prints d (m c.args.machine.now) (m c.walk_member.new.machine) (s c.args.machine.now).done (s c.walk_member.new.machine).done (Ok (Err outcome.BadRecord)))
-    (sym (from_bad_record s0 out t c.args.blank c.in-Ok.walk (source s0 t.source.set) so good c.if-not-walk.true))
-    (works_idle (c.walk_member.ensures.same told) durable (Err outcome.BadRecord) c.walk_member.ensures.count)
-
-pub returns-clause-works : goal.returns-clause-works
-returns-clause-works g c told obs there =
-    let m = g.M.Machine.meaning in
-    let s = g.M.Machine.status in
-    let out = c.args.out.now in
-    let t = c.args.task.now in
-    let s0 = (m c.args.machine.now).state in
-    let durable = g.met.M.Machine.durable c.args.machine.now told c.requires.sound in
-    let same = c.walk_member.ensures.same told in
-    let so = walk_told (source s0 t.source.set) t.entry.place c.in-Ok.walk (rw c.in-Ok.is at (c.in_ok-walk.ensures.walk told)) (rw c.in-Ok.is at (c.in_ok-walk.ensures.refused told)) in
-    let good : can_move c.in-Ok.walk.places.items t.entry ≡ true = cc (c.in-Ok-true.ensures, c.in-Ok-true.field-0-test, c.deref.ensures.value) in
-    let found = member_found so.all_blocks t.entry.place (source_blocks s0 t.source.set so.all_blocks (g.met.M.Machine.lawful c.args.machine.now told c.requires.sound) so.is) in
-    let input = ap (λ (u : Shelf). source u t.source.set) same.state ∙ so.is in
-    let output = ap (λ (u : Shelf). source u out) same.state ∙ there in
-    subst (λ (d : Did (Option Copy) Outcome). Works g.M.Machine.tells_prints d (m c.args.machine.now) (m c.write_copy.new.machine) (s c.args.machine.now).done (s c.write_copy.new.machine).done c.write_copy.result)
-    (sym (from_copied s0 out t c.args.blank c.in-Ok.walk (source s0 t.source.set) so good c.if-not-walk.false))
-    (works_later same durable (λ (u : Shelf). copied u out t c.args.blank (member so.all_blocks t.entry.place)) c.write_copy.result c.walk_member.ensures.count
-    (c.write_copy.ensures.works told so.all_blocks (member so.all_blocks t.entry.place) obs input so.at found output))
-
-pub returns-clause-memory : goal.returns-clause-memory
-returns-clause-memory g c told roomy obs there failed =
-    let m = g.M.Machine.meaning in
-    let out = c.args.out.now in
-    let t = c.args.task.now in
-    let s0 = (m c.args.machine.now).state in
-    let same = c.walk_member.ensures.same told in
-    let so = walk_told (source s0 t.source.set) t.entry.place c.in-Ok.walk (rw c.in-Ok.is at (c.in_ok-walk.ensures.walk told)) (rw c.in-Ok.is at (c.in_ok-walk.ensures.refused told)) in
-    let good : can_move c.in-Ok.walk.places.items t.entry ≡ true = cc (c.in-Ok-true.ensures, c.in-Ok-true.field-0-test, c.deref.ensures.value) in
-    let found = member_found so.all_blocks t.entry.place (source_blocks s0 t.source.set so.all_blocks (g.met.M.Machine.lawful c.args.machine.now told c.requires.sound) so.is) in
-    let input = ap (λ (u : Shelf). source u t.source.set) same.state ∙ so.is in
-    let output = ap (λ (u : Shelf). source u out) same.state ∙ there in
-    subst (λ (d : Did (Option Copy) Outcome). HasPart d.operations s0 (m c.write_copy.new.machine).state)
-    (sym (from_copied s0 out t c.args.blank c.in-Ok.walk (source s0 t.source.set) so good c.if-not-walk.false))
-    (subst (λ (u : Shelf). HasPart (copied u out t c.args.blank (member so.all_blocks t.entry.place)).operations u (m c.write_copy.new.machine).state) same.state
-    (c.write_copy.ensures.memory told roomy so.all_blocks (member so.all_blocks t.entry.place) obs input so.at found output failed))
+    let s0 = (g.M.Machine.meaning c.args.machine.now).state in
+    let walked = rw c.in-Ok.is at c.in_ok-walk.ensures in
+    let good : can_move c.in-Ok.walk.places.items t.entry ≡ true = can_as t.entry c.in_ok-can.can true _ _ c.in_ok-can.ensures c.deref.ensures.value (first_of (search (c.if-not-can.false), search (not_false, c.if-not-can.false))) in
+    whole_read g.M.Machine (λ told. g.met.M.Machine.durable c.args.machine.now told c.requires.ready.sound) walked
+    (λ told tells.
+    let so = walk_told (source s0 t.source.set) t.entry.place c.in-Ok.walk tells in
+    let are = source_blocks s0 t.source.set so.all_blocks (g.met.M.Machine.lawful c.args.machine.now told c.requires.ready.sound) so.is in
+    from_copied s0 out t c.args.blank c.in-Ok.walk (source s0 t.source.set) so good c.if-not-walk.false
+    ∙ ap (copied s0 out t c.args.blank) (sym (member_at (source s0 t.source.set) so.all_blocks t.entry.place c.in-Ok.walk.places.items so.is are so.at)))
+    c.write_copy.ensures

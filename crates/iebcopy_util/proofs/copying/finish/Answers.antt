@@ -1,12 +1,23 @@
-use Rattle.std.specs.Prelude.{Some}
-use Rattle.iebcopy_util.proofs.CopyLemmas.{enter_done, enter_refused, enter_stopped}
+use Rattle.std.proofs.Common.{Ok, refl}
+use Rattle.std.specs.Prelude.{Option, Some}
+use Rattle.vol_model.specs.declared.contents.Shelf.{Shelf}
+use Rattle.vol_model.specs.Did.{answered}
+use Rattle.util_steps.proofs.Taking.{ready_after}
+use Rattle.iebcopy_util.specs.declared.copying.Copy.{Copy}
+use Rattle.iebcopy_util.specs.Copying.{entered}
+use Rattle.iebcopy_util.proofs.CopyLemmas.{entered_closed}
+use Rattle.iebcopy_util.proofs.WholeLemmas.{whole_ends, whole_none, whole_stops, whole_then}
 use Rattle.iebcopy_util.proofs.copying.finish.Goals as goal
 
-pub returns-in_err-enter_copy-clause-works : goal.returns-in_err-enter_copy-clause-works
-returns-in_err-enter_copy-clause-works g c told = enter_stopped c.args.out.now c.args.task.now c.args.copy (Some c.args.copy) c.enter_copy.result c.from_residual.result c.from_residual.ensures.0 (c.enter_copy.ensures.works told)
+pub returns-in_err-enter_copy : goal.returns-in_err-enter_copy
+returns-in_err-enter_copy g c =
+    whole_stops g.M.Machine (λ (s : Shelf). entered s c.args.out.now c.args.task.now c.args.copy) (λ x u. answered (Ok (Some c.args.copy))) c.from_residual.result c.from_residual.ensures (rw c.in_err-enter_copy.was at c.enter_copy.ensures)
 
-pub returns-in-Ok-clause-works : goal.returns-in-Ok-clause-works
-returns-in-Ok-clause-works g c told = enter_done c.args.out.now c.args.task.now c.args.copy (Some c.args.copy) c.in-Ok.field-0 (rw c.in-Ok.is at (c.in_ok-enter_copy.ensures.works told))
+pub returns-in-Ok : goal.returns-in-Ok
+returns-in-Ok g c =
+    let takes = (rw c.in-Ok.is at c.in_ok-enter_copy.ensures).takes in
+    whole_then g.M.Machine (λ (s : Shelf). entered s c.args.out.now c.args.task.now c.args.copy) (λ x u. answered (Ok (Some c.args.copy))) (λ told. entered_closed _ c.args.out.now c.args.task.now c.args.copy) takes (whole_none g.M.Machine (Ok (Some c.args.copy)) (ready_after g.M.Machine takes.faults))
 
-pub returns-in-Err-clause-works : goal.returns-in-Err-clause-works
-returns-in-Err-clause-works g c told = enter_refused c.args.out.now c.args.task.now c.args.copy (Some c.args.copy) c.in-Err.outcome (rw c.in-Err.is at (c.in_ok-enter_copy.ensures.works told))
+pub returns-in-Err : goal.returns-in-Err
+returns-in-Err g c =
+    whole_ends g.M.Machine (λ (s : Shelf). entered s c.args.out.now c.args.task.now c.args.copy) (λ x u. answered (Ok (Some c.args.copy))) (rw c.in-Err.is at c.in_ok-enter_copy.ensures).takes

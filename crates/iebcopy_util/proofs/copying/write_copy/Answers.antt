@@ -1,33 +1,31 @@
-use Rattle.std.proofs.Common.{arith}
-use Rattle.vol_model.specs.Shelf.{blocks_of}
-use Rattle.vol_model.specs.Writing.{body_on}
-use Rattle.iebcopy_util.proofs.CopiedLemmas.{copied_all, copied_part, copied_refused, copied_stopped, ready_input, ready_output}
+use Rattle.std.proofs.Common.{ap, sym, subst, List}
+use Rattle.vol_model.specs.declared.contents.Block.{Block}
+use Rattle.vol_model.specs.declared.contents.Shelf.{Shelf}
+use Rattle.std.specs.Prelude.{Result, ℕ}
+use Rattle.util_steps.specs.Copying.{source}
+use Rattle.iebcopy_util.specs.Steps.{HasBlocks, blocks_at}
+use Rattle.iebcopy_util.proofs.CopiedLemmas.{copied_ends, copied_stops, copied_then, ready_input, ready_output}
 use Rattle.iebcopy_util.proofs.copying.write_copy.Goals as goal
 
-pub returns-in_err-outcome-clause-works : goal.returns-in_err-outcome-clause-works
-returns-in_err-outcome-clause-works g c told bs member obs is at found there = copied_stopped c.args.out.now c.args.task.now c.args.blank member c.ready.result c.from_residual.result c.from_residual.ensures.0 (c.ready.ensures.works told)
+pub returns-in_err-outcome : goal.returns-in_err-outcome
+returns-in_err-outcome g c =
+    copied_stops g.M.Machine c.args.out.now c.args.task.now c.args.blank (λ (s : Shelf). blocks_at (source s c.args.task.now.source.set) c.args.from.items) c.from_residual.result c.from_residual.ensures (rw c.in_err-outcome.was at c.ready.ensures)
 
-pub returns-in-Err-clause-works : goal.returns-in-Err-clause-works
-returns-in-Err-clause-works g c told bs member obs is at found there = copied_refused c.args.out.now c.args.task.now c.args.blank member c.in-Err.outcome (rw c.in-Err.is at (c.in_ok-outcome.ensures.works told))
+pub returns-in-Err : goal.returns-in-Err
+returns-in-Err g c =
+    copied_ends g.M.Machine c.args.out.now c.args.task.now c.args.blank (λ (s : Shelf). blocks_at (source s c.args.task.now.source.set) c.args.from.items) (rw c.in-Err.is at c.in_ok-outcome.ensures).takes
 
-pub returns-clause-works : goal.returns-clause-works
-returns-clause-works g c told bs member obs is at found there =
-    let out = c.args.out.now in
-    let t = c.args.task.now in
-    let works = rw c.in_default.is at (c.in_ok-outcome.ensures.works told) in
-    let input = ready_input out t c.args.blank member c.in_default.field-0 works t.source.set bs (c.requires.apart told) is in
-    let output = ready_output out t c.args.blank member c.in_default.field-0 works obs there in
-    copied_all out t c.args.blank member c.in_default.field-0 works c.write_member.result (c.write_member.ensures.works told bs member (blocks_of (body_on (g.M.Machine.meaning c.ready.new.machine).state out.v out.dsn.bytes)) input at found output)
+pub write_member-requires-clause-found : goal.write_member-requires-clause-found
+write_member-requires-clause-found g c told =
+    let takes = (rw c.in_default.is at c.in_ok-outcome.ensures).takes in
+    subst (λ (r : Result (List Block) ℕ). HasBlocks r c.args.from.items) (sym (ready_input g.M.Machine c.args.out.now c.args.task.now c.args.blank c.in_default.field-0 takes told c.args.task.now.source.set (c.requires.apart told))) (c.requires.found told)
 
-pub returns-clause-later : goal.returns-clause-later
-returns-clause-later g c told = let ready = c.ready.ensures.works told in omega (arith, ready.runs.moments.later, c.write_member.ensures.later told)
+pub write_member-requires-clause-output : goal.write_member-requires-clause-output
+write_member-requires-clause-output g c told =
+    ready_output g.M.Machine c.args.out.now c.args.task.now c.args.blank c.in_default.field-0 (rw c.in_default.is at c.in_ok-outcome.ensures).takes told (c.requires.output told)
 
-pub returns-clause-memory : goal.returns-clause-memory
-returns-clause-memory g c told roomy bs member obs is at found there failed =
-    let out = c.args.out.now in
-    let t = c.args.task.now in
-    let works = rw c.in_default.is at (c.in_ok-outcome.ensures.works told) in
-    let input = ready_input out t c.args.blank member c.in_default.field-0 works t.source.set bs (c.requires.apart told) is in
-    let output = ready_output out t c.args.blank member c.in_default.field-0 works obs there in
-    copied_part out t c.args.blank member c.in_default.field-0 works (g.M.Machine.meaning c.write_member.new.machine).state
-    (c.write_member.ensures.memory told roomy bs member (blocks_of (body_on (g.M.Machine.meaning c.ready.new.machine).state out.v out.dsn.bytes)) input at found output failed)
+pub returns : goal.returns
+returns g c =
+    let takes = (rw c.in_default.is at c.in_ok-outcome.ensures).takes in
+    copied_then g.M.Machine c.args.out.now c.args.task.now c.args.blank (λ (s : Shelf). blocks_at (source s c.args.task.now.source.set) c.args.from.items) c.in_default.field-0 takes
+    (λ told. ap (λ (r : Result (List Block) ℕ). blocks_at r c.args.from.items) (ready_input g.M.Machine c.args.out.now c.args.task.now c.args.blank c.in_default.field-0 takes told c.args.task.now.source.set (c.requires.apart told))) c.write_member.ensures

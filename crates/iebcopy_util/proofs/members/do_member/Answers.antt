@@ -10,21 +10,21 @@ pub returns-in_err-answer-clause-items : goal.returns-in_err-answer-clause-items
 returns-in_err-answer-clause-items g c told =
     let did = member_copied (g.M.Machine.meaning c.args.machine.now).state c.args.out.now c.args.copies.now c.args.task.now in
     member_stopped c.args.card c.args.out.now c.args.task.now did c.copy_member.result c.from_residual.result c.from_residual.ensures.0 (same_stop c.copy_member.result c.from_residual.result c.in_err-answer.field-0.0 c.in_err-answer.was c.from_residual.ensures.1)
-    (c.copy_member.ensures.works told) (c.copy_member.ensures.memory told)
+    (c.copy_member.ensures.takes.works told) (c.copy_member.ensures.whole told)
 
 pub returns-in-Err-clause-items : goal.returns-in-Err-clause-items
 returns-in-Err-clause-items g c told =
     let did = member_copied (g.M.Machine.meaning c.args.machine.now).state c.args.out.now c.args.copies.now c.args.task.now in
-    member_silent c.args.card c.args.out.now c.args.task.now did (c.in_ok-answer.ensures.works told) (Err Memory) refl
+    member_silent c.args.card c.args.out.now c.args.task.now did (c.in_ok-answer.ensures.takes.works told) (Err Memory) refl
 
 pub returns-in_err-say-clause-items : goal.returns-in_err-say-clause-items
 returns-in_err-say-clause-items g c told =
     let did = member_copied (g.M.Machine.meaning c.args.machine.now).state c.args.out.now c.args.copies.now c.args.task.now in
-    let line_is : c.deref.result.now ≡ member_line c.args.card c.args.out.now c.args.task.now.name (outcome_of c.in_ok-answer.answer) = cc (c.deref.ensures.value, c.in-Ok.ensures, c.outcome_of-outcome.ensures) in
-    member_unsaid c.args.card c.args.out.now c.args.task.now did (c.in_ok-answer.ensures.works told) c.deref.result.now c.say.result c.from_residual-in_err-say.result line_is c.from_residual-in_err-say.ensures.0 (c.say.ensures.says told) (c.say.ensures.state told)
+    let line_is : c.in-Ok.line ≡ member_line c.args.card c.args.out.now c.args.task.now.name (outcome_of c.in_ok-answer.answer) = cc (c.in-Ok.ensures, c.outcome_of-outcome.ensures) in
+    member_unsaid c.args.card c.args.out.now c.args.task.now did (c.in_ok-answer.ensures.takes.works told) c.in-Ok.line c.say.result c.from_residual-in_err-say.result line_is c.from_residual-in_err-say.ensures.0 (c.say.ensures.says.says told) (c.say.ensures.state told)
 
 pub returns-clause-items : goal.returns-clause-items
 returns-clause-items g c told =
     let did = member_copied (g.M.Machine.meaning c.args.machine.now).state c.args.out.now c.args.copies.now c.args.task.now in
-    let line_is : c.deref.result.now ≡ member_line c.args.card c.args.out.now c.args.task.now.name (outcome_of c.in_ok-answer.answer) = cc (c.deref.ensures.value, c.in-Ok.ensures, c.outcome_of-outcome.ensures) in
-    member_said c.args.card c.args.out.now c.args.task.now did (c.in_ok-answer.ensures.works told) c.deref.result.now line_is (c.in_ok-say.ensures.says told) c.say.ensures.count
+    let line_is : c.in-Ok.line ≡ member_line c.args.card c.args.out.now c.args.task.now.name (outcome_of c.in_ok-answer.answer) = cc (c.in-Ok.ensures, c.outcome_of-outcome.ensures) in
+    member_said c.args.card c.args.out.now c.args.task.now did (c.in_ok-answer.ensures.takes.works told) c.in-Ok.line line_is (c.in_ok-say.ensures.says.says told) c.say.ensures.says.count

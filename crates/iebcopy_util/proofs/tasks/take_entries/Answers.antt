@@ -1,14 +1,15 @@
 use Rattle.std.proofs.Common.{◌≡◌, ℕ, length, ◌∙◌, ◌≤◌, List, ◌++◌, take, refl, ap, arith, rules, append_assoc}
 use Rattle.stop_model.proofs.MomentLemmas.{same_then}
 use Rattle.iebcopy_util.specs.declared.tasks.Task.{Task}
-use Rattle.iebcopy_util.specs.Sets.{entries_of}
+use Rattle.std.proofs.lemmas.List.{take_at}
+use Rattle.record_files.specs.Members.{entries_of}
 use Rattle.iebcopy_util.specs.Tasks.{wanted, with_source}
-use Rattle.iebcopy_util.proofs.TaskLemmas.{entries_there, no_entry_past, passed_all, passed_one, take_front}
+use Rattle.iebcopy_util.proofs.TaskLemmas.{entries_there, no_entry_past, passed_all, passed_one}
 use Rattle.iebcopy_util.proofs.tasks.take_entries.Goals as goal
 
 -- the first copies are those of earlier inputs
 firsts : (first : ℕ) (now old more : List Task) → first ≡ length old → now ≡ old ++ more → take first now ≡ old
-firsts first now old more at is = ap (λ (l : List Task). take first l) is ∙ ap (λ (k : ℕ). take k (old ++ more)) at ∙ take_front old more
+firsts first now old more at is = ap (λ (l : List Task). take first l) is ∙ ap (λ (k : ℕ). take k (old ++ more)) at ∙ take_at old more (length old) refl
 
 pub returns-in-Ok-false-clause-tasks : goal.returns-in-Ok-false-clause-tasks
 returns-in-Ok-false-clause-tasks g c told x is =

@@ -6,7 +6,8 @@ use Rattle.vol_model.specs.declared.contents.DataSet.{DataSet}
 use Rattle.vol_model.specs.Calls.{Keeps}
 use Rattle.vol_model.specs.Runs.{RunCall}
 use Rattle.iebcopy_util.specs.declared.tasks.Task.{Task}
-use Rattle.iebcopy_util.specs.Sets.{entries_of, library}
+use Rattle.record_files.specs.Members.{entries_of}
+use Rattle.iebcopy_util.specs.Sets.{library}
 use Rattle.iebcopy_util.specs.Tasks.{IsLawfulTask, wanted, with_source}
 use Rattle.iebcopy_util.proofs.tasks.take_entries.Given as goal
 

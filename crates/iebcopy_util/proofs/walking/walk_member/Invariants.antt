@@ -1,27 +1,19 @@
-use Rattle.std.proofs.Common.{◌≡◌, ◌≤◌, List, false, Ok}
-use Rattle.std.specs.Prelude.{IsTrue}
-use Rattle.stop_model.specs.Moments.{Same}
+use Rattle.std.proofs.Common.{◌≡◌, ℕ, ◌≤◌, List}
+use Rattle.std.specs.Prelude.{Ok}
 use Rattle.vol_model.specs.declared.contents.Block.{Block}
-use Rattle.vol_model.specs.Calls.{Keeps}
+use Rattle.vol_model.specs.declared.contents.Shelf.{Shelf}
 use Rattle.vol_model.specs.Reading.{member}
-use Rattle.vol_model.specs.Runs.{RunCall}
 use Rattle.util_steps.specs.Copying.{source}
+use Rattle.util_steps.specs.Taking.{Reads}
 use Rattle.util_steps.proofs.Progress.{left_from}
 use Rattle.iebcopy_util.proofs.WalkLemmas.{Walks}
 use Rattle.iebcopy_util.proofs.walking.walk_member.Given as goal
 
 abbrev pub invariant-loop-walk : goal.invariant-loop-walk
-invariant-loop-walk g l =
-    let m = g.M.Machine.meaning in
-    let s = g.M.Machine.status in
-    record {
-      low : l.place.r ≤ 255;
-      so_far : IsTrue g.M.Machine.tells → (bs : List Block) → source (m l.fn.machine).state l.from ≡ Ok bs → Walks bs (member bs l.fn.start) l.place l.walk;
-      same : IsTrue g.M.Machine.tells → Same (m l.fn.machine) (m l.machine);
-      promise : IsTrue g.M.Machine.tells → Keeps (m l.fn.machine).clock (g.M.Machine.promise l.fn.machine) (g.M.Machine.promise l.machine);
-      count : (s l.machine).done ≡ (s l.fn.machine).done;
-      call : RunCall {T = Unit {0}} false (s l.fn.machine) (s l.machine) (Ok tt);
-    }
+invariant-loop-walk g l = record {
+  low : l.place.r ≤ 255;
+  read : Reads {T = Unit {0}} g.M.Machine (λ (shelf : Shelf) u. (bs : List Block) → source shelf l.from ≡ Ok bs → Walks bs (member bs l.fn.start) l.place l.walk) l.fn.machine l.machine (Ok tt);
+}
 
 abbrev pub decreases-loop-walk : goal.decreases-loop-walk
 decreases-loop-walk g l = left_from l.place

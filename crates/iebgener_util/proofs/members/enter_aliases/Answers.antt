@@ -1,7 +1,9 @@
 use Rattle.std.proofs.Common.{arith, rules}
-use Rattle.iebgener_util.specs.Members.{did_aliases, ends_directory}
+use Rattle.std.proofs.lemmas.List.{nil_from_length}
+use Rattle.record_files.specs.Members.{ends_directory}
+use Rattle.iebgener_util.specs.Members.{did_aliases}
 use Rattle.iebgener_util.proofs.EnterLemmas.{aliases_done, alias_fault, alias_further, alias_stopped, entered_none}
-use Rattle.iebgener_util.proofs.MemberLemmas.{no_names, none_first}
+use Rattle.iebgener_util.proofs.MemberLemmas.{none_first}
 use Rattle.iebgener_util.proofs.members.enter_aliases.Goals as goal
 
 pub loop-parts-init : goal.loop-parts-init
@@ -14,27 +16,27 @@ loop-parts-init g c = record {
 }
 
 pub returns-in-None-clause-works : goal.returns-in-None-clause-works
-returns-in-None-clause-works g c told = aliases_done c.args.to.now c.args.place c.loop-parts.rest.now (no_names c.loop-parts.rest.now c.in-None.ensures.cases) (c.loop-parts.invariant.so_far told)
+returns-in-None-clause-works g c told = aliases_done c.args.to.now c.args.place c.loop-parts.rest.now (nil_from_length c.loop-parts.rest.now c.in-None.ensures.cases) (c.loop-parts.invariant.so_far told)
 
 pub enter_name-requires-clause-lawful : goal.enter_name-requires-clause-lawful
-enter_name-requires-clause-lawful g c = (none_first ends_directory c.in-Some.parts.0.now c.in-Some.parts.1.now c.loop-parts.rest.now c.in-Some.ensures.cases.0 c.loop-parts.invariant.lawful).0
+enter_name-requires-clause-lawful g c = rw c.other_name.ensures (none_first ends_directory c.in-Some.parts.0.now c.in-Some.parts.1.now c.loop-parts.rest.now c.in-Some.ensures.cases.0 c.loop-parts.invariant.lawful).0
 
 pub returns-in_err-enter_name-clause-works : goal.returns-in_err-enter_name-clause-works
 returns-in_err-enter_name-clause-works g c told =
-    alias_stopped c.args.to.now c.args.place c.in-Some.parts.0.now c.in-Some.parts.1.now c.loop-parts.rest.now c.in-Some.ensures.cases.0 (c.loop-parts.invariant.so_far told) c.enter_name.result c.from_residual.result c.from_residual.ensures.0 (c.enter_name.ensures.works told)
+    alias_stopped c.args.to.now c.args.place c.in-Some.parts.0.now c.in-Some.parts.1.now c.loop-parts.rest.now c.in-Some.ensures.cases.0 (c.loop-parts.invariant.so_far told) c.enter_name.result c.from_residual.result c.from_residual.ensures.0 (rw c.other_name.ensures at (c.enter_name.ensures.works told))
 
 pub returns-in-Err-clause-works : goal.returns-in-Err-clause-works
 returns-in-Err-clause-works g c told =
-    alias_fault c.args.to.now c.args.place c.in-Some.parts.0.now c.in-Some.parts.1.now c.loop-parts.rest.now c.in-Some.ensures.cases.0 (c.loop-parts.invariant.so_far told) c.in-Err.fault (rw c.in-Err.is at (c.in_ok-enter_name.ensures.works told))
+    alias_fault c.args.to.now c.args.place c.in-Some.parts.0.now c.in-Some.parts.1.now c.loop-parts.rest.now c.in-Some.ensures.cases.0 (c.loop-parts.invariant.so_far told) c.in-Err.fault (rw (c.in-Err.is, c.other_name.ensures) at (c.in_ok-enter_name.ensures.works told))
 
 pub loop-parts-preserved : goal.loop-parts-preserved
 loop-parts-preserved g c =
     let inv = c.loop-parts.invariant in
     let behind = c.in-Some.parts.1.now in
     record {
-      so_far = λ told. alias_further c.args.to.now c.args.place c.in-Some.parts.0.now behind c.loop-parts.rest.now c.in-Some.ensures.cases.0 (inv.so_far told) tt (rw c.in-Ok.is at (c.in_ok-enter_name.ensures.works told));
+      so_far = λ told. alias_further c.args.to.now c.args.place c.in-Some.parts.0.now behind c.loop-parts.rest.now c.in-Some.ensures.cases.0 (inv.so_far told) tt (rw (c.in-Ok.is, c.other_name.ensures) at (c.in_ok-enter_name.ensures.works told));
       lawful = (none_first ends_directory c.in-Some.parts.0.now behind c.loop-parts.rest.now c.in-Some.ensures.cases.0 inv.lawful).1;
-      later = λ told. omega (arith, inv.later told, (c.enter_name.ensures.works told).runs.moments.later);
+      later = λ told. omega (arith, inv.later told, (rw c.other_name.ensures at (c.enter_name.ensures.works told)).runs.moments.later);
       promise = λ told t known early kept. c.enter_name.ensures.promise told t known (omega (arith, early, inv.later told)) (inv.promise told t known early kept);
       call = search rules;
     }

@@ -3,7 +3,8 @@ use Rattle.std.specs.List.{list_any}
 use Rattle.std.specs.Prelude.{IsTrue, Ok}
 use Rattle.vol_model.specs.Calls.{Keeps}
 use Rattle.vol_model.specs.Runs.{RunCall}
-use Rattle.iebgener_util.specs.Members.{did_aliases, ends_directory}
+use Rattle.record_files.specs.Members.{ends_directory}
+use Rattle.iebgener_util.specs.Members.{did_aliases}
 use Rattle.iebgener_util.proofs.EnterLemmas.{Entered}
 use Rattle.iebgener_util.proofs.members.enter_aliases.Given as goal
 

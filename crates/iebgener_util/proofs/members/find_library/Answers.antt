@@ -4,10 +4,11 @@ use Rattle.vol_model.specs.declared.contents.Shelf.{Shelf}
 use Rattle.vol_model.specs.declared.refusals.Refusal.{Refusal}
 use Rattle.vol_model.specs.Reading.{entries_in}
 use Rattle.vol_model.specs.Writing.{body_on}
-use Rattle.iebgener_util.specs.declared.attributes.Purpose.TheVariants as purposes
-use Rattle.iebgener_util.specs.Attributes.{FindsSet, usable_set}
-use Rattle.iebgener_util.specs.Members.{all_names, entries_of, has_twice}
-use Rattle.iebgener_util.proofs.FoundLemmas.{library_entries}
+use Rattle.record_files.specs.declared.attributes.Purpose.TheVariants as purposes
+use Rattle.record_files.specs.Attributes.{FindsSet, usable_set}
+use Rattle.record_files.specs.Members.{entries_of}
+use Rattle.iebgener_util.specs.Members.{all_names, has_twice}
+use Rattle.record_files.proofs.FoundLemmas.{library_entries}
 use Rattle.iebgener_util.proofs.MemberLemmas.{taking_ended, taking_free, taking_refused, taking_taken}
 use Rattle.iebgener_util.proofs.members.find_library.Goals as goal
 

@@ -1,4 +1,5 @@
 use Rattle.std.proofs.Common.{◌≡◌, List, true, false, Bool, refl, sym, ap, ◌∙◌, arith, rules, Ok, Err}
+use Rattle.std.proofs.lemmas.List.{nil_from_length}
 use Rattle.std.specs.Prelude.{◌||◌, Result}
 use Rattle.std.specs.List.{list_any}
 use Rattle.ebcdic_names.specs.declared.names.Name8.{Name8}
@@ -9,7 +10,6 @@ use Rattle.vol_model.specs.declared.refusals.Refusal.{Refusal}
 use Rattle.vol_model.specs.Reading.{entries_in}
 use Rattle.vol_model.specs.Shelf.{has_member}
 use Rattle.vol_model.specs.Writing.{body_on}
-use Rattle.iebgener_util.proofs.MemberLemmas.{no_names}
 use Rattle.iebgener_util.proofs.members.has_any_entry.Goals as goal
 
 abbrev any : List Entry → List Name8 → Bool
@@ -32,7 +32,7 @@ loop-parts-init g c =
     }
 
 pub returns-in-None-clause-found : goal.returns-in-None-clause-found
-returns-in-None-clause-found g c told es is = ap Ok (sym (c.loop-parts.invariant.so_far told es is ∙ ap (any es) (no_names c.loop-parts.rest.now c.in-None.ensures.cases)))
+returns-in-None-clause-found g c told es is = ap Ok (sym (c.loop-parts.invariant.so_far told es is ∙ ap (any es) (nil_from_length c.loop-parts.rest.now c.in-None.ensures.cases)))
 
 pub returns-in-Ok-true-clause-found : goal.returns-in-Ok-true-clause-found
 returns-in-Ok-true-clause-found g c told es is =

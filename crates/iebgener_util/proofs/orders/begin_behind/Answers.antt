@@ -2,7 +2,7 @@ use Rattle.std.proofs.Common.{◌≡◌, ◌∷◌, [], ◌++◌, List, sym, ap,
 use Rattle.std.specs.Prelude.{Some}
 use Rattle.iebgener_util.specs.declared.orders.Order.{Order}
 use Rattle.iebgener_util.specs.declared.orders.Order.TheVariants as order
-use Rattle.iebgener_util.specs.declared.orders.Part.{Part}
+use Rattle.iebgener_util.specs.declared.orders.OutputOrder.{OutputOrder}
 use Rattle.iebgener_util.specs.declared.orders.State.TheVariants.{Open}
 use Rattle.iebgener_util.specs.Orders.{new_part, orders_of}
 use Rattle.iebgener_util.proofs.OrderLemmas.{named_behind}
@@ -15,4 +15,4 @@ returns c exec more =
     let pushed : c.push.new.self.items ≡ was ++ order.Write c.args.part ∷ [] = cc c.in_ok-push.ensures.items in
     ap (λ (l : List Order). was ++ l) (named_behind c.args.part.names c.args.part c.args.card c.args.names (λ s. orders_of exec s more) (sym c.is_unnamed.ensures ∙ c.if-is_unnamed.false))
     ∙ sym (append_assoc was (order.Write c.args.part ∷ []) rest) ∙ ap (λ (l : List Order). l ++ rest) (sym pushed)
-    ∙ ap (λ (p : Part). c.push.new.self.items ++ orders_of exec (Open p) more) (sym c.new_part.ensures)
+    ∙ ap (λ (p : OutputOrder). c.push.new.self.items ++ orders_of exec (Open p) more) (sym c.new_part.ensures)

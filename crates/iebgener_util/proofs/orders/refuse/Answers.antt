@@ -1,6 +1,6 @@
 use Rattle.std.proofs.Common.{◌≡◌, [], ◌∷◌, ◌++◌}
 use Rattle.iebgener_util.specs.declared.orders.Order.TheVariants as order
-use Rattle.iebgener_util.specs.Orders.{bad_operand}
+use Rattle.util_syntax.specs.Program.{bad_operand}
 use Rattle.iebgener_util.proofs.OrderLemmas.{last_order}
 use Rattle.iebgener_util.proofs.orders.refuse.Goals as goal
 

@@ -4,7 +4,7 @@ use Rattle.util_syntax.specs.Items.{item_view}
 use Rattle.iebgener_util.specs.declared.orders.Order.{Order}
 use Rattle.iebgener_util.specs.declared.orders.Order.TheVariants as order
 use Rattle.iebgener_util.specs.declared.orders.State.{State}
-use Rattle.iebgener_util.specs.declared.orders.StatementFault.{StatementFault}
+use Rattle.util_syntax.specs.declared.program.StatementFault.{StatementFault}
 use Rattle.iebgener_util.specs.declared.requests.Request.{Request}
 use Rattle.iebgener_util.specs.Orders.{asked, orders_at, orders_of, unless_ended}
 use Rattle.iebgener_util.proofs.OrderLemmas.{at_fault, last_order, not_ended, orders_ended}

@@ -1,4 +1,4 @@
--- Each set is listed behind those before it, up to the first that is refused.
+-- Each set is listed after those before it, up to the first that is refused.
 use Rattle.std.proofs.Common.{◌≡◌, ◌++◌, List, ℕ, sym, ◌∙◌, ap, arith, rules}
 use Rattle.std.specs.Prelude.{Some, slice_get}
 use Rattle.ebcdic_names.specs.declared.names.Dsn.{Dsn}

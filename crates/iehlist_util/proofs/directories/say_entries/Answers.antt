@@ -1,4 +1,4 @@
--- The line of each entry is printed behind those before it.
+-- The line of each entry is printed after those before it.
 use Rattle.std.proofs.Common.{◌+◌, List, [], ◌∷◌, ℕ, drop, map, sym, ◌∙◌, ap, arith, rules}
 use Rattle.vol_model.specs.declared.contents.Shelf.{Shelf}
 use Rattle.vol_model.specs.Reading.{entries_in}

@@ -1,12 +1,9 @@
-use Rattle.std.proofs.Common.{◌≡◌, ◌+◌, ◌≤◌, false, drop, length, map}
+use Rattle.std.proofs.Common.{◌≡◌, ◌≤◌, false, length}
 use Rattle.std.specs.Prelude.{IsTrue, Ok, Some, slice_get}
-use Rattle.std.specs.List.{flat_map}
-use Rattle.vol_model.specs.declared.contents.DataSet.{DataSet}
 use Rattle.vol_model.specs.declared.contents.Volume.{Volume}
 use Rattle.vol_model.specs.Calls.{Keeps}
 use Rattle.vol_model.specs.Runs.{RunCall}
-use Rattle.vol_model.specs.Writing.{set_on}
-use Rattle.iehlist_util.specs.Items.{extent_lines, listed_sets, set_lines}
+use Rattle.iehlist_util.specs.Items.{listed_sets}
 use Rattle.iehlist_util.proofs.Listings.{SaidSoFar}
 use Rattle.iehlist_util.proofs.listing.say_named.Given as goal
 

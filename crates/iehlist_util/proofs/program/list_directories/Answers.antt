@@ -24,8 +24,8 @@ returns-clause-item g c told volume at =
     let same = c.in_ok-answer.ensures.answer told volume at in
     subst (λ (a : PdsAnswer). DoesItem g.M.Machine.tells_prints (listing_item c.args.card (codes "LISTPDS") (object.Name a.dsn) (record { lines = l.lines; outcome = a.outcome })) (m c.args.machine.now) (m c.report_outcome.new.machine) (s c.args.machine.now).done (s c.report_outcome.new.machine).done c.report_outcome.result) same
     (let told_all : Listing = record { lines = l.lines; outcome = answer.outcome } in
-    listing_done c.args.card (codes "LISTPDS") (object.Name answer.dsn) told_all answer.outcome c.report_outcome.result (has_said l.lines (c.in_ok-answer.ensures.says told volume at)) refl c.say_directories.ensures.count (c.report_outcome.ensures.item told))
+    listing_done c.args.card (codes "LISTPDS") (object.Name answer.dsn) told_all answer.outcome c.report_outcome.result (has_said l.lines (c.in_ok-answer.ensures.says told volume at)) refl c.say_directories.ensures.count (c.report_outcome.ensures.item.item told))
 
 pub returns-clause-promise : goal.returns-clause-promise
 returns-clause-promise g c told t known early kept =
-    c.report_outcome.ensures.promise told t known (omega (arith, early, c.say_directories.ensures.later told)) (c.say_directories.ensures.promise told t known early kept)
+    c.report_outcome.ensures.item.promise told t known (omega (arith, early, c.say_directories.ensures.later told)) (c.say_directories.ensures.promise told t known early kept)

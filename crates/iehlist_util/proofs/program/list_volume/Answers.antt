@@ -13,8 +13,8 @@ returns-in_err-outcome-clause-item g c told volume at is =
 pub returns-clause-item : goal.returns-clause-item
 returns-clause-item g c told volume at is =
     let l = volume_listing c.args.request.now volume in
-    listing_done c.args.card (codes "LISTVTOC") (object.Volume c.args.info.now.serial) l c.in_ok-outcome.outcome c.report_outcome.result (has_said l.lines (c.in_ok-outcome.ensures.says told volume at is)) (c.in_ok-outcome.ensures.outcome told volume at) c.say_volume.ensures.count (c.report_outcome.ensures.item told)
+    listing_done c.args.card (codes "LISTVTOC") (object.Volume c.args.info.now.serial) l c.in_ok-outcome.outcome c.report_outcome.result (has_said l.lines (c.in_ok-outcome.ensures.says told volume at is)) (c.in_ok-outcome.ensures.outcome told volume at) c.say_volume.ensures.count (c.report_outcome.ensures.item.item told)
 
 pub returns-clause-promise : goal.returns-clause-promise
 returns-clause-promise g c told t known early kept =
-    c.report_outcome.ensures.promise told t known (omega (arith, early, c.say_volume.ensures.later told)) (c.say_volume.ensures.promise told t known early kept)
+    c.report_outcome.ensures.item.promise told t known (omega (arith, early, c.say_volume.ensures.later told)) (c.say_volume.ensures.promise told t known early kept)

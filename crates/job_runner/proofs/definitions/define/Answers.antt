@@ -1,16 +1,21 @@
 use Rattle.std.proofs.Common.{arith, false, refl, rules, true}
-use Rattle.std.specs.Prelude.{Err}
-use Rattle.vol_model.specs.declared.answers.Stop.TheVariants.{Memory}
 use Rattle.job_runner.specs.DataSets.{definitions}
 use Rattle.job_runner.proofs.DefinitionLemmas.{defined_begins, dds_end, dds_further, dds_refused, dds_stop}
 use Rattle.job_runner.proofs.definitions.define.Goals as goal
 
-pub returns-in-None-clause-defines : goal.returns-in-None-clause-defines
-returns-in-None-clause-defines g c told = dds_end c.args.date.now c.loop-parts.rest.now (c.loop-parts.invariant.so_far told) c.in-None.ensures.cases
+pub returns-in-None : goal.returns-in-None
+returns-in-None g c = record {
+  works = λ told. dds_end c.args.date.now c.loop-parts.rest.now (c.loop-parts.invariant.so_far told) c.in-None.ensures.cases;
+  promise = search rules;
+  faults = search rules;
+}
 
-pub returns-in_err-given-clause-defines : goal.returns-in_err-given-clause-defines
-returns-in_err-given-clause-defines g c told =
-    dds_stop c.args.date.now c.loop-parts.rest.now (c.loop-parts.invariant.so_far told) c.in-Some.parts.0.now c.in-Some.parts.1.now c.in-Some.ensures.cases.0 c.from_residual.result c.from_residual.ensures.0 (c.resolve.ensures.resolves told)
+pub returns-in_err-given : goal.returns-in_err-given
+returns-in_err-given g c = record {
+  works = λ told. dds_stop c.args.date.now c.loop-parts.rest.now (c.loop-parts.invariant.so_far told) c.in-Some.parts.0.now c.in-Some.parts.1.now c.in-Some.ensures.cases.0 c.from_residual.result c.from_residual.ensures.0 (c.resolve.ensures.works told);
+  promise = search rules;
+  faults = search rules;
+}
 
 pub loop-parts-init : goal.loop-parts-init
 loop-parts-init g c =
@@ -25,16 +30,22 @@ loop-parts-init g c =
 pub loop-parts-preserved : goal.loop-parts-preserved
 loop-parts-preserved g c =
     record {
-      so_far = λ told. dds_further c.args.date.now c.loop-parts.rest.now (c.loop-parts.invariant.so_far told) c.in-Some.parts.0.now c.in-Some.parts.1.now c.in-Some.ensures.cases.0 c.add.new.self c.in-Some-2.given (rw c.in-Some-2.is at (c.in_ok-given.ensures.resolves told)) c.in-Ok.ensures.table c.in-Ok.ensures.deletions c.in-Ok.ensures.refused;
-      later = λ told. omega (arith, c.loop-parts.invariant.later told, (c.in_ok-given.ensures.resolves told).does.runs.moments.later);
+      so_far = λ told. dds_further c.args.date.now c.loop-parts.rest.now (c.loop-parts.invariant.so_far told) c.in-Some.parts.0.now c.in-Some.parts.1.now c.in-Some.ensures.cases.0 c.add.new.self c.in-Some-2.given (rw c.in-Some-2.is at (c.in_ok-given.ensures.works told)) c.in_ok-add-in-Some-2.ensures.table c.in_ok-add-in-Some-2.ensures.deletions c.in_ok-add-in-Some-2.ensures.refused;
+      later = λ told. omega (arith, c.loop-parts.invariant.later told, (c.in_ok-given.ensures.works told).does.runs.moments.later);
       promise = λ told t known early kept. c.resolve.ensures.promise told t known (omega (arith, early, c.loop-parts.invariant.later told)) (c.loop-parts.invariant.promise told t known early kept);
       call = search rules;
     }
 
-pub returns-in-Err-clause-defines : goal.returns-in-Err-clause-defines
-returns-in-Err-clause-defines g c told =
-    dds_stop c.args.date.now c.loop-parts.rest.now (c.loop-parts.invariant.so_far told) c.in-Some.parts.0.now c.in-Some.parts.1.now c.in-Some.ensures.cases.0 (Err Memory) refl (c.resolve.ensures.resolves told)
+pub returns-in_err-add-in-Some-2 : goal.returns-in_err-add-in-Some-2
+returns-in_err-add-in-Some-2 g c = record {
+  works = λ told. dds_stop c.args.date.now c.loop-parts.rest.now (c.loop-parts.invariant.so_far told) c.in-Some.parts.0.now c.in-Some.parts.1.now c.in-Some.ensures.cases.0 c.from_residual-in_err-add-in-Some-2.result c.from_residual-in_err-add-in-Some-2.ensures.0 (c.resolve.ensures.works told);
+  promise = search rules;
+  faults = search rules;
+}
 
-pub returns-in-None-2-clause-defines : goal.returns-in-None-2-clause-defines
-returns-in-None-2-clause-defines g c told =
-    dds_refused c.args.date.now c.loop-parts.rest.now (c.loop-parts.invariant.so_far told) c.in-Some.parts.0.now c.in-Some.parts.1.now c.in-Some.ensures.cases.0 (record c.loop-parts.defined { is_refused = true }) (rw c.in-None-2.is at (c.in_ok-given.ensures.resolves told)) refl refl refl
+pub returns-in-None-2 : goal.returns-in-None-2
+returns-in-None-2 g c = record {
+  works = λ told. dds_refused c.args.date.now c.loop-parts.rest.now (c.loop-parts.invariant.so_far told) c.in-Some.parts.0.now c.in-Some.parts.1.now c.in-Some.ensures.cases.0 (record c.loop-parts.defined { is_refused = true }) (rw c.in-None-2.is at (c.in_ok-given.ensures.works told)) refl refl refl;
+  promise = search rules;
+  faults = search rules;
+}

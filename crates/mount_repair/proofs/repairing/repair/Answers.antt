@@ -16,7 +16,7 @@ returns-in_err-repair_vtoc-clause-files g c told =
     let p = err_from_is_err_and c.from_residual.result c.from_residual.ensures.1 in
     rw p.1 (repairs_failed _ c.repair_vtoc.new.vol (g.H.Hall.meaning c.args.hall.now) (g.H.Hall.meaning c.repair_vtoc.new.hall) _ _ (c.in_err-repair_vtoc.ensures.files told))
 
--- ---- the directories, behind the repair of the VTOC
+-- ---- the directories, after the repair of the VTOC
 
 pub pack_all-requires-clause-sound : goal.pack_all-requires-clause-sound
 pack_all-requires-clause-sound g c =

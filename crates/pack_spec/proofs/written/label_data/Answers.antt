@@ -1,4 +1,4 @@
--- The parts of the label stand behind one another.
+-- The parts of the label stand after one another.
 use Rattle.std.proofs.Common.{arith}
 use Rattle.pack_spec.proofs.WrittenTracks.{label_laid}
 use Rattle.pack_spec.proofs.written.label_data.Goals as goal

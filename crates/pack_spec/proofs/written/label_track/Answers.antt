@@ -1,4 +1,4 @@
--- Three records behind the front.
+-- Three records after the front.
 use Rattle.std.proofs.Common.{◌≡◌, ◌∙◌, ◌++◌, ap, replicate, vec_len, arith}
 use Rattle.ckd_image.specs.Track.{records_bytes, record_bytes}
 use Rattle.ckd_image.specs.Writing.{front_bytes, record_on}

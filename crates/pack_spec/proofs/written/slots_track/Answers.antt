@@ -1,4 +1,4 @@
--- One more slot stands behind the others, and the end behind all of them.
+-- One more slot stands after the others, and the end after all of them.
 use Rattle.std.proofs.Common.{◌≡◌, ◌+◌, ◌++◌, [], length, take, get_or, map, vec_len, ap, ap₂, ◌∙◌, ◌*◌, ◌≡◌, arith, refl, length-append}
 use Rattle.ckd_image.specs.Track.{record_bytes, records_bytes}
 use Rattle.ckd_image.specs.Writing.{front_bytes, record_on}

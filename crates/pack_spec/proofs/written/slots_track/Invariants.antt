@@ -1,4 +1,4 @@
--- The slots so far stand behind the front.
+-- The slots so far stand after the front.
 use Rattle.pack_spec.proofs.WrittenTracks.{SlotsWritten}
 use Rattle.pack_spec.proofs.written.slots_track.Given as goal
 

@@ -7,7 +7,7 @@ use Rattle.pack_spec.specs.Directories.{front_entry, front_length, no_entry}
 use Rattle.pds_directory.proofs.ReadEntries.{behind, behind_none, one_more, read, read_broken, read_end, read_none}
 use Rattle.pds_directory.proofs.decoding.entries_in.Goals as goal
 
--- a block that was read whole, if nothing stands behind these entries
+-- a block that was read whole, if nothing stands after these entries
 whole : (done : List Entry) (ends : _) → behind done (no_entry ends) ≡ record { entries = done; ends = ends }
 whole done ends = ap (λ (es : List Entry). record { entries = es; ends = ends }) (append-nil done)
 

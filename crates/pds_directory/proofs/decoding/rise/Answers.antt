@@ -6,7 +6,7 @@ use Rattle.vol_model.specs.declared.contents.Entry.{Entry}
 use Rattle.pack_spec.specs.Directories.{name_number, rise_from}
 use Rattle.pds_directory.proofs.decoding.rise.Goals as goal
 
--- the entry at an index, and those behind it
+-- the entry at an index, and those after it
 at_entry : (bound i : ℕ) (es : List Entry) (e : Entry) → i < length es → e ≡ get_or es i e → rise_from bound (drop i es) ≡ (nat_le bound (name_number e) && rise_from (suc (name_number e)) (drop (i + 1) es))
 at_entry bound i es e within item =
     ap (rise_from bound) (drop_more es i e within ∙ ap (λ (x : Entry). x ∷ drop (i + 1) es) (sym item))

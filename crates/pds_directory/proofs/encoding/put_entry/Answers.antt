@@ -6,7 +6,7 @@ use Rattle.pds_directory.specs.Spelling.{entry_bytes}
 use Rattle.pds_directory.proofs.EntryBytes.{IsPut, put_behind}
 use Rattle.pds_directory.proofs.encoding.put_entry.Goals as goal
 
--- an entry's name, the four bytes behind it and its user data were put one behind the other
+-- an entry's name, the four bytes after it and its user data were put one after the other
 entry_put : (e : Entry) (at n m : ℕ) (front old first second new : List ℕ) → length e.name.bytes ≡ 8 → at + entry_size e ≤ length old → front ≡ to_be_bytes w16 e.place.tt ++ (e.place.r ∷ e.flags ∷ [])
     → first ≡ take at old ++ e.name.bytes ++ drop (at + length e.name.bytes) old → n ≡ at + length e.name.bytes
     → second ≡ take n first ++ front ++ drop (n + 4) first → m ≡ n + 4 → length first ≡ length old

@@ -1,4 +1,4 @@
--- Behind the first stand the items so far that pass.
+-- After the first stand the items so far that pass.
 use Rattle.std.proofs.Common.{◌≡◌, ◌++◌, take}
 use Rattle.std.specs.Prelude.{filter}
 use Rattle.plain_steps.proofs.lists.where_passed.Given as goal

@@ -1,4 +1,4 @@
--- Behind the first stand the copies so far.
+-- After the first stand the copies so far.
 use Rattle.std.proofs.Common.{◌≡◌, ◌++◌, take}
 use Rattle.plain_steps.proofs.lists.with_copies.Given as goal
 

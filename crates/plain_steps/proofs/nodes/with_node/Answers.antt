@@ -1,4 +1,4 @@
--- In front stand the nodes before, and behind those behind.
+-- In front stand the nodes before, and after those after.
 use Rattle.std.proofs.Common.{◌≡◌, List, [], ◌∷◌, ◌++◌, filter, append_assoc, subst, ap, ◌∙◌, rules}
 use Rattle.std.specs.Result.{IfOk}
 use Rattle.vol_model.specs.Trees.{Node, is_before}

@@ -1,4 +1,4 @@
--- Behind the last block so far stand the others.
+-- After the last block so far stand the others.
 use Rattle.std.proofs.Common.{◌≡◌, drop}
 use Rattle.vol_model.specs.Places.{last_place}
 use Rattle.plain_steps.proofs.places.last_place.Given as goal

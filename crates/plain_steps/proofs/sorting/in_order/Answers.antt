@@ -1,4 +1,4 @@
--- Those of the next rank come behind those of the ranks so far.
+-- Those of the next rank come after those of the ranks so far.
 use Rattle.std.proofs.Common.{◌≡◌, ◌==◌, ℕ, List, ◌++◌, length, sym, ap, ◌∙◌, arith}
 use Rattle.std.specs.Prelude.{filter}
 use Rattle.std.specs.List.{flat_map, range_with_len}

@@ -1,4 +1,4 @@
--- The blocks so far, and those of the other contents behind the body with them.
+-- The blocks so far, and those of the other contents after the body with them.
 use Rattle.std.proofs.Common.{◌≡◌, ◌++◌, drop}
 use Rattle.vol_model.specs.Places.{placed}
 use Rattle.plain_steps.proofs.writing.placed.Given as goal

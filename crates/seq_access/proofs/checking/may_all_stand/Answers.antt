@@ -9,7 +9,7 @@ use Rattle.vol_model.specs.declared.contents.Place.{Place}
 use Rattle.seq_access.proofs.Checked.{all_more, length-numbered, not_all, numbered, taken_within}
 use Rattle.seq_access.proofs.checking.may_all_stand.Goals as goal
 
--- the test of the record behind those that were passed
+-- the test of the record after those that were passed
 stands_next : (xs : List Record) (end : Place) (k m n : ℕ) (b : Bool) → n < m → option_map (λ (x : Record). may_stand end k (n + 1, x)) (slice_get xs (n + 1 - 1)) ≡ Some b → option_map (may_stand end k) (slice_get (enumerate_from 1 (take m xs)) n) ≡ Some b
 stands_next xs end k m n b low is =
     let index : n ≡ n + 1 - 1 = omega arith in

@@ -1,5 +1,5 @@
-use Rattle.std.proofs.Common.{◌≡◌, ◌∙◌, ℕ, Some, None, rules, set, sym, ap, subst, arith}
-use Rattle.std.specs.Prelude.{IfOk, slice_get}
+use Rattle.std.proofs.Common.{ℕ, rules, subst, arith}
+use Rattle.std.specs.Prelude.{IfOk}
 use Rattle.vol_model.specs.Writing.{body_on}
 use Rattle.shelf_machine.specs.Machine.{shelf_under, units_of}
 use Rattle.shelf_machine.specs.Opening.{names_of}

@@ -1,5 +1,5 @@
-use Rattle.std.proofs.Common.{◌≡◌, ◌∙◌, ℕ, Bool, List, ap, sym}
-use Rattle.seq_access.specs.Bodies.{IsReadablePart, IsSetIn, end_in, part_in}
+use Rattle.std.proofs.Common.{◌≡◌, ℕ, List}
+use Rattle.seq_access.specs.Bodies.{IsReadablePart, IsSetIn, part_in}
 use Rattle.vol_model.specs.Places.{is_open_ended}
 use Rattle.vol_model.specs.Shelf.{blocks_of}
 use Rattle.vtoc_index.specs.declared.vol.Vol.{Vol}

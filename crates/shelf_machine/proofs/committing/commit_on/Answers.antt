@@ -53,7 +53,7 @@ commit-requires-clause-writing g c told =
     let found = set_found w.dsn.bytes v.slots.items w.inner.slot (c.requires.slot.1 v at).0 in
     writing_of _ v found.f w.inner (c.requires.ready.kept told w.v v at).kept found.set ((c.requires.pending told v at).0.writing found.f found.set)
 
--- the same behind the commit
+-- the same after the commit
 now_here : (g : Over) (c : goal.After-vols-1 g) → slice_get c.args.vols.now.items c.from-k.result ≡ Some c.index_mut.result.now
 now_here g c =
     slice_get-get_or c.args.vols.now.items c.from-k.result _ (omega (arith, c.from-k.ensures, c.requires.slot.0)) ∙ ap (λ (w : Vol). Some w) (sym c.index_mut.ensures.value)

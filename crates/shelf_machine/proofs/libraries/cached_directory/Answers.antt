@@ -1,4 +1,4 @@
-use Rattle.std.proofs.Common.{◌≡◌, ◌∙◌, ℕ, Option, Some, None, rules, set, sym, ap, subst, arith}
+use Rattle.std.proofs.Common.{◌∙◌, ℕ, Option, rules, set, sym, ap, subst, arith}
 use Rattle.std.specs.Prelude.{option_and_then, slice_get}
 use Rattle.vol_model.specs.Reading.{directory_size, entries_in}
 use Rattle.vol_model.specs.Writing.{body_on}

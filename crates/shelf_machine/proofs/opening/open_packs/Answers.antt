@@ -1,6 +1,5 @@
-use Rattle.std.proofs.Common.{◌≡◌, ◌<◌, ◌∙◌, ℕ, List, length, slice_get, sym, ap, subst, arith}
+use Rattle.std.proofs.Common.{◌≡◌, ◌<◌, ◌∙◌, ℕ, List, length, sym, ap, subst}
 use Rattle.std.specs.Prelude.{Contains, Err, IfErr}
-use Rattle.std.proofs.lemmas.List.{length-map}
 use Rattle.std.proofs.lemmas.Result.{err_from_is_err_and}
 use Rattle.hall_core.specs.Facts.{Attached}
 use Rattle.stop_model.specs.Files.{File}
@@ -65,7 +64,7 @@ returns-in_err-repair_all-clause-unit g c =
 
 -- ---- the packs are opened
 
--- what is known of the bodies before the repair is known of them behind it, since the images stand for the same shelf
+-- what is known of the bodies before the repair is known of them after it, since the images stand for the same shelf
 pub returns-clause-known : goal.returns-clause-known
 returns-clause-known g c told =
     let scans = c.in_ok-scans.scans.items in

@@ -1,4 +1,4 @@
-use Rattle.std.proofs.Common.{◌≡◌, ◌<◌, ℕ, List, length, get_or, vec_capacity, Some, sym, ap, subst, ◌∙◌, refl, arith}
+use Rattle.std.proofs.Common.{◌≡◌, ◌<◌, ℕ, List, length, get_or, Some, sym, ap, subst, ◌∙◌, arith}
 use Rattle.std.specs.Prelude.{Contains, Err, IfErr, slice_get}
 use Rattle.std.proofs.lemmas.Iterator.Adapters.{YieldsList-from_vec}
 use Rattle.std.proofs.lemmas.Iterator.Consumers.{YieldsList-end, YieldsList-turn}
@@ -8,7 +8,6 @@ use Rattle.std.proofs.lemmas.Result.{err_from_is_err_and}
 use Rattle.hall_core.specs.Facts.{Attached}
 use Rattle.mount_repair.specs.Scans.{IsScanOn}
 use Rattle.mount_repair.specs.declared.scanned.Scan.{Scan}
-use Rattle.vtoc_index.specs.declared.vol.Vol.{Vol}
 use Rattle.shelf_machine.specs.Known.{HoldsOn}
 use Rattle.shelf_machine.specs.Machine.{AreInOrder, units_of}
 use Rattle.shelf_machine.specs.Opening.{names_of}
@@ -17,7 +16,7 @@ use Rattle.shelf_machine.specs.declared.open_failure.OpenFailure.{OpenFailure}
 use Rattle.shelf_machine.proofs.KnownPacks.{scan_unit}
 use Rattle.shelf_machine.proofs.ReadingPacks.{mounted_scans}
 use Rattle.shelf_machine.proofs.OpenedLibraries.{HeldSoFar, held_done, held_next, held_none}
-use Rattle.shelf_machine.proofs.RepairLoops.{OpenedSoFar, none_more_scans, opened_done, opened_next, opened_none, opened_stopped, repairs_done, scan_still}
+use Rattle.shelf_machine.proofs.RepairLoops.{OpenedSoFar, none_more_scans, opened_done, opened_next, opened_none, opened_stopped, scan_still}
 use Rattle.shelf_machine.proofs.opening.repair_all.Goals as goal
 
 -- the next scan stands at the number of those that were taken

@@ -1,4 +1,4 @@
--- The extension and the put behind it are one put of the shelf, and so is an extension that is refused or fails.
+-- The extension and the put after it are one put of the shelf, and so is an extension that is refused or fails.
 use Rattle.std.proofs.Common.{◌≡◌, ◌≢◌, ℕ, Err, refl, sym, ap, ◌∙◌, subst, arith}
 use Rattle.std.specs.Prelude.{IsErrOf, Result}
 use Rattle.vol_model.specs.declared.answers.MachErr.{MachErr}

@@ -1,4 +1,4 @@
--- A put is one of the shelf: alone, or behind what is done where a track is wanted.
+-- A put is one of the shelf: alone, or after what is done where a track is wanted.
 use Rattle.std.proofs.Common.{◌≡◌, Err, sym, ap, ◌∙◌, subst}
 use Rattle.std.specs.Prelude.{IsErrOf, Result}
 use Rattle.seq_access.specs.declared.writer.PutErr.{PutErr}

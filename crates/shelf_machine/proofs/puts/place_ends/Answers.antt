@@ -1,4 +1,4 @@
--- The end-of-file blocks of an area are placed one behind another.
+-- The end-of-file blocks of an area are placed one after another.
 use Rattle.std.proofs.Common.{◌++◌, Err, refl, ap, subst}
 use Rattle.vol_model.specs.Shelf.{put_last}
 use Rattle.vol_model.specs.declared.answers.MachErr.{MachErr}

@@ -1,4 +1,4 @@
--- Nothing goes behind the blocks of a sequential set.
+-- Nothing goes after the blocks of a sequential set.
 use Rattle.std.proofs.Common.{List, Ok, sym, ap, subst}
 use Rattle.vol_model.specs.Places.{Content}
 use Rattle.vol_model.specs.Shelf.{put_last}

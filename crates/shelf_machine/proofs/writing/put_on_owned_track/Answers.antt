@@ -36,7 +36,7 @@ put-requires-clause-writing g c told =
     writing_here (g.H.Hall.facts c.args.hall.now) c.args.vols.now.items (g.H.Hall.meaning c.args.hall.now) (c.requires.ready.kept told) c.args.writer.now c.index_mut.result.now
     (ap (slice_get c.args.vols.now.items) (sym c.from-k.ensures) ∙ here g c) c.requires.slot (c.requires.pending told)
 
--- the same behind it
+-- the same after it
 there : (g : Over) (c : goal.After-vols-1 g) → slice_get c.args.vols.now.items c.from-k.result ≡ Some c.index_mut.result.now
 there g c =
     slice_get-get_or c.args.vols.now.items c.from-k.result _ (omega (arith, c.from-k.ensures, c.requires.slot.0)) ∙ ap (λ (x : Vol). Some x) (sym c.index_mut.ensures.value)

@@ -12,7 +12,7 @@ here : (g : Over) (c : goal.After-index_mut g) → slice_get c.args.vols.now.ite
 here g c =
     slice_get-get_or c.args.vols.now.items c.from-k.result _ (omega (arith, c.if-k-len.false, c.len.ensures)) ∙ ap (λ (w : Vol). Some w) (sym c.index_mut.ensures.value)
 
--- the same behind the opening
+-- the same after the opening
 still : (g : Over) (c : goal.After-vols-1 g) → slice_get c.args.vols.now.items c.from-k.result ≡ Some c.index_mut.result.now
 still g c =
     slice_get-get_or c.args.vols.now.items c.from-k.result _ (omega (arith, c.if-k-len.false, c.len.ensures)) ∙ ap (λ (w : Vol). Some w) (sym c.index_mut.ensures.value)

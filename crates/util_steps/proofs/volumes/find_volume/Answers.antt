@@ -1,4 +1,4 @@
-use Rattle.std.proofs.Common.{◌≡◌, ◌+◌, ◌≤◌, sym, ◌∙◌, ap, subst, arith, true, false, ℕ, List, length}
+use Rattle.std.proofs.Common.{◌+◌, ◌≤◌, sym, ◌∙◌, ap, arith, ℕ, List, length}
 use Rattle.std.specs.List.{position_or_len}
 use Rattle.std.specs.Str.{bytes_eq}
 use Rattle.util_steps.proofs.VolumeLemmas.{has_serial, no_volume, passed_more, past_end, position_here, position_none, tells_volume}

@@ -14,8 +14,7 @@ use Rattle.vol_model.specs.Events.{Item, code_of, events_of}
 use Rattle.vol_model.specs.Runs.{Runs}
 use Rattle.vol_model.specs.declared.answers.Stop.{Stop}
 use Rattle.vol_model.specs.declared.contents.Shelf.{Shelf}
-use Rattle.volume_manager.specs.Run.{IsStopIn, OnlySynced, RunsItems}
-use Rattle.volume_manager.proofs.JobLines.{jobs_have_lines}
+use Rattle.volume_manager.specs.Run.{IsStopIn, OnlySynced, RunsItems, status_of}
 use Rattle.volume_manager.proofs.Bases.{same_base, same_names, under_shows}
 use Rattle.volume_manager.proofs.Works.{has_worked, stops_worked, works_failed, works_finished, works_short}
 use Rattle.volume_manager.proofs.work.work.Goals as goal
@@ -32,7 +31,6 @@ returns-clause-items g c told shelf t before stood state early begun promise =
     let names = pack_names machine in
     let items : List Item = (jobs_work c.args.date c.args.jobs.now shelf).items in
     let named : pack_names new ≡ names = same_names (F (hall_of machine)) (F (hall_of new)) (indexes_of machine) (indexes_of new) c.run_jobs-ran.ensures.faults.base in
-    let have = jobs_have_lines c.args.date c.args.jobs.now shelf in
     let runs : Runs g.H.Hall.tells (events_of items) (seen (shelf_under names) old') (seen (shelf_under names) new') c.run_jobs-ran.result =
     subst (λ (n : List (List ℕ)). Runs g.H.Hall.tells (events_of items) (seen (shelf_under names) old') (seen (shelf_under n) new') c.run_jobs-ran.result) named
     (subst (λ (s : Shelf). Runs g.H.Hall.tells (events_of (jobs_work c.args.date c.args.jobs.now s).items) (seen (shelf_under names) old') (seen (shelf_under (pack_names new)) new') c.run_jobs-ran.result) state (c.run_jobs-ran.ensures.works told).does.runs) in
@@ -41,14 +39,14 @@ returns-clause-items g c told shelf t before stood state early begun promise =
     subst (λ (n : List (List ℕ)). AreSafe n shelf.volumes before files) named
     ((c.run_jobs-ran.ensures.promise told t (Files before) early promise shelf (ap (λ (n : List (List ℕ)). shelf_of (images_named before n)) named ∙ stood)).stops files printed left) in
     let stops : (files : List File) (printed : List ℕ) → new'.left_since t files printed → IsStopIn names shelf items before old'.printed files printed =
-    stops_worked names shelf items have t before (shelf_under names) shows old' new' early begun state safe told runs in
+    stops_worked names shelf items t before (shelf_under names) shows old' new' early begun state safe told runs in
     let later = runs.moments.later in
     let counts = g.met.H.Hall.counts_now (hall_of new) in
-    let at_sync : (n : ℕ) (m : Meaning (List File)) → OnlySynced (M c.close-hall.result) m n → c.match-ran.status ≡ n → M c.match-ran.hall ≡ m → OnlySynced new' (M c.match-ran.hall) c.match-ran.status = λ n m synced status hall.
+    let at_sync : (n : ℕ) (m : Meaning (List File)) → OnlySynced (M c.close-hall.result) m n → status_of c.match-ran.ended ≡ n → M c.match-ran.hall ≡ m → OnlySynced new' (M c.match-ran.hall) (status_of c.match-ran.ended) = λ n m synced status hall.
     subst (λ (k : ℕ). OnlySynced new' (M c.match-ran.hall) k) (sym status)
     (subst (λ (k : Meaning (List File)). OnlySynced new' k n) (sym hall) (subst (λ h. OnlySynced (M h) m n) c.close-hall.ensures.hall synced)) in
-    let at_close : RunsItems names shelf items t before old'.printed new' c.match-ran.status → c.match-ran.hall ≡ c.close-hall.result → RunsItems names shelf items t before old'.printed (M c.match-ran.hall) c.match-ran.status =
-    λ works is. subst (λ h. RunsItems names shelf items t before old'.printed (M h) c.match-ran.status) (sym (is ∙ c.close-hall.ensures.hall)) works in
+    let at_close : RunsItems names shelf items t before old'.printed new' (status_of c.match-ran.ended) → c.match-ran.hall ≡ c.close-hall.result → RunsItems names shelf items t before old'.printed (M c.match-ran.hall) (status_of c.match-ran.ended) =
+    λ works is. subst (λ h. RunsItems names shelf items t before old'.printed (M h) (status_of c.match-ran.ended)) (sym (is ∙ c.close-hall.ensures.hall)) works in
     elim c.match-ran.branch [
       | in-Ok w ↦
           let code = w.in-Ok.ran.code in
@@ -58,27 +56,27 @@ returns-clause-items g c told shelf t before stood state early begun promise =
           let settled = c.close-hall.ensures.settled (search rules) told in
           let all = subst (λ (n : List (List ℕ)). AreSettledImages n new'.state) named settled.settled in
           let is = total.ran.code ∙ ap (λ (s : Shelf). code_of (jobs_work c.args.date c.args.jobs.now s).items) state in
-          let done = has_worked names shelf items have t before (shelf_under names) shows old' new' early begun state safe code told counts (g.met.H.Hall.leaves_state (hall_of new)) all is w.in-Ok.ensures.small ran_ok in
-          let synced = at_sync w.finish-status.result (M w.finish-status.new.hall) (w.finish-status.ensures.files told) w.status-is (ap M w.hall-is) in
-          works_finished c.match-ran.status code (⊎_elim (λ same. inl (w.status-is ∙ same)) (λ same. inr (w.status-is ∙ same)) w.finish-status.ensures.status) counts (omega (arith, early, later)) synced done stops
-      | in-Err-Device w ↦ at_close (works_failed c.match-ran.status 22 (w.status-is ∙ w.code-status.ensures) (omega arith) (omega arith) (omega (arith, early, later)) stops) w.hall-is
-      | in-Err-Print w ↦ at_close (works_failed c.match-ran.status 24 (w.status-is ∙ w.code-status-in-Err-Print.ensures) (omega arith) (omega arith) (omega (arith, early, later)) stops) w.hall-is
+          let done = has_worked names shelf items t before (shelf_under names) shows old' new' early begun state safe code told counts (g.met.H.Hall.leaves_state (hall_of new)) all is w.in-Ok.ensures.small ran_ok in
+          let synced = at_sync (status_of w.finish-ended.result) (M w.finish-ended.new.hall) (w.finish-ended.ensures.files told) (ap status_of w.ended-is) (ap M w.hall-is) in
+          works_finished (status_of c.match-ran.ended) code (⊎_elim (λ same. inl ((ap status_of w.ended-is) ∙ same)) (λ same. inr ((ap status_of w.ended-is) ∙ same)) w.finish-ended.ensures.status) counts (omega (arith, early, later)) synced done stops
+      | in-Err-Device w ↦ at_close (works_failed (status_of c.match-ran.ended) 22 (ap status_of w.ended-is) (omega arith) (omega arith) (omega (arith, early, later)) stops) w.hall-is
+      | in-Err-Print w ↦ at_close (works_failed (status_of c.match-ran.ended) 24 (ap status_of w.ended-is) (omega arith) (omega arith) (omega (arith, early, later)) stops) w.hall-is
       | in-Err-Memory w ↦
-          let finish = w.finish-status-in-Err-Memory in
-          let synced = at_sync finish.result (M finish.new.hall) (finish.ensures.files told) w.status-is (ap M w.hall-is) in
-          works_short c.match-ran.status (⊎_elim (λ same. inl (w.status-is ∙ same ∙ w.code.ensures)) (λ same. inr (w.status-is ∙ same)) finish.ensures.status) counts (omega (arith, early, later)) synced stops
+          let finish = w.finish-ended-in-Err-Memory in
+          let synced = at_sync (status_of finish.result) (M finish.new.hall) (finish.ensures.files told) (ap status_of w.ended-is) (ap M w.hall-is) in
+          works_short (status_of c.match-ran.ended) (⊎_elim (λ same. inl ((ap status_of w.ended-is) ∙ same)) (λ same. inr ((ap status_of w.ended-is) ∙ same)) finish.ensures.status) counts (omega (arith, early, later)) synced stops
     ]
 
 pub returns-clause-durable : goal.returns-clause-durable
 returns-clause-durable g c told short =
     let M = g.H.Hall.meaning in
     elim c.match-ran.branch [
-      | in-Ok w ↦ absurd (omega (arith, short, w.status-is, w.finish-status.ensures.status, w.in-Ok.ensures.small))
-      | in-Err-Device w ↦ absurd (omega (arith, short, w.status-is, w.code-status.ensures))
-      | in-Err-Print w ↦ absurd (omega (arith, short, w.status-is, w.code-status-in-Err-Print.ensures))
+      | in-Ok w ↦ absurd (omega (arith, short, (ap status_of w.ended-is), w.finish-ended.ensures.status, w.in-Ok.ensures.small))
+      | in-Err-Device w ↦ absurd (omega (arith, short, (ap status_of w.ended-is)))
+      | in-Err-Print w ↦ absurd (omega (arith, short, (ap status_of w.ended-is)))
       | in-Err-Memory w ↦
-          let finish = w.finish-status-in-Err-Memory in
-          subst (λ h. IsDurable (M h)) (sym w.hall-is) ((finish.ensures.files told).durable (λ (failed : finish.result ≡ 22). omega (arith, short, failed, w.status-is)))
+          let finish = w.finish-ended-in-Err-Memory in
+          subst (λ h. IsDurable (M h)) (sym w.hall-is) ((finish.ensures.files told).durable (λ (failed : status_of finish.result ≡ 22). omega (arith, short, failed, (ap status_of w.ended-is))))
     ]
 
 pub returns-clause-units : goal.returns-clause-units
@@ -89,8 +87,8 @@ returns-clause-units g c =
     let base = same_base (F (hall_of machine)) (F (hall_of new)) (indexes_of machine) (indexes_of new) c.run_jobs-ran.ensures.faults.base in
     let closed : (F c.close-hall.result).units ≡ (F (hall_of machine)).units = ap (λ h. (F h).units) c.close-hall.ensures.hall ∙ base.units in
     elim c.match-ran.branch [
-      | in-Ok w ↦ ap (λ h. (F h).units) w.hall-is ∙ w.finish-status.ensures.units ∙ closed
+      | in-Ok w ↦ ap (λ h. (F h).units) w.hall-is ∙ w.finish-ended.ensures.units ∙ closed
       | in-Err-Device w ↦ ap (λ h. (F h).units) w.hall-is ∙ closed
       | in-Err-Print w ↦ ap (λ h. (F h).units) w.hall-is ∙ closed
-      | in-Err-Memory w ↦ ap (λ h. (F h).units) w.hall-is ∙ w.finish-status-in-Err-Memory.ensures.units ∙ closed
+      | in-Err-Memory w ↦ ap (λ h. (F h).units) w.hall-is ∙ w.finish-ended-in-Err-Memory.ensures.units ∙ closed
     ]

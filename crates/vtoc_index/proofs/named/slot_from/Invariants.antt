@@ -1,4 +1,4 @@
--- The names in front stand before the one that is searched for, and those behind don't.
+-- The names in front stand before the one that is searched for, and those after don't.
 use Rattle.std.proofs.Common.{◌≡◌, ◌-◌, ◌<◌, ◌≤◌, ℕ, true, false, length, get_or}
 use Rattle.vtoc_index.specs.Names.{is_lower, name_at}
 use Rattle.vtoc_index.proofs.named.slot_from.Given as goal

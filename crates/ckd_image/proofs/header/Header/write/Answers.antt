@@ -1,4 +1,4 @@
--- The fields are written behind one another, and read back.
+-- The fields are written after one another, and read back.
 use Rattle.std.proofs.Common.{◌≡◌, Ok, sym, subst, ◌∙◌}
 use Rattle.ckd_image.specs.Header.{geometry_of}
 use Rattle.ckd_image.proofs.WrittenHeaders.{written_bytes, written_read}

@@ -2,7 +2,8 @@ use Rattle.std.proofs.Common.{List, [], ap, sym, take, arith}
 use Rattle.std.proofs.lemmas.Option.{slice_get_within}
 use Rattle.util_steps.proofs.Reporting.{next_none}
 use Rattle.iebgener_util.specs.declared.orders.Order.{Order}
-use Rattle.iebgener_util.specs.Items.{input_view, order_items}
+use Rattle.record_files.specs.Inputs.{input_view}
+use Rattle.iebgener_util.specs.Items.{order_items}
 use Rattle.iebgener_util.proofs.StepLemmas.{none_left, order_left, order_next}
 use Rattle.iebgener_util.proofs.program.WorkItems.next.Goals as goal
 

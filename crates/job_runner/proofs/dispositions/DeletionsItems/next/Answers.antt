@@ -1,4 +1,4 @@
-use Rattle.std.proofs.Common.{List, ◌∷◌, sym, subst}
+use Rattle.std.proofs.Common.{List, sym, subst}
 use Rattle.std.specs.Prelude.{Some, Ok}
 use Rattle.util_steps.specs.Items.{DoesNext, items_along}
 use Rattle.util_steps.proofs.Reporting.{next_item, next_stopped}

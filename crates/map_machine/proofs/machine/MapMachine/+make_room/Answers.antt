@@ -1,4 +1,4 @@
--- Behind an extension room is made for the others; where it isn't done, no room is made.
+-- After an extension room is made for the others; where it isn't done, no room is made.
 use Rattle.std.proofs.Common.{◌≡◌, Bool, true, false, List, [], ◌∷◌, ◌++◌, sym, subst, ap, ◌∙◌, rules}
 use Rattle.std.specs.Prelude.{Result, Ok, Err}
 use Rattle.std.specs.declared.alloc.AllocError.{AllocError}

@@ -1,4 +1,4 @@
--- The open writer can commit behind an extension of its target.
+-- The open writer can commit after an extension of its target.
 use Rattle.map_machine.proofs.OpenLemmas.{open_stays}
 use Rattle.map_machine.proofs.machine.MapMachine.extend.Goals as goal
 

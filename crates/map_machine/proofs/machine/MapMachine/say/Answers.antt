@@ -1,4 +1,4 @@
--- The bytes stand behind those that were printed, and the number on the record leads back.
+-- The bytes stand after those that were printed, and the number on the record leads back.
 use Rattle.std.proofs.Common.{refl, rules}
 use Rattle.map_machine.specs.Held.{Held, held_of}
 use Rattle.map_machine.proofs.StepLemmas.{printed}

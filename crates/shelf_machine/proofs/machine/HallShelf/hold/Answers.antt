@@ -1,11 +1,6 @@
-use Rattle.std.proofs.Common.{List, sym, subst}
-use Rattle.hall_core.specs.Facts.{Attached}
-use Rattle.stop_model.specs.Files.{File}
-use Rattle.shelf_machine.specs.Known.{AreHeld, KnowsBodies}
-use Rattle.shelf_machine.specs.Machine.{AreIndexes, AreKept, shelf_under, units_of}
-use Rattle.shelf_machine.specs.Opening.{names_of}
-use Rattle.shelf_machine.proofs.Pendings.{pending_same, writer_same}
-use Rattle.shelf_machine.proofs.ReadMachines.{both_same, idles_read, read_call}
+use Rattle.shelf_machine.specs.Machine.{units_of}
+use Rattle.shelf_machine.proofs.Pendings.{writer_same}
+use Rattle.shelf_machine.proofs.ReadMachines.{idles_read, read_call}
 use Rattle.shelf_machine.proofs.Resting.{pending_rest, slot_rest}
 use Rattle.shelf_machine.proofs.machine.HallShelf.hold.Goals as goal
 

@@ -1,12 +1,8 @@
 use Rattle.std.proofs.Common.{List, sym, subst}
 use Rattle.hall_core.specs.Facts.{Attached}
-use Rattle.stop_model.specs.Files.{File}
-use Rattle.shelf_machine.specs.Known.{AreHeld, KnowsBodies}
-use Rattle.shelf_machine.specs.Machine.{AreIndexes, AreKept, shelf_under, units_of}
-use Rattle.shelf_machine.specs.Opening.{names_of}
+use Rattle.shelf_machine.specs.Machine.{AreIndexes, units_of}
 use Rattle.shelf_machine.specs.PendingShelves.{pending_left}
 use Rattle.shelf_machine.proofs.BeginCalls.{promise_at, same_at}
-use Rattle.shelf_machine.proofs.ReadMachines.{both_same}
 use Rattle.shelf_machine.proofs.SeveralPacks.{ready_later}
 use Rattle.shelf_machine.proofs.machine.HallShelf.start.Goals as goal
 

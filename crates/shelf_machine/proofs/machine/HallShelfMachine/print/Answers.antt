@@ -1,10 +1,6 @@
 use Rattle.std.proofs.Common.{List, sym, subst}
 use Rattle.hall_core.specs.Facts.{Attached}
-use Rattle.stop_model.specs.Files.{File}
-use Rattle.shelf_machine.specs.Known.{AreHeld, KnowsBodies}
-use Rattle.shelf_machine.specs.Machine.{AreIndexes, AreKept, shelf_under, units_of}
-use Rattle.shelf_machine.specs.Opening.{names_of}
-use Rattle.shelf_machine.proofs.ReadMachines.{both_same}
+use Rattle.shelf_machine.specs.Machine.{AreIndexes, shelf_under, units_of}
 use Rattle.shelf_machine.specs.Parts.{pack_names}
 use Rattle.shelf_machine.proofs.Machines.{by_files, just_printed, keeps_printed, printed_at, prints_at, prints_done, prints_failed}
 use Rattle.shelf_machine.specs.PendingShelves.{pending_left}

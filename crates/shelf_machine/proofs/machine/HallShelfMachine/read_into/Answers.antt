@@ -1,12 +1,5 @@
-use Rattle.std.proofs.Common.{List, sym, subst}
-use Rattle.hall_core.specs.Facts.{Attached}
-use Rattle.stop_model.specs.Files.{File}
-use Rattle.shelf_machine.specs.Known.{AreHeld, KnowsBodies}
-use Rattle.shelf_machine.specs.Machine.{AreIndexes, AreKept, shelf_under, units_of}
-use Rattle.shelf_machine.specs.Opening.{names_of}
-use Rattle.shelf_machine.proofs.Pendings.{pending_same}
 use Rattle.shelf_machine.proofs.MachineLibraries.{idles_through}
-use Rattle.shelf_machine.proofs.ReadMachines.{both_same, read_call}
+use Rattle.shelf_machine.proofs.ReadMachines.{read_call}
 use Rattle.shelf_machine.proofs.Resting.{pending_rest, slot_rest}
 use Rattle.shelf_machine.proofs.machine.HallShelfMachine.read_into.Goals as goal
 

@@ -1,0 +1,17 @@
+pub mod AcceptedLemmas
+pub mod AdvanceLemmas
+pub mod PutLemmas
+pub mod RecordLemmas
+pub mod HeldLemmas
+pub mod WrittenLemmas
+pub mod PlaceLemmas
+pub mod KeepLemmas
+pub mod SegmentLemmas
+pub mod BlockLemmas
+pub mod AfterLemmas
+pub mod FoundLemmas
+pub mod MemberLemmas
+pub mod AreaLemmas
+pub mod BeginLemmas
+pub mod ReaderLemmas
+pub mod CardLemmas

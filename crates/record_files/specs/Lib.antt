@@ -1,0 +1,12 @@
+pub mod Streams
+pub mod Reading
+pub mod Attributes
+pub mod Members
+pub mod Inputs
+pub mod Writing
+pub mod RecordWriter
+pub mod Advancing
+pub mod Sources
+pub mod Joined
+pub mod Reader
+pub mod Stays
