@@ -1,4 +1,5 @@
 """What the benchmarks share: the built program, its times, and its calls as the system's trace counts them."""
+import os
 import re
 import shutil
 import subprocess
@@ -78,3 +79,28 @@ def device_calls(command, image, deck=None):
     """How many reads, writes and syncs of the image one run makes, if `strace` is installed."""
     calls = traced_calls(command, [image], deck)
     return None if calls is None else counted(calls)
+
+
+def renew(images, packs):
+    """Writes the packs, durably, so that no sync of a run has to."""
+    for image, pack in zip(images, packs):
+        with open(image, "wb") as file:
+            file.write(pack)
+            file.flush()
+            os.fsync(file.fileno())
+
+
+def bare_milliseconds(images, calls):
+    """The time in which the writes and syncs of a run are done by a plain loop."""
+    files = {image: os.open(image, os.O_WRONLY) for image in images}
+    longest = bytes(max(length for *_, length in calls))
+    begin = time.perf_counter()
+    for name, image, at, length in calls:
+        if name in WRITES:
+            os.pwrite(files[image], longest[:length], at)
+        elif name in SYNCS:
+            os.fdatasync(files[image])
+    taken = (time.perf_counter() - begin) * 1000
+    for file in files.values():
+        os.close(file)
+    return taken

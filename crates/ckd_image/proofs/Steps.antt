@@ -1,6 +1,6 @@
 -- The walk over records, a record at a time.
-use Rattle.std.proofs.Common.{◌≡◌, ◌+◌, ◌-◌, ◌<◌, ℕ, suc, true, false, List, [], ◌∷◌, length, drop, Option, Some, None, Ok, Err, refl, ap, ◌∙◌, arith}
-use Rattle.std.proofs.lemmas.List.{drop-drop}
+use Rattle.std.proofs.Common.{◌≡◌, ◌+◌, ◌-◌, ◌*◌, ◌<◌, ◌≤◌, ℕ, suc, true, false, List, [], ◌∷◌, length, drop, Option, Some, None, Ok, Err, refl, ap, ◌∙◌, arith}
+use Rattle.std.proofs.lemmas.List.{drop-drop, length-drop}
 use Rattle.std.specs.Option.{option_map}
 use Rattle.ckd_image.specs.Track.{Record}
 use Rattle.ckd_image.specs.Reading.{is_at_end, record_length, is_record_at, records_to_end, records_up_to}
@@ -62,6 +62,20 @@ PassedBy-more break records most n at len bytes h p q =
     let f : suc (n + 1) ≡ n + 1 + 1 = omega arith in
     let step = rw (e, f, drop-drop len at bytes) at (q (most - (n + 1))) in
     Passed-then p step
+
+-- where a reading stands after n records: within the bytes, and no further than those records reach
+pub record StandsAt (break : ℕ → ℕ → List ℕ → Option ℕ) (records : ℕ → ℕ → List ℕ → Option (List Record)) (most n at : ℕ) (bytes : List ℕ) : Type 0 where
+  pub inside : at ≤ length bytes
+  pub bound : at ≤ n * 65798
+  pub reading : PassedBy break records most n at bytes
+
+-- it passes a record
+pub StandsAt-more : (break : ℕ → ℕ → List ℕ → Option ℕ) (records : ℕ → ℕ → List ℕ → Option (List Record)) (most n at len : ℕ) (bytes : List ℕ) → n < most → StandsAt break records most n at bytes → len ≤ length (drop at bytes) → len ≤ 65798 → ((left : ℕ) → Passed 1 len (break (suc left) (n + 1) (drop at bytes)) (break left (suc (n + 1)) (drop len (drop at bytes))) (records (suc left) (n + 1) (drop at bytes)) (records left (suc (n + 1)) (drop len (drop at bytes)))) → StandsAt break records most (n + 1) (at + len) bytes
+StandsAt-more break records most n at len bytes low was inside short step = record {
+  inside = omega (arith, length-drop at bytes, was.inside);
+  bound = omega (arith, was.bound);
+  reading = PassedBy-more break records most n at len bytes low was.reading step;
+}
 
 -- Rr stands whole in front of what is left, to the end marker
 pub to_end-record : (left r : ℕ) (bytes : List ℕ) → is_at_end bytes ≡ false → record_break true r bytes ≡ None → is_record_at r bytes ≡ true → Passed 1 (record_length bytes) (break_to_end (suc left) r bytes) (break_to_end left (suc r) (drop (record_length bytes) bytes)) (records_to_end (suc left) r bytes) (records_to_end left (suc r) (drop (record_length bytes) bytes))

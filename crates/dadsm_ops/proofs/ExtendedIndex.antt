@@ -6,7 +6,7 @@ use Rattle.vol_model.specs.declared.contents.Run.{Run}
 use Rattle.vtoc_index.specs.Index.{IsIndexOf, IsOfUnit}
 use Rattle.vtoc_index.specs.declared.vol.Vol.{Vol}
 use Rattle.dadsm_ops.proofs.NewIndex.{index_with, unit_with}
-use Rattle.dadsm_ops.proofs.UpdateEnds.{HasVtocOf}
+use Rattle.dadsm_ops.specs.Operations.{HasVtocOf}
 
 -- an index that differs from another in its slots, its free runs and its buffer alone
 abbrev pub HasNamesOf : Vol → Vol → Type 0

@@ -34,7 +34,7 @@ use Rattle.free_rebuild.specs.Updates.{Marks}
 use Rattle.free_rebuild.proofs.RunCounts.{low_tracks}
 use Rattle.dadsm_ops.specs.Allocating.{Decides, open_slots}
 use Rattle.dadsm_ops.specs.Extending.{HasExtension, HasMore, HoldAdded, IsReadable, added_type, f1_with, further_slots}
-use Rattle.dadsm_ops.specs.Operations.{image_named}
+use Rattle.dadsm_ops.specs.Operations.{HasVtocOf, image_named}
 use Rattle.free_rebuild.specs.Durable.{PutsDurably}
 use Rattle.free_rebuild.proofs.DecodedSlots.{slot_decoded, three_runs}
 use Rattle.dadsm_ops.proofs.CountedMany.{counted_many}
@@ -46,7 +46,6 @@ use Rattle.dadsm_ops.proofs.NewChoices.{volume_is}
 use Rattle.dadsm_ops.proofs.NewVolumes.{takes}
 use Rattle.dadsm_ops.proofs.OpenRoom.{more_room}
 use Rattle.slot_laws.proofs.StandingPuts.{label_by, slots_by}
-use Rattle.dadsm_ops.proofs.UpdateEnds.{HasVtocOf}
 
 -- a data set of the index on the volume of its image
 module _ (image : List ℕ) (v : Vol) (mounted : IsMounted image v) (slot : ℕ) (f : F1) (set : slice_get v.slots.items slot ≡ Some (formats.F1 f)) where

@@ -23,10 +23,9 @@ use Rattle.vtoc_index.specs.Index.{IsMounted}
 use Rattle.free_rebuild.specs.Updates.{Concludes}
 use Rattle.dadsm_ops.specs.Allocating.{Decides, HasDirectory, HasPlan, directory_runs, new_tracks}
 use Rattle.dadsm_ops.specs.Formatting.{IsFormatted}
-use Rattle.dadsm_ops.specs.Operations.{image_named}
+use Rattle.dadsm_ops.specs.Operations.{HasVtocOf, image_named}
 use Rattle.dadsm_ops.proofs.NewChoices.{volume_is}
 use Rattle.dadsm_ops.proofs.NewSetCalls.{plan_outside}
-use Rattle.dadsm_ops.proofs.UpdateEnds.{HasVtocOf}
 
 -- images that differ in the VTOC alone, of which no track is one of the runs'
 module _ (g : Geometry) (vtoc : Run) (runs : List Run) (outside : (k t : ℕ) → slice_get (owned_tracks runs) k ≡ Some t → is_in t vtoc ≡ false) (image image' : List ℕ) (differ : DifferInVtoc g vtoc image image') where

@@ -8,7 +8,7 @@ use Rattle.space_alloc.specs.Edits.{AreWithout}
 use Rattle.vol_model.specs.declared.contents.Run.{Run}
 use Rattle.vtoc_index.specs.Index.{IsIndexOf, IsOfUnit}
 use Rattle.vtoc_index.specs.declared.vol.Vol.{Vol}
-use Rattle.dadsm_ops.proofs.UpdateEnds.{HasVtocOf}
+use Rattle.dadsm_ops.specs.Operations.{HasVtocOf}
 
 module _ (v w : Vol) (others : w ≡ record v { free = w.free; by_name = w.by_name }) where
   -- it is of the same unit

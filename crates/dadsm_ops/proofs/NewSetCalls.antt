@@ -45,7 +45,7 @@ use Rattle.free_rebuild.specs.Updates.{Marks}
 use Rattle.free_rebuild.proofs.ChainLemmas.{get_low, get_set}
 use Rattle.free_rebuild.proofs.RunCounts.{low_tracks}
 use Rattle.dadsm_ops.specs.Allocating.{Decides, HasChoice, HasDirectory, HasPlan, HasFurtherIfMany, IsAbsent, PutsDirectory, extent_type, new_f1, new_lstar, open_slots, own_slots}
-use Rattle.dadsm_ops.specs.Operations.{image_named}
+use Rattle.dadsm_ops.specs.Operations.{HasVtocOf, image_named}
 use Rattle.free_rebuild.specs.Durable.{PutsDurably}
 use Rattle.dadsm_ops.proofs.ChosenTracks.{chosen_spare, runs_inside}
 use Rattle.dadsm_ops.proofs.DirectorySets.{new_read, spare_outside}
@@ -56,7 +56,6 @@ use Rattle.dadsm_ops.proofs.NewSetSteps.{IsOpenSlot, set_decides}
 use Rattle.dadsm_ops.proofs.OpenRoom.{open_room}
 use Rattle.dadsm_ops.proofs.OpenSlots.{count_less, found_first, get_behind, set_behind}
 use Rattle.slot_laws.proofs.StandingPuts.{slots_by}
-use Rattle.dadsm_ops.proofs.UpdateEnds.{HasVtocOf}
 
 -- what is planned on a volume is planned on each image that stands for it
 pub plan_stays : (before after : List ℕ) (w : Volume) (dsn : Dsn) (attr : Attr) (q : Request) (dir : ℕ) (runs : List Run) → HasPlan before dsn attr q dir runs → volume_of before ≡ Ok w → volume_of after ≡ Ok w → HasPlan after dsn attr q dir runs

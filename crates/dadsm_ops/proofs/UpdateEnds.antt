@@ -12,12 +12,8 @@ use Rattle.free_rebuild.specs.Updates.{Concludes, Marks}
 use Rattle.vol_model.specs.declared.contents.Run.{Run}
 use Rattle.dadsm_ops.specs.Allocating.{Decides, PutsDirectory, directory_runs}
 use Rattle.dadsm_ops.specs.Formatting.{DifferOn}
-use Rattle.dadsm_ops.specs.Operations.{DoesOperation, image_named}
+use Rattle.dadsm_ops.specs.Operations.{DoesOperation, HasVtocOf, image_named}
 use Rattle.dadsm_ops.proofs.Updating.{Come, GoesOn, begins, concludes_time, decides_come, decides_time, ends_done, ends_not, marks_come, marks_time, puts_come, puts_time}
-
--- an index of the same geometry and VTOC as another
-abbrev pub HasVtocOf : Vol → Vol → Type 0
-HasVtocOf v w = w ≡ record v { slots = w.slots; free = w.free; by_name = w.by_name; buf = w.buf }
 
 module _ (name : List ℕ) (operation : Volume → Result Volume Refusal) (v w : Vol) (start : Meaning (List File)) (mounted : IsMounted (image_named start.state name) v) (same : HasVtocOf v w) (Changes : List ℕ → List ℕ → Type 0) (goes : GoesOn w (image_named start.state name) Changes) where
   abbrev volume : Volume

@@ -1,7 +1,8 @@
 -- The DSCBs of a new data set (System Control Blocks GC28-6628).
-use Rattle.std.specs.Prelude.{◌≡◌, ◌≢◌, ◌⊎◌, ℕ, ◌+◌, ◌-◌, ◌*◌, ◌^◌, ◌≤◌, ◌<◌, nat_lt, not, false, Bool, List, [], ◌∷◌, ◌++◌, count_by, drop, length, map, replicate, slice_get, take, unwrap_or, Some, Result, Ok, Err, OnOk, ◌==◌, if◌then◌else◌}
+use Rattle.std.specs.Prelude.{◌≡◌, ◌≢◌, ◌⊎◌, ℕ, ◌+◌, ◌-◌, ◌*◌, ◌^◌, ◌≤◌, ◌<◌, nat_lt, not, false, Bool, IsTrue, List, [], ◌∷◌, ◌++◌, count_by, drop, length, map, replicate, slice_get, take, unwrap_or, vec_len, Some, Result, Ok, Err, OnOk, ◌==◌, if◌then◌else◌}
 use Rattle.std.specs.List.{range_with_len}
 use Rattle.std.specs.Option.{option_map_or}
+use Rattle.std.specs.Vec.{vec_capacity}
 use Rattle.ckd_image.specs.declared.device.DiskType.{DiskType}
 use Rattle.ckd_image.specs.declared.header.Geometry.{Geometry}
 use Rattle.dscb_codec.specs.declared.Dscb.{Dscb}
@@ -9,6 +10,8 @@ use Rattle.dscb_codec.specs.declared.Dscb.TheVariants as formats
 use Rattle.dscb_codec.specs.declared.F1.{F1}
 use Rattle.dscb_codec.specs.declared.F3.{F3}
 use Rattle.pack_spec.specs.New.{track_address}
+use Rattle.hall_core.specs.declared.hall.Hall.{Ghosts}
+use Rattle.hall_core.specs.Facts.{unit_of}
 use Rattle.stop_model.specs.Files.{File}
 use Rattle.stop_model.specs.Moments.{Meaning, IsDurable, Elapses}
 use Rattle.ebcdic_names.specs.declared.names.Dsn.{Dsn}
@@ -29,7 +32,7 @@ use Rattle.free_rebuild.specs.Updates.{IsMarkedFor}
 use Rattle.pack_spec.specs.Volume.{volume_of}
 use Rattle.vtoc_index.specs.Index.{IsMounted}
 use Rattle.vtoc_index.specs.Last.{lstar_of}
-use Rattle.vtoc_index.specs.Names.{name_at}
+use Rattle.vtoc_index.specs.Names.{AreByName, name_at}
 use Rattle.vtoc_index.specs.declared.vol.Vol.{Vol}
 use Rattle.vol_model.specs.declared.contents.Attr.{Attr}
 use Rattle.vol_model.specs.declared.contents.Volume.{Volume}
@@ -231,3 +234,15 @@ new_tracks q dir (Err e) = []
 abbrev pub InNewSet : Request → ℕ → Vol → List ℕ → List ℕ → Type 0
 InNewSet q dir v before =
     DifferBeside v.geometry v.vtoc (new_tracks q dir (volume_of before)) before
+
+-- No set of an index has this name, and the order of names has room for it.
+pub record IsNewName (v : Vol) (name : List ℕ) : Type 0 where
+  pub names : AreByName (name_at v.slots.items) v.by_name.items
+  pub absent : IsAbsent name v.slots.items
+  pub room : vec_len v.by_name < vec_capacity v.by_name
+
+-- a new set that is asked for has its directory once it is made
+abbrev pub GivesDirectory : {X T E : Type 0} → Ghosts X → Request → ℕ → Vol → Vol → X → X → Result T E → Type 0
+GivesDirectory g q dir v v' old new result = let name = (unit_of (g.facts old).units v.unit).name in
+    IsTrue g.tells → OnOk result (HasDirectory (image_named (g.meaning new).state name) v'.geometry
+    (new_tracks q dir (volume_of (image_named (g.meaning old).state name))) dir)

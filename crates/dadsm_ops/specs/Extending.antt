@@ -24,7 +24,9 @@ use Rattle.vol_model.specs.Slots.{slots_needed}
 use Rattle.vtoc_index.specs.Free.{open_slot}
 use Rattle.vtoc_index.specs.Index.{IsMounted, address_in}
 use Rattle.vtoc_index.specs.declared.vol.Vol.{Vol}
-use Rattle.dadsm_ops.specs.Allocating.{extent_bytes, no_extent}
+use Rattle.space_alloc.specs.declared.extents.Extents.{Extents}
+use Rattle.space_alloc.specs.Units.{listed}
+use Rattle.dadsm_ops.specs.Allocating.{AreExtents, extent_bytes, no_extent}
 
 -- A slot holds the format 1 of a data set that isn't the catalog.
 pub record HoldsSet (dscbs : List Dscb) (slot : ℕ) : Type 0 where
@@ -109,6 +111,12 @@ pub record HoldAdded (slots : List VtocSlot) (g : Geometry) (kind : ℕ) (slot :
   pub third : is_chained (f1_with g kind runs pointer set) ≡ true
       → is_some (format_3_of slots (f1_with g kind runs pointer set)) ≡ true
   pub alone : is_chained (f1_with g kind runs pointer set) ≡ true → IsPointedBy slots pointer slot
+
+-- a data set may get these extents: five at most, and sixteen with those that it has
+pub record MayBeAdded (set : F1) (extents : Extents) : Type 0 where
+  pub few : extents.n ≤ 5
+  pub total : set.extents + length (listed extents) ≤ 16
+  pub written : AreExtents (listed extents)
 
 -- A data set of a volume may have these tracks too: they are the choice for its secondary quantity, and its extents are few enough.
 pub record HasMore (set : F1) (volume : Volume) (runs : List Run) : Type 0 where

@@ -2,6 +2,7 @@
 ghost use Rattle.std.specs.Prelude.{◌≡◌, ◌≤◌, ◌<◌, ◌+◌, ◌^◌, IsOk, false, vec_len, IfOk, IsErrOf, IsTrue, OnOk, Ok, Some, length};
 ghost use Rattle.std.specs.Vec.{vec_capacity};
 ghost use Rattle.hall_core.specs.Facts.{DeviceCall, unit_of};
+ghost use Rattle.hall_core.specs.Told.{ImageHas};
 ghost use Rattle.hall_core.specs.Images.{image_in};
 ghost use Rattle.stop_model.specs.Moments.{IsDurable};
 ghost use Rattle.pack_spec.specs.Settled.{IsMarked, IsSettledVtoc};
@@ -17,9 +18,9 @@ ghost use Rattle.vol_model.specs.declared.refusals.Refusal.{Refusal};
 ghost use Rattle.vtoc_index.specs.Free.{open_slot};
 ghost use Rattle.vtoc_index.specs.Index.{IsMounted, IsOfUnit};
 ghost use Rattle.vtoc_index.specs.Names.{AreByName, name_at};
-ghost use Rattle.dadsm_ops.specs.Allocating.{AreExtents, AreTracksOf, Decides, HasDirectory, HasPlan, HasFurtherIfMany, HaveSameNames, HoldsDscb, InNewSet, IsAbsent, PutsDirectory, extent_type, new_f1, new_tracks, open_slots, own_slots};
+ghost use Rattle.dadsm_ops.specs.Allocating.{AreExtents, AreTracksOf, Decides, GivesDirectory, HasDirectory, HasPlan, HasFurtherIfMany, HaveSameNames, HoldsDscb, InNewSet, IsNewName, PutsDirectory, extent_type, new_f1, new_tracks, open_slots, own_slots};
 ghost use Rattle.dadsm_ops.specs.Formatting.{AreSpare};
-ghost use Rattle.dadsm_ops.specs.Operations.{DoesOperation, Operates, StoreCall, image_named};
+ghost use Rattle.dadsm_ops.specs.Operations.{DoesOperation, HasVtocOf, Operates, StoreCall, image_named};
 
 use crate::formatting::format_directory;
 use crate::new_set::{extent_type, new_attr, new_f1, new_f3};
@@ -62,26 +63,17 @@ pub fn allocate<H: Hall>(
     requires catalog { is_catalog dsn.now.bytes ≡ false }
     requires dir { dir ≤ 2000 }
     requires quantities { request.now.secondary < 2 ^ 24 }
-    requires mounted { let image = image_in (H.meaning hall.old) (H.facts hall.old) vol.old.unit in
-        IsTrue H.tells → IsMounted image vol.old }
-    requires settled { let image = image_in (H.meaning hall.old) (H.facts hall.old) vol.old.unit in
-        IsTrue H.tells → IsSettledVtoc image }
+    requires mounted { ImageHas H.Hall hall.old vol.old.unit (λ image. IsMounted image vol.old) }
+    requires settled { ImageHas H.Hall hall.old vol.old.unit IsSettledVtoc }
     requires durable { IsTrue H.tells → IsDurable (H.meaning hall.old) }
     ensures files { IsTrue H.tells → Operates (unit_of (H.facts hall.old).units vol.old.unit).name
         (allocate_on dsn.now attr.now request.now dir) vol.new (InNewSet request.now dir vol.new)
         (H.meaning hall.old) (H.meaning hall.new) result }
-    ensures directory { let name = (unit_of (H.facts hall.old).units vol.old.unit).name in
-        IsTrue H.tells → OnOk result (HasDirectory (image_named (H.meaning hall.new).state name)
-        vol.new.geometry (new_tracks request.now dir
-        (volume_of (image_named (H.meaning hall.old).state name))) dir) }
+    ensures directory { GivesDirectory H.Hall request.now dir vol.old vol.new hall.old hall.new
+        result }
     ensures unit { IsOfUnit (H.facts hall.new).units vol.new }
     ensures names { OnOk result (AreByName (name_at vol.new.slots.items) vol.new.by_name.items) }
-    ensures index { vol.new ≡ record vol.old {
-      slots = vol.new.slots;
-      free = vol.new.free;
-      by_name = vol.new.by_name;
-      buf = vol.new.buf;
-    } }
+    ensures index { HasVtocOf vol.old vol.new }
     ensures refused { (r : Refusal) → IsErrOf result (StoreErr.Refused r)
         → (hall.new ≡ hall.old) × (vol.new ≡ vol.old) }
     ensures memory { IsErrOf result StoreErr.Memory → (hall.new ≡ hall.old)
@@ -121,9 +113,7 @@ fn carry_out<H: Hall>(
     dir: u32,
 ) -> Result<(), Device>
     requires unit { IsOfUnit (H.facts hall.old).units vol.old }
-    requires names { AreByName (name_at vol.old.slots.items) vol.old.by_name.items }
-    requires absent { IsAbsent dsn.now.bytes vol.old.slots.items }
-    requires name_room { vec_len vol.old.by_name < vec_capacity vol.old.by_name }
+    requires name { IsNewName vol.old dsn.now.bytes }
     requires catalog { is_catalog dsn.now.bytes ≡ false }
     requires quantities { request.now.secondary < 2 ^ 24 }
     requires few { extents.now.n ≤ 5 }
@@ -133,28 +123,19 @@ fn carry_out<H: Hall>(
     requires tracks_room { lacks_room vol.old.geometry.device dsn.now.bytes dir
         (tracks_in (listed extents.now)) ≡ false }
     requires room { vec_len vol.old.free + 6 ≤ vec_capacity vol.old.free }
-    requires plan { let image = image_in (H.meaning hall.old) (H.facts hall.old) vol.old.unit in
-        IsTrue H.tells → HasPlan image dsn.now attr.now request.now dir (listed extents.now) }
-    requires mounted { let image = image_in (H.meaning hall.old) (H.facts hall.old) vol.old.unit in
-        IsTrue H.tells → IsMounted image vol.old }
-    requires settled { let image = image_in (H.meaning hall.old) (H.facts hall.old) vol.old.unit in
-        IsTrue H.tells → IsSettledVtoc image }
+    requires plan { ImageHas H.Hall hall.old vol.old.unit (λ image.
+        HasPlan image dsn.now attr.now request.now dir (listed extents.now)) }
+    requires mounted { ImageHas H.Hall hall.old vol.old.unit (λ image. IsMounted image vol.old) }
+    requires settled { ImageHas H.Hall hall.old vol.old.unit IsSettledVtoc }
     requires durable { IsTrue H.tells → IsDurable (H.meaning hall.old) }
     ensures files { IsTrue H.tells → DoesOperation (unit_of (H.facts hall.old).units vol.old.unit).name
         (allocate_on dsn.now attr.now request.now dir) vol.new (InNewSet request.now dir vol.new)
         (H.meaning hall.old) (H.meaning hall.new) result }
-    ensures directory { let name = (unit_of (H.facts hall.old).units vol.old.unit).name in
-        IsTrue H.tells → OnOk result (HasDirectory (image_named (H.meaning hall.new).state name)
-        vol.new.geometry (new_tracks request.now dir
-        (volume_of (image_named (H.meaning hall.old).state name))) dir) }
+    ensures directory { GivesDirectory H.Hall request.now dir vol.old vol.new hall.old hall.new
+        result }
     ensures unit { IsOfUnit (H.facts hall.new).units vol.new }
     ensures names { OnOk result (AreByName (name_at vol.new.slots.items) vol.new.by_name.items) }
-    ensures index { vol.new ≡ record vol.old {
-      slots = vol.new.slots;
-      free = vol.new.free;
-      by_name = vol.new.by_name;
-      buf = vol.new.buf;
-    } }
+    ensures index { HasVtocOf vol.old vol.new }
     ensures room { vec_capacity vol.new.free ≡ vec_capacity vol.old.free }
     ensures faults { DeviceCall (H.facts hall.old) (H.facts hall.new) result }
 {
@@ -182,10 +163,9 @@ fn put_directory<H: Hall>(
     requires spare { let image = image_in (H.meaning hall.old) (H.facts hall.old) vol.old.unit in
         (volume : Volume) → volume_of image ≡ Ok volume
         → IsTrue H.tells → AreSpare volume (listed extents.now) }
-    requires mounted { let image = image_in (H.meaning hall.old) (H.facts hall.old) vol.old.unit in
-        IsTrue H.tells → IsMounted image vol.old }
-    requires marked { let image = image_in (H.meaning hall.old) (H.facts hall.old) vol.old.unit in
-        IsTrue H.tells → IsMarked (slots_of_vtoc image vol.old.geometry vol.old.vtoc) }
+    requires mounted { ImageHas H.Hall hall.old vol.old.unit (λ image. IsMounted image vol.old) }
+    requires marked { ImageHas H.Hall hall.old vol.old.unit (λ image.
+        IsMarked (slots_of_vtoc image vol.old.geometry vol.old.vtoc)) }
     requires durable { IsTrue H.tells → IsDurable (H.meaning hall.old) }
     ensures files { IsTrue H.tells
         → PutsDirectory (unit_of (H.facts hall.old).units vol.old.unit).name (listed extents.now)
@@ -230,16 +210,15 @@ fn put_further<H: Hall>(
     requires few { extents.now.n ≤ 5 }
     requires written { AreExtents (listed extents.now) }
     requires slots { IsTrue H.tells → own_slots (listed extents.now) ≤ open_slots vol.old.slots.items }
-    requires mounted { let image = image_in (H.meaning hall.old) (H.facts hall.old) vol.old.unit in
-        IsTrue H.tells → IsMounted image vol.old }
-    requires marked { let image = image_in (H.meaning hall.old) (H.facts hall.old) vol.old.unit in
-        IsTrue H.tells → IsMarked (slots_of_vtoc image vol.old.geometry vol.old.vtoc) }
+    requires mounted { ImageHas H.Hall hall.old vol.old.unit (λ image. IsMounted image vol.old) }
+    requires marked { ImageHas H.Hall hall.old vol.old.unit (λ image.
+        IsMarked (slots_of_vtoc image vol.old.geometry vol.old.vtoc)) }
     requires durable { IsTrue H.tells → IsDurable (H.meaning hall.old) }
     ensures files { IsTrue H.tells → Marks (unit_of (H.facts hall.old).units vol.old.unit).name
         vol.new (H.meaning hall.old) (H.meaning hall.new) result }
-    ensures third { let image = image_in (H.meaning hall.new) (H.facts hall.new) vol.old.unit in
-        IsTrue H.tells → IfOk result (HasFurtherIfMany (slots_of_vtoc image vol.old.geometry vol.old.vtoc)
-        vol.old.geometry (extent_type request.now.unit) (listed extents.now)) }
+    ensures third { ImageHas H.Hall hall.new vol.old.unit (λ image.
+        IfOk result (HasFurtherIfMany (slots_of_vtoc image vol.old.geometry vol.old.vtoc)
+        vol.old.geometry (extent_type request.now.unit) (listed extents.now))) }
     ensures slots { IsTrue H.tells → OnOk result (1 ≤ open_slots vol.new.slots.items) }
     ensures names { OnOk result (HaveSameNames vol.old.slots.items vol.new.slots.items) }
     ensures others { vol.new ≡ record vol.old { slots = vol.new.slots; buf = vol.new.buf } }
@@ -267,9 +246,7 @@ fn put_set<H: Hall>(
     dir: u32,
 ) -> Result<(), Device>
     requires unit { IsOfUnit (H.facts hall.old).units vol.old }
-    requires names { AreByName (name_at vol.old.slots.items) vol.old.by_name.items }
-    requires absent { IsAbsent dsn.now.bytes vol.old.slots.items }
-    requires name_room { vec_len vol.old.by_name < vec_capacity vol.old.by_name }
+    requires name { IsNewName vol.old dsn.now.bytes }
     requires catalog { is_catalog dsn.now.bytes ≡ false }
     requires quantities { request.now.secondary < 2 ^ 24 }
     requires few { extents.now.n ≤ 5 }
@@ -277,17 +254,16 @@ fn put_set<H: Hall>(
     requires room { vec_len vol.old.free + 6 ≤ vec_capacity vol.old.free }
     requires slots { IsTrue H.tells → 1 ≤ open_slots vol.old.slots.items }
     requires dir { dir ≤ 2000 }
-    requires plan { let image = image_in (H.meaning hall.old) (H.facts hall.old) vol.old.unit in
-        IsTrue H.tells → HasPlan image dsn.now attr.now request.now dir (listed extents.now) }
-    requires body { let image = image_in (H.meaning hall.old) (H.facts hall.old) vol.old.unit in
-        IsTrue H.tells → HasDirectory image vol.old.geometry (listed extents.now) dir }
-    requires third { let image = image_in (H.meaning hall.old) (H.facts hall.old) vol.old.unit in
-        IsTrue H.tells → HasFurtherIfMany (slots_of_vtoc image vol.old.geometry vol.old.vtoc) vol.old.geometry
-        (extent_type request.now.unit) (listed extents.now) pointer }
-    requires mounted { let image = image_in (H.meaning hall.old) (H.facts hall.old) vol.old.unit in
-        IsTrue H.tells → IsMounted image vol.old }
-    requires marked { let image = image_in (H.meaning hall.old) (H.facts hall.old) vol.old.unit in
-        IsTrue H.tells → IsMarked (slots_of_vtoc image vol.old.geometry vol.old.vtoc) }
+    requires plan { ImageHas H.Hall hall.old vol.old.unit (λ image.
+        HasPlan image dsn.now attr.now request.now dir (listed extents.now)) }
+    requires body { ImageHas H.Hall hall.old vol.old.unit (λ image.
+        HasDirectory image vol.old.geometry (listed extents.now) dir) }
+    requires third { ImageHas H.Hall hall.old vol.old.unit (λ image.
+        HasFurtherIfMany (slots_of_vtoc image vol.old.geometry vol.old.vtoc) vol.old.geometry
+        (extent_type request.now.unit) (listed extents.now) pointer) }
+    requires mounted { ImageHas H.Hall hall.old vol.old.unit (λ image. IsMounted image vol.old) }
+    requires marked { ImageHas H.Hall hall.old vol.old.unit (λ image.
+        IsMarked (slots_of_vtoc image vol.old.geometry vol.old.vtoc)) }
     requires durable { IsTrue H.tells → IsDurable (H.meaning hall.old) }
     ensures files { IsTrue H.tells → Decides (unit_of (H.facts hall.old).units vol.old.unit).name
         (allocate_on dsn.now attr.now request.now dir) vol.new (H.meaning hall.old)
@@ -297,12 +273,7 @@ fn put_set<H: Hall>(
         (extent_type request.now.unit) (listed extents.now) pointer dir))) }
     ensures unit { IsOfUnit (H.facts hall.new).units vol.new }
     ensures names { OnOk result (AreByName (name_at vol.new.slots.items) vol.new.by_name.items) }
-    ensures index { vol.new ≡ record vol.old {
-      slots = vol.new.slots;
-      free = vol.new.free;
-      by_name = vol.new.by_name;
-      buf = vol.new.buf;
-    } }
+    ensures index { HasVtocOf vol.old vol.new }
     ensures room { vec_capacity vol.new.free ≡ vec_capacity vol.old.free }
     ensures faults { DeviceCall (H.facts hall.old) (H.facts hall.new) result }
 {

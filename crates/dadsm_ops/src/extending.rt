@@ -3,7 +3,7 @@ ghost use Rattle.std.specs.Prelude.{◌≡◌, ◌≤◌, ◌<◌, ◌+◌, ℕ,
 ghost use Rattle.std.specs.Str.{bytes_eq};
 ghost use Rattle.std.specs.Vec.{vec_capacity};
 ghost use Rattle.hall_core.specs.Facts.{Attached, DeviceCall, unit_of};
-ghost use Rattle.hall_core.specs.Images.{image_in};
+ghost use Rattle.hall_core.specs.Told.{ImageHas};
 ghost use Rattle.stop_model.specs.Moments.{IsDurable};
 ghost use Rattle.dscb_codec.specs.declared.Dscb.{Dscb};
 ghost use Rattle.dscb_codec.specs.declared.F3.{F3};
@@ -20,7 +20,7 @@ ghost use Rattle.vtoc_index.specs.Index.{IsMounted, IsOfUnit, address_in};
 ghost use Rattle.vtoc_index.specs.Names.{AreByName, name_at};
 ghost use Rattle.vtoc_sets.specs.Sets.{leads_to};
 ghost use Rattle.dadsm_ops.specs.Allocating.{AreExtents, Decides, HaveSameNames, open_slots};
-ghost use Rattle.dadsm_ops.specs.Extending.{HasExtension, HasMore, HoldAdded, HoldsFurther, HoldsSet, IsForFurther, IsLedTo, IsReadable, IsRefused, added_type, f1_with, further_slots};
+ghost use Rattle.dadsm_ops.specs.Extending.{HasExtension, HasMore, HoldAdded, HoldsFurther, HoldsSet, IsForFurther, IsLedTo, IsReadable, IsRefused, MayBeAdded, added_type, f1_with, further_slots};
 ghost use Rattle.dadsm_ops.specs.Operations.{DoesOperation, InVtoc, Operates, StoreCall};
 
 use crate::added::{
@@ -55,13 +55,10 @@ pub fn extend<H: Hall>(hall: &mut H, vol: &mut Vol, slot: u32) -> Result<(), Sto
     requires names { AreByName (name_at vol.old.slots.items) vol.old.by_name.items }
     requires set { HoldsSet vol.old.slots.items slot }
     requires room { vec_len vol.old.free + 6 ≤ vec_capacity vol.old.free }
-    requires mounted { let image = image_in (H.meaning hall.old) (H.facts hall.old) vol.old.unit in
-        IsTrue H.tells → IsMounted image vol.old }
-    requires body { let image = image_in (H.meaning hall.old) (H.facts hall.old) vol.old.unit in
-        IsTrue H.tells → (name : List ℕ) → name_at vol.old.slots.items slot ≡ Some name
-        → IsReadable image name }
-    requires settled { let image = image_in (H.meaning hall.old) (H.facts hall.old) vol.old.unit in
-        IsTrue H.tells → IsSettledVtoc image }
+    requires mounted { ImageHas H.Hall hall.old vol.old.unit (λ image. IsMounted image vol.old) }
+    requires body { ImageHas H.Hall hall.old vol.old.unit (λ image.
+        (name : List ℕ) → name_at vol.old.slots.items slot ≡ Some name → IsReadable image name) }
+    requires settled { ImageHas H.Hall hall.old vol.old.unit IsSettledVtoc }
     requires durable { IsTrue H.tells → IsDurable (H.meaning hall.old) }
     ensures files { (dsn : Dsn) → name_at vol.old.slots.items slot ≡ Some dsn.bytes
         → IsTrue H.tells → Operates (unit_of (H.facts hall.old).units vol.old.unit).name
@@ -161,18 +158,13 @@ fn carry_out<H: Hall>(
     requires names { AreByName (name_at vol.old.slots.items) vol.old.by_name.items }
     requires set { slice_get vol.old.slots.items slot ≡ Some (Dscb.F1 set.now) }
     requires catalog { is_catalog set.now.name ≡ false }
-    requires few { extents.now.n ≤ 5 }
-    requires total { set.now.extents + length (listed extents.now) ≤ 16 }
-    requires written { AreExtents (listed extents.now) }
+    requires more { MayBeAdded set.now extents.now }
     requires room { vec_len vol.old.free + 6 ≤ vec_capacity vol.old.free }
-    requires plan { let image = image_in (H.meaning hall.old) (H.facts hall.old) vol.old.unit in
-        IsTrue H.tells → HasExtension image set.now (listed extents.now) }
-    requires mounted { let image = image_in (H.meaning hall.old) (H.facts hall.old) vol.old.unit in
-        IsTrue H.tells → IsMounted image vol.old }
-    requires body { let image = image_in (H.meaning hall.old) (H.facts hall.old) vol.old.unit in
-        IsTrue H.tells → IsReadable image set.now.name }
-    requires settled { let image = image_in (H.meaning hall.old) (H.facts hall.old) vol.old.unit in
-        IsTrue H.tells → IsSettledVtoc image }
+    requires plan { ImageHas H.Hall hall.old vol.old.unit (λ image.
+        HasExtension image set.now (listed extents.now)) }
+    requires mounted { ImageHas H.Hall hall.old vol.old.unit (λ image. IsMounted image vol.old) }
+    requires body { ImageHas H.Hall hall.old vol.old.unit (λ image. IsReadable image set.now.name) }
+    requires settled { ImageHas H.Hall hall.old vol.old.unit IsSettledVtoc }
     requires durable { IsTrue H.tells → IsDurable (H.meaning hall.old) }
     ensures files { (dsn : Dsn) → set.now.name ≡ dsn.bytes → IsTrue H.tells
         → DoesOperation (unit_of (H.facts hall.old).units vol.old.unit).name (extend_on dsn) vol.new
@@ -258,21 +250,18 @@ fn put_added<H: Hall>(
 ) -> Result<[u8; 5], Device>
     requires unit { IsOfUnit (H.facts hall.old).units vol.old }
     requires set { slice_get vol.old.slots.items slot ≡ Some (Dscb.F1 set.now) }
-    requires few { extents.now.n ≤ 5 }
-    requires total { set.now.extents + length (listed extents.now) ≤ 16 }
-    requires written { AreExtents (listed extents.now) }
+    requires more { MayBeAdded set.now extents.now }
     requires slots { IsTrue H.tells
         → further_slots set.now.extents (listed extents.now) ≤ open_slots vol.old.slots.items }
-    requires mounted { let image = image_in (H.meaning hall.old) (H.facts hall.old) vol.old.unit in
-        IsTrue H.tells → IsMounted image vol.old }
-    requires marked { let image = image_in (H.meaning hall.old) (H.facts hall.old) vol.old.unit in
-        IsTrue H.tells → IsMarked (slots_of_vtoc image vol.old.geometry vol.old.vtoc) }
+    requires mounted { ImageHas H.Hall hall.old vol.old.unit (λ image. IsMounted image vol.old) }
+    requires marked { ImageHas H.Hall hall.old vol.old.unit (λ image.
+        IsMarked (slots_of_vtoc image vol.old.geometry vol.old.vtoc)) }
     requires durable { IsTrue H.tells → IsDurable (H.meaning hall.old) }
     ensures files { IsTrue H.tells → Marks (unit_of (H.facts hall.old).units vol.old.unit).name
         vol.new (H.meaning hall.old) (H.meaning hall.new) result }
-    ensures added { let image = image_in (H.meaning hall.new) (H.facts hall.new) vol.old.unit in
-        IsTrue H.tells → IfOk result (HoldAdded (slots_of_vtoc image vol.old.geometry vol.old.vtoc)
-        vol.old.geometry (added_type (attr_of set.now)) slot set.now (listed extents.now)) }
+    ensures added { ImageHas H.Hall hall.new vol.old.unit (λ image.
+        IfOk result (HoldAdded (slots_of_vtoc image vol.old.geometry vol.old.vtoc)
+        vol.old.geometry (added_type (attr_of set.now)) slot set.now (listed extents.now))) }
     ensures format_3 { 3 < set.now.extents + length (listed extents.now) → OnOk result (HoldsFurther
         vol.old vol.new.slots.items set.now (added_type (attr_of set.now)) (listed extents.now)) }
     ensures set { OnOk result (slice_get vol.new.slots.items slot ≡ Some (Dscb.F1 set.now)) }
@@ -305,21 +294,17 @@ fn put_extended<H: Hall>(
     requires names { AreByName (name_at vol.old.slots.items) vol.old.by_name.items }
     requires set { slice_get vol.old.slots.items slot ≡ Some (Dscb.F1 set.now) }
     requires catalog { is_catalog set.now.name ≡ false }
-    requires few { extents.now.n ≤ 5 }
-    requires total { set.now.extents + length (listed extents.now) ≤ 16 }
-    requires written { AreExtents (listed extents.now) }
+    requires more { MayBeAdded set.now extents.now }
     requires room { vec_len vol.old.free + 6 ≤ vec_capacity vol.old.free }
-    requires plan { let image = image_in (H.meaning hall.old) (H.facts hall.old) vol.old.unit in
-        IsTrue H.tells → HasExtension image set.now (listed extents.now) }
-    requires added { let image = image_in (H.meaning hall.old) (H.facts hall.old) vol.old.unit in
-        IsTrue H.tells → HoldAdded (slots_of_vtoc image vol.old.geometry vol.old.vtoc) vol.old.geometry
-        (added_type (attr_of set.now)) slot set.now (listed extents.now) pointer }
-    requires mounted { let image = image_in (H.meaning hall.old) (H.facts hall.old) vol.old.unit in
-        IsTrue H.tells → IsMounted image vol.old }
-    requires body { let image = image_in (H.meaning hall.old) (H.facts hall.old) vol.old.unit in
-        IsTrue H.tells → IsReadable image set.now.name }
-    requires marked { let image = image_in (H.meaning hall.old) (H.facts hall.old) vol.old.unit in
-        IsTrue H.tells → IsMarked (slots_of_vtoc image vol.old.geometry vol.old.vtoc) }
+    requires plan { ImageHas H.Hall hall.old vol.old.unit (λ image.
+        HasExtension image set.now (listed extents.now)) }
+    requires added { ImageHas H.Hall hall.old vol.old.unit (λ image.
+        HoldAdded (slots_of_vtoc image vol.old.geometry vol.old.vtoc) vol.old.geometry
+        (added_type (attr_of set.now)) slot set.now (listed extents.now) pointer) }
+    requires mounted { ImageHas H.Hall hall.old vol.old.unit (λ image. IsMounted image vol.old) }
+    requires body { ImageHas H.Hall hall.old vol.old.unit (λ image. IsReadable image set.now.name) }
+    requires marked { ImageHas H.Hall hall.old vol.old.unit (λ image.
+        IsMarked (slots_of_vtoc image vol.old.geometry vol.old.vtoc)) }
     requires durable { IsTrue H.tells → IsDurable (H.meaning hall.old) }
     ensures files { (dsn : Dsn) → set.now.name ≡ dsn.bytes → IsTrue H.tells
         → Decides (unit_of (H.facts hall.old).units vol.old.unit).name (extend_on dsn) vol.new

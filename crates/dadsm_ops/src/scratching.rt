@@ -5,7 +5,7 @@ ghost use Rattle.ckd_image.specs.Device.{row_of};
 ghost use Rattle.ckd_image.specs.Header.{HasGeometry};
 ghost use Rattle.ebcdic_names.specs.declared.names.Dsn.{Dsn};
 ghost use Rattle.hall_core.specs.Facts.{Attached, DeviceCall, unit_of};
-ghost use Rattle.hall_core.specs.Images.{image_in};
+ghost use Rattle.hall_core.specs.Told.{ImageHas};
 ghost use Rattle.stop_model.specs.Moments.{IsDurable};
 ghost use Rattle.pack_spec.specs.Label.{tracks_of};
 ghost use Rattle.vol_model.specs.Shelf.{scratch_on};
@@ -14,7 +14,7 @@ ghost use Rattle.vtoc_index.specs.Index.{IsMounted, IsOfUnit};
 ghost use Rattle.vtoc_index.specs.Names.{AreByName, IsForgotten, name_at};
 ghost use Rattle.dscb_codec.specs.declared.Dscb.{Dscb};
 ghost use Rattle.vtoc_sets.specs.Sets.{HasSet, extents_in};
-ghost use Rattle.dadsm_ops.specs.Operations.{DoesOperation, InVtoc};
+ghost use Rattle.dadsm_ops.specs.Operations.{DoesOperation, HasVtocOf, InVtoc};
 ghost use Rattle.dadsm_ops.specs.Scratching.{AreFreed, usable_tracks};
 
 use ckd_image::Geometry;
@@ -45,8 +45,7 @@ pub fn scratch<H: Hall>(hall: &mut H, vol: &mut Vol, slot: u32) -> Result<(), De
     requires names { AreByName (name_at vol.old.slots.items) vol.old.by_name.items }
     requires set { is_some (name_at vol.old.slots.items slot) ≡ true }
     requires room { vec_len vol.old.free + 16 ≤ vec_capacity vol.old.free }
-    requires mounted { let image = image_in (H.meaning hall.old) (H.facts hall.old) vol.old.unit in
-        IsTrue H.tells → IsMounted image vol.old }
+    requires mounted { ImageHas H.Hall hall.old vol.old.unit (λ image. IsMounted image vol.old) }
     requires durable { IsTrue H.tells → IsDurable (H.meaning hall.old) }
     ensures files { (dsn : Dsn) → name_at vol.old.slots.items slot ≡ Some dsn.bytes
         → IsTrue H.tells → DoesOperation (unit_of (H.facts hall.old).units vol.old.unit).name
@@ -54,12 +53,7 @@ pub fn scratch<H: Hall>(hall: &mut H, vol: &mut Vol, slot: u32) -> Result<(), De
         result }
     ensures unit { IsOfUnit (H.facts hall.new).units vol.new }
     ensures names { OnOk result (AreByName (name_at vol.new.slots.items) vol.new.by_name.items) }
-    ensures index { vol.new ≡ record vol.old {
-      slots = vol.new.slots;
-      free = vol.new.free;
-      by_name = vol.new.by_name;
-      buf = vol.new.buf;
-    } }
+    ensures index { HasVtocOf vol.old vol.new }
     ensures room { vec_capacity vol.new.free ≡ vec_capacity vol.old.free }
     ensures faults { DeviceCall (H.facts hall.old) (H.facts hall.new) result }
 {

@@ -10,6 +10,8 @@ use Rattle.dscb_codec.specs.declared.Dscb.{Dscb}
 use Rattle.dscb_codec.specs.declared.Dscb.TheVariants as formats
 use Rattle.dscb_codec.specs.declared.F4.{F4}
 use Rattle.dscb_codec.specs.Layout.{decoded}
+use Rattle.hall_core.specs.Facts.{Attached, unit_of}
+use Rattle.hall_core.specs.Images.{AreWhole}
 use Rattle.stop_model.specs.Files.{File, file_of, patched}
 use Rattle.stop_model.specs.Moments.{Meaning, IsDurable, Elapses}
 use Rattle.stop_model.specs.Steps.{StepTo}
@@ -23,7 +25,7 @@ use Rattle.pack_spec.specs.Settled.{AreSettled, IsMarked, IsSettledVtoc, head_in
 use Rattle.pack_spec.specs.Slots.{slots_of_vtoc}
 use Rattle.pack_spec.specs.Volume.{volume_of}
 use Rattle.vtoc_index.specs.declared.vol.Vol.{Vol}
-use Rattle.vtoc_index.specs.Index.{IsIndexOf, IsMounted, IsPut, address_in, place_of_slot}
+use Rattle.vtoc_index.specs.Index.{IsIndexOf, IsMounted, IsOfUnit, IsPut, address_in, place_of_slot}
 use Rattle.free_rebuild.specs.Chain.{IsOpenAt, chained}
 use Rattle.vtoc_index.specs.Bits.{with_bit}
 use Rattle.free_rebuild.specs.Clearing.{AreCleared, free_in, highest_among, with_counts}
@@ -36,9 +38,11 @@ use Rattle.free_rebuild.proofs.ChainLemmas.{chained_length, get_low, get_set, ge
 use Rattle.free_rebuild.proofs.MarkLemmas.{marked_on}
 use Rattle.free_rebuild.proofs.PutLemmas.{put_anywhere}
 use Rattle.free_rebuild.proofs.RoomThere.{front_stays}
+use Rattle.free_rebuild.proofs.RunCounts.{low_tracks}
 use Rattle.free_rebuild.proofs.SeenLemmas.{Seen, guarded_of, marked_of, safe_guarded, safe_of, seen_alike, seen_first}
 use Rattle.free_rebuild.proofs.SettledRepair.{IsRepaired, four_stays, repaired_settled, stands_parts}
 use Rattle.free_rebuild.proofs.StandLemmas.{HasFront, PutsFour, alike_itself, four_alike, has_front, slots_by, volume_on}
+use Rattle.free_rebuild.proofs.WriteLemmas.{image_there}
 
 -- What stops left since a moment has S, and nothing was printed.
 pub record Since (S : List File → Type 0) (old now : Meaning (List File)) : Type 0 where
@@ -133,7 +137,17 @@ pub record Marked (name : List ℕ) (v : Vol) (volume : Volume) (old now : Meani
   pub first : head_of (slots_by (image_named now.state name) w) ≡ Some head
   pub on : is_marked head ≡ true
 
-module _ (name : List ℕ) (v : Vol) (old : Meaning (List File)) (low : v.vtoc.start + v.vtoc.len ≤ 65536) (there : file_of old.state name ≡ Some (image_named old.state name)) (mounted : IsMounted (image_named old.state name) v) (durable : IsDurable old) where
+-- An update begins: the image of an index is there, and no write is pending.
+pub record Entered (name : List ℕ) (v : Vol) (old : Meaning (List File)) : Type 0 where
+  pub low : v.vtoc.start + v.vtoc.len ≤ 65536
+  pub there : file_of old.state name ≡ Some (image_named old.state name)
+  pub mounted : IsMounted (image_named old.state name) v
+  pub durable : IsDurable old
+
+pub entered : (units : List Attached) (v : Vol) (old : Meaning (List File)) → AreWhole old.state units → IsOfUnit units v → IsMounted (image_named old.state (unit_of units v.unit).name) v → IsDurable old → Entered (unit_of units v.unit).name v old
+entered units v old whole of mounted durable = record { low = low_tracks units v of; there = image_there old.state units v.unit whole of.attached; mounted = mounted; durable = durable }
+
+module _ (name : List ℕ) (v : Vol) (old : Meaning (List File)) (start : Entered name v old) where
   abbrev whole : Volume
   whole = volume_on (image_named old.state name) v
 
@@ -144,7 +158,7 @@ module _ (name : List ℕ) (v : Vol) (old : Meaning (List File)) (low : v.vtoc.s
   Guarded files = IsGuardedFor name whole old.state files
 
   first : Seen name v whole old.state old.state v
-  first = seen_first name v old.state there mounted
+  first = seen_first name v old.state start.there start.mounted
 
   safe_first : Safe old.state
   safe_first = safe_of name v whole old.state old.state v first (inr refl)
@@ -153,7 +167,7 @@ module _ (name : List ℕ) (v : Vol) (old : Meaning (List File)) (low : v.vtoc.s
   pub repairs_not : {T E : Type 0} {new : Meaning (List File)} (v' : Vol) (answer : Result T E) → IsErr answer → Since Safe old new → Repairs name v' old new answer
   repairs_not v' answer failed since = record {
     volume = whole;
-    before = mounted.volume;
+    before = start.mounted.volume;
     safe = IfOk-from_err answer _ failed;
     settled = IfOk-from_err answer _ failed;
     index = IfOk-from_err answer _ failed;
@@ -166,7 +180,7 @@ module _ (name : List ℕ) (v : Vol) (old : Meaning (List File)) (low : v.vtoc.s
   pub concludes_not : {T E : Type 0} {new : Meaning (List File)} (v' : Vol) (answer : Result T E) → IsErr answer → Since Guarded old new → Concludes name v' old new answer
   concludes_not v' answer failed since = record {
     volume = whole;
-    before = mounted.volume;
+    before = start.mounted.volume;
     safe = IfOk-from_err answer _ failed;
     settled = IfOk-from_err answer _ failed;
     index = IfOk-from_err answer _ failed;
@@ -179,8 +193,8 @@ module _ (name : List ℕ) (v : Vol) (old : Meaning (List File)) (low : v.vtoc.s
   pub marked_first : IsMarked (slots_by (image_named old.state name) v) → Marked name v whole old old v
   marked_first marked = record {
     since = since_none Safe old;
-    durable = durable;
-    seen = seen_first name v old.state there mounted;
+    durable = start.durable;
+    seen = seen_first name v old.state start.there start.mounted;
     head = marked.0;
     first = marked.1;
     on = marked.2;
@@ -192,7 +206,7 @@ module _ (name : List ℕ) (v : Vol) (old : Meaning (List File)) (low : v.vtoc.s
   -- the bit goes on
   module _ {T E : Type 0} (v1 : Vol) (m1 : Meaning (List File)) (result : Result T E) (puts : PutsDurably name v 0 (with_bit true (slice_index_or v.slots.items 0 formats.F0)) v1 old m1 result) where
     front : HasFront v.slots.items
-    front = has_front (image_named old.state name) v mounted
+    front = has_front (image_named old.state name) v start.mounted
 
     abbrev on : F4
     on = record front.head { indicators = bit_or front.head.indicators 0x04 }
@@ -202,7 +216,7 @@ module _ (name : List ℕ) (v : Vol) (old : Meaning (List File)) (low : v.vtoc.s
 
     safe_on : Safe puts.after
     safe_on =
-        let some = put_some name v whole old.state old.state puts.after v _ puts.bytes low first puts.put puts.dscb puts.size front on is_on refl in
+        let some = put_some name v whole old.state old.state puts.after v _ puts.bytes start.low first puts.put puts.dscb puts.size front on is_on refl in
         safe_of name v whole old.state puts.after some.0 some.1.seen (inl (inl (on, some.1.head, marked_on front.head)))
 
     pub mark_since : Since Safe old m1
@@ -211,7 +225,7 @@ module _ (name : List ℕ) (v : Vol) (old : Meaning (List File)) (low : v.vtoc.s
     pub mark_done : IsIndexOf (image_named m1.state name) v1 → v1 ≡ record v { slots = v1.slots; buf = v1.buf } → v1.slots.items ≡ slice_set v.slots.items 0 (with_bit true (slice_index_or v.slots.items 0 formats.F0)) → (m1.state ≡ puts.after) × IsDurable m1 → Marked name v whole old m1 v1
     mark_done index others items done =
         let same : image_named m1.state name ≡ patched (image_named old.state name) (place_of_slot v 0) puts.bytes = ap (λ (files : List File). image_named files name) done.0 ∙ ap (λ (o : Option (List ℕ)). unwrap_or o []) puts.put.there in
-        let p = put_by name v whole old.state old.state puts.after v _ puts.bytes low first puts.put puts.dscb puts.size front on is_on refl v1 (subst (λ (i : List ℕ). IsIndexOf i v1) same index) others items in
+        let p = put_by name v whole old.state old.state puts.after v _ puts.bytes start.low first puts.put puts.dscb puts.size front on is_on refl v1 (subst (λ (i : List ℕ). IsIndexOf i v1) same index) others items in
         record {
           since = mark_since;
           durable = done.1;
@@ -223,7 +237,7 @@ module _ (name : List ℕ) (v : Vol) (old : Meaning (List File)) (low : v.vtoc.s
 
     marked_after : IsMarkedFor name whole old.state puts.after
     marked_after =
-        let some = put_some name v whole old.state old.state puts.after v _ puts.bytes low first puts.put puts.dscb puts.size front on is_on refl in
+        let some = put_some name v whole old.state old.state puts.after v _ puts.bytes start.low first puts.put puts.dscb puts.size front on is_on refl in
         marked_of name v whole old.state puts.after some.0 some.1.seen (on, some.1.head, marked_on front.head)
 
     abbrev Begun : List File → Type 0
@@ -235,7 +249,7 @@ module _ (name : List ℕ) (v : Vol) (old : Meaning (List File)) (low : v.vtoc.s
     pub marks : OnOk result (v1.slots.items ≡ slice_set v.slots.items 0 (with_bit true (slice_index_or v.slots.items 0 formats.F0))) → v1 ≡ record v { slots = v1.slots; buf = v1.buf } → Marks name v1 old m1 result
     marks items others = record {
       volume = whole;
-      before = mounted.volume;
+      before = start.mounted.volume;
       marked = on_ok_weaker result (λ done. subst (IsMarkedFor name whole old.state) (sym done.0) marked_after) puts.step.done;
       index = all_done result puts.step.done puts.index items (λ done index1 items1. (mark_done index1 others items1 done).seen.stands.mounted);
       durable = on_ok_weaker result (λ done. done.1) puts.step.done;
@@ -249,7 +263,7 @@ module _ (name : List ℕ) (v : Vol) (old : Meaning (List File)) (low : v.vtoc.s
     base = image_named m1.state name
 
     low_on : v1.vtoc.start + v1.vtoc.len ≤ 65536
-    low_on = subst (λ (r : Run). r.start + r.len ≤ 65536) (sym (ap (λ (x : Vol). x.vtoc) on.seen.others)) low
+    low_on = subst (λ (r : Run). r.start + r.len ≤ 65536) (sym (ap (λ (x : Vol). x.vtoc) on.seen.others)) start.low
 
     pub alike_first : AreAlikeTo name v1 base m1.state m1.state
     alike_first = record {
@@ -264,7 +278,7 @@ module _ (name : List ℕ) (v : Vol) (old : Meaning (List File)) (low : v.vtoc.s
 
     pub guarded_alike : (files : List File) → AreAlikeTo name v1 base m1.state files → Guarded files
     guarded_alike files all =
-        let seen = seen_alike name v whole old.state m1.state files v1 all.holds.index all.bytes low on.seen all.there all.alike all.holds.is all.holds.others all.others in
+        let seen = seen_alike name v whole old.state m1.state files v1 all.holds.index all.bytes start.low on.seen all.there all.alike all.holds.is all.holds.others all.others in
         let same : image_named files name ≡ all.bytes = ap (λ (o : Option (List ℕ)). unwrap_or o []) all.there in
         let head : head_of (slots_by (image_named files name) all.holds.index) ≡ Some on.head =
         ap (λ (i : List ℕ). head_of (slots_by i all.holds.index)) same
@@ -293,7 +307,7 @@ module _ (name : List ℕ) (v : Vol) (old : Meaning (List File)) (low : v.vtoc.s
       seen3 : Seen name v whole old.state m3.state v3
       seen3 =
           let same : image_named m3.state name ≡ all.bytes = ap (λ (o : Option (List ℕ)). unwrap_or o []) all.there in
-          seen_alike name v whole old.state m1.state m3.state v1 v3 all.bytes low on.seen all.there all.alike (subst (λ (i : List ℕ). IsIndexOf i v3) same index) others3 all.others
+          seen_alike name v whole old.state m1.state m3.state v1 v3 all.bytes start.low on.seen all.there all.alike (subst (λ (i : List ℕ). IsIndexOf i v3) same index) others3 all.others
 
       front1 : HasFront v1.slots.items
       front1 = has_front base v1 on.seen.stands.mounted
@@ -328,7 +342,7 @@ module _ (name : List ℕ) (v : Vol) (old : Meaning (List File)) (low : v.vtoc.s
       module _ {T E : Type 0} (v4 : Vol) (m4 : Meaning (List File)) (result : Result T E) (puts : PutsDurably name v3 0 last v4 m3 m4 result) where
         guarded_off : Guarded puts.after
         guarded_off =
-            let some = put_some name v whole old.state m3.state puts.after v3 last puts.bytes low seen3 puts.put puts.dscb puts.size front3 off is_off refl in
+            let some = put_some name v whole old.state m3.state puts.after v3 last puts.bytes start.low seen3 puts.put puts.dscb puts.size front3 off is_off refl in
             let settled = settled_by puts.after some.0 some.1 in
             guarded_of name v whole old.state puts.after some.0 some.1.seen (inr settled.chain)
 
@@ -338,7 +352,7 @@ module _ (name : List ℕ) (v : Vol) (old : Meaning (List File)) (low : v.vtoc.s
         done_by : IsIndexOf (image_named m4.state name) v4 → v4 ≡ record v3 { slots = v4.slots; buf = v4.buf } → v4.slots.items ≡ slice_set v3.slots.items 0 last → m4.state ≡ puts.after → IsSettledVtoc (image_named m4.state name) × IsMounted (image_named m4.state name) v4
         done_by index4 others4 items4 done =
             let same : image_named m4.state name ≡ patched (image_named m3.state name) (place_of_slot v3 0) puts.bytes = ap (λ (files : List File). image_named files name) done ∙ ap (λ (o : Option (List ℕ)). unwrap_or o []) puts.put.there in
-            let p = put_by name v whole old.state m3.state puts.after v3 last puts.bytes low seen3 puts.put puts.dscb puts.size front3 off is_off refl v4 (subst (λ (i : List ℕ). IsIndexOf i v4) same index4) others4 items4 in
+            let p = put_by name v whole old.state m3.state puts.after v3 last puts.bytes start.low seen3 puts.put puts.dscb puts.size front3 off is_off refl v4 (subst (λ (i : List ℕ). IsIndexOf i v4) same index4) others4 items4 in
             let image4 : List ℕ = image_named puts.after name in
             let stands : volume_of image4 ≡ Ok whole = p.seen.stands.mounted.volume ∙ ap (λ (x : Volume). Ok x) p.seen.stands.same in
             let parts = stands_parts whole image4 v4 p.seen.stands in
@@ -354,7 +368,7 @@ module _ (name : List ℕ) (v : Vol) (old : Meaning (List File)) (low : v.vtoc.s
             let since : Since Safe old m4 = since_step before3 puts.step (safe_alike m3.state all) safe_off in
             record {
               volume = whole;
-              before = mounted.volume;
+              before = start.mounted.volume;
               safe = on_ok_weaker result (λ done. subst Safe (sym done.0) safe_off) puts.step.done;
               settled = on_ok_weaker result (λ is. is.0) (ends items others4);
               index = on_ok_weaker result (λ is. is.1) (ends items others4);
@@ -368,7 +382,7 @@ module _ (name : List ℕ) (v : Vol) (old : Meaning (List File)) (low : v.vtoc.s
             let since : Since Guarded old m4 = since_step before3 puts.step (guarded_alike m3.state all) guarded_off in
             record {
               volume = whole;
-              before = mounted.volume;
+              before = start.mounted.volume;
               safe = on_ok_weaker result (λ done. subst Guarded (sym done.0) guarded_off) puts.step.done;
               settled = on_ok_weaker result (λ is. is.0) (ends items others4);
               index = on_ok_weaker result (λ is. is.1) (ends items others4);

@@ -1,14 +1,23 @@
 -- What the two ends of a change of a VTOC leave: format 4 tells that an update is under way, and then that none is (System Control Blocks GC28-6628; the bit of an interrupted update: this project's profile).
 use Rattle.std.specs.Prelude.{◌≡◌, ◌≢◌, ◌⊎◌, ℕ, List, Result, Ok, OnOk}
+use Rattle.hall_core.specs.declared.hall.Hall.{Ghosts}
 use Rattle.stop_model.specs.Files.{File, file_of}
 use Rattle.stop_model.specs.Moments.{Meaning, IsDurable, Elapses}
 use Rattle.pack_spec.specs.Alike.{DifferInVtoc}
 use Rattle.pack_spec.specs.Settled.{IsGuarded, IsMarked, IsSettledVtoc, slots_for}
 use Rattle.pack_spec.specs.Volume.{volume_of}
 use Rattle.vol_model.specs.declared.contents.Volume.{Volume}
-use Rattle.vtoc_index.specs.Index.{IsMounted}
+use Rattle.vtoc_index.specs.Index.{IsMounted, IsOfUnit}
+use Rattle.vtoc_index.specs.Names.{AreByName, name_at}
 use Rattle.vtoc_index.specs.declared.vol.Vol.{Vol}
 use Rattle.free_rebuild.specs.Repairs.{image_named}
+
+-- What writes of slots keep of an index: its order of names, its unit, and all but its slots and its buffer.
+pub record KeepsIndex {X T E : Type 0} (g : Ghosts X) (hall : X) (v v' : Vol) (result : Result T E) : Type 0 where
+  pub names : AreByName (name_at v.slots.items) v.by_name.items
+      → OnOk result (AreByName (name_at v'.slots.items) v'.by_name.items)
+  pub others : v' ≡ record v { slots = v'.slots; buf = v'.buf }
+  pub unit : IsOfUnit (g.facts hall).units v'
 
 -- Files of which one, under a name, stands for this volume and tells that an update is under way; its tracks outside the VTOC and the other files are as before.
 pub record IsMarkedFor (name : List ℕ) (volume : Volume) (before files : List File) : Type 0 where

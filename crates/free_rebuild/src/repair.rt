@@ -1,7 +1,7 @@
 //! The repair of a VTOC.
 ghost use Rattle.std.specs.Prelude.{◌≡◌, ◌≤◌, length, slice_index_or, IsErrOf, IsTrue, OnOk};
 ghost use Rattle.hall_core.specs.Facts.{DeviceCall, ReportedCall, unit_of};
-ghost use Rattle.hall_core.specs.Images.{image_in};
+ghost use Rattle.hall_core.specs.Told.{ImageHas};
 ghost use Rattle.stop_model.specs.Moments.{IsDurable};
 ghost use Rattle.vtoc_index.specs.Index.{IsIndexOf, IsMounted, IsOfUnit, address_in};
 ghost use Rattle.vtoc_index.specs.Names.{AreByName, name_at};
@@ -10,6 +10,7 @@ ghost use Rattle.free_rebuild.specs.Chain.{IsOpenAt};
 ghost use Rattle.free_rebuild.specs.Clearing.{free_in, highest_among, with_counts};
 ghost use Rattle.free_rebuild.specs.Durable.{PutsDurably};
 ghost use Rattle.free_rebuild.specs.Repairs.{Repairs};
+ghost use Rattle.free_rebuild.specs.Updates.{KeepsIndex};
 
 use crate::checks::check_front;
 use crate::durable::{clear_durably, mark_durably, put_durably, write_durably};
@@ -29,8 +30,7 @@ use vtoc_index::Vol;
 /// the count of its faults rose. After it the index may be that of no image.
 pub fn rebuild<H: Hall>(hall: &mut H, vol: &mut Vol) -> Result<(), WorkErr>
     requires unit { IsOfUnit (H.facts hall.old).units vol.old }
-    requires mounted { let image = image_in (H.meaning hall.old) (H.facts hall.old) vol.old.unit in
-        IsTrue H.tells → IsMounted image vol.old }
+    requires mounted { ImageHas H.Hall hall.old vol.old.unit (λ image. IsMounted image vol.old) }
     requires durable { IsTrue H.tells → IsDurable (H.meaning hall.old) }
     ensures files { IsTrue H.tells → Repairs (unit_of (H.facts hall.old).units vol.old.unit).name
         vol.new (H.meaning hall.old) (H.meaning hall.new) result }
@@ -51,15 +51,11 @@ pub fn rebuild<H: Hall>(hall: &mut H, vol: &mut Vol) -> Result<(), WorkErr>
 // The steps of a repair, where slot 1 is open.
 fn rebuild_all<H: Hall>(hall: &mut H, vol: &mut Vol) -> Result<(), Device>
     requires unit { IsOfUnit (H.facts hall.old).units vol.old }
-    requires mounted { let image = image_in (H.meaning hall.old) (H.facts hall.old) vol.old.unit in
-        IsTrue H.tells → IsMounted image vol.old }
+    requires mounted { ImageHas H.Hall hall.old vol.old.unit (λ image. IsMounted image vol.old) }
     requires durable { IsTrue H.tells → IsDurable (H.meaning hall.old) }
     ensures files { IsTrue H.tells → Repairs (unit_of (H.facts hall.old).units vol.old.unit).name
         vol.new (H.meaning hall.old) (H.meaning hall.new) result }
-    ensures names { AreByName (name_at vol.old.slots.items) vol.old.by_name.items
-        → OnOk result (AreByName (name_at vol.new.slots.items) vol.new.by_name.items) }
-    ensures others { vol.new ≡ record vol.old { slots = vol.new.slots; buf = vol.new.buf } }
-    ensures unit { IsOfUnit (H.facts hall.new).units vol.new }
+    ensures index { KeepsIndex H.Hall hall.new vol.old vol.new result }
     ensures faults { DeviceCall (H.facts hall.old) (H.facts hall.new) result }
 {
     check_front(hall, vol)?;
@@ -71,15 +67,11 @@ fn rebuild_all<H: Hall>(hall: &mut H, vol: &mut Vol) -> Result<(), Device>
 fn rebuild_checked<H: Hall>(hall: &mut H, vol: &mut Vol) -> Result<(), Device>
     requires unit { IsOfUnit (H.facts hall.old).units vol.old }
     requires first { IsOpenAt vol.old.slots.items 1 }
-    requires mounted { let image = image_in (H.meaning hall.old) (H.facts hall.old) vol.old.unit in
-        IsTrue H.tells → IsMounted image vol.old }
+    requires mounted { ImageHas H.Hall hall.old vol.old.unit (λ image. IsMounted image vol.old) }
     requires durable { IsTrue H.tells → IsDurable (H.meaning hall.old) }
     ensures files { IsTrue H.tells → Repairs (unit_of (H.facts hall.old).units vol.old.unit).name
         vol.new (H.meaning hall.old) (H.meaning hall.new) result }
-    ensures names { AreByName (name_at vol.old.slots.items) vol.old.by_name.items
-        → OnOk result (AreByName (name_at vol.new.slots.items) vol.new.by_name.items) }
-    ensures others { vol.new ≡ record vol.old { slots = vol.new.slots; buf = vol.new.buf } }
-    ensures unit { IsOfUnit (H.facts hall.new).units vol.new }
+    ensures index { KeepsIndex H.Hall hall.new vol.old vol.new result }
     ensures faults { DeviceCall (H.facts hall.old) (H.facts hall.new) result }
 {
     mark_durably(hall, vol)?;
@@ -92,8 +84,7 @@ fn rebuild_checked<H: Hall>(hall: &mut H, vol: &mut Vol) -> Result<(), Device>
 pub(crate) fn settle<H: Hall>(hall: &mut H, vol: &mut Vol) -> Result<(), Device>
     requires unit { IsOfUnit (H.facts hall.old).units vol.old }
     requires some { 1 ≤ length vol.old.slots.items }
-    requires index { let image = image_in (H.meaning hall.old) (H.facts hall.old) vol.old.unit in
-        IsTrue H.tells → IsIndexOf image vol.old }
+    requires index { ImageHas H.Hall hall.old vol.old.unit (λ image. IsIndexOf image vol.old) }
     requires durable { IsTrue H.tells → IsDurable (H.meaning hall.old) }
     ensures files { let items = vol.old.slots.items in
         let d = with_counts (free_in items) (highest_among (address_in vol.old) items)

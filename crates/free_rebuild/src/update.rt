@@ -1,7 +1,7 @@
 //! The two ends of each change of a VTOC.
 ghost use Rattle.std.specs.Prelude.{◌≡◌, slice_index_or, true, IsTrue, OnOk};
 ghost use Rattle.hall_core.specs.Facts.{DeviceCall, unit_of};
-ghost use Rattle.hall_core.specs.Images.{image_in};
+ghost use Rattle.hall_core.specs.Told.{ImageHas};
 ghost use Rattle.stop_model.specs.Moments.{IsDurable};
 ghost use Rattle.pack_spec.specs.Settled.{IsMarked};
 ghost use Rattle.pack_spec.specs.Slots.{slots_of_vtoc};
@@ -11,7 +11,7 @@ ghost use Rattle.vtoc_index.specs.Names.{AreByName, name_at};
 ghost use Rattle.vtoc_index.specs.Puts.{IsReplaced};
 ghost use Rattle.free_rebuild.specs.Chain.{IsOpenAt};
 ghost use Rattle.free_rebuild.specs.Durable.{IsRewritten, StaysAlike};
-ghost use Rattle.free_rebuild.specs.Updates.{Concludes, Marks};
+ghost use Rattle.free_rebuild.specs.Updates.{Concludes, KeepsIndex, Marks};
 
 use crate::chain::write_free;
 use crate::checks::check_front;
@@ -28,8 +28,7 @@ use vtoc_index::Vol;
 /// then the index may be that of no image.
 pub fn mark<H: Hall>(hall: &mut H, vol: &mut Vol) -> Result<(), Device>
     requires unit { IsOfUnit (H.facts hall.old).units vol.old }
-    requires mounted { let image = image_in (H.meaning hall.old) (H.facts hall.old) vol.old.unit in
-        IsTrue H.tells → IsMounted image vol.old }
+    requires mounted { ImageHas H.Hall hall.old vol.old.unit (λ image. IsMounted image vol.old) }
     requires durable { IsTrue H.tells → IsDurable (H.meaning hall.old) }
     ensures files { IsTrue H.tells → Marks (unit_of (H.facts hall.old).units vol.old.unit).name
         vol.new (H.meaning hall.old) (H.meaning hall.new) result }
@@ -52,10 +51,9 @@ pub fn mark<H: Hall>(hall: &mut H, vol: &mut Vol) -> Result<(), Device>
 /// only where the count of its faults rose; then the index may be that of no image.
 pub fn conclude<H: Hall>(hall: &mut H, vol: &mut Vol) -> Result<(), Device>
     requires unit { IsOfUnit (H.facts hall.old).units vol.old }
-    requires mounted { let image = image_in (H.meaning hall.old) (H.facts hall.old) vol.old.unit in
-        IsTrue H.tells → IsMounted image vol.old }
-    requires marked { let image = image_in (H.meaning hall.old) (H.facts hall.old) vol.old.unit in
-        IsTrue H.tells → IsMarked (slots_of_vtoc image vol.old.geometry vol.old.vtoc) }
+    requires mounted { ImageHas H.Hall hall.old vol.old.unit (λ image. IsMounted image vol.old) }
+    requires marked { ImageHas H.Hall hall.old vol.old.unit (λ image.
+        IsMarked (slots_of_vtoc image vol.old.geometry vol.old.vtoc)) }
     requires durable { IsTrue H.tells → IsDurable (H.meaning hall.old) }
     ensures files { IsTrue H.tells → Concludes (unit_of (H.facts hall.old).units vol.old.unit).name
         vol.new (H.meaning hall.old) (H.meaning hall.new) result }
@@ -74,17 +72,13 @@ pub fn conclude<H: Hall>(hall: &mut H, vol: &mut Vol) -> Result<(), Device>
 fn conclude_checked<H: Hall>(hall: &mut H, vol: &mut Vol) -> Result<(), Device>
     requires unit { IsOfUnit (H.facts hall.old).units vol.old }
     requires first { IsOpenAt vol.old.slots.items 1 }
-    requires mounted { let image = image_in (H.meaning hall.old) (H.facts hall.old) vol.old.unit in
-        IsTrue H.tells → IsMounted image vol.old }
-    requires marked { let image = image_in (H.meaning hall.old) (H.facts hall.old) vol.old.unit in
-        IsTrue H.tells → IsMarked (slots_of_vtoc image vol.old.geometry vol.old.vtoc) }
+    requires mounted { ImageHas H.Hall hall.old vol.old.unit (λ image. IsMounted image vol.old) }
+    requires marked { ImageHas H.Hall hall.old vol.old.unit (λ image.
+        IsMarked (slots_of_vtoc image vol.old.geometry vol.old.vtoc)) }
     requires durable { IsTrue H.tells → IsDurable (H.meaning hall.old) }
     ensures files { IsTrue H.tells → Concludes (unit_of (H.facts hall.old).units vol.old.unit).name
         vol.new (H.meaning hall.old) (H.meaning hall.new) result }
-    ensures names { AreByName (name_at vol.old.slots.items) vol.old.by_name.items
-        → OnOk result (AreByName (name_at vol.new.slots.items) vol.new.by_name.items) }
-    ensures others { vol.new ≡ record vol.old { slots = vol.new.slots; buf = vol.new.buf } }
-    ensures unit { IsOfUnit (H.facts hall.new).units vol.new }
+    ensures index { KeepsIndex H.Hall hall.new vol.old vol.new result }
     ensures faults { DeviceCall (H.facts hall.old) (H.facts hall.new) result }
 {
     rewrite_durably(hall, vol)?;
@@ -94,15 +88,14 @@ fn conclude_checked<H: Hall>(hall: &mut H, vol: &mut Vol) -> Result<(), Device>
 // Clears what belongs to nothing and writes the chain of free space, in one sync.
 fn rewrite_durably<H: Hall>(hall: &mut H, vol: &mut Vol) -> Result<(), Device>
     requires unit { IsOfUnit (H.facts hall.old).units vol.old }
-    requires index { let image = image_in (H.meaning hall.old) (H.facts hall.old) vol.old.unit in
-        IsTrue H.tells → IsIndexOf image vol.old }
+    requires index { ImageHas H.Hall hall.old vol.old.unit (λ image. IsIndexOf image vol.old) }
     requires first { IsTrue H.tells → IsOpenAt vol.old.slots.items 1 }
     requires durable { IsTrue H.tells → IsDurable (H.meaning hall.old) }
     ensures files { IsTrue H.tells → StaysAlike (unit_of (H.facts hall.old).units vol.old.unit).name
         vol.old (H.meaning hall.old) (H.meaning hall.new) result }
     ensures slots { OnOk result (IsRewritten vol.old vol.new.slots.items) }
-    ensures index { let image = image_in (H.meaning hall.new) (H.facts hall.new) vol.old.unit in
-        IsTrue H.tells → OnOk result (IsIndexOf image vol.new) }
+    ensures index { ImageHas H.Hall hall.new vol.old.unit (λ image.
+        OnOk result (IsIndexOf image vol.new)) }
     ensures durable { IsTrue H.tells → OnOk result (IsDurable (H.meaning hall.new)) }
     ensures names { AreByName (name_at vol.old.slots.items) vol.old.by_name.items
         → OnOk result (AreByName (name_at vol.new.slots.items) vol.new.by_name.items) }

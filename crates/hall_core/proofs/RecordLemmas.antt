@@ -1,5 +1,5 @@
 -- Steps and the events that they stand for, after one step more, one unit more, or more bytes.
-use Rattle.std.proofs.Common.{◌≡◌, ◌≢◌, ◌<◌, ⊎_elim, ℕ, suc, ◌+◌, ◌≤◌, List, [], ◌∷◌, ◌++◌, length, take, drop, get_or, replicate, refl, sym, ◌∙◌, ap, subst, arith, length-append, length-drop, Bool, true, false}
+use Rattle.std.proofs.Common.{◌≡◌, ◌≢◌, ◌<◌, ⊎_elim, ℕ, suc, ◌+◌, ◌-◌, ◌≤◌, List, [], ◌∷◌, ◌++◌, length, take, drop, get_or, replicate, refl, sym, ◌∙◌, ap, subst, arith, length-append, length-drop, Bool, true, false}
 use Rattle.std.proofs.lemmas.List.{append-nil, map-append, take-append-le, drop-append-le, take_all, take_at, length-map, get_or_append_left, get_or_push, length_push, map_push}
 use Rattle.std.proofs.lemmas.Bool.{cases_lt}
 use Rattle.hall_core.specs.declared.mem_hall.step.Step.{Step}
@@ -14,6 +14,9 @@ use Rattle.hall_core.specs.Held.{first_pairs, attached_as, shapes_of, units_at, 
 use Rattle.hall_core.specs.Replay.{part, event_of, events_at, new_file, files_made, units_needed, IsWithin, AreWithin, IsPlaced, ArePlaced, IsReplay, disk_after}
 use Rattle.hall_core.proofs.HistoryLemmas.{after_all_more}
 use Rattle.hall_core.specs.Laws.{others_named}
+use Rattle.hall_core.specs.Memory.{HasRoom, Records, bytes_left, calls_left, calls_of, events_of}
+use Rattle.hall_core.specs.declared.mem_hall.step.Call.{Call}
+use Rattle.hall_core.specs.declared.mem_hall.MemHall.{MemHall}
 
 -- a part of bytes to which others were added
 part_grown : (bytes more : List ℕ) (start len : ℕ) → start + len ≤ length bytes → part (bytes ++ more) start len ≡ part bytes start len
@@ -126,6 +129,15 @@ first_grown shapes more place first = record {
   where
     name_at : (k : ℕ) → k < length shapes → (unit_of (shapes ++ more) k).name ≡ (unit_of shapes k).name
     name_at k low = ap (λ (u : Attached). u.name) (get_or_append_left shapes more _ k low)
+
+-- a call is put on the record, and uses the room that it has
+pub records_by : {used : ℕ} {call : Call} {event : Event} {old new : MemHall} → HasRoom old used → calls_of new ≡ calls_of old ++ call ∷ [] → events_of new ≡ events_of old ++ event ∷ [] → calls_left new ≡ calls_left old - 1 → bytes_left new ≡ bytes_left old - used → Records used call event old new
+records_by room calls events one bytes = record {
+  calls = calls;
+  events = events;
+  room_calls = omega (arith, room.calls, one);
+  room_bytes = omega (arith, room.bytes, bytes);
+}
 
 -- what a step more makes of a hall in memory: its record, and the events of it
 pub record IsMore (first files files' : List File) (places places' : List ℕ) (steps steps' : List Step) (pool pool' text text' : List ℕ) (e : Event) : Type 0 where

@@ -8,3 +8,4 @@ pub mod Laws
 pub mod Memory
 pub mod MemoryCards
 pub mod Replay
+pub mod Told

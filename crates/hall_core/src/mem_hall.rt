@@ -493,6 +493,3 @@ impl Hall for MemHall {
 
     fn differs(&mut self, unit: u8, track: u16) {}
 }
-
-#[cfg(test)]
-mod tests;

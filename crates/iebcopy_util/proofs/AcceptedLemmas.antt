@@ -9,14 +9,13 @@ use Rattle.vol_model.specs.declared.contents.Block.{Block}
 use Rattle.vol_model.specs.declared.contents.DataSet.{DataSet}
 use Rattle.vol_model.specs.declared.contents.Shelf.{Shelf}
 use Rattle.vol_model.specs.declared.refusals.Refusal.{Refusal}
-use Rattle.vol_model.specs.declared.refusals.Refusal.TheVariants.{MemberExists, Unreadable}
+use Rattle.vol_model.specs.declared.refusals.Refusal.TheVariants.{MemberExists}
 use Rattle.vol_model.specs.declared.requests.Op.{Op}
 use Rattle.vol_model.specs.declared.requests.Op.TheVariants.{Empty, Enter}
 use Rattle.vol_model.specs.Did.{Did, and_then, answered, with_reason}
 use Rattle.vol_model.specs.Events.{after_operations, events_of, shelf_behind}
 use Rattle.vol_model.specs.Reading.{member}
 use Rattle.vol_model.specs.Writing.{did_apply}
-use Rattle.util_steps.specs.Accepted.{AllAccepted}
 use Rattle.util_steps.specs.declared.calls.SetRef.{SetRef}
 use Rattle.util_steps.specs.Copying.{filled, has_data, refusing, source}
 use Rattle.util_steps.proofs.AcceptedLemmas.{DidAccepted, ItemsAccepted, accepted_append, accepted_cons, accepted_filled, accepted_one, accepted_reason, accepted_refusing, accepted_then}
@@ -35,10 +34,10 @@ use Rattle.iebcopy_util.specs.declared.orders.State.TheVariants.{Idle}
 use Rattle.iebcopy_util.specs.declared.requests.Pick.{Pick}
 use Rattle.iebcopy_util.specs.declared.sets.Sets.{Sets}
 use Rattle.iebcopy_util.specs.declared.tasks.RefusedSet.{RefusedSet}
-use Rattle.iebcopy_util.specs.declared.tasks.Task.{Task}
+use Rattle.iebcopy_util.specs.declared.tasks.MemberCopy.{MemberCopy}
 use Rattle.util_program.specs.Outcomes.{outcome_for, performed}
-use Rattle.iebcopy_util.specs.Copying.{can_move, copied, copied_again, copied_anew, copied_from, copied_if, copied_or_again, copy_before, copy_made, entered, entry_for, finished, first_refusal, found_of, is_blank, member_copied, places, readied, unless_refused, written}
-use Rattle.iebcopy_util.specs.Items.{Course, copy_items, follow, iebcopy_items, item_then, items_if, member_item, members, missing, missing_item, order_if, order_items, orders_items, refused_item, step_items, stopped, tasks_if, with_missing}
+use Rattle.iebcopy_util.specs.Copying.{can_move, copied, copied_again, copied_anew, copied_from, copied_if, copied_or_again, copy_before, copy_made, entered, entry_for, finished, first_refusal, output_state, is_blank, member_copied, places, with_attributes, unless_refused, written}
+use Rattle.iebcopy_util.specs.Items.{Course, copy_items, follow, iebcopy_items, items_if, member_item, members, missing, missing_item, order_if, order_items, orders_items, refused_item, step_items, tasks_if, with_missing}
 use Rattle.iebcopy_util.specs.Orders.{orders_of}
 use Rattle.iebcopy_util.specs.Sets.{is_among, library, sets_of}
 
@@ -47,10 +46,10 @@ use Rattle.iebcopy_util.specs.Sets.{is_among, library, sets_of}
 perform : (s : Shelf) (op : Op) → DidAccepted s (performed s op)
 perform s op = accepted_reason s outcome_for (refusing (did_apply s op)) (accepted_refusing s op)
 
-enter : (s : Shelf) (out : SetRef) (t : Task) (c : Copy) → DidAccepted s (entered s out t c)
+enter : (s : Shelf) (out : SetRef) (t : MemberCopy) (c : Copy) → DidAccepted s (entered s out t c)
 enter s out t c = perform s (Enter out.v out.dsn (entry_for t c) t.replace)
 
-again : (s : Shelf) (out : SetRef) (t : Task) (c : Copy) → DidAccepted s (copied_again s out t c)
+again : (s : Shelf) (out : SetRef) (t : MemberCopy) (c : Copy) → DidAccepted s (copied_again s out t c)
 unfolding copied_again
 again s out t c = by_user (can_move c.from t.entry)
   where
@@ -58,25 +57,25 @@ again s out t c = by_user (can_move c.from t.entry)
     by_user true = accepted_then s (entered s out t c) (λ x u. answered (Ok None)) (enter s out t c) (λ x u. tt)
     by_user false = tt
 
-finish : (s : Shelf) (out : SetRef) (t : Task) (c : Copy) → DidAccepted s (finished s out t c)
+finish : (s : Shelf) (out : SetRef) (t : MemberCopy) (c : Copy) → DidAccepted s (finished s out t c)
 finish s out t c = accepted_then s (entered s out t c) (λ x u. answered (Ok (Some c))) (enter s out t c) (λ x u. tt)
 
-write : (s : Shelf) (out : SetRef) (t : Task) (bs : List Block) → DidAccepted s (written s out t bs)
+write : (s : Shelf) (out : SetRef) (t : MemberCopy) (bs : List Block) → DidAccepted s (written s out t bs)
 unfolding written
 write s out t bs =
     accepted_then s (with_reason outcome_for (filled s out modes.Area bs)) (λ x u. finished u out t (copy_made s u out t bs))
     (accepted_reason s outcome_for (filled s out modes.Area bs) (accepted_filled s out modes.Area bs))
     (λ x u. finish u out t (copy_made s u out t bs))
 
-ready : (s : Shelf) (out : SetRef) (t : Task) (blank : Bool) → DidAccepted s (readied s out t blank)
-ready s out t true = perform s (Empty out.v out.dsn t.source.given)
-ready s out t false = tt
+attributes_set : (s : Shelf) (out : SetRef) (t : MemberCopy) (blank : Bool) → DidAccepted s (with_attributes s out t blank)
+attributes_set s out t true = perform s (Empty out.v out.dsn t.source.given)
+attributes_set s out t false = tt
 
-copy : (s : Shelf) (out : SetRef) (t : Task) (blank : Bool) (bs : List Block) → DidAccepted s (copied s out t blank bs)
+copy : (s : Shelf) (out : SetRef) (t : MemberCopy) (blank : Bool) (bs : List Block) → DidAccepted s (copied s out t blank bs)
 unfolding copied
-copy s out t blank bs = accepted_then s (readied s out t blank) (λ x u. written u out t bs) (ready s out t blank) (λ x u. write u out t bs)
+copy s out t blank bs = accepted_then s (with_attributes s out t blank) (λ x u. written u out t bs) (attributes_set s out t blank) (λ x u. write u out t bs)
 
-anew : (s : Shelf) (out : SetRef) (t : Task) (blank : Bool) (bs : List Block) → DidAccepted s (copied_anew s out t blank bs)
+anew : (s : Shelf) (out : SetRef) (t : MemberCopy) (blank : Bool) (bs : List Block) → DidAccepted s (copied_anew s out t blank bs)
 unfolding copied_anew
 anew s out t blank bs = by_blocks (not (can_move (places bs) t.entry)) (not (list_all has_data bs))
   where
@@ -85,11 +84,11 @@ anew s out t blank bs = by_blocks (not (can_move (places bs) t.entry)) (not (lis
     by_blocks false true = tt
     by_blocks false false = copy s out t blank bs
 
-from : (s : Shelf) (out : SetRef) (t : Task) (blank : Bool) (found : Result (List Block) ℕ) → DidAccepted s (copied_from s out t blank found)
+from : (s : Shelf) (out : SetRef) (t : MemberCopy) (blank : Bool) (found : Result (List Block) ℕ) → DidAccepted s (copied_from s out t blank found)
 from s out t blank (Ok bs) = anew s out t blank (member bs t.entry.place)
 from s out t blank (Err track) = tt
 
-or_again : (s : Shelf) (out : SetRef) (t : Task) (blank : Bool) (c : Option Copy) → DidAccepted s (copied_or_again s out t blank c)
+or_again : (s : Shelf) (out : SetRef) (t : MemberCopy) (blank : Bool) (c : Option Copy) → DidAccepted s (copied_or_again s out t blank c)
 or_again s out t blank None = from s out t blank (source s t.source.set)
 or_again s out t blank (Some c) = again s out t c
 
@@ -97,13 +96,13 @@ unless : (s : Shelf) (o : Option Outcome) (did : Did (Option Copy) Outcome) → 
 unless s None did all = all
 unless s (Some o) did all = tt
 
-copy_if : (s : Shelf) (out : SetRef) (copies : List Copy) (t : Task) (r : Result DataSet Refusal) → DidAccepted s (copied_if s out copies t r)
+copy_if : (s : Shelf) (out : SetRef) (copies : List Copy) (t : MemberCopy) (r : Result DataSet Refusal) → DidAccepted s (copied_if s out copies t r)
 copy_if s out copies t (Err r) = tt
 copy_if s out copies t (Ok x) =
     let did = copied_or_again s out t (is_blank x) (copy_before copies t) in
-    unless s (first_refusal t (found_of t x)) did (or_again s out t (is_blank x) (copy_before copies t))
+    unless s (first_refusal t (output_state t x)) did (or_again s out t (is_blank x) (copy_before copies t))
 
-one_member : (s : Shelf) (out : SetRef) (copies : List Copy) (t : Task) → DidAccepted s (member_copied s out copies t)
+one_member : (s : Shelf) (out : SetRef) (copies : List Copy) (t : MemberCopy) → DidAccepted s (member_copied s out copies t)
 unfolding member_copied
 one_member s out copies t = copy_if s out copies t (library s out)
 
@@ -115,7 +114,7 @@ followed s (Ok (Some c)) more all = all (c ∷ [])
 followed s (Err (outcome.Refused MemberExists)) more all = all []
 followed s (Err _) more all = tt
 
-all_members : (s : Shelf) (card : ℕ) (out : SetRef) (copies : List Copy) (ts : List Task) → ItemsAccepted s (members s card out copies ts).items
+all_members : (s : Shelf) (card : ℕ) (out : SetRef) (copies : List Copy) (ts : List MemberCopy) → ItemsAccepted s (members s card out copies ts).items
 unfolding member_item
 all_members s card out copies [] = tt
 all_members s card out copies (t ∷ ts) =
@@ -138,7 +137,7 @@ and_missing s card out picks course all = accepted_append s course.items (if cou
 
 -- ---- copies
 
-if_found : (s : Shelf) (card : ℕ) (out : SetRef) (choice : Choice) (r : Result (List Task) RefusedSet) → ItemsAccepted s (items_if s card out choice r)
+if_found : (s : Shelf) (card : ℕ) (out : SetRef) (choice : Choice) (r : Result (List MemberCopy) RefusedSet) → ItemsAccepted s (items_if s card out choice r)
 if_found s card out choice (Err f) = accepted_one s (refused_item card f.dsn (outcome.Refused f.refusal)) tt
 if_found s card out choice (Ok tasks) = and_missing s card out (missing choice tasks) (members s card out [] tasks) (all_members s card out [] tasks)
 
@@ -146,7 +145,7 @@ one_copy : (s : Shelf) (card : ℕ) (choice : Choice) (sets : Sets) → ItemsAcc
 unfolding copy_items
 one_copy s card choice sets = by_output (is_among sets.out sets.inputs)
   where
-    found : Result (List Task) RefusedSet
+    found : Result (List MemberCopy) RefusedSet
     found = tasks_if s choice sets.out sets.inputs (library s sets.out)
 
     by_output : (b : Bool) → ItemsAccepted s (if b then refused_item card sets.out.dsn outcome.SameSet ∷ [] else items_if s card sets.out choice found)

@@ -16,8 +16,8 @@ use Rattle.iebcopy_util.specs.declared.orders.Choice.{Choice}
 use Rattle.iebcopy_util.specs.declared.orders.Choice.TheVariants.{All, Select, Exclude}
 use Rattle.iebcopy_util.specs.declared.requests.Pick.{Pick}
 use Rattle.iebcopy_util.specs.declared.sets.Input.{Input}
-use Rattle.iebcopy_util.specs.declared.tasks.Source.{Source}
-use Rattle.iebcopy_util.specs.declared.tasks.Task.{Task}
+use Rattle.iebcopy_util.specs.declared.tasks.InputLibrary.{InputLibrary}
+use Rattle.iebcopy_util.specs.declared.tasks.MemberCopy.{MemberCopy}
 use Rattle.iebcopy_util.specs.Items.{tasks_if}
 use Rattle.record_files.specs.Members.{entries_of}
 use Rattle.iebcopy_util.specs.Sets.{is_among, is_same, library}
@@ -25,7 +25,7 @@ use Rattle.iebcopy_util.specs.Tasks.{is_name, is_taken, on_library, source_for, 
 use Rattle.iebcopy_util.proofs.TaskLemmas.{all_append}
 
 module _ (out : SetRef) where
-  abbrev IsApart : Task → Type 0
+  abbrev IsApart : MemberCopy → Type 0
   IsApart t = AreApart out t.source.set
 
   apart_from : (s : SetRef) → is_same s out ≡ false → AreApart out s
@@ -48,7 +48,7 @@ module _ (out : SetRef) where
       by_first true same other rest = let never : ⊥ = cc in absurd never
       by_first false same other rest = (apart_from i.set same, rest other)
 
-  module _ (choice : Choice) (earlier : List Task) (source : Source) (apart : AreApart out source.set) where
+  module _ (choice : Choice) (earlier : List MemberCopy) (source : InputLibrary) (apart : AreApart out source.set) where
     wanted_apart : (e : Entry) → AllByRecursion IsApart (wanted choice earlier source e)
     unfolding wanted
     wanted_apart e = by_choice choice
@@ -57,7 +57,7 @@ module _ (out : SetRef) where
         picked [] = tt
         picked (p ∷ ps) = (apart, picked ps)
 
-        unless : (t : Bool) (ts : List Task) → AllByRecursion IsApart ts → AllByRecursion IsApart (cond t [] ts)
+        unless : (t : Bool) (ts : List MemberCopy) → AllByRecursion IsApart ts → AllByRecursion IsApart (cond t [] ts)
         unless true ts all = tt
         unless false ts all = all
 
@@ -70,10 +70,10 @@ module _ (out : SetRef) where
     entries_apart [] = tt
     entries_apart (e ∷ es) = all_append IsApart (wanted choice earlier source e) (flat_map (wanted choice earlier source) es) (wanted_apart e) (entries_apart es)
 
-  copies_apart : (shelf : Shelf) (choice : Choice) (number : ℕ) (given : Option Attr) (earlier tasks : List Task) (inputs : List Input) → AllByRecursion IsApart earlier → AllByRecursion (λ (i : Input). AreApart out i.set) inputs → tasks_of shelf choice number given earlier inputs ≡ Ok tasks → AllByRecursion IsApart tasks
-  copies_apart shelf choice number given earlier tasks [] before all is = let same : earlier ≡ tasks = cc in subst (λ (l : List Task). AllByRecursion IsApart l) same before
+  copies_apart : (shelf : Shelf) (choice : Choice) (number : ℕ) (given : Option Attr) (earlier tasks : List MemberCopy) (inputs : List Input) → AllByRecursion IsApart earlier → AllByRecursion (λ (i : Input). AreApart out i.set) inputs → tasks_of shelf choice number given earlier inputs ≡ Ok tasks → AllByRecursion IsApart tasks
+  copies_apart shelf choice number given earlier tasks [] before all is = let same : earlier ≡ tasks = cc in subst (λ (l : List MemberCopy). AllByRecursion IsApart l) same before
   copies_apart shelf choice number given earlier tasks (i ∷ is) before all at =
-      let source : DataSet → Source = λ (x : DataSet). source_for number given i x in
+      let source : DataSet → InputLibrary = λ (x : DataSet). source_for number given i x in
       by_library (library shelf i.set) at
       (λ x so. copies_apart shelf choice (number + 1) (Some (source x).given) (with_source choice earlier (source x) x) tasks is (all_append IsApart earlier (flat_map (wanted choice earlier (source x)) (entries_of x.body)) before (entries_apart choice earlier (source x) all.0 (entries_of x.body))) all.1 so)
     where
@@ -83,6 +83,6 @@ module _ (out : SetRef) where
       by_library (Ok x) so rest = rest x so
 
   -- the members of inputs that are no output
-  pub tasks_apart : (shelf : Shelf) (choice : Choice) (inputs : List Input) (tasks : List Task) (found : Result DataSet Refusal) → is_among out inputs ≡ false → tasks_if shelf choice out inputs found ≡ Ok tasks → AllByRecursion (λ (t : Task). AreApart out t.source.set) tasks
+  pub tasks_apart : (shelf : Shelf) (choice : Choice) (inputs : List Input) (tasks : List MemberCopy) (found : Result DataSet Refusal) → is_among out inputs ≡ false → tasks_if shelf choice out inputs found ≡ Ok tasks → AllByRecursion (λ (t : MemberCopy). AreApart out t.source.set) tasks
   tasks_apart shelf choice inputs tasks (Err r) none is = let never : ⊥ = cc in absurd never
   tasks_apart shelf choice inputs tasks (Ok x) none is = copies_apart shelf choice 0 None [] tasks inputs tt (inputs_apart inputs none) is

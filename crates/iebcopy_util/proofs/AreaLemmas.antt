@@ -1,7 +1,7 @@
 -- How far the putting of a member's blocks has come, and where their copies stand.
-use Rattle.std.proofs.Common.{◌≡◌, ℕ, Bool, true, false, List, [], ◌∷◌, ◌++◌, map, refl, sym, ◌∙◌, ap, subst, arith, length, append_assoc}
+use Rattle.std.proofs.Common.{◌≡◌, ℕ, Bool, List, [], ◌∷◌, ◌++◌, map, refl, sym, ◌∙◌, ap, subst, arith, length, append_assoc}
 use Rattle.std.proofs.lemmas.List.{append-nil}
-use Rattle.std.specs.Prelude.{Result, Ok, Err, IsErr, if◌then◌else◌}
+use Rattle.std.specs.Prelude.{Result, Ok, Err, IsErr}
 use Rattle.ckd_image.specs.declared.device.DiskType.{DiskType}
 use Rattle.stop_model.specs.Moments.{Meaning}
 use Rattle.vol_model.specs.declared.answers.Stop.{Stop}
@@ -9,48 +9,24 @@ use Rattle.vol_model.specs.declared.contents.Block.{Block}
 use Rattle.vol_model.specs.declared.contents.Body.{Body}
 use Rattle.vol_model.specs.declared.contents.Place.{Place}
 use Rattle.vol_model.specs.declared.contents.Shelf.{Shelf}
-use Rattle.vol_model.specs.declared.refusals.Refusal.TheVariants.{NoRoom}
-use Rattle.vol_model.specs.Did.{answered, because, with_reason}
 use Rattle.vol_model.specs.Events.{after_operations}
 use Rattle.vol_model.specs.Places.{Content, content, next_place, placed, with_blocks}
 use Rattle.vol_model.specs.Reading.{blocks_from, readable}
 use Rattle.vol_model.specs.Runs.{Works}
 use Rattle.vol_model.specs.Shelf.{put_first}
-use Rattle.vol_model.specs.Writing.{OpenWriter, body_on, device_on, did_put, making_puts, next_up, so_far, target_body, with_puts}
-use Rattle.vol_model.proofs.Filling.{making_keeps}
+use Rattle.vol_model.specs.Writing.{OpenWriter, body_on, device_on, with_puts}
 use Rattle.vol_model.proofs.Keeping.{KeepsBodies, bodies_kept_none, bodies_kept_then}
 use Rattle.vol_model.proofs.Working.{done_state, has_done}
 use Rattle.util_steps.specs.declared.calls.Fault.{Fault}
-use Rattle.util_steps.specs.declared.calls.Fault.TheVariants.{Refused, BadRecord}
 use Rattle.util_steps.specs.declared.calls.SetRef.{SetRef}
-use Rattle.util_steps.specs.Copying.{did_block, did_blocks, has_data, refusing, source}
+use Rattle.util_steps.specs.Copying.{did_block, did_blocks, source}
 use Rattle.util_steps.proofs.ListLemmas.{Listed, list_begins, list_done, list_fault, list_further, list_stops, list_writer}
+use Rattle.record_files.proofs.AdvanceLemmas.{block_kept, block_place}
 use Rattle.iebcopy_util.specs.Copying.{places}
-use Rattle.iebcopy_util.specs.Steps.{AreFound, put_place, put_places}
+use Rattle.record_files.specs.Advancing.{put_place}
+use Rattle.iebcopy_util.specs.Steps.{AreFound, put_places}
 
 -- ---- one block
-
--- putting a block keeps all bodies
-block_kept : (s : Shelf) (w : OpenWriter) (b : Block) → KeepsBodies s (after_operations s (did_block s w b).operations)
-unfolding did_block did_put with_reason
-block_kept s w b = by_data (has_data b)
-  where
-    by_data : (t : Bool) → KeepsBodies s (after_operations s (if t then refusing (did_put s w (content b)) else answered (Err BadRecord)).operations)
-    by_data true = let body = target_body s w.target in making_keeps w.target (next_up w.target.mode body w.puts (content b ∷ [])) (so_far w.target.mode body w.puts) s
-    by_data false = bodies_kept_none s
-
--- its place
-block_place : (s : Shelf) (w : OpenWriter) (b : Block) (p : Place) → Ok p ≡ (did_block s w b).answer → p ≡ put_place s w (content b)
-unfolding did_block did_put with_reason
-block_place s w b p is = by_data (has_data b) is
-  where
-    by_room : (t : Bool) → Ok p ≡ because Refused (if t then Ok (put_place s w (content b)) else Err NoRoom) → p ≡ put_place s w (content b)
-    by_room true at = cc
-    by_room false at = cc
-
-    by_data : (t : Bool) → Ok p ≡ (if t then refusing (did_put s w (content b)) else answered (Err BadRecord)).answer → p ≡ put_place s w (content b)
-    by_data true at = by_room (making_puts s w (content b ∷ [])).all at
-    by_data false at = cc
 
 -- the place of a content that is put, by the device and the body
 place_in : DiskType → Body → OpenWriter → Content → Place

@@ -3,7 +3,11 @@ use Rattle.std.proofs.Common.{◌≡◌, ℕ, Bool, true, false, not, List, refl
 use Rattle.std.specs.Prelude.{Option, Some, None, Result, Ok, Err, IsErr, IsErrAnd, IsTrue, if◌then◌else◌}
 use Rattle.std.specs.List.{list_all}
 use Rattle.vol_model.specs.declared.answers.Stop.{Stop}
+use Rattle.ebcdic_names.specs.declared.names.Dsn.{Dsn}
+use Rattle.vol_model.specs.declared.contents.Attr.{Attr}
 use Rattle.vol_model.specs.declared.contents.Block.{Block}
+use Rattle.vol_model.specs.declared.contents.Body.{Body}
+use Rattle.vol_model.specs.declared.contents.Body.TheVariants as bodies
 use Rattle.vol_model.specs.declared.contents.DataSet.{DataSet}
 use Rattle.vol_model.specs.declared.contents.Place.{Place}
 use Rattle.vol_model.specs.declared.contents.Shelf.{Shelf}
@@ -15,8 +19,9 @@ use Rattle.vol_model.specs.Did.{Did, answered, because, with_reason}
 use Rattle.vol_model.specs.Events.{after_operations, behind}
 use Rattle.vol_model.specs.Reading.{member}
 use Rattle.vol_model.specs.declared.machine.Machine.{Ghosts}
-use Rattle.vol_model.specs.Shelf.{blocks_of, step}
+use Rattle.vol_model.specs.Shelf.{emptied, step, without_blocks}
 use Rattle.vol_model.specs.Writing.{body_on, by_step, did_apply}
+use Rattle.vol_model.proofs.Keeping.{empties_set}
 use Rattle.vol_model.proofs.Working.{done_state, has_done}
 use Rattle.util_steps.specs.declared.calls.Fault.{Fault}
 use Rattle.util_steps.specs.declared.calls.Fault.TheVariants.{BadRecord, Refused}
@@ -29,15 +34,25 @@ use Rattle.util_syntax.specs.declared.listing.Outcome.{Outcome}
 use Rattle.util_syntax.specs.declared.listing.Outcome.TheVariants as outcome
 use Rattle.util_program.specs.Outcomes.{outcome_for, performed}
 use Rattle.iebcopy_util.specs.declared.copying.Copy.{Copy}
-use Rattle.iebcopy_util.specs.declared.copying.Found.{Found}
-use Rattle.iebcopy_util.specs.declared.tasks.Task.{Task}
+use Rattle.iebcopy_util.specs.declared.copying.OutputState.{OutputState}
+use Rattle.iebcopy_util.specs.declared.tasks.MemberCopy.{MemberCopy}
 use Rattle.iebcopy_util.specs.declared.walking.Walk.{Walk}
-use Rattle.iebcopy_util.specs.Copying.{can_move, copied, copied_again, copied_anew, copied_from, copied_if, copied_or_again, copy_before, first_refusal, found_of, member_copied, places, readied, unless_refused, written}
+use Rattle.iebcopy_util.specs.Copying.{can_move, copied, copied_again, copied_anew, copied_from, copied_if, copied_or_again, copy_before, first_refusal, output_state, member_copied, places, with_attributes, unless_refused, written}
 use Rattle.iebcopy_util.specs.Sets.{library}
-use Rattle.iebcopy_util.specs.Steps.{HasWalked, IsClosed, IsRead, LooksAt, TakesWhole, Tells}
-use Rattle.record_files.proofs.KeepLemmas.{IsReadable}
-use Rattle.iebcopy_util.proofs.KeepLemmas.{emptied_readable}
+use Rattle.iebcopy_util.specs.Steps.{HasWalked, IsClosed, IsRead, ProbesOutput, TakesWhole, Tells}
+use Rattle.record_files.proofs.KeepLemmas.{IsReadable, changed_readable}
 use Rattle.iebcopy_util.proofs.WholeLemmas.{performed_closed, whole_as, whole_ends, whole_stops, whole_then}
+
+-- a set that is emptied can be read
+without_blocks_readable : (b : Body) → IsReadable (without_blocks b)
+without_blocks_readable (bodies.Seq old) = refl
+without_blocks_readable (bodies.Part dir end es old) = refl
+without_blocks_readable bodies.Catalog = refl
+without_blocks_readable bodies.Other = refl
+without_blocks_readable (bodies.Unreadable track) = refl
+
+emptied_readable : (s after : Shelf) (v : ℕ) (dsn : Dsn) (attr : Attr) (v2 : ℕ) (n2 : List ℕ) → step s (Empty v dsn attr) ≡ Ok after → IsReadable (body_on s v2 n2) → IsReadable (body_on after v2 n2)
+emptied_readable s after v dsn attr v2 n2 done is = changed_readable s after v dsn.bytes (emptied attr) (λ x. refl) (λ x read. without_blocks_readable x.body) (empties_set s after v dsn attr done) v2 n2 is
 
 -- ---- a blank output
 
@@ -51,23 +66,23 @@ performed_step s op x is = by_result (step s op) refl is
     by_result (Err r) at is = let never : ⊥ = cc in absurd never
 
 -- the input stays
-readied_keeps : (s : Shelf) (out from : SetRef) (t : Task) (blank : Bool) (x : Unit {0}) → AreApart out from → Ok x ≡ (readied s out t blank).answer → source (after_operations s (readied s out t blank).operations) from ≡ source s from
-readied_keeps s out from t true x apart is = source_kept s (after_operations s (readied s out t true).operations) from out t.source.given apart (performed_step s (Empty out.v out.dsn t.source.given) x is)
+readied_keeps : (s : Shelf) (out from : SetRef) (t : MemberCopy) (blank : Bool) (x : Unit {0}) → AreApart out from → Ok x ≡ (with_attributes s out t blank).answer → source (after_operations s (with_attributes s out t blank).operations) from ≡ source s from
+readied_keeps s out from t true x apart is = source_kept s (after_operations s (with_attributes s out t true).operations) from out t.source.given apart (performed_step s (Empty out.v out.dsn t.source.given) x is)
 readied_keeps s out from t false x apart is = refl
 
 -- and the output can be read
-readied_reads : (s : Shelf) (out : SetRef) (t : Task) (blank : Bool) (x : Unit {0}) → Ok x ≡ (readied s out t blank).answer → IsReadable (body_on s out.v out.dsn.bytes) → IsReadable (body_on (after_operations s (readied s out t blank).operations) out.v out.dsn.bytes)
-readied_reads s out t true x is read = emptied_readable s (after_operations s (readied s out t true).operations) out.v out.dsn t.source.given out.v out.dsn.bytes (performed_step s (Empty out.v out.dsn t.source.given) x is) read
+readied_reads : (s : Shelf) (out : SetRef) (t : MemberCopy) (blank : Bool) (x : Unit {0}) → Ok x ≡ (with_attributes s out t blank).answer → IsReadable (body_on s out.v out.dsn.bytes) → IsReadable (body_on (after_operations s (with_attributes s out t blank).operations) out.v out.dsn.bytes)
+readied_reads s out t true x is read = emptied_readable s (after_operations s (with_attributes s out t true).operations) out.v out.dsn t.source.given out.v out.dsn.bytes (performed_step s (Empty out.v out.dsn t.source.given) x is) read
 readied_reads s out t false x is read = read
 
-module _ {X : Type 0} (g : Ghosts X) (out : SetRef) (t : Task) (blank : Bool) where
+module _ {X : Type 0} (g : Ghosts X) (out : SetRef) (t : MemberCopy) (blank : Bool) where
   abbrev first : Shelf → Did (Unit {0}) Outcome
-  first s = readied s out t blank
+  first s = with_attributes s out t blank
 
   readied_closed : (s : Shelf) → IsClosed (first s).operations
   readied_closed s = by_blank blank
     where
-      by_blank : (b : Bool) → IsClosed (readied s out t b).operations
+      by_blank : (b : Bool) → IsClosed (with_attributes s out t b).operations
       by_blank true = performed_closed s (Empty out.v out.dsn t.source.given) refl
       by_blank false = tt
 
@@ -125,11 +140,11 @@ walk_told (Ok bs) place walk tells =
 walk_told (Err track) place walk tells = let no = tells.unreadable track refl in let never : ⊥ = cc in absurd never
 
 -- an input that can't be read
-pub walk_refused : (s : Shelf) (out : SetRef) (t : Task) (blank : Bool) (src : Result (List Block) ℕ) (place : Place) (f : Fault) → Walked src place (Err f) → copied_from s out t blank src ≡ answered (Err (outcome_for f))
+pub walk_refused : (s : Shelf) (out : SetRef) (t : MemberCopy) (blank : Bool) (src : Result (List Block) ℕ) (place : Place) (f : Fault) → Walked src place (Err f) → copied_from s out t blank src ≡ answered (Err (outcome_for f))
 walk_refused s out t blank (Ok bs) place f tells = let no = (tells.blocks bs refl).1 in let never : ⊥ = cc in absurd never
 walk_refused s out t blank (Err track) place f tells = let same = tells.unreadable track refl in let is : f ≡ Refused (Unreadable track) = cc in ap (λ (q : Fault). answered (Err (outcome_for q))) (sym is)
 
-module _ (s : Shelf) (out : SetRef) (t : Task) (blank : Bool) (walk : Walk) (src : Result (List Block) ℕ) (so : WalkTold src t.entry.place walk) where
+module _ (s : Shelf) (out : SetRef) (t : MemberCopy) (blank : Bool) (walk : Walk) (src : Result (List Block) ℕ) (so : WalkTold src t.entry.place walk) where
   abbrev bs : List Block
   bs = member so.all_blocks t.entry.place
 
@@ -159,16 +174,16 @@ module _ (s : Shelf) (out : SetRef) (t : Task) (blank : Bool) (walk : Walk) (src
 
 -- ---- a member
 
-module _ (s : Shelf) (out : SetRef) (copies : List Copy) (t : Task) where
-  pub member_none : (f : Fault) → LooksAt (Err f) t (library s out) → member_copied s out copies t ≡ answered (Err (outcome_for f))
+module _ (s : Shelf) (out : SetRef) (copies : List Copy) (t : MemberCopy) where
+  pub member_none : (f : Fault) → ProbesOutput (Err f) t (library s out) → member_copied s out copies t ≡ answered (Err (outcome_for f))
   unfolding member_copied
   member_none (Refused r) is = ap (copied_if s out copies t) is
   member_none BadRecord is = absurd is
 
-  module _ (x : DataSet) (found : Found) (is : library s out ≡ Ok x) (told : found ≡ found_of t x) where
+  module _ (x : DataSet) (found : OutputState) (is : library s out ≡ Ok x) (told : found ≡ output_state t x) where
     member_found : member_copied s out copies t ≡ unless_refused (first_refusal t found) (copied_or_again s out t found.is_blank (copy_before copies t))
     unfolding member_copied
-    member_found = ap (copied_if s out copies t) is ∙ ap (λ (f : Found). unless_refused (first_refusal t f) (copied_or_again s out t f.is_blank (copy_before copies t))) (sym told)
+    member_found = ap (copied_if s out copies t) is ∙ ap (λ (f : OutputState). unless_refused (first_refusal t f) (copied_or_again s out t f.is_blank (copy_before copies t))) (sym told)
 
     pub member_refused : (o : Outcome) → first_refusal t found ≡ Some o → member_copied s out copies t ≡ answered (Err o)
     member_refused o refused = member_found ∙ ap (λ (r : Option Outcome). unless_refused r (copied_or_again s out t found.is_blank (copy_before copies t))) refused

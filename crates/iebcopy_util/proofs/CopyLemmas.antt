@@ -1,37 +1,30 @@
 -- The copy of a member, case by case.
-use Rattle.std.proofs.Common.{◌≡◌, ℕ, suc, Bool, true, false, cond, ◌&&◌, ◌||◌, List, [], ◌∷◌, length, refl, sym, ◌∙◌, ap, arith}
+use Rattle.std.proofs.Common.{◌≡◌, ℕ, suc, Bool, true, false, ◌&&◌, List, [], ◌∷◌, length, refl, sym, ◌∙◌, ap, arith}
 use Rattle.std.proofs.lemmas.Bool.Decides.{nat_tests}
-use Rattle.std.specs.Prelude.{Option, Some, None, Result, Ok, Err, IsErr, ◌==◌, if◌then◌else◌, find, is_some, slice_get}
-use Rattle.std.specs.Str.{bytes_eq}
-use Rattle.stop_model.specs.Moments.{Meaning}
+use Rattle.std.specs.Prelude.{Option, Some, None, Ok, Err, ◌==◌, if◌then◌else◌, slice_get}
 use Rattle.vol_model.specs.declared.answers.SetInfo.{SetInfo}
-use Rattle.vol_model.specs.declared.answers.Stop.{Stop}
 use Rattle.vol_model.specs.declared.contents.Attr.{Attr}
 use Rattle.vol_model.specs.declared.contents.Block.{Block}
 use Rattle.vol_model.specs.declared.contents.DataSet.{DataSet}
 use Rattle.vol_model.specs.declared.contents.Entry.{Entry}
 use Rattle.vol_model.specs.declared.contents.Shelf.{Shelf}
 use Rattle.vol_model.specs.declared.contents.Place.{Place}
-use Rattle.vol_model.specs.declared.refusals.Refusal.{Refusal}
 use Rattle.vol_model.specs.declared.refusals.Refusal.TheVariants.{Unreadable}
-use Rattle.vol_model.specs.Did.{Did, and_then, answered}
-use Rattle.vol_model.specs.Reading.{FirstOf, Picks, blocks_from, set_info}
-use Rattle.vol_model.specs.Runs.{Works}
+use Rattle.vol_model.specs.Did.{and_then, answered}
+use Rattle.vol_model.specs.Reading.{FirstOf, blocks_from, set_info}
 use Rattle.vol_model.specs.Shelf.{blocks_of, has_member}
 use Rattle.vol_model.specs.Writing.{body_on}
-use Rattle.vol_model.proofs.Working.{works_ends, works_none, works_stops, works_then}
 use Rattle.util_steps.specs.declared.calls.Fault.{Fault}
 use Rattle.util_steps.specs.declared.calls.Fault.TheVariants.{Refused}
 use Rattle.util_steps.specs.declared.calls.SetRef.{SetRef}
 use Rattle.util_steps.specs.Steps.{Finds}
 use Rattle.util_steps.specs.Copying.{source}
 use Rattle.util_steps.proofs.Progress.{all_from_start}
-use Rattle.util_syntax.specs.declared.listing.Outcome.{Outcome}
 use Rattle.util_syntax.specs.declared.listing.Outcome.TheVariants as outcome
 use Rattle.iebcopy_util.specs.declared.copying.Copy.{Copy}
-use Rattle.iebcopy_util.specs.declared.copying.Found.{Found}
-use Rattle.iebcopy_util.specs.declared.tasks.Task.{Task}
-use Rattle.iebcopy_util.specs.Copying.{can_move, copied_again, entered, entry_for, found_of, is_blank}
+use Rattle.iebcopy_util.specs.declared.copying.OutputState.{OutputState}
+use Rattle.iebcopy_util.specs.declared.tasks.MemberCopy.{MemberCopy}
+use Rattle.iebcopy_util.specs.Copying.{can_move, copied_again, entered, entry_for, output_state, is_blank}
 use Rattle.iebcopy_util.specs.Steps.{IsClosed, IsRead}
 use Rattle.iebcopy_util.proofs.WholeLemmas.{performed_closed}
 use Rattle.record_files.proofs.KeepLemmas.{read_all}
@@ -76,8 +69,8 @@ module _ (s : Shelf) (out : SetRef) (x : DataSet) (is : library s out ≡ Ok x) 
   has_none b found = ap (λ (l : List Block). length l == 0) (sym (blocks_there found.0 found.1)) ∙ ap (λ (l : List Block). length l == 0) (sym (all_from_start found.0) ∙ found.2)
 
 -- what was looked for is what is found of the output
-pub found_told : (t : Task) (x : DataSet) (info : SetInfo) (blank vacant has : Bool) → info ≡ set_info x → blank ≡ (info.attr.recfm == 0 && vacant) → vacant ≡ (length (entries_of x.body) == 0 && length (blocks_of x.body) == 0) → has ≡ has_member t.name.bytes (entries_of x.body)
-    → (let f : Found = record { attr = info.attr; is_blank = blank; has_name = has } in f) ≡ found_of t x
+pub found_told : (t : MemberCopy) (x : DataSet) (info : SetInfo) (blank vacant has : Bool) → info ≡ set_info x → blank ≡ (info.attr.recfm == 0 && vacant) → vacant ≡ (length (entries_of x.body) == 0 && length (blocks_of x.body) == 0) → has ≡ has_member t.name.bytes (entries_of x.body)
+    → (let f : OutputState = record { attr = info.attr; is_blank = blank; has_name = has } in f) ≡ output_state t x
 unfolding set_info
 found_told t x info blank vacant has told b v h =
     let attr : info.attr ≡ x.attr = ap (λ (n : SetInfo). n.attr) told in
@@ -88,18 +81,18 @@ found_told t x info blank vacant has told b v h =
 -- ---- a copy is entered
 
 -- its one operation is no extension
-pub entered_closed : (s : Shelf) (out : SetRef) (t : Task) (c : Copy) → IsClosed (entered s out t c).operations
+pub entered_closed : (s : Shelf) (out : SetRef) (t : MemberCopy) (c : Copy) → IsClosed (entered s out t c).operations
 entered_closed s out t c = performed_closed s (Enter out.v out.dsn (entry_for t c) t.replace) refl
 
 pub can_as : (e : Entry) (b t : Bool) (l m : List Place) → b ≡ can_move l e → l ≡ m → b ≡ t → can_move m e ≡ t
 can_as e b t l m is same at = ap (λ (k : List Place). can_move k e) (sym same) ∙ sym is ∙ at
 
 -- TTRs of a member that was copied before can be moved, or not
-pub again_moved : (s : Shelf) (out : SetRef) (t : Task) (c : Copy) → can_move c.from t.entry ≡ true → copied_again s out t c ≡ and_then s (entered s out t c) (λ x u. answered (Ok None))
+pub again_moved : (s : Shelf) (out : SetRef) (t : MemberCopy) (c : Copy) → can_move c.from t.entry ≡ true → copied_again s out t c ≡ and_then s (entered s out t c) (λ x u. answered (Ok None))
 unfolding copied_again
 again_moved s out t c is = ap (λ (b : Bool). if b then and_then s (entered s out t c) (λ x u. answered {X = Option Copy} (Ok None)) else answered (Err outcome.BadTtr)) is
 
-pub again_bad : (s : Shelf) (out : SetRef) (t : Task) (c : Copy) → can_move c.from t.entry ≡ false → copied_again s out t c ≡ answered (Err outcome.BadTtr)
+pub again_bad : (s : Shelf) (out : SetRef) (t : MemberCopy) (c : Copy) → can_move c.from t.entry ≡ false → copied_again s out t c ≡ answered (Err outcome.BadTtr)
 unfolding copied_again
 again_bad s out t c is = ap (λ (b : Bool). if b then and_then s (entered s out t c) (λ x u. answered {X = Option Copy} (Ok None)) else answered (Err outcome.BadTtr)) is
 

@@ -14,6 +14,7 @@ use Rattle.vol_model.specs.Events.{Do, Event, Item, Say, code_of, events_in, eve
 use Rattle.vol_model.specs.Runs.{Runs, Works}
 use Rattle.vol_model.proofs.Stops.{HasRun, StopsSince, events_append, run_none, run_then, since_first, since_second}
 use Rattle.vol_model.proofs.Working.{counted_twice, done_state, has_done, idle_since}
+use Rattle.util_steps.specs.Items.{DoesItem}
 use Rattle.iebcopy_util.specs.Steps.{DoesItems, EndsWhole, HasPart}
 use Rattle.iebcopy_util.proofs.WholeLemmas.{ends_behind, ends_first, ends_now, operations_append, operations_in}
 
@@ -77,6 +78,23 @@ does_idle items Answers {old = old} {new = new} r failed same durable =
 pub does_handed : {T U : Type 0} {tells roomy : Bool} {items : List Item} {A : T → Type 0} (B : U → Type 0) {old new : Meaning Shelf} {n m k : ℕ} (q : Result T Stop) (r : Result U Stop) → IsErr r → (IsErrOf r Memory → IsErrOf q Memory) → DoesItems tells roomy items A old new n m q → DoesItems tells roomy items B old new n k r
 does_handed B q r failed same does = does_err r failed does.runs.moments (λ room memory. does.memory room (same memory))
 
+-- ---- the code of items
+
+module _ {tells roomy : Bool} where
+  -- items that are seen as others
+  pub coded_as : {xs ys : List Item} {old new : Meaning Shelf} {n m : ℕ} (r : Result ℕ Stop) → xs ≡ ys → DoesItems tells roomy xs (λ c. c ≡ code_of xs) old new n m r → DoesItems tells roomy ys (λ c. c ≡ code_of ys) old new n m r
+  coded_as {old = old} {new = new} {n = n} {m = m} r is does = subst (λ (l : List Item). DoesItems tells roomy l (λ (c : ℕ). c ≡ code_of l) old new n m r) is does
+
+  later_by : (xs : List Item) {old mid new : Meaning Shelf} {n k m : ℕ} (r : Result ℕ Stop) → Same old mid → IsDurable old → k ≡ n → DoesItems tells roomy xs (λ c. c ≡ code_of xs) mid new k m r → DoesItems tells roomy xs (λ c. c ≡ code_of xs) old new n m r
+  later_by xs (Ok x) same durable count does = does_ok x does.answer (done_then (idle_done same durable count) (are_done does))
+  later_by xs {old = old} {mid = mid} {new = new} (Err e) same durable count does =
+      does_err (Err e) refl (since_second (events_of xs) (idle_done {tells = tells} same durable (let k : ℕ = 0 in let is : k ≡ k = refl in is)).run does.runs.moments)
+      (λ room memory. subst (λ (s : Shelf). EndsWhole xs s new.state) same.state (does.memory room memory))
+
+  -- nothing but time went on before
+  pub coded_later : (items : Shelf → List Item) {old mid new : Meaning Shelf} {n k m : ℕ} (r : Result ℕ Stop) → Same old mid → IsDurable old → k ≡ n → DoesItems tells roomy (items mid.state) (λ c. c ≡ code_of (items mid.state)) mid new k m r → DoesItems tells roomy (items old.state) (λ c. c ≡ code_of (items old.state)) old new n m r
+  coded_later items {old = old} r same durable count does = later_by (items old.state) r same durable count (coded_as r (ap items same.state) does)
+
 -- ---- some after others
 
 -- Some items were done, with this highest code, and these of all are left.
@@ -88,10 +106,6 @@ pub record SoFar (tells : Bool) (all left : List Item) (code : ℕ) (old now : M
 
 pub so_begins : (tells : Bool) (all : List Item) (old : Meaning Shelf) (n : ℕ) → SoFar tells all all 0 old old n n
 so_begins tells all old n = record { done = []; whole = refl; are = none_done old n; highest = refl }
-
--- nothing but time went on before
-pub so_idle : {tells : Bool} (all : List Item) {old now : Meaning Shelf} {n m : ℕ} → Same old now → IsDurable old → m ≡ n → SoFar tells all all 0 old now n m
-so_idle all same durable count = record { done = []; whole = refl; are = idle_done same durable count; highest = refl }
 
 max_assoc : (a b c : ℕ) → max a (max b c) ≡ max (max a b) c
 max_assoc a b c = omega arith
@@ -140,6 +154,18 @@ item_for did lines code = record { operations = did.operations; lines = lines; c
 
 time_as : {tells : Bool} (item : Item) {old new : Meaning Shelf} → Elapses old new (StopsSince tells (events_in item) old) → Elapses old new (StopsSince tells (events_of (item ∷ [])) old)
 time_as {tells = tells} item {old = old} {new = new} time = subst (λ (es : List Event). Elapses old new (StopsSince tells es old)) (single item) time
+
+max_zero : (a : ℕ) → max a 0 ≡ a
+max_zero a = omega arith
+
+-- an item of a report
+pub does_one : {tells roomy : Bool} (item : Item) {old new : Meaning Shelf} {n m : ℕ} (r : Result ℕ Stop) → DoesItem tells item old new n m r → new.state ≡ old.state → DoesItems tells roomy (item ∷ []) (λ c. c ≡ code_of (item ∷ [])) old new n m r
+does_one {tells = tells} item {old = old} {new = new} {n = n} (Ok c) does same =
+    does_ok c (does.code ∙ sym (max_zero item.code)) (record {
+      run = subst (λ (es : List Event). HasRun tells es old new) (single item) (record { state = does.runs.shelf; printed = does.runs.printed; moments = does.runs.moments });
+      count = does.count.count ∙ ap (λ (es : List Event). counted n (length (operations_of es))) (single item);
+    })
+does_one item {old = old} {new = new} (Err e) does same = does_err (Err e) refl (time_as item does.runs.moments) (λ room memory. ends_now (item ∷ []) old.state new.state same)
 
 module _ {X E T : Type 0} {tells roomy : Bool} (did : Did X E) (lines : List (List ℕ)) (code : ℕ) (A : T → Type 0) where
   -- its steps are stopped

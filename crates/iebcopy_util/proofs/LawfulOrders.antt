@@ -11,7 +11,7 @@ use Rattle.iebcopy_util.specs.declared.orders.Choice.TheVariants as choices
 use Rattle.iebcopy_util.specs.declared.orders.Order.{Order}
 use Rattle.iebcopy_util.specs.declared.orders.State.{State}
 use Rattle.iebcopy_util.specs.declared.orders.State.TheVariants.{Idle, Open, Ended}
-use Rattle.iebcopy_util.specs.declared.orders.StatementFault.{StatementFault}
+use Rattle.util_syntax.specs.declared.program.StatementFault.{StatementFault}
 use Rattle.iebcopy_util.specs.declared.requests.CopyDds.{CopyDds}
 use Rattle.iebcopy_util.specs.declared.requests.Pick.{Pick}
 use Rattle.iebcopy_util.specs.declared.requests.Request.{Request}

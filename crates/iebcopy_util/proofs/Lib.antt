@@ -3,7 +3,6 @@ mod TaskLemmas
 mod WalkLemmas
 mod AreaLemmas
 mod CopyLemmas
-mod KeepLemmas
 mod PlaceLemmas
 mod WholeLemmas
 mod WritingLemmas
@@ -12,7 +11,7 @@ mod CopiedLemmas
 mod DoesItemsLemmas
 mod MemberItems
 mod LawfulOrders
-mod Reading
 mod ApartLemmas
 mod StepItems
+mod RunLemmas
 pub mod AcceptedLemmas

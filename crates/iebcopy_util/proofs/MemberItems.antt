@@ -1,6 +1,5 @@
 -- The items of members, one after another.
 use Rattle.std.proofs.Common.{◌≡◌, ℕ, Bool, true, false, cond, not, max, List, [], ◌∷◌, ◌++◌, length, map, filter, refl, sym, ◌∙◌, ap, subst, arith}
-use Rattle.std.proofs.lemmas.List.{append-nil}
 use Rattle.std.specs.Prelude.{Option, Result, Ok, IsErr, IsErrOf, IsTrue, if◌then◌else◌}
 use Rattle.stop_model.specs.Moments.{Meaning}
 use Rattle.vol_model.specs.declared.answers.Stop.{Stop}
@@ -12,24 +11,19 @@ use Rattle.vol_model.specs.Runs.{Runs, Works}
 use Rattle.util_steps.specs.declared.calls.SetRef.{SetRef}
 use Rattle.util_syntax.specs.declared.listing.Outcome.{Outcome}
 use Rattle.iebcopy_util.specs.declared.copying.Copy.{Copy}
-use Rattle.iebcopy_util.specs.declared.members.Ending.{Ending}
 use Rattle.iebcopy_util.specs.declared.requests.Pick.{Pick}
-use Rattle.iebcopy_util.specs.declared.tasks.Task.{Task}
+use Rattle.iebcopy_util.specs.declared.tasks.MemberCopy.{MemberCopy}
 use Rattle.iebcopy_util.specs.Copying.{member_copied}
-use Rattle.iebcopy_util.specs.Items.{Course, copy_code, follow, item_then, member_item, member_line, members, missing_item, outcome_of, stopped, with_missing}
-use Rattle.iebcopy_util.specs.Steps.{DoesItems, EndsCourse, HasPart}
+use Rattle.iebcopy_util.specs.Items.{Course, copy_code, follow, item_then, member_item, items_missing, member_line, members, missing_item, outcome_of, stopped}
+use Rattle.iebcopy_util.specs.Steps.{DoesItems, HasPart}
 use Rattle.iebcopy_util.specs.Tasks.{is_taken}
-use Rattle.iebcopy_util.proofs.DoesItemsLemmas.{SoFar, are_done, one_said, one_silent, one_stopped, one_unsaid, so_begins, so_code, so_ends, so_further, so_stops}
+use Rattle.iebcopy_util.proofs.DoesItemsLemmas.{one_said, one_silent, one_stopped, one_unsaid}
 use Rattle.iebcopy_util.proofs.WholeLemmas.{after_item}
 
 -- ---- members that no input has
 
--- their items
-abbrev pub items_missing : ℕ → SetRef → List Task → List Pick → List Item
-items_missing card out tasks picks = map (missing_item card out) (filter (λ (p : Pick). not (is_taken p.name tasks)) picks)
-
 -- that of the first, if no input has it, and those of the others
-pub missing_next : (card : ℕ) (out : SetRef) (tasks : List Task) (p : Pick) (ps picks : List Pick) → picks ≡ p ∷ ps → items_missing card out tasks picks ≡ items_missing card out tasks (p ∷ []) ++ items_missing card out tasks ps
+pub missing_next : (card : ℕ) (out : SetRef) (tasks : List MemberCopy) (p : Pick) (ps picks : List Pick) → picks ≡ p ∷ ps → items_missing card out tasks picks ≡ items_missing card out tasks (p ∷ []) ++ items_missing card out tasks ps
 missing_next card out tasks p ps picks is = ap (items_missing card out tasks) is ∙ by_test (not (is_taken p.name tasks))
   where
     rest : List Pick
@@ -42,25 +36,25 @@ missing_next card out tasks p ps picks is = ap (items_missing card out tasks) is
 -- ---- members that are copied
 
 -- no member is left
-pub members_none : (s : Shelf) (card : ℕ) (out : SetRef) (copies : List Copy) (tasks : List Task) → length tasks ≡ 0 → members s card out copies tasks ≡ record { items = []; goes_on = true }
+pub members_none : (s : Shelf) (card : ℕ) (out : SetRef) (copies : List Copy) (tasks : List MemberCopy) → length tasks ≡ 0 → members s card out copies tasks ≡ record { items = []; goes_on = true }
 members_none s card out copies [] none = refl
 members_none s card out copies (t ∷ ts) none = absurd (omega arith)
 
 -- the item of the first member, and those after it
-pub members_first : (s : Shelf) (card : ℕ) (out : SetRef) (copies held : List Copy) (t : Task) (ts tasks : List Task) → copies ≡ held → tasks ≡ t ∷ ts
+pub members_first : (s : Shelf) (card : ℕ) (out : SetRef) (copies held : List Copy) (t : MemberCopy) (ts tasks : List MemberCopy) → copies ≡ held → tasks ≡ t ∷ ts
     → (rest : List Item) × ((members s card out held tasks).items ≡ member_item card out t (member_copied s out copies t) ∷ rest)
 members_first s card out copies held t ts tasks same is =
     let did = member_copied s out copies t in
-    ((follow did.answer (λ more. members (after_operations s did.operations) card out (copies ++ more) ts)).items, ap (λ (l : List Copy). (members s card out l tasks).items) (sym same) ∙ ap (λ (l : List Task). (members s card out copies l).items) is)
+    ((follow did.answer (λ more. members (after_operations s did.operations) card out (copies ++ more) ts)).items, ap (λ (l : List Copy). (members s card out l tasks).items) (sym same) ∙ ap (λ (l : List MemberCopy). (members s card out copies l).items) is)
 
 -- A member is done: what is remembered of its copies, and whether others follow.
-pub record Follows (s now : Shelf) (out : SetRef) (copies held after : List Copy) (t : Task) (answer : Result (Option Copy) Outcome) (b : Bool) : Type 0 where
+pub record Follows (s now : Shelf) (out : SetRef) (copies held after : List Copy) (t : MemberCopy) (answer : Result (Option Copy) Outcome) (b : Bool) : Type 0 where
   pub same : copies ≡ held
   pub told : answer ≡ (member_copied s out copies t).answer
   pub there : now ≡ after_operations s (member_copied s out copies t).operations
   pub remembered : (more : List Copy → Course) → follow answer (λ xs. more (held ++ xs)) ≡ (if b then more after else stopped)
 
-module _ (s now : Shelf) (card : ℕ) (out : SetRef) (copies held after : List Copy) (t : Task) (ts tasks : List Task) (answer : Result (Option Copy) Outcome) (b : Bool) (is : tasks ≡ t ∷ ts) (follows : Follows s now out copies held after t answer b) where
+module _ (s now : Shelf) (card : ℕ) (out : SetRef) (copies held after : List Copy) (t : MemberCopy) (ts tasks : List MemberCopy) (answer : Result (Option Copy) Outcome) (b : Bool) (is : tasks ≡ t ∷ ts) (follows : Follows s now out copies held after t answer b) where
   members_next : members s card out held tasks ≡ item_then (member_item card out t (member_copied s out copies t)) (if b then members now card out after ts else stopped)
   members_next =
       let did = member_copied s out copies t in
@@ -86,15 +80,15 @@ max_zero : (a : ℕ) → max a 0 ≡ a
 max_zero a = omega arith
 
 -- its code
-pub member_code : (card : ℕ) (out : SetRef) (t : Task) (did : Did (Option Copy) Outcome) (answer : Result (Option Copy) Outcome) (o : Outcome) (code : ℕ) → answer ≡ did.answer → o ≡ outcome_of answer → code ≡ copy_code o → code ≡ code_of (member_item card out t did ∷ [])
+pub member_code : (card : ℕ) (out : SetRef) (t : MemberCopy) (did : Did (Option Copy) Outcome) (answer : Result (Option Copy) Outcome) (o : Outcome) (code : ℕ) → answer ≡ did.answer → o ≡ outcome_of answer → code ≡ copy_code o → code ≡ code_of (member_item card out t did ∷ [])
 unfolding member_item
 member_code card out t did answer o code told is own = own ∙ ap copy_code is ∙ ap (λ (a : Result (Option Copy) Outcome). copy_code (outcome_of a)) told ∙ sym (max_zero (copy_code (outcome_of did.answer)))
 
 -- its line
-line_for : (card : ℕ) (out : SetRef) (t : Task) (answer final : Result (Option Copy) Outcome) (line : List ℕ) → line ≡ member_line card out t.name (outcome_of answer) → answer ≡ final → line ≡ member_line card out t.name (outcome_of final)
+line_for : (card : ℕ) (out : SetRef) (t : MemberCopy) (answer final : Result (Option Copy) Outcome) (line : List ℕ) → line ≡ member_line card out t.name (outcome_of answer) → answer ≡ final → line ≡ member_line card out t.name (outcome_of final)
 line_for card out t answer final line is same = is ∙ ap (λ (a : Result (Option Copy) Outcome). member_line card out t.name (outcome_of a)) same
 
-module _ {tells roomy : Bool} (card : ℕ) (out : SetRef) (t : Task) (did : Did (Option Copy) Outcome) where
+module _ {tells roomy : Bool} (card : ℕ) (out : SetRef) (t : MemberCopy) (did : Did (Option Copy) Outcome) where
   -- its copy is stopped
   pub member_stopped : {old new : Meaning Shelf} {n m k : ℕ} (q r : Result (Result (Option Copy) Outcome) Stop) → IsErr r → (IsErrOf r Memory → IsErrOf q Memory) → Works tells did old new n m q → (IsTrue roomy → IsErrOf q Memory → HasPart did.operations old.state new.state)
       → DoesItems tells roomy (member_item card out t did ∷ []) (λ a. a ≡ did.answer) old new n k r
@@ -128,34 +122,3 @@ module _ {tells roomy : Bool} (card : ℕ) (out : SetRef) (t : Task) (did : Did 
     member_said {U = U} {new = new} {y = y} line is runs count =
         one_said did (member_line card out t.name (outcome_of did.answer) ∷ []) (copy_code (outcome_of did.answer)) (λ (a : Result (Option Copy) Outcome). a ≡ did.answer) works answer
         (subst (λ (l : List ℕ). Runs {T = U} {E = Stop} tells (Say l ∷ []) mid new (Ok y)) (line_for card out t answer did.answer line is works.answer) runs) count works.answer
-
--- ---- members, and then those that no input has
-
-module _ {tells roomy : Bool} (card : ℕ) (out : SetRef) (picks : List Pick) (course : Course) {old mid : Meaning Shelf} {n k : ℕ} where
-  -- the members are stopped
-  pub copies_stopped : {m : ℕ} (q : Result Ending Stop) (r : Result ℕ Stop) → IsErr r → (IsErrOf r Memory → IsErrOf q Memory) → DoesItems tells roomy course.items (EndsCourse course) old mid n k q
-      → DoesItems tells roomy (with_missing card out picks course) (λ code. code ≡ code_of (with_missing card out picks course)) old mid n m r
-  copies_stopped q r failed same does = so_stops (so_begins tells (with_missing card out picks course) old n) course.items (if course.goes_on then map (missing_item card out) picks else []) q r failed same refl does
-
-  module _ (ending : Ending) (does : DoesItems tells roomy course.items (EndsCourse course) old mid n k (Ok ending)) where
-    so_copied : (b : Bool) → ending.goes_on ≡ b → SoFar tells (with_missing card out picks course) (if b then map (missing_item card out) picks else []) ending.code old mid n k
-    so_copied b is =
-        so_further (so_begins tells (with_missing card out picks course) old n) course.items (if b then map (missing_item card out) picks else []) ending.code ending.code
-        (ap (λ (c : Bool). course.items ++ (if c then map (missing_item card out) picks else [])) (sym does.answer.1 ∙ is)) (are_done does) does.answer.0 (omega arith)
-
-    -- they ended in a refusal
-    pub copies_end : ending.goes_on ≡ false → DoesItems tells roomy (with_missing card out picks course) (λ code. code ≡ code_of (with_missing card out picks course)) old mid n k (Ok ending.code)
-    copies_end ends = let so = so_copied false ends in so_ends so ending.code refl (so_code so refl)
-
-    module _ {new : Meaning Shelf} (on : ending.goes_on ≡ true) where
-      -- the others are stopped
-      pub missing_stopped : {m c : ℕ} {A : ℕ → Type 0} (q r : Result ℕ Stop) → IsErr r → (IsErrOf r Memory → IsErrOf q Memory) → DoesItems tells roomy (map (missing_item card out) picks) A mid new k m q
-          → DoesItems tells roomy (with_missing card out picks course) (λ code. code ≡ code_of (with_missing card out picks course)) old new n c r
-      missing_stopped q r failed same more = so_stops (so_copied true on) (map (missing_item card out) picks) [] q r failed same (sym (append-nil (map (missing_item card out) picks))) more
-
-      -- they are done
-      pub missing_done : {m : ℕ} (code highest : ℕ) → highest ≡ max ending.code code → DoesItems tells roomy (map (missing_item card out) picks) (λ c. c ≡ code_of (map (missing_item card out) picks)) mid new k m (Ok code)
-          → DoesItems tells roomy (with_missing card out picks course) (λ c. c ≡ code_of (with_missing card out picks course)) old new n m (Ok highest)
-      missing_done code highest is more =
-          let so = so_further (so_copied true on) (map (missing_item card out) picks) [] code highest (sym (append-nil (map (missing_item card out) picks))) (are_done more) more.answer is in
-          so_ends so highest refl (so_code so refl)

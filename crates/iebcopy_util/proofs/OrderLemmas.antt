@@ -8,8 +8,9 @@ use Rattle.iebcopy_util.specs.declared.orders.Order.{Order}
 use Rattle.iebcopy_util.specs.declared.orders.Order.TheVariants as order
 use Rattle.iebcopy_util.specs.declared.orders.State.{State}
 use Rattle.iebcopy_util.specs.declared.orders.State.TheVariants.{Idle, Open, Ended}
-use Rattle.iebcopy_util.specs.declared.orders.StatementFault.{StatementFault}
-use Rattle.iebcopy_util.specs.Orders.{bad_operand, chosen, orders_at, orders_of, unless_ended}
+use Rattle.util_syntax.specs.declared.program.StatementFault.{StatementFault}
+use Rattle.util_syntax.specs.Program.{bad_operand}
+use Rattle.iebcopy_util.specs.Orders.{chosen, orders_at, orders_of, unless_ended}
 
 -- a choice of members that follows no COPY is a fault
 pub chosen_fault : (state : State) (card own : ℕ) (choice : Choice) (more : State → List Order) → ((o : Opened) → state ≡ Open o → ⊥) → chosen state card own choice more ≡ order.Fault (bad_operand own) ∷ []

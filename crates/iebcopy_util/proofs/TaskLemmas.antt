@@ -1,5 +1,5 @@
 -- The members that a copy takes, case by case.
-use Rattle.std.proofs.Common.{◌≡◌, ℕ, zero, suc, ◌+◌, ◌*◌, ◌≤◌, ◌<◌, min, Bool, true, false, cond, List, [], ◌∷◌, ◌++◌, length, map, filter, take, drop, refl, sym, ◌∙◌, ap, subst, arith, append_assoc}
+use Rattle.std.proofs.Common.{◌≡◌, ℕ, zero, suc, ◌+◌, ◌*◌, ◌≤◌, ◌<◌, min, Bool, true, false, cond, List, [], ◌∷◌, ◌++◌, length, map, filter, drop, refl, sym, ◌∙◌, ap, subst, arith, append_assoc}
 use Rattle.std.specs.Prelude.{Option, Some, None, Result, Ok, Err, if◌then◌else◌, nat_le, unwrap_or, slice_get, find, option_and_then}
 use Rattle.std.specs.List.{AllByRecursion, flat_map, list_any}
 use Rattle.std.proofs.lemmas.List.{append-nil}
@@ -28,17 +28,17 @@ use Rattle.iebcopy_util.specs.declared.orders.Choice.{Choice}
 use Rattle.iebcopy_util.specs.declared.orders.Choice.TheVariants.{All, Select, Exclude}
 use Rattle.iebcopy_util.specs.declared.requests.Pick.{Pick}
 use Rattle.iebcopy_util.specs.declared.sets.Input.{Input}
-use Rattle.iebcopy_util.specs.declared.tasks.Source.{Source}
-use Rattle.iebcopy_util.specs.declared.tasks.Task.{Task}
+use Rattle.iebcopy_util.specs.declared.tasks.InputLibrary.{InputLibrary}
+use Rattle.iebcopy_util.specs.declared.tasks.MemberCopy.{MemberCopy}
 use Rattle.record_files.specs.Members.{entries_of}
 use Rattle.iebcopy_util.specs.Sets.{library}
-use Rattle.iebcopy_util.specs.Tasks.{IsLawfulChoice, IsLawfulPick, IsLawfulTask, is_name, is_taken, on_library, source_for, task, tasks_of, wanted, with_source}
+use Rattle.iebcopy_util.specs.Tasks.{IsLawfulChoice, IsLawfulPick, IsLawfulMemberCopy, is_name, is_taken, on_library, source_for, task, tasks_of, wanted, with_source}
 use Rattle.record_files.specs.declared.attributes.Purpose.TheVariants as purposes
 use Rattle.record_files.specs.Attributes.{set_if_mounted, set_if_there, unless_refused, usable_set}
 use Rattle.record_files.proofs.FoundLemmas.{library_entries}
 
 -- an entry that is left out
-pub none_wanted : (choice : Choice) (names : List Name8) (earlier : List Task) (source : Source) (e : Entry) → choice ≡ Exclude names → list_any (λ (n : Name8). is_name n e.name) names ≡ true → wanted choice earlier source e ≡ []
+pub none_wanted : (choice : Choice) (names : List Name8) (earlier : List MemberCopy) (source : InputLibrary) (e : Entry) → choice ≡ Exclude names → list_any (λ (n : Name8). is_name n e.name) names ≡ true → wanted choice earlier source e ≡ []
 unfolding wanted
 none_wanted choice names earlier source e is there =
     ap (λ (c : Choice). wanted c earlier source e) is ∙ ap (λ (t : Bool). cond t [] (task source e e.name false ∷ [])) there
@@ -50,25 +50,25 @@ all_append P [] ys all more = more
 all_append P (x ∷ xs) ys all more = (all.0, all_append P xs ys all.1 more)
 
 -- the copies for a lawful entry are lawful
-pub wanted_lawful : (choice : Choice) (earlier : List Task) (source : Source) (e : Entry) → IsLawfulChoice choice → IsLawfulEntry e → AllByRecursion IsLawfulTask (wanted choice earlier source e)
+pub wanted_lawful : (choice : Choice) (earlier : List MemberCopy) (source : InputLibrary) (e : Entry) → IsLawfulChoice choice → IsLawfulEntry e → AllByRecursion IsLawfulMemberCopy (wanted choice earlier source e)
 unfolding wanted
 wanted_lawful All earlier source e choice lawful = (record { entry = lawful; name = lawful.name }, tt)
 wanted_lawful (Exclude names) earlier source e choice lawful = by_test (list_any (λ (n : Name8). is_name n e.name) names)
   where
-    by_test : (t : Bool) → AllByRecursion IsLawfulTask (cond t [] (task source e e.name false ∷ []))
+    by_test : (t : Bool) → AllByRecursion IsLawfulMemberCopy (cond t [] (task source e e.name false ∷ []))
     by_test true = tt
     by_test false = (record { entry = lawful; name = lawful.name }, tt)
 wanted_lawful (Select picks) earlier source e choice lawful = by_test (is_taken e.name earlier)
   where
-    by_pick : (p : Pick) (ps : List Pick) (t : Bool) → IsLawfulPick p → AllByRecursion IsLawfulTask (map (λ (q : Pick). task source e q.new q.replace) ps) → AllByRecursion IsLawfulTask (map (λ (q : Pick). task source e q.new q.replace) (cond t (p ∷ ps) ps))
+    by_pick : (p : Pick) (ps : List Pick) (t : Bool) → IsLawfulPick p → AllByRecursion IsLawfulMemberCopy (map (λ (q : Pick). task source e q.new q.replace) ps) → AllByRecursion IsLawfulMemberCopy (map (λ (q : Pick). task source e q.new q.replace) (cond t (p ∷ ps) ps))
     by_pick p ps true ok rest = (record { entry = lawful; name = ok }, rest)
     by_pick p ps false ok rest = rest
 
-    picked : (ps : List Pick) → AllByRecursion IsLawfulPick ps → AllByRecursion IsLawfulTask (map (λ (q : Pick). task source e q.new q.replace) (filter (λ (q : Pick). is_name q.name e.name) ps))
+    picked : (ps : List Pick) → AllByRecursion IsLawfulPick ps → AllByRecursion IsLawfulMemberCopy (map (λ (q : Pick). task source e q.new q.replace) (filter (λ (q : Pick). is_name q.name e.name) ps))
     picked [] all = tt
     picked (p ∷ ps) all = by_pick p (filter (λ (q : Pick). is_name q.name e.name) ps) (is_name p.name e.name) all.0 (picked ps all.1)
 
-    by_test : (t : Bool) → AllByRecursion IsLawfulTask (cond t [] (map (λ (q : Pick). task source e q.new q.replace) (filter (λ (q : Pick). is_name q.name e.name) picks)))
+    by_test : (t : Bool) → AllByRecursion IsLawfulMemberCopy (cond t [] (map (λ (q : Pick). task source e q.new q.replace) (filter (λ (q : Pick). is_name q.name e.name) picks)))
     by_test true = tt
     by_test false = picked picks choice
 
@@ -181,7 +181,7 @@ no_entry_past s set x k e lawful is at past =
 -- ---- the inputs one after another
 
 -- an input that is found, by what a machine tells of it in short
-pub source_told : (number : ℕ) (given : Option Attr) (i : Input) (x : DataSet) (info : SetInfo) (first : Attr) → info ≡ set_info x → first ≡ unwrap_or given info.attr → (let s : Source = record { number = number; set = i.set; attr = info.attr; given = first; replace = i.replace } in s) ≡ source_for number given i x
+pub source_told : (number : ℕ) (given : Option Attr) (i : Input) (x : DataSet) (info : SetInfo) (first : Attr) → info ≡ set_info x → first ≡ unwrap_or given info.attr → (let s : InputLibrary = record { number = number; set = i.set; attr = info.attr; given = first; replace = i.replace } in s) ≡ source_for number given i x
 unfolding set_info
 source_told number given i x info first told is =
     let attr : info.attr ≡ x.attr = ap (λ (n : SetInfo). n.attr) told in
@@ -189,9 +189,9 @@ source_told number given i x info first told is =
     ∙ ap (λ (a : Attr). record { number = number; set = i.set; attr = x.attr; given = a; replace = i.replace }) (is ∙ ap (unwrap_or given) attr)
 
 -- the copies of members of one input are taken
-pub input_taken : (shelf : Shelf) (choice : Choice) (number : ℕ) (given : Option Attr) (i : Input) (old new : List Task) (x : DataSet) (source : Source) → library shelf i.set ≡ Ok x → source ≡ source_for number given i x → new ≡ with_source choice old source x
+pub input_taken : (shelf : Shelf) (choice : Choice) (number : ℕ) (given : Option Attr) (i : Input) (old new : List MemberCopy) (x : DataSet) (source : InputLibrary) → library shelf i.set ≡ Ok x → source ≡ source_for number given i x → new ≡ with_source choice old source x
     → (is : List Input) → tasks_of shelf choice number given old (i ∷ is) ≡ tasks_of shelf choice (number + 1) (Some source.given) new is
 input_taken shelf choice number given i old new x source found same added is =
     ap (λ (r : Result DataSet Refusal). on_library i.set r (λ y. let s = source_for number given i y in tasks_of shelf choice (number + 1) (Some s.given) (with_source choice old s y) is)) found
-    ∙ ap (λ (s : Source). tasks_of shelf choice (number + 1) (Some s.given) (with_source choice old s x) is) (sym same)
-    ∙ ap (λ (l : List Task). tasks_of shelf choice (number + 1) (Some source.given) l is) (sym added)
+    ∙ ap (λ (s : InputLibrary). tasks_of shelf choice (number + 1) (Some s.given) (with_source choice old s x) is) (sym same)
+    ∙ ap (λ (l : List MemberCopy). tasks_of shelf choice (number + 1) (Some source.given) l is) (sym added)

@@ -1,6 +1,5 @@
 -- Where a copy ends for want of memory: no writing is done in part.
 use Rattle.std.proofs.Common.{◌≡◌, inl, inr, ℕ, Bool, true, false, List, [], ◌∷◌, ◌++◌, map, refl, sym, ◌∙◌, ap, subst, append_assoc}
-use Rattle.std.proofs.lemmas.List.{append-nil}
 use Rattle.std.specs.Prelude.{Option, Some, None, Result, Ok, Err, IsErr, IsErrAnd, IsErrOf, IsTrue, if◌then◌else◌}
 use Rattle.std.specs.List.{list_all}
 use Rattle.stop_model.specs.Moments.{IsDurable}
@@ -20,13 +19,13 @@ use Rattle.vol_model.specs.Places.{content}
 use Rattle.vol_model.specs.Shelf.{step, written}
 use Rattle.vol_model.specs.Writing.{Making, Target, begin_refusal, begun, blocks_for, by_refusal, by_step, did_apply, did_begin, did_puts, did_write, making_room, target_body, writes}
 use Rattle.vol_model.proofs.Working.{after_append, done_state, goes_on, has_done, works_broken}
-use Rattle.util_steps.specs.declared.calls.Fault.{Fault}
 use Rattle.util_steps.specs.declared.calls.Fault.TheVariants.{Refused, BadRecord}
 use Rattle.util_steps.specs.declared.calls.SetRef.{SetRef}
 use Rattle.util_steps.specs.Copying.{did_all, filled, has_data, refusing, target, with_data}
 use Rattle.util_steps.specs.Taking.{IsReady, Reads, Takes}
 use Rattle.util_steps.proofs.Taking.{call_unmade, takes_as, takes_ends, takes_none, takes_read, takes_stops, takes_then, takes_unread}
 use Rattle.util_program.specs.Outcomes.{performed}
+use Rattle.record_files.proofs.AreaLemmas.{no_record}
 use Rattle.iebcopy_util.specs.Steps.{EndsWhole, HasPart, IsClosed, TakesWhole, is_extension}
 
 pub closed_then : (xs ys : List Op) → IsClosed xs → IsClosed ys → IsClosed (xs ++ ys)
@@ -43,10 +42,6 @@ closed_end (x ∷ z ∷ xs) op last = closed_end (z ∷ xs) op last
 -- nothing was done
 pub part_same : (ops : List Op) (old new : Shelf) → new ≡ old → HasPart ops old new
 part_same ops old new same = record { done = []; left = ops; whole = refl; state = same; closed = tt }
-
--- all was done
-pub part_all : (ops : List Op) (old new : Shelf) → IsClosed ops → new ≡ after_operations old ops → HasPart ops old new
-part_all ops old new closed is = record { done = ops; left = []; whole = sym (append-nil ops); state = is; closed = closed }
 
 -- a part of the first is one of all
 pub part_first : (xs ys : List Op) (old new : Shelf) → HasPart xs old new → HasPart (xs ++ ys) old new
@@ -91,14 +86,6 @@ module _ (s : Shelf) (out : SetRef) (bs : List Block) (x : Unit {0}) where
   made_closed made true is = closed_end made.extends blocks refl
   made_closed made false is = let never : ⊥ = cc in absurd never
 
-  no_record : (d : Did (Unit {0}) Fault) → Ok x ≡ (and_then s d (λ (y : Unit {0}) u. answered {X = Unit {0}} (Err BadRecord))).answer → ⊥
-  unfolding and_then
-  no_record d is = by_answer d.answer is
-    where
-      by_answer : (a : Result (Unit {0}) Fault) → Ok x ≡ (on_answer s d.operations a (λ (y : Unit {0}) u. answered {X = Unit {0}} (Err BadRecord))).answer → ⊥
-      by_answer (Ok y) at = cc
-      by_answer (Err e) at = cc
-
   all_closed : Ok x ≡ (did_all s t bs).answer → IsClosed (did_all s t bs).operations
   unfolding did_all did_write with_reason
   all_closed is = by_data (list_all has_data bs) is
@@ -106,7 +93,7 @@ module _ (s : Shelf) (out : SetRef) (bs : List Block) (x : Unit {0}) where
       by_data : (k : Bool) → Ok x ≡ (if k then refusing (did_write s t (map content bs)) else and_then s (refusing (did_puts s (begun t) (map content (with_data bs)))) (λ (y : Unit {0}) u. answered (Err BadRecord))).answer
           → IsClosed (if k then refusing (did_write s t (map content bs)) else and_then s (refusing (did_puts s (begun t) (map content (with_data bs)))) (λ (y : Unit {0}) u. answered (Err BadRecord))).operations
       by_data true at = let made = making_room s t [] (written t.mode (target_body s t) (map content bs)) in made_closed made made.all at
-      by_data false at = absurd (no_record (refusing (did_puts s (begun t) (map content (with_data bs)))) at)
+      by_data false at = absurd (no_record s x (refusing (did_puts s (begun t) (map content (with_data bs)))) at)
 
   -- a writing that is done ends with its blocks
   pub filled_closed : Ok x ≡ (filled s out modes.Area bs).answer → IsClosed (filled s out modes.Area bs).operations

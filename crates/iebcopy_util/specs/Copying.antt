@@ -1,5 +1,5 @@
 -- The copy of a member (Utilities GC28-6586, in this project's profile).
-use Rattle.std.specs.Prelude.{ℕ, ◌==◌, nat_le, Bool, not, ◌&&◌, if◌then◌else◌, is_some, unwrap_or, find, List, [], ◌∷◌, length, map, Option, Some, None, Result, Ok, Err}
+use Rattle.std.specs.Prelude.{ℕ, ◌==◌, nat_le, Bool, not, ◌&&◌, if◌then◌else◌, is_some, unwrap_or, slice_get, find, List, length, map, Option, Some, None, Result, Ok, Err}
 use Rattle.std.specs.List.{list_all}
 use Rattle.vol_model.specs.declared.answers.Mode.TheVariants as modes
 use Rattle.vol_model.specs.declared.contents.Attr.{Attr}
@@ -23,9 +23,9 @@ use Rattle.util_syntax.specs.declared.listing.Outcome.{Outcome}
 use Rattle.util_syntax.specs.declared.listing.Outcome.TheVariants as outcome
 use Rattle.util_program.specs.Outcomes.{outcome_for, performed}
 use Rattle.iebcopy_util.specs.declared.copying.Copy.{Copy}
-use Rattle.iebcopy_util.specs.declared.copying.Found.{Found}
-use Rattle.iebcopy_util.specs.declared.tasks.Source.{Source}
-use Rattle.iebcopy_util.specs.declared.tasks.Task.{Task}
+use Rattle.iebcopy_util.specs.declared.copying.OutputState.{OutputState}
+use Rattle.iebcopy_util.specs.declared.tasks.InputLibrary.{InputLibrary}
+use Rattle.iebcopy_util.specs.declared.tasks.MemberCopy.{MemberCopy}
 use Rattle.record_files.specs.Members.{entries_of}
 use Rattle.iebcopy_util.specs.Sets.{library}
 
@@ -36,11 +36,11 @@ abbrev pub is_blank : DataSet → Bool
 is_blank x = x.attr.recfm == 0 && (length (entries_of x.body) == 0 && length (blocks_of x.body) == 0)
 
 -- its attributes, whether it is blank, and whether it has an entry of the copy's name
-abbrev pub found_of : Task → DataSet → Found
-found_of t x = record { attr = x.attr; is_blank = is_blank x; has_name = has_member t.name.bytes (entries_of x.body) }
+abbrev pub output_state : MemberCopy → DataSet → OutputState
+output_state t x = record { attr = x.attr; is_blank = is_blank x; has_name = has_member t.name.bytes (entries_of x.body) }
 
 -- a blank output is given the attributes of the first input
-abbrev pub output_attr : Source → Found → Attr
+abbrev pub output_attr : InputLibrary → OutputState → Attr
 output_attr source found = if found.is_blank then source.given else found.attr
 
 -- blocks of an input go unchanged to an output: record format, record and key length are the same, and the greatest block isn't shorter
@@ -48,7 +48,7 @@ abbrev pub serves : Attr → Attr → Bool
 serves output input = input.recfm == output.recfm && (input.lrecl == output.lrecl && (input.keylen == output.keylen && nat_le input.blksize output.blksize))
 
 -- the first reason, by what is found of the output, for which a member isn't copied
-unfoldable pub first_refusal : Task → Found → Option Outcome
+unfoldable pub first_refusal : MemberCopy → OutputState → Option Outcome
 first_refusal t found =
     if not t.replace && found.has_name then Some (outcome.Refused MemberExists)
     else (if not (serves (output_attr t.source found) t.source.attr) then Some outcome.Dcb else None)
@@ -68,35 +68,34 @@ abbrev pub moved_user : Copy → Entry → List ℕ
 moved_user c e = unwrap_or (moved c.from c.to (ttr_count e.flags) e.user) e.user
 
 -- the entry of a member that was copied
-unfoldable pub entry_for : Task → Copy → Entry
+unfoldable pub entry_for : MemberCopy → Copy → Entry
 entry_for t c = record { name = t.name; place = c.start; flags = t.entry.flags; user = moved_user c t.entry }
 
-abbrev pub entered : Shelf → SetRef → Task → Copy → Did (Unit {0}) Outcome
+abbrev pub entered : Shelf → SetRef → MemberCopy → Copy → Did (Unit {0}) Outcome
 entered shelf out t c = performed shelf (Enter out.v out.dsn (entry_for t c) t.replace)
 
 -- ---- a member whose blocks were copied before
 
 -- a copy is of the blocks of this member
-abbrev pub is_at : Task → Copy → Bool
+abbrev pub is_at : MemberCopy → Copy → Bool
 is_at t c = c.input == t.source.number && is_place t.entry.place c.at
 
 -- the copy that was made before of the blocks of a member
-abbrev pub copy_before : List Copy → Task → Option Copy
+abbrev pub copy_before : List Copy → MemberCopy → Option Copy
 copy_before copies t = find (is_at t) copies
 
 -- its entry alone is entered
-unfoldable pub copied_again : Shelf → SetRef → Task → Copy → Did (Option Copy) Outcome
+unfoldable pub copied_again : Shelf → SetRef → MemberCopy → Copy → Did (Option Copy) Outcome
 copied_again shelf out t c = if can_move c.from t.entry then and_then shelf (entered shelf out t c) (λ x u. answered (Ok None)) else answered (Err outcome.BadTtr)
 
 -- ---- a member whose blocks are copied
 
 -- the first of places, or this one
 abbrev pub first_or : Place → List Place → Place
-first_or p [] = p
-first_or p (q ∷ ps) = q
+first_or p ps = unwrap_or (slice_get ps 0) p
 
 -- the copy of these blocks, by the shelves before and after it; without blocks it begins at its end-of-file block, the last of the output
-unfoldable pub copy_made : Shelf → Shelf → SetRef → Task → List Block → Copy
+unfoldable pub copy_made : Shelf → Shelf → SetRef → MemberCopy → List Block → Copy
 copy_made before behind out t bs =
     let to = places (blocks_for before (target out modes.Area) (map content bs)) in
     record {
@@ -108,32 +107,32 @@ copy_made before behind out t bs =
     }
 
 -- the entry of a copy is entered, and the copy is remembered
-abbrev pub finished : Shelf → SetRef → Task → Copy → Did (Option Copy) Outcome
+abbrev pub finished : Shelf → SetRef → MemberCopy → Copy → Did (Option Copy) Outcome
 finished shelf out t c = and_then shelf (entered shelf out t c) (λ x u. answered (Ok (Some c)))
 
 -- blocks are written to the output as a whole, and then its entry is entered
-unfoldable pub written : Shelf → SetRef → Task → List Block → Did (Option Copy) Outcome
+unfoldable pub written : Shelf → SetRef → MemberCopy → List Block → Did (Option Copy) Outcome
 written shelf out t bs = and_then shelf (with_reason outcome_for (filled shelf out modes.Area bs)) (λ x u. finished u out t (copy_made shelf u out t bs))
 
 -- a blank output is given the attributes of the first input before
-abbrev pub readied : Shelf → SetRef → Task → Bool → Did (Unit {0}) Outcome
-readied shelf out t blank = if blank then performed shelf (Empty out.v out.dsn t.source.given) else answered (Ok tt)
+abbrev pub with_attributes : Shelf → SetRef → MemberCopy → Bool → Did (Unit {0}) Outcome
+with_attributes shelf out t blank = if blank then performed shelf (Empty out.v out.dsn t.source.given) else answered (Ok tt)
 
-unfoldable pub copied : Shelf → SetRef → Task → Bool → List Block → Did (Option Copy) Outcome
-copied shelf out t blank bs = and_then shelf (readied shelf out t blank) (λ x u. written u out t bs)
+unfoldable pub copied : Shelf → SetRef → MemberCopy → Bool → List Block → Did (Option Copy) Outcome
+copied shelf out t blank bs = and_then shelf (with_attributes shelf out t blank) (λ x u. written u out t bs)
 
 -- a member with these blocks is copied, if its TTRs can be moved and each block has data
-unfoldable pub copied_anew : Shelf → SetRef → Task → Bool → List Block → Did (Option Copy) Outcome
+unfoldable pub copied_anew : Shelf → SetRef → MemberCopy → Bool → List Block → Did (Option Copy) Outcome
 copied_anew shelf out t blank bs =
     if not (can_move (places bs) t.entry) then answered (Err outcome.BadTtr)
     else (if not (list_all has_data bs) then answered (Err outcome.BadRecord) else copied shelf out t blank bs)
 
 -- a member of an input with these blocks, if that can be read
-abbrev pub copied_from : Shelf → SetRef → Task → Bool → Result (List Block) ℕ → Did (Option Copy) Outcome
+abbrev pub copied_from : Shelf → SetRef → MemberCopy → Bool → Result (List Block) ℕ → Did (Option Copy) Outcome
 copied_from shelf out t blank (Ok bs) = copied_anew shelf out t blank (member bs t.entry.place)
 copied_from shelf out t blank (Err track) = answered (Err (outcome.Refused (Unreadable track)))
 
-abbrev pub copied_or_again : Shelf → SetRef → Task → Bool → Option Copy → Did (Option Copy) Outcome
+abbrev pub copied_or_again : Shelf → SetRef → MemberCopy → Bool → Option Copy → Did (Option Copy) Outcome
 copied_or_again shelf out t blank None = copied_from shelf out t blank (source shelf t.source.set)
 copied_or_again shelf out t blank (Some c) = copied_again shelf out t c
 
@@ -143,10 +142,10 @@ abbrev pub unless_refused : Option Outcome → Did (Option Copy) Outcome → Did
 unless_refused None did = did
 unless_refused (Some o) did = answered (Err o)
 
-abbrev pub copied_if : Shelf → SetRef → List Copy → Task → Result DataSet Refusal → Did (Option Copy) Outcome
+abbrev pub copied_if : Shelf → SetRef → List Copy → MemberCopy → Result DataSet Refusal → Did (Option Copy) Outcome
 copied_if shelf out copies t (Err r) = answered (Err (outcome.Refused r))
-copied_if shelf out copies t (Ok x) = unless_refused (first_refusal t (found_of t x)) (copied_or_again shelf out t (is_blank x) (copy_before copies t))
+copied_if shelf out copies t (Ok x) = unless_refused (first_refusal t (output_state t x)) (copied_or_again shelf out t (is_blank x) (copy_before copies t))
 
 -- A member is copied to the output, where these copies were made before. Every refusal but for want of room is found before the first operation.
-unfoldable pub member_copied : Shelf → SetRef → List Copy → Task → Did (Option Copy) Outcome
+unfoldable pub member_copied : Shelf → SetRef → List Copy → MemberCopy → Did (Option Copy) Outcome
 member_copied shelf out copies t = copied_if shelf out copies t (library shelf out)

@@ -6,7 +6,7 @@ use Rattle.vol_model.specs.declared.contents.DataSet.{DataSet}
 use Rattle.vol_model.specs.declared.contents.Shelf.{Shelf}
 use Rattle.vol_model.specs.declared.refusals.Refusal.{Refusal}
 use Rattle.vol_model.specs.declared.refusals.Refusal.TheVariants.{MemberExists, NoMember}
-use Rattle.vol_model.specs.Did.{Did, answered}
+use Rattle.vol_model.specs.Did.{Did}
 use Rattle.vol_model.specs.Events.{Item, after_operations, events_of, shelf_behind}
 use Rattle.util_steps.specs.declared.calls.SetRef.{SetRef}
 use Rattle.util_syntax.specs.declared.listing.Object.TheVariants as object
@@ -15,8 +15,9 @@ use Rattle.util_syntax.specs.declared.listing.Outcome.TheVariants as outcome
 use Rattle.util_syntax.specs.declared.step.StepIn.{StepIn}
 use Rattle.util_syntax.specs.Items.{ItemView}
 use Rattle.util_syntax.specs.Listing.{item_line}
-use Rattle.util_syntax.specs.Program.{answered_item, no_dd_item, outcome_code, statements_in, syntax_item, sysin}
+use Rattle.util_syntax.specs.Program.{no_dd_item, outcome_code, statements_in, syntax_item, sysin}
 use Rattle.util_syntax.specs.Step.{same_name}
+use Rattle.util_program.specs.Outcomes.{outcome_item}
 use Rattle.iebcopy_util.specs.declared.copying.Copy.{Copy}
 use Rattle.iebcopy_util.specs.declared.orders.Choice.{Choice}
 use Rattle.iebcopy_util.specs.declared.orders.Choice.TheVariants.{Select}
@@ -28,7 +29,7 @@ use Rattle.iebcopy_util.specs.declared.requests.Pick.{Pick}
 use Rattle.iebcopy_util.specs.declared.sets.Input.{Input}
 use Rattle.iebcopy_util.specs.declared.sets.Sets.{Sets}
 use Rattle.iebcopy_util.specs.declared.tasks.RefusedSet.{RefusedSet}
-use Rattle.iebcopy_util.specs.declared.tasks.Task.{Task}
+use Rattle.iebcopy_util.specs.declared.tasks.MemberCopy.{MemberCopy}
 use Rattle.iebcopy_util.specs.Copying.{member_copied}
 use Rattle.iebcopy_util.specs.Orders.{orders_of}
 use Rattle.iebcopy_util.specs.Sets.{is_among, library, sets_of}
@@ -53,13 +54,17 @@ abbrev pub member_line : ℕ → SetRef → Name8 → Outcome → List ℕ
 member_line card out name o = item_line card (codes "COPY") (object.Member out.dsn name) o
 
 -- the item of a member
-unfoldable pub member_item : ℕ → SetRef → Task → Did (Option Copy) Outcome → Item
+unfoldable pub member_item : ℕ → SetRef → MemberCopy → Did (Option Copy) Outcome → Item
 member_item card out t did = let o = outcome_of did.answer in record { operations = did.operations; lines = member_line card out t.name o ∷ []; code = copy_code o }
 
 -- Items, and whether more of their kind follow.
 pub record Course : Type 0 where
   pub items : List Item
   pub goes_on : Bool
+
+-- an item after which nothing follows
+abbrev pub ends_with : Item → Course
+ends_with item = record { items = item ∷ []; goes_on = false }
 
 -- an item in front
 abbrev pub item_then : Item → Course → Course
@@ -77,7 +82,7 @@ follow (Err (outcome.Refused MemberExists)) more = more []
 follow (Err o) more = stopped
 
 -- The members of a copy, one after another, each on the shelf after the others; a refusal ends them, but that a member is there.
-abbrev pub members : Shelf → ℕ → SetRef → List Copy → List Task → Course
+abbrev pub members : Shelf → ℕ → SetRef → List Copy → List MemberCopy → Course
 members shelf card out copies [] = record { items = []; goes_on = true }
 members shelf card out copies (t ∷ ts) =
     let did = member_copied shelf out copies t in
@@ -91,19 +96,23 @@ picks_in (Select picks) = picks
 picks_in _ = []
 
 -- of those the ones that no input has
-abbrev pub missing : Choice → List Task → List Pick
+abbrev pub missing : Choice → List MemberCopy → List Pick
 missing choice tasks = filter (λ (p : Pick). not (is_taken p.name tasks)) (picks_in choice)
 
 -- the item of a member that no input has
 abbrev pub missing_item : ℕ → SetRef → Pick → Item
 missing_item card out p = record { operations = []; lines = member_line card out p.name (outcome.Refused NoMember) ∷ []; code = 4 }
 
+-- the items of the members that no input has
+abbrev pub items_missing : ℕ → SetRef → List MemberCopy → List Pick → List Item
+items_missing card out tasks picks = map (missing_item card out) (filter (λ (p : Pick). not (is_taken p.name tasks)) picks)
+
 -- the item of a copy that isn't done for the sake of a data set
 abbrev pub refused_item : ℕ → Dsn → Outcome → Item
-refused_item card dsn o = answered_item card (codes "COPY") (object.Name dsn) (answered (Err o))
+refused_item card dsn o = outcome_item card (codes "COPY") (object.Name dsn) o
 
 -- the copies of members, where the output is found
-abbrev pub tasks_if : Shelf → Choice → SetRef → List Input → Result DataSet Refusal → Result (List Task) RefusedSet
+abbrev pub tasks_if : Shelf → Choice → SetRef → List Input → Result DataSet Refusal → Result (List MemberCopy) RefusedSet
 tasks_if shelf choice out inputs (Err r) = Err (record { dsn = out.dsn; refusal = r })
 tasks_if shelf choice out inputs (Ok x) = tasks_of shelf choice 0 None [] inputs
 
@@ -111,7 +120,7 @@ tasks_if shelf choice out inputs (Ok x) = tasks_of shelf choice 0 None [] inputs
 abbrev pub with_missing : ℕ → SetRef → List Pick → Course → List Item
 with_missing card out picks course = course.items ++ (if course.goes_on then map (missing_item card out) picks else [])
 
-abbrev pub items_if : Shelf → ℕ → SetRef → Choice → Result (List Task) RefusedSet → List Item
+abbrev pub items_if : Shelf → ℕ → SetRef → Choice → Result (List MemberCopy) RefusedSet → List Item
 items_if shelf card out choice (Err f) = refused_item card f.dsn (outcome.Refused f.refusal) ∷ []
 items_if shelf card out choice (Ok tasks) = with_missing card out (missing choice tasks) (members shelf card out [] tasks)
 
@@ -125,13 +134,13 @@ copy_items shelf card choice sets =
 
 -- the items of a copy whose DDs are there; the first that isn't ends the step
 abbrev pub order_if : StepIn → Shelf → CopyOrder → Result Sets Name8 → Course
-order_if step shelf o (Err name) = record { items = no_dd_item step.card name ∷ []; goes_on = false }
+order_if step shelf o (Err name) = ends_with (no_dd_item step.card name)
 order_if step shelf o (Ok sets) = record { items = copy_items shelf o.card o.choice sets; goes_on = true }
 
 -- the items of an order
 unfoldable pub order_items : StepIn → Shelf → Order → Course
 order_items step shelf (order.Copy o) = order_if step shelf o (sets_of step.dds o.dds)
-order_items step shelf (order.Fault f) = record { items = syntax_item f.card f.kind ∷ []; goes_on = false }
+order_items step shelf (order.Fault f) = ends_with (syntax_item f.card f.kind)
 
 -- the items of orders, one after another
 abbrev pub orders_items : StepIn → Shelf → List Order → List Item

@@ -1,6 +1,7 @@
 -- The copies that the statements of a step order: a COPY, and the SELECT or EXCLUDE after it (Utilities GC28-6586, in this project's profile).
 use Rattle.std.specs.Prelude.{ℕ, List, [], ◌∷◌, ◌++◌, Option, Some, None, Result, Ok, Err}
-use Rattle.util_syntax.specs.declared.operands.SynErr.TheVariants.{BadOperand}
+use Rattle.util_syntax.specs.declared.program.StatementFault.{StatementFault}
+use Rattle.util_syntax.specs.Program.{bad_operand}
 use Rattle.util_syntax.specs.Items.{ItemView, fault, statement}
 use Rattle.iebcopy_util.specs.declared.orders.Choice.{Choice}
 use Rattle.iebcopy_util.specs.declared.orders.Choice.TheVariants as choices
@@ -9,14 +10,9 @@ use Rattle.iebcopy_util.specs.declared.orders.Order.{Order}
 use Rattle.iebcopy_util.specs.declared.orders.Order.TheVariants as order
 use Rattle.iebcopy_util.specs.declared.orders.State.{State}
 use Rattle.iebcopy_util.specs.declared.orders.State.TheVariants.{Idle, Open, Ended}
-use Rattle.iebcopy_util.specs.declared.orders.StatementFault.{StatementFault}
 use Rattle.iebcopy_util.specs.declared.requests.Request.{Request}
 use Rattle.iebcopy_util.specs.declared.requests.Request.TheVariants.{Copy, Select, Exclude}
 use Rattle.iebcopy_util.specs.Requests.{request_of}
-
--- a statement without the form of its operation, or in a place that its rule hasn't
-abbrev pub bad_operand : ℕ → StatementFault
-bad_operand card = record { card = card; kind = BadOperand }
 
 abbrev pub asked_for : ℕ → Option Request → Result (ℕ × Request) StatementFault
 asked_for card None = Err (bad_operand card)

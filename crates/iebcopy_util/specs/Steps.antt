@@ -17,20 +17,22 @@ use Rattle.vol_model.specs.declared.requests.Op.TheVariants.{Extend}
 use Rattle.vol_model.specs.Events.{Item, after_operations, code_of, events_of}
 use Rattle.vol_model.specs.Places.{Content, is_end_of_file}
 use Rattle.vol_model.specs.Reading.{blocks_from}
-use Rattle.vol_model.specs.Runs.{Counts, Runs}
-use Rattle.vol_model.specs.Shelf.{blocks_of, put_first}
+use Rattle.vol_model.specs.Calls.{Keeps}
+use Rattle.vol_model.specs.Runs.{Counts, RunCall, Runs}
+use Rattle.vol_model.specs.Shelf.{blocks_of}
 use Rattle.util_steps.specs.declared.calls.Fault.{Fault}
 use Rattle.util_steps.specs.declared.calls.Fault.TheVariants.{BadRecord, Refused}
 use Rattle.util_steps.specs.declared.calls.SetRef.{SetRef}
 use Rattle.util_steps.specs.Copying.{behind_place, has_data, source}
 use Rattle.util_steps.specs.Taking.{Takes}
-use Rattle.iebcopy_util.specs.declared.copying.Found.{Found}
+use Rattle.record_files.specs.Advancing.{put_place}
+use Rattle.iebcopy_util.specs.declared.copying.OutputState.{OutputState}
 use Rattle.iebcopy_util.specs.declared.members.Ending.{Ending}
-use Rattle.iebcopy_util.specs.declared.tasks.Task.{Task}
+use Rattle.iebcopy_util.specs.declared.tasks.MemberCopy.{MemberCopy}
 use Rattle.iebcopy_util.specs.declared.walking.Walk.{Walk}
-use Rattle.iebcopy_util.specs.Copying.{found_of}
+use Rattle.iebcopy_util.specs.Copying.{output_state}
 use Rattle.iebcopy_util.specs.Items.{Course}
-use Rattle.vol_model.specs.Writing.{OpenWriter, body_on, place_on, target_body, with_puts}
+use Rattle.vol_model.specs.Writing.{OpenWriter, body_on, with_puts}
 
 -- ---- want of memory
 
@@ -72,9 +74,23 @@ pub record DoesItems {T : Type 0} (tells roomy : Bool) (items : List Item) (Answ
   pub count : Counts (events_of items) n m result
   pub memory : IsTrue roomy → IsErrOf result Memory → EndsWhole items old.state new.state
 
+-- So they are on a machine; the promises are kept, and it is ready again but after a fault.
+pub record RunsWhole {X T : Type 0} (g : Ghosts X) (items : Shelf → List Item) (Answers : Shelf → T → Type 0) (old new : X) (result : Result T Stop) : Type 0 where
+  pub does : IsTrue g.tells → DoesItems g.tells_prints g.roomy (items (g.meaning old).state) (Answers (g.meaning old).state) (g.meaning old) (g.meaning new) (g.status old).done (g.status new).done result
+  pub promise : IsTrue g.tells → Keeps (g.meaning old).clock (g.promise old) (g.promise new)
+  pub faults : RunCall false (g.status old) (g.status new) result
+
+-- and their highest code is answered
+abbrev pub RunsCoded : {X : Type 0} → Ghosts X → (Shelf → List Item) → X → X → Result ℕ Stop → Type 0
+RunsCoded g items old new result = RunsWhole g items (λ shelf code. code ≡ code_of (items shelf)) old new result
+
 -- the highest code of items, and whether more of their kind follow
 abbrev pub EndsCourse : Course → Ending → Type 0
 EndsCourse course ending = (ending.code ≡ code_of course.items) × (ending.goes_on ≡ course.goes_on)
+
+-- and these are answered
+abbrev pub RunsCourse : {X : Type 0} → Ghosts X → (Shelf → Course) → X → X → Result Ending Stop → Type 0
+RunsCourse g course old new result = RunsWhole g (λ shelf. (course shelf).items) (λ shelf. EndsCourse (course shelf)) old new result
 
 -- ---- the output
 
@@ -83,10 +99,10 @@ abbrev pub IsRead : Shelf → SetRef → Type 0
 IsRead shelf s = source shelf s ≡ Ok (blocks_of (body_on shelf s.v s.dsn.bytes))
 
 -- an output is found as a library, with what is looked for, or refused
-abbrev pub LooksAt : Result Found Fault → Task → Result DataSet Refusal → Type 0
-LooksAt (Ok found) t library = (x : DataSet) × (library ≡ Ok x) × (found ≡ found_of t x)
-LooksAt (Err (Refused r)) t library = library ≡ Err r
-LooksAt (Err BadRecord) t library = ⊥
+abbrev pub ProbesOutput : Result OutputState Fault → MemberCopy → Result DataSet Refusal → Type 0
+ProbesOutput (Ok found) t library = (x : DataSet) × (library ≡ Ok x) × (found ≡ output_state t x)
+ProbesOutput (Err (Refused r)) t library = library ≡ Err r
+ProbesOutput (Err BadRecord) t library = ⊥
 
 -- ---- blocks
 
@@ -114,10 +130,6 @@ pub record HasBlocks (input : Result (List Block) ℕ) (ps : List Place) : Type 
 abbrev pub AreFound : List Block → List Block → Type 0
 AreFound bs found = AllByRecursion (λ (b : Block). (rest : List Block) × (blocks_from b.place bs ≡ b ∷ rest)) found
 
--- the place of a content that is put by a writer
-abbrev pub put_place : Shelf → OpenWriter → Content → Place
-put_place shelf w c = place_on shelf w.target (put_first w.target.mode (target_body shelf w.target) ++ w.puts) c
-
 -- the places of contents that are put one after another
 abbrev pub put_places : Shelf → OpenWriter → List Content → List Place
 put_places shelf w [] = []
@@ -128,9 +140,3 @@ abbrev pub TakesBlock : Result (Option Place) Fault → List Block → Walk → 
 TakesBlock (Ok (Some next)) left old new = (b : Block) × (rest : List Block) × (left ≡ b ∷ rest) × (is_end_of_file b ≡ false) × (next ≡ behind_place b.place) × (new.places.items ≡ old.places.items ++ b.place ∷ []) × (new.has_data ≡ (old.has_data && has_data b))
 TakesBlock (Ok None) left old new = (new ≡ old) × ((left ≡ []) ⊎ ((b : Block) × (rest : List Block) × (left ≡ b ∷ rest) × (is_end_of_file b ≡ true)))
 TakesBlock (Err r) left old new = ⊥
-
--- of the blocks that are left the place of the first is answered, and the place after it
-abbrev pub TakesLast : Result (Option (Place × Place)) Fault → List Block → Type 0
-TakesLast (Ok (Some both)) left = (b : Block) × (rest : List Block) × (left ≡ b ∷ rest) × (both.0 ≡ b.place) × (both.1 ≡ behind_place b.place)
-TakesLast (Ok None) left = left ≡ []
-TakesLast (Err r) left = ⊥

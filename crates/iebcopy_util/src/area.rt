@@ -1,14 +1,14 @@
 //! The blocks of a member, put to a library as a whole.
-ghost use Rattle.std.specs.Prelude.{◌≡◌, ◌≤◌, ◌+◌, ◌++◌, ◌∷◌, [], false, true, Ok, List, length, map, vec_capacity, vec_len, IsTrue, IsFalse, IsErrOf, IfOk, OnOk};
+ghost use Rattle.std.specs.Prelude.{◌≡◌, ◌≤◌, ◌+◌, ◌++◌, ◌∷◌, [], Ok, List, length, map, vec_capacity, vec_len, IsTrue, IsErrOf, IfOk, OnOk};
 ghost use Rattle.vol_model.specs.declared.contents.Block.{Block};
-ghost use Rattle.vol_model.specs.Calls.{Keeps};
 ghost use Rattle.vol_model.specs.Places.{content};
 ghost use Rattle.vol_model.specs.Reading.{blocks_from};
-ghost use Rattle.vol_model.specs.Runs.{RunCall, Works};
+ghost use Rattle.vol_model.specs.Runs.{Works};
 ghost use Rattle.vol_model.specs.Writing.{begun, with_puts};
 ghost use Rattle.util_steps.specs.Copying.{did_all, did_block, did_blocks, filled, source, target};
 ghost use Rattle.util_steps.specs.Taking.{IsReady, Takes};
-ghost use Rattle.iebcopy_util.specs.Steps.{HasBlocks, blocks_at, put_place, put_places};
+ghost use Rattle.record_files.specs.Calls.{IsWriting, PutsCall};
+ghost use Rattle.iebcopy_util.specs.Steps.{HasBlocks, blocks_at, put_places};
 
 use util_steps::{Fault, SetRef, begin, commit, next_block, put_block};
 use vol_model::{BlockBuf, Machine, Mode, Place, Stop};
@@ -20,14 +20,11 @@ fn put_at<M: Machine>(
     from: &SetRef,
     place: Place,
 ) -> Result<Result<Place, Fault>, Stop>
-    requires sound { IsTrue (M.status machine.old).is_sound }
-    requires opened { IsTrue (M.status machine.old).is_open }
+    requires { IsWriting M.Machine machine.old }
     ensures works { IsTrue M.tells → (bs rest : List Block) (b : Block) → source (M.meaning machine.old).state from.now ≡ Ok bs → blocks_from place bs ≡ b ∷ rest → Works M.tells_prints (did_block (M.meaning machine.old).state (M.writer machine.old) b) (M.meaning machine.old) (M.meaning machine.new) (M.status machine.old).done (M.status machine.new).done result }
     ensures writer { IsTrue M.tells → (bs rest : List Block) (b : Block) → source (M.meaning machine.old).state from.now ≡ Ok bs → blocks_from place bs ≡ b ∷ rest → IfOk result (λ answer. OnOk answer (M.writer machine.new ≡ with_puts (M.writer machine.old) (content b ∷ []))) }
     ensures memory { IsTrue M.roomy → IsErrOf result Stop.Memory → ⊥ }
-    ensures later { IsTrue M.tells → (M.meaning machine.old).clock ≤ (M.meaning machine.new).clock }
-    ensures promise { IsTrue M.tells → Keeps (M.meaning machine.old).clock (M.promise machine.old) (M.promise machine.new) }
-    ensures faults { RunCall true (M.status machine.old) (M.status machine.new) result }
+    ensures call { PutsCall M.Machine machine.old machine.new result }
 {
     match next_block(machine, from, place, buf)? {
         Ok(true) => put_block(machine, buf),
@@ -45,17 +42,14 @@ fn put_copies<M: Machine>(
     at: &[Place],
     to: &mut Vec<Place>,
 ) -> Result<Result<(), Fault>, Stop>
-    requires sound { IsTrue (M.status machine.old).is_sound }
-    requires opened { IsTrue (M.status machine.old).is_open }
+    requires writing { IsWriting M.Machine machine.old }
     requires found { IsTrue M.tells → HasBlocks (source (M.meaning machine.old).state from.now) at.now }
     requires room { vec_len to.old + length at.now ≤ vec_capacity to.old }
     ensures works { IsTrue M.tells → Works M.tells_prints (did_blocks (M.meaning machine.old).state (M.writer machine.old) (blocks_at (source (M.meaning machine.old).state from.now) at.now)) (M.meaning machine.old) (M.meaning machine.new) (M.status machine.old).done (M.status machine.new).done result }
     ensures writer { IsTrue M.tells → IfOk result (λ answer. OnOk answer (M.writer machine.new ≡ with_puts (M.writer machine.old) (map content (blocks_at (source (M.meaning machine.old).state from.now) at.now)))) }
     ensures to { IsTrue M.tells → IfOk result (λ answer. OnOk answer (to.new.items ≡ to.old.items ++ put_places (M.meaning machine.old).state (M.writer machine.old) (map content (blocks_at (source (M.meaning machine.old).state from.now) at.now)))) }
     ensures memory { IsTrue M.roomy → IsErrOf result Stop.Memory → ⊥ }
-    ensures later { IsTrue M.tells → (M.meaning machine.old).clock ≤ (M.meaning machine.new).clock }
-    ensures promise { IsTrue M.tells → Keeps (M.meaning machine.old).clock (M.promise machine.old) (M.promise machine.new) }
-    ensures faults { RunCall true (M.status machine.old) (M.status machine.new) result }
+    ensures call { PutsCall M.Machine machine.old machine.new result }
 {
     let mut rest = at;
     loop {
@@ -81,17 +75,13 @@ fn write_copies<M: Machine>(
     at: &[Place],
     to: &mut Vec<Place>,
 ) -> Result<Result<(), Fault>, Stop>
-    requires sound { IsTrue (M.status machine.old).is_sound }
-    requires opened { IsTrue (M.status machine.old).is_open }
+    requires writing { IsWriting M.Machine machine.old }
     requires begins { IsTrue M.tells → M.writer machine.old ≡ begun (M.writer machine.old).target }
     requires found { IsTrue M.tells → HasBlocks (source (M.meaning machine.old).state from.now) at.now }
     requires room { vec_len to.old + length at.now ≤ vec_capacity to.old }
-    ensures works { IsTrue M.tells → Works M.tells_prints (did_all (M.meaning machine.old).state (M.writer machine.old).target (blocks_at (source (M.meaning machine.old).state from.now) at.now)) (M.meaning machine.old) (M.meaning machine.new) (M.status machine.old).done (M.status machine.new).done result }
+    ensures takes { Takes M.Machine (λ shelf. did_all shelf (M.writer machine.old).target (blocks_at (source shelf from.now) at.now)) machine.old machine.new result }
     ensures to { IsTrue M.tells → IfOk result (λ answer. OnOk answer (to.new.items ≡ to.old.items ++ put_places (M.meaning machine.old).state (M.writer machine.old) (map content (blocks_at (source (M.meaning machine.old).state from.now) at.now)))) }
     ensures memory { IsTrue M.roomy → IsErrOf result Stop.Memory → ⊥ }
-    ensures later { IsTrue M.tells → (M.meaning machine.old).clock ≤ (M.meaning machine.new).clock }
-    ensures promise { IsTrue M.tells → Keeps (M.meaning machine.old).clock (M.promise machine.old) (M.promise machine.new) }
-    ensures faults { RunCall false (M.status machine.old) (M.status machine.new) result }
 {
     match put_copies(machine, buf, from, at, to) {
         Ok(Ok(())) => commit(machine),

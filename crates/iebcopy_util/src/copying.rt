@@ -1,24 +1,22 @@
 //! The copy of a member.
-ghost use Rattle.std.specs.Prelude.{◌≡◌, ◌≤◌, ◌+◌, ◌==◌, ◌&&◌, [], Ok, List, length, vec_capacity, vec_len, IsTrue, IsErrOf, IfOk};
+ghost use Rattle.std.specs.Prelude.{◌≡◌, ◌≤◌, ◌+◌, ◌==◌, ◌&&◌, [], Ok, length, vec_capacity, vec_len, IsTrue, IfOk};
 ghost use Rattle.std.specs.Option.{option_copied};
-ghost use Rattle.vol_model.specs.declared.contents.Block.{Block};
 ghost use Rattle.vol_model.specs.declared.contents.DataSet.{DataSet};
 ghost use Rattle.vol_model.specs.Lawful.{IsLawfulEntry};
-ghost use Rattle.vol_model.specs.Places.{last_place};
 ghost use Rattle.vol_model.specs.Shelf.{blocks_of};
 ghost use Rattle.util_steps.specs.Copying.{source};
 ghost use Rattle.util_steps.specs.Steps.{AreApart};
 ghost use Rattle.util_steps.specs.Taking.{IsReady, Reads};
 ghost use Rattle.record_files.specs.Members.{entries_of};
-ghost use Rattle.iebcopy_util.specs.Copying.{can_move, copied, copied_again, copied_from, copy_before, entered, entry_for, finished, first_or, first_refusal, is_at, member_copied, output_attr, readied, serves, written};
+ghost use Rattle.iebcopy_util.specs.Copying.{can_move, copied, copied_again, copied_from, copy_before, entered, entry_for, finished, first_refusal, is_at, member_copied, output_attr, with_attributes, serves, written};
 ghost use Rattle.iebcopy_util.specs.Sets.{library};
-ghost use Rattle.iebcopy_util.specs.Steps.{HasBlocks, IsRead, LooksAt, TakesWhole, blocks_at};
-ghost use Rattle.iebcopy_util.specs.Tasks.{IsLawfulTask};
+ghost use Rattle.iebcopy_util.specs.Steps.{HasBlocks, IsRead, ProbesOutput, TakesWhole, blocks_at};
+ghost use Rattle.iebcopy_util.specs.Tasks.{IsLawfulMemberCopy};
 
 use crate::area::write_area;
-use crate::tasks::{Source, Task, entry_at};
-use crate::walking::{last_block, walk_member};
-use record_files::{Purpose, find_set, has_entry};
+use crate::tasks::{InputLibrary, MemberCopy, entry_at};
+use crate::walking::walk_member;
+use record_files::{Purpose, find_set, has_entry, start_of};
 use std::alloc::{AllocError, Global};
 use util_program::{outcome_for, perform};
 use util_steps::{Fault, SetRef, next_block};
@@ -40,9 +38,9 @@ pub struct Copy {
     pub to: Listed<Place>,
 }
 
-/// What is found of an output.
+/// What an output is before a copy.
 #[derive(Clone, Copy, Debug, PartialEq, Eq)]
-pub struct Found {
+pub struct OutputState {
     /// Its attributes.
     pub attr: Attr,
     /// Whether it has no record format, no entries and no blocks.
@@ -72,15 +70,15 @@ fn is_vacant<M: Machine>(
     }
 }
 
-// What is found of the output for a copy, or why it is no library.
-fn look<M: Machine>(
+// The state of the output before a copy, or why it is no library.
+fn probe_output<M: Machine>(
     machine: &mut M,
     buf: &mut BlockBuf,
     out: &SetRef,
-    task: &Task,
-) -> Result<Result<Found, Fault>, Stop>
+    task: &MemberCopy,
+) -> Result<Result<OutputState, Fault>, Stop>
     requires { IsReady M.Machine machine.old }
-    ensures { Reads M.Machine (λ shelf answer. LooksAt answer task.now (library shelf out.now)) machine.old machine.new result }
+    ensures { Reads M.Machine (λ shelf answer. ProbesOutput answer task.now (library shelf out.now)) machine.old machine.new result }
 {
     let info = match find_set(machine, Purpose::Members, out)? {
         Ok(info) => info,
@@ -94,7 +92,7 @@ fn look<M: Machine>(
         Ok(vacant) => vacant,
         Err(fault) => return Ok(Err(fault)),
     };
-    Ok(Ok(Found {
+    Ok(Ok(OutputState {
         attr: info.attr,
         is_blank: is_blank(&info.attr, vacant),
         has_name,
@@ -109,7 +107,7 @@ fn is_blank(attr: &Attr, vacant: bool) -> bool
 }
 
 // The attributes that an output has for a copy: those of the first input, where it is blank.
-fn output_attr(source: &Source, found: &Found) -> Attr
+fn output_attr(source: &InputLibrary, found: &OutputState) -> Attr
     ensures { result ≡ output_attr source.now found.now }
 {
     if found.is_blank {
@@ -131,7 +129,7 @@ fn serves(output: &Attr, input: &Attr) -> bool
 
 // The first reason, by what is found of the output, for which a member isn't copied.
 #[tactic(auto, unfolding(crate::specs::Copying::first_refusal))]
-fn first_refusal(task: &Task, found: &Found) -> Option<Outcome>
+fn first_refusal(task: &MemberCopy, found: &OutputState) -> Option<Outcome>
     ensures { result ≡ first_refusal task.now found.now }
 {
     if !task.replace && found.has_name {
@@ -145,7 +143,7 @@ fn first_refusal(task: &Task, found: &Found) -> Option<Outcome>
 }
 
 // Whether a copy is of the blocks of this member.
-fn is_at(task: &Task, copy: &Copy) -> bool
+fn is_at(task: &MemberCopy, copy: &Copy) -> bool
     ensures { result ≡ is_at task.now copy.now }
 {
     copy.input == task.source.number
@@ -154,7 +152,7 @@ fn is_at(task: &Task, copy: &Copy) -> bool
 }
 
 // The copy that was made before of the blocks of a member.
-fn copy_before<'a>(copies: &'a [Copy], task: &Task) -> Option<&'a Copy>
+fn copy_before<'a>(copies: &'a [Copy], task: &MemberCopy) -> Option<&'a Copy>
     ensures { option_copied result ≡ copy_before copies.now task.now }
 {
     copies.iter().find(|copy| is_at(task, copy))
@@ -175,9 +173,9 @@ fn can_move(alloc: Global, from: &[Place], entry: &Entry) -> Result<bool, AllocE
 
 // The entry of a member that was copied, with its user data in this memory.
 #[tactic(auto, unfolding(crate::specs::Copying::entry_for))]
-fn entry_for(task: &Task, copy: &Copy, user: Vec<u8>) -> Entry
+fn entry_for(task: &MemberCopy, copy: &Copy, user: Vec<u8>) -> Entry
     requires user { user.items ≡ task.now.entry.user }
-    requires lawful { IsLawfulTask task.now }
+    requires lawful { IsLawfulMemberCopy task.now }
     ensures entry { result ≡ entry_for task.now copy.now }
     ensures lawful { IsLawfulEntry result }
 {
@@ -201,13 +199,13 @@ fn entry_for(task: &Task, copy: &Copy, user: Vec<u8>) -> Entry
 fn enter_copy<M: Machine>(
     machine: &mut M,
     out: &SetRef,
-    task: &Task,
+    task: &MemberCopy,
     copy: &Copy,
     user: Vec<u8>,
 ) -> Result<Result<(), Outcome>, Stop>
     requires ready { IsReady M.Machine machine.old }
     requires user { user.items ≡ task.now.entry.user }
-    requires lawful { IsLawfulTask task.now }
+    requires lawful { IsLawfulMemberCopy task.now }
     ensures { TakesWhole M.Machine (λ shelf. entered shelf out.now task.now copy.now) machine.old machine.new result }
 {
     let op = Op::Enter {
@@ -223,13 +221,13 @@ fn enter_copy<M: Machine>(
 fn finish<M: Machine>(
     machine: &mut M,
     out: &SetRef,
-    task: &Task,
+    task: &MemberCopy,
     copy: Copy,
     user: Vec<u8>,
 ) -> Result<Result<Option<Copy>, Outcome>, Stop>
     requires ready { IsReady M.Machine machine.old }
     requires user { user.items ≡ task.now.entry.user }
-    requires lawful { IsLawfulTask task.now }
+    requires lawful { IsLawfulMemberCopy task.now }
     ensures { TakesWhole M.Machine (λ shelf. finished shelf out.now task.now copy) machine.old machine.new result }
 {
     match enter_copy(machine, out, task, &copy, user)? {
@@ -243,11 +241,11 @@ fn copy_again<M: Machine>(
     alloc: Global,
     machine: &mut M,
     out: &SetRef,
-    task: &Task,
+    task: &MemberCopy,
     copy: &Copy,
 ) -> Result<Result<Option<Copy>, Outcome>, Stop>
     requires ready { IsReady M.Machine machine.old }
-    requires lawful { IsLawfulTask task.now }
+    requires lawful { IsLawfulMemberCopy task.now }
     ensures { TakesWhole M.Machine (λ shelf. copied_again shelf out.now task.now copy.now) machine.old machine.new result }
 {
     let can = can_move(alloc, copy.from.as_slice(), &task.entry)?;
@@ -261,36 +259,19 @@ fn copy_again<M: Machine>(
     }
 }
 
-// Where a copy begins: at its first block, or else at the last block of the output, which ends it.
-fn start_of<M: Machine>(
-    machine: &mut M,
-    buf: &mut BlockBuf,
-    out: &SetRef,
-    to: &[Place],
-) -> Result<Result<Place, Fault>, Stop>
-    requires { IsReady M.Machine machine.old }
-    ensures start { Reads M.Machine (λ shelf answer. (bs : List Block) → source shelf out.now ≡ Ok bs → answer ≡ Ok (first_or (last_place (record { tt = 0; r = 0 }) bs) to.now)) machine.old machine.new result }
-    ensures memory { IsErrOf result Stop.Memory → ⊥ }
-{
-    match to.split_first() {
-        Some((first, _)) => Ok(Ok(*first)),
-        None => last_block(machine, buf, out),
-    }
-}
-
 // Writes the blocks at these places of an input to the output, and enters the copy. All memory for
 // it is taken.
 fn write_member<M: Machine>(
     machine: &mut M,
     buf: &mut BlockBuf,
     out: &SetRef,
-    task: &Task,
+    task: &MemberCopy,
     from: Vec<Place>,
     to: Vec<Place>,
     user: Vec<u8>,
 ) -> Result<Result<Option<Copy>, Outcome>, Stop>
     requires ready { IsReady M.Machine machine.old }
-    requires lawful { IsLawfulTask task.now }
+    requires lawful { IsLawfulMemberCopy task.now }
     requires user { user.items ≡ task.now.entry.user }
     requires none { to.items ≡ [] }
     requires room { vec_len to + length from.items ≤ vec_capacity to }
@@ -303,7 +284,7 @@ fn write_member<M: Machine>(
         Ok(()) => (),
         Err(fault) => return Ok(Err(outcome_for(fault))),
     }
-    let start = match start_of(machine, buf, out, &to)? {
+    let start = match start_of(machine, buf, out, to.first().copied())? {
         Ok(start) => start,
         Err(fault) => return Ok(Err(outcome_for(fault))),
     };
@@ -318,14 +299,14 @@ fn write_member<M: Machine>(
 }
 
 // Gives a blank output the attributes of the first input.
-fn ready<M: Machine>(
+fn set_output_attributes<M: Machine>(
     machine: &mut M,
     out: &SetRef,
-    task: &Task,
+    task: &MemberCopy,
     blank: bool,
 ) -> Result<Result<(), Outcome>, Stop>
     requires { IsReady M.Machine machine.old }
-    ensures { TakesWhole M.Machine (λ shelf. readied shelf out.now task.now blank) machine.old machine.new result }
+    ensures { TakesWhole M.Machine (λ shelf. with_attributes shelf out.now task.now blank) machine.old machine.new result }
 {
     if !blank {
         return Ok(Ok(()));
@@ -344,7 +325,7 @@ fn write_copy<M: Machine>(
     machine: &mut M,
     buf: &mut BlockBuf,
     out: &SetRef,
-    task: &Task,
+    task: &MemberCopy,
     blank: bool,
     from: Vec<Place>,
     to: Vec<Place>,
@@ -352,7 +333,7 @@ fn write_copy<M: Machine>(
 ) -> Result<Result<Option<Copy>, Outcome>, Stop>
     requires ready { IsReady M.Machine machine.old }
     requires apart { IsTrue M.tells → AreApart out.now task.now.source.set }
-    requires lawful { IsLawfulTask task.now }
+    requires lawful { IsLawfulMemberCopy task.now }
     requires user { user.items ≡ task.now.entry.user }
     requires none { to.items ≡ [] }
     requires room { vec_len to + length from.items ≤ vec_capacity to }
@@ -360,7 +341,7 @@ fn write_copy<M: Machine>(
     requires output { IsTrue M.tells → IsRead (M.meaning machine.old).state out.now }
     ensures { TakesWhole M.Machine (λ shelf. copied shelf out.now task.now blank (blocks_at (source shelf task.now.source.set) from.items)) machine.old machine.new result }
 {
-    if let Err(outcome) = ready(machine, out, task, blank)? {
+    if let Err(outcome) = set_output_attributes(machine, out, task, blank)? {
         return Ok(Err(outcome));
     }
     write_member(machine, buf, out, task, from, to, user)
@@ -372,12 +353,12 @@ fn copy_anew<M: Machine>(
     machine: &mut M,
     buf: &mut BlockBuf,
     out: &SetRef,
-    task: &Task,
+    task: &MemberCopy,
     blank: bool,
 ) -> Result<Result<Option<Copy>, Outcome>, Stop>
     requires ready { IsReady M.Machine machine.old }
     requires apart { IsTrue M.tells → AreApart out.now task.now.source.set }
-    requires lawful { IsLawfulTask task.now }
+    requires lawful { IsLawfulMemberCopy task.now }
     requires output { IsTrue M.tells → IsRead (M.meaning machine.old).state out.now }
     ensures { TakesWhole M.Machine (λ shelf. copied_from shelf out.now task.now blank (source shelf task.now.source.set)) machine.old machine.new result }
 {
@@ -408,14 +389,14 @@ pub fn copy_member<M: Machine>(
     buf: &mut BlockBuf,
     out: &SetRef,
     copies: &[Copy],
-    task: &Task,
+    task: &MemberCopy,
 ) -> Result<Result<Option<Copy>, Outcome>, Stop>
     requires ready { IsReady M.Machine machine.old }
     requires apart { IsTrue M.tells → AreApart out.now task.now.source.set }
-    requires lawful { IsLawfulTask task.now }
+    requires lawful { IsLawfulMemberCopy task.now }
     ensures { TakesWhole M.Machine (λ shelf. member_copied shelf out.now copies.now task.now) machine.old machine.new result }
 {
-    let found = match look(machine, buf, out, task)? {
+    let found = match probe_output(machine, buf, out, task)? {
         Ok(found) => found,
         Err(fault) => return Ok(Err(outcome_for(fault))),
     };

@@ -13,6 +13,6 @@ mod sets;
 mod tasks;
 mod walking;
 
-pub use orders::{Choice, CopyOrder, Order, StatementFault, orders_of};
+pub use orders::{Choice, CopyOrder, Order, orders_of};
 pub use program::run;
 pub use requests::{CopyDds, InputDd, Pick, Request, request_of};

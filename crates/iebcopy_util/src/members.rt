@@ -1,19 +1,17 @@
 //! The members of a copy, one after another.
-ghost use Rattle.std.specs.Prelude.{◌≡◌, ◌≤◌, ◌<◌, ◌+◌, ◌++◌, ◌∷◌, [], false, if◌then◌else◌, List, vec_capacity, vec_len, IsTrue, IsFalse, IfOk};
+ghost use Rattle.std.specs.Prelude.{◌≡◌, ◌≤◌, ◌<◌, ◌+◌, ◌++◌, ◌∷◌, [], if◌then◌else◌, List, vec_capacity, vec_len, IsTrue, IfOk};
 ghost use Rattle.std.specs.List.{AllByRecursion};
-ghost use Rattle.vol_model.specs.Calls.{Keeps};
-ghost use Rattle.vol_model.specs.Runs.{RunCall};
 ghost use Rattle.util_steps.specs.Steps.{AreApart};
-ghost use Rattle.iebcopy_util.specs.declared.tasks.Task.{Task};
+ghost use Rattle.util_steps.specs.Taking.{IsReady};
+ghost use Rattle.iebcopy_util.specs.declared.tasks.MemberCopy.{MemberCopy};
 ghost use Rattle.iebcopy_util.specs.Copying.{member_copied};
 ghost use Rattle.iebcopy_util.specs.Items.{Course, copy_code, follow, member_item, members, outcome_of, stopped};
-ghost use Rattle.iebcopy_util.specs.Steps.{DoesItems, EndsCourse};
-ghost use Rattle.iebcopy_util.specs.Tasks.{IsLawfulTask};
+ghost use Rattle.iebcopy_util.specs.Steps.{RunsCourse, RunsWhole};
+ghost use Rattle.iebcopy_util.specs.Tasks.{IsLawfulMemberCopy};
 
 use crate::copying::{Copy, copy_member};
-use crate::reporting::higher;
-use crate::tasks::Task;
-use std::alloc::{AllocError, Global};
+use crate::tasks::MemberCopy;
+use std::alloc::Global;
 use util_steps::{SetRef, say};
 use util_syntax::{Object, Outcome, item_line};
 use vol_model::{BlockBuf, Machine, Refusal, Stop};
@@ -57,15 +55,12 @@ fn do_member<M: Machine>(
     card: u32,
     out: &SetRef,
     copies: &[Copy],
-    task: &Task,
+    task: &MemberCopy,
 ) -> Result<Result<Option<Copy>, Outcome>, Stop>
-    requires sound { IsTrue (M.status machine.old).is_sound }
-    requires closed { IsFalse (M.status machine.old).is_open }
+    requires ready { IsReady M.Machine machine.old }
     requires apart { IsTrue M.tells → AreApart out.now task.now.source.set }
-    requires lawful { IsLawfulTask task.now }
-    ensures items { IsTrue M.tells → DoesItems M.tells_prints M.roomy (member_item card out.now task.now (member_copied (M.meaning machine.old).state out.now copies.now task.now) ∷ []) (λ answer. answer ≡ (member_copied (M.meaning machine.old).state out.now copies.now task.now).answer) (M.meaning machine.old) (M.meaning machine.new) (M.status machine.old).done (M.status machine.new).done result }
-    ensures promise { IsTrue M.tells → Keeps (M.meaning machine.old).clock (M.promise machine.old) (M.promise machine.new) }
-    ensures faults { RunCall false (M.status machine.old) (M.status machine.new) result }
+    requires lawful { IsLawfulMemberCopy task.now }
+    ensures { RunsWhole M.Machine (λ shelf. member_item card out.now task.now (member_copied shelf out.now copies.now task.now) ∷ []) (λ shelf answer. answer ≡ (member_copied shelf out.now copies.now task.now).answer) machine.old machine.new result }
 {
     let answer = copy_member(alloc, machine, buf, out, copies, task)?;
     let object = Object::Member {
@@ -73,10 +68,7 @@ fn do_member<M: Machine>(
         name: task.name,
     };
     let outcome = outcome_of(&answer);
-    let line = match item_line(alloc, card, "COPY", &object, outcome) {
-        Ok(line) => line,
-        Err(AllocError) => return Err(Stop::Memory),
-    };
+    let line = item_line(alloc, card, "COPY", &object, outcome)?;
     say(machine, &line)?;
     Ok(answer)
 }
@@ -105,21 +97,15 @@ pub fn copy_members<M: Machine>(
     buf: &mut BlockBuf,
     card: u32,
     out: &SetRef,
-    tasks: &[Task],
+    tasks: &[MemberCopy],
 ) -> Result<Ending, Stop>
-    requires sound { IsTrue (M.status machine.old).is_sound }
-    requires closed { IsFalse (M.status machine.old).is_open }
-    requires apart { IsTrue M.tells → AllByRecursion (λ (t : Task). AreApart out.now t.source.set) tasks.now }
-    requires lawful { AllByRecursion IsLawfulTask tasks.now }
-    ensures items { IsTrue M.tells → DoesItems M.tells_prints M.roomy (members (M.meaning machine.old).state card out.now [] tasks.now).items (EndsCourse (members (M.meaning machine.old).state card out.now [] tasks.now)) (M.meaning machine.old) (M.meaning machine.new) (M.status machine.old).done (M.status machine.new).done result }
+    requires ready { IsReady M.Machine machine.old }
+    requires apart { IsTrue M.tells → AllByRecursion (λ (t : MemberCopy). AreApart out.now t.source.set) tasks.now }
+    requires lawful { AllByRecursion IsLawfulMemberCopy tasks.now }
+    ensures course { RunsCourse M.Machine (λ shelf. members shelf card out.now [] tasks.now) machine.old machine.new result }
     ensures small { IfOk result (λ ending. ending.code ≤ 16) }
-    ensures promise { IsTrue M.tells → Keeps (M.meaning machine.old).clock (M.promise machine.old) (M.promise machine.new) }
-    ensures faults { RunCall false (M.status machine.old) (M.status machine.new) result }
 {
-    let mut copies = match Vec::with_capacity(alloc, tasks.len()) {
-        Ok(copies) => copies,
-        Err(AllocError) => return Err(Stop::Memory),
-    };
+    let mut copies = Vec::with_capacity(alloc, tasks.len())?;
     let mut code = 0;
     let mut rest = tasks;
     loop {
@@ -132,7 +118,7 @@ pub fn copy_members<M: Machine>(
         };
         let answer = do_member(alloc, machine, buf, card, out, &copies, task)?;
         let outcome = outcome_of(&answer);
-        code = higher(code, copy_code(outcome));
+        code = code.max(copy_code(outcome));
         let goes_on = remember(&mut copies, answer);
         if !goes_on {
             return Ok(Ending {

@@ -1,14 +1,13 @@
 //! The copies that the statements of a step order.
 ghost use Rattle.std.specs.Prelude.{◌≡◌, ◌++◌, ◌∷◌, [], List, map, IfOk, OnOk};
 ghost use Rattle.std.specs.Result.{result_map_both};
-ghost use Rattle.util_syntax.specs.declared.operands.SynErr.TheVariants.{BadOperand};
 ghost use Rattle.util_syntax.specs.Items.{ItemView, item_view};
 ghost use Rattle.iebcopy_util.specs.Orders.{asked, chosen, closed, copy_order, opened_card, orders_at, orders_of};
 
 use crate::requests::{CopyDds, Pick, Request, request_of};
 use ebcdic_names::Name8;
 use std::alloc::{AllocError, Global};
-use util_syntax::{Item, SynErr};
+use util_syntax::{Item, StatementFault, bad_operand};
 use vol_model::Listed;
 
 /// The members that are copied.
@@ -31,15 +30,6 @@ pub struct CopyOrder {
     pub dds: CopyDds,
     /// The members that are copied.
     pub choice: Choice,
-}
-
-/// The fault of a statement, with the card on which it stands.
-#[derive(Clone, Copy, Debug, PartialEq, Eq)]
-pub struct StatementFault {
-    /// The number of the card.
-    pub card: u32,
-    /// The kind of the fault.
-    pub kind: SynErr,
 }
 
 /// What statements order.
@@ -69,16 +59,6 @@ enum State {
     Open(Opened),
     // Nothing more, since a statement had a fault.
     Ended,
-}
-
-// The fault of a statement that has no place, or not the form of its operation.
-fn bad_operand(card: u32) -> StatementFault
-    ensures { result ≡ record { card = card; kind = BadOperand } }
-{
-    StatementFault {
-        card,
-        kind: SynErr::BadOperand,
-    }
 }
 
 // What a statement asks for, after its card, or its fault.

@@ -1,30 +1,28 @@
 //! IEBCOPY in a step.
-ghost use Rattle.std.specs.Prelude.{◌≡◌, ◌≤◌, [], ◌∷◌, false, None, IsTrue, IsFalse, IsErrOf, IfOk, map};
+ghost use Rattle.std.specs.Prelude.{◌≡◌, ◌≤◌, [], IsTrue, IsErrOf, IfOk};
 ghost use Rattle.std.specs.List.{AllByRecursion};
 ghost use Rattle.std.specs.Result.{result_map_both};
-ghost use Rattle.stop_model.specs.Moments.{Same};
-ghost use Rattle.vol_model.specs.Calls.{Keeps};
-ghost use Rattle.vol_model.specs.Events.{code_of, events_of};
-ghost use Rattle.vol_model.specs.Runs.{Counts, RunCall, Runs};
 ghost use Rattle.util_steps.specs.Steps.{AreApart};
+ghost use Rattle.util_steps.specs.Taking.{IsReady, Reads, RunsItems, TakesItem};
 ghost use Rattle.util_syntax.specs.Program.{no_dd_item, syntax_item};
-ghost use Rattle.iebcopy_util.specs.declared.tasks.Task.{Task};
-ghost use Rattle.iebcopy_util.specs.Items.{copy_items, iebcopy_items, members, missing, order_if, order_items, orders_items, picks_in, tasks_if, with_missing};
+ghost use Rattle.iebcopy_util.specs.declared.tasks.MemberCopy.{MemberCopy};
+ghost use Rattle.iebcopy_util.specs.Items.{copy_items, ends_with, iebcopy_items, members, missing, order_if, order_items, orders_items, picks_in, refused_item, tasks_if, with_missing};
 ghost use Rattle.iebcopy_util.specs.Sets.{library, sets_of};
-ghost use Rattle.iebcopy_util.specs.Steps.{DoesItems, EndsCourse, EndsWhole};
-ghost use Rattle.iebcopy_util.specs.Tasks.{IsLawfulChoice, IsLawfulOrder, IsLawfulTask};
+ghost use Rattle.iebcopy_util.specs.Steps.{EndsWhole, RunsCoded, RunsCourse};
+ghost use Rattle.iebcopy_util.specs.Tasks.{IsLawfulChoice, IsLawfulOrder, IsLawfulMemberCopy};
 
 use crate::members::{Ending, copy_members};
-use crate::orders::{Choice, CopyOrder, Order, StatementFault, orders_of};
-use crate::reporting::{higher, report_fault, report_missing, report_no_dd, report_refused};
+use crate::orders::{Choice, CopyOrder, Order, orders_of};
+use crate::reporting::report_missing;
 use crate::requests::Pick;
 use crate::sets::{Sets, is_among, sets_of};
-use crate::tasks::{RefusedSet, Task, tasks_of};
-use ebcdic_names::Name8;
+use crate::tasks::{MemberCopy, RefusedSet, tasks_of};
+use ebcdic_names::{Dsn, Name8};
 use record_files::{Purpose, find_set};
-use std::alloc::{AllocError, Global};
+use std::alloc::Global;
+use util_program::{report_fault, report_no_dd, report_outcome};
 use util_steps::SetRef;
-use util_syntax::{Outcome, SYSIN, StepIn, sysin_statements};
+use util_syntax::{Object, Outcome, SYSIN, StatementFault, StepIn, sysin_statements};
 use vol_model::{BlockBuf, Machine, Stop};
 
 /// Runs IEBCOPY in a step (Utilities GC28-6586, in this project's profile), and gives the step's
@@ -49,37 +47,24 @@ use vol_model::{BlockBuf, Machine, Stop};
 ///
 /// Where memory runs out on a roomy machine, each member is copied as a whole or not at all.
 pub fn run<M: Machine>(alloc: Global, machine: &mut M, step: &StepIn) -> Result<u8, Stop>
-    requires sound { IsTrue (M.status machine.old).is_sound }
-    requires closed { IsFalse (M.status machine.old).is_open }
-    ensures runs { IsTrue M.tells → Runs M.tells_prints (events_of (iebcopy_items step.now (M.meaning machine.old).state)) (M.meaning machine.old) (M.meaning machine.new) result }
-    ensures code { IsTrue M.tells → IfOk result (λ code. code ≡ code_of (iebcopy_items step.now (M.meaning machine.old).state)) }
-    ensures count { IsTrue M.tells → Counts (events_of (iebcopy_items step.now (M.meaning machine.old).state)) (M.status machine.old).done (M.status machine.new).done result }
+    requires { IsReady M.Machine machine.old }
+    ensures runs { RunsItems M.Machine (iebcopy_items step.now) machine.old machine.new result }
     ensures memory { IsTrue M.tells → IsTrue M.roomy → IsErrOf result Stop.Memory → EndsWhole (iebcopy_items step.now (M.meaning machine.old).state) (M.meaning machine.old).state (M.meaning machine.new).state }
-    ensures small { IfOk result (λ code. code ≤ 16) }
-    ensures promise { IsTrue M.tells → Keeps (M.meaning machine.old).clock (M.promise machine.old) (M.promise machine.new) }
-    ensures faults { RunCall false (M.status machine.old) (M.status machine.new) result }
 {
     run_step(alloc, machine, step)
 }
 
 // Does the items of a step.
 fn run_step<M: Machine>(alloc: Global, machine: &mut M, step: &StepIn) -> Result<u8, Stop>
-    requires sound { IsTrue (M.status machine.old).is_sound }
-    requires closed { IsFalse (M.status machine.old).is_open }
-    ensures items { IsTrue M.tells → DoesItems M.tells_prints M.roomy (iebcopy_items step.now (M.meaning machine.old).state) (λ code. code ≡ code_of (iebcopy_items step.now (M.meaning machine.old).state)) (M.meaning machine.old) (M.meaning machine.new) (M.status machine.old).done (M.status machine.new).done result }
+    requires { IsReady M.Machine machine.old }
+    ensures items { RunsCoded M.Machine (iebcopy_items step.now) machine.old machine.new result }
     ensures small { IfOk result (λ code. code ≤ 16) }
-    ensures promise { IsTrue M.tells → Keeps (M.meaning machine.old).clock (M.promise machine.old) (M.promise machine.new) }
-    ensures faults { RunCall false (M.status machine.old) (M.status machine.new) result }
 {
-    let items = match sysin_statements(alloc, step) {
-        Ok(Some(items)) => items,
-        Ok(None) => return report_no_dd(alloc, machine, step.card, &SYSIN),
-        Err(AllocError) => return Err(Stop::Memory),
+    let Some(items) = sysin_statements(alloc, step)? else {
+        return report_no_dd(alloc, machine, step.card, &SYSIN);
     };
-    match orders_of(alloc, &items) {
-        Ok(orders) => run_orders(alloc, machine, step, &orders),
-        Err(AllocError) => Err(Stop::Memory),
-    }
+    let orders = orders_of(alloc, &items)?;
+    run_orders(alloc, machine, step, &orders)
 }
 
 // Does what statements order.
@@ -89,18 +74,12 @@ fn run_orders<M: Machine>(
     step: &StepIn,
     orders: &[Order],
 ) -> Result<u8, Stop>
-    requires sound { IsTrue (M.status machine.old).is_sound }
-    requires closed { IsFalse (M.status machine.old).is_open }
+    requires ready { IsReady M.Machine machine.old }
     requires lawful { AllByRecursion IsLawfulOrder orders.now }
-    ensures items { IsTrue M.tells → DoesItems M.tells_prints M.roomy (orders_items step.now (M.meaning machine.old).state orders.now) (λ code. code ≡ code_of (orders_items step.now (M.meaning machine.old).state orders.now)) (M.meaning machine.old) (M.meaning machine.new) (M.status machine.old).done (M.status machine.new).done result }
+    ensures items { RunsCoded M.Machine (λ shelf. orders_items step.now shelf orders.now) machine.old machine.new result }
     ensures small { IfOk result (λ code. code ≤ 16) }
-    ensures promise { IsTrue M.tells → Keeps (M.meaning machine.old).clock (M.promise machine.old) (M.promise machine.new) }
-    ensures faults { RunCall false (M.status machine.old) (M.status machine.new) result }
 {
-    let mut buf = match BlockBuf::new(alloc) {
-        Ok(buf) => buf,
-        Err(AllocError) => return Err(Stop::Memory),
-    };
+    let mut buf = BlockBuf::new(alloc)?;
     let mut code = 0;
     let mut rest = orders;
     loop {
@@ -109,7 +88,7 @@ fn run_orders<M: Machine>(
             None => return Ok(code),
         };
         let ending = do_order(alloc, machine, &mut buf, step, order)?;
-        code = higher(code, ending.code);
+        code = code.max(ending.code);
         if !ending.goes_on {
             return Ok(code);
         }
@@ -125,13 +104,10 @@ fn do_order<M: Machine>(
     step: &StepIn,
     order: &Order,
 ) -> Result<Ending, Stop>
-    requires sound { IsTrue (M.status machine.old).is_sound }
-    requires closed { IsFalse (M.status machine.old).is_open }
+    requires ready { IsReady M.Machine machine.old }
     requires lawful { IsLawfulOrder order.now }
-    ensures items { IsTrue M.tells → DoesItems M.tells_prints M.roomy (order_items step.now (M.meaning machine.old).state order.now).items (EndsCourse (order_items step.now (M.meaning machine.old).state order.now)) (M.meaning machine.old) (M.meaning machine.new) (M.status machine.old).done (M.status machine.new).done result }
+    ensures course { RunsCourse M.Machine (λ shelf. order_items step.now shelf order.now) machine.old machine.new result }
     ensures small { IfOk result (λ ending. ending.code ≤ 16) }
-    ensures promise { IsTrue M.tells → Keeps (M.meaning machine.old).clock (M.promise machine.old) (M.promise machine.new) }
-    ensures faults { RunCall false (M.status machine.old) (M.status machine.new) result }
 {
     match order {
         Order::Copy(copy) => do_copy(alloc, machine, buf, step, copy),
@@ -145,14 +121,11 @@ fn end_in_fault<M: Machine>(
     machine: &mut M,
     fault: StatementFault,
 ) -> Result<Ending, Stop>
-    requires sound { IsTrue (M.status machine.old).is_sound }
-    requires closed { IsFalse (M.status machine.old).is_open }
-    ensures items { IsTrue M.tells → DoesItems M.tells_prints M.roomy (syntax_item fault.card fault.kind ∷ []) (EndsCourse (record { items = syntax_item fault.card fault.kind ∷ []; goes_on = false })) (M.meaning machine.old) (M.meaning machine.new) (M.status machine.old).done (M.status machine.new).done result }
+    requires { IsReady M.Machine machine.old }
+    ensures course { RunsCourse M.Machine (λ shelf. ends_with (syntax_item fault.card fault.kind)) machine.old machine.new result }
     ensures small { IfOk result (λ ending. ending.code ≤ 16) }
-    ensures promise { IsTrue M.tells → Keeps (M.meaning machine.old).clock (M.promise machine.old) (M.promise machine.new) }
-    ensures faults { RunCall false (M.status machine.old) (M.status machine.new) result }
 {
-    let code = report_fault(alloc, machine, fault)?;
+    let code = report_fault(alloc, machine, fault.card, fault.kind)?;
     Ok(Ending {
         code,
         goes_on: false,
@@ -166,12 +139,9 @@ fn end_without_dd<M: Machine>(
     card: u32,
     name: &Name8,
 ) -> Result<Ending, Stop>
-    requires sound { IsTrue (M.status machine.old).is_sound }
-    requires closed { IsFalse (M.status machine.old).is_open }
-    ensures items { IsTrue M.tells → DoesItems M.tells_prints M.roomy (no_dd_item card name.now ∷ []) (EndsCourse (record { items = no_dd_item card name.now ∷ []; goes_on = false })) (M.meaning machine.old) (M.meaning machine.new) (M.status machine.old).done (M.status machine.new).done result }
+    requires { IsReady M.Machine machine.old }
+    ensures course { RunsCourse M.Machine (λ shelf. ends_with (no_dd_item card name.now)) machine.old machine.new result }
     ensures small { IfOk result (λ ending. ending.code ≤ 16) }
-    ensures promise { IsTrue M.tells → Keeps (M.meaning machine.old).clock (M.promise machine.old) (M.promise machine.new) }
-    ensures faults { RunCall false (M.status machine.old) (M.status machine.new) result }
 {
     let code = report_no_dd(alloc, machine, card, name)?;
     Ok(Ending {
@@ -188,24 +158,35 @@ fn do_copy<M: Machine>(
     step: &StepIn,
     copy: &CopyOrder,
 ) -> Result<Ending, Stop>
-    requires sound { IsTrue (M.status machine.old).is_sound }
-    requires closed { IsFalse (M.status machine.old).is_open }
+    requires ready { IsReady M.Machine machine.old }
     requires choice { IsLawfulChoice copy.now.choice }
-    ensures items { IsTrue M.tells → DoesItems M.tells_prints M.roomy (order_if step.now (M.meaning machine.old).state copy.now (sets_of step.now.dds copy.now.dds)).items (EndsCourse (order_if step.now (M.meaning machine.old).state copy.now (sets_of step.now.dds copy.now.dds))) (M.meaning machine.old) (M.meaning machine.new) (M.status machine.old).done (M.status machine.new).done result }
+    ensures course { RunsCourse M.Machine (λ shelf. order_if step.now shelf copy.now (sets_of step.now.dds copy.now.dds)) machine.old machine.new result }
     ensures small { IfOk result (λ ending. ending.code ≤ 16) }
-    ensures promise { IsTrue M.tells → Keeps (M.meaning machine.old).clock (M.promise machine.old) (M.promise machine.new) }
-    ensures faults { RunCall false (M.status machine.old) (M.status machine.new) result }
 {
-    let sets = match sets_of(alloc, step, &copy.dds) {
-        Ok(Ok(sets)) => sets,
-        Ok(Err(name)) => return end_without_dd(alloc, machine, step.card, &name),
-        Err(AllocError) => return Err(Stop::Memory),
+    let sets = match sets_of(alloc, step, &copy.dds)? {
+        Ok(sets) => sets,
+        Err(name) => return end_without_dd(alloc, machine, step.card, &name),
     };
     let code = copy_sets(alloc, machine, buf, copy.card, &copy.choice, &sets)?;
     Ok(Ending {
         code,
         goes_on: true,
     })
+}
+
+// Answers a copy that isn't done for the sake of a data set.
+fn report_refused<M: Machine>(
+    alloc: Global,
+    machine: &mut M,
+    card: u32,
+    dsn: &Dsn,
+    outcome: Outcome,
+) -> Result<u8, Stop>
+    requires { IsReady M.Machine machine.old }
+    ensures item { TakesItem M.Machine (λ shelf. refused_item card dsn.now outcome) machine.old machine.new result }
+    ensures state { IsTrue M.tells → (M.meaning machine.new).state ≡ (M.meaning machine.old).state }
+{
+    report_outcome(alloc, machine, card, "COPY", &Object::Name(*dsn), outcome)
 }
 
 // Copies members of data sets to another, or answers the first that isn't fit for it.
@@ -217,13 +198,10 @@ fn copy_sets<M: Machine>(
     choice: &Choice,
     sets: &Sets,
 ) -> Result<u8, Stop>
-    requires sound { IsTrue (M.status machine.old).is_sound }
-    requires closed { IsFalse (M.status machine.old).is_open }
+    requires ready { IsReady M.Machine machine.old }
     requires choice { IsLawfulChoice choice.now }
-    ensures items { IsTrue M.tells → DoesItems M.tells_prints M.roomy (copy_items (M.meaning machine.old).state card choice.now sets.now) (λ code. code ≡ code_of (copy_items (M.meaning machine.old).state card choice.now sets.now)) (M.meaning machine.old) (M.meaning machine.new) (M.status machine.old).done (M.status machine.new).done result }
+    ensures items { RunsCoded M.Machine (λ shelf. copy_items shelf card choice.now sets.now) machine.old machine.new result }
     ensures small { IfOk result (λ code. code ≤ 16) }
-    ensures promise { IsTrue M.tells → Keeps (M.meaning machine.old).clock (M.promise machine.old) (M.promise machine.new) }
-    ensures faults { RunCall false (M.status machine.old) (M.status machine.new) result }
 {
     if is_among(&sets.out, sets.inputs.as_slice()) {
         return report_refused(alloc, machine, card, &sets.out.dsn, Outcome::SameSet);
@@ -243,16 +221,11 @@ fn find_tasks<M: Machine>(
     machine: &mut M,
     choice: &Choice,
     sets: &Sets,
-) -> Result<Result<Vec<Task>, RefusedSet>, Stop>
-    requires sound { IsTrue (M.status machine.old).is_sound }
-    requires closed { IsFalse (M.status machine.old).is_open }
+) -> Result<Result<Vec<MemberCopy>, RefusedSet>, Stop>
+    requires ready { IsReady M.Machine machine.old }
     requires choice { IsLawfulChoice choice.now }
-    ensures tasks { IsTrue M.tells → IfOk result (λ answer. result_map_both (λ v. v.items) (λ f. f) answer ≡ tasks_if (M.meaning machine.old).state choice.now sets.now.out sets.now.inputs (library (M.meaning machine.old).state sets.now.out)) }
-    ensures lawful { IfOk result (λ answer. IfOk answer (λ tasks. AllByRecursion IsLawfulTask tasks.items)) }
-    ensures same { IsTrue M.tells → Same (M.meaning machine.old) (M.meaning machine.new) }
-    ensures promise { IsTrue M.tells → Keeps (M.meaning machine.old).clock (M.promise machine.old) (M.promise machine.new) }
-    ensures count { (M.status machine.new).done ≡ (M.status machine.old).done }
-    ensures faults { RunCall false (M.status machine.old) (M.status machine.new) result }
+    ensures reads { Reads M.Machine (λ shelf answer. result_map_both (λ v. v.items) (λ f. f) answer ≡ tasks_if shelf choice.now sets.now.out sets.now.inputs (library shelf sets.now.out)) machine.old machine.new result }
+    ensures lawful { IfOk result (λ answer. IfOk answer (λ tasks. AllByRecursion IsLawfulMemberCopy tasks.items)) }
 {
     match find_set(machine, Purpose::Members, &sets.out)? {
         Ok(_) => tasks_of(alloc, machine, choice, sets.inputs.as_slice()),
@@ -281,21 +254,18 @@ fn copy_tasks<M: Machine>(
     card: u32,
     choice: &Choice,
     out: &SetRef,
-    tasks: &[Task],
+    tasks: &[MemberCopy],
 ) -> Result<u8, Stop>
-    requires sound { IsTrue (M.status machine.old).is_sound }
-    requires closed { IsFalse (M.status machine.old).is_open }
-    requires apart { IsTrue M.tells → AllByRecursion (λ (t : Task). AreApart out.now t.source.set) tasks.now }
-    requires lawful { AllByRecursion IsLawfulTask tasks.now }
-    ensures items { IsTrue M.tells → DoesItems M.tells_prints M.roomy (with_missing card out.now (missing choice.now tasks.now) (members (M.meaning machine.old).state card out.now [] tasks.now)) (λ code. code ≡ code_of (with_missing card out.now (missing choice.now tasks.now) (members (M.meaning machine.old).state card out.now [] tasks.now))) (M.meaning machine.old) (M.meaning machine.new) (M.status machine.old).done (M.status machine.new).done result }
+    requires ready { IsReady M.Machine machine.old }
+    requires apart { IsTrue M.tells → AllByRecursion (λ (t : MemberCopy). AreApart out.now t.source.set) tasks.now }
+    requires lawful { AllByRecursion IsLawfulMemberCopy tasks.now }
+    ensures items { RunsCoded M.Machine (λ shelf. with_missing card out.now (missing choice.now tasks.now) (members shelf card out.now [] tasks.now)) machine.old machine.new result }
     ensures small { IfOk result (λ code. code ≤ 16) }
-    ensures promise { IsTrue M.tells → Keeps (M.meaning machine.old).clock (M.promise machine.old) (M.promise machine.new) }
-    ensures faults { RunCall false (M.status machine.old) (M.status machine.new) result }
 {
     let ending = copy_members(alloc, machine, buf, card, out, tasks)?;
     if !ending.goes_on {
         return Ok(ending.code);
     }
     let code = report_missing(alloc, machine, card, out, tasks, picks_in(choice))?;
-    Ok(higher(ending.code, code))
+    Ok(ending.code.max(code))
 }

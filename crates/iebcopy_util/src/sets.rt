@@ -1,10 +1,7 @@
 //! The data sets of a copy.
-ghost use Rattle.std.specs.Prelude.{◌≡◌, false, option_map, IsTrue, IsFalse, IfOk};
+ghost use Rattle.std.specs.Prelude.{◌≡◌, option_map, IfOk};
 ghost use Rattle.std.specs.Result.{result_map_both};
-ghost use Rattle.stop_model.specs.Moments.{Same};
-ghost use Rattle.vol_model.specs.Calls.{Keeps};
-ghost use Rattle.vol_model.specs.Runs.{RunCall};
-ghost use Rattle.iebcopy_util.specs.Sets.{inputs_named, is_among, is_same, library, set_in, set_named, sets_of, sets_with};
+ghost use Rattle.iebcopy_util.specs.Sets.{inputs_named, is_among, is_same, set_in, set_named, sets_of, sets_with};
 
 use crate::requests::{CopyDds, InputDd};
 use ebcdic_names::{Dsn, Name8};

@@ -1,18 +1,15 @@
 //! The members that a copy takes from its inputs.
-ghost use Rattle.std.specs.Prelude.{◌≡◌, ◌≤◌, ◌<◌, ◌++◌, ◌∷◌, [], false, true, Ok, List, length, map, filter, take, slice_get, IsTrue, IsFalse, IfOk, IfSome, OnOk, None};
-ghost use Rattle.std.specs.List.{AllByRecursion, flat_map, list_any};
+ghost use Rattle.std.specs.Prelude.{◌≡◌, ◌≤◌, ◌++◌, ◌∷◌, [], true, Ok, List, length, map, filter, take, slice_get, IfOk, IfSome, OnOk, None};
+ghost use Rattle.std.specs.List.{AllByRecursion, list_any};
 ghost use Rattle.std.specs.Result.{result_map_both};
-ghost use Rattle.stop_model.specs.Moments.{Same};
 ghost use Rattle.vol_model.specs.declared.contents.DataSet.{DataSet};
 ghost use Rattle.vol_model.specs.declared.contents.Entry.{Entry};
-ghost use Rattle.vol_model.specs.Calls.{Keeps};
 ghost use Rattle.vol_model.specs.Lawful.{IsLawfulEntry};
 ghost use Rattle.vol_model.specs.Reading.{entries_in};
-ghost use Rattle.vol_model.specs.Runs.{RunCall};
 ghost use Rattle.vol_model.specs.Writing.{body_on};
-ghost use Rattle.record_files.specs.Members.{entries_of};
+ghost use Rattle.util_steps.specs.Taking.{IsReady, Reads};
 ghost use Rattle.iebcopy_util.specs.Sets.{library};
-ghost use Rattle.iebcopy_util.specs.Tasks.{IsLawfulChoice, IsLawfulTask, TakesEntry, TakesInput, is_name, is_taken, task, tasks_of, wanted, with_source};
+ghost use Rattle.iebcopy_util.specs.Tasks.{IsLawfulChoice, IsLawfulMemberCopy, TakesEntry, TakesInput, is_name, is_taken, task, tasks_of, wanted, with_source};
 
 use crate::orders::Choice;
 use crate::requests::Pick;
@@ -23,9 +20,9 @@ use std::alloc::{AllocError, Global};
 use util_steps::SetRef;
 use vol_model::{Attr, Entry, Listed, Machine, ReadErr, Refusal, Stop};
 
-/// An input that is found.
+/// A library from which members are copied.
 #[derive(Clone, Copy, Debug, PartialEq, Eq)]
-pub struct Source {
+pub struct InputLibrary {
     /// Its number among the inputs of its copy, from 0.
     pub number: usize,
     /// Its data set.
@@ -40,9 +37,9 @@ pub struct Source {
 
 /// A member that is copied.
 #[derive(Debug, Drop)]
-pub struct Task {
+pub struct MemberCopy {
     /// Its input.
-    pub source: Source,
+    pub source: InputLibrary,
     /// Its entry there.
     pub entry: Entry,
     /// The name of the copy.
@@ -74,17 +71,17 @@ fn copy_entry(alloc: Global, entry: &Entry) -> Result<Entry, AllocError>
 }
 
 // Adds the copy of a member under a name.
-fn push_task(
+fn push_copy(
     alloc: Global,
-    tasks: &mut Vec<Task>,
-    source: &Source,
+    tasks: &mut Vec<MemberCopy>,
+    source: &InputLibrary,
     entry: &Entry,
     name: Name8,
     replace: bool,
 ) -> Result<(), AllocError>
     ensures { OnOk result (tasks.new.items ≡ tasks.old.items ++ task source.now entry.now name replace ∷ []) }
 {
-    tasks.push(Task {
+    tasks.push(MemberCopy {
         source: *source,
         entry: copy_entry(alloc, entry)?,
         name,
@@ -101,7 +98,7 @@ fn is_name(a: &Name8, b: &Name8) -> bool
 }
 
 /// Whether one of these copies is of a member of this name.
-pub fn is_taken(name: &Name8, tasks: &[Task]) -> bool
+pub fn is_taken(name: &Name8, tasks: &[MemberCopy]) -> bool
     ensures { result ≡ is_taken name.now tasks.now }
 {
     tasks.iter().any(|task| is_name(&task.entry.name, name))
@@ -117,8 +114,8 @@ fn is_one_of(name: &Name8, names: &[Name8]) -> bool
 // Adds the copies of a member under the names that it is selected for.
 fn push_picked(
     alloc: Global,
-    tasks: &mut Vec<Task>,
-    source: &Source,
+    tasks: &mut Vec<MemberCopy>,
+    source: &InputLibrary,
     entry: &Entry,
     picks: &[Pick],
 ) -> Result<(), AllocError>
@@ -126,7 +123,7 @@ fn push_picked(
 {
     for pick in picks {
         if is_name(&pick.name, &entry.name) {
-            push_task(alloc, tasks, source, entry, pick.new, pick.replace)?;
+            push_copy(alloc, tasks, source, entry, pick.new, pick.replace)?;
         }
     }
     Ok(())
@@ -137,9 +134,9 @@ fn push_picked(
 #[tactic(auto, unfolding(crate::specs::Tasks::wanted))]
 fn push_wanted(
     alloc: Global,
-    tasks: &mut Vec<Task>,
+    tasks: &mut Vec<MemberCopy>,
     first: usize,
-    source: &Source,
+    source: &InputLibrary,
     choice: &Choice,
     entry: &Entry,
 ) -> Result<(), AllocError>
@@ -147,7 +144,7 @@ fn push_wanted(
     ensures { OnOk result (tasks.new.items ≡ tasks.old.items ++ wanted choice.now (take first tasks.old.items) source.now entry.now) }
 {
     match choice {
-        Choice::All => push_task(alloc, tasks, source, entry, entry.name, false),
+        Choice::All => push_copy(alloc, tasks, source, entry, entry.name, false),
         Choice::Select(picks) => {
             let taken = is_taken(&entry.name, &tasks[..first]);
             if taken {
@@ -159,7 +156,7 @@ fn push_wanted(
             if is_one_of(&entry.name, names.as_slice()) {
                 return Ok(());
             }
-            push_task(alloc, tasks, source, entry, entry.name, false)
+            push_copy(alloc, tasks, source, entry, entry.name, false)
         }
     }
 }
@@ -170,14 +167,9 @@ pub fn entry_at<M: Machine>(
     set: &SetRef,
     k: u32,
 ) -> Result<Result<Option<Entry>, Refusal>, Stop>
-    requires sound { IsTrue (M.status machine.old).is_sound }
-    requires closed { IsFalse (M.status machine.old).is_open }
-    ensures found { IsTrue M.tells → (es : List Entry) → entries_in (body_on (M.meaning machine.old).state set.now.v set.now.dsn.bytes) ≡ Ok es → IfOk result (λ answer. answer ≡ Ok (slice_get es k)) }
+    requires { IsReady M.Machine machine.old }
+    ensures reads { Reads M.Machine (λ shelf answer. (es : List Entry) → entries_in (body_on shelf set.now.v set.now.dsn.bytes) ≡ Ok es → answer ≡ Ok (slice_get es k)) machine.old machine.new result }
     ensures lawful { IfOk result (λ answer. IfOk answer (λ found. IfSome found IsLawfulEntry)) }
-    ensures same { IsTrue M.tells → Same (M.meaning machine.old) (M.meaning machine.new) }
-    ensures promise { IsTrue M.tells → Keeps (M.meaning machine.old).clock (M.promise machine.old) (M.promise machine.new) }
-    ensures count { (M.status machine.new).done ≡ (M.status machine.old).done }
-    ensures faults { RunCall false (M.status machine.old) (M.status machine.new) result }
 {
     match machine.entry_at(set.v, &set.dsn, k) {
         Ok(found) => Ok(Ok(found)),
@@ -191,54 +183,42 @@ pub fn entry_at<M: Machine>(
 fn take_entry<M: Machine>(
     alloc: Global,
     machine: &mut M,
-    tasks: &mut Vec<Task>,
+    tasks: &mut Vec<MemberCopy>,
     first: usize,
-    source: &Source,
+    source: &InputLibrary,
     choice: &Choice,
     k: u32,
 ) -> Result<Result<bool, Refusal>, Stop>
-    requires sound { IsTrue (M.status machine.old).is_sound }
-    requires closed { IsFalse (M.status machine.old).is_open }
+    requires ready { IsReady M.Machine machine.old }
     requires first { first ≤ length tasks.old.items }
     requires choice { IsLawfulChoice choice.now }
-    requires lawful { AllByRecursion IsLawfulTask tasks.old.items }
-    ensures tasks { IsTrue M.tells → (es : List Entry) → entries_in (body_on (M.meaning machine.old).state source.now.set.v source.now.set.dsn.bytes) ≡ Ok es → IfOk result (λ answer. TakesEntry answer es k (wanted choice.now (take first tasks.old.items) source.now) tasks.old.items tasks.new.items) }
-    ensures more { IfOk result (λ answer. (more : List Task) × (tasks.new.items ≡ tasks.old.items ++ more)) }
-    ensures lawful { IfOk result (λ answer. AllByRecursion IsLawfulTask tasks.new.items) }
-    ensures same { IsTrue M.tells → Same (M.meaning machine.old) (M.meaning machine.new) }
-    ensures promise { IsTrue M.tells → Keeps (M.meaning machine.old).clock (M.promise machine.old) (M.promise machine.new) }
-    ensures count { (M.status machine.new).done ≡ (M.status machine.old).done }
-    ensures faults { RunCall false (M.status machine.old) (M.status machine.new) result }
+    requires lawful { AllByRecursion IsLawfulMemberCopy tasks.old.items }
+    ensures reads { Reads M.Machine (λ shelf answer. (es : List Entry) → entries_in (body_on shelf source.now.set.v source.now.set.dsn.bytes) ≡ Ok es → TakesEntry answer es k (wanted choice.now (take first tasks.old.items) source.now) tasks.old.items tasks.new.items) machine.old machine.new result }
+    ensures more { IfOk result (λ answer. (more : List MemberCopy) × (tasks.new.items ≡ tasks.old.items ++ more)) }
+    ensures lawful { IfOk result (λ answer. AllByRecursion IsLawfulMemberCopy tasks.new.items) }
 {
     let entry = match entry_at(machine, &source.set, k)? {
         Ok(Some(entry)) => entry,
         Ok(None) => return Ok(Ok(false)),
         Err(refusal) => return Ok(Err(refusal)),
     };
-    match push_wanted(alloc, tasks, first, source, choice, &entry) {
-        Ok(()) => Ok(Ok(true)),
-        Err(AllocError) => Err(Stop::Memory),
-    }
+    push_wanted(alloc, tasks, first, source, choice, &entry)?;
+    Ok(Ok(true))
 }
 
 // Adds the copies for the entries of an input.
 fn take_entries<M: Machine>(
     alloc: Global,
     machine: &mut M,
-    tasks: &mut Vec<Task>,
-    source: &Source,
+    tasks: &mut Vec<MemberCopy>,
+    source: &InputLibrary,
     choice: &Choice,
 ) -> Result<Result<(), Refusal>, Stop>
-    requires sound { IsTrue (M.status machine.old).is_sound }
-    requires closed { IsFalse (M.status machine.old).is_open }
+    requires ready { IsReady M.Machine machine.old }
     requires choice { IsLawfulChoice choice.now }
-    requires lawful { AllByRecursion IsLawfulTask tasks.old.items }
-    ensures tasks { IsTrue M.tells → (x : DataSet) → library (M.meaning machine.old).state source.now.set ≡ Ok x → IfOk result (λ answer. (answer ≡ Ok tt) × (tasks.new.items ≡ with_source choice.now tasks.old.items source.now x)) }
-    ensures lawful { IfOk result (λ answer. AllByRecursion IsLawfulTask tasks.new.items) }
-    ensures same { IsTrue M.tells → Same (M.meaning machine.old) (M.meaning machine.new) }
-    ensures promise { IsTrue M.tells → Keeps (M.meaning machine.old).clock (M.promise machine.old) (M.promise machine.new) }
-    ensures count { (M.status machine.new).done ≡ (M.status machine.old).done }
-    ensures faults { RunCall false (M.status machine.old) (M.status machine.new) result }
+    requires lawful { AllByRecursion IsLawfulMemberCopy tasks.old.items }
+    ensures reads { Reads M.Machine (λ shelf answer. (x : DataSet) → library shelf source.now.set ≡ Ok x → (answer ≡ Ok tt) × (tasks.new.items ≡ with_source choice.now tasks.old.items source.now x)) machine.old machine.new result }
+    ensures lawful { IfOk result (λ answer. AllByRecursion IsLawfulMemberCopy tasks.new.items) }
 {
     let first = tasks.len();
     let mut k: u32 = 0;
@@ -259,28 +239,23 @@ fn take_entries<M: Machine>(
 fn take_input<M: Machine>(
     alloc: Global,
     machine: &mut M,
-    tasks: &mut Vec<Task>,
+    tasks: &mut Vec<MemberCopy>,
     choice: &Choice,
     number: usize,
     given: Option<Attr>,
     input: &Input,
 ) -> Result<Result<Attr, RefusedSet>, Stop>
-    requires sound { IsTrue (M.status machine.old).is_sound }
-    requires closed { IsFalse (M.status machine.old).is_open }
+    requires ready { IsReady M.Machine machine.old }
     requires choice { IsLawfulChoice choice.now }
-    requires lawful { AllByRecursion IsLawfulTask tasks.old.items }
-    ensures tasks { IsTrue M.tells → IfOk result (λ answer. TakesInput answer (M.meaning machine.old).state choice.now number given input.now tasks.old.items tasks.new.items) }
-    ensures lawful { IfOk result (λ answer. AllByRecursion IsLawfulTask tasks.new.items) }
-    ensures same { IsTrue M.tells → Same (M.meaning machine.old) (M.meaning machine.new) }
-    ensures promise { IsTrue M.tells → Keeps (M.meaning machine.old).clock (M.promise machine.old) (M.promise machine.new) }
-    ensures count { (M.status machine.new).done ≡ (M.status machine.old).done }
-    ensures faults { RunCall false (M.status machine.old) (M.status machine.new) result }
+    requires lawful { AllByRecursion IsLawfulMemberCopy tasks.old.items }
+    ensures reads { Reads M.Machine (λ shelf answer. TakesInput answer shelf choice.now number given input.now tasks.old.items tasks.new.items) machine.old machine.new result }
+    ensures lawful { IfOk result (λ answer. AllByRecursion IsLawfulMemberCopy tasks.new.items) }
 {
     let info = match find_set(machine, Purpose::Members, &input.set)? {
         Ok(info) => info,
         Err(refusal) => return Ok(Err(refused(&input.set, refusal))),
     };
-    let source = Source {
+    let source = InputLibrary {
         number,
         set: input.set,
         attr: info.attr,
@@ -310,16 +285,11 @@ pub fn tasks_of<M: Machine>(
     machine: &mut M,
     choice: &Choice,
     inputs: &[Input],
-) -> Result<Result<Vec<Task>, RefusedSet>, Stop>
-    requires sound { IsTrue (M.status machine.old).is_sound }
-    requires closed { IsFalse (M.status machine.old).is_open }
+) -> Result<Result<Vec<MemberCopy>, RefusedSet>, Stop>
+    requires ready { IsReady M.Machine machine.old }
     requires choice { IsLawfulChoice choice.now }
-    ensures tasks { IsTrue M.tells → IfOk result (λ answer. result_map_both (λ v. v.items) (λ f. f) answer ≡ tasks_of (M.meaning machine.old).state choice.now 0 None [] inputs.now) }
-    ensures lawful { IfOk result (λ answer. IfOk answer (λ tasks. AllByRecursion IsLawfulTask tasks.items)) }
-    ensures same { IsTrue M.tells → Same (M.meaning machine.old) (M.meaning machine.new) }
-    ensures promise { IsTrue M.tells → Keeps (M.meaning machine.old).clock (M.promise machine.old) (M.promise machine.new) }
-    ensures count { (M.status machine.new).done ≡ (M.status machine.old).done }
-    ensures faults { RunCall false (M.status machine.old) (M.status machine.new) result }
+    ensures reads { Reads M.Machine (λ shelf answer. result_map_both (λ v. v.items) (λ f. f) answer ≡ tasks_of shelf choice.now 0 None [] inputs.now) machine.old machine.new result }
+    ensures lawful { IfOk result (λ answer. IfOk answer (λ tasks. AllByRecursion IsLawfulMemberCopy tasks.items)) }
 {
     let mut tasks = Vec::new(alloc);
     let mut given = None;

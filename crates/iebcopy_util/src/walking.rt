@@ -1,12 +1,12 @@
-//! The blocks of a member, and the last block of a library.
-ghost use Rattle.std.specs.Prelude.{◌≡◌, ◌≤◌, false, true, Ok, Err, IsTrue, IsErrOf, IfOk, IfSome};
-ghost use Rattle.vol_model.specs.Places.{is_end_of_file, last_place};
+//! The blocks of a member.
+ghost use Rattle.std.specs.Prelude.{◌≡◌, true, IfOk, IfSome};
 ghost use Rattle.vol_model.specs.Reading.{blocks_from, member};
 ghost use Rattle.util_steps.specs.Copying.{has_data, source};
 ghost use Rattle.util_steps.specs.Steps.{IsOnward};
 ghost use Rattle.util_steps.specs.Taking.{IsReady, Reads};
-ghost use Rattle.iebcopy_util.specs.Steps.{HasWalked, TakesBlock, TakesLast, Tells};
+ghost use Rattle.iebcopy_util.specs.Steps.{HasWalked, TakesBlock, Tells};
 
+use record_files::is_end_of_file;
 use std::alloc::Global;
 use util_steps::{Fault, SetRef, next_block, place_behind};
 use vol_model::{BlockBuf, Machine, Place, Stop};
@@ -18,13 +18,6 @@ pub struct Walk {
     pub places: Vec<Place>,
     /// Whether each has data.
     pub has_data: bool,
-}
-
-// Whether a block ends a member.
-fn is_end_of_file(buf: &BlockBuf) -> bool
-    ensures { result ≡ is_end_of_file buf.now }
-{
-    buf.key().is_empty() && buf.payload().is_empty()
 }
 
 // Whether a block has data.
@@ -83,49 +76,6 @@ pub fn walk_member<M: Machine>(
         match take_block(machine, buf, &mut walk, from, place)? {
             Ok(Some(next)) => place = next,
             Ok(None) => return Ok(Ok(walk)),
-            Err(fault) => return Ok(Err(fault)),
-        }
-    }
-}
-
-// The place of the first block at or after a place, and the place after it.
-fn next_place<M: Machine>(
-    machine: &mut M,
-    buf: &mut BlockBuf,
-    set: &SetRef,
-    place: Place,
-) -> Result<Result<Option<(Place, Place)>, Fault>, Stop>
-    requires { IsReady M.Machine machine.old }
-    ensures reads { Reads M.Machine (λ shelf answer. Tells (source shelf set.now) (λ bs a. TakesLast a (blocks_from place bs)) answer) machine.old machine.new result }
-    ensures onward { IfOk result (λ answer. IfOk answer (λ found. IfSome found (λ both. IsOnward place both.1))) }
-    ensures memory { IsErrOf result Stop.Memory → ⊥ }
-{
-    match next_block(machine, set, place, buf)? {
-        Ok(true) => Ok(Ok(Some((buf.place(), place_behind(buf.place()))))),
-        Ok(false) => Ok(Ok(None)),
-        Err(fault) => Ok(Err(fault)),
-    }
-}
-
-/// The place of the last block of a library, or zeros where it has none. It takes no memory.
-pub fn last_block<M: Machine>(
-    machine: &mut M,
-    buf: &mut BlockBuf,
-    set: &SetRef,
-) -> Result<Result<Place, Fault>, Stop>
-    requires { IsReady M.Machine machine.old }
-    ensures place { Reads M.Machine (λ shelf answer. Tells (source shelf set.now) (λ bs a. a ≡ Ok (last_place (record { tt = 0; r = 0 }) bs)) answer) machine.old machine.new result }
-    ensures memory { IsErrOf result Stop.Memory → ⊥ }
-{
-    let mut last = Place { tt: 0, r: 0 };
-    let mut place = last;
-    loop {
-        match next_place(machine, buf, set, place)? {
-            Ok(Some((found, next))) => {
-                last = found;
-                place = next;
-            }
-            Ok(None) => return Ok(Ok(last)),
             Err(fault) => return Ok(Err(fault)),
         }
     }

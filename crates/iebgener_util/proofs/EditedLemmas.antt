@@ -2,25 +2,20 @@
 use Rattle.std.proofs.Common.{◌≡◌, ℕ, true, false, List, [], ◌∷◌, sym, ◌∙◌, ap, subst}
 use Rattle.std.specs.Prelude.{Option, Some, None, Result, IfOk}
 use Rattle.vol_model.specs.declared.answers.Stop.{Stop}
-use Rattle.ebcdic_names.specs.declared.names.Name8.{Name8}
 use Rattle.vol_model.specs.declared.contents.Shelf.{Shelf}
-use Rattle.util_steps.specs.declared.calls.SetRef.{SetRef}
 use Rattle.record_files.specs.declared.reader.RecordReader.{RecordReader}
 use Rattle.record_files.specs.declared.taken.Taken.{Taken}
-use Rattle.record_files.specs.Inputs.{Found, InputView, ReadsAs, from}
 use Rattle.record_files.specs.Reader.{reader_given, reader_stream}
-use Rattle.record_files.specs.Sources.{Gives, KeepsOthers}
+use Rattle.record_files.specs.Sources.{Gives}
 use Rattle.record_files.specs.Streams.{Stream, at_end, at_fault, with_record}
-use Rattle.record_files.proofs.FoundLemmas.{reads_kept}
 use Rattle.iebgener_util.specs.declared.edited.EditedRecords.{EditedRecords}
 use Rattle.iebgener_util.specs.declared.orders.Order.{Order}
 use Rattle.iebgener_util.specs.declared.requests.Edit.{Edit}
 use Rattle.iebgener_util.specs.declared.skipped_groups.SkippedGroups.{SkippedGroups}
 use Rattle.iebgener_util.specs.Edited.{edited_given, edited_stream, given_of, groups_left}
 use Rattle.iebgener_util.specs.Editing.{behind_groups, behind_orders, edited, edited_by, edited_record, edited_then, groups_behind, left_behind}
-use Rattle.iebgener_util.specs.Items.{groups, is_same}
+use Rattle.iebgener_util.specs.Items.{groups}
 use Rattle.iebgener_util.specs.SkippedGroups.{left_by, left_of}
-use Rattle.iebgener_util.proofs.CopyLemmas.{apart_from}
 use Rattle.iebgener_util.proofs.SkipLemmas.{none_left}
 
 -- the end and a fault stay where they are
@@ -92,11 +87,6 @@ begun_edited e reader lrecl before edits of_reader of_lrecl of_groups none ahead
     ∙ ap (λ (os : List Order). edited_by e.lrecl (groups_left e) (left_behind os st)) ahead
     ∙ ap (λ (n : ℕ). edited_by n (groups_left e) (left_behind before st)) of_lrecl
     ∙ ap (λ (o : Option (List Edit)). edited_by lrecl o (left_behind before st)) of_groups
-
--- an input that isn't the output is read as before once that is empty
-pub reads_beside : (s u : Shelf) (i : InputView) (to : SetRef) (f : Found) → is_same i to None ≡ false → KeepsOthers to s u → ReadsAs s i f → ReadsAs u i f
-reads_beside s u i to f apart kept reads =
-    reads_kept s u i f (λ (x : SetRef) (member : Option Name8) (is : i ≡ from x member). kept x (apart_from x to member (subst (λ (j : InputView). is_same j to None ≡ false) is apart))) reads
 
 -- records that stay as they are
 pub plain_gives : (e f : EditedRecords) (shelf : Shelf) → groups_left e ≡ None → groups_left f ≡ None → (r : Result Taken Stop) → IfOk r (λ t. Gives t (left e shelf) (reader_given f.reader) (left f shelf)) → IfOk r (λ t. Gives t (edited_stream e shelf) (edited_given f) (edited_stream f shelf))

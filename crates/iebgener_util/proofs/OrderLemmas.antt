@@ -10,7 +10,7 @@ use Rattle.iebgener_util.specs.declared.orders.State.{State}
 use Rattle.iebgener_util.specs.declared.orders.State.TheVariants.{Begun, Open, Ended}
 use Rattle.util_syntax.specs.declared.program.StatementFault.{StatementFault}
 use Rattle.iebgener_util.specs.declared.requests.Names.{Names}
-use Rattle.iebgener_util.specs.Orders.{generate_at, member_behind, new_part, orders_at, orders_of, refused_at, unless_ended}
+use Rattle.iebgener_util.specs.Orders.{member_behind, new_part, orders_at, orders_of, unless_ended}
 
 -- after a fault nothing is ordered
 pub orders_ended : (exec : ℕ) (items : List ItemView) → orders_of exec Ended items ≡ []
@@ -35,10 +35,3 @@ last_order was now o exec more pushed = sym pushed ∙ sym (append-nil now) ∙ 
 pub named_behind : (own : Option Names) (p : OutputOrder) (card : ℕ) (names : Names) (more : State → List Order) → is_none own ≡ false → member_behind own p card names more ≡ order.Write p ∷ more (Open (new_part card (Some names)))
 named_behind None p card names more is = cc
 named_behind (Some own) p card names more is = refl
-
--- a GENERATE that doesn't stand first is a fault
-pub generate_late : (state : State) (card : ℕ) (more : State → List Order) → (state ≡ Begun None → ⊥) → generate_at state card more ≡ refused_at card
-generate_late (Begun None) card more not = absurd (not refl)
-generate_late (Begun (Some first)) card more not = refl
-generate_late (Open p) card more not = refl
-generate_late Ended card more not = refl

@@ -15,10 +15,11 @@ use Rattle.util_syntax.specs.declared.step.StepIn.{StepIn}
 use Rattle.util_syntax.specs.Items.{ItemView}
 use Rattle.util_syntax.specs.Program.{no_dd_item, sysin}
 use Rattle.util_syntax.specs.Step.{same_name}
-use Rattle.iebgener_util.specs.declared.copying.Output.{Output}
+use Rattle.output_files.specs.declared.outputs.Output.{Output}
+use Rattle.output_files.specs.Outputs.{set_in, sysut1, sysut2}
 use Rattle.iebgener_util.specs.declared.orders.Order.{Order}
 use Rattle.iebgener_util.specs.declared.orders.State.TheVariants.{Begun}
-use Rattle.iebgener_util.specs.Items.{iebgener_items, input_in, items_if, order_item, order_items, set_in, statements_if, sysut1, sysut2}
+use Rattle.iebgener_util.specs.Items.{iebgener_items, input_in, items_if, order_item, order_items, statements_if}
 use Rattle.record_files.specs.Inputs.{InputView}
 use Rattle.iebgener_util.specs.Orders.{orders_of}
 

@@ -1,44 +1,40 @@
 -- What IEBGENER does in a step (Utilities GC28-6586, in this project's profile).
-use Rattle.std.specs.Prelude.{ℕ, ◌==◌, bit_and, not, is_some, Bool, false, ◌&&◌, ◌||◌, if◌then◌else◌, List, [], ◌∷◌, ◌++◌, codes, Option, Some, None, Result, Ok, Err}
+use Rattle.std.specs.Prelude.{ℕ, ◌==◌, bit_and, not, is_some, Bool, true, false, ◌&&◌, ◌||◌, if◌then◌else◌, List, [], ◌∷◌, ◌++◌, codes, Option, Some, None, Result, Ok, Err}
 use Rattle.std.specs.Map.{lookup}
-use Rattle.std.specs.Str.{bytes_eq}
 use Rattle.ebcdic_names.specs.declared.names.Name8.{Name8}
 use Rattle.record_blocks.specs.declared.formats.Format.{Format}
 use Rattle.record_blocks.specs.Formats.{first_fault}
-use Rattle.vol_model.specs.declared.answers.Mode.TheVariants as modes
 use Rattle.vol_model.specs.declared.contents.Attr.{Attr}
 use Rattle.vol_model.specs.declared.contents.DataSet.{DataSet}
 use Rattle.vol_model.specs.declared.contents.Shelf.{Shelf}
 use Rattle.vol_model.specs.declared.refusals.Refusal.{Refusal}
 use Rattle.vol_model.specs.Did.{Did, answered, with_reason}
 use Rattle.vol_model.specs.Events.{Item, after_operations}
-use Rattle.util_steps.specs.declared.calls.Fault.{Fault}
 use Rattle.util_steps.specs.declared.calls.SetRef.{SetRef}
 use Rattle.util_syntax.specs.declared.listing.Object.{Object}
 use Rattle.util_syntax.specs.declared.listing.Object.TheVariants as object
 use Rattle.util_syntax.specs.declared.listing.Outcome.{Outcome}
 use Rattle.util_syntax.specs.declared.listing.Outcome.TheVariants as outcome
 use Rattle.util_syntax.specs.declared.step.DdIn.{DdIn}
-use Rattle.util_syntax.specs.declared.step.DdIn.TheVariants.{Cards, Set}
+use Rattle.util_syntax.specs.declared.step.DdIn.TheVariants.{Cards}
 use Rattle.util_syntax.specs.declared.step.StepIn.{StepIn}
 use Rattle.util_syntax.specs.Items.{ItemView}
 use Rattle.util_syntax.specs.Program.{answered_item, no_dd_item, statements_in, syntax_item, sysin}
 use Rattle.util_syntax.specs.Step.{same_name}
 use Rattle.util_program.specs.Outcomes.{outcome_for}
-use Rattle.record_files.specs.declared.attributes.Purpose.{Purpose}
-use Rattle.record_files.specs.declared.attributes.Purpose.TheVariants as purposes
-use Rattle.iebgener_util.specs.declared.copying.Output.{Output}
+use Rattle.output_files.specs.declared.outputs.Output.{Output}
 use Rattle.iebgener_util.specs.declared.orders.Order.{Order}
 use Rattle.iebgener_util.specs.declared.orders.Order.TheVariants as order
 use Rattle.iebgener_util.specs.declared.orders.State.TheVariants.{Begun}
 use Rattle.iebgener_util.specs.declared.requests.Edit.{Edit}
 use Rattle.iebgener_util.specs.declared.requests.Names.{Names}
-use Rattle.record_files.specs.Attributes.{format_in, found_both, output_attr, usable_set}
+use Rattle.record_files.specs.Attributes.{format_in, found_both, output_attr}
 use Rattle.record_files.specs.Inputs.{Found, InputView, attr_of, cards, format_of, found_input, from, records_of}
 use Rattle.iebgener_util.specs.Editing.{edited_by, have_fields, left_behind}
-use Rattle.iebgener_util.specs.Members.{library_for, stored}
+use Rattle.output_files.specs.Members.{MemberNames}
+use Rattle.output_files.specs.Outputs.{found_output, is_same, set_in, sysut1, sysut2, write_output}
 use Rattle.iebgener_util.specs.Orders.{orders_of}
-use Rattle.record_files.specs.Writing.{Coming, appended, packed, rewritten}
+use Rattle.record_files.specs.Writing.{Coming, packed}
 
 -- ---- formats
 
@@ -50,12 +46,6 @@ is_fixed format = bit_and format.recfm 0xC0 == 0x80
 unfoldable pub formats_clash : Bool → Format → Format → Bool
 formats_clash edits input output = is_some (first_fault input) || (is_some (first_fault output) || (edits && not (is_fixed output)))
 
--- a sequential data set is its own input
-abbrev pub is_same : InputView → SetRef → Option Names → Bool
-is_same (cards cs) to names = false
-is_same (from s member) to (Some n) = false
-is_same (from s member) to None = s.v == to.v && bytes_eq s.dsn.bytes to.dsn.bytes
-
 -- ---- the copy
 
 -- groups of records are edited, where there is one, and else all records stay as they are
@@ -63,54 +53,44 @@ abbrev pub groups : List Edit → Option (List Edit)
 groups [] = None
 groups (e ∷ es) = Some (e ∷ es)
 
--- blocks are written to a member, or to a sequential set, after its own or in their place
-abbrev pub write_output : Shelf → Output → Option Names → Attr → Coming → Did (Unit {0}) Fault
-write_output shelf out (Some n) attr c = stored shelf out.to n c
-write_output shelf out None attr c = if out.append then appended shelf out.to modes.Fill c else rewritten shelf out.to attr c
-
 -- the blocks of the records that are read after the parts in front, edited and packed in a format
 unfoldable pub blocks_in : Format → List Order → List Edit → Found → Coming
 blocks_in format before edits found = packed format (edited_by format.lrecl (groups edits) (left_behind before (records_of found)))
 
 -- they are written, unless the formats don't serve or the output is the input
-abbrev pub copied_with : Shelf → InputView → Output → Option Names → List Order → List Edit → Found → Attr → Did (Unit {0}) Outcome
+abbrev pub copied_with : Shelf → InputView → Output → Option MemberNames → List Order → List Edit → Found → Attr → Did (Unit {0}) Outcome
 copied_with shelf input out names before edits found attr =
     if formats_clash (have_fields edits) (format_of found) (format_in attr) then answered (Err outcome.Dcb)
     else (if is_same input out.to names then answered (Err outcome.SameSet)
     else with_reason outcome_for (write_output shelf out names attr (blocks_in (format_in attr) before edits found)))
 
-abbrev pub copied_if : Shelf → InputView → Output → Option Names → List Order → List Edit → Result (Found × DataSet) Refusal → Did (Unit {0}) Outcome
+abbrev pub copied_if : Shelf → InputView → Output → Option MemberNames → List Order → List Edit → Result (Found × DataSet) Refusal → Did (Unit {0}) Outcome
 copied_if shelf input out names before edits (Err r) = answered (Err (outcome.Refused r))
 copied_if shelf input out names before edits (Ok both) = copied_with shelf input out names before edits both.0 (output_attr out.dcb both.1.attr (attr_of both.0))
 
--- what a sequential output is found for
-abbrev pub purpose_of : Output → Purpose
-purpose_of out = if out.append then purposes.Records else purposes.Rewrite
-
--- the output: a library that takes a member of these names, or a sequential set
-abbrev pub found_output : Shelf → Output → Option Names → Result DataSet Refusal
-found_output shelf out (Some n) = library_for shelf out.to n
-found_output shelf out None = usable_set shelf (purpose_of out) out.to
-
 -- A copy of what is read after the parts in front: both data sets must be there, of their kind and readable.
-unfoldable pub copied : Shelf → InputView → Output → Option Names → List Order → List Edit → Did (Unit {0}) Outcome
+unfoldable pub copied : Shelf → InputView → Output → Option MemberNames → List Order → List Edit → Did (Unit {0}) Outcome
 copied shelf input out names before edits = copied_if shelf input out names before edits (found_both (found_input shelf input) (found_output shelf out names))
 
 -- ---- parts
 
+-- the names by which a member replaces one; its other names don't replace
+abbrev pub replacing : Name8 → List Name8 → MemberNames
+replacing name aliases = record { name = name; aliases = aliases; replaces = true; aliases_replace = false }
+
 -- the names of a member that is written: those of its MEMBER, or else that of the DD
-abbrev pub names_for : Option Names → Option Name8 → Option Names
-names_for (Some n) member = Some n
-names_for None (Some name) = Some (record { name = name; aliases = [] })
+abbrev pub names_for : Option Names → Option Name8 → Option MemberNames
+names_for (Some n) member = Some (replacing n.name n.aliases)
+names_for None (Some name) = Some (replacing name [])
 names_for None None = None
 
 -- what a line names: the member by its own name, or the set
-abbrev pub object_for : SetRef → Option Names → Object
+abbrev pub object_for : SetRef → Option MemberNames → Object
 object_for to (Some n) = object.Member to.dsn n.name
 object_for to None = object.Name to.dsn
 
 -- the item of a copy, on a card
-unfoldable pub copy_item : Shelf → ℕ → InputView → Output → Option Names → List Order → List Edit → Item
+unfoldable pub copy_item : Shelf → ℕ → InputView → Output → Option MemberNames → List Order → List Edit → Item
 copy_item shelf card input out names before edits = answered_item card (codes "COPY") (object_for out.to names) (copied shelf input out names before edits)
 
 -- the item of an order after others
@@ -125,22 +105,10 @@ order_items input out before shelf (o ∷ os) = let item = order_item shelf inpu
 
 -- ---- the step
 
--- SYSUT1 and SYSUT2 in EBCDIC
-abbrev pub sysut1 : Name8
-sysut1 = record { bytes = 0xE2 ∷ 0xE8 ∷ 0xE2 ∷ 0xE4 ∷ 0xE3 ∷ 0xF1 ∷ 0x40 ∷ 0x40 ∷ [] }
-
-abbrev pub sysut2 : Name8
-sysut2 = record { bytes = 0xE2 ∷ 0xE8 ∷ 0xE2 ∷ 0xE4 ∷ 0xE3 ∷ 0xF2 ∷ 0x40 ∷ 0x40 ∷ [] }
-
 -- the statements of SYSIN, which may be missing
 abbrev pub statements_if : Option DdIn → Option (List ItemView)
 statements_if None = Some []
 statements_if (Some dd) = statements_in (Some dd)
-
--- a data set, with the member that is meant
-abbrev pub set_in : Option DdIn → Option Output
-set_in (Some (Set v dsn member append dcb)) = Some (record { to = record { v = v; dsn = dsn }; member = member; append = append; dcb = dcb })
-set_in _ = None
 
 abbrev pub input_set : Option Output → Option InputView
 input_set None = None

@@ -2,6 +2,5 @@ pub mod Requests
 pub mod Orders
 pub mod Editing
 pub mod SkippedGroups
-pub mod Members
 pub mod Items
 pub mod Edited

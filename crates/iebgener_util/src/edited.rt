@@ -1,9 +1,7 @@
 //! Gives the records of an input, edited by groups.
 ghost use Rattle.std.specs.Prelude.{◌≡◌, ◌<◌, [], None, Some, option_map, IsTrue, IfOk};
 ghost use Rattle.vol_model.specs.declared.contents.Shelf.{Shelf};
-ghost use Rattle.vol_model.specs.Calls.{Keeps};
-ghost use Rattle.vol_model.specs.Runs.{RunCall};
-ghost use Rattle.util_steps.specs.Steps.{RunsNothing};
+ghost use Rattle.record_files.specs.Calls.{ReadsBeside};
 ghost use Rattle.record_files.specs.Reader.{reader_given, reader_most, reader_stream};
 ghost use Rattle.record_files.specs.Sources.{Gives};
 ghost use Rattle.iebgener_util.specs.Edited.{edited_given, edited_stays, edited_stream, groups_left};
@@ -44,6 +42,9 @@ fn groups(edits: &[Edit]) -> Option<&[Edit]>
 }
 
 impl<'a> EditedRecords<'a> {
+    ghost use Rattle.record_files.specs.Streams.{Stream};
+    ghost use Rattle.iebgener_util.specs.Editing.{edited_by, left_behind};
+
     /// Begins with the first record that the orders before leave.
     pub fn new(
         alloc: Global,
@@ -52,11 +53,7 @@ impl<'a> EditedRecords<'a> {
         before: &'a [Order],
         edits: &'a [Edit],
     ) -> EditedRecords<'a>
-        ensures reader { result.reader ≡ reader.entry }
-        ensures lrecl { result.lrecl ≡ lrecl }
-        ensures groups { groups_left result ≡ groups edits.now }
-        ensures skipped { result.skipped.groups.now ≡ [] }
-        ensures orders { result.skipped.orders.now ≡ before.now }
+        ensures { (shelf : Shelf) (st : Stream) → reader_stream reader.entry shelf ≡ st → edited_stream result shelf ≡ edited_by lrecl (groups edits.now) (left_behind before.now st) }
     {
         EditedRecords {
             alloc,
@@ -80,13 +77,8 @@ fn next_left<M: Machine>(
     skipped: &mut SkippedGroups<'_>,
 ) -> Result<Taken, Stop>
     requires sound { IsTrue (M.status machine.old).is_sound }
-    ensures gives { IsTrue M.tells → IfOk result (λ taken. Gives taken (left_of skipped.old (reader_stream reader.old (M.meaning machine.old).state)) (reader_given reader.new) (left_of skipped.new (reader_stream reader.new (M.meaning machine.old).state))) }
+    ensures reads { ReadsBeside M.Machine (λ shelf taken. Gives taken (left_of skipped.old (reader_stream reader.old shelf)) (reader_given reader.new) (left_of skipped.new (reader_stream reader.new shelf))) machine.old machine.new result }
     ensures fewer { IfOk result (λ taken. taken ≡ Taken.Record → reader_most reader.new < reader_most reader.old) }
-    ensures runs { IsTrue M.tells → RunsNothing M.tells_prints (M.meaning machine.old) (M.meaning machine.new) result }
-    ensures writer { IsTrue M.tells → M.writer machine.new ≡ M.writer machine.old }
-    ensures promise { IsTrue M.tells → Keeps (M.meaning machine.old).clock (M.promise machine.old) (M.promise machine.new) }
-    ensures count { (M.status machine.new).done ≡ (M.status machine.old).done }
-    ensures faults { RunCall (M.status machine.old).is_open (M.status machine.old) (M.status machine.new) result }
 {
     loop {
         match reader.next(machine)? {

@@ -5,7 +5,6 @@
 mod copying;
 mod edited;
 mod editing;
-mod members;
 mod orders;
 mod program;
 mod requests;

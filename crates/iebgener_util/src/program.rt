@@ -1,36 +1,28 @@
 //! IEBGENER in a step.
-ghost use Rattle.std.specs.Prelude.{◌≡◌, ◌≤◌, ◌-◌, ◌∷◌, [], None, drop, length, map, option_map, slice_get, take, IfOk};
+ghost use Rattle.std.specs.Prelude.{◌≡◌, ◌≤◌, ◌-◌, [], drop, length, map, option_map, slice_get, take, IfOk};
 ghost use Rattle.std.specs.Map.{lookup};
 ghost use Rattle.std.specs.Option.{option_copied};
 ghost use Rattle.util_steps.specs.Taking.{IsReady, RunsItems, TakesItem};
 ghost use Rattle.util_syntax.specs.Items.{item_view};
-ghost use Rattle.util_syntax.specs.Program.{no_dd_item, sysin};
+ghost use Rattle.util_syntax.specs.Program.{sysin};
 ghost use Rattle.util_syntax.specs.Step.{same_name};
 ghost use Rattle.record_files.specs.Inputs.{input_view};
 ghost use Rattle.iebgener_util.specs.declared.orders.State.TheVariants.{Begun};
 ghost use Rattle.iebgener_util.specs.Orders.{orders_of};
-ghost use Rattle.iebgener_util.specs.Items.{copy_item, iebgener_items, input_in, names_for, object_for, order_item, order_items, set_in, statements_if};
+ghost use Rattle.iebgener_util.specs.Items.{copy_item, iebgener_items, input_in, names_for, object_for, order_item, order_items, replacing, statements_if};
+ghost use Rattle.output_files.specs.Members.{names_view};
 
-use crate::copying::{Output, RecordCopy, copy_records};
+use crate::copying::{RecordCopy, copy_records};
 use crate::orders::{Order, OutputOrder, orders_of};
 use crate::requests::Names;
-use ebcdic_names::{Listed, Name8};
+use ebcdic_names::Name8;
+use output_files::{Names as MemberNames, Output, SYSUT1, SYSUT2, end_without_dd, set_in};
 use record_files::Input;
 use std::alloc::{AllocError, Global};
-use util_program::{report_fault, report_no_dd, report_steps};
+use util_program::{report_fault, report_steps};
 use util_steps::{Items, SetRef, run_items};
 use util_syntax::{DdIn, Item, Object, SYSIN, StepIn, sysin_statements};
 use vol_model::{Machine, Stop};
-
-// SYSUT1 in EBCDIC.
-const SYSUT1: Name8 = Name8 {
-    bytes: [0xE2, 0xE8, 0xE2, 0xE4, 0xE3, 0xF1, 0x40, 0x40],
-};
-
-// SYSUT2 in EBCDIC.
-const SYSUT2: Name8 = Name8 {
-    bytes: [0xE2, 0xE8, 0xE2, 0xE4, 0xE3, 0xF2, 0x40, 0x40],
-};
 
 /// Runs IEBGENER in a step (Utilities GC28-6586, in this project's profile), and gives the step's code, the highest of
 /// its copies.
@@ -67,20 +59,6 @@ pub fn run<M: Machine>(alloc: Global, machine: &mut M, step: &StepIn) -> Result<
     run_statements(alloc, machine, step.card, input, output, &statements)
 }
 
-// Says that a step lacks a DD, which is its one item.
-#[tactic(auto, using(util_steps::proofs::Taking::runs_one))]
-fn end_without_dd<M: Machine>(
-    alloc: Global,
-    machine: &mut M,
-    card: u32,
-    name: &Name8,
-) -> Result<u8, Stop>
-    requires { IsReady M.Machine machine.old }
-    ensures { RunsItems M.Machine (λ shelf. no_dd_item card name.now ∷ []) machine.old machine.new result }
-{
-    report_no_dd(alloc, machine, card, name)
-}
-
 // Does what statements order, in a step whose EXEC is on this card.
 fn run_statements<M: Machine>(
     alloc: Global,
@@ -105,29 +83,6 @@ fn optional_statements(alloc: Global, step: &StepIn) -> Result<Option<Vec<Item>>
     match step.dds.get(&SYSIN) {
         Some(_) => sysin_statements(alloc, step),
         None => Ok(Some(Vec::new(alloc))),
-    }
-}
-
-// A data set that a DD gives, with the member that is meant.
-fn set_in(dd: Option<&DdIn>) -> Option<Output>
-    ensures { result ≡ set_in (option_map (λ d. d.now) dd.entry) }
-{
-    match dd {
-        Some(
-            DdIn::Set {
-                v,
-                dsn,
-                member,
-                append,
-                dcb,
-            },
-        ) => Some(Output {
-            to: SetRef { v: *v, dsn: *dsn },
-            member: *member,
-            append: *append,
-            dcb: *dcb,
-        }),
-        _ => None,
     }
 }
 
@@ -238,16 +193,28 @@ fn do_order<M: Machine>(
     }
 }
 
-// The names of the member that a DD names, if it names one.
-fn names_of(alloc: Global, member: &Option<Name8>) -> Option<Names>
-    ensures { result ≡ names_for None member.now }
+// The names by which a member replaces one.
+fn replacing(name: Name8, aliases: &[Name8]) -> MemberNames<'_>
+    ensures { names_view result ≡ replacing name aliases.now }
 {
-    match member {
-        Some(name) => Some(Names {
-            name: *name,
-            aliases: Listed::from_vec(Vec::new(alloc)),
-        }),
-        None => None,
+    MemberNames {
+        name,
+        aliases,
+        replaces: true,
+        aliases_replace: false,
+    }
+}
+
+// The names of the member that is written, if one is.
+fn names_for<'a>(names: &'a Option<Names>, member: &Option<Name8>) -> Option<MemberNames<'a>>
+    ensures { option_map names_view result ≡ names_for names.now member.now }
+{
+    match names {
+        Some(names) => Some(replacing(names.name, names.aliases.as_slice())),
+        None => match member {
+            Some(name) => Some(replacing(*name, &[])),
+            None => None,
+        },
     }
 }
 
@@ -263,15 +230,10 @@ fn do_output<M: Machine>(
     requires { IsReady M.Machine machine.old }
     ensures { TakesItem M.Machine (λ shelf. copy_item shelf order.now.card (input_view input.now) output.now (names_for order.now.names output.now.member) before.now order.now.edits) machine.old machine.new result }
 {
-    let named = names_of(alloc, &output.member);
-    let names = match &order.names {
-        Some(_) => &order.names,
-        None => &named,
-    };
     let copy = RecordCopy {
         input: *input,
         output: *output,
-        names,
+        names: names_for(&order.names, &output.member),
         before,
         edits: order.edits.as_slice(),
     };
@@ -279,8 +241,8 @@ fn do_output<M: Machine>(
 }
 
 // What a line names: the member, or the set.
-fn object_for(to: &SetRef, names: &Option<Names>) -> Object
-    ensures { result ≡ object_for to.now names.now }
+fn object_for(to: &SetRef, names: &Option<MemberNames<'_>>) -> Object
+    ensures { result ≡ object_for to.now (option_map names_view names.now) }
 {
     match names {
         Some(names) => Object::Member {
@@ -299,9 +261,9 @@ fn answer<M: Machine>(
     copy: &RecordCopy<'_>,
 ) -> Result<u8, Stop>
     requires { IsReady M.Machine machine.old }
-    ensures { TakesItem M.Machine (λ shelf. copy_item shelf card (input_view copy.now.input) copy.now.output copy.now.names.now copy.now.before.now copy.now.edits.now) machine.old machine.new result }
+    ensures { TakesItem M.Machine (λ shelf. copy_item shelf card (input_view copy.now.input) copy.now.output (option_map names_view copy.now.names) copy.now.before.now copy.now.edits.now) machine.old machine.new result }
 {
     let answer = copy_records(alloc, machine, copy)?;
-    let object = object_for(&copy.output.to, copy.names);
+    let object = object_for(&copy.output.to, &copy.names);
     report_steps(alloc, machine, card, "COPY", &object, answer)
 }

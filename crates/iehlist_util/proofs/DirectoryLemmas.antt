@@ -1,7 +1,7 @@
 -- The directories of data sets, and their entries one by one.
 use Rattle.std.proofs.Common.{◌≡◌, ℕ, zero, suc, ◌+◌, ◌*◌, ◌^◌, ◌<◌, ◌≤◌, Bool, true, false, not, cond, List, [], ◌∷◌, ◌++◌, length, map, refl, sym, ◌∙◌, ap, subst, arith, ◌⊎◌, ⊎_elim}
 use Rattle.std.proofs.lemmas.Bool.Decides.{leb_tells}
-use Rattle.std.specs.Prelude.{if◌then◌else◌, nat_le, Option, Some, None, option_and_then, drop, find, slice_get, Result, Ok, Err}
+use Rattle.std.specs.Prelude.{if◌then◌else◌, nat_le, Option, Some, None, option_map, option_and_then, drop, find, slice_get, Result, Ok, Err}
 use Rattle.std.specs.List.{AllByRecursion}
 use Rattle.std.specs.Option.{option_map_or}
 use Rattle.chain_spec.specs.Cut.{needed_from}
@@ -26,7 +26,7 @@ use Rattle.vol_model.specs.Writing.{body_on, set_on}
 use Rattle.util_syntax.specs.declared.listing.Outcome.TheVariants.{Refused}
 use Rattle.iehlist_util.specs.Lines.{directory_line, entry_line}
 use Rattle.iehlist_util.specs.Directories.{Directory, HasEntries, PdsListing, answer_of, behind_last, blocks_in, directory_lines, directory_of, directory_on, lines_of, listed_first, pds_listing}
-use Rattle.iehlist_util.proofs.SetLemmas.{lawful_at, left_at, none_left, past_end, set_at}
+use Rattle.iehlist_util.proofs.SetLemmas.{lawful_at, left_at, none_left, past_end, set_at, tells_set}
 
 -- ---- how many entries a directory has
 
@@ -178,6 +178,21 @@ pub record ListsDirectory (r : Result Directory Refusal) (blocks : ℕ) : Type 0
 pub lists_directory : (r : Result Directory Refusal) (blocks : ℕ) → Ok blocks ≡ blocks_in r → ListsDirectory r blocks
 lists_directory (Ok d) blocks told = let same : blocks ≡ d.blocks = cc in record { d = d; is = refl; blocks_are = same }
 lists_directory (Err q) blocks told = let never : ⊥ = cc in absurd never
+
+-- The directory of a set that is listed, on the shelf where the set was told and on one that is the same.
+pub record ListsOn (old shelf : Shelf) (v : ℕ) (name : List ℕ) (blocks : ℕ) : Type 0 where
+  pub d : Directory
+  pub told : directory_on old v name ≡ Ok d
+  pub is : directory_on shelf v name ≡ Ok d
+  pub blocks_are : blocks ≡ d.blocks
+
+pub lists_on : (old shelf : Shelf) (v : ℕ) (name : List ℕ) (info : SetInfo) (blocks : ℕ) → Some info ≡ option_map set_info (set_on old v name) → ((x : DataSet) → info ≡ set_info x → Ok blocks ≡ blocks_in (directory_of name (Some x))) → shelf ≡ old
+    → ListsOn old shelf v name blocks
+lists_on old shelf v name info blocks told lists same =
+    let found = tells_set (set_on old v name) info told in
+    let one = lists_directory (directory_of name (Some found.x)) blocks (lists found.x found.info_is) in
+    let on : directory_on old v name ≡ Ok one.d = ap (directory_of name) found.is ∙ one.is in
+    record { d = one.d; told = on; is = ap (λ (s : Shelf). directory_on s v name) same ∙ on; blocks_are = one.blocks_are }
 
 pub refuses_directory : (r : Result Directory Refusal) (q : Refusal) → Err q ≡ blocks_in r → r ≡ Err q
 refuses_directory (Ok d) q told = let never : ⊥ = cc in absurd never

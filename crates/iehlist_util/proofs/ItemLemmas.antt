@@ -67,10 +67,6 @@ module _ (shelf : Shelf) (serial : Option Serial) (v : ℕ) (numbered : volume_n
       by_get None at told = numbered_volume ∙ at
       by_get (Some volume) at told = let never : ⊥ = cc in absurd never
 
--- no volume has the serial
-pub no_number : (shelf : Shelf) (serial : Option Serial) → volume_number shelf serial ≡ None → FindsVolume shelf serial None
-no_number shelf serial none = ap (option_and_then (λ w. slice_get shelf.volumes w)) none
-
 -- a volume's serial in short
 pub info_serial : (volume : Volume) (info : VolumeInfo) → info ≡ volume_info volume → info.serial ≡ volume.serial
 unfolding volume_info

@@ -7,7 +7,7 @@ use Rattle.vol_model.specs.declared.answers.Stop.{Stop}
 use Rattle.vol_model.specs.declared.contents.Shelf.{Shelf}
 use Rattle.vol_model.specs.Events.{Say}
 use Rattle.vol_model.specs.Runs.{Runs}
-use Rattle.util_steps.proofs.Reporting.{HasSaid, StopsSaying, has_said, runs_said, runs_unsaid, said_idle, said_none, said_state, said_then, stops_behind, stops_before, stops_idle}
+use Rattle.util_steps.proofs.Reporting.{HasSaid, StopsSaying, has_said, runs_said, runs_unsaid, said_idle, said_none, said_then, stops_behind, stops_before, stops_idle}
 
 -- Some lines were printed, and these are left of all.
 pub record SaidSoFar (tells : Bool) (all left : List (List ℕ)) (old now : Meaning Shelf) : Type 0 where
@@ -19,10 +19,6 @@ pub says_begin : (tells : Bool) (all : List (List ℕ)) (old : Meaning Shelf) �
 says_begin tells all old = record { done = []; whole = refl; said = said_none tells old }
 
 module _ {tells : Bool} {all left : List (List ℕ)} {old now : Meaning Shelf} (so : SaidSoFar tells all left old now) where
-  -- nothing was done
-  pub says_state : now.state ≡ old.state
-  says_state = said_state so.done so.said
-
   -- more lines
   pub says_more : {new : Meaning Shelf} (lines rest : List (List ℕ)) → left ≡ lines ++ rest → HasSaid tells lines now new → SaidSoFar tells all rest old new
   says_more lines rest is more = record {
@@ -59,7 +55,3 @@ module _ {tells : Bool} {all left : List (List ℕ)} {old now : Meaning Shelf} (
   -- stopped while nothing was printed
   pub says_stop_idle : {T : Type 0} {new : Meaning Shelf} (r : Result T Stop) → IsErr r → Same now new → IsDurable now → Runs tells (map Say all) old new r
   says_stop_idle r failed same durable = says_stop [] left r failed refl (stops_idle tells [] same durable)
-
--- nothing is printed, and nothing is done
-pub says_none : {T : Type 0} (tells : Bool) (m : Meaning Shelf) (lines : List (List ℕ)) (r : Result T Stop) → IsErr r → Runs tells (map Say lines) m m r
-says_none tells m lines r failed = says_stop (says_begin tells lines m) [] lines r failed refl (let run = said_none tells m in run.moments)

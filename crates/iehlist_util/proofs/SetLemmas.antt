@@ -146,10 +146,6 @@ module _ (shelf : Shelf) (v : ℕ) (name : List ℕ) (x : DataSet) (at : set_on 
   pub no_extent : None ≡ extent_on shelf v name k → extent_lines (k + 1) (drop k x.extents) ≡ []
   no_extent told = ap (extent_lines (k + 1)) (none_left x.extents k (past_end x.extents k (sym (told ∙ extent_at))))
 
--- after the last one there is no line
-pub extents_end : (x : DataSet) (k : ℕ) → k ≡ length x.extents → extent_lines (k + 1) (drop k x.extents) ≡ []
-extents_end x k is = ap (extent_lines (k + 1)) (none_left x.extents k (omega (arith, is)))
-
 -- ---- the lines of sets
 
 -- the lines of the set at a place, and of those after it
@@ -196,6 +192,12 @@ pub rest_known : (format : Bool) (shelf : Shelf) (v : ℕ) (volume : Volume) →
 rest_known format shelf v volume at k dsn found =
     let lines : lines_of_set format (set_on shelf v dsn.bytes) ≡ set_lines format found.x = ap (lines_of_set format) (set_at shelf v volume at dsn.bytes ∙ found.found) in
     next_set format volume.sets k found.x found.at ∙ ap (λ (l : List (List ℕ)). l ++ flat_map (set_lines format) (drop (k + 1) volume.sets)) (sym lines)
+
+-- the same, where the name was read on the shelf before
+pub rest_read : (format : Bool) (old shelf : Shelf) (v : ℕ) (volume : Volume) → IsLawful old → slice_get old.volumes v ≡ Some volume → shelf ≡ old → (k : ℕ) (dsn : Dsn) → Some dsn ≡ name_on old v k
+    → flat_map (set_lines format) (drop k volume.sets) ≡ lines_of_set format (set_on shelf v dsn.bytes) ++ flat_map (set_lines format) (drop (k + 1) volume.sets)
+rest_read format old shelf v volume lawful at same k dsn named =
+    rest_known format shelf v volume (ap (λ (s : Shelf). slice_get s.volumes v) same ∙ at) k dsn (set_of_name volume k dsn (lawful_at old v volume lawful at).order (named ∙ name_at old v volume at k))
 
 -- ---- data sets by their names
 

@@ -1,5 +1,5 @@
 //! What LISTPDS prints of a machine's shelf.
-ghost use Rattle.std.specs.Prelude.{◌≡◌, ◌≤◌, [], ◌∷◌, false, length, map, slice_get, option_map, List, Ok, Some, IsTrue, IsFalse, IfOk};
+ghost use Rattle.std.specs.Prelude.{◌≡◌, ◌≤◌, [], ◌∷◌, false, length, map, slice_get, option_map, List, Ok, Some, IsTrue, IfOk};
 ghost use Rattle.stop_model.specs.Moments.{Same};
 ghost use Rattle.vol_model.specs.declared.contents.DataSet.{DataSet};
 ghost use Rattle.vol_model.specs.declared.contents.Entry.{Entry};
@@ -71,8 +71,7 @@ fn read_entry<M: Machine>(machine: &mut M, v: u8, dsn: &Dsn, k: u32) -> Result<O
 
 // How many entries a directory has. It has fewer than 2^24 blocks, so fewer than 2^32 entries.
 fn count_entries<M: Machine>(machine: &mut M, v: u8, dsn: &Dsn) -> Result<u32, Stop>
-    requires sound { IsTrue (M.status machine.old).is_sound }
-    requires closed { IsFalse (M.status machine.old).is_open }
+    requires { IsReady M.Machine machine.old }
     ensures value { IsTrue M.tells → (es : List Entry) → HasEntries (M.meaning machine.old).state v dsn.now.bytes es → IfOk result (λ count. count ≡ length es) }
     ensures same { IsTrue M.tells → Same (M.meaning machine.old) (M.meaning machine.new) }
     ensures count { (M.status machine.new).done ≡ (M.status machine.old).done }
@@ -105,8 +104,7 @@ fn say_entries<M: Machine>(
     dsn: &Dsn,
     count: u32,
 ) -> Result<(), Stop>
-    requires sound { IsTrue (M.status machine.old).is_sound }
-    requires closed { IsFalse (M.status machine.old).is_open }
+    requires { IsReady M.Machine machine.old }
     ensures says { IsTrue M.tells → (es : List Entry) → HasEntries (M.meaning machine.old).state v dsn.now.bytes es → count ≡ length es → Runs M.tells_prints (map Say (map entry_line es)) (M.meaning machine.old) (M.meaning machine.new) result }
     ensures count { (M.status machine.new).done ≡ (M.status machine.old).done }
     ensures promise { IsTrue M.tells → Keeps (M.meaning machine.old).clock (M.promise machine.old) (M.promise machine.new) }
@@ -144,8 +142,7 @@ fn say_lines<M: Machine>(
     dsn: &Dsn,
     blocks: u32,
 ) -> Result<(), Stop>
-    requires sound { IsTrue (M.status machine.old).is_sound }
-    requires closed { IsFalse (M.status machine.old).is_open }
+    requires { IsReady M.Machine machine.old }
     ensures says { IsTrue M.tells → (d : Directory) → directory_on (M.meaning machine.old).state v dsn.now.bytes ≡ Ok d → blocks ≡ d.blocks → Runs M.tells_prints (map Say (directory_lines dsn.now.bytes d)) (M.meaning machine.old) (M.meaning machine.new) result }
     ensures count { (M.status machine.new).done ≡ (M.status machine.old).done }
     ensures promise { IsTrue M.tells → Keeps (M.meaning machine.old).clock (M.promise machine.old) (M.promise machine.new) }
@@ -163,8 +160,7 @@ fn say_directory<M: Machine>(
     v: u8,
     dsn: &Dsn,
 ) -> Result<Result<(), Refusal>, Stop>
-    requires sound { IsTrue (M.status machine.old).is_sound }
-    requires closed { IsFalse (M.status machine.old).is_open }
+    requires { IsReady M.Machine machine.old }
     ensures says { IsTrue M.tells → Runs M.tells_prints (map Say (lines_of dsn.now.bytes (directory_on (M.meaning machine.old).state v dsn.now.bytes))) (M.meaning machine.old) (M.meaning machine.new) result }
     ensures answer { IsTrue M.tells → IfOk result (λ answer. answer ≡ answer_of (directory_on (M.meaning machine.old).state v dsn.now.bytes)) }
     ensures count { (M.status machine.new).done ≡ (M.status machine.old).done }
@@ -191,8 +187,7 @@ pub fn say_directories<M: Machine>(
     v: u8,
     request: &ListPds,
 ) -> Result<PdsAnswer, Stop>
-    requires sound { IsTrue (M.status machine.old).is_sound }
-    requires closed { IsFalse (M.status machine.old).is_open }
+    requires { IsReady M.Machine machine.old }
     ensures says { IsTrue M.tells → (volume : Volume) → slice_get (M.meaning machine.old).state.volumes v ≡ Some volume → Runs M.tells_prints (map Say (pds_listing volume request.now.first request.now.others).lines) (M.meaning machine.old) (M.meaning machine.new) result }
     ensures answer { IsTrue M.tells → (volume : Volume) → slice_get (M.meaning machine.old).state.volumes v ≡ Some volume → IfOk result (λ answer. answer ≡ (pds_listing volume request.now.first request.now.others).answer) }
     ensures later { IsTrue M.tells → (M.meaning machine.old).clock ≤ (M.meaning machine.new).clock }

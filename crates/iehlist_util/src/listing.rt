@@ -1,5 +1,5 @@
 //! What LISTVTOC prints of a machine's shelf.
-ghost use Rattle.std.specs.Prelude.{◌≡◌, ◌≤◌, [], ◌∷◌, false, length, map, slice_get, is_some, option_map, Some, IsTrue, IsFalse, IfOk};
+ghost use Rattle.std.specs.Prelude.{◌≡◌, ◌≤◌, [], ◌∷◌, false, length, map, slice_get, is_some, option_map, Some, IsTrue, IfOk};
 ghost use Rattle.std.specs.List.{flat_map};
 ghost use Rattle.stop_model.specs.Moments.{Same};
 ghost use Rattle.vol_model.specs.declared.contents.DataSet.{DataSet};
@@ -68,8 +68,7 @@ fn say_extents<M: Machine>(
     dsn: &Dsn,
     count: u8,
 ) -> Result<(), Stop>
-    requires sound { IsTrue (M.status machine.old).is_sound }
-    requires closed { IsFalse (M.status machine.old).is_open }
+    requires { IsReady M.Machine machine.old }
     ensures says { IsTrue M.tells → (x : DataSet) → set_on (M.meaning machine.old).state v dsn.now.bytes ≡ Some x → count ≡ length x.extents → Runs M.tells_prints (map Say (extent_lines 1 x.extents)) (M.meaning machine.old) (M.meaning machine.new) result }
     ensures count { (M.status machine.new).done ≡ (M.status machine.old).done }
     ensures promise { IsTrue M.tells → Keeps (M.meaning machine.old).clock (M.promise machine.old) (M.promise machine.new) }
@@ -99,7 +98,7 @@ fn say_set_line<M: Machine>(
 }
 
 // Prints the lines of a data set, of which this is known.
-fn say_found<M: Machine>(
+fn list_known_set<M: Machine>(
     alloc: Global,
     machine: &mut M,
     v: u8,
@@ -107,8 +106,7 @@ fn say_found<M: Machine>(
     format: bool,
     info: &SetInfo,
 ) -> Result<(), Stop>
-    requires sound { IsTrue (M.status machine.old).is_sound }
-    requires closed { IsFalse (M.status machine.old).is_open }
+    requires { IsReady M.Machine machine.old }
     ensures says { IsTrue M.tells → (x : DataSet) → set_on (M.meaning machine.old).state v dsn.now.bytes ≡ Some x → info.now ≡ set_info x → Runs M.tells_prints (map Say (set_lines format x)) (M.meaning machine.old) (M.meaning machine.new) result }
     ensures count { (M.status machine.new).done ≡ (M.status machine.old).done }
     ensures promise { IsTrue M.tells → Keeps (M.meaning machine.old).clock (M.promise machine.old) (M.promise machine.new) }
@@ -123,7 +121,7 @@ fn say_found<M: Machine>(
 }
 
 // Prints the lines of a data set, if the volume has it, and tells whether it has.
-fn say_set<M: Machine>(
+fn list_set_by_name<M: Machine>(
     alloc: Global,
     machine: &mut M,
     v: u8,
@@ -139,7 +137,7 @@ fn say_set<M: Machine>(
 {
     match read_info(machine, v, dsn)? {
         Some(info) => {
-            say_found(alloc, machine, v, dsn, format, &info)?;
+            list_known_set(alloc, machine, v, dsn, format, &info)?;
             Ok(true)
         }
         None => Ok(false),
@@ -147,7 +145,7 @@ fn say_set<M: Machine>(
 }
 
 // Prints the lines of a data set, if the volume has it.
-fn say_known<M: Machine>(
+fn list_set<M: Machine>(
     alloc: Global,
     machine: &mut M,
     v: u8,
@@ -157,14 +155,13 @@ fn say_known<M: Machine>(
     requires { IsReady M.Machine machine.old }
     ensures { Says M.Machine (λ shelf. lines_of_set format (set_on shelf v dsn.now.bytes)) machine.old machine.new result }
 {
-    say_set(alloc, machine, v, dsn, format)?;
+    list_set_by_name(alloc, machine, v, dsn, format)?;
     Ok(())
 }
 
 // Prints the lines of all data sets of a volume.
 fn say_all<M: Machine>(alloc: Global, machine: &mut M, v: u8, format: bool) -> Result<(), Stop>
-    requires sound { IsTrue (M.status machine.old).is_sound }
-    requires closed { IsFalse (M.status machine.old).is_open }
+    requires { IsReady M.Machine machine.old }
     ensures says { IsTrue M.tells → (volume : Volume) → slice_get (M.meaning machine.old).state.volumes v ≡ Some volume → Runs M.tells_prints (map Say (flat_map (set_lines format) volume.sets)) (M.meaning machine.old) (M.meaning machine.new) result }
     ensures later { IsTrue M.tells → (M.meaning machine.old).clock ≤ (M.meaning machine.new).clock }
     ensures count { (M.status machine.new).done ≡ (M.status machine.old).done }
@@ -173,7 +170,7 @@ fn say_all<M: Machine>(alloc: Global, machine: &mut M, v: u8, format: bool) -> R
 {
     for k in 0..MOST_SETS {
         match read_name(machine, v, k)? {
-            Some(dsn) => say_known(alloc, machine, v, &dsn, format)?,
+            Some(dsn) => list_set(alloc, machine, v, &dsn, format)?,
             None => return Ok(()),
         }
     }
@@ -188,8 +185,7 @@ fn say_named<M: Machine>(
     format: bool,
     names: &[Dsn],
 ) -> Result<Outcome, Stop>
-    requires sound { IsTrue (M.status machine.old).is_sound }
-    requires closed { IsFalse (M.status machine.old).is_open }
+    requires { IsReady M.Machine machine.old }
     ensures says { IsTrue M.tells → (volume : Volume) → slice_get (M.meaning machine.old).state.volumes v ≡ Some volume → Runs M.tells_prints (map Say (listed_sets format volume names.now).lines) (M.meaning machine.old) (M.meaning machine.new) result }
     ensures outcome { IsTrue M.tells → (volume : Volume) → slice_get (M.meaning machine.old).state.volumes v ≡ Some volume → IfOk result (λ outcome. outcome ≡ (listed_sets format volume names.now).outcome) }
     ensures later { IsTrue M.tells → (M.meaning machine.old).clock ≤ (M.meaning machine.new).clock }
@@ -203,7 +199,7 @@ fn say_named<M: Machine>(
             Some(parts) => parts,
             None => return Ok(Outcome::Done),
         };
-        if !say_set(alloc, machine, v, name, format)? {
+        if !list_set_by_name(alloc, machine, v, name, format)? {
             return Ok(Outcome::Refused(Refusal::NoSet));
         }
         rest = others;
@@ -217,8 +213,7 @@ fn say_sets<M: Machine>(
     v: u8,
     request: &ListVtoc,
 ) -> Result<Outcome, Stop>
-    requires sound { IsTrue (M.status machine.old).is_sound }
-    requires closed { IsFalse (M.status machine.old).is_open }
+    requires { IsReady M.Machine machine.old }
     ensures says { IsTrue M.tells → (volume : Volume) → slice_get (M.meaning machine.old).state.volumes v ≡ Some volume → Runs M.tells_prints (map Say (listed_on request.now.format volume request.now.names).lines) (M.meaning machine.old) (M.meaning machine.new) result }
     ensures outcome { IsTrue M.tells → (volume : Volume) → slice_get (M.meaning machine.old).state.volumes v ≡ Some volume → IfOk result (λ outcome. outcome ≡ (listed_on request.now.format volume request.now.names).outcome) }
     ensures later { IsTrue M.tells → (M.meaning machine.old).clock ≤ (M.meaning machine.new).clock }
@@ -256,8 +251,7 @@ pub fn say_volume<M: Machine>(
     info: &VolumeInfo,
     request: &ListVtoc,
 ) -> Result<Outcome, Stop>
-    requires sound { IsTrue (M.status machine.old).is_sound }
-    requires closed { IsFalse (M.status machine.old).is_open }
+    requires { IsReady M.Machine machine.old }
     ensures says { IsTrue M.tells → (volume : Volume) → slice_get (M.meaning machine.old).state.volumes v ≡ Some volume → info.now ≡ volume_info volume → Runs M.tells_prints (map Say (volume_listing request.now volume).lines) (M.meaning machine.old) (M.meaning machine.new) result }
     ensures outcome { IsTrue M.tells → (volume : Volume) → slice_get (M.meaning machine.old).state.volumes v ≡ Some volume → IfOk result (λ outcome. outcome ≡ (volume_listing request.now volume).outcome) }
     ensures later { IsTrue M.tells → (M.meaning machine.old).clock ≤ (M.meaning machine.new).clock }

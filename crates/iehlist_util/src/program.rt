@@ -1,5 +1,5 @@
 //! IEHLIST in a step.
-ghost use Rattle.std.specs.Prelude.{◌≡◌, ◌≤◌, [], codes, false, length, map, slice_get, IsTrue, IsFalse, IfOk};
+ghost use Rattle.std.specs.Prelude.{◌≡◌, ◌≤◌, [], codes, false, length, map, slice_get, IsTrue, IfOk};
 ghost use Rattle.vol_model.specs.declared.contents.Volume.{Volume};
 ghost use Rattle.vol_model.specs.Calls.{Keeps};
 ghost use Rattle.vol_model.specs.Reading.{volume_info};
@@ -102,8 +102,7 @@ fn answer_vtoc<M: Machine>(
     card: u32,
     request: &ListVtoc,
 ) -> Result<u8, Stop>
-    requires sound { IsTrue (M.status machine.old).is_sound }
-    requires closed { IsFalse (M.status machine.old).is_open }
+    requires { IsReady M.Machine machine.old }
     ensures item { IsTrue M.tells → DoesItem M.tells_prints (vtoc_item card request.now (volume_for (M.meaning machine.old).state request.now.volume)) (M.meaning machine.old) (M.meaning machine.new) (M.status machine.old).done (M.status machine.new).done result }
     ensures small { IfOk result (λ code. code ≤ 16) }
     ensures promise { IsTrue M.tells → Keeps (M.meaning machine.old).clock (M.promise machine.old) (M.promise machine.new) }
@@ -137,8 +136,7 @@ fn list_volume<M: Machine>(
     info: &VolumeInfo,
     request: &ListVtoc,
 ) -> Result<u8, Stop>
-    requires sound { IsTrue (M.status machine.old).is_sound }
-    requires closed { IsFalse (M.status machine.old).is_open }
+    requires { IsReady M.Machine machine.old }
     ensures item { IsTrue M.tells → (volume : Volume) → slice_get (M.meaning machine.old).state.volumes v ≡ Some volume → info.now ≡ volume_info volume → DoesItem M.tells_prints (listing_item card (codes "LISTVTOC") (Object.Volume info.now.serial) (volume_listing request.now volume)) (M.meaning machine.old) (M.meaning machine.new) (M.status machine.old).done (M.status machine.new).done result }
     ensures small { IfOk result (λ code. code ≤ 16) }
     ensures promise { IsTrue M.tells → Keeps (M.meaning machine.old).clock (M.promise machine.old) (M.promise machine.new) }
@@ -156,8 +154,7 @@ fn answer_pds<M: Machine>(
     card: u32,
     request: &ListPds,
 ) -> Result<u8, Stop>
-    requires sound { IsTrue (M.status machine.old).is_sound }
-    requires closed { IsFalse (M.status machine.old).is_open }
+    requires { IsReady M.Machine machine.old }
     ensures item { IsTrue M.tells → DoesItem M.tells_prints (pds_item card request.now (volume_for (M.meaning machine.old).state request.now.volume)) (M.meaning machine.old) (M.meaning machine.new) (M.status machine.old).done (M.status machine.new).done result }
     ensures small { IfOk result (λ code. code ≤ 16) }
     ensures promise { IsTrue M.tells → Keeps (M.meaning machine.old).clock (M.promise machine.old) (M.promise machine.new) }
@@ -180,8 +177,7 @@ fn list_directories<M: Machine>(
     v: u8,
     request: &ListPds,
 ) -> Result<u8, Stop>
-    requires sound { IsTrue (M.status machine.old).is_sound }
-    requires closed { IsFalse (M.status machine.old).is_open }
+    requires { IsReady M.Machine machine.old }
     ensures item { IsTrue M.tells → (volume : Volume) → slice_get (M.meaning machine.old).state.volumes v ≡ Some volume → DoesItem M.tells_prints (directories_item card (pds_listing volume request.now.first request.now.others)) (M.meaning machine.old) (M.meaning machine.new) (M.status machine.old).done (M.status machine.new).done result }
     ensures small { IfOk result (λ code. code ≤ 16) }
     ensures promise { IsTrue M.tells → Keeps (M.meaning machine.old).clock (M.promise machine.old) (M.promise machine.new) }

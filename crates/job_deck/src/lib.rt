@@ -17,6 +17,3 @@ pub use faults::{JclErr, JclKind};
 pub use jcl_forms::{Dcb, DdAfter, DdPart, DdStatus, Space, SpaceAsk};
 pub use job::{DataCards, Dd, DdSet, DdWhat, Dds, Job, Step, Steps};
 pub use reading::jobs;
-
-#[cfg(test)]
-mod tests;

@@ -5,13 +5,14 @@ use Rattle.std.specs.Prelude.{Some}
 use Rattle.std.specs.Map.{lookup}
 use Rattle.iebcopy_util.proofs.AcceptedLemmas.{iebcopy_accepted}
 use Rattle.iebgener_util.proofs.AcceptedLemmas.{iebgener_accepted}
+use Rattle.iebupdte_util.proofs.AcceptedLemmas.{iebupdte_accepted}
 use Rattle.iehlist_util.proofs.AcceptedLemmas.{iehlist_accepted}
 use Rattle.iehprogm_util.proofs.AcceptedLemmas.{iehprogm_accepted}
 use Rattle.util_steps.proofs.AcceptedLemmas.{ItemsAccepted}
 use Rattle.util_syntax.specs.declared.step.StepIn.{StepIn}
 use Rattle.vol_model.specs.declared.contents.Shelf.{Shelf}
 use Rattle.job_runner.specs.declared.programs.Program.{Program}
-use Rattle.job_runner.specs.declared.programs.Program.TheVariants.{Iefbr14, Iehprogm, Iehlist, Iebgener, Iebcopy}
+use Rattle.job_runner.specs.declared.programs.Program.TheVariants.{Iefbr14, Iehprogm, Iehlist, Iebgener, Iebcopy, Iebupdte}
 use Rattle.job_runner.specs.Programs.{program_items}
 
 -- the row at an index is the one looked for, or not
@@ -25,3 +26,4 @@ program_accepted Iehprogm step s = iehprogm_accepted step s
 program_accepted Iehlist step s = iehlist_accepted step s
 program_accepted Iebgener step s = iebgener_accepted step s
 program_accepted Iebcopy step s = iebcopy_accepted step s
+program_accepted Iebupdte step s = iebupdte_accepted step s

@@ -21,16 +21,19 @@ pub enum Program {
     Iebgener,
     /// IEBCOPY, which copies members.
     Iebcopy,
+    /// IEBUPDTE, which writes and changes source members by cards.
+    Iebupdte,
 }
 
 // The programs by their names in EBCDIC.
 #[rattlefmt::skip]
-const PROGRAMS: [([u8; 8], Program); 5] = [
+const PROGRAMS: [([u8; 8], Program); 6] = [
     ([0xC9, 0xC5, 0xC6, 0xC2, 0xD9, 0xF1, 0xF4, 0x40], Program::Iefbr14),
     ([0xC9, 0xC5, 0xC8, 0xD7, 0xD9, 0xD6, 0xC7, 0xD4], Program::Iehprogm),
     ([0xC9, 0xC5, 0xC8, 0xD3, 0xC9, 0xE2, 0xE3, 0x40], Program::Iehlist),
     ([0xC9, 0xC5, 0xC2, 0xC7, 0xC5, 0xD5, 0xC5, 0xD9], Program::Iebgener),
     ([0xC9, 0xC5, 0xC2, 0xC3, 0xD6, 0xD7, 0xE8, 0x40], Program::Iebcopy),
+    ([0xC9, 0xC5, 0xC2, 0xE4, 0xD7, 0xC4, 0xE3, 0xC5], Program::Iebupdte),
 ];
 
 /// The program of a name, if there is one.
@@ -61,5 +64,6 @@ pub fn run_program<M: Machine>(
         Program::Iehlist => iehlist_util::run(alloc, machine, step),
         Program::Iebgener => iebgener_util::run(alloc, machine, step),
         Program::Iebcopy => iebcopy_util::run(alloc, machine, step),
+        Program::Iebupdte => iebupdte_util::run(alloc, machine, step),
     }
 }

@@ -1,5 +1,5 @@
 -- What the calls of a machine in memory leave.
-use Rattle.std.proofs.Common.{◌≡◌, ℕ, Bool, true, refl, sym, ap, ◌∙◌, arith}
+use Rattle.std.proofs.Common.{◌≡◌, Bool, true, refl, arith}
 use Rattle.std.specs.Prelude.{IsErrOf, Result, Ok, Err, is_some}
 use Rattle.map_machine.specs.Held.{Held, meaning_in, status_in}
 use Rattle.map_machine.proofs.PastLemmas.{same_held}

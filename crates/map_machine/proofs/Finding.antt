@@ -1,5 +1,5 @@
 -- What a read of a lawful shelf finds.
-use Rattle.std.proofs.Common.{◌≡◌, ◌<◌, ◌≤◌, ◌^◌, ℕ, zero, suc, Bool, true, false, not, List, [], ◌∷◌, length, filter, refl, sym, ◌∙◌, ap, subst, cond}
+use Rattle.std.proofs.Common.{◌≡◌, ℕ, zero, suc, Bool, true, false, not, List, [], ◌∷◌, filter, refl, sym, ◌∙◌, ap, subst, cond}
 use Rattle.std.specs.Prelude.{Option, Some, None, Result, Ok, Err, IfOk, IfSome, IsTrue, find, slice_get, option_and_then}
 use Rattle.std.specs.List.{AllByRecursion}
 use Rattle.ckd_image.specs.declared.header.Geometry.{Geometry}
@@ -16,9 +16,9 @@ use Rattle.vol_model.specs.declared.contents.Shelf.{Shelf}
 use Rattle.vol_model.specs.declared.contents.Volume.{Volume}
 use Rattle.vol_model.specs.Lawful.{IsLawful, IsLawfulBlock, IsLawfulBody, IsLawfulEntry, IsLawfulSet, IsLawfulVolume}
 use Rattle.vol_model.specs.Places.{is_before}
-use Rattle.vol_model.specs.Reading.{Picks, ReadsInto, blocks_from, entries_in, first, readable}
+use Rattle.vol_model.specs.Reading.{Picks, ReadsInto, entries_in, first, readable}
 use Rattle.vol_model.specs.Shelf.{blocks_of, has_name, set_of}
-use Rattle.vol_model.specs.Writing.{body_on, set_on}
+use Rattle.vol_model.specs.Writing.{set_on}
 use Rattle.map_machine.specs.Reads.{Copied, body_in}
 
 module _ {X : Type 0} (p : X → Bool) where

@@ -1,7 +1,6 @@
 -- What an extension leaves of an open writer, and the last operation of a commit.
 use Rattle.std.proofs.Common.{◌≡◌, ⊎_elim, ℕ, Bool, true, false, List, [], ◌∷◌, map, refl, sym, ◌∙◌, ap, subst}
 use Rattle.std.specs.Prelude.{Option, Some, None, Result, Ok, Err, is_some, option_and_then, option_map, slice_get, if◌then◌else◌}
-use Rattle.ebcdic_names.specs.declared.names.Dsn.{Dsn}
 use Rattle.vol_model.specs.declared.answers.Mode.{Mode}
 use Rattle.vol_model.specs.declared.answers.Mode.TheVariants as modes
 use Rattle.vol_model.specs.declared.contents.Block.{Block}
@@ -11,7 +10,6 @@ use Rattle.vol_model.specs.declared.contents.Run.{Run}
 use Rattle.vol_model.specs.declared.contents.Shelf.{Shelf}
 use Rattle.vol_model.specs.declared.contents.Volume.{Volume}
 use Rattle.vol_model.specs.declared.refusals.Refusal.{Refusal}
-use Rattle.vol_model.specs.declared.requests.Op.{Op}
 use Rattle.vol_model.specs.Events.{after_operations, behind}
 use Rattle.vol_model.specs.Lawful.{IsLawful}
 use Rattle.vol_model.specs.Places.{content}
@@ -22,7 +20,7 @@ use Rattle.shelf_laws.specs.Ready.{AreOnTracks, IsReady}
 use Rattle.shelf_laws.proofs.MakingRoom.{IsExtended, extended_all, on_more}
 use Rattle.map_machine.specs.declared.past.Target as past
 use Rattle.map_machine.specs.declared.past.Writer.{Writer}
-use Rattle.map_machine.specs.Open.{CanCommit, OpenCanCommit, as_open}
+use Rattle.map_machine.specs.Open.{OpenCanCommit, as_open}
 use Rattle.map_machine.specs.Rooms.{target_in}
 use Rattle.map_machine.proofs.StepLemmas.{steps_found}
 

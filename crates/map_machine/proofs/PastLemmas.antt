@@ -6,7 +6,7 @@ use Rattle.std.proofs.lemmas.Bool.{cases_lt}
 use Rattle.std.proofs.lemmas.List.{append-nil, drop-append-le, length-append}
 use Rattle.std.specs.Prelude.{IsTrue, Ok}
 use Rattle.stop_model.specs.Files.{IsPrefixOf}
-use Rattle.stop_model.specs.Moments.{Elapses, IsDurable, LeftNow, Meaning, Same}
+use Rattle.stop_model.specs.Moments.{Elapses, Same}
 use Rattle.stop_model.proofs.MomentLemmas.{same_none}
 use Rattle.map_machine.specs.declared.past.Done.{Done}
 use Rattle.map_machine.specs.declared.past.Done.TheVariants.{Printed}

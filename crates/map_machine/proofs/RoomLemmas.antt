@@ -1,10 +1,10 @@
 -- Room made for blocks, one after another, and what is done after it.
-use Rattle.std.proofs.Common.{◌≡◌, ◌⊎◌, inl, inr, ◌≤◌, ◌+◌, ◌^◌, ◌-◌, ℕ, zero, suc, Bool, true, false, List, [], ◌∷◌, ◌++◌, length, map, take, arith, refl, sym, ◌∙◌, ap, subst, length-append}
+use Rattle.std.proofs.Common.{◌≡◌, ◌⊎◌, inl, inr, ◌≤◌, ℕ, suc, Bool, true, false, List, [], ◌∷◌, ◌++◌, length, map, take, arith, refl, sym, ◌∙◌, ap, subst, length-append}
 use Rattle.std.proofs.Math.Logic.{⊎_elim}
 use Rattle.std.proofs.lemmas.List.{append-nil, take_all}
 use Rattle.std.specs.Prelude.{IfErr, IfOk, Option, Some, Result, Ok, Err, if◌then◌else◌}
 use Rattle.std.specs.declared.alloc.AllocError.{AllocError}
-use Rattle.stop_model.specs.Moments.{Elapses, Same}
+use Rattle.stop_model.specs.Moments.{Same}
 use Rattle.stop_model.proofs.MomentLemmas.{elapses_none, elapses_same, elapses_then, elapses_weaker}
 use Rattle.map_machine.specs.declared.past.Writer.{Writer}
 use Rattle.map_machine.specs.declared.rooms.Commit.{Commit}
@@ -30,7 +30,7 @@ use Rattle.vol_model.specs.Events.{Do, StopsIn, after_operations, behind}
 use Rattle.vol_model.specs.Places.{Content}
 use Rattle.vol_model.specs.Shelf.{step}
 use Rattle.vol_model.specs.Lawful.{IsLawful}
-use Rattle.vol_model.specs.Writing.{Making, OpenWriter, Target, Room, Owned, Wanted, Never, blocks_for, did_commit, did_put, extension, if_made, making_by, making_close, making_room, room_for, room_made, with_puts}
+use Rattle.vol_model.specs.Writing.{Making, OpenWriter, Target, Owned, Wanted, Never, blocks_for, did_commit, did_put, extension, if_made, making_by, making_close, making_room, room_for, room_made, with_puts}
 use Rattle.vol_model.proofs.Stops.{stops_start}
 use Rattle.vol_model.proofs.Working.{after_append}
 

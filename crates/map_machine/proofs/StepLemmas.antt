@@ -1,10 +1,9 @@
 -- What the step of one volume makes of a machine in memory.
 use Rattle.std.proofs.Common.{◌≡◌, ◌⊎◌, ◌<◌, ◌≤◌, ◌+◌, ◌-◌, ◌^◌, ℕ, zero, suc, true, List, [], ◌∷◌, ◌++◌, length, arith, refl, sym, subst, ap, ◌∙◌}
-use Rattle.std.proofs.Math.Logic.{⊎_elim, inl, inr}
+use Rattle.std.proofs.Math.Logic.{⊎_elim, inr}
 use Rattle.std.proofs.lemmas.List.{append-nil}
 use Rattle.std.proofs.lemmas.Option.{slice_get_within}
 use Rattle.std.specs.Prelude.{Err, IsTrue, None, Ok, Option, Result, Some, slice_get, slice_set}
-use Rattle.stop_model.specs.Moments.{Elapses, Same}
 use Rattle.stop_model.specs.Files.{IsPrefixOf}
 use Rattle.map_machine.specs.declared.past.Done.TheVariants.{Changed, Printed}
 use Rattle.map_machine.specs.Held.{Held, meaning_in}

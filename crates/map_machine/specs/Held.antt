@@ -1,5 +1,5 @@
 -- What a machine in memory holds.
-use Rattle.std.specs.Prelude.{ℕ, Bool, true, List, [], Option, Some, None, Result, is_some, replicate, if◌then◌else◌}
+use Rattle.std.specs.Prelude.{ℕ, true, List, [], Option, Some, None, Result, is_some, replicate, if◌then◌else◌}
 use Rattle.stop_model.specs.Moments.{Meaning}
 use Rattle.map_machine.specs.Past.{Moment, meaning_after}
 use Rattle.map_machine.specs.Rooms.{target_in}

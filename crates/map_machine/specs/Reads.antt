@@ -1,5 +1,5 @@
 -- What reads of a machine in memory give.
-use Rattle.std.specs.Prelude.{◌≡◌, Option, None, Result, Ok, Err, option_and_then}
+use Rattle.std.specs.Prelude.{◌≡◌, Option, Result, Ok, Err, option_and_then}
 use Rattle.std.specs.Option.{option_map_or}
 use Rattle.vol_model.specs.declared.answers.ReadErr.{ReadErr}
 use Rattle.vol_model.specs.declared.answers.ReadErr.TheVariants.{Unreadable, Memory, Device}

@@ -1,5 +1,4 @@
 -- How a machine in memory makes room for blocks.
-use Rattle.std.specs.Prelude.{◌≡◌, Bool, Result, Ok, IsErrOf, Option, None, Some, [], replicate}
 use Rattle.map_machine.specs.declared.past.Target as declared
 use Rattle.map_machine.specs.declared.rooms.Room as rooms
 use Rattle.map_machine.specs.declared.rooms.Room.TheVariants as variants

@@ -1,5 +1,5 @@
 -- A step of one volume of a machine in memory.
-use Rattle.std.specs.Prelude.{◌≡◌, ℕ, List, [], ◌∷◌, ◌++◌, Result, Ok, Err, Some, slice_get, slice_set}
+use Rattle.std.specs.Prelude.{◌≡◌, ℕ, [], ◌∷◌, ◌++◌, Result, Ok, Err, Some, slice_get, slice_set}
 use Rattle.map_machine.specs.declared.past.Done.TheVariants.{Changed}
 use Rattle.map_machine.specs.Held.{Held}
 use Rattle.vol_model.specs.declared.answers.MachErr.{MachErr}

@@ -2,35 +2,11 @@
 ghost use Rattle.std.specs.Prelude.{◌≡◌, ◌<◌, Some, length, slice_get};
 ghost use Rattle.map_machine.specs.Steps.{Steps, with_changed};
 ghost use Rattle.vol_model.specs.Calls.{counted};
-ghost use Rattle.vol_model.specs.Shelf.{volume_number};
 
 use plain_steps::step_on;
 use std::alloc::Global;
 use std::mem;
-use vol_model::{MachErr, Op, Refusal, Shelf, Volume, Volumes};
-
-// The number of the volume on which an operation is.
-pub(crate) fn volume_number(op: &Op) -> u8
-    ensures { result ≡ volume_number op.now }
-{
-    match op {
-        Op::Allocate { v, .. }
-        | Op::Extend { v, .. }
-        | Op::Scratch { v, .. }
-        | Op::Rename { v, .. }
-        | Op::Empty { v, .. }
-        | Op::Fill { v, .. }
-        | Op::Area { v, .. }
-        | Op::Enter { v, .. }
-        | Op::Drop { v, .. }
-        | Op::BuildIndex { v, .. }
-        | Op::BuildGroup { v, .. }
-        | Op::DropNode { v, .. }
-        | Op::Catalog { v, .. }
-        | Op::Uncatalog { v, .. }
-        | Op::Alias { v, .. } => *v,
-    }
-}
+use vol_model::{MachErr, Op, Refusal, Shelf, Volume, Volumes, volume_number};
 
 // The volume after an operation on a shelf, or why it isn't done.
 pub(crate) fn step(alloc: Global, shelf: &Shelf, op: &Op) -> Result<Volume, MachErr>

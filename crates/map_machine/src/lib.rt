@@ -9,6 +9,3 @@ mod rooms;
 mod space;
 
 pub use machine::MapMachine;
-
-#[cfg(test)]
-mod tests;

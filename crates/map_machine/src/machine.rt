@@ -4,7 +4,7 @@ ghost use Rattle.vol_model.specs.Lawful.{IsLawful};
 ghost use Rattle.vol_model.proofs.LawfulFacts.{IsLawful-prop};
 ghost use Rattle.map_machine.specs.Open.{OpenCanCommit, OpenCanCommit-prop};
 
-use crate::changes::{count_one, put_volume, step, volume_number};
+use crate::changes::{count_one, put_volume, step};
 use crate::past::{Done, Target, Writer};
 use crate::reads;
 use crate::rooms::{Commit, Put, Room, begin_refusal, commit_of, put_of, room_and_next};
@@ -16,7 +16,7 @@ use std::alloc::{AllocError, Global};
 use std::mem;
 use vol_model::{
     Block, BlockBuf, CatNode, CatPath, CheckErr, Entry, MachErr, Machine, Mode, Op, Place, ReadErr,
-    Refusal, Run, SetInfo, Shelf, Volume, VolumeInfo, WorkErr,
+    Refusal, Run, SetInfo, Shelf, Volume, VolumeInfo, WorkErr, volume_number,
 };
 
 /// A machine over a shelf in memory.

@@ -2,7 +2,7 @@
 ghost use Rattle.std.specs.Prelude.{◌≡◌, ◌+◌, ◌≤◌, ◌<◌, true, is_some, slice_get, IfOk, IsErrOf, IsTrue, Some};
 ghost use Rattle.dscb_codec.specs.declared.F1.{F1};
 ghost use Rattle.hall_core.specs.Facts.{DeviceCall, ReportedCall};
-ghost use Rattle.hall_core.specs.Images.{image_in};
+ghost use Rattle.hall_core.specs.Told.{ImageHas};
 ghost use Rattle.stop_model.specs.Moments.{Same};
 ghost use Rattle.vol_model.specs.Places.{is_end_of_file};
 ghost use Rattle.vol_model.specs.Shelf.{blocks_of};
@@ -47,15 +47,14 @@ pub fn end_of<H: Hall>(
 ) -> Result<Place, WorkErr>
     requires unit { IsOfUnit (H.facts hall.old).units vol.old }
     requires set { is_some (name_at vol.old.slots.items slot) ≡ true }
-    requires part { let image = image_in (H.meaning hall.old) (H.facts hall.old) vol.old.unit in
-        IsTrue H.tells → (f : F1) → slice_get vol.old.slots.items slot ≡ Some (Dscb.F1 f)
-        → IsReadablePart image vol.old f }
-    ensures end { let image = image_in (H.meaning hall.old) (H.facts hall.old) vol.old.unit in
-        IsTrue H.tells → (f : F1) → slice_get vol.old.slots.items slot ≡ Some (Dscb.F1 f)
-        → IfOk result (λ p. p ≡ member_end (blocks_of (part_in image vol.old f)) from) }
+    requires part { ImageHas H.Hall hall.old vol.old.unit (λ image.
+        (f : F1) → slice_get vol.old.slots.items slot ≡ Some (Dscb.F1 f)
+        → IsReadablePart image vol.old f) }
+    ensures end { ImageHas H.Hall hall.old vol.old.unit (λ image.
+        (f : F1) → slice_get vol.old.slots.items slot ≡ Some (Dscb.F1 f)
+        → IfOk result (λ p. p ≡ member_end (blocks_of (part_in image vol.old f)) from)) }
     ensures same { IsTrue H.tells → Same (H.meaning hall.old) (H.meaning hall.new) }
-    ensures mounted { let image = image_in (H.meaning hall.old) (H.facts hall.old) vol.old.unit in
-        IsTrue H.tells → IsMounted image vol.new }
+    ensures mounted { ImageHas H.Hall hall.old vol.old.unit (λ image. IsMounted image vol.new) }
     ensures others { vol.new ≡ record vol.old { buf = vol.new.buf } }
     ensures unit { IsOfUnit (H.facts hall.new).units vol.new }
     ensures faults { ReportedCall (IsErrOf result WorkErr.Device) (H.facts hall.old)
@@ -89,17 +88,14 @@ fn walk_member<H: Hall>(
 ) -> Result<Place, Device>
     requires unit { IsOfUnit (H.facts hall.old).units vol.now }
     requires buffer { buf.old.records.geometry ≡ vol.now.geometry }
-    requires set { let image = image_in (H.meaning hall.old) (H.facts hall.old) vol.now.unit in
-        IsTrue H.tells → IsSetIn image vol.now set.now }
-    requires end { let image = image_in (H.meaning hall.old) (H.facts hall.old) vol.now.unit in
-        IsTrue H.tells → end ≡ end_in image vol.now set.now }
-    requires readable { let image = image_in (H.meaning hall.old) (H.facts hall.old) vol.now.unit in
-        IsTrue H.tells → IsReadableBody (part_in image vol.now set.now) }
-    requires held { let image = image_in (H.meaning hall.old) (H.facts hall.old) vol.now.unit in
-        IsTrue H.tells → HoldsTrack image buf.old }
-    ensures end { let image = image_in (H.meaning hall.old) (H.facts hall.old) vol.now.unit in
-        IsTrue H.tells → IfOk result
-        (λ p. p ≡ member_end (blocks_of (part_in image vol.now set.now)) from) }
+    requires set { ImageHas H.Hall hall.old vol.now.unit (λ image. IsSetIn image vol.now set.now) }
+    requires end { ImageHas H.Hall hall.old vol.now.unit (λ image.
+        end ≡ end_in image vol.now set.now) }
+    requires readable { ImageHas H.Hall hall.old vol.now.unit (λ image.
+        IsReadableBody (part_in image vol.now set.now)) }
+    requires held { ImageHas H.Hall hall.old vol.now.unit (λ image. HoldsTrack image buf.old) }
+    ensures end { ImageHas H.Hall hall.old vol.now.unit (λ image.
+        IfOk result (λ p. p ≡ member_end (blocks_of (part_in image vol.now set.now)) from)) }
     ensures same { IsTrue H.tells → Same (H.meaning hall.old) (H.meaning hall.new) }
     ensures faults { DeviceCall (H.facts hall.old) (H.facts hall.new) result }
 {
@@ -127,23 +123,19 @@ fn pass<H: Hall>(
 ) -> Result<bool, Device>
     requires unit { IsOfUnit (H.facts hall.old).units vol.now }
     requires buffer { buf.old.records.geometry ≡ vol.now.geometry }
-    requires set { let image = image_in (H.meaning hall.old) (H.facts hall.old) vol.now.unit in
-        IsTrue H.tells → IsSetIn image vol.now set.now }
-    requires end { let image = image_in (H.meaning hall.old) (H.facts hall.old) vol.now.unit in
-        IsTrue H.tells → end ≡ end_in image vol.now set.now }
-    requires readable { let image = image_in (H.meaning hall.old) (H.facts hall.old) vol.now.unit in
-        IsTrue H.tells → IsReadableBody (part_in image vol.now set.now) }
-    requires held { let image = image_in (H.meaning hall.old) (H.facts hall.old) vol.now.unit in
-        IsTrue H.tells → HoldsTrack image buf.old }
+    requires set { ImageHas H.Hall hall.old vol.now.unit (λ image. IsSetIn image vol.now set.now) }
+    requires end { ImageHas H.Hall hall.old vol.now.unit (λ image.
+        end ≡ end_in image vol.now set.now) }
+    requires readable { ImageHas H.Hall hall.old vol.now.unit (λ image.
+        IsReadableBody (part_in image vol.now set.now)) }
+    requires held { ImageHas H.Hall hall.old vol.now.unit (λ image. HoldsTrack image buf.old) }
     requires place { IsPlace walk.old.next }
-    ensures passes { let image = image_in (H.meaning hall.old) (H.facts hall.old) vol.now.unit in
-        IsTrue H.tells
-        → Passes result (blocks_of (part_in image vol.now set.now)) walk.old walk.new }
+    ensures passes { ImageHas H.Hall hall.old vol.now.unit (λ image.
+        Passes result (blocks_of (part_in image vol.now set.now)) walk.old walk.new) }
     ensures onward { IfOk result (λ more. IsTrue more
         → place_number walk.old.next < place_number walk.new.next) }
     ensures place { IsPlace walk.new.next }
-    ensures held { let image = image_in (H.meaning hall.old) (H.facts hall.old) vol.now.unit in
-        IsTrue H.tells → HoldsTrack image buf.new }
+    ensures held { ImageHas H.Hall hall.old vol.now.unit (λ image. HoldsTrack image buf.new) }
     ensures buffer { buf.new.records.geometry ≡ vol.now.geometry }
     ensures same { IsTrue H.tells → Same (H.meaning hall.old) (H.meaning hall.new) }
     ensures faults { DeviceCall (H.facts hall.old) (H.facts hall.new) result }

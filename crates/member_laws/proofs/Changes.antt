@@ -1,5 +1,5 @@
 -- What an operation that is done has found, and makes of its volume.
-use Rattle.std.proofs.Common.{◌≡◌, ◌+◌, ◌==◌, ◌&&◌, ◌||◌, not, nat_lt, ℕ, Bool, true, false, List, length, filter, map, refl, sym, ap}
+use Rattle.std.proofs.Common.{◌≡◌, ◌+◌, ◌&&◌, ◌||◌, not, nat_lt, ℕ, Bool, true, false, List, length, filter, map, refl, sym, ap}
 use Rattle.std.specs.Prelude.{Option, Some, None, Result, Ok, Err, if◌then◌else◌}
 use Rattle.std.specs.Str.{bytes_eq}
 use Rattle.ebcdic_names.specs.declared.names.Dsn.{Dsn}
@@ -17,14 +17,14 @@ use Rattle.vol_model.specs.declared.contents.Place.{Place}
 use Rattle.vol_model.specs.declared.contents.Run.{Run}
 use Rattle.vol_model.specs.declared.contents.Volume.{Volume}
 use Rattle.vol_model.specs.declared.refusals.Refusal.{Refusal}
-use Rattle.vol_model.specs.declared.refusals.Refusal.TheVariants.{CatalogFull, DirFull, ExtentsFull, MemberExists, NoMember, NoRoom, NoSet, SetExists, VtocFull, WrongKind}
+use Rattle.vol_model.specs.declared.refusals.Refusal.TheVariants.{CatalogFull, DirFull, ExtentsFull, MemberExists, NoMember, NoSet, SetExists, VtocFull, WrongKind}
 use Rattle.vol_model.specs.declared.requests.Request.{Request}
 use Rattle.vol_model.specs.Order.{in_order}
-use Rattle.vol_model.specs.Places.{Content, tracks_in}
-use Rattle.vol_model.specs.Shelf.{after_nodes, allocate_on, drop_on, empty_on, empty_set, emptied, enter_on, extend_on, extend_set, extended_by, fits_mode, has_member, has_name, has_set, if_readable, if_room, if_slots, in_catalog, in_directory, is_catalog, is_partitioned, lacks_room, may_empty, on_catalog, on_choice, on_directory, refuse, rename_on, rename_refusal, renamed, scratch_on, secondary_asked, secondary_choice, set_of, unless_refused, unreadable, with_entries, with_entry, with_extents, with_name, with_new, with_set, with_written, write_on, write_refusal, write_refusal_for}
+use Rattle.vol_model.specs.Places.{Content}
+use Rattle.vol_model.specs.Shelf.{after_nodes, allocate_on, drop_on, empty_on, empty_set, emptied, enter_on, extend_on, extend_set, extended_by, fits_mode, has_member, has_name, has_set, if_readable, if_slots, in_catalog, in_directory, is_catalog, is_partitioned, may_empty, on_catalog, on_choice, on_directory, refuse, rename_on, rename_refusal, renamed, scratch_on, secondary_asked, secondary_choice, set_of, unless_refused, unreadable, with_entries, with_entry, with_extents, with_name, with_new, with_set, with_written, write_on, write_refusal, write_refusal_for}
 use Rattle.vol_model.specs.Slots.{catalog_needed, directory_needed, slots_needed}
-use Rattle.vol_model.specs.Space.{choice}
 use Rattle.vol_model.specs.Trees.{Node}
+use Rattle.shelf_laws.proofs.Allocating.{allocated_on}
 use Rattle.shelf_laws.proofs.Extending.{choice_ok, readable_ok}
 use Rattle.shelf_laws.proofs.Steps.{found_ok, ok_same, refuse_ok}
 
@@ -124,21 +124,7 @@ module _ (volume w : Volume) where
     -- ---- which sets there are
 
     pub allocate_changes : (attr : Attr) (q : Request) (dir : ℕ) → allocate_on dsn attr q dir volume ≡ Ok w → (runs : List Run) × (has_set volume dsn.bytes ≡ false) × (with_new dsn attr q dir volume runs ≡ w)
-    unfolding allocate_on
-    allocate_changes attr q dir done =
-        let name = dsn.bytes in
-        let wants = is_partitioned name attr in
-        let found = choice volume q.unit q.contig q.primary in
-        let given : List Run → Result Volume Refusal = λ runs. if_room (lacks_room volume.geometry.device name dir (tracks_in runs)) (with_new dsn attr q dir volume runs) in
-        let none = refuse_ok (has_set volume name) SetExists (refuse (if dir == 0 then wants else not wants) WrongKind (on_choice q.primary found given)) w done in
-        let kind = refuse_ok (if dir == 0 then wants else not wants) WrongKind (on_choice q.primary found given) w none.1 in
-        let at = choice_ok q.primary found given w kind.1 in
-        let runs = at.0 in
-        let after = with_new dsn attr q dir volume runs in
-        let lacks = lacks_room volume.geometry.device name dir (tracks_in runs) in
-        let slots = refuse_ok (nat_lt after.slots (slots_needed after)) (VtocFull (slots_needed after)) (refuse lacks NoRoom (Ok after)) w at.2 in
-        let room = refuse_ok lacks NoRoom (Ok after) w slots.1 in
-        (runs, none.0, ok_same after w room.1)
+    allocate_changes attr q dir done = let a = allocated_on dsn attr q dir volume w done in (a.runs, a.fresh, a.is)
 
     pub scratch_changes : scratch_on dsn volume ≡ Ok w → w.sets ≡ filter (λ (y : DataSet). not (has_name dsn.bytes y)) volume.sets
     unfolding scratch_on

@@ -1,9 +1,8 @@
 -- The data sets of one volume in two images: what is known of the directories in the one is known of those in the other.
-use Rattle.std.proofs.Common.{◌≡◌, ℕ, true, List, [], length, Option, Some, None, refl, sym, ap, ap₂, subst, ◌∙◌, arith}
+use Rattle.std.proofs.Common.{◌≡◌, ℕ, true, List, [], length, Some, None, refl, sym, ap, ap₂, subst, ◌∙◌}
 use Rattle.std.specs.Prelude.{slice_get, unwrap_or}
 use Rattle.std.specs.List.{flat_map}
 use Rattle.std.proofs.lemmas.Option.{slice_get-get_or}
-use Rattle.ckd_image.specs.declared.header.Geometry.{Geometry}
 use Rattle.dscb_codec.specs.declared.Dscb.TheVariants as formats
 use Rattle.dscb_codec.specs.declared.F1.{F1}
 use Rattle.chain_spec.specs.Kept.{joined, kept}
@@ -13,7 +12,7 @@ use Rattle.pack_spec.specs.Settled.{HasPacked, IsPacked, directory_upto}
 use Rattle.pack_spec.specs.Volume.{attr_of, data_set_of}
 use Rattle.pack_spec.proofs.BodyKinds.{partitioned_body}
 use Rattle.pack_spec.proofs.PartBodies.{part_end, part_is, part_or_unread}
-use Rattle.pds_directory.specs.Directories.{IsPartIn, IsRead, IsReadIn, IsReadablePart, data_in, directory_in, end_in, entries_read, members_in, owned_in, part_in}
+use Rattle.pds_directory.specs.Directories.{IsRead, IsReadIn, IsReadablePart, data_in, directory_in, end_in, entries_read, members_in, owned_in, part_in}
 use Rattle.pds_directory.specs.declared.dir.Dir.{Dir}
 use Rattle.pds_directory.proofs.PackedDirectories.{directory_in_is}
 use Rattle.stow_ops.specs.Packing.{IsPackingOf}

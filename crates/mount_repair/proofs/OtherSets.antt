@@ -1,5 +1,5 @@
 -- Images that differ on the tracks of one partitioned data set alone: their VTOC and the directories of the other data sets.
-use Rattle.std.proofs.Common.{◌≡◌, ◌≢◌, ◌+◌, ℕ, true, false, Bool, cond, ◌&&◌, List, [], Option, Some, None, refl, ap, ◌∙◌, arith, option_and_then}
+use Rattle.std.proofs.Common.{◌≡◌, ◌≢◌, ◌+◌, ℕ, true, false, Bool, cond, ◌&&◌, List, [], Option, Some, None, refl, ap, arith, option_and_then}
 use Rattle.std.specs.Prelude.{◌==◌, slice_get, unwrap_or}
 use Rattle.std.specs.List.{flat_map}
 use Rattle.std.proofs.lemmas.Bool.Decides.{nat_tests}

@@ -1,17 +1,16 @@
 -- How far the packing of directories has come, and the repair of a pack after it.
-use Rattle.std.proofs.Common.{◌≡◌, ◌≤◌, ◌+◌, inl, inr, ℕ, zero, suc, Bool, true, List, [], ◌∷◌, drop, length, Some, refl, sym, ap, subst, ◌∙◌, arith}
+use Rattle.std.proofs.Common.{◌≡◌, ◌≤◌, ◌+◌, ℕ, zero, suc, Bool, true, List, [], ◌∷◌, drop, length, Some, refl, sym, ap, subst, ◌∙◌, arith}
 use Rattle.std.specs.Prelude.{IsTrue, Result, Ok, Err, slice_get, vec_items}
 use Rattle.free_rebuild.specs.Repairs.{Repairs, image_named}
 use Rattle.hall_core.specs.Facts.{Attached, Facts, ReportedCall, unit_of}
 use Rattle.stop_model.specs.Files.{File}
 use Rattle.pack_spec.specs.Settled.{IsSettled}
 use Rattle.pack_spec.specs.Volume.{volume_of}
-use Rattle.pack_spec.specs.declared.MountErr.{MountErr}
 use Rattle.pack_spec.specs.declared.MountErr.TheVariants as mounts
 use Rattle.stop_model.specs.Moments.{Elapses, IsDurable, Meaning, Same}
 use Rattle.stop_model.proofs.MomentLemmas.{durable_leaves, elapses_none, elapses_same, elapses_then, elapses_weaker}
 use Rattle.vol_model.specs.declared.contents.Volume.{Volume}
-use Rattle.vtoc_index.specs.Index.{IsMounted, IsOfUnit, IsReason}
+use Rattle.vtoc_index.specs.Index.{IsMounted, IsOfUnit}
 use Rattle.vtoc_index.specs.Names.{AreByName, name_at}
 use Rattle.vtoc_index.specs.declared.vol.Vol.{Vol}
 use Rattle.vtoc_sets.specs.Sets.{volume_in}

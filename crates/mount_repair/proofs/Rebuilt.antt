@@ -1,9 +1,9 @@
 -- The repair of a VTOC, and what it leaves of the directories, packed or not.
 use Rattle.std.proofs.Common.{◌≡◌, ⊎_elim, inl, inr, ℕ, true, List, Ok, refl, sym, ap, subst, ◌∙◌}
-use Rattle.std.specs.Prelude.{◌⊎◌, ◌==◌}
+use Rattle.std.specs.Prelude.{◌==◌}
 use Rattle.std.specs.List.{list_any}
 use Rattle.dscb_codec.specs.declared.F1.{F1}
-use Rattle.free_rebuild.specs.Repairs.{IsSafe, Repairs, image_named}
+use Rattle.free_rebuild.specs.Repairs.{Repairs, image_named}
 use Rattle.free_rebuild.specs.Settled.{is_settled_vtoc}
 use Rattle.free_rebuild.proofs.SettledBool.{settled_vtoc}
 use Rattle.pack_spec.specs.Alike.{DifferInVtoc}
@@ -23,7 +23,7 @@ use Rattle.vtoc_index.specs.declared.vol.Vol.{Vol}
 use Rattle.vtoc_sets.specs.Sets.{volume_in}
 use Rattle.hall_core.specs.Facts.{Attached, Facts, unit_of}
 use Rattle.mount_repair.specs.Scans.{AreLibraries, AreSound, AreUnpacked, CanBePacked, IsLibraryIn}
-use Rattle.mount_repair.specs.Sets.{IsPackedSet, set_by}
+use Rattle.mount_repair.specs.Sets.{set_by}
 use Rattle.mount_repair.specs.declared.library.Library.{Library}
 use Rattle.mount_repair.specs.declared.scanned.Unpacked.{Unpacked}
 use Rattle.mount_repair.proofs.MovedSets.{library_moved, moved, packed_moved, packing_moved, part_moved, set_after, set_before}

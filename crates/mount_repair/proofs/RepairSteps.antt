@@ -1,11 +1,10 @@
 -- The steps of a repair, one after another.
-use Rattle.std.proofs.Common.{◌≡◌, ◌≢◌, ⊎_elim, inl, inr, ℕ, List, Some, refl, sym, ap, subst, ◌∙◌}
-use Rattle.std.specs.Prelude.{◌⊎◌, Result, Ok, Err}
-use Rattle.free_rebuild.specs.Repairs.{HaveSameVtoc, IsSafe, Repairs, image_named}
-use Rattle.pack_spec.specs.Settled.{IsGuarded, IsSettledVtoc}
+use Rattle.std.proofs.Common.{◌≡◌, ⊎_elim, inl, inr, ℕ, List, refl, sym, subst, ◌∙◌}
+use Rattle.std.specs.Prelude.{Result, Ok, Err}
+use Rattle.free_rebuild.specs.Repairs.{IsSafe, image_named}
 use Rattle.pack_spec.specs.Volume.{volume_of}
 use Rattle.pack_spec.specs.declared.MountErr.{MountErr}
-use Rattle.stop_model.specs.Files.{File, file_of}
+use Rattle.stop_model.specs.Files.{File}
 use Rattle.stop_model.specs.Moments.{Elapses, IsDurable, Meaning}
 use Rattle.stop_model.proofs.MomentLemmas.{elapses_none, elapses_then, elapses_weaker}
 use Rattle.vol_model.specs.declared.contents.Volume.{Volume}

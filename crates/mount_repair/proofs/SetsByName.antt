@@ -1,6 +1,6 @@
 -- The data sets of a mounted image by their names, and in the order of these.
-use Rattle.std.proofs.Common.{◌≡◌, ◌<◌, ◌≤◌, ◌+◌, ℕ, zero, suc, Bool, true, false, cond, List, [], ◌∷◌, get_or, length, map, Option, Some, None, refl, sym, ap, subst, ◌∙◌, arith}
-use Rattle.std.specs.Prelude.{◌||◌, is_some, Result, Ok, Err, option_and_then, slice_get, take}
+use Rattle.std.proofs.Common.{◌≡◌, ◌<◌, ℕ, zero, suc, Bool, true, false, cond, List, [], ◌∷◌, get_or, length, map, Option, Some, None, refl, sym, ap, ◌∙◌, arith}
+use Rattle.std.specs.Prelude.{◌||◌, Result, Ok, Err, option_and_then, slice_get, take}
 use Rattle.std.specs.Cmp.Lexicographic.{slice_cmp}
 use Rattle.std.specs.List.{AllByRecursion, cons_option, filter_map, find, list_any}
 use Rattle.std.specs.Option.{option_map}
@@ -8,7 +8,7 @@ use Rattle.std.specs.Ordering.{is_lt, nat_cmp}
 use Rattle.std.specs.declared.cmp.Ordering.{Ordering}
 use Rattle.std.specs.declared.cmp.Ordering.TheVariants.{Less, Equal, Greater}
 use Rattle.std.specs.Str.{bytes_eq}
-use Rattle.std.proofs.lemmas.Bool.{cases_Bool, or_parts}
+use Rattle.std.proofs.lemmas.Bool.{or_parts}
 use Rattle.std.proofs.lemmas.List.{get_or_default}
 use Rattle.std.proofs.lemmas.List.Quantifiers.{position-Some}
 use Rattle.std.proofs.lemmas.Option.{get_or_from_slice_get}
@@ -27,7 +27,7 @@ use Rattle.pack_spec.specs.declared.slot.VtocSlot.{VtocSlot}
 use Rattle.pack_spec.proofs.Lawful.{good_sets, lawful_with}
 use Rattle.seq_access.specs.Bodies.{IsSetIn, data_in}
 use Rattle.vol_model.specs.declared.contents.DataSet.{DataSet}
-use Rattle.vol_model.specs.Order.{IsAscending, in_order, is_before}
+use Rattle.vol_model.specs.Order.{IsAscending, is_before}
 use Rattle.vol_model.specs.Shelf.{has_name, set_of}
 use Rattle.vtoc_index.specs.Index.{AreDscbs, IsMounted, first_named}
 use Rattle.vtoc_index.specs.Names.{AreByName, name_at, or_zeros}

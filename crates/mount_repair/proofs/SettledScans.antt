@@ -1,6 +1,6 @@
 -- Whether an image is settled, by the scan of it.
-use Rattle.std.proofs.Common.{◌≡◌, ◌<◌, ◌≤◌, ⊎_elim, ℕ, zero, suc, Bool, true, false, ◌&&◌, List, [], ◌∷◌, get_or, length, Option, Some, None, Ok, refl, sym, ap, subst, ◌∙◌, arith}
-use Rattle.std.specs.Prelude.{◌↔◌, ◌==◌, IsTrue, Result, option_and_then, slice_get}
+use Rattle.std.proofs.Common.{◌≡◌, ◌<◌, ⊎_elim, ℕ, zero, suc, Bool, true, false, ◌&&◌, List, [], ◌∷◌, get_or, length, Option, Some, None, Ok, refl, sym, ap, subst, ◌∙◌, arith}
+use Rattle.std.specs.Prelude.{◌↔◌, ◌==◌, IsTrue, option_and_then, slice_get}
 use Rattle.std.specs.Option.{option_map}
 use Rattle.std.proofs.lemmas.Bool.{eqb-true}
 use Rattle.std.proofs.lemmas.Option.{slice_get-get_or}
@@ -11,11 +11,9 @@ use Rattle.free_rebuild.specs.Settled.{is_settled_vtoc}
 use Rattle.free_rebuild.proofs.SettledBool.{settled_true, settled_vtoc}
 use Rattle.pack_spec.specs.Rules.{set_in}
 use Rattle.pack_spec.specs.Settled.{ArePacked, HasPacked, IsSettled, IsSettledVtoc}
-use Rattle.pack_spec.specs.Volume.{volume_of, volume_with}
-use Rattle.pack_spec.specs.declared.MountErr.{MountErr}
+use Rattle.pack_spec.specs.Volume.{volume_with}
 use Rattle.seq_access.specs.Bodies.{data_in}
 use Rattle.vol_model.specs.declared.contents.DataSet.{DataSet}
-use Rattle.vol_model.specs.declared.contents.Volume.{Volume}
 use Rattle.vtoc_index.specs.Index.{IsMounted}
 use Rattle.vtoc_index.specs.Names.{AreByName, name_at}
 use Rattle.vtoc_index.specs.declared.vol.Vol.{Vol}

@@ -1,7 +1,9 @@
 -- What a walk over the data sets of a pack notes of each, in this project's profile.
-use Rattle.std.specs.Prelude.{◌≡◌, ℕ, true, false, List, [], ◌∷◌, ◌++◌, slice_get, Option, Some, None, Result, Ok, Err}
+use Rattle.std.specs.Prelude.{◌≡◌, ℕ, true, false, List, [], ◌∷◌, ◌++◌, slice_get, Option, Some, None, Result, Ok, Err, OnOk}
 use Rattle.dscb_codec.specs.declared.Dscb.TheVariants as formats
 use Rattle.dscb_codec.specs.declared.F1.{F1}
+use Rattle.hall_core.specs.declared.hall.Hall.{Ghosts}
+use Rattle.hall_core.specs.Told.{ImageHas}
 use Rattle.pack_spec.specs.declared.MountErr.{MountErr}
 use Rattle.pack_spec.specs.declared.MountErr.TheVariants as mounts
 use Rattle.pds_directory.specs.declared.dir.Dir.{Dir}
@@ -17,7 +19,7 @@ use Rattle.vol_model.specs.declared.contents.Block.{Block}
 use Rattle.vol_model.specs.declared.answers.Kind.TheVariants as kinds
 use Rattle.vtoc_index.specs.declared.vol.Vol.{Vol}
 use Rattle.vtoc_sets.specs.Sets.{volume_in}
-use Rattle.mount_repair.specs.Scans.{AreUnpacked, IsLibraryIn}
+use Rattle.mount_repair.specs.Scans.{AreSound, AreUnpacked, IsLibraryIn}
 use Rattle.mount_repair.specs.Sets.{IsPackedSet, name_and_kind, names_and_kinds, set_by}
 use Rattle.mount_repair.specs.declared.library.Library.{Library}
 use Rattle.mount_repair.specs.declared.scanned.Unpacked.{Unpacked}
@@ -32,6 +34,13 @@ pub data NotesDir (image : List ℕ) (v : Vol) (slot : ℕ) (f : F1) (old new : 
 pub data NotesLibrary (image : List ℕ) (v : Vol) (slot : ℕ) (f : F1) (old new : List Library) : Type 0 where
   keeps_none : new ≡ old → NotesLibrary image v slot f old new
   keeps_one : (l : Library) → IsLibraryIn image v slot l → IsPackedSet image v f → new ≡ old ++ l ∷ [] → NotesLibrary image v slot f old new
+
+-- What is noted of a data set that is walked: of its directory, its library, and that all that is noted is of data sets.
+pub record NotesSet {X T E : Type 0} (g : Ghosts X) (hall : X) (v : Vol) (slot : ℕ) (f : F1) (old new : Walk) (result : Result T E) : Type 0 where
+  pub directory : ImageHas g hall v.unit (λ image. OnOk result (NotesDir image v slot f old.unpacked.items new.unpacked.items))
+  pub library : ImageHas g hall v.unit (λ image. OnOk result (NotesLibrary image v slot f old.libraries.items new.libraries.items))
+  pub sound : AreSound v.slots.items old.unpacked.items → OnOk result (AreSound v.slots.items new.unpacked.items)
+  pub volume : new.volume ≡ old.volume
 
 -- the library of a directory is kept of a data set that begins on this track, if it has one
 abbrev pub HoldsFrom : Option ℕ → Dir → List Library → List Library → Type 0

@@ -1,7 +1,9 @@
 //! The repair of a pack that was scanned.
 ghost use Rattle.std.specs.Prelude.{◌≡◌, ◌<◌, ◌∷◌, [], List, true, is_some, length, IfOk, IsErrOf, IsTrue, OnOk};
 ghost use Rattle.free_rebuild.specs.Repairs.{Repairs};
+ghost use Rattle.free_rebuild.specs.Updates.{KeepsIndex};
 ghost use Rattle.hall_core.specs.Facts.{ReportedCall, unit_of};
+ghost use Rattle.hall_core.specs.Told.{ImageHas};
 ghost use Rattle.hall_core.specs.Images.{image_in};
 ghost use Rattle.stop_model.specs.Moments.{IsDurable};
 ghost use Rattle.stow_ops.specs.Packing.{IsSomePacking};
@@ -28,8 +30,7 @@ use vtoc_index::{MountErr, Vol};
 /// a repair that was stopped may be done again. It takes no memory; `Device` comes only where the count of its faults rose.
 pub fn repair<H: Hall>(hall: &mut H, scan: Scan) -> Result<Scan, WorkErr>
     requires unit { IsScanOn (H.facts hall.old).units scan.vol.unit scan }
-    requires scan { let image = image_in (H.meaning hall.old) (H.facts hall.old) scan.vol.unit in
-        IsTrue H.tells → IsScanOf image scan }
+    requires scan { ImageHas H.Hall hall.old scan.vol.unit (λ image. IsScanOf image scan) }
     requires durable { IsTrue H.tells → IsDurable (H.meaning hall.old) }
     ensures files { IsTrue H.tells → RepairsPack (unit_of (H.facts hall.old).units scan.vol.unit).name
         (H.meaning hall.old) (H.meaning hall.new) result }
@@ -55,15 +56,11 @@ pub fn repair<H: Hall>(hall: &mut H, scan: Scan) -> Result<Scan, WorkErr>
 // Repairs the VTOC of a pack, unless it is settled: then nothing is called.
 fn repair_vtoc<H: Hall>(hall: &mut H, vol: &mut Vol) -> Result<(), WorkErr>
     requires unit { IsOfUnit (H.facts hall.old).units vol.old }
-    requires mounted { let image = image_in (H.meaning hall.old) (H.facts hall.old) vol.old.unit in
-        IsTrue H.tells → IsMounted image vol.old }
+    requires mounted { ImageHas H.Hall hall.old vol.old.unit (λ image. IsMounted image vol.old) }
     requires durable { IsTrue H.tells → IsDurable (H.meaning hall.old) }
     ensures files { IsTrue H.tells → Repairs (unit_of (H.facts hall.old).units vol.old.unit).name
         vol.new (H.meaning hall.old) (H.meaning hall.new) result }
-    ensures names { AreByName (name_at vol.old.slots.items) vol.old.by_name.items
-        → OnOk result (AreByName (name_at vol.new.slots.items) vol.new.by_name.items) }
-    ensures others { vol.new ≡ record vol.old { slots = vol.new.slots; buf = vol.new.buf } }
-    ensures unit { IsOfUnit (H.facts hall.new).units vol.new }
+    ensures index { KeepsIndex H.Hall hall.new vol.old vol.new result }
     ensures memory { ¬ IsErrOf result WorkErr.Memory }
     ensures faults { ReportedCall (IsErrOf result WorkErr.Device) (H.facts hall.old)
         (H.facts hall.new) }
@@ -79,10 +76,9 @@ fn pack_all<H: Hall>(hall: &mut H, vol: &mut Vol, unpacked: &[Unpacked]) -> Resu
     requires unit { IsOfUnit (H.facts hall.old).units vol.old }
     requires names { AreByName (name_at vol.old.slots.items) vol.old.by_name.items }
     requires sound { AreSound vol.old.slots.items unpacked.now }
-    requires mounted { let image = image_in (H.meaning hall.old) (H.facts hall.old) vol.old.unit in
-        IsTrue H.tells → IsMounted image vol.old }
-    requires unpacked { let image = image_in (H.meaning hall.old) (H.facts hall.old) vol.old.unit in
-        IsTrue H.tells → AreUnpacked image vol.old unpacked.now }
+    requires mounted { ImageHas H.Hall hall.old vol.old.unit (λ image. IsMounted image vol.old) }
+    requires unpacked { ImageHas H.Hall hall.old vol.old.unit (λ image.
+        AreUnpacked image vol.old unpacked.now) }
     requires durable { IsTrue H.tells → IsDurable (H.meaning hall.old) }
     ensures files { IsTrue H.tells → PacksDirs (unit_of (H.facts hall.old).units vol.old.unit).name
         vol.new [] (H.meaning hall.old) (H.meaning hall.new) result }
@@ -107,15 +103,14 @@ fn pack_one<H: Hall>(hall: &mut H, vol: &mut Vol, dir: &Unpacked) -> Result<(), 
     requires names { AreByName (name_at vol.old.slots.items) vol.old.by_name.items }
     requires set { is_some (name_at vol.old.slots.items dir.now.slot) ≡ true }
     requires packing { IsSomePacking dir.now.packing }
-    requires mounted { let image = image_in (H.meaning hall.old) (H.facts hall.old) vol.old.unit in
-        IsTrue H.tells → IsMounted image vol.old }
-    requires can { let image = image_in (H.meaning hall.old) (H.facts hall.old) vol.old.unit in
-        IsTrue H.tells → CanBePacked image vol.old dir.now }
+    requires mounted { ImageHas H.Hall hall.old vol.old.unit (λ image. IsMounted image vol.old) }
+    requires can { ImageHas H.Hall hall.old vol.old.unit (λ image.
+        CanBePacked image vol.old dir.now) }
     requires durable { IsTrue H.tells → IsDurable (H.meaning hall.old) }
-    ensures files { let image = image_in (H.meaning hall.old) (H.facts hall.old) vol.old.unit in
-        IsTrue H.tells → (rest : List Unpacked) → AreUnpacked image vol.old (dir.now ∷ rest)
+    ensures files { ImageHas H.Hall hall.old vol.old.unit (λ image.
+        (rest : List Unpacked) → AreUnpacked image vol.old (dir.now ∷ rest)
         → PacksDirs (unit_of (H.facts hall.old).units vol.old.unit).name vol.new rest
-        (H.meaning hall.old) (H.meaning hall.new) result }
+        (H.meaning hall.old) (H.meaning hall.new) result) }
     ensures libraries { let image = image_in (H.meaning hall.old) (H.facts hall.old) vol.old.unit in
         let image' = image_in (H.meaning hall.new) (H.facts hall.new) vol.old.unit in
         IsTrue H.tells → OnOk result (KeepsLibraries image vol.old (dir.now ∷ []) image' vol.new) }

@@ -1,7 +1,7 @@
 //! The data sets of a pack walked: what each is, and which directories aren't packed.
 ghost use Rattle.std.specs.Prelude.{◌≡◌, ◌<◌, ◌⊎◌, ◌++◌, ◌∷◌, [], true, is_some, slice_get, vec_len, IfErr, IfOk, IsErrOf, IsTrue, OnOk, Some};
 ghost use Rattle.dscb_codec.specs.declared.F1.{F1};
-ghost use Rattle.hall_core.specs.Images.{image_in};
+ghost use Rattle.hall_core.specs.Told.{ImageHas};
 ghost use Rattle.stop_model.specs.Moments.{Same};
 ghost use Rattle.vtoc_index.specs.Calls.{MountCall};
 ghost use Rattle.vtoc_index.specs.Index.{IsMounted, IsOfUnit};
@@ -11,7 +11,7 @@ ghost use Rattle.pds_directory.specs.Directories.{IsLawfulDir, IsPartIn};
 ghost use Rattle.seq_access.specs.Bodies.{IsSetIn, part_in};
 ghost use Rattle.mount_repair.specs.Scans.{AreSound};
 ghost use Rattle.mount_repair.specs.Sets.{body_at};
-ghost use Rattle.mount_repair.specs.Walks.{Holds, HoldsFrom, IsKindUnread, IsKindWalked, IsWalkOf, Notes, NotesDir, NotesLibrary, WalksSet};
+ghost use Rattle.mount_repair.specs.Walks.{Holds, HoldsFrom, IsKindUnread, IsKindWalked, IsWalkOf, Notes, NotesSet, WalksSet};
 
 use crate::library::{Library, library_of};
 use crate::scanned::Unpacked;
@@ -42,13 +42,11 @@ pub(crate) fn walk_sets<H: Hall>(
 ) -> Result<Walk, MountErr>
     requires unit { IsOfUnit (H.facts hall.old).units vol.old }
     requires names { AreByName (name_at vol.old.slots.items) vol.old.by_name.items }
-    requires mounted { let image = image_in (H.meaning hall.old) (H.facts hall.old) vol.old.unit in
-        IsTrue H.tells → IsMounted image vol.old }
-    ensures walk { let image = image_in (H.meaning hall.old) (H.facts hall.old) vol.old.unit in
-        IsTrue H.tells → IfOk result (IsWalkOf image vol.old) }
+    requires mounted { ImageHas H.Hall hall.old vol.old.unit (λ image. IsMounted image vol.old) }
+    ensures walk { ImageHas H.Hall hall.old vol.old.unit (λ image.
+        IfOk result (IsWalkOf image vol.old)) }
     ensures sound { IfOk result (λ walk. AreSound vol.old.slots.items walk.unpacked.items) }
-    ensures mounted { let image = image_in (H.meaning hall.old) (H.facts hall.old) vol.old.unit in
-        IsTrue H.tells → IsMounted image vol.new }
+    ensures mounted { ImageHas H.Hall hall.old vol.old.unit (λ image. IsMounted image vol.new) }
     ensures others { vol.new ≡ record vol.old { buf = vol.new.buf } }
     ensures unit { IsOfUnit (H.facts hall.new).units vol.new }
     ensures why { IfErr result (λ e. (e ≡ MountErr.Memory) ⊎ (e ≡ MountErr.Device)) }
@@ -85,15 +83,13 @@ fn walk_set<H: Hall>(
 ) -> Result<(), MountErr>
     requires unit { IsOfUnit (H.facts hall.old).units vol.old }
     requires set { is_some (name_at vol.old.slots.items slot) ≡ true }
-    requires mounted { let image = image_in (H.meaning hall.old) (H.facts hall.old) vol.old.unit in
-        IsTrue H.tells → IsMounted image vol.old }
-    ensures walk { let image = image_in (H.meaning hall.old) (H.facts hall.old) vol.old.unit in
-        IsTrue H.tells → (f : F1) → slice_get vol.old.slots.items slot ≡ Some (Dscb.F1 f)
-        → OnOk result (WalksSet image vol.old slot f walk.old walk.new) }
+    requires mounted { ImageHas H.Hall hall.old vol.old.unit (λ image. IsMounted image vol.old) }
+    ensures walk { ImageHas H.Hall hall.old vol.old.unit (λ image.
+        (f : F1) → slice_get vol.old.slots.items slot ≡ Some (Dscb.F1 f)
+        → OnOk result (WalksSet image vol.old slot f walk.old walk.new)) }
     ensures sound { AreSound vol.old.slots.items walk.old.unpacked.items
         → OnOk result (AreSound vol.old.slots.items walk.new.unpacked.items) }
-    ensures mounted { let image = image_in (H.meaning hall.old) (H.facts hall.old) vol.old.unit in
-        IsTrue H.tells → IsMounted image vol.new }
+    ensures mounted { ImageHas H.Hall hall.old vol.old.unit (λ image. IsMounted image vol.new) }
     ensures others { vol.new ≡ record vol.old { buf = vol.new.buf } }
     ensures unit { IsOfUnit (H.facts hall.new).units vol.new }
     ensures why { IfErr result (λ e. (e ≡ MountErr.Memory) ⊎ (e ≡ MountErr.Device)) }
@@ -101,15 +97,7 @@ fn walk_set<H: Hall>(
     ensures faults { MountCall (H.facts hall.old) (H.facts hall.new) result }
 {
     let set = set_at(vol, slot);
-    let kind = walk_body(
-        alloc,
-        hall,
-        vol,
-        slot,
-        &set,
-        &mut walk.libraries,
-        &mut walk.unpacked,
-    )?;
+    let kind = walk_body(alloc, hall, vol, slot, &set, walk)?;
     list(&mut walk.volume, &set, kind)
 }
 
@@ -143,25 +131,15 @@ fn walk_body<H: Hall>(
     vol: &mut Vol,
     slot: u32,
     set: &F1,
-    libraries: &mut Vec<Library>,
-    unpacked: &mut Vec<Unpacked>,
+    walk: &mut Walk,
 ) -> Result<Kind, MountErr>
     requires unit { IsOfUnit (H.facts hall.old).units vol.old }
     requires slot { slice_get vol.old.slots.items slot ≡ Some (Dscb.F1 set.now) }
-    requires set { let image = image_in (H.meaning hall.old) (H.facts hall.old) vol.old.unit in
-        IsTrue H.tells → IsSetIn image vol.old set.now }
-    ensures kind { let image = image_in (H.meaning hall.old) (H.facts hall.old) vol.old.unit in
-        IsTrue H.tells → IfOk result (λ kind. kind ≡ kind_of (body_at image vol.old set.now)) }
-    ensures directory { let image = image_in (H.meaning hall.old) (H.facts hall.old) vol.old.unit in
-        IsTrue H.tells → OnOk result (NotesDir image vol.old slot set.now unpacked.old.items
-        unpacked.new.items) }
-    ensures library { let image = image_in (H.meaning hall.old) (H.facts hall.old) vol.old.unit in
-        IsTrue H.tells → OnOk result (NotesLibrary image vol.old slot set.now libraries.old.items
-        libraries.new.items) }
-    ensures sound { AreSound vol.old.slots.items unpacked.old.items
-        → OnOk result (AreSound vol.old.slots.items unpacked.new.items) }
-    ensures mounted { let image = image_in (H.meaning hall.old) (H.facts hall.old) vol.old.unit in
-        IsTrue H.tells → IsMounted image vol.new }
+    requires set { ImageHas H.Hall hall.old vol.old.unit (λ image. IsSetIn image vol.old set.now) }
+    ensures kind { ImageHas H.Hall hall.old vol.old.unit (λ image.
+        IfOk result (λ kind. kind ≡ kind_of (body_at image vol.old set.now))) }
+    ensures notes { NotesSet H.Hall hall.old vol.old slot set.now walk.old walk.new result }
+    ensures mounted { ImageHas H.Hall hall.old vol.old.unit (λ image. IsMounted image vol.new) }
     ensures others { vol.new ≡ record vol.old { buf = vol.new.buf } }
     ensures unit { IsOfUnit (H.facts hall.new).units vol.new }
     ensures why { IfErr result (λ e. (e ≡ MountErr.Memory) ⊎ (e ≡ MountErr.Device)) }
@@ -170,7 +148,7 @@ fn walk_body<H: Hall>(
 {
     match body_kind(set) {
         BodyKind::Seq => kind_walked(Kind::Seq, check_records(hall, vol, set)),
-        BodyKind::Part => walk_part(alloc, hall, vol, slot, set, libraries, unpacked),
+        BodyKind::Part => walk_part(alloc, hall, vol, slot, set, walk),
         BodyKind::Catalog => Ok(Kind::Unreadable(0)),
         BodyKind::Other => Ok(Kind::Other),
     }
@@ -194,43 +172,34 @@ fn walk_part<H: Hall>(
     vol: &mut Vol,
     slot: u32,
     set: &F1,
-    libraries: &mut Vec<Library>,
-    unpacked: &mut Vec<Unpacked>,
+    walk: &mut Walk,
 ) -> Result<Kind, MountErr>
     requires unit { IsOfUnit (H.facts hall.old).units vol.old }
     requires slot { slice_get vol.old.slots.items slot ≡ Some (Dscb.F1 set.now) }
-    requires part { let image = image_in (H.meaning hall.old) (H.facts hall.old) vol.old.unit in
-        IsTrue H.tells → IsPartIn image vol.old set.now }
-    ensures kind { let image = image_in (H.meaning hall.old) (H.facts hall.old) vol.old.unit in
-        IsTrue H.tells → IfOk result (λ kind. kind ≡ kind_of (part_in image vol.old set.now)) }
-    ensures directory { let image = image_in (H.meaning hall.old) (H.facts hall.old) vol.old.unit in
-        IsTrue H.tells → OnOk result (NotesDir image vol.old slot set.now unpacked.old.items
-        unpacked.new.items) }
-    ensures library { let image = image_in (H.meaning hall.old) (H.facts hall.old) vol.old.unit in
-        IsTrue H.tells → OnOk result (NotesLibrary image vol.old slot set.now libraries.old.items
-        libraries.new.items) }
-    ensures sound { AreSound vol.old.slots.items unpacked.old.items
-        → OnOk result (AreSound vol.old.slots.items unpacked.new.items) }
-    ensures mounted { let image = image_in (H.meaning hall.old) (H.facts hall.old) vol.old.unit in
-        IsTrue H.tells → IsMounted image vol.new }
+    requires part { ImageHas H.Hall hall.old vol.old.unit (λ image.
+        IsPartIn image vol.old set.now) }
+    ensures kind { ImageHas H.Hall hall.old vol.old.unit (λ image.
+        IfOk result (λ kind. kind ≡ kind_of (part_in image vol.old set.now))) }
+    ensures notes { NotesSet H.Hall hall.old vol.old slot set.now walk.old walk.new result }
+    ensures mounted { ImageHas H.Hall hall.old vol.old.unit (λ image. IsMounted image vol.new) }
     ensures others { vol.new ≡ record vol.old { buf = vol.new.buf } }
     ensures unit { IsOfUnit (H.facts hall.new).units vol.new }
     ensures why { IfErr result (λ e. (e ≡ MountErr.Memory) ⊎ (e ≡ MountErr.Device)) }
     ensures same { IsTrue H.tells → Same (H.meaning hall.old) (H.meaning hall.new) }
     ensures faults { MountCall (H.facts hall.old) (H.facts hall.new) result }
 {
-    let walk = match walk_dir(alloc, hall, vol, slot) {
-        Ok(walk) => walk,
+    let found = match walk_dir(alloc, hall, vol, slot) {
+        Ok(found) => found,
         Err(error) => return unread(error),
     };
-    match check_part_records(hall, vol, set, walk.dir.end, walk.whole) {
+    match check_part_records(hall, vol, set, found.dir.end, found.whole) {
         Ok(()) => note(
             alloc,
             slot,
             track_at(vol, set, 0),
-            walk.dir,
-            libraries,
-            unpacked,
+            found.dir,
+            &mut walk.libraries,
+            &mut walk.unpacked,
         ),
         Err(CheckErr::Unreadable(track)) => Ok(Kind::Unreadable(track)),
         Err(CheckErr::Device) => Err(MountErr::Device),

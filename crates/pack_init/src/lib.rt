@@ -11,6 +11,3 @@ mod tracks;
 pub use error::InitErr;
 pub use law::new_pack_law;
 pub use pack::init;
-
-#[cfg(test)]
-mod tests;

@@ -65,7 +65,7 @@ front_to_end (suc n) (suc left) r bytes xs is =
     by false false o later h = cc
 
 -- so many records are read up to one of that number
-count_up : (n r : ℕ) (bytes : List ℕ) (xs : List Record) → records_up_to n r bytes ≡ Some xs → length xs ≡ n
+pub count_up : (n r : ℕ) (bytes : List ℕ) (xs : List Record) → records_up_to n r bytes ≡ Some xs → length xs ≡ n
 unfolding records_up_to
 count_up zero r bytes xs is = by (nat_le 8 (length bytes)) is
   where

@@ -145,7 +145,8 @@ is_part end tracks n at es bs is = by (position (λ o. is_none o) tracks) (direc
     by (Some j) None none ended e = cc
     by (Some j) (Some k) none ended e = cc
 
-no_position : {X : Type 0} (p : X → Bool) (xs : List X) → list_any p xs ≡ false → position p xs ≡ None
+-- where no element passes a test, none is the first that does
+pub no_position : {X : Type 0} (p : X → Bool) (xs : List X) → list_any p xs ≡ false → position p xs ≡ None
 no_position {X = X} p xs none = ap (λ (n : ℕ). cond (nat_lt n (length xs)) (Some n) None) (all xs none) ∙ ap (λ (b : Bool). cond b (Some (length xs)) None) (same (length xs))
   where
     more : (b c : Bool) (n m : ℕ) → (b || c) ≡ false → (c ≡ false → n ≡ m) → cond (not b) (1 + n) 0 ≡ suc m

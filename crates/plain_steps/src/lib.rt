@@ -41,6 +41,3 @@ pub use writing::{
     Content, Contents, fits_a_track, placed, put_first, put_last, with_blocks, write_on,
     write_refusal, written,
 };
-
-#[cfg(test)]
-mod tests;

@@ -12,8 +12,6 @@ mod packer;
 mod packing;
 mod pieces;
 mod spanning;
-#[cfg(test)]
-mod tests;
 
 pub use deblock::Deblock;
 pub use formats::{Format, FormatErr};

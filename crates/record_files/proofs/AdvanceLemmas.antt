@@ -12,7 +12,7 @@ use Rattle.vol_model.specs.declared.contents.Shelf.{Shelf}
 use Rattle.vol_model.specs.declared.refusals.Refusal.TheVariants.{NoRoom}
 use Rattle.vol_model.specs.declared.requests.Op.{Op}
 use Rattle.vol_model.specs.Did.{Did, and_then, answered, because, behind_them, with_reason}
-use Rattle.vol_model.specs.Events.{Do, after_operations}
+use Rattle.vol_model.specs.Events.{after_operations}
 use Rattle.vol_model.specs.Places.{Content, content, next_place, placed, with_blocks}
 use Rattle.vol_model.specs.Reading.{readable}
 use Rattle.vol_model.specs.Runs.{Works}
@@ -20,19 +20,14 @@ use Rattle.vol_model.specs.Shelf.{put_first}
 use Rattle.vol_model.specs.Writing.{OpenWriter, Target, begun, body_on, device_on, did_put, did_puts, making_puts, next_up, place_on, so_far, target_body, with_puts}
 use Rattle.vol_model.proofs.Filling.{making_keeps}
 use Rattle.vol_model.proofs.Keeping.{KeepsBodies, bodies_kept_none}
-use Rattle.vol_model.proofs.Stops.{run_none, since_first}
-use Rattle.vol_model.proofs.Working.{done_state, done_then, goes_on, has_done, then_then, works_behind, works_broken, works_done, works_ends, works_none, works_stops}
+use Rattle.vol_model.proofs.Working.{done_state, done_then, goes_on, has_done, then_then, works_behind, works_done, works_ends, works_none, works_stops}
 use Rattle.util_steps.specs.declared.calls.Fault.{Fault}
 use Rattle.util_steps.specs.declared.calls.Fault.TheVariants.{BadRecord, Refused}
 use Rattle.util_steps.specs.declared.calls.SetRef.{SetRef}
 use Rattle.util_steps.specs.Copying.{did_block, did_blocks, has_data, refusing, source}
 use Rattle.util_steps.proofs.Blocks.{blocks_cons, blocks_none}
-use Rattle.record_files.specs.Advancing.{Advanced, Advances, HasLast, done, first_at, first_place_put, start_by}
+use Rattle.record_files.specs.Advancing.{Advanced, Advances, HasLast, done, first_at, first_place_put, start_by, put_place}
 use Rattle.record_files.specs.Writing.{Coming, all_but_last, coming_of, data_block, did_output}
-
--- a run that is stopped before anything is done
-pub stopped_here : {X E : Type 0} (tells : Bool) (d : Did X E) (m : Meaning Shelf) (n : ℕ) (e : Stop) → Works tells d m m n n (Err e)
-stopped_here tells d m n e = works_broken d (Err e) refl (since_first [] (map Do d.operations) (run_none tells m).moments)
 
 -- nothing is put
 pub advanced_none : {p : Option Place} (tells : Bool) (c : Coming) (w : OpenWriter) (m : Meaning Shelf) (n : ℕ) → Advanced tells c c w w p p m m n n
@@ -69,7 +64,7 @@ module _ {tells : Bool} {a b : Coming} {u v : OpenWriter} {p q : Option Place} {
 -- ---- one block
 
 -- putting a block keeps all bodies
-block_kept : (s : Shelf) (w : OpenWriter) (b : Block) → KeepsBodies s (after_operations s (did_block s w b).operations)
+pub block_kept : (s : Shelf) (w : OpenWriter) (b : Block) → KeepsBodies s (after_operations s (did_block s w b).operations)
 unfolding did_block did_put with_reason
 block_kept s w b = by_data (has_data b)
   where
@@ -77,11 +72,8 @@ block_kept s w b = by_data (has_data b)
     by_data true = let body = target_body s w.target in making_keeps w.target (next_up w.target.mode body w.puts (content b ∷ [])) (so_far w.target.mode body w.puts) s
     by_data false = bodies_kept_none s
 
--- the place of a content that is put by a writer
-abbrev put_place : Shelf → OpenWriter → Content → Place
-put_place shelf w c = place_on shelf w.target (put_first w.target.mode (target_body shelf w.target) ++ w.puts) c
-
-block_place : (s : Shelf) (w : OpenWriter) (b : Block) (p : Place) → Ok p ≡ (did_block s w b).answer → p ≡ put_place s w (content b)
+-- the place of a block that is put
+pub block_place : (s : Shelf) (w : OpenWriter) (b : Block) (p : Place) → Ok p ≡ (did_block s w b).answer → p ≡ put_place s w (content b)
 unfolding did_block did_put with_reason
 block_place s w b p is = by_data (has_data b) is
   where

@@ -1,11 +1,12 @@
 -- What is put after records were read.
 use Rattle.std.proofs.Common.{◌≡◌, ℕ, Bool, map, refl, sym, ◌∙◌, ap, subst}
-use Rattle.std.specs.Prelude.{Option, Result, Ok, Err, IsErr}
+use Rattle.std.specs.Prelude.{Option, Result, Ok, Err, IsErr, IsTrue}
 use Rattle.stop_model.specs.Moments.{Meaning}
 use Rattle.stop_model.proofs.MomentLemmas.{elapses_none, elapses_then, elapses_weaker}
 use Rattle.vol_model.specs.declared.answers.Stop.{Stop}
 use Rattle.vol_model.specs.declared.contents.Place.{Place}
 use Rattle.vol_model.specs.declared.contents.Shelf.{Shelf}
+use Rattle.vol_model.specs.declared.machine.Machine.{Ghosts}
 use Rattle.vol_model.specs.Places.{content}
 use Rattle.vol_model.specs.Runs.{Works}
 use Rattle.vol_model.specs.Writing.{OpenWriter, body_on, device_on, with_puts}
@@ -14,6 +15,7 @@ use Rattle.util_steps.specs.declared.calls.Fault.{Fault}
 use Rattle.util_steps.specs.Steps.{RunsNothing}
 use Rattle.util_steps.proofs.Following.{after_nothing, nothing_broken}
 use Rattle.record_files.specs.Advancing.{Advanced, Advances, forgetting, start_by}
+use Rattle.record_files.specs.Calls.{AdvancesOn, ReadsBeside}
 use Rattle.record_files.specs.Writing.{Coming, did_output}
 
 -- nothing is done
@@ -30,9 +32,9 @@ pub nothing_as : {A B T E : Type 0} {tells : Bool} {old mid : Meaning Shelf} {p 
 nothing_as r one = record { state = one.state; printed = one.printed; moments = one.moments }
 
 -- a part of the work after a read
-pub after_read : {T E : Type 0} {tells : Bool} {old mid new : Meaning Shelf} {n k m : ℕ} {result : Result T E} {a b : Coming} {u v w : OpenWriter} {p q : Option Place} → RunsNothing tells old mid result → k ≡ n → v ≡ u
+after_nothing_read : {T E : Type 0} {tells : Bool} {old mid new : Meaning Shelf} {n k m : ℕ} {result : Result T E} {a b : Coming} {u v w : OpenWriter} {p q : Option Place} → RunsNothing tells old mid result → k ≡ n → v ≡ u
     → (r : Result (Result (Unit {0}) Fault) Stop) → Advances tells a b v w p q mid new k m r → Advances tells a b u w p q old new n m r
-after_read {tells = tells} {old = old} {mid = mid} {new = new} {n = n} {k = k} {m = m} {a = a} {b = b} {u = u} {v = v} {w = w} {p = p} {q = q} nothing count same r step = by_result r step
+after_nothing_read {tells = tells} {old = old} {mid = mid} {new = new} {n = n} {k = k} {m = m} {a = a} {b = b} {u = u} {v = v} {w = w} {p = p} {q = q} nothing count same r step = by_result r step
   where
     all_as : (z : Result (Result (Unit {0}) Fault) Stop) → Works tells (did_output mid.state v a) mid new k m z → Works tells (did_output old.state u a) old new n m z
     all_as z works =
@@ -54,6 +56,10 @@ after_read {tells = tells} {old = old} {mid = mid} {new = new} {n = n} {k = k} {
     by_result (Ok (Ok x)) part = record { step = put_behind part.step }
     by_result (Ok (Err e)) part = record { step = all_as (Ok (Err e)) part.step }
     by_result (Err e) part = record { step = all_as (Err e) part.step }
+
+pub after_read : {X T : Type 0} (g : Ghosts X) {Holds : Shelf → T → Type 0} {old mid new : X} {result : Result T Stop} {a b : Coming} {p q : Option Place} → ReadsBeside g Holds old mid result → IsTrue g.tells
+    → (r : Result (Result (Unit {0}) Fault) Stop) → AdvancesOn g a b p q mid new r → AdvancesOn g a b p q old new r
+after_read g read told r step = after_nothing_read (read.runs told) read.count (read.writer told) r step
 
 -- an answer that is forgotten
 pub stopped_forgets : {X : Type 0} {tells : Bool} {a b c : Coming} {u v w : OpenWriter} {p q x y : Option Place} {old new : Meaning Shelf} {n m : ℕ} (e : Stop) (r : Result (Result X Fault) Stop) → IsErr r → Advances tells a c u w p q old new n m (Err e) → Advances tells a b u v x y old new n m (forgetting r)

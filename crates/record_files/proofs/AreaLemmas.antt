@@ -24,6 +24,15 @@ use Rattle.util_steps.specs.Copying.{did_all, did_blocks, has_data, refusing, so
 use Rattle.record_files.specs.Writing.{Coming, all_but_last, appended, written}
 use Rattle.record_files.proofs.KeepLemmas.{IsReadable, area_readable, read_all}
 
+-- a fault after steps is no success
+pub no_record : (s : Shelf) (x : Unit {0}) (d : Did (Unit {0}) Fault) → Ok x ≡ (and_then s d (λ (y : Unit {0}) u. answered {X = Unit {0}} (Err BadRecord))).answer → ⊥
+unfolding and_then
+no_record s x d at = by_answer d.answer at
+  where
+    by_answer : (a : Result (Unit {0}) Fault) → Ok x ≡ (on_answer s d.operations a (λ (y : Unit {0}) u. answered {X = Unit {0}} (Err BadRecord))).answer → ⊥
+    by_answer (Ok y) e = cc
+    by_answer (Err f) e = cc
+
 -- ---- the library after an area
 
 module _ (s : Shelf) (out : SetRef) (c : Coming) (x : Unit {0}) (is : IsReadable (body_on s out.v out.dsn.bytes)) where
@@ -46,14 +55,6 @@ module _ (s : Shelf) (out : SetRef) (c : Coming) (x : Unit {0}) (is : IsReadable
       (area_readable (made s making) out.v out.dsn (blocks_for s t (map content c.blocks)) out.v out.dsn.bytes made_readable)
   room_readable false at = let never : ⊥ = cc in absurd never
 
-  no_record : (d : Did (Unit {0}) Fault) → Ok x ≡ (and_then s d (λ (y : Unit {0}) u. answered {X = Unit {0}} (Err BadRecord))).answer → ⊥
-  unfolding and_then
-  no_record d at = by_answer d.answer at
-    where
-      by_answer : (a : Result (Unit {0}) Fault) → Ok x ≡ (on_answer s d.operations a (λ (y : Unit {0}) u. answered {X = Unit {0}} (Err BadRecord))).answer → ⊥
-      by_answer (Ok y) e = cc
-      by_answer (Err e) e' = cc
-
   all_readable : Ok x ≡ (did_all s t c.blocks).answer → IsReadable (body_on (after_operations s (did_all s t c.blocks).operations) out.v out.dsn.bytes)
   unfolding did_all did_write with_reason
   all_readable at = by_data (list_all has_data c.blocks) at
@@ -61,7 +62,7 @@ module _ (s : Shelf) (out : SetRef) (c : Coming) (x : Unit {0}) (is : IsReadable
       by_data : (k : Bool) → Ok x ≡ (if k then refusing (did_write s t (map content c.blocks)) else and_then s (refusing (did_puts s (begun t) (map content (with_data c.blocks)))) (λ (y : Unit {0}) u. answered (Err BadRecord))).answer
           → IsReadable (body_on (after_operations s (if k then refusing (did_write s t (map content c.blocks)) else and_then s (refusing (did_puts s (begun t) (map content (with_data c.blocks)))) (λ (y : Unit {0}) u. answered (Err BadRecord))).operations) out.v out.dsn.bytes)
       by_data true e = room_readable making.all e
-      by_data false e = absurd (no_record (refusing (did_puts s (begun t) (map content (with_data c.blocks)))) e)
+      by_data false e = absurd (no_record s x (refusing (did_puts s (begun t) (map content (with_data c.blocks)))) e)
 
   written_readable : Ok x ≡ (written s t c).answer → IsReadable (body_on (after_operations s (written s t c).operations) out.v out.dsn.bytes)
   unfolding written
@@ -69,10 +70,10 @@ module _ (s : Shelf) (out : SetRef) (c : Coming) (x : Unit {0}) (is : IsReadable
     where
       by_fault : (b : Bool) → Ok x ≡ (if b then and_then s (did_blocks s (begun t) (all_but_last c.blocks)) (λ (y : Unit {0}) u. answered (Err BadRecord)) else did_all s t c.blocks).answer
           → IsReadable (body_on (after_operations s (if b then and_then s (did_blocks s (begun t) (all_but_last c.blocks)) (λ (y : Unit {0}) u. answered (Err BadRecord)) else did_all s t c.blocks).operations) out.v out.dsn.bytes)
-      by_fault true e = absurd (no_record (did_blocks s (begun t) (all_but_last c.blocks)) e)
+      by_fault true e = absurd (no_record s x (did_blocks s (begun t) (all_but_last c.blocks)) e)
       by_fault false e = all_readable e
 
-  appended_readable : Ok x ≡ (appended s out modes.Area c).answer → IsReadable (body_on (after_operations s (appended s out modes.Area c).operations) out.v out.dsn.bytes)
+  pub appended_readable : Ok x ≡ (appended s out modes.Area c).answer → IsReadable (body_on (after_operations s (appended s out modes.Area c).operations) out.v out.dsn.bytes)
   unfolding appended and_then did_begin with_reason
   appended_readable at = by_begin (begin_refusal s t) at
     where

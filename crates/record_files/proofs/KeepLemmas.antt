@@ -50,7 +50,7 @@ changed_if name f reads (Some x) is = by_test (has_name name x)
     by_test false = is
 
 -- a change of data sets that keeps what can be read
-changed_readable : (s after : Shelf) (v : ℕ) (name : List ℕ) (f : DataSet → DataSet) → ((x : DataSet) → (f x).name ≡ x.name) → ((x : DataSet) → IsReadable x.body → IsReadable (f x).body) → ChangesSet s v name f after → (v2 : ℕ) (n2 : List ℕ) → IsReadable (body_on s v2 n2) → IsReadable (body_on after v2 n2)
+pub changed_readable : (s after : Shelf) (v : ℕ) (name : List ℕ) (f : DataSet → DataSet) → ((x : DataSet) → (f x).name ≡ x.name) → ((x : DataSet) → IsReadable x.body → IsReadable (f x).body) → ChangesSet s v name f after → (v2 : ℕ) (n2 : List ℕ) → IsReadable (body_on s v2 n2) → IsReadable (body_on after v2 n2)
 unfolding body_on
 changed_readable s after v name f keeps reads c v2 n2 is =
     ⊎_elim (λ other. subst (λ (o : Option DataSet). IsReadable (body_of o)) (sym other) is)

@@ -1,3 +1,5 @@
+pub mod CallLemmas
+pub mod Reading
 pub mod AcceptedLemmas
 pub mod AdvanceLemmas
 pub mod PutLemmas

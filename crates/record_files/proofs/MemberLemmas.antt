@@ -6,6 +6,7 @@ use Rattle.ebcdic_names.specs.declared.names.Name8.{Name8}
 use Rattle.vol_model.specs.declared.contents.Block.{Block}
 use Rattle.vol_model.specs.declared.contents.Entry.{Entry}
 use Rattle.vol_model.specs.declared.contents.Place.{Place}
+use Rattle.vol_model.specs.declared.refusals.Refusal.{Refusal}
 use Rattle.vol_model.specs.Places.{last_place}
 use Rattle.vol_model.specs.Reading.{Picks, blocks_from}
 use Rattle.vol_model.specs.Shelf.{has_member}
@@ -21,13 +22,15 @@ found_first name e es true rest = refl
 found_first name e es false rest = rest
 
 -- an entry of a name is found where there is one
-found_some : (name : List ℕ) (es : List Entry) → is_some (find (λ (x : Entry). bytes_eq x.name.bytes name) es) ≡ has_member name es
+pub found_some : (name : List ℕ) (es : List Entry) → is_some (find (λ (x : Entry). bytes_eq x.name.bytes name) es) ≡ has_member name es
 found_some name [] = refl
 found_some name (e ∷ es) = found_first name e es (bytes_eq e.name.bytes name) (found_some name es)
 
-pub entry_told : (name : List ℕ) (r : Result (List Entry) ℕ) (es : List Entry) (found : Option Entry) → r ≡ Ok es → Picks (Ok found) r (λ (l : List Entry). find (λ (x : Entry). bytes_eq x.name.bytes name) l) → is_some found ≡ has_member name es
-entry_told name (Ok l) es found is picks = let same : l ≡ es = cc in ap is_some picks ∙ found_some name l ∙ ap (has_member name) same
-entry_told name (Err t) es found is picks = let never : ⊥ = cc in absurd never
+pub entry_told : (found named : Option Entry) → (let r : Result (Option Entry) Refusal = Ok found in r) ≡ Ok named → named ≡ found
+entry_told found named is = cc
+
+pub entry_answered : (r : Refusal) (named : Option Entry) → (let x : Result (Option Entry) Refusal = Err r in x) ≡ Ok named → ⊥
+entry_answered r named is = cc
 
 -- the entry that is told is that of the name
 pub entry_picked : (name : Name8) (r : Result (List Entry) ℕ) (es : List Entry) (found : Option Entry) → r ≡ Ok es → Picks (Ok found) r (λ (l : List Entry). find (λ (x : Entry). bytes_eq x.name.bytes name.bytes) l) → entry_named name es ≡ found

@@ -17,14 +17,14 @@ use Rattle.util_steps.specs.Copying.{target}
 use Rattle.record_files.specs.Advancing.{first_at, first_place_put}
 use Rattle.record_files.specs.Members.{first_place, member_start}
 
-with_none : (body : Body) → with_blocks body [] ≡ body
+pub with_none : (body : Body) → with_blocks body [] ≡ body
 with_none (bodies.Seq bs) = ap (λ (l : List Block). bodies.Seq l) (append-nil bs)
 with_none (bodies.Part dir end es bs) = ap (λ (l : List Block). bodies.Part dir end es l) (append-nil bs)
 with_none bodies.Catalog = refl
 with_none bodies.Other = refl
 with_none (bodies.Unreadable track) = refl
 
-with_more : (body : Body) (xs ys : List Block) → with_blocks (with_blocks body xs) ys ≡ with_blocks body (xs ++ ys)
+pub with_more : (body : Body) (xs ys : List Block) → with_blocks (with_blocks body xs) ys ≡ with_blocks body (xs ++ ys)
 with_more (bodies.Seq bs) xs ys = ap (λ (l : List Block). bodies.Seq l) (append_assoc bs xs ys)
 with_more (bodies.Part dir end es bs) xs ys = ap (λ (l : List Block). bodies.Part dir end es l) (append_assoc bs xs ys)
 with_more bodies.Catalog xs ys = refl
@@ -32,7 +32,7 @@ with_more bodies.Other xs ys = refl
 with_more (bodies.Unreadable track) xs ys = refl
 
 -- contents after others
-placed_joined : (d : DiskType) (xs ys : List Content) (body : Body) → placed d body (xs ++ ys) ≡ placed d body xs ++ placed d (with_blocks body (placed d body xs)) ys
+pub placed_joined : (d : DiskType) (xs ys : List Content) (body : Body) → placed d body (xs ++ ys) ≡ placed d body xs ++ placed d (with_blocks body (placed d body xs)) ys
 unfolding placed
 placed_joined d [] ys body = ap (λ (b : Body). placed d b ys) (sym (with_none body))
 placed_joined d (c ∷ xs) ys body =
@@ -40,12 +40,12 @@ placed_joined d (c ∷ xs) ys body =
     let more = with_blocks body (b ∷ []) in
     ap (λ (l : List Block). b ∷ l) (placed_joined d xs ys more ∙ ap (λ (u : Body). placed d more xs ++ placed d u ys) (with_more body (b ∷ []) (placed d more xs)))
 
-placed_length : (d : DiskType) (cs : List Content) (body : Body) → length (placed d body cs) ≡ length cs
+pub placed_length : (d : DiskType) (cs : List Content) (body : Body) → length (placed d body cs) ≡ length cs
 unfolding placed
 placed_length d [] body = refl
 placed_length d (c ∷ cs) body = ap suc (placed_length d cs (with_blocks body (next_block d body c ∷ [])))
 
-drop_front : {X : Type 0} (xs ys : List X) → drop (length xs) (xs ++ ys) ≡ ys
+pub drop_front : {X : Type 0} (xs ys : List X) → drop (length xs) (xs ++ ys) ≡ ys
 drop_front [] ys = refl
 drop_front (x ∷ xs) ys = drop_front xs ys
 

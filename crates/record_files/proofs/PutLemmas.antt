@@ -1,7 +1,7 @@
 -- What the calls of a writer of records put, and what is still to come after them.
 use Rattle.std.proofs.Common.{◌≡◌, ◌≤◌, ℕ, Bool, true, false, List, [], ◌∷◌, ◌++◌, length, refl, sym, ◌∙◌, ap, subst}
 use Rattle.std.proofs.lemmas.List.{append-nil}
-use Rattle.std.specs.Prelude.{Option, Result, Ok, Err, IsErr, IfOk}
+use Rattle.std.specs.Prelude.{Option, Result, Ok, Err, IsErr}
 use Rattle.vol_model.specs.declared.contents.Place.{Place}
 use Rattle.stop_model.specs.Moments.{Meaning}
 use Rattle.record_blocks.specs.declared.packer.Packer.{Packer}
@@ -42,16 +42,6 @@ fault_behind tells w v m n =
     let is : did_output m.state v (coming_of (held_by w ++ []) true) ≡ record { operations = []; answer = Err BadRecord } = ap (λ (l : List (List ℕ)). did_output m.state v (coming_of l true)) (append-nil (held_by w)) ∙ fault_last m.state v (held_by w) (few_held w.holds w.held.items) in
     subst (λ (d : Did (Unit {0}) Fault). Works tells d m m n n (Ok (Err BadRecord))) (sym is) (works_none tells m n (Err BadRecord))
 
--- the same things to come, by another name
-pub works_as : {tells : Bool} {a b : Coming} (v : OpenWriter) {old new : Meaning Shelf} {n m : ℕ} (r : Result (Result (Unit {0}) Fault) Stop) → a ≡ b → Works tells (did_output old.state v b) old new n m r → Works tells (did_output old.state v a) old new n m r
-works_as {tells = tells} v {old = old} {new = new} {n = n} {m = m} r is works = subst (λ (c : Coming). Works tells (did_output old.state v c) old new n m r) (sym is) works
-
--- an end by a fault or a stop is one, whatever was to come
-pub broken_advances : {tells : Bool} {a b : Coming} {u v : OpenWriter} {p q : Option Place} {old new : Meaning Shelf} {n m : ℕ} (r : Result (Result (Unit {0}) Fault) Stop) → IfOk r (λ answer. IsErr answer) → Works tells (did_output old.state u a) old new n m r → Advances tells a b u v p q old new n m r
-broken_advances (Ok (Ok z)) broken works = let no : ⊥ = cc in absurd no
-broken_advances (Ok (Err e)) broken works = record { step = works }
-broken_advances (Err e) broken works = record { step = works }
-
 -- a stop is one, whatever was to come
 pub stopped_advances : {tells : Bool} {a b : Coming} {u v : OpenWriter} {p q : Option Place} {old new : Meaning Shelf} {n m : ℕ} (r : Result (Result (Unit {0}) Fault) Stop) → IsErr r → Works tells (did_output old.state u a) old new n m r → Advances tells a b u v p q old new n m r
 stopped_advances (Ok x) failed works = let no : ⊥ = cc in absurd no
@@ -61,10 +51,6 @@ stopped_advances (Err e) failed works = record { step = works }
 pub stops_alike : {tells : Bool} {a b c : Coming} {u v w : OpenWriter} {p q x y : Option Place} {old new : Meaning Shelf} {n m : ℕ} (e : Stop) (r : Result (Result (Unit {0}) Fault) Stop) → IsErr r → Advances tells a b u v p q old new n m (Err e) → Advances tells a c u w x y old new n m r
 stops_alike e (Ok z) failed part = let no : ⊥ = cc in absurd no
 stops_alike {a = a} {u = u} {old = old} e (Err f) failed part = record { step = works_broken (did_output old.state u a) (Err f) refl part.step.runs.moments }
-
-pub stopped_works : {tells : Bool} {a b : Coming} {u v : OpenWriter} {p q : Option Place} {old new : Meaning Shelf} {n m : ℕ} (e : Stop) (r : Result (Result (Unit {0}) Fault) Stop) → IsErr r → Advances tells a b u v p q old new n m (Err e) → Works tells (did_output old.state u a) old new n m r
-stopped_works e (Ok x) failed part = let no : ⊥ = cc in absurd no
-stopped_works {a = a} {u = u} {old = old} e (Err f) failed part = works_broken (did_output old.state u a) (Err f) refl part.step.runs.moments
 
 -- a fault is one, whatever was to come after it
 pub fault_alike : {tells : Bool} {a b c : Coming} {u v w : OpenWriter} {p q x y : Option Place} {old new : Meaning Shelf} {n m : ℕ} (e : Fault) → Advances tells a b u v p q old new n m (Ok (Err e)) → Advances tells a c u w x y old new n m (Ok (Err e))

@@ -1,5 +1,5 @@
 -- What a writer of records makes of them, call by call.
-use Rattle.std.proofs.Common.{◌≡◌, ◌<◌, ◌≤◌, ℕ, Bool, true, false, List, ◌∷◌, length, refl, sym, ap, subst, arith}
+use Rattle.std.proofs.Common.{◌≡◌, ◌<◌, ◌≤◌, ℕ, Bool, true, false, List, ◌∷◌, length, sym, ap, subst, arith}
 use Rattle.std.proofs.lemmas.Bool.Decides.{nat_tests}
 use Rattle.std.specs.Prelude.{nat_lt, if◌then◌else◌, Option, Result}
 use Rattle.vol_model.specs.declared.contents.Place.{Place}
@@ -33,10 +33,6 @@ fit w st = fitting (longest (format_of w.packer)) st.broken st.records
 -- what comes of records that fit
 abbrev pub coming_fit : RecordWriter → Stream → Coming
 coming_fit w f = coming_of (blocks_to_come w f.records) f.broken
-
-pub coming_as : (w : RecordWriter) (st : Stream) → coming w st ≡ coming_fit w (fit w st)
-unfolding coming
-coming_as w st = refl
 
 module _ (w : RecordWriter) (rec : List ℕ) (st : Stream) where
   -- a record that isn't too long is packed in front of the others

@@ -10,12 +10,12 @@ use Rattle.record_blocks.specs.declared.pieces.BlockErr.{BlockErr}
 use Rattle.record_blocks.specs.Blocks.{Segment, piece}
 use Rattle.record_blocks.specs.Joiner.{IsFaultOf, Takes, open_of, records_with, whole_of}
 use Rattle.record_blocks.specs.Joining.{bytes_taken, go_on, is_bad, joined_records}
-use Rattle.record_blocks.specs.Packing.{is_spanned, longest}
+use Rattle.record_blocks.specs.Packing.{longest}
 use Rattle.record_blocks.specs.Reading.{Reading, empty_reading, failed_reading, with_segment}
 use Rattle.record_blocks.specs.Segments.{bytes_with, ends}
 use Rattle.record_files.specs.Streams.{Stream, at_end, at_fault, with_record}
 use Rattle.record_files.specs.Joined.{is_left_open, records_left, then_blocks}
-use Rattle.record_files.specs.Reading.{joined, joined_then, read_then, records_read}
+use Rattle.record_files.specs.Reading.{joined, joined_then, read_then}
 
 -- ---- one segment
 
@@ -103,17 +103,6 @@ pub block_fault : (j : Option Joiner) (e : BlockErr) → records_left j (failed_
 unfolding joined
 block_fault None e = refl
 block_fault (Some j) e = refl
-
--- ---- what joins them
-
-pub joins_none : (j : Joiner) (format : Format) (r : Reading) → open_of j ≡ None → j.format ≡ format → is_spanned format ≡ true → records_left (Some j) r ≡ records_read format r
-joins_none j format r none same spanned =
-    ap (λ (f : Format). joined (longest f) (is_some r.fault) (open_of j) r.segments) same
-    ∙ ap (λ (o : Option (List ℕ)). joined (longest format) (is_some r.fault) o r.segments) none
-    ∙ sym (ap (λ (t : Bool). if t then joined (longest format) (is_some r.fault) None r.segments else records_left None r) spanned)
-
-pub not_joined : (format : Format) (r : Reading) → is_spanned format ≡ false → records_left None r ≡ records_read format r
-not_joined format r plain = sym (ap (λ (t : Bool). if t then joined (longest format) (is_some r.fault) None r.segments else records_left None r) plain)
 
 -- ---- the segments of a block
 

@@ -1,5 +1,5 @@
 -- How far the putting of blocks has come.
-use Rattle.std.specs.Prelude.{◌≡◌, ℕ, Bool, true, false, List, [], ◌∷◌, map, Option, Some, None, Result, Ok, Err}
+use Rattle.std.specs.Prelude.{◌≡◌, ℕ, Bool, true, false, List, [], ◌∷◌, ◌++◌, map, Option, Some, None, Result, Ok, Err}
 use Rattle.stop_model.specs.Moments.{Meaning}
 use Rattle.vol_model.specs.declared.answers.Stop.{Stop}
 use Rattle.vol_model.specs.declared.contents.Block.{Block}
@@ -17,6 +17,10 @@ use Rattle.record_files.specs.Writing.{Coming, did_output}
 -- these operations are done
 abbrev pub done : List Op → Did (Unit {0}) Fault
 done ops = record { operations = ops; answer = Ok tt }
+
+-- the place of a content that is put by a writer
+abbrev pub put_place : Shelf → OpenWriter → Content → Place
+put_place shelf w c = place_on shelf w.target (put_first w.target.mode (target_body shelf w.target) ++ w.puts) c
 
 -- where the first of contents is put by a writer that has just begun, if there is one
 abbrev pub first_at : Shelf → Target → List Content → Option Place

@@ -12,13 +12,14 @@ use Rattle.vol_model.specs.declared.contents.Entry.{Entry}
 use Rattle.vol_model.specs.declared.contents.Place.{Place}
 use Rattle.vol_model.specs.declared.contents.Shelf.{Shelf}
 use Rattle.vol_model.specs.declared.refusals.Refusal.{Refusal}
-use Rattle.vol_model.specs.declared.refusals.Refusal.TheVariants.{NoMember, Unreadable}
+use Rattle.vol_model.specs.declared.refusals.Refusal.TheVariants.{NoMember}
 use Rattle.vol_model.specs.declared.requests.Op.{Op}
 use Rattle.vol_model.specs.declared.requests.Op.TheVariants.{Enter}
 use Rattle.vol_model.specs.Places.{content, last_place}
-use Rattle.vol_model.specs.Reading.{FirstOf, blocks_from, member, set_info}
+use Rattle.vol_model.specs.Reading.{member, set_info}
 use Rattle.vol_model.specs.Shelf.{blocks_of}
 use Rattle.vol_model.specs.Writing.{blocks_for, body_on}
+use Rattle.util_steps.specs.declared.calls.Fault.{Fault}
 use Rattle.util_steps.specs.declared.calls.SetRef.{SetRef}
 use Rattle.util_steps.specs.Copying.{behind_place, target}
 use Rattle.record_files.specs.declared.attributes.Purpose.TheVariants as purposes
@@ -84,14 +85,8 @@ abbrev pub FindsMember : Result (SetInfo × Place) Refusal → Result (DataSet �
 FindsMember (Ok m) found = (x : DataSet) × (found ≡ Ok (x, m.1)) × (m.0 ≡ set_info x)
 FindsMember (Err r) found = found ≡ Err r
 
--- the first block at or after a place, or none, or the refusal of a set that can't be read
-abbrev pub FindsBlock : Result Bool Refusal → Result (List Block) ℕ → Place → Block → Type 0
-FindsBlock (Ok more) body place b = (bs : List Block) × (body ≡ Ok bs) × FirstOf more (blocks_from place bs) b
-FindsBlock (Err (Unreadable track)) body place b = body ≡ Err track
-FindsBlock (Err _) body place b = ⊥
-
 -- of the blocks that are left the place of the first is answered, and the place after it
-abbrev pub TakesLast : Result (Option (Place × Place)) Refusal → List Block → Type 0
+abbrev pub TakesLast : Result (Option (Place × Place)) Fault → List Block → Type 0
 TakesLast (Ok (Some both)) left = (b : Block) × (rest : List Block) × (left ≡ b ∷ rest) × (both.0 ≡ b.place) × (both.1 ≡ behind_place b.place)
 TakesLast (Ok None) left = left ≡ []
 TakesLast (Err r) left = ⊥

@@ -1,15 +1,13 @@
 //! The attributes of the records that are read and written, and the data sets that hold them.
-ghost use Rattle.std.specs.Prelude.{◌≡◌, false, is_some, IsTrue, IsFalse, IfOk, Ok, Err};
-ghost use Rattle.stop_model.specs.Moments.{Same};
-ghost use Rattle.vol_model.specs.Calls.{Keeps};
-ghost use Rattle.vol_model.specs.Runs.{RunCall};
+ghost use Rattle.std.specs.Prelude.{◌≡◌};
+ghost use Rattle.util_steps.specs.Taking.{IsReady, Reads};
 ghost use Rattle.record_files.specs.Attributes.{FindsSet, breaks_rule, first_refusal, format_in, info_if, output_attr, rank, serves, usable_set, with_card_format, with_dcb, with_format_of};
 
 use ebcdic_names::Dsn;
 use jcl_forms::Dcb;
 use record_blocks::Format;
 use util_steps::SetRef;
-use vol_model::{Attr, Kind, Machine, Refusal, SetInfo, Stop, WorkErr, is_catalog};
+use vol_model::{Attr, Kind, Machine, Refusal, SetInfo, Stop, is_catalog};
 
 /// The format that these attributes give.
 pub fn format_in(attr: &Attr) -> Format
@@ -130,21 +128,14 @@ pub fn find_set<M: Machine>(
     purpose: Purpose,
     set: &SetRef,
 ) -> Result<Result<SetInfo, Refusal>, Stop>
-    requires sound { IsTrue (M.status machine.old).is_sound }
-    requires closed { IsFalse (M.status machine.old).is_open }
-    ensures found { IsTrue M.tells → IfOk result (λ answer. FindsSet answer (usable_set (M.meaning machine.old).state purpose set.now)) }
-    ensures same { IsTrue M.tells → Same (M.meaning machine.old) (M.meaning machine.new) }
-    ensures promise { IsTrue M.tells → Keeps (M.meaning machine.old).clock (M.promise machine.old) (M.promise machine.new) }
-    ensures count { (M.status machine.new).done ≡ (M.status machine.old).done }
-    ensures faults { RunCall false (M.status machine.old) (M.status machine.new) result }
+    requires { IsReady M.Machine machine.old }
+    ensures { Reads M.Machine (λ shelf answer. FindsSet answer (usable_set shelf purpose set.now)) machine.old machine.new result }
 {
     let mounted = machine.volume(set.v).is_some();
-    match machine.attr(set.v, &set.dsn) {
-        Ok(Some(info)) => Ok(unless_refused(purpose, &set.dsn, info)),
-        Ok(None) if mounted => Ok(Err(Refusal::NoSet)),
-        Ok(None) => Ok(Err(Refusal::NoVolume)),
-        Err(WorkErr::Memory) => Err(Stop::Memory),
-        Err(WorkErr::Device) => Err(Stop::Device),
+    match machine.attr(set.v, &set.dsn)? {
+        Some(info) => Ok(unless_refused(purpose, &set.dsn, info)),
+        None if mounted => Ok(Err(Refusal::NoSet)),
+        None => Ok(Err(Refusal::NoVolume)),
     }
 }
 

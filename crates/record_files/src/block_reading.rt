@@ -3,12 +3,11 @@ ghost use Rattle.std.specs.Prelude.{◌≡◌, ◌≤◌, ◌<◌, ◌&&◌, ℕ
 ghost use Rattle.record_blocks.specs.Blocks.{piece};
 ghost use Rattle.record_blocks.specs.Reading.{Reading, empty_reading, with_segment};
 ghost use Rattle.vol_model.specs.declared.contents.Shelf.{Shelf};
-ghost use Rattle.vol_model.specs.Calls.{Keeps};
 ghost use Rattle.vol_model.specs.Lawful.{IsLawfulBlock};
 ghost use Rattle.vol_model.specs.Places.{is_before, is_end_of_file};
-ghost use Rattle.vol_model.specs.Runs.{RunCall};
 ghost use Rattle.util_steps.specs.Copying.{behind_place};
-ghost use Rattle.util_steps.specs.Steps.{IsOnward, RunsNothing};
+ghost use Rattle.util_steps.specs.Steps.{IsOnward};
+ghost use Rattle.record_files.specs.Calls.{ReadsBeside};
 ghost use Rattle.record_files.specs.Joined.{GoesOn, StepGives, is_left_open, records_left};
 ghost use Rattle.record_files.specs.Reader.{HasTaken, block_stream, in_block, most_left};
 ghost use Rattle.record_files.specs.Streams.{Stream};
@@ -73,8 +72,8 @@ fn take_segment(reader: &mut BlockRecords) -> Result<Option<Step>, AllocError>
     Ok(Some(step))
 }
 
-// Whether a block ends a member.
-fn is_end_of_file(buf: &BlockBuf) -> bool
+/// Whether a block ends a member.
+pub fn is_end_of_file(buf: &BlockBuf) -> bool
     ensures { result ≡ is_end_of_file buf.now }
 {
     buf.key().is_empty() && buf.payload().is_empty()
@@ -126,13 +125,8 @@ fn next_place(place: Place, buf: &BlockBuf) -> Place
 fn read_next<M: Machine>(machine: &mut M, reader: &mut BlockRecords) -> Result<Step, Stop>
     requires sound { IsTrue (M.status machine.old).is_sound }
     requires empty { in_block reader.old ≡ empty_reading }
-    ensures gives { IsTrue M.tells → IfOk result (λ step. StepGives step (block_stream reader.old (M.meaning machine.old).state) reader.new.rec.items (block_stream reader.new (M.meaning machine.old).state)) }
+    ensures reads { ReadsBeside M.Machine (λ shelf step. StepGives step (block_stream reader.old shelf) reader.new.rec.items (block_stream reader.new shelf)) machine.old machine.new result }
     ensures fewer { IfOk result (λ step. GoesOn step → most_left reader.new < most_left reader.old) }
-    ensures runs { IsTrue M.tells → RunsNothing M.tells_prints (M.meaning machine.old) (M.meaning machine.new) result }
-    ensures writer { IsTrue M.tells → M.writer machine.new ≡ M.writer machine.old }
-    ensures promise { IsTrue M.tells → Keeps (M.meaning machine.old).clock (M.promise machine.old) (M.promise machine.new) }
-    ensures count { (M.status machine.new).done ≡ (M.status machine.old).done }
-    ensures faults { RunCall (M.status machine.old).is_open (M.status machine.old) (M.status machine.new) result }
 {
     reader.mark = None;
     match next_block(machine, &reader.set, reader.place, &mut reader.buf)? {
@@ -151,18 +145,12 @@ fn read_next<M: Machine>(machine: &mut M, reader: &mut BlockRecords) -> Result<S
 // Takes the next segment, of this block or, where nothing is left of it, by reading the next.
 fn step<M: Machine>(machine: &mut M, reader: &mut BlockRecords) -> Result<Step, Stop>
     requires sound { IsTrue (M.status machine.old).is_sound }
-    ensures gives { IsTrue M.tells → IfOk result (λ step. StepGives step (block_stream reader.old (M.meaning machine.old).state) reader.new.rec.items (block_stream reader.new (M.meaning machine.old).state)) }
+    ensures reads { ReadsBeside M.Machine (λ shelf step. StepGives step (block_stream reader.old shelf) reader.new.rec.items (block_stream reader.new shelf)) machine.old machine.new result }
     ensures fewer { IfOk result (λ step. GoesOn step → most_left reader.new < most_left reader.old) }
-    ensures runs { IsTrue M.tells → RunsNothing M.tells_prints (M.meaning machine.old) (M.meaning machine.new) result }
-    ensures writer { IsTrue M.tells → M.writer machine.new ≡ M.writer machine.old }
-    ensures promise { IsTrue M.tells → Keeps (M.meaning machine.old).clock (M.promise machine.old) (M.promise machine.new) }
-    ensures count { (M.status machine.new).done ≡ (M.status machine.old).done }
-    ensures faults { RunCall (M.status machine.old).is_open (M.status machine.old) (M.status machine.new) result }
 {
-    match take_segment(reader) {
-        Ok(Some(step)) => Ok(step),
-        Ok(None) => read_next(machine, reader),
-        Err(AllocError) => Err(Stop::Memory),
+    match take_segment(reader)? {
+        Some(step) => Ok(step),
+        None => read_next(machine, reader),
     }
 }
 

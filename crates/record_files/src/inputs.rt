@@ -1,8 +1,6 @@
 //! What is read: cards, a data set or a member.
-ghost use Rattle.std.specs.Prelude.{◌≡◌, false, IsTrue, IsFalse, IfOk};
-ghost use Rattle.stop_model.specs.Moments.{Same};
-ghost use Rattle.vol_model.specs.Calls.{Keeps};
-ghost use Rattle.vol_model.specs.Runs.{RunCall};
+ghost use Rattle.std.specs.Prelude.{◌≡◌};
+ghost use Rattle.util_steps.specs.Taking.{IsReady, Reads};
 ghost use Rattle.record_files.specs.Attributes.{format_with, found_both};
 ghost use Rattle.record_files.specs.Inputs.{IsFound, found_input, from, input_view};
 
@@ -69,13 +67,8 @@ fn find_source<M: Machine>(
     set: &SetRef,
     member: Option<Name8>,
 ) -> Result<Result<RecordInput, Refusal>, Stop>
-    requires sound { IsTrue (M.status machine.old).is_sound }
-    requires closed { IsFalse (M.status machine.old).is_open }
-    ensures found { IsTrue M.tells → IfOk result (λ answer. IsFound answer (found_input (M.meaning machine.old).state (from set.now member))) }
-    ensures same { IsTrue M.tells → Same (M.meaning machine.old) (M.meaning machine.new) }
-    ensures promise { IsTrue M.tells → Keeps (M.meaning machine.old).clock (M.promise machine.old) (M.promise machine.new) }
-    ensures count { (M.status machine.new).done ≡ (M.status machine.old).done }
-    ensures faults { RunCall false (M.status machine.old) (M.status machine.new) result }
+    requires { IsReady M.Machine machine.old }
+    ensures { Reads M.Machine (λ shelf answer. IsFound answer (found_input shelf (from set.now member))) machine.old machine.new result }
 {
     match member {
         Some(name) => match find_member(machine, set, &name)? {
@@ -101,13 +94,8 @@ pub fn find_input<M: Machine>(
     machine: &mut M,
     input: &Input<'_>,
 ) -> Result<Result<RecordInput, Refusal>, Stop>
-    requires sound { IsTrue (M.status machine.old).is_sound }
-    requires closed { IsFalse (M.status machine.old).is_open }
-    ensures found { IsTrue M.tells → IfOk result (λ answer. IsFound answer (found_input (M.meaning machine.old).state (input_view input.now))) }
-    ensures same { IsTrue M.tells → Same (M.meaning machine.old) (M.meaning machine.new) }
-    ensures promise { IsTrue M.tells → Keeps (M.meaning machine.old).clock (M.promise machine.old) (M.promise machine.new) }
-    ensures count { (M.status machine.new).done ≡ (M.status machine.old).done }
-    ensures faults { RunCall false (M.status machine.old) (M.status machine.new) result }
+    requires { IsReady M.Machine machine.old }
+    ensures { Reads M.Machine (λ shelf answer. IsFound answer (found_input shelf (input_view input.now))) machine.old machine.new result }
 {
     match input {
         Input::Cards(_) => Ok(Ok(RecordInput {

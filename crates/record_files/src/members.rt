@@ -1,27 +1,21 @@
 //! Members that are read and written: their entries in a directory, and where they begin.
-ghost use Rattle.std.specs.Prelude.{◌≡◌, false, if◌then◌else◌, unwrap_or, Ok, List, IsTrue, IsFalse, IfOk, IfSome};
-ghost use Rattle.stop_model.specs.Moments.{Same};
+ghost use Rattle.std.specs.Prelude.{◌≡◌, false, if◌then◌else◌, unwrap_or, Ok, List, IsErrOf, IfOk, IfSome};
 ghost use Rattle.vol_model.specs.declared.contents.Block.{Block};
 ghost use Rattle.vol_model.specs.declared.contents.Entry.{Entry};
-ghost use Rattle.vol_model.specs.Calls.{Keeps};
-ghost use Rattle.vol_model.specs.Lawful.{IsLawfulBlock};
-ghost use Rattle.vol_model.specs.Places.{is_before, last_place};
+ghost use Rattle.vol_model.specs.Places.{last_place};
 ghost use Rattle.vol_model.specs.Reading.{blocks_from, entries_in};
-ghost use Rattle.vol_model.specs.Runs.{RunCall};
 ghost use Rattle.vol_model.specs.Shelf.{has_member};
 ghost use Rattle.vol_model.specs.Writing.{body_on, did_apply};
 ghost use Rattle.util_steps.specs.Copying.{refusing, source};
 ghost use Rattle.util_steps.specs.Steps.{IsOnward};
-ghost use Rattle.util_steps.specs.Taking.{IsReady, Takes};
-ghost use Rattle.record_files.specs.Members.{FindsBlock, FindsMember, TakesLast, ends_directory, entry_of, member_in, name_entry};
+ghost use Rattle.util_steps.specs.Taking.{IsReady, Reads, Takes};
+ghost use Rattle.record_files.specs.Members.{FindsMember, TakesLast, ends_directory, entry_named, entry_of, member_in, name_entry};
 
 use crate::attributes::{Purpose, find_set};
 use ebcdic_names::Name8;
 use std::alloc::Global;
-use util_steps::{Fault, SetRef, apply, place_behind};
-use vol_model::{
-    BlockBuf, CheckErr, Entry, Listed, Machine, Op, Place, ReadErr, Refusal, SetInfo, Stop,
-};
+use util_steps::{Fault, SetRef, apply, next_block, place_behind};
+use vol_model::{BlockBuf, Entry, Listed, Machine, Op, Place, ReadErr, Refusal, SetInfo, Stop};
 
 /// A name by which a member is entered.
 #[derive(Clone, Copy, Debug, PartialEq, Eq)]
@@ -43,30 +37,40 @@ impl EntryName {
     }
 }
 
+// The entry of a name in the directory of a library.
+fn read_entry<M: Machine>(
+    machine: &mut M,
+    set: &SetRef,
+    name: &Name8,
+) -> Result<Result<Option<Entry>, Refusal>, Stop>
+    requires { IsReady M.Machine machine.old }
+    ensures { Reads M.Machine (λ shelf answer. (es : List Entry) → entries_in (body_on shelf set.now.v set.now.dsn.bytes) ≡ Ok es → answer ≡ Ok (entry_named name.now es)) machine.old machine.new result }
+{
+    match machine.entry(set.v, &set.dsn, name) {
+        Ok(found) => Ok(Ok(found)),
+        Err(ReadErr::Unreadable(track)) => Ok(Err(Refusal::Unreadable(track))),
+        Err(ReadErr::Memory) => Err(Stop::Memory),
+        Err(ReadErr::Device) => Err(Stop::Device),
+    }
+}
+
 /// A library in short, and where its member of a name begins; or why there is none.
 pub fn find_member<M: Machine>(
     machine: &mut M,
     set: &SetRef,
     name: &Name8,
 ) -> Result<Result<(SetInfo, Place), Refusal>, Stop>
-    requires sound { IsTrue (M.status machine.old).is_sound }
-    requires closed { IsFalse (M.status machine.old).is_open }
-    ensures found { IsTrue M.tells → IfOk result (λ answer. FindsMember answer (member_in (M.meaning machine.old).state set.now name.now)) }
-    ensures same { IsTrue M.tells → Same (M.meaning machine.old) (M.meaning machine.new) }
-    ensures promise { IsTrue M.tells → Keeps (M.meaning machine.old).clock (M.promise machine.old) (M.promise machine.new) }
-    ensures count { (M.status machine.new).done ≡ (M.status machine.old).done }
-    ensures faults { RunCall false (M.status machine.old) (M.status machine.new) result }
+    requires { IsReady M.Machine machine.old }
+    ensures { Reads M.Machine (λ shelf answer. FindsMember answer (member_in shelf set.now name.now)) machine.old machine.new result }
 {
     let info = match find_set(machine, Purpose::Members, set)? {
         Ok(info) => info,
         Err(refusal) => return Ok(Err(refusal)),
     };
-    match machine.entry(set.v, &set.dsn, name) {
+    match read_entry(machine, set, name)? {
         Ok(Some(entry)) => Ok(Ok((info, entry.place))),
         Ok(None) => Ok(Err(Refusal::NoMember)),
-        Err(ReadErr::Unreadable(track)) => Ok(Err(Refusal::Unreadable(track))),
-        Err(ReadErr::Memory) => Err(Stop::Memory),
-        Err(ReadErr::Device) => Err(Stop::Device),
+        Err(refusal) => Ok(Err(refusal)),
     }
 }
 
@@ -76,44 +80,12 @@ pub fn has_entry<M: Machine>(
     set: &SetRef,
     name: &Name8,
 ) -> Result<Result<bool, Refusal>, Stop>
-    requires sound { IsTrue (M.status machine.old).is_sound }
-    requires closed { IsFalse (M.status machine.old).is_open }
-    ensures found { IsTrue M.tells → (es : List Entry) → entries_in (body_on (M.meaning machine.old).state set.now.v set.now.dsn.bytes) ≡ Ok es → IfOk result (λ answer. answer ≡ Ok (has_member name.now.bytes es)) }
-    ensures same { IsTrue M.tells → Same (M.meaning machine.old) (M.meaning machine.new) }
-    ensures promise { IsTrue M.tells → Keeps (M.meaning machine.old).clock (M.promise machine.old) (M.promise machine.new) }
-    ensures count { (M.status machine.new).done ≡ (M.status machine.old).done }
-    ensures faults { RunCall false (M.status machine.old) (M.status machine.new) result }
+    requires { IsReady M.Machine machine.old }
+    ensures { Reads M.Machine (λ shelf answer. (es : List Entry) → entries_in (body_on shelf set.now.v set.now.dsn.bytes) ≡ Ok es → answer ≡ Ok (has_member name.now.bytes es)) machine.old machine.new result }
 {
-    match machine.entry(set.v, &set.dsn, name) {
-        Ok(Some(_)) => Ok(Ok(true)),
-        Ok(None) => Ok(Ok(false)),
-        Err(ReadErr::Unreadable(track)) => Ok(Err(Refusal::Unreadable(track))),
-        Err(ReadErr::Memory) => Err(Stop::Memory),
-        Err(ReadErr::Device) => Err(Stop::Device),
-    }
-}
-
-// Reads the first block of a data set at or after a place; false where there is none.
-fn read<M: Machine>(
-    machine: &mut M,
-    set: &SetRef,
-    place: Place,
-    buf: &mut BlockBuf,
-) -> Result<Result<bool, Refusal>, Stop>
-    requires sound { IsTrue (M.status machine.old).is_sound }
-    requires closed { IsFalse (M.status machine.old).is_open }
-    ensures found { IsTrue M.tells → IfOk result (λ answer. FindsBlock answer (source (M.meaning machine.old).state set.now) place buf.new) }
-    ensures onward { IfOk result (λ answer. IfOk answer (λ more. IsTrue more → is_before buf.new.place place ≡ false)) }
-    ensures lawful { IfOk result (λ answer. IfOk answer (λ more. IsTrue more → IsLawfulBlock buf.new)) }
-    ensures same { IsTrue M.tells → Same (M.meaning machine.old) (M.meaning machine.new) }
-    ensures promise { IsTrue M.tells → Keeps (M.meaning machine.old).clock (M.promise machine.old) (M.promise machine.new) }
-    ensures count { (M.status machine.new).done ≡ (M.status machine.old).done }
-    ensures faults { RunCall false (M.status machine.old) (M.status machine.new) result }
-{
-    match machine.read_into(set.v, &set.dsn, place, buf) {
-        Ok(more) => Ok(Ok(more)),
-        Err(CheckErr::Unreadable(track)) => Ok(Err(Refusal::Unreadable(track))),
-        Err(CheckErr::Device) => Err(Stop::Device),
+    match read_entry(machine, set, name)? {
+        Ok(found) => Ok(Ok(found.is_some())),
+        Err(refusal) => Ok(Err(refusal)),
     }
 }
 
@@ -123,20 +95,16 @@ fn next_place<M: Machine>(
     buf: &mut BlockBuf,
     set: &SetRef,
     place: Place,
-) -> Result<Result<Option<(Place, Place)>, Refusal>, Stop>
-    requires sound { IsTrue (M.status machine.old).is_sound }
-    requires closed { IsFalse (M.status machine.old).is_open }
-    ensures block { IsTrue M.tells → (bs : List Block) → source (M.meaning machine.old).state set.now ≡ Ok bs → IfOk result (λ answer. TakesLast answer (blocks_from place bs)) }
+) -> Result<Result<Option<(Place, Place)>, Fault>, Stop>
+    requires { IsReady M.Machine machine.old }
+    ensures reads { Reads M.Machine (λ shelf answer. (bs : List Block) → source shelf set.now ≡ Ok bs → TakesLast answer (blocks_from place bs)) machine.old machine.new result }
     ensures onward { IfOk result (λ answer. IfOk answer (λ found. IfSome found (λ both. IsOnward place both.1))) }
-    ensures same { IsTrue M.tells → Same (M.meaning machine.old) (M.meaning machine.new) }
-    ensures promise { IsTrue M.tells → Keeps (M.meaning machine.old).clock (M.promise machine.old) (M.promise machine.new) }
-    ensures count { (M.status machine.new).done ≡ (M.status machine.old).done }
-    ensures faults { RunCall false (M.status machine.old) (M.status machine.new) result }
+    ensures memory { IsErrOf result Stop.Memory → ⊥ }
 {
-    match read(machine, set, place, buf)? {
+    match next_block(machine, set, place, buf)? {
         Ok(true) => Ok(Ok(Some((buf.place(), place_behind(buf.place()))))),
         Ok(false) => Ok(Ok(None)),
-        Err(refusal) => Ok(Err(refusal)),
+        Err(fault) => Ok(Err(fault)),
     }
 }
 
@@ -145,14 +113,10 @@ fn last_block<M: Machine>(
     machine: &mut M,
     buf: &mut BlockBuf,
     set: &SetRef,
-) -> Result<Result<Place, Refusal>, Stop>
-    requires sound { IsTrue (M.status machine.old).is_sound }
-    requires closed { IsFalse (M.status machine.old).is_open }
-    ensures place { IsTrue M.tells → (bs : List Block) → source (M.meaning machine.old).state set.now ≡ Ok bs → IfOk result (λ answer. answer ≡ Ok (last_place (record { tt = 0; r = 0 }) bs)) }
-    ensures same { IsTrue M.tells → Same (M.meaning machine.old) (M.meaning machine.new) }
-    ensures promise { IsTrue M.tells → Keeps (M.meaning machine.old).clock (M.promise machine.old) (M.promise machine.new) }
-    ensures count { (M.status machine.new).done ≡ (M.status machine.old).done }
-    ensures faults { RunCall false (M.status machine.old) (M.status machine.new) result }
+) -> Result<Result<Place, Fault>, Stop>
+    requires { IsReady M.Machine machine.old }
+    ensures place { Reads M.Machine (λ shelf answer. (bs : List Block) → source shelf set.now ≡ Ok bs → answer ≡ Ok (last_place (record { tt = 0; r = 0 }) bs)) machine.old machine.new result }
+    ensures memory { IsErrOf result Stop.Memory → ⊥ }
 {
     let mut last = Place { tt: 0, r: 0 };
     let mut place = last;
@@ -163,7 +127,7 @@ fn last_block<M: Machine>(
                 place = next;
             }
             Ok(None) => return Ok(Ok(last)),
-            Err(refusal) => return Ok(Err(refusal)),
+            Err(fault) => return Ok(Err(fault)),
         }
     }
 }
@@ -175,14 +139,10 @@ pub fn start_of<M: Machine>(
     buf: &mut BlockBuf,
     set: &SetRef,
     first: Option<Place>,
-) -> Result<Result<Place, Refusal>, Stop>
-    requires sound { IsTrue (M.status machine.old).is_sound }
-    requires closed { IsFalse (M.status machine.old).is_open }
-    ensures start { IsTrue M.tells → (bs : List Block) → source (M.meaning machine.old).state set.now ≡ Ok bs → IfOk result (λ answer. answer ≡ Ok (unwrap_or first (last_place (record { tt = 0; r = 0 }) bs))) }
-    ensures same { IsTrue M.tells → Same (M.meaning machine.old) (M.meaning machine.new) }
-    ensures promise { IsTrue M.tells → Keeps (M.meaning machine.old).clock (M.promise machine.old) (M.promise machine.new) }
-    ensures count { (M.status machine.new).done ≡ (M.status machine.old).done }
-    ensures faults { RunCall false (M.status machine.old) (M.status machine.new) result }
+) -> Result<Result<Place, Fault>, Stop>
+    requires { IsReady M.Machine machine.old }
+    ensures start { Reads M.Machine (λ shelf answer. (bs : List Block) → source shelf set.now ≡ Ok bs → answer ≡ Ok (unwrap_or first (last_place (record { tt = 0; r = 0 }) bs))) machine.old machine.new result }
+    ensures memory { IsErrOf result Stop.Memory → ⊥ }
 {
     match first {
         Some(place) => Ok(Ok(place)),

@@ -1,16 +1,14 @@
 //! Puts the blocks of records by the open writer of a machine.
-ghost use Rattle.std.specs.Prelude.{◌≡◌, ◌≤◌, ◌<◌, [], ◌++◌, true, false, ℕ, List, Bool, length, unwrap_or, IsTrue, IsErr, IfOk, OnOk};
+ghost use Rattle.std.specs.Prelude.{◌≡◌, ◌≤◌, ◌<◌, [], ◌++◌, true, false, ℕ, List, Bool, Option, length, unwrap_or, IsTrue, IsErr, IfOk, OnOk};
 ghost use Rattle.record_blocks.specs.Packer.{blocks_given, blocks_with, format_of, is_waiting};
-ghost use Rattle.vol_model.specs.Calls.{Keeps};
-ghost use Rattle.vol_model.specs.Runs.{RunCall, Works};
-ghost use Rattle.record_files.specs.Advancing.{Advances, HasLast, forgetting};
+ghost use Rattle.record_files.specs.Advancing.{HasLast, forgetting};
+ghost use Rattle.record_files.specs.Calls.{AdvancesOn, IsWriting, PutsCall};
 ghost use Rattle.record_files.specs.Streams.{Stream, at_end, at_fault, with_record};
 ghost use Rattle.record_files.specs.RecordWriter.{blocks_to_come, coming, held_by, held_if};
-ghost use Rattle.record_files.specs.Writing.{coming_of, did_output};
+ghost use Rattle.record_files.specs.Writing.{Coming, coming_of};
 
 use crate::record_writer::RecordWriter;
 use record_blocks::PackErr;
-use std::alloc::AllocError;
 use std::mem;
 use util_steps::{Fault, put_bytes};
 use vol_model::{Machine, Place, Stop};
@@ -29,13 +27,10 @@ fn put_held<M: Machine>(
     holds: bool,
     held: &[u8],
 ) -> Result<Result<(), Fault>, Stop>
-    requires sound { IsTrue (M.status machine.old).is_sound }
-    requires opened { IsTrue (M.status machine.old).is_open }
+    requires writing { IsWriting M.Machine machine.old }
     requires fits { length held.now ≤ 32760 }
-    ensures advances { IsTrue M.tells → (more : List (List ℕ)) (broken : Bool) → HasLast broken more → Advances M.tells_prints (coming_of (held_if holds held.now ++ more) broken) (coming_of more broken) (M.writer machine.old) (M.writer machine.new) start.old start.new (M.meaning machine.old) (M.meaning machine.new) (M.status machine.old).done (M.status machine.new).done result }
-    ensures later { IsTrue M.tells → (M.meaning machine.old).clock ≤ (M.meaning machine.new).clock }
-    ensures promise { IsTrue M.tells → Keeps (M.meaning machine.old).clock (M.promise machine.old) (M.promise machine.new) }
-    ensures faults { RunCall true (M.status machine.old) (M.status machine.new) result }
+    ensures advances { IsTrue M.tells → (more : List (List ℕ)) (broken : Bool) → HasLast broken more → AdvancesOn M.Machine (coming_of (held_if holds held.now ++ more) broken) (coming_of more broken) start.old start.new machine.old machine.new result }
+    ensures call { PutsCall M.Machine machine.old machine.new result }
 {
     if !holds {
         return Ok(Ok(()));
@@ -55,14 +50,11 @@ fn pass_on<M: Machine>(
     writer: &mut RecordWriter,
     full: bool,
 ) -> Result<Result<(), Fault>, Stop>
-    requires sound { IsTrue (M.status machine.old).is_sound }
-    requires opened { IsTrue (M.status machine.old).is_open }
+    requires writing { IsWriting M.Machine machine.old }
     requires fits { full ≡ true → length writer.old.next.items ≤ 32760 }
-    ensures advances { IsTrue M.tells → (more : List (List ℕ)) (broken : Bool) → Advances M.tells_prints (coming_of (held_by writer.old ++ blocks_given full writer.old.next.items more) broken) (coming_of (held_by writer.new ++ more) broken) (M.writer machine.old) (M.writer machine.new) writer.old.start writer.new.start (M.meaning machine.old) (M.meaning machine.new) (M.status machine.old).done (M.status machine.new).done result }
+    ensures advances { IsTrue M.tells → (more : List (List ℕ)) (broken : Bool) → AdvancesOn M.Machine (coming_of (held_by writer.old ++ blocks_given full writer.old.next.items more) broken) (coming_of (held_by writer.new ++ more) broken) writer.old.start writer.new.start machine.old machine.new result }
     ensures packer { writer.new.packer ≡ writer.old.packer }
-    ensures later { IsTrue M.tells → (M.meaning machine.old).clock ≤ (M.meaning machine.new).clock }
-    ensures promise { IsTrue M.tells → Keeps (M.meaning machine.old).clock (M.promise machine.old) (M.promise machine.new) }
-    ensures faults { RunCall true (M.status machine.old) (M.status machine.new) result }
+    ensures call { PutsCall M.Machine machine.old machine.new result }
 {
     if !full {
         return Ok(Ok(()));
@@ -80,20 +72,14 @@ fn pull_next<M: Machine>(
     machine: &mut M,
     writer: &mut RecordWriter,
 ) -> Result<Result<bool, Fault>, Stop>
-    requires sound { IsTrue (M.status machine.old).is_sound }
-    requires opened { IsTrue (M.status machine.old).is_open }
-    ensures advances { IsTrue M.tells → (records : List (List ℕ)) (broken : Bool) → Advances M.tells_prints (coming_of (blocks_to_come writer.old records) broken) (coming_of (blocks_to_come writer.new records) broken) (M.writer machine.old) (M.writer machine.new) writer.old.start writer.new.start (M.meaning machine.old) (M.meaning machine.new) (M.status machine.old).done (M.status machine.new).done (forgetting result) }
+    requires { IsWriting M.Machine machine.old }
+    ensures advances { IsTrue M.tells → (records : List (List ℕ)) (broken : Bool) → AdvancesOn M.Machine (coming_of (blocks_to_come writer.old records) broken) (coming_of (blocks_to_come writer.new records) broken) writer.old.start writer.new.start machine.old machine.new (forgetting result) }
     ensures fewer { IfOk result (λ answer. IfOk answer (λ full. full ≡ true → length (blocks_with writer.new.packer []) < length (blocks_with writer.old.packer []))) }
     ensures idle { IfOk result (λ answer. IfOk answer (λ full. full ≡ false → is_waiting writer.new.packer ≡ false)) }
     ensures format { format_of writer.new.packer ≡ format_of writer.old.packer }
-    ensures later { IsTrue M.tells → (M.meaning machine.old).clock ≤ (M.meaning machine.new).clock }
-    ensures promise { IsTrue M.tells → Keeps (M.meaning machine.old).clock (M.promise machine.old) (M.promise machine.new) }
-    ensures faults { RunCall true (M.status machine.old) (M.status machine.new) result }
+    ensures call { PutsCall M.Machine machine.old machine.new result }
 {
-    let full = match writer.packer.pull(&mut writer.next) {
-        Ok(full) => full,
-        Err(AllocError) => return Err(Stop::Memory),
-    };
+    let full = writer.packer.pull(&mut writer.next)?;
     match pass_on(machine, writer, full)? {
         Ok(()) => Ok(Ok(full)),
         Err(fault) => Ok(Err(fault)),
@@ -105,14 +91,11 @@ fn pull_all<M: Machine>(
     machine: &mut M,
     writer: &mut RecordWriter,
 ) -> Result<Result<(), Fault>, Stop>
-    requires sound { IsTrue (M.status machine.old).is_sound }
-    requires opened { IsTrue (M.status machine.old).is_open }
-    ensures advances { IsTrue M.tells → (records : List (List ℕ)) (broken : Bool) → Advances M.tells_prints (coming_of (blocks_to_come writer.old records) broken) (coming_of (blocks_to_come writer.new records) broken) (M.writer machine.old) (M.writer machine.new) writer.old.start writer.new.start (M.meaning machine.old) (M.meaning machine.new) (M.status machine.old).done (M.status machine.new).done result }
+    requires { IsWriting M.Machine machine.old }
+    ensures advances { IsTrue M.tells → (records : List (List ℕ)) (broken : Bool) → AdvancesOn M.Machine (coming_of (blocks_to_come writer.old records) broken) (coming_of (blocks_to_come writer.new records) broken) writer.old.start writer.new.start machine.old machine.new result }
     ensures idle { IfOk result (λ answer. OnOk answer (is_waiting writer.new.packer ≡ false)) }
     ensures format { format_of writer.new.packer ≡ format_of writer.old.packer }
-    ensures later { IsTrue M.tells → (M.meaning machine.old).clock ≤ (M.meaning machine.new).clock }
-    ensures promise { IsTrue M.tells → Keeps (M.meaning machine.old).clock (M.promise machine.old) (M.promise machine.new) }
-    ensures faults { RunCall true (M.status machine.old) (M.status machine.new) result }
+    ensures call { PutsCall M.Machine machine.old machine.new result }
 {
     loop {
         match pull_next(machine, writer)? {
@@ -128,19 +111,13 @@ pub fn break_off<M: Machine>(
     machine: &mut M,
     writer: &mut RecordWriter,
 ) -> Result<Result<(), Fault>, Stop>
-    requires sound { IsTrue (M.status machine.old).is_sound }
-    requires opened { IsTrue (M.status machine.old).is_open }
+    requires writing { IsWriting M.Machine machine.old }
     requires idle { is_waiting writer.old.packer ≡ false }
-    ensures works { IsTrue M.tells → Works M.tells_prints (did_output (M.meaning machine.old).state (M.writer machine.old) (coming writer.old at_fault)) (M.meaning machine.old) (M.meaning machine.new) (M.status machine.old).done (M.status machine.new).done result }
     ensures broken { IfOk result (λ answer. IsErr answer) }
-    ensures later { IsTrue M.tells → (M.meaning machine.old).clock ≤ (M.meaning machine.new).clock }
-    ensures promise { IsTrue M.tells → Keeps (M.meaning machine.old).clock (M.promise machine.old) (M.promise machine.new) }
-    ensures faults { RunCall true (M.status machine.old) (M.status machine.new) result }
+    ensures advances { IsTrue M.tells → (rest : Coming) (start : Option Place) → AdvancesOn M.Machine (coming writer.old at_fault) rest writer.old.start start machine.old machine.new result }
+    ensures call { PutsCall M.Machine machine.old machine.new result }
 {
-    let full = match writer.packer.finish(&mut writer.next) {
-        Ok(full) => full,
-        Err(AllocError) => return Err(Stop::Memory),
-    };
+    let full = writer.packer.finish(&mut writer.next)?;
     match pass_on(machine, writer, full)? {
         Ok(()) => Ok(Err(Fault::BadRecord)),
         Err(fault) => Ok(Err(fault)),
@@ -153,15 +130,12 @@ pub fn put_record<M: Machine>(
     writer: &mut RecordWriter,
     rec: &[u8],
 ) -> Result<Result<(), Fault>, Stop>
-    requires sound { IsTrue (M.status machine.old).is_sound }
-    requires opened { IsTrue (M.status machine.old).is_open }
+    requires writing { IsWriting M.Machine machine.old }
     requires idle { is_waiting writer.old.packer ≡ false }
-    ensures advances { IsTrue M.tells → (st : Stream) → Advances M.tells_prints (coming writer.old (with_record rec.now st)) (coming writer.new st) (M.writer machine.old) (M.writer machine.new) writer.old.start writer.new.start (M.meaning machine.old) (M.meaning machine.new) (M.status machine.old).done (M.status machine.new).done result }
+    ensures advances { IsTrue M.tells → (st : Stream) → AdvancesOn M.Machine (coming writer.old (with_record rec.now st)) (coming writer.new st) writer.old.start writer.new.start machine.old machine.new result }
     ensures idle { IfOk result (λ answer. OnOk answer (is_waiting writer.new.packer ≡ false)) }
     ensures format { IfOk result (λ answer. OnOk answer (format_of writer.new.packer ≡ format_of writer.old.packer)) }
-    ensures later { IsTrue M.tells → (M.meaning machine.old).clock ≤ (M.meaning machine.new).clock }
-    ensures promise { IsTrue M.tells → Keeps (M.meaning machine.old).clock (M.promise machine.old) (M.promise machine.new) }
-    ensures faults { RunCall true (M.status machine.old) (M.status machine.new) result }
+    ensures call { PutsCall M.Machine machine.old machine.new result }
 {
     let full = match writer.packer.push(rec, &mut writer.next) {
         Ok(full) => full,
@@ -179,18 +153,12 @@ pub fn finish<M: Machine>(
     machine: &mut M,
     writer: &mut RecordWriter,
 ) -> Result<Result<(), Fault>, Stop>
-    requires sound { IsTrue (M.status machine.old).is_sound }
-    requires opened { IsTrue (M.status machine.old).is_open }
+    requires writing { IsWriting M.Machine machine.old }
     requires idle { is_waiting writer.old.packer ≡ false }
-    ensures advances { IsTrue M.tells → Advances M.tells_prints (coming writer.old at_end) (coming_of [] false) (M.writer machine.old) (M.writer machine.new) writer.old.start writer.new.start (M.meaning machine.old) (M.meaning machine.new) (M.status machine.old).done (M.status machine.new).done result }
-    ensures later { IsTrue M.tells → (M.meaning machine.old).clock ≤ (M.meaning machine.new).clock }
-    ensures promise { IsTrue M.tells → Keeps (M.meaning machine.old).clock (M.promise machine.old) (M.promise machine.new) }
-    ensures faults { RunCall true (M.status machine.old) (M.status machine.new) result }
+    ensures advances { IsTrue M.tells → AdvancesOn M.Machine (coming writer.old at_end) (coming_of [] false) writer.old.start writer.new.start machine.old machine.new result }
+    ensures call { PutsCall M.Machine machine.old machine.new result }
 {
-    let full = match writer.packer.finish(&mut writer.next) {
-        Ok(full) => full,
-        Err(AllocError) => return Err(Stop::Memory),
-    };
+    let full = writer.packer.finish(&mut writer.next)?;
     if let Err(fault) = pass_on(machine, writer, full)? {
         return Ok(Err(fault));
     }

@@ -1,20 +1,19 @@
 //! Writes records to a data set, or to a library as a member.
-ghost use Rattle.std.specs.Prelude.{◌≡◌, ◌≤◌, true, false, None, Ok, [], List, IsTrue, IsFalse, IfOk};
+ghost use Rattle.std.specs.Prelude.{◌≡◌, false, None, Ok, [], List, IsTrue, IfOk};
 ghost use Rattle.record_blocks.specs.Formats.{first_fault};
 ghost use Rattle.record_blocks.specs.Packer.{is_waiting};
 ghost use Rattle.vol_model.specs.declared.answers.Mode.TheVariants as modes;
 ghost use Rattle.vol_model.specs.declared.contents.Block.{Block};
 ghost use Rattle.vol_model.specs.declared.contents.Shelf.{Shelf};
-ghost use Rattle.vol_model.specs.Calls.{Keeps};
-ghost use Rattle.vol_model.specs.Runs.{RunCall, Works};
 ghost use Rattle.vol_model.specs.Writing.{begun};
 ghost use Rattle.util_steps.specs.Copying.{source, target};
-ghost use Rattle.record_files.specs.Advancing.{Advances, first_place_put, forgetting, start_in};
+ghost use Rattle.util_steps.specs.Taking.{IsReady, Takes};
+ghost use Rattle.record_files.specs.Advancing.{first_place_put, forgetting, start_in};
+ghost use Rattle.record_files.specs.Calls.{AdvancesOn, IsWriting, PutsCall, TakesKnowing};
 ghost use Rattle.record_files.specs.Attributes.{format_in};
 ghost use Rattle.record_files.specs.Members.{member_start};
 ghost use Rattle.record_files.specs.RecordWriter.{coming};
 ghost use Rattle.record_files.specs.Sources.{KeepsOthers};
-ghost use Rattle.record_files.specs.Streams.{Stream};
 ghost use Rattle.record_files.specs.Writing.{appended, coming_of, packed, rewritten, written};
 
 use crate::attributes::format_in;
@@ -24,7 +23,7 @@ use crate::record_writer::RecordWriter;
 use crate::sources::RecordSource;
 use crate::taken::Taken;
 use record_blocks::Format;
-use std::alloc::{AllocError, Global};
+use std::alloc::Global;
 use util_steps::{Fault, SetRef, begin, commit, empty};
 use vol_model::{Attr, BlockBuf, Machine, Mode, Place, Stop};
 
@@ -34,13 +33,10 @@ fn put_all<M: Machine, R: RecordSource<M>>(
     records: &mut R,
     writer: &mut RecordWriter,
 ) -> Result<Result<(), Fault>, Stop>
-    requires sound { IsTrue (M.status machine.old).is_sound }
-    requires opened { IsTrue (M.status machine.old).is_open }
+    requires writing { IsWriting M.Machine machine.old }
     requires idle { is_waiting writer.old.packer ≡ false }
-    ensures advances { IsTrue M.tells → Advances M.tells_prints (coming writer.old (R.stream records.old (M.meaning machine.old).state)) (coming_of [] false) (M.writer machine.old) (M.writer machine.new) writer.old.start writer.new.start (M.meaning machine.old) (M.meaning machine.new) (M.status machine.old).done (M.status machine.new).done result }
-    ensures later { IsTrue M.tells → (M.meaning machine.old).clock ≤ (M.meaning machine.new).clock }
-    ensures promise { IsTrue M.tells → Keeps (M.meaning machine.old).clock (M.promise machine.old) (M.promise machine.new) }
-    ensures faults { RunCall true (M.status machine.old) (M.status machine.new) result }
+    ensures advances { IsTrue M.tells → AdvancesOn M.Machine (coming writer.old (R.stream records.old (M.meaning machine.old).state)) (coming_of [] false) writer.old.start writer.new.start machine.old machine.new result }
+    ensures call { PutsCall M.Machine machine.old machine.new result }
 {
     loop {
         match records.next(machine)? {
@@ -61,18 +57,12 @@ fn put_records<M: Machine, R: RecordSource<M>>(
     records: &mut R,
     format: Format,
 ) -> Result<Result<Option<Place>, Fault>, Stop>
-    requires sound { IsTrue (M.status machine.old).is_sound }
-    requires opened { IsTrue (M.status machine.old).is_open }
+    requires writing { IsWriting M.Machine machine.old }
     requires lawful { first_fault format ≡ None }
-    ensures advances { IsTrue M.tells → Advances M.tells_prints (packed format (R.stream records.old (M.meaning machine.old).state)) (coming_of [] false) (M.writer machine.old) (M.writer machine.new) None (start_in result) (M.meaning machine.old) (M.meaning machine.new) (M.status machine.old).done (M.status machine.new).done (forgetting result) }
-    ensures later { IsTrue M.tells → (M.meaning machine.old).clock ≤ (M.meaning machine.new).clock }
-    ensures promise { IsTrue M.tells → Keeps (M.meaning machine.old).clock (M.promise machine.old) (M.promise machine.new) }
-    ensures faults { RunCall true (M.status machine.old) (M.status machine.new) result }
+    ensures advances { IsTrue M.tells → AdvancesOn M.Machine (packed format (R.stream records.old (M.meaning machine.old).state)) (coming_of [] false) None (start_in result) machine.old machine.new (forgetting result) }
+    ensures call { PutsCall M.Machine machine.old machine.new result }
 {
-    let mut writer = match RecordWriter::new(alloc, format) {
-        Ok(writer) => writer,
-        Err(AllocError) => return Err(Stop::Memory),
-    };
+    let mut writer = RecordWriter::new(alloc, format)?;
     match put_all(machine, records, &mut writer)? {
         Ok(()) => Ok(Ok(writer.start)),
         Err(fault) => Ok(Err(fault)),
@@ -86,14 +76,11 @@ fn fill<M: Machine, R: RecordSource<M>>(
     records: &mut R,
     format: Format,
 ) -> Result<Result<Option<Place>, Fault>, Stop>
-    requires sound { IsTrue (M.status machine.old).is_sound }
-    requires opened { IsTrue (M.status machine.old).is_open }
+    requires writing { IsWriting M.Machine machine.old }
+    requires begins { IsTrue M.tells → M.writer machine.old ≡ begun (M.writer machine.old).target }
     requires lawful { first_fault format ≡ None }
-    ensures works { IsTrue M.tells → M.writer machine.old ≡ begun (M.writer machine.old).target → Works M.tells_prints (written (M.meaning machine.old).state (M.writer machine.old).target (packed format (R.stream records.old (M.meaning machine.old).state))) (M.meaning machine.old) (M.meaning machine.new) (M.status machine.old).done (M.status machine.new).done (forgetting result) }
-    ensures start { IsTrue M.tells → M.writer machine.old ≡ begun (M.writer machine.old).target → IfOk result (λ answer. IfOk answer (λ first. first ≡ first_place_put (M.meaning machine.old).state (M.writer machine.old).target (packed format (R.stream records.old (M.meaning machine.old).state)).blocks)) }
-    ensures later { IsTrue M.tells → (M.meaning machine.old).clock ≤ (M.meaning machine.new).clock }
-    ensures promise { IsTrue M.tells → Keeps (M.meaning machine.old).clock (M.promise machine.old) (M.promise machine.new) }
-    ensures faults { RunCall false (M.status machine.old) (M.status machine.new) result }
+    ensures takes { Takes M.Machine (λ shelf. written shelf (M.writer machine.old).target (packed format (R.stream records.old shelf))) machine.old machine.new (forgetting result) }
+    ensures start { IsTrue M.tells → IfOk result (λ answer. IfOk answer (λ first. first ≡ first_place_put (M.meaning machine.old).state (M.writer machine.old).target (packed format (R.stream records.old (M.meaning machine.old).state)).blocks)) }
 {
     match put_records(alloc, machine, records, format) {
         Ok(Ok(first)) => match commit(machine)? {
@@ -126,14 +113,10 @@ pub fn write_records<M: Machine, R: RecordSource<M>>(
     mode: Mode,
     format: Format,
 ) -> Result<Result<Option<Place>, Fault>, Stop>
-    requires sound { IsTrue (M.status machine.old).is_sound }
-    requires closed { IsFalse (M.status machine.old).is_open }
+    requires ready { IsReady M.Machine machine.old }
     requires lawful { first_fault format ≡ None }
-    ensures works { IsTrue M.tells → Works M.tells_prints (appended (M.meaning machine.old).state to.now mode (packed format (R.stream records.old (M.meaning machine.old).state))) (M.meaning machine.old) (M.meaning machine.new) (M.status machine.old).done (M.status machine.new).done (forgetting result) }
+    ensures takes { Takes M.Machine (λ shelf. appended shelf to.now mode (packed format (R.stream records.old shelf))) machine.old machine.new (forgetting result) }
     ensures start { IsTrue M.tells → IfOk result (λ answer. IfOk answer (λ first. first ≡ first_place_put (M.meaning machine.old).state (target to.now mode) (packed format (R.stream records.old (M.meaning machine.old).state)).blocks)) }
-    ensures later { IsTrue M.tells → (M.meaning machine.old).clock ≤ (M.meaning machine.new).clock }
-    ensures promise { IsTrue M.tells → Keeps (M.meaning machine.old).clock (M.promise machine.old) (M.promise machine.new) }
-    ensures faults { RunCall false (M.status machine.old) (M.status machine.new) result }
 {
     if let Err(fault) = begin(machine, to, mode)? {
         return Ok(Err(fault));
@@ -149,12 +132,9 @@ pub fn add_records<M: Machine, R: RecordSource<M>>(
     to: &SetRef,
     format: Format,
 ) -> Result<Result<(), Fault>, Stop>
-    requires sound { IsTrue (M.status machine.old).is_sound }
-    requires closed { IsFalse (M.status machine.old).is_open }
+    requires ready { IsReady M.Machine machine.old }
     requires lawful { first_fault format ≡ None }
-    ensures works { IsTrue M.tells → Works M.tells_prints (appended (M.meaning machine.old).state to.now modes.Fill (packed format (R.stream records.old (M.meaning machine.old).state))) (M.meaning machine.old) (M.meaning machine.new) (M.status machine.old).done (M.status machine.new).done result }
-    ensures promise { IsTrue M.tells → Keeps (M.meaning machine.old).clock (M.promise machine.old) (M.promise machine.new) }
-    ensures faults { RunCall false (M.status machine.old) (M.status machine.new) result }
+    ensures { Takes M.Machine (λ shelf. appended shelf to.now modes.Fill (packed format (R.stream records.old shelf))) machine.old machine.new result }
 {
     match write_records(alloc, machine, records, to, Mode::Fill, format)? {
         Ok(_) => Ok(Ok(())),
@@ -171,12 +151,9 @@ pub fn rewrite_set<M: Machine, R: RecordSource<M>>(
     to: &SetRef,
     attr: &Attr,
 ) -> Result<Result<(), Fault>, Stop>
-    requires sound { IsTrue (M.status machine.old).is_sound }
-    requires closed { IsFalse (M.status machine.old).is_open }
+    requires ready { IsReady M.Machine machine.old }
     requires lawful { first_fault (format_in attr.now) ≡ None }
-    ensures works { IsTrue M.tells → (st : Stream) → ((u : Shelf) → KeepsOthers to.now (M.meaning machine.old).state u → R.stream records.old u ≡ st) → Works M.tells_prints (rewritten (M.meaning machine.old).state to.now attr.now (packed (format_in attr.now) st)) (M.meaning machine.old) (M.meaning machine.new) (M.status machine.old).done (M.status machine.new).done result }
-    ensures promise { IsTrue M.tells → Keeps (M.meaning machine.old).clock (M.promise machine.old) (M.promise machine.new) }
-    ensures faults { RunCall false (M.status machine.old) (M.status machine.new) result }
+    ensures { TakesKnowing M.Machine (λ shelf st. (u : Shelf) → KeepsOthers to.now shelf u → R.stream records.old u ≡ st) (λ shelf st. rewritten shelf to.now attr.now (packed (format_in attr.now) st)) machine.old machine.new result }
 {
     if let Err(fault) = empty(machine, to, attr)? {
         return Ok(Err(fault));
@@ -193,25 +170,18 @@ pub fn write_member<M: Machine, R: RecordSource<M>>(
     to: &SetRef,
     format: Format,
 ) -> Result<Result<Place, Fault>, Stop>
-    requires sound { IsTrue (M.status machine.old).is_sound }
-    requires closed { IsFalse (M.status machine.old).is_open }
+    requires ready { IsReady M.Machine machine.old }
     requires lawful { first_fault format ≡ None }
-    ensures works { IsTrue M.tells → (bs : List Block) → source (M.meaning machine.old).state to.now ≡ Ok bs → Works M.tells_prints (appended (M.meaning machine.old).state to.now modes.Area (packed format (R.stream records.old (M.meaning machine.old).state))) (M.meaning machine.old) (M.meaning machine.new) (M.status machine.old).done (M.status machine.new).done (forgetting result) }
+    ensures takes { TakesKnowing M.Machine (λ shelf bs. source shelf to.now ≡ Ok bs) (λ shelf bs. appended shelf to.now modes.Area (packed format (R.stream records.old shelf))) machine.old machine.new (forgetting result) }
     ensures start { IsTrue M.tells → (bs : List Block) → source (M.meaning machine.old).state to.now ≡ Ok bs → IfOk result (λ answer. IfOk answer (λ place. place ≡ member_start (M.meaning machine.old).state (M.meaning machine.new).state to.now (packed format (R.stream records.old (M.meaning machine.old).state)).blocks)) }
-    ensures later { IsTrue M.tells → (M.meaning machine.old).clock ≤ (M.meaning machine.new).clock }
-    ensures promise { IsTrue M.tells → Keeps (M.meaning machine.old).clock (M.promise machine.old) (M.promise machine.new) }
-    ensures faults { RunCall false (M.status machine.old) (M.status machine.new) result }
 {
-    let mut buf = match BlockBuf::new(alloc) {
-        Ok(buf) => buf,
-        Err(AllocError) => return Err(Stop::Memory),
-    };
+    let mut buf = BlockBuf::new(alloc)?;
     let first = match write_records(alloc, machine, records, to, Mode::Area, format)? {
         Ok(first) => first,
         Err(fault) => return Ok(Err(fault)),
     };
     match start_of(machine, &mut buf, to, first)? {
         Ok(place) => Ok(Ok(place)),
-        Err(refusal) => Ok(Err(Fault::Refused(refusal))),
+        Err(fault) => Ok(Err(fault)),
     }
 }

@@ -16,7 +16,7 @@ use Rattle.track_records.specs.Appends.{IsSealed, continuation, place_behind, st
 use Rattle.track_records.specs.Buffers.{Buffer}
 use Rattle.track_records.specs.Written.{StandsOn}
 use Rattle.track_records.proofs.ContinueLemmas.{length-end}
-use Rattle.track_records.proofs.FrontLemmas.{count_up}
+use Rattle.pack_spec.proofs.FrontRecords.{count_up}
 use Rattle.vol_model.specs.declared.contents.Body.{Body}
 use Rattle.vol_model.specs.declared.contents.Body.TheVariants.{Seq}
 use Rattle.vol_model.specs.declared.contents.Place.{Place}

@@ -19,7 +19,7 @@ use Rattle.pack_spec.specs.Blocks.{blocks_at, blocks_from, has_no_block, last_of
 use Rattle.pack_spec.specs.Label.{heads_of, records_on, track_bytes}
 use Rattle.pack_spec.specs.Volume.{attr_of}
 use Rattle.track_records.specs.Appends.{IsContinued, MayContinue}
-use Rattle.track_records.proofs.FrontLemmas.{count_up}
+use Rattle.pack_spec.proofs.FrontRecords.{count_up}
 use Rattle.vtoc_index.specs.declared.vol.Vol.{Vol}
 use Rattle.vtoc_index.specs.Last.{lstar_of}
 use Rattle.vtoc_sets.specs.Sets.{extents_in}

@@ -7,7 +7,10 @@ use Rattle.dscb_codec.specs.declared.F1.{F1}
 use Rattle.ckd_image.specs.declared.header.Geometry.{Geometry}
 use Rattle.ckd_image.specs.Fit.{balance}
 use Rattle.ckd_image.specs.Track.{Record}
-use Rattle.hall_core.specs.Facts.{Attached}
+use Rattle.hall_core.specs.declared.hall.Hall.{Ghosts}
+use Rattle.hall_core.specs.Facts.{Attached, unit_of}
+use Rattle.hall_core.specs.Images.{image_in}
+use Rattle.hall_core.specs.Told.{ImageHas}
 use Rattle.stop_model.specs.Blocks.{Keeps}
 use Rattle.stop_model.specs.Files.{File, file_of}
 use Rattle.stop_model.specs.Moments.{Meaning, IsDurable, Elapses}
@@ -208,6 +211,19 @@ Spares name v f last old new result = (before : List File) → HasSetBy (image_n
     → AreSpared name v f last before old.state
     → Keeps (AreSpared name v f last before) new.state old new result
     × AreSpared name v f last before new.state
+
+-- so do those of a writer's call, of what isn't its set's
+abbrev pub SparesOthers : {X T E : Type 0} → Ghosts X → Vol → Writer → X → X → Result T E → Type 0
+SparesOthers g v w old new result = ImageHas g old v.unit (λ image.
+    (is : IsWriting image v w)
+    → Spares (unit_of (g.facts old).units v.unit).name v is.f (last_in image v is.f)
+    (g.meaning old) (g.meaning new) result)
+
+-- a writer's set still has the blocks that it has put
+abbrev pub KeepsWritten : {X T E : Type 0} → Ghosts X → Vol → Vol → Writer → X → X → Result T E → Type 0
+KeepsWritten g v v' w old new result = ImageHas g old v.unit (λ image.
+    OnOk result ((is : IsWriting image v w)
+    → HasBlocks (body_so_far (image_in (g.meaning new) (g.facts new) v.unit) v' is.f w) (written_by is)))
 
 -- the image stands for the volume before the blocks are the set's, or for the one after
 abbrev pub IsBeforeOrAfter : Volume → Result Volume Refusal → List ℕ → Type 0

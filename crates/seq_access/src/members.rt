@@ -1,7 +1,7 @@
 //! The blocks of the members of a partitioned data set, read one at a time.
 ghost use Rattle.std.specs.Prelude.{◌≡◌, ◌<◌, false, IsTrue, IsErrOf, IfOk, IfSome};
 ghost use Rattle.hall_core.specs.Facts.{DeviceCall, ReportedCall};
-ghost use Rattle.hall_core.specs.Images.{image_in};
+ghost use Rattle.hall_core.specs.Told.{ImageHas};
 ghost use Rattle.stop_model.specs.Moments.{Same};
 ghost use Rattle.vol_model.specs.Lawful.{IsLawfulBlock};
 ghost use Rattle.vol_model.specs.Places.{is_before, is_open_ended};
@@ -37,21 +37,18 @@ pub fn read_part_into<H: Hall>(
 ) -> Result<bool, Device>
     requires unit { IsOfUnit (H.facts hall.old).units vol.now }
     requires buffer { buf.old.records.geometry ≡ vol.now.geometry }
-    requires set { let image = image_in (H.meaning hall.old) (H.facts hall.old) vol.now.unit in
-        IsTrue H.tells → IsSetIn image vol.now set.now }
-    requires end { let image = image_in (H.meaning hall.old) (H.facts hall.old) vol.now.unit in
-        IsTrue H.tells → end ≡ end_in image vol.now set.now }
-    requires readable { let image = image_in (H.meaning hall.old) (H.facts hall.old) vol.now.unit in
-        IsTrue H.tells → IsReadablePart (part_in image vol.now set.now) }
-    requires held { let image = image_in (H.meaning hall.old) (H.facts hall.old) vol.now.unit in
-        IsTrue H.tells → HoldsTrack image buf.old }
-    ensures block { let image = image_in (H.meaning hall.old) (H.facts hall.old) vol.now.unit in
-        IsTrue H.tells → ReadsMembers result (part_in image vol.now set.now) from block.new }
+    requires set { ImageHas H.Hall hall.old vol.now.unit (λ image. IsSetIn image vol.now set.now) }
+    requires end { ImageHas H.Hall hall.old vol.now.unit (λ image.
+        end ≡ end_in image vol.now set.now) }
+    requires readable { ImageHas H.Hall hall.old vol.now.unit (λ image.
+        IsReadablePart (part_in image vol.now set.now)) }
+    requires held { ImageHas H.Hall hall.old vol.now.unit (λ image. HoldsTrack image buf.old) }
+    ensures block { ImageHas H.Hall hall.old vol.now.unit (λ image.
+        ReadsMembers result (part_in image vol.now set.now) from block.new) }
     ensures blank { LeavesEmpty result block.new }
     ensures onward { IfOk result (λ more. IsTrue more → is_before block.new.place from ≡ false) }
     ensures lawful { IfOk result (λ more. IsTrue more → IsLawfulBlock block.new) }
-    ensures held { let image = image_in (H.meaning hall.old) (H.facts hall.old) vol.now.unit in
-        IsTrue H.tells → HoldsTrack image buf.new }
+    ensures held { ImageHas H.Hall hall.old vol.now.unit (λ image. HoldsTrack image buf.new) }
     ensures buffer { buf.new.records.geometry ≡ vol.now.geometry }
     ensures same { IsTrue H.tells → Same (H.meaning hall.old) (H.meaning hall.new) }
     ensures faults { DeviceCall (H.facts hall.old) (H.facts hall.new) result }
@@ -77,20 +74,17 @@ pub fn read_part_block<H: Hall>(
 ) -> Result<Option<Block>, WorkErr>
     requires unit { IsOfUnit (H.facts hall.old).units vol.now }
     requires buffer { buf.old.records.geometry ≡ vol.now.geometry }
-    requires set { let image = image_in (H.meaning hall.old) (H.facts hall.old) vol.now.unit in
-        IsTrue H.tells → IsSetIn image vol.now set.now }
-    requires end { let image = image_in (H.meaning hall.old) (H.facts hall.old) vol.now.unit in
-        IsTrue H.tells → end ≡ end_in image vol.now set.now }
-    requires readable { let image = image_in (H.meaning hall.old) (H.facts hall.old) vol.now.unit in
-        IsTrue H.tells → IsReadablePart (part_in image vol.now set.now) }
-    requires held { let image = image_in (H.meaning hall.old) (H.facts hall.old) vol.now.unit in
-        IsTrue H.tells → HoldsTrack image buf.old }
-    ensures block { let image = image_in (H.meaning hall.old) (H.facts hall.old) vol.now.unit in
-        IsTrue H.tells → GivesMembers result (part_in image vol.now set.now) from }
+    requires set { ImageHas H.Hall hall.old vol.now.unit (λ image. IsSetIn image vol.now set.now) }
+    requires end { ImageHas H.Hall hall.old vol.now.unit (λ image.
+        end ≡ end_in image vol.now set.now) }
+    requires readable { ImageHas H.Hall hall.old vol.now.unit (λ image.
+        IsReadablePart (part_in image vol.now set.now)) }
+    requires held { ImageHas H.Hall hall.old vol.now.unit (λ image. HoldsTrack image buf.old) }
+    ensures block { ImageHas H.Hall hall.old vol.now.unit (λ image.
+        GivesMembers result (part_in image vol.now set.now) from) }
     ensures onward { IfOk result (λ found. IfSome found (λ b. is_before b.place from ≡ false)) }
     ensures lawful { IfOk result (λ found. IfSome found IsLawfulBlock) }
-    ensures held { let image = image_in (H.meaning hall.old) (H.facts hall.old) vol.now.unit in
-        IsTrue H.tells → HoldsTrack image buf.new }
+    ensures held { ImageHas H.Hall hall.old vol.now.unit (λ image. HoldsTrack image buf.new) }
     ensures buffer { buf.new.records.geometry ≡ vol.now.geometry }
     ensures same { IsTrue H.tells → Same (H.meaning hall.old) (H.meaning hall.new) }
     ensures faults { ReportedCall (IsErrOf result WorkErr.Device) (H.facts hall.old)
@@ -114,19 +108,15 @@ pub fn is_open_ended<H: Hall>(
 ) -> Result<bool, Device>
     requires unit { IsOfUnit (H.facts hall.old).units vol.now }
     requires buffer { buf.old.records.geometry ≡ vol.now.geometry }
-    requires set { let image = image_in (H.meaning hall.old) (H.facts hall.old) vol.now.unit in
-        IsTrue H.tells → IsSetIn image vol.now set.now }
-    requires end { let image = image_in (H.meaning hall.old) (H.facts hall.old) vol.now.unit in
-        IsTrue H.tells → end ≡ end_in image vol.now set.now }
-    requires readable { let image = image_in (H.meaning hall.old) (H.facts hall.old) vol.now.unit in
-        IsTrue H.tells → IsReadablePart (part_in image vol.now set.now) }
-    requires held { let image = image_in (H.meaning hall.old) (H.facts hall.old) vol.now.unit in
-        IsTrue H.tells → HoldsTrack image buf.old }
-    ensures answer { let image = image_in (H.meaning hall.old) (H.facts hall.old) vol.now.unit in
-        IsTrue H.tells → IfOk result (λ is. is
-        ≡ is_open_ended (blocks_of (part_in image vol.now set.now))) }
-    ensures held { let image = image_in (H.meaning hall.old) (H.facts hall.old) vol.now.unit in
-        IsTrue H.tells → HoldsTrack image buf.new }
+    requires set { ImageHas H.Hall hall.old vol.now.unit (λ image. IsSetIn image vol.now set.now) }
+    requires end { ImageHas H.Hall hall.old vol.now.unit (λ image.
+        end ≡ end_in image vol.now set.now) }
+    requires readable { ImageHas H.Hall hall.old vol.now.unit (λ image.
+        IsReadablePart (part_in image vol.now set.now)) }
+    requires held { ImageHas H.Hall hall.old vol.now.unit (λ image. HoldsTrack image buf.old) }
+    ensures answer { ImageHas H.Hall hall.old vol.now.unit (λ image.
+        IfOk result (λ is. is ≡ is_open_ended (blocks_of (part_in image vol.now set.now)))) }
+    ensures held { ImageHas H.Hall hall.old vol.now.unit (λ image. HoldsTrack image buf.new) }
     ensures buffer { buf.new.records.geometry ≡ vol.now.geometry }
     ensures same { IsTrue H.tells → Same (H.meaning hall.old) (H.meaning hall.new) }
     ensures faults { DeviceCall (H.facts hall.old) (H.facts hall.new) result }

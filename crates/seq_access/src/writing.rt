@@ -3,6 +3,7 @@ ghost use Rattle.std.specs.Prelude.{◌≡◌, ◌≤◌, ◌<◌, ◌+◌, ◌-
 ghost use Rattle.ckd_image.specs.Fit.{balance, fits};
 ghost use Rattle.dscb_codec.specs.declared.F1.{F1};
 ghost use Rattle.hall_core.specs.Facts.{DeviceCall, ReportedCall, unit_of};
+ghost use Rattle.hall_core.specs.Told.{ImageHas};
 ghost use Rattle.hall_core.specs.Images.{image_in};
 ghost use Rattle.stop_model.specs.Files.{File};
 ghost use Rattle.stop_model.specs.Moments.{IsDurable, Same};
@@ -18,7 +19,7 @@ ghost use Rattle.vtoc_sets.specs.Sets.{HasSet};
 ghost use Rattle.free_rebuild.specs.Durable.{LeavesAll, PutsDurably};
 ghost use Rattle.free_rebuild.specs.Repairs.{image_named};
 ghost use Rattle.seq_access.specs.Bodies.{HasBlocks, IsWritable, body_of_set, last_in, owned_in};
-ghost use Rattle.seq_access.specs.Writing.{AreSpared, Commits, EndsAt, HasEnd, HasSetBy, HoldsLast, IsBalanceOf, IsEnded, IsPutBehind, IsRaised, IsReady, IsRoomy, IsWriting, Spares, body_so_far, has_put, place_next, puts_in, record_next, sizes, written_by};
+ghost use Rattle.seq_access.specs.Writing.{AreSpared, Commits, EndsAt, HasEnd, HasSetBy, HoldsLast, IsBalanceOf, IsEnded, IsPutBehind, IsRaised, IsReady, IsRoomy, IsWriting, KeepsWritten, SparesOthers, body_so_far, has_put, place_next, puts_in, record_next, sizes, written_by};
 
 use crate::held::{balance_of, fits_behind};
 use crate::holding::{begin_track, hold_last, set_at};
@@ -90,10 +91,7 @@ pub fn put<H: Hall>(
         let image' = image_in (H.meaning hall.new) (H.facts hall.new) vol.old.unit in
         IsTrue H.tells → IfOk result (λ place. (is : IsWriting image vol.old writer.old)
         → IsPutBehind is (key.now, payload.now) place image' vol.new writer.new) }
-    ensures spares { let image = image_in (H.meaning hall.old) (H.facts hall.old) vol.old.unit in
-        IsTrue H.tells → (is : IsWriting image vol.old writer.old)
-        → Spares (unit_of (H.facts hall.old).units vol.old.unit).name vol.old is.f
-        (last_in image vol.old is.f) (H.meaning hall.old) (H.meaning hall.new) result }
+    ensures spares { SparesOthers H.Hall vol.old writer.old hall.old hall.new result }
     ensures long { IsErrOf result PutErr.TooLong
         → fits_a_track vol.old.geometry.device (key.now, payload.now) ≡ false }
     ensures short { ¬ IsErrOf result PutErr.TooLong
@@ -169,8 +167,8 @@ fn commit_put<H: Hall>(hall: &mut H, vol: &mut Vol, writer: Writer) -> Result<()
     requires unit { IsOfUnit (H.facts hall.old).units vol.old }
     requires slot { writer.slot < length vol.old.slots.items }
     requires put { has_put writer ≡ true }
-    requires writing { let image = image_in (H.meaning hall.old) (H.facts hall.old) vol.old.unit in
-        IsTrue H.tells → IsWriting image vol.old writer }
+    requires writing { ImageHas H.Hall hall.old vol.old.unit (λ image.
+        IsWriting image vol.old writer) }
     ensures files { let image = image_in (H.meaning hall.old) (H.facts hall.old) vol.old.unit in
         let name = (unit_of (H.facts hall.old).units vol.old.unit).name in
         IsTrue H.tells → (is : IsWriting image vol.old writer)
@@ -183,9 +181,9 @@ fn commit_put<H: Hall>(hall: &mut H, vol: &mut Vol, writer: Writer) -> Result<()
         → written mode (body_of_set image vol.old is.f) cs ≡ puts_in image vol.old is.f writer
         → Commits name volume (write_on mode (record { bytes = is.f.name }) cs volume) vol.new before
         (H.meaning hall.old) (H.meaning hall.new) result }
-    ensures raised { let image = image_in (H.meaning hall.old) (H.facts hall.old) vol.old.unit in
-        IsTrue H.tells → OnOk result ((is : IsWriting image vol.old writer)
-        → IsRaised image vol.old is.f writer.slot writer.last vol.new.slots.items) }
+    ensures raised { ImageHas H.Hall hall.old vol.old.unit (λ image.
+        OnOk result ((is : IsWriting image vol.old writer)
+        → IsRaised image vol.old is.f writer.slot writer.last vol.new.slots.items)) }
     ensures names { OnOk result ((k : ℕ) → name_at vol.new.slots.items k
         ≡ name_at vol.old.slots.items k) }
     ensures others { vol.new ≡ record vol.old { slots = vol.new.slots; buf = vol.new.buf } }
@@ -218,10 +216,7 @@ fn make_ready<H: Hall>(
         let image' = image_in (H.meaning hall.new) (H.facts hall.new) vol.old.unit in
         IsTrue H.tells → IfOk result (λ place. (is : IsWriting image vol.old writer)
         → IsReady is lengths.0 lengths.1 place image' vol.new) }
-    ensures spares { let image = image_in (H.meaning hall.old) (H.facts hall.old) vol.old.unit in
-        IsTrue H.tells → (is : IsWriting image vol.old writer)
-        → Spares (unit_of (H.facts hall.old).units vol.old.unit).name vol.old is.f
-        (last_in image vol.old is.f) (H.meaning hall.old) (H.meaning hall.new) result }
+    ensures spares { SparesOthers H.Hall vol.old writer hall.old hall.new result }
     ensures roomy { OnOk result (IsRoomy (H.facts hall.new).units vol.new.buf) }
     ensures fits { OnOk result
         (fits vol.old.geometry.device (map sizes vol.new.buf.records) lengths.0 lengths.1 ≡ true) }
@@ -276,10 +271,7 @@ fn next_track<H: Hall>(
         let image' = image_in (H.meaning hall.new) (H.facts hall.new) vol.old.unit in
         IsTrue H.tells → OnOk result ((is : IsWriting image vol.old writer)
         → IsEnded image vol.old is.f is.old writer image' vol.new) }
-    ensures spares { let image = image_in (H.meaning hall.old) (H.facts hall.old) vol.old.unit in
-        IsTrue H.tells → (is : IsWriting image vol.old writer)
-        → Spares (unit_of (H.facts hall.old).units vol.old.unit).name vol.old is.f
-        (last_in image vol.old is.f) (H.meaning hall.old) (H.meaning hall.new) result }
+    ensures spares { SparesOthers H.Hall vol.old writer hall.old hall.new result }
     ensures long { ¬ IsErrOf result PutErr.TooLong }
     ensures need { let image = image_in (H.meaning hall.old) (H.facts hall.old) vol.old.unit in
         IsTrue H.tells → IsErrOf result PutErr.NeedExtent
@@ -316,10 +308,7 @@ fn end_last<H: Hall>(hall: &mut H, vol: &mut Vol, writer: Writer) -> Result<(), 
         let image' = image_in (H.meaning hall.new) (H.facts hall.new) vol.old.unit in
         IsTrue H.tells → OnOk result ((is : IsWriting image vol.old writer)
         → IsEnded image vol.old is.f is.old writer image' vol.old) }
-    ensures spares { let image = image_in (H.meaning hall.old) (H.facts hall.old) vol.old.unit in
-        IsTrue H.tells → (is : IsWriting image vol.old writer)
-        → Spares (unit_of (H.facts hall.old).units vol.old.unit).name vol.old is.f
-        (last_in image vol.old is.f) (H.meaning hall.old) (H.meaning hall.new) result }
+    ensures spares { SparesOthers H.Hall vol.old writer hall.old hall.new result }
     ensures same { vol.new ≡ vol.old }
     ensures faults { DeviceCall (H.facts hall.old) (H.facts hall.new) result }
 {
@@ -347,10 +336,7 @@ fn end_durably<H: Hall>(hall: &mut H, vol: &mut Vol, writer: Writer) -> Result<u
         → AreSpared name vol.old is.f (last_in image vol.old is.f) before (H.meaning hall.old).state
         → LeavesAll (AreSpared name vol.old is.f (last_in image vol.old is.f) before)
         (H.meaning hall.old) (H.meaning hall.new) result }
-    ensures blocks { let image = image_in (H.meaning hall.old) (H.facts hall.old) vol.old.unit in
-        let image' = image_in (H.meaning hall.new) (H.facts hall.new) vol.old.unit in
-        IsTrue H.tells → OnOk result ((is : IsWriting image vol.old writer)
-        → HasBlocks (body_so_far image' vol.new is.f writer) (written_by is)) }
+    ensures blocks { KeepsWritten H.Hall vol.old vol.new writer hall.old hall.new result }
     ensures balance { let image = image_in (H.meaning hall.old) (H.facts hall.old) vol.old.unit in
         IsTrue H.tells → IfOk result (λ n. (is : IsWriting image vol.old writer)
         → IsBalanceOf image vol.old is.f writer.last n) }
@@ -401,22 +387,16 @@ fn put_end<H: Hall>(hall: &mut H, vol: &mut Vol, writer: Writer) -> Result<(), D
     requires unit { IsOfUnit (H.facts hall.old).units vol.old }
     requires slot { writer.slot < length vol.old.slots.items }
     requires put { has_put writer ≡ true }
-    requires writing { let image = image_in (H.meaning hall.old) (H.facts hall.old) vol.old.unit in
-        IsTrue H.tells → IsWriting image vol.old writer }
-    ensures spares { let image = image_in (H.meaning hall.old) (H.facts hall.old) vol.old.unit in
-        IsTrue H.tells → (is : IsWriting image vol.old writer)
-        → Spares (unit_of (H.facts hall.old).units vol.old.unit).name vol.old is.f
-        (last_in image vol.old is.f) (H.meaning hall.old) (H.meaning hall.new) result }
-    ensures blocks { let image = image_in (H.meaning hall.old) (H.facts hall.old) vol.old.unit in
-        let image' = image_in (H.meaning hall.new) (H.facts hall.new) vol.old.unit in
-        IsTrue H.tells → OnOk result ((is : IsWriting image vol.old writer)
-        → HasBlocks (body_so_far image' vol.new is.f writer) (written_by is)) }
+    requires writing { ImageHas H.Hall hall.old vol.old.unit (λ image.
+        IsWriting image vol.old writer) }
+    ensures spares { SparesOthers H.Hall vol.old writer hall.old hall.new result }
+    ensures blocks { KeepsWritten H.Hall vol.old vol.new writer hall.old hall.new result }
     ensures end { let image = image_in (H.meaning hall.old) (H.facts hall.old) vol.old.unit in
         let image' = image_in (H.meaning hall.new) (H.facts hall.new) vol.old.unit in
         IsTrue H.tells → OnOk result ((is : IsWriting image vol.old writer)
         → fits_mode Mode.Fill is.f.name (attr_of is.f) ≡ true → HasEnd is image') }
-    ensures mounted { let image' = image_in (H.meaning hall.new) (H.facts hall.new) vol.old.unit in
-        IsTrue H.tells → OnOk result (IsMounted image' vol.new) }
+    ensures mounted { ImageHas H.Hall hall.new vol.old.unit (λ image.
+        OnOk result (IsMounted image vol.new)) }
     ensures others { vol.new ≡ record vol.old { buf = vol.new.buf } }
     ensures unit { IsOfUnit (H.facts hall.new).units vol.new }
     ensures faults { DeviceCall (H.facts hall.old) (H.facts hall.new) result }
@@ -447,21 +427,15 @@ fn put_end_record<H: Hall>(hall: &mut H, vol: &mut Vol, writer: Writer) -> Resul
     requires unit { IsOfUnit (H.facts hall.old).units vol.old }
     requires slot { writer.slot < length vol.old.slots.items }
     requires put { has_put writer ≡ true }
-    requires writing { let image = image_in (H.meaning hall.old) (H.facts hall.old) vol.old.unit in
-        IsTrue H.tells → IsWriting image vol.old writer }
-    ensures spares { let image = image_in (H.meaning hall.old) (H.facts hall.old) vol.old.unit in
-        IsTrue H.tells → (is : IsWriting image vol.old writer)
-        → Spares (unit_of (H.facts hall.old).units vol.old.unit).name vol.old is.f
-        (last_in image vol.old is.f) (H.meaning hall.old) (H.meaning hall.new) result }
-    ensures blocks { let image = image_in (H.meaning hall.old) (H.facts hall.old) vol.old.unit in
-        let image' = image_in (H.meaning hall.new) (H.facts hall.new) vol.old.unit in
-        IsTrue H.tells → OnOk result ((is : IsWriting image vol.old writer)
-        → HasBlocks (body_so_far image' vol.new is.f writer) (written_by is)) }
+    requires writing { ImageHas H.Hall hall.old vol.old.unit (λ image.
+        IsWriting image vol.old writer) }
+    ensures spares { SparesOthers H.Hall vol.old writer hall.old hall.new result }
+    ensures blocks { KeepsWritten H.Hall vol.old vol.new writer hall.old hall.new result }
     ensures end { let image = image_in (H.meaning hall.old) (H.facts hall.old) vol.old.unit in
         let image' = image_in (H.meaning hall.new) (H.facts hall.new) vol.old.unit in
         IsTrue H.tells → OnOk result ((is : IsWriting image vol.old writer) → HasEnd is image') }
-    ensures mounted { let image' = image_in (H.meaning hall.new) (H.facts hall.new) vol.old.unit in
-        IsTrue H.tells → OnOk result (IsMounted image' vol.new) }
+    ensures mounted { ImageHas H.Hall hall.new vol.old.unit (λ image.
+        OnOk result (IsMounted image vol.new)) }
     ensures others { vol.new ≡ record vol.old { buf = vol.new.buf } }
     ensures unit { IsOfUnit (H.facts hall.new).units vol.new }
     ensures faults { DeviceCall (H.facts hall.old) (H.facts hall.new) result }

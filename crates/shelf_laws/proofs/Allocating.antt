@@ -142,6 +142,33 @@ distinct_front x sets none apart = (none_named x sets none, apart)
 
 -- ---- the operation
 
+-- what an allocation that is done has found: no set of the name, tracks, and that a directory, its room and the slots fit
+pub record IsAllocated (dsn : Dsn) (attr : Attr) (q : Request) (dir : ℕ) (volume w : Volume) : Type 0 where
+  pub runs : List Run
+  pub fresh : has_set volume dsn.bytes ≡ false
+  pub kind : (if dir == 0 then is_partitioned dsn.bytes attr else not (is_partitioned dsn.bytes attr)) ≡ false
+  pub chosen : choice volume q.unit q.contig q.primary ≡ Some runs
+  pub room : lacks_room volume.geometry.device dsn.bytes dir (tracks_in runs) ≡ false
+  pub slots : slots_needed (with_new dsn attr q dir volume runs) ≤ volume.slots
+  pub is : with_new dsn attr q dir volume runs ≡ w
+
+pub allocated_on : (dsn : Dsn) (attr : Attr) (q : Request) (dir : ℕ) (volume w : Volume) → allocate_on dsn attr q dir volume ≡ Ok w → IsAllocated dsn attr q dir volume w
+unfolding allocate_on
+allocated_on dsn attr q dir volume w done =
+    let name = dsn.bytes in
+    let wants = is_partitioned name attr in
+    let found = choice volume q.unit q.contig q.primary in
+    let given : List Run → Result Volume Refusal = λ runs. if_room (lacks_room volume.geometry.device name dir (tracks_in runs)) (with_new dsn attr q dir volume runs) in
+    let none = refuse_ok (has_set volume name) SetExists (refuse (if dir == 0 then wants else not wants) WrongKind (on_choice q.primary found given)) w done in
+    let kind = refuse_ok (if dir == 0 then wants else not wants) WrongKind (on_choice q.primary found given) w none.1 in
+    let at = choice_ok q.primary found given w kind.1 in
+    let runs = at.0 in
+    let after = with_new dsn attr q dir volume runs in
+    let lacks = lacks_room volume.geometry.device name dir (tracks_in runs) in
+    let slots = refuse_ok (nat_lt after.slots (slots_needed after)) (VtocFull (slots_needed after)) (refuse lacks NoRoom (Ok after)) w at.2 in
+    let room = refuse_ok lacks NoRoom (Ok after) w slots.1 in
+    record { runs = runs; fresh = none.0; kind = kind.0; chosen = at.1; room = room.0; slots = not_more volume.slots (slots_needed after) slots.0; is = ok_same after w room.1 }
+
 module _ (dsn : Dsn) (attr : Attr) (q : Request) (dir : ℕ) (few : dir ≤ 2000) (secondary : q.secondary < 2 ^ 24) (volume : Volume) (h : IsLawfulVolume volume) where
   secondary_by : (c : Bool) → (attr_by c attr q).secondary < 2 ^ 24
   secondary_by true = secondary
@@ -184,21 +211,9 @@ module _ (dsn : Dsn) (attr : Attr) (q : Request) (dir : ℕ) (few : dir ≤ 2000
       }
 
   allocates : (w : Volume) → allocate_on dsn attr q dir volume ≡ Ok w → IsLawfulVolume w
-  unfolding allocate_on
   allocates w done =
-      let name = dsn.bytes in
-      let wants = is_partitioned name attr in
-      let found = choice volume q.unit q.contig q.primary in
-      let given : List Run → Result Volume Refusal = λ runs. if_room (lacks_room volume.geometry.device name dir (tracks_in runs)) (with_new dsn attr q dir volume runs) in
-      let none = refuse_ok (has_set volume name) SetExists (refuse (if dir == 0 then wants else not wants) WrongKind (on_choice q.primary found given)) w done in
-      let kind = refuse_ok (if dir == 0 then wants else not wants) WrongKind (on_choice q.primary found given) w none.1 in
-      let at = choice_ok q.primary found given w kind.1 in
-      let runs = at.0 in
-      let after = with_new dsn attr q dir volume runs in
-      let lacks = lacks_room volume.geometry.device name dir (tracks_in runs) in
-      let slots = refuse_ok (nat_lt after.slots (slots_needed after)) (VtocFull (slots_needed after)) (refuse lacks NoRoom (Ok after)) w at.2 in
-      let room = refuse_ok lacks NoRoom (Ok after) w slots.1 in
-      subst IsLawfulVolume (ok_same after w room.1) (allocated runs (choice_new volume q.unit q.contig q.primary runs at.1) none.0 kind.0 room.0 (not_more volume.slots (slots_needed after) slots.0))
+      let a = allocated_on dsn attr q dir volume w done in
+      subst IsLawfulVolume a.is (allocated a.runs (choice_new volume q.unit q.contig q.primary a.runs a.chosen) a.fresh a.kind a.room a.slots)
 
 pub allocate_lawful : (s t : Shelf) (v : ℕ) (dsn : Dsn) (attr : Attr) (q : Request) (dir : ℕ) → dir ≤ 2000 → q.secondary < 2 ^ 24 → IsLawful s → step s (Allocate v dsn attr q dir) ≡ Ok t → IsLawful t
 unfolding step_on

@@ -117,7 +117,7 @@ module _ (name : List ℕ) (f : DataSet → DataSet) (extents : KeepsExtents f) 
   extents_kept x true = extents x
   extents_kept x false = refl
 
-  all_extents : (sets : List DataSet) → flat_map (λ (x : DataSet). x.extents) (changed name f sets) ≡ flat_map (λ (x : DataSet). x.extents) sets
+  pub all_extents : (sets : List DataSet) → flat_map (λ (x : DataSet). x.extents) (changed name f sets) ≡ flat_map (λ (x : DataSet). x.extents) sets
   all_extents [] = refl
   all_extents (x ∷ sets) = ap (λ (l : List Run). l ++ flat_map (λ (x : DataSet). x.extents) (changed name f sets)) (extents_kept x (has_name name x)) ∙ ap (λ (l : List Run). x.extents ++ l) (all_extents sets)
 
@@ -142,7 +142,7 @@ module _ (name : List ℕ) (f : DataSet → DataSet) (extents : KeepsExtents f) 
       ∙ sym (sum_by-cons (λ (x : DataSet). cond (nat_lt 3 (length x.extents)) 1 0) x sets)
 
   module _ (volume : Volume) where
-    unowned_kept : (track : ℕ) → is_unowned (with_set volume name f) track ≡ is_unowned volume track
+    pub unowned_kept : (track : ℕ) → is_unowned (with_set volume name f) track ≡ is_unowned volume track
     unowned_kept track = ap (λ b. not (track == 0 || (is_in track volume.vtoc || b))) (any_extents track volume.sets)
 
     pub slots_kept : slots_needed (with_set volume name f) ≡ slots_needed volume

@@ -26,7 +26,7 @@ use Rattle.shelf_machine.specs.Fronts.{behind_first, due}
 use Rattle.shelf_machine.specs.Machine.{placed_in, shelf_under, units_of, writer_in}
 use Rattle.shelf_machine.specs.Opening.{names_of}
 use Rattle.shelf_machine.specs.PutBlocks.{PlacesAll, ends_on, shelf_on}
-use Rattle.shelf_machine.specs.declared.pack_cache.PackCache.{PackCache}
+use Rattle.pack_machine.specs.declared.pack_cache.PackCache.{PackCache}
 use Rattle.shelf_machine.specs.declared.writer.Writer.{Writer}
 use Rattle.shelf_machine.proofs.DoneParts.{does_one, does_one_failed, does_stop, does_then}
 use Rattle.shelf_machine.proofs.FilledSets.{PlacesWell}
@@ -83,7 +83,7 @@ module _ (us mid us' : List Attached) (vols vols1 vols' : List Vol) (w w1 w' : W
 
   -- the contents that become the set's
   abbrev pub puts : List Content
-  puts = behind_first w.first before.puts
+  puts = behind_first w.owes_end_of_file before.puts
 
   abbrev ends : List Content
   ends = ends_on m.state us vols w
@@ -105,7 +105,7 @@ module _ (us mid us' : List Attached) (vols vols1 vols' : List Vol) (w w1 w' : W
 
   module _ (well : PlacesWell shelf w before) where
     close_is : making_close shelf writer ≡ making
-    close_is = making_end shelf t w.first before.puts well.first well.begins well.owned
+    close_is = making_end shelf t w.owes_end_of_file before.puts well.first well.begins well.owned
 
     did_is : did_commit shelf writer ≡ if_made making (op ∷ []) (tt {0})
     unfolding did_commit
@@ -145,8 +145,8 @@ module _ (us mid us' : List Attached) (vols vols1 vols' : List Vol) (w w1 w' : W
       all_placed =
           let parts : (placed_in m1.state mid vols1 w1).puts ≡ written t.mode (target_body shelf t) puts =
           ap (λ (o : OpenWriter). o.puts) run.done
-          ∙ sym (append_assoc before.puts (due w.first before.puts) (put_last t.mode))
-          ∙ ap (λ (cs : List Content). cs ++ put_last t.mode) (due_placed w.first before.puts well.begins ∙ ap (λ (cs : List Content). cs ++ puts) (sym well.first)) in
+          ∙ sym (append_assoc before.puts (due w.owes_end_of_file before.puts) (put_last t.mode))
+          ∙ ap (λ (cs : List Content). cs ++ put_last t.mode) (due_placed w.owes_end_of_file before.puts well.begins ∙ ap (λ (cs : List Content). cs ++ puts) (sym well.first)) in
           let there_is : written t.mode (target_body shelf t) puts ≡ written t.mode (target_body between.state t) puts = ap (λ (b : Body). written t.mode b puts) (sym body_there) in
           let at_target : written t.mode (target_body between.state t) puts ≡ written t1.mode (target_body between.state t1) puts = ap (λ (x : Target). written x.mode (target_body between.state x) puts) (sym same_target) in
           parts ∙ there_is ∙ at_target

@@ -1,6 +1,6 @@
 -- A writer that is closed on one of several packs: what it put becomes its set's, as one operation of their shelf.
-use Rattle.std.proofs.Common.{◌≡◌, ◌≢◌, ◌⊎◌, ℕ, true, false, List, [], ◌∷◌, ◌++◌, set, vec_capacity, Some, None, inl, refl, sym, ap, ◌∙◌, subst}
-use Rattle.std.specs.Prelude.{OnOk, Result, Ok, Err, slice_get}
+use Rattle.std.proofs.Common.{◌≡◌, ◌≢◌, ◌⊎◌, ℕ, true, false, List, [], ◌∷◌, ◌++◌, set, Some, None, inl, refl, sym, ap, ◌∙◌, subst}
+use Rattle.std.specs.Prelude.{OnOk, Result, Ok, slice_get}
 use Rattle.free_rebuild.specs.Repairs.{image_named}
 use Rattle.free_rebuild.proofs.SettledBool.{settled_true, settled_vtoc}
 use Rattle.hall_core.specs.Facts.{Attached, Facts, unit_of}
@@ -37,46 +37,43 @@ use Rattle.shelf_machine.specs.Committing.{CommitsOn}
 use Rattle.shelf_machine.specs.Known.{AreHeld, ForgetsOn, KnowsBodies}
 use Rattle.shelf_machine.specs.Machine.{AreIndexes, AreKept, KeepsSafe, shelf_under, units_of}
 use Rattle.shelf_machine.specs.Opening.{names_of}
-use Rattle.shelf_machine.specs.Operating.{IsSamePack}
+use Rattle.pack_machine.specs.Ready.{IsSamePack}
 use Rattle.shelf_machine.specs.Pending.{IsInSlot, IsWriterOn, IsWritingBy, LeavesSpared, Settles, puts_on}
-use Rattle.shelf_machine.specs.Reads.{HasVolume, IsSetOn}
+use Rattle.pack_machine.specs.Reads.{HasVolume, IsSetOn}
 use Rattle.shelf_machine.specs.SparedShelves.{shelf_spared}
-use Rattle.shelf_machine.specs.Standing.{DirectoriesStay}
-use Rattle.shelf_machine.specs.declared.pack_cache.PackCache.{PackCache}
+use Rattle.pack_machine.specs.Standing.{DirectoriesStay}
+use Rattle.pack_machine.specs.declared.pack.Pack.{Pack}
+use Rattle.pack_machine.specs.declared.pack_cache.PackCache.{PackCache}
+use Rattle.shelf_machine.specs.ReadyPacks.{caches_of, vols_of}
+use Rattle.shelf_machine.proofs.ReadyPacks.{caches_set, vols_set}
 use Rattle.shelf_machine.specs.declared.writer.Writer.{Writer}
 use Rattle.shelf_machine.proofs.EmptyFills.{may_fill, none_put, step_same}
 use Rattle.shelf_machine.proofs.FilledBodies.{knows_written}
 use Rattle.shelf_machine.proofs.ForgottenTracks.{held_forgot, held_still, knows_still, pack_still}
 use Rattle.shelf_machine.proofs.Holding.{held_stand, kept_mounted, serials_apart, volume_held, volume_there, volumes_held}
-use Rattle.shelf_machine.proofs.ListPlaces.{get_map}
+use Rattle.pack_machine.proofs.ListPlaces.{get_map}
 use Rattle.shelf_machine.proofs.Operating.{kept_after, name_there, names_same}
-use Rattle.shelf_machine.proofs.PackedBlocks.{committed_packed}
-use Rattle.shelf_machine.proofs.PackedImages.{image_packed, packed_image}
+use Rattle.pack_machine.proofs.PackedBlocks.{committed_packed}
+use Rattle.pack_machine.proofs.PackedImages.{image_packed, packed_image}
 use Rattle.shelf_machine.proofs.Pendings.{writing_of}
 use Rattle.shelf_machine.proofs.Promises.{keeps_safe_by, settled_guarded}
 use Rattle.shelf_machine.proofs.PutAnswers.{puts_are}
 use Rattle.shelf_machine.proofs.PutRooms.{body_is}
 use Rattle.shelf_machine.proofs.ReadMachines.{both_same}
 use Rattle.shelf_machine.proofs.Settling.{keeps_time}
-use Rattle.shelf_machine.proofs.ShelfReads.{is_set}
+use Rattle.pack_machine.proofs.ShelfReads.{is_set}
 use Rattle.shelf_machine.proofs.ShelfSteps.{stands_after, stands_before_or_after}
-use Rattle.shelf_machine.proofs.StayingBlocks.{committed_stays}
-use Rattle.shelf_machine.proofs.WriteSteps.{step_written, to_set, write_keeps_serial, written_number}
+use Rattle.pack_machine.proofs.StayingBlocks.{committed_stays}
+use Rattle.pack_machine.proofs.WriteSteps.{step_written, to_set, write_keeps_serial, written_number}
+use Rattle.std.proofs.lemmas.Result.{on_ok_weaker}
 
--- what follows where a call is done
-on_done : {T E P Q : Type 0} (r : Result T E) → (P → Q) → OnOk r P → OnOk r Q
-on_done (Ok x) follows done = follows done
-on_done (Err e) follows done = tt
-
--- an index that differs in its slots and its buffer alone is that of the same pack
-pub pack_same : (v v' : Vol) → v' ≡ record v { slots = v'.slots; buf = v'.buf } → IsSamePack v v'
-pack_same v v' others = record {
-  unit = ap (λ (x : Vol). x.unit) others;
-  serial = ap (λ (x : Vol). x.serial.bytes) others;
-  geometry = ap (λ (x : Vol). x.geometry) others;
-  vtoc = ap (λ (x : Vol). x.vtoc) others;
-  room = ap (λ (x : Vol). vec_capacity x.free) others;
-}
+-- by the lists of packs of which one is set
+pub commits_set : {E : Type 0} (packs : List Pack) (k : ℕ) (p : Pack) (op : Op) (names : List (List ℕ)) (attached : List Attached) (m m' : Meaning (List File)) (r : Result (Unit {0}) E)
+    → CommitsOn op names (names_of attached (units_of (set (vols_of packs) k p.vol))) attached (vols_of packs) (set (vols_of packs) k p.vol) (set (caches_of packs) k p.cache) m m' r
+    → CommitsOn op names (names_of attached (units_of (vols_of (set packs k p)))) attached (vols_of packs) (vols_of (set packs k p)) (caches_of (set packs k p)) m m' r
+commits_set {E} packs k p op names attached m m' r commits =
+    subst (λ (vs : List Vol). CommitsOn op names (names_of attached (units_of vs)) attached (vols_of packs) vs (caches_of (set packs k p)) m m' r) (sym (vols_set packs k p))
+    (subst (λ (bs : List PackCache). CommitsOn op names (names_of attached (units_of (set (vols_of packs) k p.vol))) attached (vols_of packs) (set (vols_of packs) k p.vol) bs m m' r) (sym (caches_set packs k p)) commits)
 
 -- and has its data sets in the order of their names, where these stay
 pub order_same : (v v' : Vol) → v' ≡ record v { slots = v'.slots; buf = v'.buf } → ((k : ℕ) → name_at v'.slots.items k ≡ name_at v.slots.items k) → AreByName (name_at v.slots.items) v.by_name.items → AreByName (name_at v'.slots.items) v'.by_name.items
@@ -140,7 +137,7 @@ module _ (old new : Facts) (vols : List Vol) (indexes : AreIndexes old.units vol
         kept = kept';
         durable = durable;
         held = held';
-        bodies = on_done r (λ is. knows_written w.v w.dsn w.mode (blocks_for shelf t cs) shelf (shelf_under names m'.state) known' is (knows_still w.v known known' forgot shelf knows)) stepped;
+        bodies = on_ok_weaker r (λ is. knows_written w.v w.dsn w.mode (blocks_for shelf t cs) shelf (shelf_under names m'.state) known' is (knows_still w.v known known' forgot shelf knows)) stepped;
       } in
       subst (λ (ns : List (List ℕ)). CommitsOn op names ns new.units vols vols' known' m m' r) (sym same) run
 
@@ -195,11 +192,11 @@ module _ (old new : Facts) (vols : List Vol) (indexes : AreIndexes old.units vol
     pub committed_on : CommitsOn op names (names_of new.units (units_of (set vols w.v v'))) new.units vols (set vols w.v v') known' m m' r
     committed_on = closed_on (set vols w.v v') r (names_same old new vols w.v v v' at same units) commits.printed
         (elapses_seen (shelf_under names) (elapses_weaker commits.moments (λ files p stop. (shelf_at files stop.0, stop.1))))
-        (on_done r shelf_done commits.done)
+        (on_ok_weaker r shelf_done commits.done)
         (keeps_safe_by names vols indexes.names w.v name (name_there old.units vols w.v v at) v v' at same.geometry same.vtoc
         (IsLeftInCommit name (volume_in image v) (write_on w.mode w.dsn cs (volume_in image v)) m.state) m m' counts left commits.moments
         (λ files stop. stop.guarded (settled_guarded image (settled_vtoc image (kept w.v v at).settled))) (λ files stop. stop.others))
-        (on_done r kept_now commits.done) (on_done r (λ done. done.durable) commits.done) (on_done r held_now commits.done)
+        (on_ok_weaker r kept_now commits.done) (on_ok_weaker r (λ done. done.durable) commits.done) (on_ok_weaker r held_now commits.done)
 
   abbrev last : Place
   last = last_in image v found.f

@@ -1,9 +1,8 @@
 -- Calls of several operations, one after another: what they come to together.
-use Rattle.std.proofs.Common.{◌≡◌, ℕ, Bool, true, false, cond, List, [], ◌∷◌, ◌++◌, length, map, refl, sym, ap, ◌∙◌, subst, arith, length-append}
+use Rattle.std.proofs.Common.{◌++◌, ◌∙◌, ◌∷◌, ◌≡◌, Bool, List, [], ap, arith, cond, false, inl, inr, length, length-append, map, refl, subst, sym, true, ℕ, ⊎_elim}
 use Rattle.std.specs.Prelude.{◌⊎◌, Result, Ok, Err, IsErrOf}
 use Rattle.stop_model.specs.Moments.{Elapses, Meaning}
 use Rattle.stop_model.proofs.MomentLemmas.{elapses_none, elapses_then, elapses_weaker}
-use Rattle.std.proofs.Common.{⊎_elim, inl, inr}
 use Rattle.vol_model.specs.declared.answers.MachErr.{MachErr}
 use Rattle.vol_model.specs.declared.answers.MachErr.TheVariants as mach
 use Rattle.vol_model.specs.declared.contents.Shelf.{Shelf}

@@ -27,10 +27,10 @@ use Rattle.seq_access.specs.declared.writer.Writer.{Writer as BlockWriter}
 use Rattle.seq_access.specs.Bodies.{IsWritable, body_of_set, body_upto}
 use Rattle.seq_access.specs.Writing.{body_so_far, front_in, has_put, puts_in}
 use Rattle.shelf_machine.specs.Pending.{IsWritingBy}
-use Rattle.shelf_machine.specs.Reads.{HasVolume, IsSetOn}
-use Rattle.shelf_machine.proofs.ListPlaces.{set_itself}
-use Rattle.shelf_machine.proofs.ShelfReads.{begin_set, body_here}
-use Rattle.shelf_machine.proofs.WriteSteps.{to_set}
+use Rattle.pack_machine.specs.Reads.{HasVolume, IsSetOn}
+use Rattle.pack_machine.proofs.ListPlaces.{set_itself}
+use Rattle.pack_machine.proofs.ShelfReads.{begin_set, body_here}
+use Rattle.pack_machine.proofs.WriteSteps.{to_set}
 
 -- ---- a fill of no blocks
 

@@ -44,12 +44,12 @@ use Rattle.seq_access.proofs.MoreBlocks.{parts_of}
 use Rattle.seq_access.proofs.NextPlaces.{contents_behind}
 use Rattle.dadsm_ops.proofs.ExtendedSteps.{stands_there}
 use Rattle.dadsm_ops.proofs.ExtensionPlans.{found_on}
-use Rattle.shelf_machine.specs.Operating.{IsSamePack}
+use Rattle.pack_machine.specs.Ready.{IsSamePack}
 use Rattle.shelf_machine.specs.Pending.{IsWritingBy}
-use Rattle.shelf_machine.specs.Reads.{set_by}
-use Rattle.shelf_machine.proofs.ListPlaces.{within}
-use Rattle.shelf_machine.proofs.Operating.{extend_is}
-use Rattle.shelf_machine.proofs.ShelfReads.{no_set}
+use Rattle.pack_machine.specs.Reads.{set_by}
+use Rattle.pack_machine.proofs.Operating.{extend_is}
+use Rattle.pack_machine.proofs.ShelfReads.{no_set}
+use Rattle.std.proofs.lemmas.Option.{slice_get_within}
 
 -- ---- the data set that is found after the extension
 
@@ -186,7 +186,7 @@ module _ (image image' : List ℕ) (v v' : Vol) (mounted : IsMounted image v) (m
     records_now : (u : Option ℕ) (k track : ℕ) → slice_get (owned_in image v f) k ≡ Some track → records_on image' v'.geometry u track ≡ records_on image v.geometry u track
     unfolding records_on
     records_now u k track at =
-        let out : ¬ IsIn v'.vtoc track = λ within. not_in track v.vtoc (outside image v f set_was k track at) (subst (λ (r : Run). IsIn r track) same.vtoc within) in
+        let out : ¬ IsIn v'.vtoc track = λ slice_get_within. not_in track v.vtoc (outside image v f set_was k track at) (subst (λ (r : Run). IsIn r track) same.vtoc slice_get_within) in
         ap (λ (bytes : List ℕ). records_of (track / heads_of v'.geometry) (track % heads_of v'.geometry) u bytes) (differ.tracks track out)
         ∙ ap (λ (g : Geometry). records_of (track / heads_of g) (track % heads_of g) u (track_bytes image g track)) same.geometry
 
@@ -242,7 +242,7 @@ module _ (image image' : List ℕ) (v v' : Vol) (mounted : IsMounted image v) (m
       ended_now : has_put w ≡ true → (track : ℕ) → slice_get (owned_in image' v' f') w.last.tt ≡ Some track → records_on image' v'.geometry None track ≡ records_on image' v'.geometry (Some w.last.r) track
       ended_now put track at =
           let few = few_owned_tracks image' v' f' set_is in
-          let low : w.last.tt < 65536 = omega (arith, few, within (owned_in image' v' f') w.last.tt track at) in
+          let low : w.last.tt < 65536 = omega (arith, few, slice_get_within (owned_in image' v' f') w.last.tt track at) in
           let was = last_owned put low in
           let here : was.0 ≡ track = front_there (owned_in image v f) (owned_tracks runs) w.last.tt was.0 track was.1 (ap (λ (ts : List ℕ). slice_get ts w.last.tt) (sym owned_now) ∙ at) in
           let there : slice_get (owned_in image v f) w.last.tt ≡ Some track = was.1 ∙ ap (λ (t : ℕ). Some t) here in

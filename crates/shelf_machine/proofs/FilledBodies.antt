@@ -19,14 +19,15 @@ use Rattle.vol_model.specs.declared.requests.Op.TheVariants.{Area, Fill}
 use Rattle.vol_model.specs.Places.{Content, content, placed, with_blocks}
 use Rattle.vol_model.specs.Shelf.{has_name, on_volume, set_of, step, step_on, unless_refused, volume_number, with_set, with_volume, with_written, write_on, write_refusal, written}
 use Rattle.vol_model.specs.Writing.{set_on, writes}
-use Rattle.shelf_machine.specs.Known.{KnowsBodies, ListsBroken, ListsUnread}
-use Rattle.shelf_machine.specs.Unread.{broken_at, broken_in, is_walked}
-use Rattle.shelf_machine.specs.declared.pack_cache.PackCache.{PackCache}
-use Rattle.shelf_machine.specs.declared.unread.Unread.{Unread}
-use Rattle.shelf_machine.proofs.FoundByKey.{found_changed}
-use Rattle.shelf_machine.proofs.ListPlaces.{get_other, get_set}
-use Rattle.shelf_machine.proofs.Operating.{ok_volume}
-use Rattle.shelf_machine.proofs.WriteSteps.{to_set}
+use Rattle.shelf_machine.specs.Known.{KnowsBodies}
+use Rattle.pack_machine.specs.Known.{ListsBroken, ListsUnread}
+use Rattle.pack_machine.specs.Unread.{broken_at, broken_in, is_walked}
+use Rattle.pack_machine.specs.declared.pack_cache.PackCache.{PackCache}
+use Rattle.pack_machine.specs.declared.unread.Unread.{Unread}
+use Rattle.pack_machine.proofs.FoundByKey.{found_changed}
+use Rattle.pack_machine.proofs.ListPlaces.{get_other, get_set}
+use Rattle.pack_machine.proofs.Operating.{ok_volume}
+use Rattle.pack_machine.proofs.WriteSteps.{to_set}
 
 -- more blocks don't tell whether a body can be read
 broken_still : (b : Body) (bs : List Block) → broken_at (with_blocks b bs) ≡ broken_at b

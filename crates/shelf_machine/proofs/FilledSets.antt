@@ -38,16 +38,16 @@ use Rattle.shelf_machine.specs.Fronts.{BeginsWell, firsts}
 use Rattle.shelf_machine.specs.Packs.{AreMounted}
 use Rattle.shelf_machine.specs.Pending.{HasSlot, IsPendingBy, IsWriterOn, IsWritingBy, puts_on}
 use Rattle.shelf_machine.specs.PutBlocks.{shelf_on}
-use Rattle.shelf_machine.specs.Reads.{HasVolume, IsSetOn}
+use Rattle.pack_machine.specs.Reads.{HasVolume, IsSetOn}
 use Rattle.shelf_machine.specs.declared.writer.Writer.{Writer}
 use Rattle.shelf_machine.proofs.Holding.{kept_mounted, volume_there}
-use Rattle.shelf_machine.proofs.ListPlaces.{there}
+use Rattle.pack_machine.proofs.ListPlaces.{there}
 use Rattle.shelf_machine.proofs.Pendings.{writing_of}
 use Rattle.shelf_machine.proofs.EmptyFills.{none_put}
 use Rattle.shelf_machine.proofs.PutAnswers.{puts_are, writer_is}
 use Rattle.shelf_machine.proofs.PutExtends.{WritesSet}
 use Rattle.shelf_machine.proofs.PutRooms.{body_is, place_is, room_owned, tracks_is, writing_to}
-use Rattle.shelf_machine.proofs.ShelfReads.{is_set}
+use Rattle.pack_machine.proofs.ShelfReads.{is_set}
 
 -- ---- the next place after blocks on so many tracks
 
@@ -80,8 +80,8 @@ end_fits D3350 = refl
 -- A writer stands on the shelf with what it placed: what goes in front is first, and that alone stands on a track that is owned.
 pub record PlacesWell (shelf : Shelf) (w : Writer) (placed : OpenWriter) : Type 0 where
   pub set : WritesSet shelf placed.target placed
-  pub first : put_first placed.target.mode (target_body shelf placed.target) ≡ firsts w.first
-  pub begins : BeginsWell w.first placed.puts
+  pub first : put_first placed.target.mode (target_body shelf placed.target) ≡ firsts w.owes_end_of_file
+  pub begins : BeginsWell w.owes_end_of_file placed.puts
   pub none : has_put w.inner ≡ false → placed.puts ≡ []
   pub some : has_put w.inner ≡ true → placed.puts ≢ []
   pub owned : placed.puts ≡ end_of_file ∷ [] → room_for shelf placed.target [] end_of_file ≡ Owned
@@ -193,7 +193,7 @@ module _ (m : Meaning (List File)) (attached : List Attached) (vols : List Vol) 
         record {
           set = writes_by;
           first = ap (put_first w.mode) (body_is shelf w.v v has w.dsn f set) ∙ on.first f found.set;
-          begins = subst (BeginsWell w.first) (sym same) (on.begins f found.set);
+          begins = subst (BeginsWell w.owes_end_of_file) (sym same) (on.begins f found.set);
           none = λ nothing. same ∙ none_put image v f w.inner by nothing;
           some = λ put empty. by.some put (sym same ∙ empty);
           owned = λ one. owned_by (sym same ∙ one);

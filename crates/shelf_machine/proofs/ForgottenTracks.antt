@@ -9,18 +9,17 @@ use Rattle.seq_access.specs.declared.read_buf.Reach.TheVariants.{Nothing}
 use Rattle.vol_model.specs.declared.contents.Shelf.{Shelf}
 use Rattle.vtoc_index.specs.declared.vol.Vol.{Vol}
 use Rattle.vtoc_sets.specs.Sets.{volume_in}
-use Rattle.shelf_machine.specs.Known.{AreHeld, ForgetsOn, HoldLibraries, HoldsPack, KeepsLists, KnowsBodies, ListsUnread}
+use Rattle.shelf_machine.specs.Known.{AreHeld, ForgetsOn, KeepsLists, KnowsBodies}
+use Rattle.pack_machine.specs.Known.{HoldLibraries, HoldsPack, ListsUnread}
 use Rattle.shelf_machine.specs.Opening.{AreApart, names_of}
 use Rattle.shelf_machine.specs.Machine.{units_of}
-use Rattle.shelf_machine.specs.Standing.{DirectoriesStay}
-use Rattle.shelf_machine.specs.declared.pack_cache.PackCache.{PackCache}
-use Rattle.shelf_machine.specs.declared.unread.Unread.{Unread}
-use Rattle.shelf_machine.proofs.KnownLemmas.{nothing_held}
-use Rattle.shelf_machine.proofs.ListPlaces.{get_other, get_set, map_set_same}
+use Rattle.pack_machine.specs.Standing.{DirectoriesStay}
+use Rattle.pack_machine.specs.declared.pack_cache.PackCache.{PackCache}
+use Rattle.pack_machine.specs.declared.unread.Unread.{Unread}
+use Rattle.pack_machine.proofs.KnownLemmas.{nothing_held}
+use Rattle.pack_machine.proofs.ListPlaces.{get_other, get_set, map_set_same}
 use Rattle.shelf_machine.proofs.Operating.{name_there}
-
-some_known : {a b : PackCache} → Some a ≡ Some b → a ≡ b
-some_known same = cc
+use Rattle.std.proofs.lemmas.Option.{same_Some}
 
 -- one of which the track is forgotten
 pub forgets : (known : List PackCache) (k : ℕ) (a b : PackCache) → slice_get known k ≡ Some a → b ≡ record a { buf = record (a.buf) { reach = Nothing } } → ForgetsOn k known (set known k b)
@@ -28,12 +27,12 @@ forgets known k a b at is = record {
   buffers = map_set_same (λ (x : PackCache). x.buf.records.geometry) known k a b at (ap (λ (x : PackCache). x.buf.records.geometry) is);
   rest = λ n x there. ⊎_elim
       (λ same.
-      let this : b ≡ x = some_known (sym (get_set known k a b at) ∙ ap (slice_get (set known k b)) (sym same) ∙ there) in
+      let this : b ≡ x = same_Some _ _ (sym (get_set known k a b at) ∙ ap (slice_get (set known k b)) (sym same) ∙ there) in
       (a, ap (slice_get known) same ∙ at, ap (λ (y : PackCache). y.unread.items) (sym this ∙ is), ap (λ (y : PackCache). y.libraries.items) (sym this ∙ is)))
       (λ differs. (x, sym (get_other known n k b differs) ∙ there, refl, refl))
       (cases_eq n k);
   others = λ n differs. get_other known n k b differs;
-  here = λ x there. ap (λ (y : PackCache). y.buf.reach) (sym (some_known (sym (get_set known k a b at) ∙ there)) ∙ is);
+  here = λ x there. ap (λ (y : PackCache). y.buf.reach) (sym (same_Some _ _ (sym (get_set known k a b at) ∙ there)) ∙ is);
 }
 
 -- which data sets can't be read is known as before then

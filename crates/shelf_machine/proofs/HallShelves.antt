@@ -3,26 +3,39 @@ use Rattle.std.proofs.Common.{◌≡◌, ◌∙◌, ℕ, List, sym, ap, subst}
 use Rattle.std.specs.Prelude.{IsTrue}
 use Rattle.free_rebuild.specs.Repairs.{image_named}
 use Rattle.free_rebuild.proofs.SettledBool.{settled_vtoc}
-use Rattle.hall_core.specs.Facts.{unit_of}
+use Rattle.hall_core.specs.Facts.{Attached, unit_of}
 use Rattle.hall_core.specs.declared.hall.Hall.{Ghosts}
 use Rattle.stop_model.specs.Files.{File}
 use Rattle.pack_spec.specs.Settled.{IsSettled}
 use Rattle.pds_directory.proofs.PackedTests.{are_packed_of}
-use Rattle.hall_core.specs.Facts.{Attached}
 use Rattle.vtoc_index.specs.declared.vol.Vol.{Vol}
-use Rattle.shelf_machine.specs.Machine.{AreKept, units_of}
+use Rattle.shelf_machine.specs.Known.{KnowsBodies}
+use Rattle.shelf_machine.specs.Machine.{AreInOrder, AreKept, units_of}
 use Rattle.shelf_machine.specs.Opening.{AreSettledImages, names_of}
 use Rattle.shelf_machine.specs.Parts.{meaning_of}
-use Rattle.shelf_machine.specs.Reads.{HasVolumes}
+use Rattle.shelf_machine.specs.PendingShelves.{kept_in}
+use Rattle.shelf_machine.specs.ReadyPacks.{caches_of, vols_of}
+use Rattle.pack_machine.specs.Reads.{HasVolumes}
 use Rattle.shelf_machine.specs.declared.machine.HallShelf.{HallShelf}
+use Rattle.pack_machine.specs.declared.pack.Pack.{Pack}
 use Rattle.shelf_machine.proofs.Holding.{has_volumes, kept_mounted}
-use Rattle.shelf_machine.proofs.ListPlaces.{of_map}
+use Rattle.pack_machine.proofs.ListPlaces.{of_map}
+use Rattle.shelf_machine.proofs.ReadyPacks.{bodies_in, order_in}
 
-pub machine_volumes : {X : Type 0} {g : Ghosts X} (machine : HallShelf X g) (vols : List Vol) → vols ≡ machine.vols.items → IsTrue machine.is_sound → IsTrue g.tells → HasVolumes (meaning_of machine).state vols
-machine_volumes {g = g} machine vols same sound told =
-    subst (HasVolumes (meaning_of machine).state) (sym same)
-    (has_volumes (g.meaning machine.hall).state (g.facts machine.hall).units machine.vols.items
-    (kept_mounted (g.meaning machine.hall).state (g.facts machine.hall).units machine.vols.items ((machine.ready sound).kept told)) machine.indexes.serials)
+-- what reads of its packs ask for, which a machine lends as a slice
+module _ {X : Type 0} {g : Ghosts X} (machine : HallShelf X g) (packs : List Pack) (same : packs ≡ machine.packs.items) (sound : IsTrue machine.is_sound) where
+  pub machine_volumes : IsTrue g.tells → HasVolumes (meaning_of machine).state (vols_of packs)
+  machine_volumes told =
+      let vols = vols_of machine.packs.items in
+      subst (λ (ps : List Pack). HasVolumes (meaning_of machine).state (vols_of ps)) (sym same)
+      (has_volumes (g.meaning machine.hall).state (g.facts machine.hall).units vols
+      (kept_mounted (g.meaning machine.hall).state (g.facts machine.hall).units vols (kept_in (machine.ready sound) told)) machine.indexes.serials)
+
+  pub machine_bodies : IsTrue g.tells → KnowsBodies (meaning_of machine).state (caches_of packs)
+  machine_bodies told = subst (λ (ps : List Pack). KnowsBodies (meaning_of machine).state (caches_of ps)) (sym same) (bodies_in (machine.ready sound) told)
+
+  pub machine_order : AreInOrder (vols_of packs)
+  machine_order = subst (λ (ps : List Pack). AreInOrder (vols_of ps)) (sym same) (order_in (machine.ready sound))
 
 -- images that are kept are settled
 pub kept_settled : (files : List File) (attached : List Attached) (vols : List Vol) → AreKept files attached vols → AreSettledImages (names_of attached (units_of vols)) files

@@ -16,10 +16,10 @@ use Rattle.vtoc_index.proofs.KeptLemmas.{mounted_of}
 use Rattle.shelf_machine.specs.Machine.{AreKept, shelf_or_none, shelf_under, serials_of, units_of}
 use Rattle.shelf_machine.specs.Opening.{AreApart, images_named, names_of}
 use Rattle.shelf_machine.specs.Packs.{AreMounted}
-use Rattle.shelf_machine.specs.Reads.{HasVolumes}
+use Rattle.pack_machine.specs.Reads.{HasVolumes}
 use Rattle.vtoc_sets.specs.Sets.{volume_in}
-use Rattle.shelf_machine.proofs.FreeCounts.{labelled}
-use Rattle.shelf_machine.proofs.ListPlaces.{get_map}
+use Rattle.pack_machine.proofs.FreeCounts.{labelled}
+use Rattle.pack_machine.proofs.ListPlaces.{get_map}
 use Rattle.shelf_machine.proofs.ShelfLemmas.{AllStand, serials_in, shelf_there}
 
 -- the volume of the image of an index, and those of several

@@ -12,16 +12,17 @@ use Rattle.vol_model.specs.declared.contents.Volume.{Volume}
 use Rattle.vol_model.specs.Shelf.{set_of}
 use Rattle.vol_model.specs.Writing.{set_on}
 use Rattle.vtoc_index.specs.declared.vol.Vol.{Vol}
-use Rattle.shelf_machine.specs.Checking.{unread_in}
-use Rattle.shelf_machine.specs.Known.{AreFresh, IsFresh, KnowsBodies, buffers_of, geometries_of}
+use Rattle.pack_machine.specs.Checking.{unread_in}
+use Rattle.shelf_machine.specs.Known.{AreFresh, KnowsBodies, buffers_of, geometries_of}
+use Rattle.pack_machine.specs.Known.{IsFresh}
 use Rattle.shelf_machine.specs.Machine.{serials_of, shelf_under, units_of}
 use Rattle.shelf_machine.specs.Opening.{AreApart, names_of}
 use Rattle.shelf_machine.specs.Packs.{AreKnown, AreScanned, AreScansOf, indexes_of}
-use Rattle.shelf_machine.specs.Unread.{broken_in, track_in}
-use Rattle.shelf_machine.specs.declared.pack_cache.PackCache.{PackCache}
-use Rattle.shelf_machine.specs.declared.unread.Unread.{Unread}
+use Rattle.pack_machine.specs.Unread.{broken_in, track_in}
+use Rattle.pack_machine.specs.declared.pack_cache.PackCache.{PackCache}
+use Rattle.pack_machine.specs.declared.unread.Unread.{Unread}
 use Rattle.shelf_machine.proofs.Holding.{volume_there}
-use Rattle.shelf_machine.proofs.ListPlaces.{contains_at, get_map}
+use Rattle.pack_machine.proofs.ListPlaces.{contains_at, get_map}
 use Rattle.shelf_machine.proofs.ListedSets.{lists_all}
 use Rattle.shelf_machine.proofs.ReadingPacks.{map_push, mounted_scans}
 

@@ -24,10 +24,10 @@ use Rattle.vtoc_index.specs.Index.{IsMounted}
 use Rattle.vtoc_index.specs.Names.{AreByName, name_at}
 use Rattle.vtoc_index.specs.declared.vol.Vol.{Vol}
 use Rattle.vtoc_sets.specs.Sets.{extents_in, volume_in}
-use Rattle.shelf_machine.specs.Checking.{all_unread, entry_of, unread_entry}
-use Rattle.shelf_machine.specs.Unread.{broken_at, broken_by, broken_in, is_of, track_in}
-use Rattle.shelf_machine.specs.declared.unread.Unread.{Unread}
-use Rattle.shelf_machine.proofs.FoundByKey.{none_found}
+use Rattle.pack_machine.specs.Checking.{all_unread, entry_of, unread_entry}
+use Rattle.pack_machine.specs.Unread.{broken_at, broken_by, broken_in, is_of, track_in}
+use Rattle.pack_machine.specs.declared.unread.Unread.{Unread}
+use Rattle.pack_machine.proofs.FoundByKey.{none_found}
 
 -- the entry of a name that can't be read from a track on
 abbrev entry_at : Dsn → ℕ → Unread

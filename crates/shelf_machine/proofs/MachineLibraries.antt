@@ -17,7 +17,7 @@ use Rattle.vol_model.specs.declared.answers.ReadErr.TheVariants as errors
 use Rattle.vol_model.specs.declared.contents.Body.{Body}
 use Rattle.vol_model.specs.declared.contents.Entry.{Entry}
 use Rattle.vol_model.specs.Reading.{Picks, directory_size, entries_in}
-use Rattle.shelf_machine.specs.Libraries.{HoldsLibrary, IsAnswered, IsHeld, entries_held, size_by, size_held}
+use Rattle.pack_machine.specs.Libraries.{HoldsLibrary, IsAnswered, IsHeld, entries_held, size_by, size_held}
 use Rattle.shelf_machine.specs.Machine.{ByFiles, KeepsSafe, LeavesJust, shelf_under, units_of, writer_in}
 use Rattle.shelf_machine.specs.Opening.{names_of}
 use Rattle.mount_repair.specs.declared.library.Library.{Library}
@@ -57,11 +57,6 @@ pub picks_unread : (e : ReadErr) (body : Body) (libraries : ℕ → Option Libra
 picks_unread (errors.Unreadable t) body libraries pick is = is.0
 picks_unread errors.Memory body libraries pick is = tt
 picks_unread errors.Device body libraries pick is = tt
-
--- memory that runs out is no fault of the device
-pub not_device : {T : Type 0} (r : Result T ReadErr) → IfErr r (λ e. e ≡ errors.Memory) → IsErrOf r errors.Device → ⊥
-not_device (Ok x) memory is = cc
-not_device (Err e) memory is = cc
 
 -- the calls of a read, by another answer that has a fault of the device where it does
 pub read_as : {T E S D : Type 0} (device : E) (r : Result T E) (fault : D) (s : Result S D) (old new : Status) → (IsErrOf s fault → IsErrOf r device) → (IsErrOf r device → IsErrOf s fault) → ReadCall device old new r → ReadCall fault old new s

@@ -11,7 +11,6 @@ use Rattle.dscb_codec.specs.declared.F1.{F1}
 use Rattle.ebcdic_names.specs.declared.names.Dsn.{Dsn}
 use Rattle.free_rebuild.specs.Repairs.{image_named}
 use Rattle.hall_core.specs.Facts.{Attached, Facts, unit_of}
-use Rattle.pack_spec.specs.declared.MountErr.{MountErr}
 use Rattle.pack_spec.specs.Volume.{attr_of}
 use Rattle.seq_access.specs.Bodies.{body_of_set, last_in}
 use Rattle.seq_access.specs.Writing.{AreSpared, puts_in}
@@ -33,12 +32,12 @@ use Rattle.vtoc_sets.specs.Sets.{volume_in}
 use Rattle.shelf_machine.specs.Fronts.{BeginsWell, firsts}
 use Rattle.shelf_machine.proofs.Machines.{same_base}
 use Rattle.shelf_machine.specs.Machine.{base_of, placed_in}
-use Rattle.shelf_machine.specs.Operating.{IsSamePack}
+use Rattle.pack_machine.specs.Ready.{IsSamePack, reported}
 use Rattle.shelf_machine.specs.Pending.{HasSlot, IsInSlot, IsPendingBy, IsWriterOn, IsWritingBy, puts_by, puts_on}
-use Rattle.shelf_machine.specs.Reporting.{reported}
 use Rattle.shelf_machine.specs.declared.writer.Writer.{Writer}
 use Rattle.shelf_machine.proofs.ExtendedWriters.{body_now, fits_extended, puts_extended, still_named, writing_extended}
-use Rattle.shelf_machine.proofs.ListPlaces.{there}
+use Rattle.pack_machine.proofs.ListPlaces.{there}
+use Rattle.mount_repair.proofs.RepairSteps.{one_volume}
 
 -- A writer stands on a new image by the index of that, as it stood on the old one.
 pub record StandsAgain (image image' : List ℕ) (v v' : Vol) (w w' : Writer) : Type 0 where
@@ -78,9 +77,6 @@ stands_undone us us' v v' files files' w units unit state index on =
 
 -- ---- it is done
 
-ok_same : {a b : Volume} → ◌≡◌ {A = Result Volume MountErr} (Ok a) (Ok b) → a ≡ b
-ok_same same = cc
-
 one_format : {a b : F1} → Some (formats.F1 a) ≡ Some (formats.F1 b) → a ≡ b
 one_format same = cc
 
@@ -98,8 +94,8 @@ module _ {T : Type 0} (name : List ℕ) (dsn : Dsn) (v v' : Vol) (m m' : Meaning
   step_now : extend_on dsn (volume_in image v) ≡ Ok (volume_in image' v')
   step_now =
       let done = run.does.done in
-      let before : run.does.volume ≡ volume_in image v = ok_same (sym run.does.before ∙ (mounted_of image v kept).volume) in
-      let after : done.after ≡ volume_in image' v' = ok_same (sym done.stands ∙ done.index.volume) in
+      let before : run.does.volume ≡ volume_in image v = one_volume (sym run.does.before ∙ (mounted_of image v kept).volume) in
+      let after : done.after ≡ volume_in image' v' = one_volume (sym done.stands ∙ done.index.volume) in
       ap (extend_on dsn) (sym before) ∙ done.step ∙ ap (λ (w : Volume). Ok w) after
 
   -- the set stands in the new index
@@ -116,10 +112,10 @@ module _ {T : Type 0} (name : List ℕ) (dsn : Dsn) (v v' : Vol) (m m' : Meaning
         stands = record {
           fits = λ f' is. subst (λ (g : F1). fits_mode w.mode g.name (attr_of g) ≡ true) (one_format (sym there'.set ∙ is))
               (fits_extended image image' v v' (mounted_of image v kept) run.does.done.index dsn slot found.f found.set found.named step_now same run.does.done.changes.image slot' there'.f there'.set there'.named w.mode (on.fits found.f here));
-          first = λ f' is. subst (λ (g : F1). put_first w.mode (body_of_set image' v' g) ≡ firsts w.first) (one_format (sym there'.set ∙ is))
+          first = λ f' is. subst (λ (g : F1). put_first w.mode (body_of_set image' v' g) ≡ firsts w.owes_end_of_file) (one_format (sym there'.set ∙ is))
               (ap (put_first w.mode) (body_now image image' v v' (mounted_of image v kept) run.does.done.index dsn slot found.f found.set found.named step_now same run.does.done.changes.image slot' there'.f there'.set there'.named) ∙ on.first found.f here);
-          begins = λ f' is. subst (λ (g : F1). BeginsWell w.first (puts_in image' v' g (record (w.inner) { slot = slot' }))) (one_format (sym there'.set ∙ is))
-              (subst (BeginsWell w.first) (sym (puts_extended image image' v v' (mounted_of image v kept) run.does.done.index dsn slot found.f found.set found.named step_now same run.does.done.changes.image slot' there'.f there'.set there'.named w.inner by)) (on.begins found.f here));
+          begins = λ f' is. subst (λ (g : F1). BeginsWell w.owes_end_of_file (puts_in image' v' g (record (w.inner) { slot = slot' }))) (one_format (sym there'.set ∙ is))
+              (subst (BeginsWell w.owes_end_of_file) (sym (puts_extended image image' v v' (mounted_of image v kept) run.does.done.index dsn slot found.f found.set found.named step_now same run.does.done.changes.image slot' there'.f there'.set there'.named w.inner by)) (on.begins found.f here));
           writing = λ f' is. subst (λ (g : F1). IsWritingBy image' v' g (record (w.inner) { slot = slot' })) (one_format (sym there'.set ∙ is))
               (writing_extended image image' v v' (mounted_of image v kept) run.does.done.index dsn slot found.f found.set found.named step_now same run.does.done.changes.image slot' there'.f there'.set there'.named w.inner by);
         };

@@ -2,6 +2,7 @@
 use Rattle.std.proofs.Common.{◌≡◌, ◌≤◌, ◌+◌, ⊎_elim, ℕ, suc, Bool, List, [], ◌∷◌, ◌++◌, drop, length, set, Some, refl, sym, ap, subst, ◌∙◌, arith}
 use Rattle.std.specs.Prelude.{IsTrue, Ok, slice_get}
 use Rattle.std.proofs.lemmas.Bool.{cases_eq}
+use Rattle.std.proofs.lemmas.List.{length-map}
 use Rattle.ckd_image.specs.declared.header.Geometry.{Geometry}
 use Rattle.free_rebuild.specs.Repairs.{image_named}
 use Rattle.hall_core.specs.Facts.{Attached, Facts, unit_of}
@@ -15,13 +16,19 @@ use Rattle.seq_access.specs.declared.read_buf.ReadBuf.{ReadBuf}
 use Rattle.stop_model.specs.Files.{File}
 use Rattle.stop_model.specs.Moments.{Meaning}
 use Rattle.vtoc_index.specs.declared.vol.Vol.{Vol}
-use Rattle.shelf_machine.specs.Known.{AreFresh, AreHeld, HoldLibraries, HoldsOn, HoldsPack, KeepsLists, buffers_of}
-use Rattle.shelf_machine.specs.Packs.{indexes_of}
-use Rattle.shelf_machine.specs.declared.pack_cache.PackCache.{PackCache}
+use Rattle.shelf_machine.specs.Known.{AreFresh, AreHeld, HoldsOn, KeepsLists, buffers_of}
+use Rattle.pack_machine.specs.Known.{HoldLibraries, HoldsPack}
+use Rattle.shelf_machine.specs.Packs.{AreKnown, indexes_of}
+use Rattle.pack_machine.specs.declared.pack.Pack.{Pack}
+use Rattle.pack_machine.specs.declared.pack_cache.PackCache.{PackCache}
+use Rattle.shelf_machine.specs.ReadyPacks.{caches_of, vols_of}
 use Rattle.shelf_machine.proofs.ForgottenTracks.{held_still, same_lists}
-use Rattle.shelf_machine.proofs.KnownLemmas.{fresh_held, nothing_held}
-use Rattle.shelf_machine.proofs.RepairLoops.{OpenedSoFar, none_more_scans, put_there, there}
-use Rattle.shelf_machine.proofs.StandingDirectories.{directory_read}
+use Rattle.shelf_machine.proofs.KnownLemmas.{as_many, fresh_held, holds_set, one_geometry}
+use Rattle.pack_machine.proofs.KnownLemmas.{nothing_held}
+use Rattle.pack_machine.proofs.ListPlaces.{get_map}
+use Rattle.shelf_machine.proofs.RepairLoops.{OpenedSoFar, at_last, none_more_scans, put_there, set_last, there}
+use Rattle.pack_machine.proofs.StandingDirectories.{directory_read}
+use Rattle.std.proofs.lemmas.Option.{same_Some}
 
 -- the libraries of a scan stand on its image
 pub scan_holds : (image : List ℕ) (s : Scan) → IsScanOf image s → HoldLibraries image s.vol s.libraries.items
@@ -30,9 +37,6 @@ scan_holds image s scan n l at =
     directory_read image s.vol is.set is.part l.start l.dir is.start is.read
 
 -- ---- other libraries are held of one pack
-
-some_known : {a b : PackCache} → Some a ≡ Some b → a ≡ b
-some_known same = cc
 
 module _ (k : ℕ) (libraries : List Library) (old new : List PackCache) (holds : HoldsOn k libraries old new) where
   -- but for its libraries each is as it was
@@ -49,9 +53,20 @@ same_buffers [] (y ∷ new) size each = absurd (omega (arith, size))
 same_buffers (x ∷ old) [] size each = absurd (omega (arith, size))
 same_buffers (x ∷ old) (y ∷ new) size each =
     let first = each 0 y refl in
-    let buffer : y.buf.records.geometry ≡ x.buf.records.geometry = ap (λ (b : ReadBuf). b.records.geometry) (first.2 ∙ ap (λ (a : PackCache). a.buf) (sym (some_known first.1))) in
+    let buffer : y.buf.records.geometry ≡ x.buf.records.geometry = ap (λ (b : ReadBuf). b.records.geometry) (first.2 ∙ ap (λ (a : PackCache). a.buf) (sym (same_Some _ _ first.1))) in
     let rest = same_buffers old new (omega (arith, size)) (λ n b at. each (suc n) b at) in
     ap (λ (g : Geometry). g ∷ buffers_of new) buffer ∙ ap (λ (gs : List Geometry). x.buf.records.geometry ∷ gs) rest
+
+-- they are held of the first of the rest
+pub holds_next : (first rest : List PackCache) (k : ℕ) (a b : PackCache) (libraries : List Library) → length first ≡ k → b.unread ≡ a.unread → b.buf ≡ a.buf → b.libraries.items ≡ libraries → HoldsOn k libraries (first ++ a ∷ rest) ((first ++ b ∷ []) ++ rest)
+holds_next first rest k a b libraries size unread buf held =
+    subst (HoldsOn k libraries (first ++ a ∷ rest)) (set_last first rest k a b size) (holds_set (first ++ a ∷ rest) k a b libraries (at_last first rest k a size) unread buf held)
+
+-- and none is left
+pub none_left : (first rest : List PackCache) → length (first ++ rest) ≡ length first → first ++ rest ≡ first
+none_left [] [] same = refl
+none_left [] (x ∷ rest) same = absurd (omega (arith, same))
+none_left (x ∷ first) rest same = ap (λ (l : List PackCache). x ∷ l) (none_left first rest (omega (arith, same)))
 
 -- so which data sets can't be read is known as before
 pub holds_lists : (k : ℕ) (libraries : List Library) (old new : List PackCache) → HoldsOn k libraries old new → KeepsLists old new
@@ -68,6 +83,13 @@ lists_then a b c first next = record {
 }
 
 -- ---- pack by pack
+
+-- the buffer of the first of the rest has the geometry of its pack, repaired or not
+pub buffer_next : (scans : List Scan) (known now : List PackCache) → AreKnown scans known → KeepsLists known now → (k : ℕ) (s : Scan) (v : Vol) (first rest : List PackCache) (b : PackCache) → slice_get scans k ≡ Some s → now ≡ first ++ b ∷ rest → length first ≡ k
+    → v ≡ record s.vol { slots = v.slots; buf = v.buf } → b.buf.records.geometry ≡ v.geometry
+buffer_next scans known now are keeps k s v first rest b at is size others =
+    one_geometry (indexes_of scans) now k s.vol b (keeps.buffers ∙ are.buffers) (get_map (λ (x : Scan). x.vol) scans k s at) (ap (λ (l : List PackCache). slice_get l k) is ∙ at_last first rest k b size)
+    ∙ sym (ap (λ (w : Vol). w.geometry) others)
 
 -- What is known of packs of which so many first are repaired: no track is held, and the libraries that are held stand, on the repaired packs and on the rest.
 pub record HeldSoFar (tells : Bool) (now : Facts) (m' : Meaning (List File)) (scans : List Scan) (vols : List Vol) (old known : List PackCache) (k : ℕ) : Type 0 where
@@ -119,3 +141,17 @@ module _ (tells : Bool) (old now : Facts) (m m' : Meaning (List File)) (scans : 
 -- all are repaired
 pub held_done : (tells : Bool) (now : Facts) (m' : Meaning (List File)) (scans : List Scan) (vols : List Vol) (old known : List PackCache) (k : ℕ) → HeldSoFar tells now m' scans vols old known k → length scans ≤ k → IsTrue tells → AreHeld m'.state now.units vols known
 held_done tells now m' scans vols old known k held low told = subst (λ (l : List Vol). AreHeld m'.state now.units l known) (none_more_scans scans k vols low) (held.held told)
+
+-- and nothing that is known is left over
+pub none_over : (tells : Bool) (old now : Facts) (m m' : Meaning (List File)) (scans : List Scan) (packs : List Pack) (known rest : List PackCache) (k : ℕ) → OpenedSoFar tells old now m m' scans (vols_of packs) k → AreKnown scans known
+    → KeepsLists known (caches_of packs ++ rest) → k ≡ length scans → caches_of packs ++ rest ≡ caches_of packs
+none_over tells old now m m' scans packs known rest k so_far are keeps low =
+    none_left (caches_of packs) rest (omega (
+      arith,
+      low,
+      so_far.size,
+      length-map packs (λ (p : Pack). p.cache),
+      length-map packs (λ (p : Pack). p.vol),
+      length-map scans (λ (x : Scan). x.vol),
+      as_many (indexes_of scans) (caches_of packs ++ rest) (keeps.buffers ∙ are.buffers),
+    ))

@@ -16,24 +16,22 @@ use Rattle.vtoc_index.specs.declared.vol.Vol.{Vol}
 use Rattle.seq_access.specs.Bodies.{last_in}
 use Rattle.seq_access.specs.Writing.{AreSpared}
 use Rattle.seq_access.proofs.SparedCalls.{differ_none}
-use Rattle.shelf_machine.specs.declared.area_start.AreaStart.{AreaStart}
+use Rattle.pack_machine.specs.declared.area_start.AreaStart.{AreaStart}
 use Rattle.shelf_machine.specs.Fronts.{IsFrontIn, behind_first}
 use Rattle.shelf_machine.specs.Machine.{AreIndexes, AreKept, is_open_in, shelf_under, units_of, writer_in}
 use Rattle.shelf_machine.specs.Opening.{names_of}
 use Rattle.shelf_machine.specs.Pending.{HasSlot, IsBegunAt, IsBegunOn, IsFor, IsInSlot, IsPendingBy, puts_by, puts_on}
-use Rattle.shelf_machine.specs.Reads.{HasVolume}
+use Rattle.pack_machine.specs.Reads.{HasVolume}
 use Rattle.shelf_machine.specs.declared.writer.Writer.{Writer}
 use Rattle.shelf_machine.proofs.FrontLemmas.{behind_none}
 use Rattle.shelf_machine.proofs.Holding.{kept_mounted, volume_there}
-use Rattle.shelf_machine.proofs.ListPlaces.{there, within}
+use Rattle.pack_machine.proofs.ListPlaces.{there}
+use Rattle.std.proofs.lemmas.Option.{same_Some, slice_get_within}
 
 -- a writer that was opened is open
 pub open_some : (v : ℕ) (dsn : Dsn) (mode : Mode) (w : Option Writer) → IfSome w (IsFor v dsn mode) → is_some w ≡ is_open_in w
 open_some v dsn mode None is = refl
 open_some v dsn mode (Some w) is = sym is.opened
-
-some_vol : {a b : Vol} → Some a ≡ Some b → a ≡ b
-some_vol same = cc
 
 module _ (v : ℕ) (dsn : Dsn) (mode : Mode) (vols : List Vol) (vol : Vol) (at : slice_get vols v ≡ Some vol) where
   -- its pack has its slot
@@ -41,8 +39,8 @@ module _ (v : ℕ) (dsn : Dsn) (mode : Mode) (vols : List Vol) (vol : Vol) (at :
   slot_opened None target low = tt
   slot_opened (Some w) target low =
       let here : slice_get vols w.v ≡ Some vol = ap (slice_get vols) target.number ∙ at in (
-        within vols w.v vol here,
-        λ u there. subst (λ (x : Vol). IsInSlot x w) (some_vol (sym here ∙ there)) low,
+        slice_get_within vols w.v vol here,
+        λ u there. subst (λ (x : Vol). IsInSlot x w) (same_Some _ _ (sym here ∙ there)) low,
       )
 
   -- and it stands on the image of that
@@ -57,7 +55,7 @@ module _ (v : ℕ) (dsn : Dsn) (mode : Mode) (vols : List Vol) (vol : Vol) (at :
         mounted = mounted v vol at;
         there = volume_there files attached vols mounted indexes.serials v vol at;
       } in
-      let same : vol ≡ u = some_vol (sym at ∙ ap (slice_get vols) (sym target.number) ∙ there) in
+      let same : vol ≡ u = same_Some _ _ (sym at ∙ ap (slice_get vols) (sym target.number) ∙ there) in
       subst (λ (x : Vol). IsBegunAt (image_named files (unit_of attached x.unit).name) x w) same (each _ v has none begins)
 
 -- where all is durable nothing is pending but by it
@@ -88,5 +86,5 @@ writer_begun files attached vols v dsn mode (Some w) slot target is opened =
   where
     writer_with : puts_on files attached vols w ≡ [] → writer_in files attached vols (Some w) ≡ begun (record { v = w.v; dsn = w.dsn; mode = w.mode })
     writer_with none =
-        ap (λ (cs : List Content). record { target = record { v = w.v; dsn = w.dsn; mode = w.mode }; puts = behind_first w.first cs }) none
-        ∙ ap (λ (cs : List Content). record { target = record { v = w.v; dsn = w.dsn; mode = w.mode }; puts = cs }) (behind_none w.first)
+        ap (λ (cs : List Content). record { target = record { v = w.v; dsn = w.dsn; mode = w.mode }; puts = behind_first w.owes_end_of_file cs }) none
+        ∙ ap (λ (cs : List Content). record { target = record { v = w.v; dsn = w.dsn; mode = w.mode }; puts = cs }) (behind_none w.owes_end_of_file)

@@ -15,12 +15,12 @@ use Rattle.mount_repair.specs.declared.scanned.Scan.{Scan}
 use Rattle.vtoc_index.specs.Index.{IsOfUnit}
 use Rattle.vtoc_index.specs.Names.{AreByName, name_at}
 use Rattle.vtoc_index.specs.declared.vol.Vol.{Vol}
-use Rattle.shelf_machine.specs.Machine.{AreInOrder, AreIndexes, AreKept, HasRoom, HavePlans, KeepsSafe, LeavesJust, serials_of, units_of}
+use Rattle.shelf_machine.specs.Machine.{AreInOrder, AreIndexes, AreKept, HavePlans, KeepsSafe, LeavesJust, serials_of, units_of}
 use Rattle.shelf_machine.specs.Opening.{AreApart, AreSafe, AreUnits, LeavesSafe, OpensSafely, images_named, names_of}
 use Rattle.shelf_machine.specs.Packs.{AreMounted, AreScanned, RefusesImages, RepairsAll, StopsAtTwice, indexes_of}
 use Rattle.shelf_machine.specs.declared.open_failure.OpenFailure.{OpenFailure}
 use Rattle.shelf_machine.proofs.Holding.{kept_mounted, shelf_held, volume_held, volumes_held}
-use Rattle.shelf_machine.proofs.ListPlaces.{get_map, of_map}
+use Rattle.pack_machine.proofs.ListPlaces.{get_map, of_map}
 use Rattle.shelf_machine.proofs.ReadingPacks.{twice_refused}
 use Rattle.shelf_machine.proofs.Repairing.{safe_same}
 
@@ -39,7 +39,6 @@ each_index P scans each k v at = let of = of_map (λ (s : Scan). s.vol) scans k 
 pub indexes_scanned : (attached : List Attached) (units : List ℕ) (scans : List Scan) → AreUnits attached units → AreScanned attached units scans → AreApart (serials_of (indexes_of scans)) → AreIndexes attached (indexes_of scans)
 indexes_scanned attached units scans are scanned apart = record {
   each = each_index (IsOfUnit attached) scans (λ k s at. (scanned.each k s at).index);
-  room = each_index HasRoom scans (λ k s at. (scanned.each k s at).room);
   names = subst (λ (us : List ℕ). AreApart (names_of attached us)) (sym scanned.numbers) are.apart;
   serials = apart;
   few = omega (arith, length-map (indexes_of scans) (λ (v : Vol). v.unit), ap length scanned.numbers, are.few);

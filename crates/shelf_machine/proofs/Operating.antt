@@ -1,31 +1,27 @@
 -- An operation on one of several packs, by their shelf.
-use Rattle.std.proofs.Common.{◌≡◌, ◌≢◌, ⊎_elim, ℕ, zero, suc, Bool, true, false, List, [], ◌∷◌, ◌++◌, set, Option, Some, None, refl, sym, ap, subst, ◌∙◌, arith}
-use Rattle.std.specs.Prelude.{◌==◌, ◌+◌, length, nat_lt, OnOk, Result, Ok, Err, filter, if◌then◌else◌, not, slice_get, unwrap_or}
+use Rattle.std.proofs.Common.{◌≡◌, ◌≢◌, ⊎_elim, ℕ, zero, suc, Bool, List, [], ◌∷◌, ◌++◌, set, Option, Some, None, sym, ap, subst, ◌∙◌, arith}
+use Rattle.std.specs.Prelude.{◌==◌, nat_lt, OnOk, Result, Ok, Err, filter, if◌then◌else◌, not, slice_get, unwrap_or}
 use Rattle.std.proofs.lemmas.Bool.{cases_eq}
 use Rattle.dadsm_ops.specs.Operations.{Operates}
 use Rattle.free_rebuild.specs.Repairs.{image_named}
-use Rattle.free_rebuild.proofs.SettledBool.{settled_true, settled_vtoc}
+use Rattle.free_rebuild.proofs.SettledBool.{settled_vtoc}
 use Rattle.hall_core.specs.Facts.{Attached, Facts, unit_of}
-use Rattle.pack_spec.specs.Label.{tracks_of}
 use Rattle.stop_model.specs.Files.{File, file_of}
-use Rattle.stop_model.specs.Moments.{IsDurable, Meaning, Same}
-use Rattle.stop_model.proofs.MomentLemmas.{CountsNow, durable_same}
-use Rattle.vol_model.specs.Calls.{sound_after}
+use Rattle.stop_model.specs.Moments.{IsDurable, Meaning}
+use Rattle.stop_model.proofs.MomentLemmas.{CountsNow}
 use Rattle.ebcdic_names.specs.declared.names.Dsn.{Dsn}
 use Rattle.vol_model.specs.Places.{tracks_in}
-use Rattle.vol_model.specs.Shelf.{allocate_on, emptied, empty_on, empty_set, extend_on, extend_set, extended_by, has_name, has_set, if_readable, if_room, if_slots, is_catalog, is_partitioned, lacks_room, may_empty, on_choice, on_found, refuse, rename_on, rename_refusal, renamed, scratch_on, secondary_asked, secondary_choice, set_of, step_on, unless_refused, volume_number, with_extents, with_new, with_set}
+use Rattle.vol_model.specs.Shelf.{allocate_on, emptied, empty_on, empty_set, has_name, has_set, if_readable, if_room, is_catalog, is_partitioned, lacks_room, may_empty, on_choice, on_found, refuse, rename_on, rename_refusal, renamed, scratch_on, set_of, step_on, unless_refused, volume_number, with_new, with_set}
 use Rattle.vol_model.specs.Slots.{slots_needed}
 use Rattle.vol_model.specs.Space.{choice}
 use Rattle.vol_model.specs.declared.contents.Attr.{Attr}
-use Rattle.vol_model.specs.declared.contents.Body.{Body}
-use Rattle.vol_model.specs.declared.contents.Body.TheVariants as bodies
 use Rattle.vol_model.specs.declared.contents.DataSet.{DataSet}
 use Rattle.vol_model.specs.declared.contents.Run.{Run}
 use Rattle.vol_model.specs.declared.answers.StoreErr.{StoreErr}
 use Rattle.vol_model.specs.declared.answers.StoreErr.TheVariants as store
 use Rattle.vol_model.specs.declared.contents.Volume.{Volume}
 use Rattle.vol_model.specs.declared.refusals.Refusal.{Refusal}
-use Rattle.vol_model.specs.declared.refusals.Refusal.TheVariants.{ExtentsFull, NoRoom, NoVolume, SetExists, VtocFull, WrongKind}
+use Rattle.vol_model.specs.declared.refusals.Refusal.TheVariants.{NoRoom, NoVolume, SetExists, VtocFull, WrongKind}
 use Rattle.vol_model.specs.declared.requests.Op.{Op}
 use Rattle.vol_model.specs.declared.requests.Op.TheVariants.{Allocate, Empty, Extend, Rename, Scratch}
 use Rattle.vol_model.specs.declared.requests.Request.{Request}
@@ -33,21 +29,18 @@ use Rattle.vtoc_index.specs.Index.{IsOfUnit}
 use Rattle.vtoc_index.specs.Kept.{IsKept}
 use Rattle.vtoc_index.specs.Names.{AreByName, name_at}
 use Rattle.vtoc_index.specs.declared.vol.Vol.{Vol}
-use Rattle.vtoc_index.proofs.KeptLemmas.{kept_of}
-use Rattle.shelf_machine.specs.Machine.{AreIndexes, AreInOrder, AreKept, HasRoom, IsKeptSettled, base_of, numbers_of, plans_of, texts_of, units_of}
+use Rattle.shelf_machine.specs.Machine.{AreIndexes, AreInOrder, AreKept, base_of, numbers_of, plans_of, texts_of, units_of}
+use Rattle.pack_machine.specs.Ready.{IsKeptSettled, IsSamePack}
 use Rattle.shelf_machine.specs.Opening.{AreApart, names_of}
-use Rattle.shelf_machine.specs.Operating.{IsSamePack, OperatesOnShelf}
-use Rattle.shelf_machine.specs.Reporting.{reported}
-use Rattle.shelf_machine.specs.Unread.{broken_at}
+use Rattle.shelf_machine.specs.Operating.{OperatesOnShelf}
 use Rattle.shelf_machine.proofs.Holding.{has_volumes, held_stand, kept_mounted, serials_apart, volumes_held}
-use Rattle.shelf_machine.proofs.ListPlaces.{get_map, get_other, get_set, map_set_same, set_size}
+use Rattle.pack_machine.proofs.ListPlaces.{get_map, get_other, get_set, map_set_same, set_size}
 use Rattle.shelf_machine.proofs.Machines.{applies_memory, applies_nowhere, just_same, keeps_all}
-use Rattle.shelf_machine.proofs.PackedImages.{IsStillPacked}
+use Rattle.pack_machine.proofs.PackedImages.{IsStillPacked}
 use Rattle.shelf_machine.proofs.Promises.{keeps_safe}
 use Rattle.shelf_machine.proofs.ShelfSteps.{applies, idle_files}
-
-some_vol : {a b : Vol} → Some a ≡ Some b → a ≡ b
-some_vol same = cc
+use Rattle.pack_machine.proofs.Operating.{extend_is, leaves_pack, ok_volume, read_through, unrefused}
+use Rattle.std.proofs.lemmas.Option.{same_Some}
 
 -- the plan of one index is that of another of its pack
 plans_set : (vols : List Vol) (k : ℕ) (v v' : Vol) → slice_get vols k ≡ Some v → IsSamePack v v' → plans_of (set vols k v') ≡ plans_of vols
@@ -59,10 +52,6 @@ plans_set (u ∷ vols) zero v v' at same =
     ap (λ g. numbers_of g ∷ (v'.vtoc.start ∷ v'.vtoc.len ∷ []) ∷ plans_of vols) geometry
     ∙ ap (λ r. numbers_of u.geometry ∷ (r.start ∷ r.len ∷ []) ∷ plans_of vols) vtoc
 plans_set (u ∷ vols) (suc k) v v' at same = ap (λ rest. numbers_of u.geometry ∷ (u.vtoc.start ∷ u.vtoc.len ∷ []) ∷ rest) (plans_set vols k v v' at same)
-
--- and so is its room
-pub room_same : (v v' : Vol) → IsSamePack v v' → HasRoom v → HasRoom v'
-room_same v v' same room = omega (arith, room, same.room, ap tracks_of same.geometry)
 
 -- the name of an index's unit stands at its place
 pub name_there : (attached : List Attached) (vols : List Vol) (k : ℕ) (v : Vol) → slice_get vols k ≡ Some v → slice_get (names_of attached (units_of vols)) k ≡ Some (unit_of attached v.unit).name
@@ -86,12 +75,8 @@ module _ (old new : Facts) (vols : List Vol) (k : ℕ) (v v' : Vol) (there : sli
   pub indexes_after : AreIndexes old.units vols → IsOfUnit new.units v' → AreIndexes new.units (set vols k v')
   indexes_after indexes unit = record {
     each = λ j u at. ⊎_elim
-        (λ here. subst (IsOfUnit new.units) (some_vol (sym (get_set vols k v v' there) ∙ ap (slice_get (set vols k v')) (sym here) ∙ at)) unit)
+        (λ here. subst (IsOfUnit new.units) (same_Some _ _ (sym (get_set vols k v v' there) ∙ ap (slice_get (set vols k v')) (sym here) ∙ at)) unit)
         (λ differs. subst (λ (us : List Attached). IsOfUnit us u) (sym units) (indexes.each j u (sym (get_other vols j k v' differs) ∙ at)))
-        (cases_eq j k);
-    room = λ j u at. ⊎_elim
-        (λ here. subst HasRoom (some_vol (sym (get_set vols k v v' there) ∙ ap (slice_get (set vols k v')) (sym here) ∙ at)) (room_same v v' same (indexes.room k v there)))
-        (λ differs. indexes.room j u (sym (get_other vols j k v' differs) ∙ at))
         (cases_eq j k);
     names = subst AreApart (sym names_same) indexes.names;
     serials = subst AreApart (sym (map_set_same (λ (w : Vol). w.serial.bytes) vols k v v' there same.serial)) indexes.serials;
@@ -100,7 +85,7 @@ module _ (old new : Facts) (vols : List Vol) (k : ℕ) (v v' : Vol) (there : sli
 
   pub order_after : AreInOrder vols → AreByName (name_at v'.slots.items) v'.by_name.items → AreInOrder (set vols k v')
   order_after order here j u at = ⊎_elim
-      (λ is. subst (λ (w : Vol). AreByName (name_at w.slots.items) w.by_name.items) (some_vol (sym (get_set vols k v v' there) ∙ ap (slice_get (set vols k v')) (sym is) ∙ at)) here)
+      (λ is. subst (λ (w : Vol). AreByName (name_at w.slots.items) w.by_name.items) (same_Some _ _ (sym (get_set vols k v v' there) ∙ ap (slice_get (set vols k v')) (sym is) ∙ at)) here)
       (λ differs. order j u (sym (get_other vols j k v' differs) ∙ at))
       (cases_eq j k)
 
@@ -108,7 +93,7 @@ module _ (old new : Facts) (vols : List Vol) (k : ℕ) (v v' : Vol) (there : sli
   pub kept_after : (files after : List File) → AreIndexes old.units vols → AreKept files old.units vols → ((other : List ℕ) → other ≢ (unit_of old.units v.unit).name → file_of after other ≡ file_of files other)
       → IsKeptSettled (image_named after (unit_of old.units v.unit).name) v' → AreKept after new.units (set vols k v')
   kept_after files after indexes kept others here j u at = subst (λ (us : List Attached). IsKeptSettled (image_named after (unit_of us u.unit).name) u) (sym units) (⊎_elim
-      (λ is. let this : v' ≡ u = some_vol (sym (get_set vols k v v' there) ∙ ap (slice_get (set vols k v')) (sym is) ∙ at) in
+      (λ is. let this : v' ≡ u = same_Some _ _ (sym (get_set vols k v v' there) ∙ ap (slice_get (set vols k v')) (sym is) ∙ at) in
       subst (λ (w : Vol). IsKeptSettled (image_named after (unit_of old.units w.unit).name) w) this
       (subst (λ (n : ℕ). IsKeptSettled (image_named after (unit_of old.units n).name) v') (sym same.unit) here))
       (λ differs. let was : slice_get vols j ≡ Some u = sym (get_other vols j k v' differs) ∙ at in
@@ -118,35 +103,6 @@ module _ (old new : Facts) (vols : List Vol) (k : ℕ) (v v' : Vol) (there : sli
       ap (λ (o : Option (List ℕ)). unwrap_or o []) (others (unit_of old.units u.unit).name another) in
       subst (λ (i : List ℕ). IsKeptSettled i u) (sym image) (kept j u was))
       (cases_eq j k))
-
--- What an operation on a pack leaves of its image and of the other files, unless the device failed.
-pub record LeavesPack (name : List ℕ) (v' : Vol) (m m' : Meaning (List File)) : Type 0 where
-  pub others : (other : List ℕ) → other ≢ name → file_of m'.state other ≡ file_of m.state other
-  pub here : IsKeptSettled (image_named m'.state name) v'
-  pub durable : IsDurable m'
-
-module _ (name : List ℕ) (operation : Volume → Result Volume Refusal) (v v' : Vol) (Changes : List ℕ → List ℕ → Type 0) (m m' : Meaning (List File)) (kept : IsKeptSettled (image_named m.state name) v) (durable : IsDurable m) where
-  leaves_same : Same m m' → IsKept (image_named m.state name) v' → LeavesPack name v' m m'
-  leaves_same same is = record {
-    others = λ other differs. ap (λ (files : List File). file_of files other) same.state;
-    here = subst (λ (files : List File). IsKeptSettled (image_named files name) v') (sym same.state) (record { kept = is; settled = kept.settled; packed = kept.packed });
-    durable = durable_same same durable;
-  }
-
-  pub leaves_pack : {T : Type 0} (r : Result T StoreErr) → Operates name operation v' Changes m m' r → (IsKept (image_named m.state name) v → (e : StoreErr) → r ≡ Err e → e ≢ store.Device → IsKept (image_named m.state name) v')
-      → OnOk r (IsStillPacked (image_named m.state name) (image_named m'.state name)) → sound_after (reported r) ≡ true → LeavesPack name v' m m'
-  leaves_pack (Ok x) run idle still sound = record {
-    others = run.does.done.changes.others;
-    here = record {
-      kept = kept_of _ _ run.does.done.index;
-      settled = settled_true (image_named m'.state name) (run.does.settled (settled_vtoc (image_named m.state name) kept.settled));
-      packed = still kept.packed;
-    };
-    durable = run.does.done.durable;
-  }
-  leaves_pack (Err (store.Refused why)) run idle still sound = leaves_same (run.idle why (run.refused why refl)) (idle kept.kept (store.Refused why) refl (λ is. cc))
-  leaves_pack (Err store.Memory) run idle still sound = leaves_same (run.memory refl) (idle kept.kept store.Memory refl (λ is. cc))
-  leaves_pack (Err store.Device) run idle still sound = absurd cc
 
 -- an operation of the shelf on the pack of its number
 module _ (op : Op) (keeps : (w after : Volume) → step_on op w ≡ Ok after → after.serial.bytes ≡ w.serial.bytes) (old new : Facts) (vols : List Vol) (k : ℕ) (number : volume_number op ≡ k)
@@ -203,10 +159,6 @@ operates_memory op attached vols m counts kept durable = record {
   durable = λ _. durable;
 }
 
--- the operations keep the serial of a volume
-pub ok_volume : {a b : Volume} → ◌≡◌ {A = Result Volume Refusal} (Ok a) (Ok b) → a ≡ b
-ok_volume same = cc
-
 pub rename_keeps : (n : ℕ) (old new : Dsn) (w after : Volume) → step_on (Rename n old new) w ≡ Ok after → after.serial.bytes ≡ w.serial.bytes
 unfolding step_on rename_on renamed
 rename_keeps n old new w after is = by_refusal (rename_refusal w old.bytes new.bytes) is
@@ -226,10 +178,6 @@ scratch_keeps n dsn w after is = by_set (set_of dsn.bytes w) is
     by_set None done = absurd cc
     by_set (Some x) done = ap (λ (y : Volume). y.serial.bytes) (sym (ok_volume done))
 
-pub unrefused : (b : Bool) (r : Refusal) (rest : Result Volume Refusal) (after : Volume) → refuse b r rest ≡ Ok after → rest ≡ Ok after
-unrefused true r rest after is = absurd cc
-unrefused false r rest after is = is
-
 pub allocate_keeps : (n : ℕ) (dsn : Dsn) (attr : Attr) (q : Request) (dir : ℕ) (w after : Volume) → step_on (Allocate n dsn attr q dir) w ≡ Ok after → after.serial.bytes ≡ w.serial.bytes
 unfolding step_on allocate_on
 allocate_keeps n dsn attr q dir w after is =
@@ -247,14 +195,6 @@ allocate_keeps n dsn attr q dir w after is =
         let free = unrefused (nat_lt new.slots (slots_needed new)) (VtocFull (slots_needed new)) (refuse room NoRoom (Ok new)) after done in
         ap (λ (y : Volume). y.serial.bytes) (sym (ok_volume (unrefused room NoRoom (Ok new) after free)))
 
--- what isn't refused for its body can be read
-pub read_through : (b : Body) (rest : Result Volume Refusal) (after : Volume) → if_readable b rest ≡ Ok after → (rest ≡ Ok after) × (broken_at b ≡ None)
-read_through (bodies.Seq blocks) rest after is = (is, refl)
-read_through (bodies.Part dir end entries blocks) rest after is = (is, refl)
-read_through bodies.Catalog rest after is = (is, refl)
-read_through bodies.Other rest after is = (is, refl)
-read_through (bodies.Unreadable track) rest after is = absurd cc
-
 pub empty_keeps : (n : ℕ) (dsn : Dsn) (attr : Attr) (w after : Volume) → step_on (Empty n dsn attr) w ≡ Ok after → after.serial.bytes ≡ w.serial.bytes
 unfolding step_on empty_on
 empty_keeps n dsn attr w after is = by_set (set_of dsn.bytes w) is
@@ -264,27 +204,6 @@ empty_keeps n dsn attr w after is = by_set (set_of dsn.bytes w) is
     by_set (Some x) done =
         let read = unrefused (not (may_empty dsn.bytes x.attr x.body)) WrongKind (if_readable x.body (Ok (with_set w dsn.bytes (emptied attr)))) after done in
         ap (λ (y : Volume). y.serial.bytes) (sym (ok_volume (read_through x.body (Ok (with_set w dsn.bytes (emptied attr))) after read).0))
-
--- a volume after an extension has a set with more extents
-pub extend_is : (dsn : Dsn) (w after : Volume) → extend_on dsn w ≡ Ok after → (runs : List Run) × (with_set w dsn.bytes (with_extents runs) ≡ after)
-unfolding extend_on
-extend_is dsn w after is = by_set (set_of dsn.bytes w) is
-  where
-    by_runs : (x : DataSet) (runs : List Run) → extended_by dsn w x runs ≡ Ok after → with_set w dsn.bytes (with_extents runs) ≡ after
-    by_runs x runs done =
-        let new : Volume = with_set w dsn.bytes (with_extents runs) in
-        let few = unrefused (nat_lt 16 (length x.extents + length runs)) ExtentsFull (if_slots new) after done in
-        ok_volume (unrefused (nat_lt new.slots (slots_needed new)) (VtocFull (slots_needed new)) (Ok new) after few)
-
-    by_choice : (x : DataSet) (o : Option (List Run)) → on_choice (secondary_asked x.attr) o (extended_by dsn w x) ≡ Ok after → (runs : List Run) × (with_set w dsn.bytes (with_extents runs) ≡ after)
-    by_choice x None done = absurd cc
-    by_choice x (Some runs) done = (runs, by_runs x runs done)
-
-    by_set : (o : Option DataSet) → on_found o (extend_set dsn w) ≡ Ok after → (runs : List Run) × (with_set w dsn.bytes (with_extents runs) ≡ after)
-    by_set None done = absurd cc
-    by_set (Some x) done =
-        let step : Result Volume Refusal = on_choice (secondary_asked x.attr) (secondary_choice w x.attr) (extended_by dsn w x) in
-        by_choice x (secondary_choice w x.attr) (read_through x.body step after (unrefused (is_catalog dsn.bytes) WrongKind (if_readable x.body step) after done)).0
 
 pub extend_keeps : (n : ℕ) (dsn : Dsn) (w after : Volume) → step_on (Extend n dsn) w ≡ Ok after → after.serial.bytes ≡ w.serial.bytes
 unfolding step_on

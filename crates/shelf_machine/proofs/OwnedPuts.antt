@@ -1,5 +1,5 @@
 -- A block that is put by the writer of one of several packs, or isn't: what the call on its pack leaves and answers, by the shelf.
-use Rattle.std.proofs.Common.{◌≡◌, ◌≤◌, ℕ, true, false, List, [], ◌∷◌, length, set, vec_capacity, Some, Result, Ok, Err, refl, sym, ap, ◌∙◌, subst}
+use Rattle.std.proofs.Common.{◌≡◌, ◌≤◌, ℕ, true, false, List, [], ◌∷◌, length, set, Some, Result, Ok, Err, refl, sym, ap, ◌∙◌, subst}
 use Rattle.std.specs.Prelude.{IfOk, IsErrOf, OnErr, slice_get}
 use Rattle.dscb_codec.specs.declared.Dscb.TheVariants as formats
 use Rattle.dscb_codec.specs.declared.F1.{F1}
@@ -23,18 +23,17 @@ use Rattle.seq_access.specs.declared.writer.Writer.{Writer as BlockWriter}
 use Rattle.seq_access.specs.Bodies.{body_of_set, last_in, owned_in}
 use Rattle.seq_access.specs.Writing.{IsPutBehind, IsWriting, Spares, place_next, puts_in}
 use Rattle.seq_access.proofs.WritersKept.{puts_with}
-use Rattle.shelf_machine.specs.Known.{AreHeld, ForgetsOn, HaveBuffers}
+use Rattle.shelf_machine.specs.Known.{AreHeld, ForgetsOn}
 use Rattle.shelf_machine.specs.Machine.{AreIndexes, AreInOrder, AreKept, base_of, placed_in, shelf_under, units_of}
 use Rattle.shelf_machine.specs.Opening.{names_of}
-use Rattle.shelf_machine.specs.Operating.{IsSamePack}
 use Rattle.shelf_machine.specs.Pending.{HasSlot, IsInSlot, IsPendingBy, IsWriterOn, IsWritingBy}
 use Rattle.shelf_machine.specs.Fronts.{BeginsWell}
 use Rattle.shelf_machine.specs.Putting.{DidPut, IsDue, PutsOn, did_place}
-use Rattle.shelf_machine.specs.Reads.{HasVolume, IsSetOn}
-use Rattle.shelf_machine.specs.declared.pack_cache.PackCache.{PackCache}
+use Rattle.pack_machine.specs.Reads.{HasVolume, IsSetOn}
+use Rattle.pack_machine.specs.declared.pack_cache.PackCache.{PackCache}
 use Rattle.shelf_machine.specs.declared.writer.Writer.{Writer}
 use Rattle.shelf_machine.proofs.Holding.{kept_mounted, volume_there}
-use Rattle.shelf_machine.proofs.ListPlaces.{get_set, map_set_same, within}
+use Rattle.pack_machine.proofs.ListPlaces.{get_set}
 use Rattle.shelf_machine.proofs.Operating.{base_same, indexes_after, order_after}
 use Rattle.shelf_machine.proofs.Pendings.{writing_of}
 use Rattle.shelf_machine.proofs.PutAnswers.{put_answer, put_refused, put_wants, writer_is}
@@ -42,22 +41,9 @@ use Rattle.shelf_machine.proofs.PutOnPacks.{puts_on}
 use Rattle.shelf_machine.proofs.PutRooms.{writing_to}
 use Rattle.shelf_machine.proofs.FrontLemmas.{begins_more, put_nothing}
 use Rattle.shelf_machine.proofs.Putting.{leaves_behind, stands_still, writer_stands}
-use Rattle.shelf_machine.proofs.ShelfReads.{is_set}
-
-some_vol : {a b : Vol} → Some a ≡ Some b → a ≡ b
-some_vol same = cc
-
--- ---- what stays, whatever the call answers
-
--- an index with another buffer is of the same pack
-pub same_pack : (v v' : Vol) → v' ≡ record v { buf = v'.buf } → IsSamePack v v'
-same_pack v v' others = record {
-  unit = ap (λ (x : Vol). x.unit) others;
-  serial = ap (λ (x : Vol). x.serial.bytes) others;
-  geometry = ap (λ (x : Vol). x.geometry) others;
-  vtoc = ap (λ (x : Vol). x.vtoc) others;
-  room = ap (λ (x : Vol). vec_capacity x.free) others;
-}
+use Rattle.pack_machine.proofs.ShelfReads.{is_set}
+use Rattle.pack_machine.proofs.OneVolume.{same_pack}
+use Rattle.std.proofs.lemmas.Option.{same_Some, slice_get_within}
 
 module _ (old new : Facts) (vols : List Vol) (k : ℕ) (v v' : Vol) (at : slice_get vols k ≡ Some v) (others : v' ≡ record v { buf = v'.buf }) (units : new.units ≡ old.units) where
   pub indexes_put : AreIndexes old.units vols → IsOfUnit new.units v' → AreIndexes new.units (set vols k v')
@@ -69,19 +55,16 @@ module _ (old new : Facts) (vols : List Vol) (k : ℕ) (v v' : Vol) (at : slice_
   pub base_put : new.references ≡ old.references → base_of new (set vols k v') ≡ base_of old vols
   base_put = base_same old new vols k v v' at (same_pack v v' others) units
 
--- the slot is the writer's still, and each pack has its buffer
+-- the slot is the writer's still
 module _ (vols : List Vol) (k : ℕ) (v v' : Vol) (at : slice_get vols k ≡ Some v) (others : v' ≡ record v { buf = v'.buf }) where
   pub slot_put : (w : Writer) (i : BlockWriter) → w.v ≡ k → i.slot ≡ w.inner.slot → HasSlot vols (Some w) → HasSlot (set vols k v') (Some (record w { inner = i }))
   slot_put w i number slot has =
       let put : slice_get (set vols k v') w.v ≡ Some v' = ap (slice_get (set vols k v')) number ∙ get_set vols k v v' at in
       let was : IsInSlot v w = has.1 v (ap (slice_get vols) number ∙ at) in
       let here : IsInSlot v (record w { inner = i }) = (was.0 ∙ ap (λ (n : ℕ). Some n) (sym slot), was.1) in (
-        within (set vols k v') w.v v' put,
-        λ u there. subst (λ (x : Vol). IsInSlot x (record w { inner = i })) (sym others ∙ some_vol (sym put ∙ there)) here,
+        slice_get_within (set vols k v') w.v v' put,
+        λ u there. subst (λ (x : Vol). IsInSlot x (record w { inner = i })) (sym others ∙ same_Some _ _ (sym put ∙ there)) here,
       )
-
-  pub buffers_put : (known known' : List PackCache) → ForgetsOn k known known' → HaveBuffers vols known → HaveBuffers (set vols k v') known'
-  buffers_put known known' forgot have = forgot.buffers ∙ have ∙ sym (map_set_same (λ (x : Vol). x.geometry) vols k v v' at (ap (λ (x : Vol). x.geometry) others))
 
 -- ---- what the call leaves and answers, where the hall tells
 
@@ -158,8 +141,8 @@ module _ (old : Facts) (vols : List Vol) (m : Meaning (List File)) (kept : AreKe
           let image' : List ℕ = image_named m'.state name in
           writer_stands image image' v b w i run.slot on put.writing
           (subst (λ (x : F1). body_of_set image' v x ≡ body_of_set image v x) (sym put.same) put.body)
-          (subst (λ (x : F1). BeginsWell w.first (puts_in image' v' x i)) (sym put.same)
-          (subst (BeginsWell w.first) (sym put.puts) (begins_more w.first (puts_in image v f w.inner) c (on.begins f found.set) (λ none first. due first (put_nothing w.inner (puts_in image v f w.inner) by.some none)))))
+          (subst (λ (x : F1). BeginsWell w.owes_end_of_file (puts_in image' v' x i)) (sym put.same)
+          (subst (BeginsWell w.owes_end_of_file) (sym put.puts) (begins_more w.owes_end_of_file (puts_in image v f w.inner) c (on.begins f found.set) (λ none first. due first (put_nothing w.inner (puts_in image v f w.inner) by.some none)))))
       stands (Err TooLong) run none = still (run.long_same refl) (run.mounted none) run.writer
       stands (Err NeedExtent) run none = still (run.need_same refl) (run.mounted none) run.writer
       stands (Err Device) run none = absurd (none refl)

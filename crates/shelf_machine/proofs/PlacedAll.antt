@@ -172,3 +172,7 @@ module _ {X Y : Type 0} (cs ds : List Content) (x : X) (y : Y) (us mid us' : Lis
       same mach.Memory is = refl
       same mach.Device is = is
       same mach.Print is = is
+
+pub places_stopped : {X Y : Type 0} {cs : List Content} {x : X} {us mid : List Attached} {vols vols1 : List Vol} {w w1 : Writer} {m m1 : Meaning (List File)} {n k : ℕ} {e : MachErr} (ds : List Content) (y : Y) → (e ≡ mach.Memory → ⊥)
+    → PlacesAll cs x us mid vols vols1 w w1 m m1 n k (Err e) → PlacesAll (cs ++ ds) y us mid vols vols1 w w1 m m1 n k (Err e)
+places_stopped {X} {Y} {cs} {x} {us} {mid} {vols} {vols1} {w} {w1} {m} {m1} {n} {k} {e} ds y none first = places_stop cs ds x y us mid mid vols vols1 vols1 w w1 w1 m m1 m1 n k k e none first

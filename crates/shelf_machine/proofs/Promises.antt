@@ -17,7 +17,7 @@ use Rattle.vol_model.specs.declared.refusals.Refusal.{Refusal}
 use Rattle.vtoc_index.specs.declared.vol.Vol.{Vol}
 use Rattle.shelf_machine.specs.Machine.{HavePlans, KeepsSafe}
 use Rattle.shelf_machine.specs.Opening.{AreApart, AreSafe, IsSafeImage}
-use Rattle.shelf_machine.proofs.ListPlaces.{get_other, get_set, none_passes}
+use Rattle.pack_machine.proofs.ListPlaces.{get_other, get_set, none_passes}
 
 -- a settled image is guarded
 pub settled_guarded : (image : List ℕ) → IsSettledVtoc image → IsGuarded image

@@ -23,7 +23,7 @@ use Rattle.seq_access.specs.Writing.{puts_in}
 use Rattle.shelf_machine.specs.Machine.{placed_in}
 use Rattle.shelf_machine.specs.Pending.{puts_by, puts_on}
 use Rattle.shelf_machine.specs.Putting.{did_place}
-use Rattle.shelf_machine.specs.Reads.{HasVolume, IsSetOn}
+use Rattle.pack_machine.specs.Reads.{HasVolume, IsSetOn}
 use Rattle.shelf_machine.specs.declared.writer.Writer.{Writer}
 use Rattle.shelf_machine.proofs.PutRooms.{device_is, place_is, put_nowhere, put_on_owned, room_never, room_owned, room_wanted, tracks_is, writing_to}
 

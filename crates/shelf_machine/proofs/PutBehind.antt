@@ -74,15 +74,15 @@ module _ (shelf : Shelf) (t : Target) where
   making_end false (d ∷ ds) front begins owned = ap (λ (l : List Content). making_room shelf t (l ++ d ∷ ds) (put_last t.mode)) front
 
 -- what is due is by the count of a writer's blocks
-pub due_is : (shelf : Shelf) (w : Writer) (o : OpenWriter) → PlacesWell shelf w o → (has_put w.inner ≡ true) → due w.first o.puts ≡ []
+pub due_is : (shelf : Shelf) (w : Writer) (o : OpenWriter) → PlacesWell shelf w o → (has_put w.inner ≡ true) → due w.owes_end_of_file o.puts ≡ []
 due_is shelf w o well put = by o.puts (well.some put)
   where
-    by : (cs : List Content) → cs ≢ [] → due w.first cs ≡ []
+    by : (cs : List Content) → cs ≢ [] → due w.owes_end_of_file cs ≡ []
     by [] some = absurd (some refl)
     by (c ∷ cs) some = refl
 
-pub due_first : (shelf : Shelf) (w : Writer) (o : OpenWriter) → PlacesWell shelf w o → has_put w.inner ≡ false → w.first ≡ true → due w.first o.puts ≡ end_of_file ∷ []
-due_first shelf w o well nothing first = ap (due w.first) (well.none nothing) ∙ ap firsts first
+pub due_first : (shelf : Shelf) (w : Writer) (o : OpenWriter) → PlacesWell shelf w o → has_put w.inner ≡ false → w.owes_end_of_file ≡ true → due w.owes_end_of_file o.puts ≡ end_of_file ∷ []
+due_first shelf w o well nothing first = ap (due w.owes_end_of_file) (well.none nothing) ∙ ap firsts first
 
 pub due_never : (first : Bool) (puts : List Content) → first ≡ false → due first puts ≡ []
 due_never first puts is = ap (λ (b : Bool). due b puts) is ∙ by puts
@@ -92,23 +92,23 @@ due_never first puts is = ap (λ (b : Bool). due b puts) is ∙ by puts
     by (c ∷ cs) = refl
 
 -- so by the count of its blocks
-pub not_due : (shelf : Shelf) (w : Writer) (o : OpenWriter) → PlacesWell shelf w o → false ≡ (w.first && w.inner.blocks == 0) → due w.first o.puts ≡ []
-not_due shelf w o well is_not = by w.first refl
+pub not_due : (shelf : Shelf) (w : Writer) (o : OpenWriter) → PlacesWell shelf w o → false ≡ (w.owes_end_of_file && w.inner.blocks == 0) → due w.owes_end_of_file o.puts ≡ []
+not_due shelf w o well is_not = by w.owes_end_of_file refl
   where
     some : (k : ℕ) → false ≡ (k == 0) → nat_lt 0 k ≡ true
     some k is = grind (arith, nat_tests)
 
-    by : (b : Bool) → w.first ≡ b → due w.first o.puts ≡ []
-    by false is = due_never w.first o.puts is
+    by : (b : Bool) → w.owes_end_of_file ≡ b → due w.owes_end_of_file o.puts ≡ []
+    by false is = due_never w.owes_end_of_file o.puts is
     by true is = due_is shelf w o well (some w.inner.blocks (is_not ∙ ap (λ (b : Bool). b && w.inner.blocks == 0) is))
 
-pub now_due : (shelf : Shelf) (w : Writer) (o : OpenWriter) → PlacesWell shelf w o → true ≡ (w.first && w.inner.blocks == 0) → due w.first o.puts ≡ end_of_file ∷ []
-now_due shelf w o well is_now = by w.first refl
+pub now_due : (shelf : Shelf) (w : Writer) (o : OpenWriter) → PlacesWell shelf w o → true ≡ (w.owes_end_of_file && w.inner.blocks == 0) → due w.owes_end_of_file o.puts ≡ end_of_file ∷ []
+now_due shelf w o well is_now = by w.owes_end_of_file refl
   where
     none : (k : ℕ) → true ≡ (k == 0) → nat_lt 0 k ≡ false
     none k is = grind (arith, nat_tests)
 
-    by : (b : Bool) → w.first ≡ b → due w.first o.puts ≡ end_of_file ∷ []
+    by : (b : Bool) → w.owes_end_of_file ≡ b → due w.owes_end_of_file o.puts ≡ end_of_file ∷ []
     by false is = absurd (let never : true ≡ false = is_now ∙ ap (λ (b : Bool). b && w.inner.blocks == 0) is in cc)
     by true is = due_first shelf w o well (none w.inner.blocks (is_now ∙ ap (λ (b : Bool). b && w.inner.blocks == 0) is)) is
 
@@ -135,7 +135,7 @@ module _ (us mid us' : List Attached) (vols vols1 vols' : List Vol) (w w1 w' : W
 
   -- the place that the put gives
   abbrev pub place : Place
-  place = place_on shelf t (put_first t.mode (target_body shelf t) ++ behind_first w.first before.puts) c
+  place = place_on shelf t (put_first t.mode (target_body shelf t) ++ behind_first w.owes_end_of_file before.puts) c
 
   -- it is the one after what is due, on the shelf as it is then
   pub place_same : PlacesWell shelf w before → (s : Shelf) (o : OpenWriter) → s ≡ made shelf making → o ≡ with_puts before front → place_on s o.target o.puts c ≡ place
@@ -146,12 +146,12 @@ module _ (us mid us' : List Attached) (vols vols1 vols' : List Vol) (w w1 w' : W
       ∙ ap (λ (u : Shelf). place_on u t (before.puts ++ front) c) is
       ∙ ap (λ (b : Body). next_place (device_on then t.v) (with_blocks b (placed (device_on then t.v) b (before.puts ++ front))) c) (keeps.bodies t.v t.dsn.bytes)
       ∙ ap (λ (d : DiskType). next_place d (with_blocks (target_body shelf t) (placed d (target_body shelf t) (before.puts ++ front))) c) (keeps.devices t.v)
-      ∙ ap (λ (cs : List Content). place_on shelf t cs c) (due_placed w.first before.puts well.begins ∙ ap (λ (cs : List Content). cs ++ behind_first w.first before.puts) (sym well.first))
+      ∙ ap (λ (cs : List Content). place_on shelf t cs c) (due_placed w.owes_end_of_file before.puts well.begins ∙ ap (λ (cs : List Content). cs ++ behind_first w.owes_end_of_file before.puts) (sym well.first))
 
   did_is : (y : Place) → PlacesWell shelf w before → y ≡ place → did_put shelf (writer_in m.state us vols (Some w)) c ≡ room_made (making_room shelf t before.puts (front ++ c ∷ [])) y
   unfolding did_put
   did_is y well is =
-      ap (λ (q : Making). room_made q place) (making_more shelf t w.first before.puts c well.first well.begins well.owned)
+      ap (λ (q : Making). room_made q place) (making_more shelf t w.owes_end_of_file before.puts c well.first well.begins well.owned)
       ∙ ap (room_made (making_room shelf t before.puts (front ++ c ∷ []))) (sym is)
 
   some_front : (first : Bool) (puts : List Content) → first ≡ true → puts ++ due first puts ≢ []
@@ -164,17 +164,17 @@ module _ (us mid us' : List Attached) (vols vols1 vols' : List Vol) (w w1 w' : W
   abbrev writer' : OpenWriter
   writer' = writer_in m'.state us' vols' (Some w')
 
-  here : w'.first ≡ w.first → writer' ≡ rest_of w.first after
+  here : w'.owes_end_of_file ≡ w.owes_end_of_file → writer' ≡ rest_of w.owes_end_of_file after
   here same = ap (λ (b : Bool). rest_of b after) same
 
-  more : rest_of w.first (with_puts before (front ++ c ∷ [])) ≡ with_puts writer (c ∷ [])
+  more : rest_of w.owes_end_of_file (with_puts before (front ++ c ∷ [])) ≡ with_puts writer (c ∷ [])
   more = ap (λ (cs : List Content). record { target = t; puts = cs })
-      (ap (behind_first w.first) (sym (append_assoc before.puts front (c ∷ [])))
-      ∙ behind_more w.first (before.puts ++ front) c (some_front w.first before.puts)
-      ∙ ap (λ (cs : List Content). cs ++ c ∷ []) (behind_due w.first before.puts))
+      (ap (behind_first w.owes_end_of_file) (sym (append_assoc before.puts front (c ∷ [])))
+      ∙ behind_more w.owes_end_of_file (before.puts ++ front) c (some_front w.owes_end_of_file before.puts)
+      ∙ ap (λ (cs : List Content). cs ++ c ∷ []) (behind_due w.owes_end_of_file before.puts))
 
   -- what is placed for it is the put
-  pub puts_all : (y : Place) (r : Result Place MachErr) → PlacesWell shelf w before → y ≡ place → w'.first ≡ w.first → (IsErrOf r mach.Print → ⊥) → PlacesAll (front ++ c ∷ []) y us us' vols vols' w w' m m' n l r → StandsAgain r (rest_of w.first before) (rest_of w.first after)
+  pub puts_all : (y : Place) (r : Result Place MachErr) → PlacesWell shelf w before → y ≡ place → w'.owes_end_of_file ≡ w.owes_end_of_file → (IsErrOf r mach.Print → ⊥) → PlacesAll (front ++ c ∷ []) y us us' vols vols' w w' m m' n l r → StandsAgain r (rest_of w.owes_end_of_file before) (rest_of w.owes_end_of_file after)
       → PutsBlock c us us' vols vols' w w' m m' n l r
   puts_all y r well is same no_print all stands = record {
     does = subst (λ (d : Did Place Refusal). Does d.operations d (seen (shelf_under (names_of us (units_of vols))) m) (seen (shelf_under (names_of us' (units_of vols'))) m') n l r) (sym (did_is y well is)) all.does;
@@ -183,28 +183,28 @@ module _ (us mid us' : List Attached) (vols vols1 vols' : List Vol) (w w1 w' : W
     pending = all.pending;
   }
     where
-      by : (q : Result Place MachErr) → (IsErrOf q mach.Print → ⊥) → OnOk q (after ≡ with_puts before (front ++ c ∷ [])) → StandsAgain q (rest_of w.first before) (rest_of w.first after) → Records q writer c writer'
-      by (Ok p) none done still = here same ∙ ap (rest_of w.first) done ∙ more
+      by : (q : Result Place MachErr) → (IsErrOf q mach.Print → ⊥) → OnOk q (after ≡ with_puts before (front ++ c ∷ [])) → StandsAgain q (rest_of w.owes_end_of_file before) (rest_of w.owes_end_of_file after) → Records q writer c writer'
+      by (Ok p) none done still = here same ∙ ap (rest_of w.owes_end_of_file) done ∙ more
       by (Err (mach.Refused why)) none done still = here same ∙ still
       by (Err mach.Memory) none done still = here same ∙ still
       by (Err mach.Device) none done still = tt
       by (Err mach.Print) none done still = absurd (none refl)
 
   -- what stands again did so
-  pub stands_first : (e : MachErr) → StandsAgain {T = Unit {0}} (Err e) before after → StandsAgain {T = Place} (Err e) (rest_of w.first before) (rest_of w.first after)
-  stands_first (mach.Refused why) is = ap (rest_of w.first) is
-  stands_first mach.Memory is = ap (rest_of w.first) is
+  pub stands_first : (e : MachErr) → StandsAgain {T = Unit {0}} (Err e) before after → StandsAgain {T = Place} (Err e) (rest_of w.owes_end_of_file before) (rest_of w.owes_end_of_file after)
+  stands_first (mach.Refused why) is = ap (rest_of w.owes_end_of_file) is
+  stands_first mach.Memory is = ap (rest_of w.owes_end_of_file) is
   stands_first mach.Device is = tt
-  stands_first mach.Print is = ap (rest_of w.first) is
+  stands_first mach.Print is = ap (rest_of w.owes_end_of_file) is
 
   -- and so did what stands after what is due
-  pub stands_behind : (r : Result Place MachErr) (o : OpenWriter) → (IsErrOf r mach.Print → ⊥) → o ≡ with_puts before front → Records r o c after → StandsAgain r (rest_of w.first before) (rest_of w.first after)
+  pub stands_behind : (r : Result Place MachErr) (o : OpenWriter) → (IsErrOf r mach.Print → ⊥) → o ≡ with_puts before front → Records r o c after → StandsAgain r (rest_of w.owes_end_of_file before) (rest_of w.owes_end_of_file after)
   stands_behind r o no_print is records = by r no_print records
     where
-      still : after ≡ o → rest_of w.first after ≡ rest_of w.first before
-      still same = ap (rest_of w.first) (same ∙ is) ∙ ap (λ (cs : List Content). record { target = t; puts = cs }) (behind_due w.first before.puts)
+      still : after ≡ o → rest_of w.owes_end_of_file after ≡ rest_of w.owes_end_of_file before
+      still same = ap (rest_of w.owes_end_of_file) (same ∙ is) ∙ ap (λ (cs : List Content). record { target = t; puts = cs }) (behind_due w.owes_end_of_file before.puts)
 
-      by : (q : Result Place MachErr) → (IsErrOf q mach.Print → ⊥) → Records q o c after → StandsAgain q (rest_of w.first before) (rest_of w.first after)
+      by : (q : Result Place MachErr) → (IsErrOf q mach.Print → ⊥) → Records q o c after → StandsAgain q (rest_of w.owes_end_of_file before) (rest_of w.owes_end_of_file after)
       by (Ok p) none is = tt
       by (Err (mach.Refused why)) none is = still is
       by (Err mach.Memory) none is = still is

@@ -23,8 +23,8 @@ use Rattle.shelf_machine.specs.Operating.{OperatesOnShelf}
 use Rattle.shelf_machine.specs.Pending.{IsPendingBy}
 use Rattle.shelf_machine.specs.PutBlocks.{PlacesBlock, put_answer, room_answer, room_on, shelf_on}
 use Rattle.shelf_machine.specs.Putting.{DidPut, PutsOn, did_place}
-use Rattle.shelf_machine.specs.Reporting.{reported}
-use Rattle.shelf_machine.specs.declared.pack_cache.PackCache.{PackCache}
+use Rattle.pack_machine.specs.Ready.{reported}
+use Rattle.pack_machine.specs.declared.pack_cache.PackCache.{PackCache}
 use Rattle.shelf_machine.specs.declared.writer.Writer.{Writer}
 use Rattle.shelf_machine.proofs.PutExtends.{WritesSet, does_after, does_alone, does_behind, does_device, does_unextended, records_put}
 use Rattle.shelf_machine.proofs.Settling.{keeps_then}

@@ -18,19 +18,27 @@ use Rattle.seq_access.specs.Writing.{AreSpared}
 use Rattle.shelf_machine.specs.Known.{AreHeld, ForgetsOn}
 use Rattle.shelf_machine.specs.Machine.{AreIndexes, AreKept, units_of}
 use Rattle.shelf_machine.specs.Opening.{names_of}
-use Rattle.shelf_machine.specs.Operating.{IsSamePack}
+use Rattle.pack_machine.specs.Ready.{IsSamePack}
 use Rattle.shelf_machine.specs.Pending.{IsWriterOn, LeavesSpared}
 use Rattle.shelf_machine.specs.Putting.{PutsOn}
-use Rattle.shelf_machine.specs.declared.pack_cache.PackCache.{PackCache}
+use Rattle.pack_machine.specs.declared.pack.Pack.{Pack}
+use Rattle.pack_machine.specs.declared.pack_cache.PackCache.{PackCache}
+use Rattle.shelf_machine.specs.ReadyPacks.{caches_of, vols_of}
+use Rattle.shelf_machine.proofs.ReadyPacks.{caches_set, vols_set}
 use Rattle.shelf_machine.specs.declared.writer.Writer.{Writer}
 use Rattle.shelf_machine.proofs.ForgottenTracks.{held_still, pack_still}
-use Rattle.shelf_machine.proofs.ListPlaces.{get_set}
+use Rattle.pack_machine.proofs.ListPlaces.{get_set}
 use Rattle.shelf_machine.proofs.Operating.{kept_after, name_there}
 use Rattle.shelf_machine.proofs.Promises.{keeps_safe_by}
 use Rattle.shelf_machine.proofs.Putting.{LeavesBehind, directories_still, guarded_left, kept_still, shelf_moments, shelf_stays, spared_still}
+use Rattle.std.proofs.lemmas.Option.{same_Some}
 
-some_vol : {a b : Vol} → Some a ≡ Some b → a ≡ b
-some_vol same = cc
+-- by the lists of packs of which one is set
+pub puts_set : {T : Type 0} (packs : List Pack) (k : ℕ) (p : Pack) (names : List (List ℕ)) (attached : List Attached) (w : Writer) (m m' : Meaning (List File)) (r : Result T PutErr)
+    → PutsOn names attached (vols_of packs) (set (vols_of packs) k p.vol) (set (caches_of packs) k p.cache) w m m' r → PutsOn names attached (vols_of packs) (vols_of (set packs k p)) (caches_of (set packs k p)) w m m' r
+puts_set packs k p names attached w m m' r puts =
+    subst (λ (vs : List Vol). PutsOn names attached (vols_of packs) vs (caches_of (set packs k p)) w m m' r) (sym (vols_set packs k p))
+    (subst (λ (bs : List PackCache). PutsOn names attached (vols_of packs) (set (vols_of packs) k p.vol) bs w m m' r) (sym (caches_set packs k p)) puts)
 
 module _ (old new : Facts) (vols : List Vol) (indexes : AreIndexes old.units vols) (m m' : Meaning (List File)) (counts : CountsNow m) (here : m.left m.state) (kept : AreKept m.state old.units vols)
     (w w' : Writer) (v : Vol) (at : slice_get vols w.v ≡ Some v) (b : Buffer) (units : new.units ≡ old.units) (on : IsWriterOn (image_named m.state (unit_of old.units v.unit).name) v w)
@@ -57,7 +65,7 @@ module _ (old new : Facts) (vols : List Vol) (indexes : AreIndexes old.units vol
         (guarded_left name m v (kept w.v v at) w on spared f there m' leaves names) (λ files differ other apart. differ.others other apart);
     kept = λ none. kept_after old new vols w.v v v' at same_pack units m.state m'.state indexes kept leaves.here.others (kept_still name m v (kept w.v v at) w on spared f there m' leaves names b (mounted none));
     pending = λ none u is.
-        let same : v' ≡ u = some_vol (sym (get_set vols w.v v v' at) ∙ ap (slice_get (set vols w.v v')) (sym number) ∙ is) in
+        let same : v' ≡ u = same_Some _ _ (sym (get_set vols w.v v v' at) ∙ ap (slice_get (set vols w.v v')) (sym number) ∙ is) in
         subst (λ (x : Vol). IsWriterOn (image_named m'.state (unit_of new.units x.unit).name) x w' × LeavesSpared (unit_of new.units x.unit).name m' x w') same
         (subst (λ (us : List Attached). IsWriterOn (image_named m'.state (unit_of us v.unit).name) v' w' × LeavesSpared (unit_of us v.unit).name m' v' w') (sym units)
         (stands none, spared_still name m v (kept w.v v at) w on spared f there m' leaves names b w' slot));

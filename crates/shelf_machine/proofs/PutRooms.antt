@@ -34,8 +34,8 @@ use Rattle.vtoc_index.specs.declared.vol.Vol.{Vol}
 use Rattle.vtoc_sets.specs.Sets.{extents_in}
 use Rattle.seq_access.specs.Bodies.{body_of_set, owned_in}
 use Rattle.shelf_machine.specs.Putting.{did_place}
-use Rattle.shelf_machine.specs.Reads.{HasVolume, IsSetOn}
-use Rattle.shelf_machine.proofs.ShelfReads.{body_found}
+use Rattle.pack_machine.specs.Reads.{HasVolume, IsSetOn}
+use Rattle.pack_machine.proofs.ShelfReads.{body_found}
 
 -- ---- what a put does by the room that there is
 

@@ -24,16 +24,17 @@ use Rattle.seq_access.proofs.SparedCalls.{differ_by, differ_none}
 use Rattle.seq_access.proofs.SparedSets.{bare}
 use Rattle.seq_access.proofs.WritersKept.{puts_with, set_by, writing_with}
 use Rattle.shelf_machine.specs.Fronts.{BeginsWell}
-use Rattle.shelf_machine.specs.Machine.{IsKeptSettled, shelf_under}
+use Rattle.pack_machine.specs.Ready.{IsKeptSettled}
+use Rattle.shelf_machine.specs.Machine.{shelf_under}
 use Rattle.shelf_machine.specs.Pending.{IsWriterOn, IsWritingBy, LeavesSpared}
 use Rattle.shelf_machine.specs.SparedShelves.{guarded_still, last_same, settled_still, shelf_spared, spared_rebased}
-use Rattle.shelf_machine.specs.Standing.{DirectoriesStay}
+use Rattle.pack_machine.specs.Standing.{DirectoriesStay}
 use Rattle.shelf_machine.specs.declared.writer.Writer.{Writer}
-use Rattle.shelf_machine.proofs.PackedBlocks.{pending_image}
-use Rattle.shelf_machine.proofs.PackedImages.{image_packed, packed_image}
+use Rattle.pack_machine.proofs.PackedBlocks.{pending_image}
+use Rattle.pack_machine.proofs.PackedImages.{image_packed, packed_image}
 use Rattle.shelf_machine.proofs.Pendings.{by_writing, writing_of}
 use Rattle.shelf_machine.proofs.Promises.{settled_guarded}
-use Rattle.shelf_machine.proofs.StayingBlocks.{pending_stays, pending_volume}
+use Rattle.pack_machine.proofs.StayingBlocks.{pending_stays, pending_volume}
 
 -- What a call leaves that spared the images: what is read, what a stop leaves and what one in it left differ after the last record of the set alone.
 pub record LeavesBehind (name : List ℕ) (v : Vol) (f : F1) (m m' : Meaning (List File)) : Type 0 where
@@ -45,12 +46,12 @@ pub record LeavesBehind (name : List ℕ) (v : Vol) (f : F1) (m m' : Meaning (Li
       m.state files × (p ≡ m.printed))
 
 -- a writer whose blocks stand on another image, under another buffer
-pub writer_stands : (image after : List ℕ) (v : Vol) (b : Buffer) (w : Writer) (i : BlockWriter) → i.slot ≡ w.inner.slot → IsWriterOn image v w → (is : IsWriting after (record v { buf = b }) i) → body_of_set after v is.f ≡ body_of_set image v is.f → BeginsWell w.first (puts_in after (record v { buf = b }) is.f i)
+pub writer_stands : (image after : List ℕ) (v : Vol) (b : Buffer) (w : Writer) (i : BlockWriter) → i.slot ≡ w.inner.slot → IsWriterOn image v w → (is : IsWriting after (record v { buf = b }) i) → body_of_set after v is.f ≡ body_of_set image v is.f → BeginsWell w.owes_end_of_file (puts_in after (record v { buf = b }) is.f i)
     → IsWriterOn after (record v { buf = b }) (record w { inner = i })
 writer_stands image after v b w i slot on is body begins = record {
   fits = λ x at. on.fits x (was x at);
   first = λ x at. ap (put_first w.mode) (subst (λ (y : F1). body_of_set after v y ≡ body_of_set image v y) (one_set x at) body) ∙ on.first x (was x at);
-  begins = λ x at. subst (λ (y : F1). BeginsWell w.first (puts_in after (record v { buf = b }) y i)) (one_set x at) begins;
+  begins = λ x at. subst (λ (y : F1). BeginsWell w.owes_end_of_file (puts_in after (record v { buf = b }) y i)) (one_set x at) begins;
   writing = λ x at. subst (λ (y : F1). IsWritingBy after (record v { buf = b }) y i) (one_set x at) (by_writing after (record v { buf = b }) i is);
 }
   where
@@ -83,7 +84,7 @@ module _ (name : List ℕ) (m : Meaning (List File)) (v : Vol) (kept : IsKeptSet
   stands_still m' b state mounted =
       let is : IsWriting image v w.inner = writing_of image v f w.inner kept.kept there by in
       let now : IsMounted image (record v { buf = b }) = subst (λ (fs : List File). IsMounted (image_named fs name) (record v { buf = b })) state mounted in
-      subst (λ (fs : List File). IsWriterOn (image_named fs name) (record v { buf = b }) w) (sym state) (writer_stands image image v b w w.inner refl on (writing_with image v b w.inner is now) refl (subst (BeginsWell w.first) (sym (puts_with image v b f w.inner)) (on.begins f there)))
+      subst (λ (fs : List File). IsWriterOn (image_named fs name) (record v { buf = b }) w) (sym state) (writer_stands image image v b w w.inner refl on (writing_with image v b w.inner is now) refl (subst (BeginsWell w.owes_end_of_file) (sym (puts_with image v b f w.inner)) (on.begins f there)))
 
   -- by the clause of a put
   pub leaves_behind : {T E : Type 0} (m' : Meaning (List File)) (r : Result T E) → Spares name v f last m m' r → LeavesBehind name v f m m'

@@ -5,7 +5,7 @@ use Rattle.std.specs.List.{enumerate_from, range_with_len}
 use Rattle.std.specs.Option.{option_map}
 use Rattle.std.specs.Str.{bytes_eq}
 use Rattle.std.proofs.lemmas.List.{length-map, take-map}
-use Rattle.std.proofs.lemmas.Option.{slice_get-get_or}
+use Rattle.std.proofs.lemmas.Option.{slice_get-get_or, slice_get_within}
 use Rattle.std.proofs.lemmas.Slice.Eq.{bytes_eq-Decides}
 use Rattle.free_rebuild.specs.Repairs.{image_named}
 use Rattle.hall_core.specs.Facts.{Attached, Facts, ReportedCall, unit_of}
@@ -28,8 +28,9 @@ use Rattle.shelf_machine.specs.Opening.{AreApart, AreUnits, images_named, names_
 use Rattle.shelf_machine.specs.Packs.{AreMounted, AreScanned, AreScansOf, IsFirstTwice, RefusesImages, indexes_of}
 use Rattle.shelf_machine.specs.declared.open_failure.OpenFailure.{OpenFailure}
 use Rattle.shelf_machine.proofs.Holding.{held_serials, held_stand, volumes_held}
-use Rattle.shelf_machine.proofs.ListPlaces.{first_kept, get_map, in_take, none_passes, number_of, numbered, of_map, within}
+use Rattle.pack_machine.proofs.ListPlaces.{first_kept, get_map, in_take, none_passes, number_of, numbered, of_map}
 use Rattle.shelf_machine.proofs.ShelfLemmas.{AllStand, fault_by, fault_in, first_refused, place_alike, serials_in, shelf_refused, shelf_twice}
+use Rattle.mount_repair.proofs.Lists.{take_push}
 
 -- How far the scans have come: the packs on the first units, and nothing else changed but the time.
 pub record ScannedSoFar (tells : Bool) (units : List ℕ) (old now : Facts) (m m' : Meaning (List File)) (scans : List Scan) (k : ℕ) : Type 0 where
@@ -44,13 +45,6 @@ of_push [] x zero y at = inr cc
 of_push [] x (suc k) y at = absurd cc
 of_push (z ∷ xs) x zero y at = inl at
 of_push (z ∷ xs) x (suc k) y at = of_push xs x k y at
-
-pub take_push : {X : Type 0} (xs : List X) (k : ℕ) (x : X) → slice_get xs k ≡ Some x → take (k + 1) xs ≡ take k xs ++ x ∷ []
-take_push [] k x at = absurd cc
-take_push (y ∷ xs) zero x at = let same : y ≡ x = cc in ap (λ z. z ∷ []) same
-take_push (y ∷ xs) (suc k) x at =
-    let next : suc k + 1 ≡ suc (k + 1) = omega arith in
-    ap (λ (n : ℕ). take n (y ∷ xs)) next ∙ ap (λ zs. y ∷ zs) (take_push xs k x at)
 
 pub map_push : {X Y : Type 0} (f : X → Y) (xs : List X) (x : X) → map f (xs ++ x ∷ []) ≡ map f xs ++ f x ∷ []
 map_push f [] x = refl
@@ -69,7 +63,7 @@ unit_number units k u numbered at =
 
 -- so it is low
 pub number_at : (units : List ℕ) (k u : ℕ) → units ≡ range_with_len 0 (length units) → slice_get units k ≡ Some u → u < length units
-number_at units k u numbered at = omega (arith, unit_number units k u numbered at, within units k u at)
+number_at units k u numbered at = omega (arith, unit_number units k u numbered at, slice_get_within units k u at)
 
 pub number_low : (units : List ℕ) (u : ℕ) → units ≡ range_with_len 0 (length units) → Contains units u → u < length units
 number_low units u numbered held = number_at units held.0 u numbered (slice_get-get_or units held.0 u held.1 ∙ ap (λ (n : ℕ). Some n) held.2)
@@ -122,7 +116,7 @@ pack_refused files attached units vols k unit e numbered at read mounted is =
 
 -- a unit that is asked for is attached
 pub unit_attached : (attached : List Attached) (units : List ℕ) (k unit : ℕ) → AreUnits attached units → slice_get units k ≡ Some unit → unit < length attached
-unit_attached attached units k unit are at = omega (arith, unit_number units k unit are.numbered at, within units k unit at, are.attached)
+unit_attached attached units k unit are at = omega (arith, unit_number units k unit are.numbered at, slice_get_within units k unit at, are.attached)
 
 module _ (tells : Bool) (units : List ℕ) (old now : Facts) (m m' : Meaning (List File)) (scans : List Scan) (k unit : ℕ) (at : slice_get units k ≡ Some unit) (so_far : ScannedSoFar tells units old now m m' scans k) where
   -- the pack on the next unit is refused
@@ -173,7 +167,7 @@ apart_of serials none j k text first second = ⊎_elim (λ less. absurd (before 
   where
     before : (j k : ℕ) (text : List ℕ) → slice_get serials j ≡ Some text → slice_get serials k ≡ Some text → j < k → ⊥
     before j k text first second less =
-        let never : bytes_eq text text ≡ false = none_passes (λ (t : List ℕ). bytes_eq t text) (take k serials) j text (none k text (within serials k text second) second) (in_take k serials j text less first) in
+        let never : bytes_eq text text ≡ false = none_passes (λ (t : List ℕ). bytes_eq t text) (take k serials) j text (none k text (slice_get_within serials k text second) second) (in_take k serials j text less first) in
         let found : bytes_eq text text ≡ true = (bytes_eq-Decides text text).1 refl in
         cc (never, found)
 

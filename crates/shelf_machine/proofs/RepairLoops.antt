@@ -1,5 +1,5 @@
 -- How far the repair of the packs of several indexes has come.
-use Rattle.std.proofs.Common.{◌≡◌, ◌≢◌, ◌<◌, ◌≤◌, ◌+◌, ⊎_elim, ℕ, zero, suc, Bool, List, [], ◌∷◌, ◌++◌, drop, length, set, vec_capacity, Option, Some, sym, ap, subst, ◌∙◌, refl, arith}
+use Rattle.std.proofs.Common.{◌≡◌, ◌≢◌, ◌<◌, ◌≤◌, ◌+◌, ⊎_elim, ℕ, zero, suc, Bool, List, [], ◌∷◌, ◌++◌, drop, length, set, Option, Some, sym, ap, subst, ◌∙◌, refl, arith}
 use Rattle.std.specs.Prelude.{Contains, IsTrue, Result, Ok, Err, slice_get, unwrap_or}
 use Rattle.std.proofs.lemmas.Bool.{cases_eq}
 use Rattle.std.proofs.lemmas.List.{length-map}
@@ -22,11 +22,13 @@ use Rattle.shelf_machine.specs.Machine.{AreIndexes, AreInOrder, AreKept, units_o
 use Rattle.shelf_machine.specs.Opening.{images_named, names_of}
 use Rattle.shelf_machine.specs.Packs.{AreMounted, AreOfSamePacks, AreScansOf, RepairsAll, indexes_of}
 use Rattle.shelf_machine.proofs.Holding.{held_stand, serials_apart, shelf_held, volumes_held}
-use Rattle.shelf_machine.proofs.ListPlaces.{contains_at, get_map, get_other, get_set, map_set_same, within}
-use Rattle.shelf_machine.specs.Operating.{IsSamePack}
+use Rattle.pack_machine.proofs.ListPlaces.{contains_at, get_map, get_other, get_set, map_set_same}
+use Rattle.pack_machine.specs.Ready.{IsSamePack}
 use Rattle.shelf_machine.proofs.Operating.{indexes_after, name_there, order_after}
 use Rattle.shelf_machine.proofs.Repairing.{Repaired, opens_more, repaired_more, repaired_none}
 use Rattle.shelf_machine.proofs.ShelfLemmas.{shelf_there}
+use Rattle.std.proofs.lemmas.Option.{slice_get_within}
+use Rattle.pack_machine.proofs.OneVolume.{pack_same}
 
 pub record RepairsSoFar (tells : Bool) (old now : Facts) (m m' : Meaning (List File)) (before vols : List Vol) (k : ℕ) : Type 0 where
   pub facts : Unreported old now
@@ -77,16 +79,6 @@ module _ (old new : Facts) (vols : List Vol) (k : ℕ) (v v' : Vol) (there : sli
       below : (i : ℕ) → i < k + 1 → i ≢ k → i < k
       below i less differs = lower i k (omega (arith, less)) differs
 
--- an index of the same pack
-pub same_pack : (v v' : Vol) → v' ≡ record v { slots = v'.slots; buf = v'.buf } → IsSamePack v v'
-same_pack v v' is = record {
-  unit = ap (λ (w : Vol). w.unit) is;
-  serial = ap (λ (w : Vol). w.serial.bytes) is;
-  geometry = ap (λ (w : Vol). w.geometry) is;
-  vtoc = ap (λ (w : Vol). w.vtoc) is;
-  room = ap (λ (w : Vol). vec_capacity w.free) is;
-}
-
 pub packs_after : (before vols : List Vol) (k : ℕ) (v v' : Vol) → slice_get vols k ≡ Some v → IsSamePack v v' → AreOfSamePacks before vols → AreOfSamePacks before (set vols k v')
 packs_after before vols k v v' there same packs = record {
   units = map_set_same (λ (w : Vol). w.unit) vols k v v' there same.unit ∙ packs.units;
@@ -118,7 +110,7 @@ module _ (tells : Bool) (old now : Facts) (m m' : Meaning (List File)) (before v
       → s.vol ≡ record v { slots = s.vol.slots; buf = s.vol.buf } → IsOfUnit next.units s.vol → AreByName (name_at s.vol.slots.items) s.vol.by_name.items
       → Unreported now next → (IsTrue tells → RepairsPack {E = E} (unit_of now.units v.unit).name m' m'' (Ok s)) → RepairsSoFar tells old next m m'' before (set vols k s.vol) (k + 1)
   repairs_next next m'' v s indexes mounted there others unit order call run =
-      let same = same_pack v s.vol others in record {
+      let same = pack_same v s.vol others in record {
         facts = reported_none old now next so_far.facts call (λ never. never);
         packs = packs_after before vols k v s.vol there same so_far.packs;
         indexes = indexes_after now next vols k v s.vol there same call.units so_far.indexes unit;
@@ -150,7 +142,7 @@ module _ (tells : Bool) (old now : Facts) (m m' : Meaning (List File)) (before v
         let serials = serials_apart m.state old.units before mounted indexes.serials in
         let kept : AreKept m'.state now.units vols = λ j v at.
         let image : List ℕ = image_named m'.state (unit_of now.units v.unit).name in
-        let settled = so_far.settled told j v (omega (arith, within vols j v at, all)) at in
+        let settled = so_far.settled told j v (omega (arith, slice_get_within vols j v at, all)) at in
         record {
           kept = kept_of image v (so_far.mounted told j v at);
           settled = settled_true image (settled.0, settled.1, settled.2);
@@ -178,13 +170,13 @@ rest_at [] k s at = absurd cc
 rest_at (x ∷ scans) zero s at = let same : x ≡ s = cc in ap (λ (y : Scan). y.vol ∷ indexes_of scans) same
 rest_at (x ∷ scans) (suc k) s at = let next : suc k + 1 ≡ suc (k + 1) = omega arith in rest_at scans k s at ∙ ap (λ (n : ℕ). s.vol ∷ indexes_of (drop n (x ∷ scans))) (sym next)
 
-set_last : (vols rest : List Vol) (k : ℕ) (v v' : Vol) → length vols ≡ k → set (vols ++ v ∷ rest) k v' ≡ (vols ++ v' ∷ []) ++ rest
+pub set_last : {X : Type 0} (vols rest : List X) (k : ℕ) (v v' : X) → length vols ≡ k → set (vols ++ v ∷ rest) k v' ≡ (vols ++ v' ∷ []) ++ rest
 set_last [] rest zero v v' size = refl
 set_last [] rest (suc k) v v' size = absurd (omega (arith, size))
 set_last (x ∷ vols) rest zero v v' size = absurd (omega (arith, size))
-set_last (x ∷ vols) rest (suc k) v v' size = ap (λ (l : List Vol). x ∷ l) (set_last vols rest k v v' (omega (arith, size)))
+set_last (x ∷ vols) rest (suc k) v v' size = ap (λ l. x ∷ l) (set_last vols rest k v v' (omega (arith, size)))
 
-at_last : (vols rest : List Vol) (k : ℕ) (v : Vol) → length vols ≡ k → slice_get (vols ++ v ∷ rest) k ≡ Some v
+pub at_last : {X : Type 0} (vols rest : List X) (k : ℕ) (v : X) → length vols ≡ k → slice_get (vols ++ v ∷ rest) k ≡ Some v
 at_last [] rest zero v size = refl
 at_last [] rest (suc k) v size = absurd (omega (arith, size))
 at_last (x ∷ vols) rest zero v size = absurd (omega (arith, size))

@@ -10,7 +10,7 @@ use Rattle.stop_model.specs.Moments.{Meaning}
 use Rattle.stop_model.proofs.MomentLemmas.{elapses_none, elapses_then, elapses_weaker}
 use Rattle.vol_model.specs.declared.contents.Volume.{Volume}
 use Rattle.shelf_machine.specs.Opening.{AreApart, AreSafe, IsSafeImage, OpensSafely, images_named}
-use Rattle.shelf_machine.proofs.ListPlaces.{set_itself}
+use Rattle.pack_machine.proofs.ListPlaces.{set_itself}
 use Rattle.shelf_machine.proofs.Promises.{not_among, one_text}
 use Rattle.shelf_machine.proofs.ShelfLemmas.{AllStand, one_set, serials_in, shelf_there}
 use Rattle.shelf_machine.proofs.ShelfSteps.{another, volume_here}

@@ -14,7 +14,8 @@ use Rattle.vol_model.specs.declared.refusals.Refusal.{Refusal}
 use Rattle.vol_model.specs.declared.requests.Op.{Op}
 use Rattle.vtoc_index.specs.declared.vol.Vol.{Vol}
 use Rattle.shelf_machine.specs.Machine.{base_of, is_open_in, status_with}
-use Rattle.shelf_machine.specs.Reporting.{Reports, reported}
+use Rattle.shelf_machine.specs.Reporting.{Reports}
+use Rattle.pack_machine.specs.Ready.{reported}
 use Rattle.shelf_machine.specs.declared.writer.Writer.{Writer}
 
 -- no operation on a pack answers a fault of the printer

@@ -1,74 +1,85 @@
--- What a read of one of several packs leaves of all of them.
-use Rattle.std.proofs.Common.{◌≡◌, ◌∙◌, ℕ, Bool, IsTrue, List, set, Option, Some, None, refl, sym, ap, subst}
-use Rattle.std.specs.Prelude.{slice_get}
+-- What a read of one of several packs leaves of all, and of the machine that has them.
+use Rattle.std.proofs.Common.{Bool, IsTrue, List, None, Option, Some, ap, false, refl, set, subst, sym, true, ℕ, ⊎_elim, ◌∙◌, ◌≡◌}
+use Rattle.std.specs.Prelude.{IsErrOf, Result, slice_get}
+use Rattle.std.proofs.lemmas.Bool.{cases_eq}
 use Rattle.free_rebuild.specs.Repairs.{image_named}
 use Rattle.hall_core.specs.Facts.{Facts, ReportedCall}
 use Rattle.stop_model.specs.Files.{File}
-use Rattle.stop_model.specs.Moments.{Meaning, Same}
+use Rattle.stop_model.specs.Moments.{Meaning}
 use Rattle.stop_model.proofs.MomentLemmas.{CountsNow, same_none}
-use Rattle.seq_access.specs.Reading.{HoldsTrack}
 use Rattle.vtoc_index.specs.declared.vol.Vol.{Vol}
-use Rattle.shelf_machine.specs.Blocks.{IsOnImage}
-use Rattle.shelf_machine.specs.Known.{HoldLibraries, HoldsPack}
-use Rattle.shelf_machine.specs.Machine.{shelf_under, units_of}
+use Rattle.vtoc_sets.specs.Sets.{volume_in}
+use Rattle.shelf_machine.specs.Machine.{AreIndexes, ByFiles, KeepsSafe, LeavesJust, shelf_under, status_with, units_of, writer_in}
 use Rattle.shelf_machine.specs.Opening.{names_of}
 use Rattle.shelf_machine.specs.Pending.{HasSlot, IsPendingBy}
-use Rattle.shelf_machine.specs.Ready.{AreReady, RestPacks, file_name}
-use Rattle.shelf_machine.specs.declared.pack_cache.PackCache.{PackCache}
+use Rattle.shelf_machine.specs.PendingShelves.{kept_in}
+use Rattle.shelf_machine.specs.ReadyPacks.{AreReady, RestPacks, vols_of}
+use Rattle.pack_machine.specs.Ready.{IsReady, Rest, file_name}
+use Rattle.pack_machine.specs.declared.pack.Pack.{Pack}
 use Rattle.shelf_machine.specs.declared.writer.Writer.{Writer}
-use Rattle.shelf_machine.proofs.Holding.{has_volumes, kept_mounted}
-use Rattle.shelf_machine.proofs.KnownLemmas.{buffers_set, held_set, knows_set, on_image}
-use Rattle.shelf_machine.proofs.ListPlaces.{set_itself}
+use Rattle.shelf_machine.proofs.Holding.{has_volumes, kept_mounted, volume_there}
+use Rattle.pack_machine.proofs.ListPlaces.{get_map, get_other, get_set, set_itself}
 use Rattle.shelf_machine.proofs.Pendings.{pending_same}
-use Rattle.shelf_machine.proofs.SeveralPacks.{ready_later}
+use Rattle.shelf_machine.proofs.ReadyPacks.{ready_later, vols_set}
+use Rattle.shelf_machine.proofs.SeveralPacks.{missing}
+use Rattle.std.proofs.lemmas.Option.{same_Some}
+use Rattle.vol_model.specs.Calls.{Idles, ReadCall}
+use Rattle.stop_model.specs.Steps.{seen}
+use Rattle.shelf_machine.proofs.MachineLibraries.{idles_through}
+use Rattle.shelf_machine.proofs.ReadMachines.{read_call}
+
+-- ---- several packs
 
 -- nothing is called
-pub rest_none : {D : Type 0} (tells : Bool) (f : Facts) (m : Meaning (List File)) (vols : List Vol) (known : List PackCache) → AreReady tells f m vols known → CountsNow m → ReportedCall D f f → RestPacks D tells f f m m vols vols known known
-rest_none tells f m vols known ready counts faults = record { ready = ready; same = λ told. same_none m counts; vols = refl; faults = faults }
+pub rest_none : {D : Type 0} {tells : Bool} {f : Facts} {m : Meaning (List File)} {packs : List Pack} → AreReady tells f m packs → CountsNow m → ReportedCall D f f → RestPacks D tells f f m m packs packs
+rest_none {D} {tells} {f} {m} {packs} ready counts faults = record { ready = ready; same = λ told. same_none m counts; vols = refl; faults = faults }
 
-module _ (tells : Bool) (f : Facts) (m : Meaning (List File)) (vols : List Vol) (known : List PackCache) (ready : AreReady tells f m vols known) where
+module _ {tells : Bool} {f : Facts} {m : Meaning (List File)} {packs : List Pack} (ready : AreReady tells f m packs) where
   -- the shelf has no volume of a number that no pack has
-  pub no_volume : IsTrue tells → (n : ℕ) → slice_get vols n ≡ None → slice_get (shelf_under (names_of f.units (units_of vols)) m.state).volumes n ≡ None
-  no_volume told n none = (has_volumes m.state f.units vols (kept_mounted m.state f.units vols (ready.kept told)) ready.indexes.serials).none n none
+  pub no_volume : IsTrue tells → (n : ℕ) → slice_get packs n ≡ None → slice_get (shelf_under (names_of f.units (units_of (vols_of packs))) m.state).volumes n ≡ None
+  no_volume told n none = (has_volumes m.state f.units (vols_of packs) (kept_mounted m.state f.units (vols_of packs) (kept_in ready told)) ready.indexes.serials).none n (missing packs n none)
 
-  module _ (k : ℕ) (v : Vol) (b : PackCache) (at : slice_get vols k ≡ Some v) (at_known : slice_get known k ≡ Some b) where
-    -- what is known of the image of a pack
-    abbrev pub pack_on : IsTrue tells → IsOnImage (image_named m.state (file_name f v)) v b
-    pack_on told = on_image m.state f.units vols known k v b ready.indexes (ready.kept told) (ready.bodies told) (ready.held told) at at_known
+  module _ (k : ℕ) (p : Pack) (there : slice_get packs k ≡ Some p) where
+    -- the volume of the pack of this number stands on the shelf
+    pub volume_at : IsTrue tells → slice_get (shelf_under (names_of f.units (units_of (vols_of packs))) m.state).volumes k ≡ Some (volume_in (image_named m.state (file_name f p.vol)) p.vol)
+    volume_at told = volume_there m.state f.units (vols_of packs) (kept_mounted m.state f.units (vols_of packs) (kept_in ready told)) ready.indexes.serials k p.vol (get_map (λ (q : Pack). q.vol) packs k p there)
 
-    pub rest_packs : {D : Type 0} (f' : Facts) (m' : Meaning (List File)) (v' : Vol) (b' : PackCache) → v' ≡ v → b'.unread ≡ b.unread → b'.buf.records.geometry ≡ v.geometry → (IsTrue tells → Same m m')
-        → (IsTrue tells → HoldsPack (image_named m.state (file_name f v)) v b') → ReportedCall D f f' → RestPacks D tells f f' m m' vols (set vols k v') known (set known k b')
-    rest_packs f' m' v' b' vol unread buffer same held faults = record {
-      ready = subst (λ (vs : List Vol). AreReady tells f' m' vs (set known k b')) (sym same_vols) (ready_later tells f f' m m' vols (set known k b') faults.units (λ told. (same told).state) (record {
-        indexes = ready.indexes;
-        order = ready.order;
-        buffers = buffers_set known k b b' at_known vols v ready.buffers at buffer;
-        kept = ready.kept;
-        bodies = λ told. knows_set known k b b' at_known (shelf_under (names_of f.units (units_of vols)) m.state) (ready.bodies told) (ap (λ us. us.items) unread);
-        held = λ told. held_set known k b b' at_known m.state f.units vols v (ready.held told) at (held told);
-      }));
-      same = same;
+    pub rest_packs : {D : Type 0} {f' : Facts} {m' : Meaning (List File)} {p' : Pack} → Rest D tells f f' m m' p p' → RestPacks D tells f f' m m' packs (set packs k p')
+    rest_packs {D} {f'} {m'} {p'} rests = record {
+      ready = record {
+        indexes = subst (AreIndexes f'.units) (sym same_vols) later.indexes;
+        each = λ j q is. ⊎_elim
+            (λ here. subst (IsReady tells f' m') (same_Some _ _ (sym (get_set packs k p p' there) ∙ ap (slice_get (set packs k p')) (sym here) ∙ is)) rests.ready)
+            (λ differs. later.each j q (sym (get_other packs j k p' differs) ∙ is))
+            (cases_eq j k);
+      };
+      same = rests.same;
       vols = same_vols;
-      faults = faults;
+      faults = rests.faults;
     }
       where
-        same_vols : set vols k v' ≡ vols
-        same_vols = ap (set vols k) vol ∙ set_itself vols k v at
+        same_vols : vols_of (set packs k p') ≡ vols_of packs
+        same_vols = vols_set packs k p' ∙ ap (set (vols_of packs) k) rests.vol ∙ set_itself (vols_of packs) k p.vol (get_map (λ (q : Pack). q.vol) packs k p there)
 
-    -- where another track of the pack is held, and the same libraries
-    pub rest_track : {D : Type 0} (f' : Facts) (m' : Meaning (List File)) (v' : Vol) (b' : PackCache) → v' ≡ v → b'.unread ≡ b.unread → b'.libraries ≡ b.libraries → b'.buf.records.geometry ≡ v.geometry → (IsTrue tells → Same m m')
-        → (IsTrue tells → HoldsTrack (image_named m.state (file_name f v)) b'.buf) → ReportedCall D f f' → RestPacks D tells f f' m m' vols (set vols k v') known (set known k b')
-    rest_track f' m' v' b' vol unread libraries buffer same track faults = rest_packs f' m' v' b' vol unread buffer same
-        (λ told. record {
-          track = track told;
-          libraries = subst (HoldLibraries (image_named m.state (file_name f v)) v) (sym (ap (λ ls. ls.items) libraries)) (ready.held told k v b at at_known).libraries;
-        })
-        faults
+        later : AreReady tells f' m' packs
+        later = ready_later tells f f' m m' packs rests.faults.units (λ told. (rests.same told).state) ready
 
 -- what a writer left pending is pending still
-pub pending_rest : {D : Type 0} (tells : Bool) (f f' : Facts) (m m' : Meaning (List File)) (vols vols' : List Vol) (known known' : List PackCache) (w : Option Writer) → RestPacks D tells f f' m m' vols vols' known known' → IsTrue tells → IsPendingBy m f.units vols w → IsPendingBy m' f'.units vols' w
-pending_rest tells f f' m m' vols vols' known known' w rests told pending = subst (λ (vs : List Vol). IsPendingBy m' f'.units vs w) (sym rests.vols)
-    (pending_same m m' f.units f'.units vols w (rests.same told).state (λ j left. ((rests.same told).left j).0 left) rests.faults.units pending)
+pub pending_rest : {D : Type 0} {tells : Bool} {f f' : Facts} {m m' : Meaning (List File)} {packs packs' : List Pack} (w : Option Writer) → RestPacks D tells f f' m m' packs packs' → IsTrue tells → IsPendingBy m f.units (vols_of packs) w → IsPendingBy m' f'.units (vols_of packs') w
+pending_rest {D} {tells} {f} {f'} {m} {m'} {packs} {packs'} w rests told pending = subst (λ (vs : List Vol). IsPendingBy m' f'.units vs w) (sym rests.vols)
+    (pending_same m m' f.units f'.units (vols_of packs) w (rests.same told).state (λ j left. ((rests.same told).left j).0 left) rests.faults.units pending)
 
-pub slot_rest : {D : Type 0} {tells : Bool} {f f' : Facts} {m m' : Meaning (List File)} {vols vols' : List Vol} {known known' : List PackCache} (w : Option Writer) → RestPacks D tells f f' m m' vols vols' known known' → HasSlot vols w → HasSlot vols' w
+pub slot_rest : {D : Type 0} {tells : Bool} {f f' : Facts} {m m' : Meaning (List File)} {packs packs' : List Pack} (w : Option Writer) → RestPacks D tells f f' m m' packs packs' → HasSlot (vols_of packs) w → HasSlot (vols_of packs') w
 slot_rest w rests slot = subst (λ (vs : List Vol). HasSlot vs w) (sym rests.vols) slot
+
+-- the machine is idle but for the time
+pub rest_idle : {D : Type 0} {tells : Bool} {f f' : Facts} {m m' : Meaning (List File)} {packs packs' : List Pack} (w : Option Writer) → CountsNow m → RestPacks D tells f f' m m' packs packs' → IsTrue tells
+    → Idles (seen (shelf_under (names_of f.units (units_of (vols_of packs)))) m) (seen (shelf_under (names_of f'.units (units_of (vols_of packs')))) m') (writer_in m.state f.units (vols_of packs) w) (writer_in m'.state f'.units (vols_of packs') w)
+    (ByFiles (KeepsSafe (names_of f.units (units_of (vols_of packs))) (vols_of packs) m)) (ByFiles (KeepsSafe (names_of f'.units (units_of (vols_of packs'))) (vols_of packs') m')) (LeavesJust m) (LeavesJust m')
+rest_idle {D} {tells} {f} {f'} {m} {m'} {packs} {packs'} w counts rests told = idles_through f.units f'.units rests.faults.units (vols_of packs) (vols_of packs') rests.vols m m' counts (rests.same told) w
+
+-- it is sound unless the device failed
+pub rest_call : {T E : Type 0} {device : E} {tells : Bool} {f f' : Facts} {m m' : Meaning (List File)} {packs packs' : List Pack} {r : Result T E} (w : Option Writer) (done : ℕ) (sound sound' : Bool) → RestPacks (IsErrOf r device) tells f f' m m' packs packs'
+    → (IsErrOf r device → sound' ≡ false) → (¬ IsErrOf r device → sound' ≡ true) → ReadCall device (status_with sound w done f (vols_of packs)) (status_with sound' w done f' (vols_of packs')) r
+rest_call {T} {E} {device} {tells} {f} {f'} {m} {m'} {packs} {packs'} {r} w done sound sound' rests failed others =
+    subst (λ (vs : List Vol). ReadCall device (status_with sound w done f (vols_of packs)) (status_with sound' w done f' vs) r) (sym rests.vols) (read_call device r f f' (vols_of packs) w done sound sound' rests.faults failed others)

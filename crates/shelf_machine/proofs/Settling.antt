@@ -6,7 +6,6 @@ use Rattle.stop_model.specs.Moments.{Elapses, ElapsesExactly, IsDurable, LeftNow
 use Rattle.stop_model.specs.Steps.{seen}
 use Rattle.stop_model.proofs.MomentLemmas.{CountsNow, elapses_from_exactly, elapses_then, elapses_weaker, same_none, same_then}
 use Rattle.hall_core.specs.Facts.{Attached, DeviceCall, Facts, ReportedCall}
-use Rattle.stop_model.specs.Counts.{Rose}
 use Rattle.vol_model.specs.Calls.{Answers, Applies, IsIdle, Keeps}
 use Rattle.vol_model.specs.Shelf.{step}
 use Rattle.vol_model.specs.declared.answers.MachErr.{MachErr}
@@ -19,7 +18,7 @@ use Rattle.vtoc_index.specs.declared.vol.Vol.{Vol}
 use Rattle.shelf_machine.specs.Machine.{KeepsSafe, LeavesJust, base_of, plans_of, shelf_under, texts_of, units_of}
 use Rattle.shelf_machine.specs.Operating.{OperatesOnShelf}
 use Rattle.shelf_machine.specs.Pending.{Settles}
-use Rattle.shelf_machine.specs.Reporting.{reported}
+use Rattle.pack_machine.specs.Ready.{reported}
 
 -- a sync that is done, and one that failed
 pub settles_done : {T E U D : Type 0} {m m' : Meaning (List File)} (x : T) (y : U) → AfterSync {E = E} m m' (Ok x) → Settles {E = D} m m' (Ok y)
@@ -45,17 +44,6 @@ pub base_called : (old new : Facts) (vols : List Vol) → new.references ≡ old
 base_called old new vols references units =
     ap (λ (n : List ℕ). n ∷ units_of vols ∷ plans_of vols ++ texts_of new.units) references
     ∙ ap (λ (us : List Attached). old.references ∷ units_of vols ∷ plans_of vols ++ texts_of us) units
-
--- calls after one that is done, and one that failed alone
-pub reported_behind : {T E : Type 0} {P : Type 0} (a b c : Facts) (x : T) → DeviceCall {E = E} a b (Ok x) → ReportedCall P b c → ReportedCall P a c
-reported_behind a b c x first second = record {
-  units = second.units ∙ first.units;
-  references = second.references ∙ first.references;
-  prints = second.prints ∙ first.prints;
-  later = omega (arith, first.later, second.later);
-  device = λ is. subst (λ (n : ℕ). Rose n c.dev_faults) first.done (second.device is);
-  others = λ none. second.others none ∙ first.done;
-}
 
 pub reported_failed : {T E P : Type 0} (a b : Facts) (e : E) → P → DeviceCall {T = T} a b (Err e) → ReportedCall P a b
 reported_failed a b e is call = record {

@@ -17,7 +17,7 @@ use Rattle.pack_spec.specs.Volume.{volume_of}
 use Rattle.vol_model.specs.declared.contents.Shelf.{Shelf}
 use Rattle.vol_model.specs.declared.contents.Volume.{Volume}
 use Rattle.shelf_machine.specs.Opening.{AreApart, images_named}
-use Rattle.shelf_machine.proofs.ListPlaces.{get_map, none_kept, numbered, of_take}
+use Rattle.pack_machine.proofs.ListPlaces.{get_map, none_kept, numbered, of_take}
 
 -- each image stands for its volume
 abbrev pub AllStand : List (List ℕ) → List Volume → Type 0

@@ -7,7 +7,6 @@ use Rattle.stop_model.specs.Files.{File, file_of}
 use Rattle.stop_model.specs.Moments.{Elapses, Meaning, Same}
 use Rattle.stop_model.specs.Steps.{seen}
 use Rattle.stop_model.proofs.MomentLemmas.{elapses_seen, elapses_weaker, same_seen}
-use Rattle.pack_spec.specs.declared.MountErr.{MountErr}
 use Rattle.pack_spec.specs.Shelf.{shelf_of}
 use Rattle.pack_spec.specs.Volume.{volume_of}
 use Rattle.vol_model.specs.Calls.{Applies, IsIdle}
@@ -21,16 +20,10 @@ use Rattle.vol_model.specs.declared.requests.Op.{Op}
 use Rattle.vtoc_index.specs.declared.vol.Vol.{Vol}
 use Rattle.shelf_machine.specs.Machine.{shelf_or_none, shelf_under}
 use Rattle.shelf_machine.specs.Opening.{AreApart, images_named}
-use Rattle.shelf_machine.specs.Reporting.{reported}
-use Rattle.shelf_machine.proofs.ListPlaces.{get_map, map_set_same, set_itself}
+use Rattle.pack_machine.specs.Ready.{reported}
+use Rattle.pack_machine.proofs.ListPlaces.{get_map, map_set_same, set_itself}
 use Rattle.shelf_machine.proofs.ShelfLemmas.{AllStand, one_set, serials_in, shelf_there, stands_at}
-
--- what stands for two volumes stands for one
-pub one_volume : {a b : Volume} (image : List ℕ) → volume_of image ≡ Ok a → volume_of image ≡ Ok b → a ≡ b
-one_volume {a} {b} image first second = ok_same (sym first ∙ second)
-  where
-    ok_same : ◌≡◌ {A = Result Volume MountErr} (Ok a) (Ok b) → a ≡ b
-    ok_same same = cc
+use Rattle.pack_machine.proofs.OneVolume.{one_volume}
 
 -- the shelf of these names, some of whose volumes are these, and of which one has this place
 module _ (names : List (List ℕ)) (volumes : List Volume) (before : List File) (stand : AllStand (images_named before names) volumes)

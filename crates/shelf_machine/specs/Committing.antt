@@ -15,10 +15,10 @@ use Rattle.shelf_machine.specs.Machine.{AreKept, KeepsSafe, shelf_under, units_o
 use Rattle.shelf_machine.specs.Opening.{names_of}
 use Rattle.shelf_machine.specs.Pending.{IsPendingBy, closed}
 use Rattle.shelf_machine.specs.PutBlocks.{shelf_on}
-use Rattle.shelf_machine.specs.declared.pack_cache.PackCache.{PackCache}
+use Rattle.pack_machine.specs.declared.pack_cache.PackCache.{PackCache}
 use Rattle.shelf_machine.specs.declared.writer.Writer.{Writer}
 
--- What a writer placed becomes its set's: that is one operation of the shelf; what was promised of stops is promised still; and once it is done the indexes, the buffers and what is known of bodies are those of the images, durably.
+-- What a writer placed becomes its set's by one operation of the shelf; once it is done all that is kept is that of the images, durably.
 pub record CommitsOn {E : Type 0} (op : Op) (names names' : List (List ℕ)) (attached : List Attached)
     (vols vols' : List Vol) (known : List PackCache) (m m' : Meaning (List File))
     (result : Result (Unit {0}) E) : Type 0 where
@@ -27,6 +27,7 @@ pub record CommitsOn {E : Type 0} (op : Op) (names names' : List (List ℕ)) (at
   pub moments : Elapses (seen (shelf_under names) m) (seen (shelf_under names') m')
       (λ s p. ((s ≡ shelf_under names m.state) ⊎ (step (shelf_under names m.state) op ≡ Ok s))
       × (p ≡ m.printed))
+  -- what was promised of stops is promised still
   pub safe : Keeps m.clock (KeepsSafe names vols m) (KeepsSafe names' vols' m')
   pub kept : OnOk result (AreKept m'.state attached vols')
   pub durable : OnOk result (IsDurable m')
@@ -38,7 +39,7 @@ abbrev pub writer_after : Result (Unit {0}) MachErr → Writer → Option Writer
 writer_after (Ok x) w = None
 writer_after (Err e) w = closed (Some w)
 
--- A writer is closed as on the shelf: extensions where they are wanted, and then one operation; what was promised of stops is promised still; unless the device failed nothing is pending but by a writer that was abandoned.
+-- A writer is closed as on the shelf: extensions where they are wanted, and then one operation.
 pub record ClosesOn (attached attached' : List Attached) (vols vols' : List Vol)
     (w w' : Writer) (m m' : Meaning (List File)) (n n' : ℕ) (result : Result (Unit {0}) MachErr)
     : Type 0 where
@@ -47,6 +48,8 @@ pub record ClosesOn (attached attached' : List Attached) (vols vols' : List Vol)
       (did_commit (shelf_on m.state attached vols) writer)
       (seen (shelf_under (names_of attached (units_of vols))) m)
       (seen (shelf_under (names_of attached' (units_of vols'))) m') n n' result
+  -- what was promised of stops is promised still
   pub safe : Keeps m.clock (KeepsSafe (names_of attached (units_of vols)) vols m)
       (KeepsSafe (names_of attached' (units_of vols')) vols' m')
+  -- unless the device failed nothing is pending but what an abandoned writer put
   pub pending : sound_after result ≡ true → IsPendingBy m' attached' vols' (writer_after result w')

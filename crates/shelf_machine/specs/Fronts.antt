@@ -1,11 +1,11 @@
 -- What goes in front of the blocks that a writer puts, in this project's profile.
-use Rattle.std.specs.Prelude.{◌≡◌, Bool, true, false, List, [], ◌∷◌, Some, None}
+use Rattle.std.specs.Prelude.{◌≡◌, Bool, true, false, List, [], ◌∷◌, None}
 use Rattle.vol_model.specs.declared.answers.Mode.{Mode}
 use Rattle.vol_model.specs.declared.answers.Mode.TheVariants as modes
 use Rattle.vol_model.specs.declared.contents.Body.{Body}
-use Rattle.vol_model.specs.declared.contents.Body.TheVariants as bodies
-use Rattle.vol_model.specs.Places.{Content, end_of_file, is_open_ended}
-use Rattle.shelf_machine.specs.declared.area_start.AreaStart.{AreaStart}
+use Rattle.vol_model.specs.Places.{Content, end_of_file}
+use Rattle.pack_machine.specs.declared.area_start.AreaStart.{AreaStart}
+use Rattle.pack_machine.specs.Fronts.{IsFrontOf}
 
 -- the contents in front, by whether an end-of-file block is due there
 abbrev pub firsts : Bool → List Content
@@ -29,13 +29,7 @@ BeginsWell true (c ∷ cs) = c ≡ end_of_file
 BeginsWell true [] = Unit {0}
 BeginsWell false cs = Unit {0}
 
--- a partitioned body ends its directory here, and its last block asks for an end-of-file block or not
-abbrev pub IsFrontOf : AreaStart → Body → Type 0
-IsFrontOf front (bodies.Part dir end entries blocks) = (front.end ≡ Some end)
-    × (front.first ≡ is_open_ended blocks)
-IsFrontOf front body = Unit {0}
-
 -- a writer for this mode begins so after a body
 abbrev pub IsFrontIn : Mode → AreaStart → Body → Type 0
-IsFrontIn modes.Fill front body = front ≡ record { end = None; first = false }
+IsFrontIn modes.Fill front body = front ≡ record { end = None; owes_end_of_file = false }
 IsFrontIn modes.Area front body = IsFrontOf front body

@@ -1,5 +1,5 @@
 -- The shelf that the machine over several images holds, and what it promises besides.
-use Rattle.std.specs.Prelude.{◌≡◌, ℕ, ◌≤◌, Bool, true, false, List, [], ◌∷◌, ◌++◌, length, map, replicate, slice_get, Option, Some, None, Result, Ok, Err}
+use Rattle.std.specs.Prelude.{◌≡◌, ℕ, ◌≤◌, Bool, false, List, [], ◌∷◌, ◌++◌, length, map, replicate, slice_get, Option, Some, None, Result, Ok, Err}
 use Rattle.ckd_image.specs.Device.{row_of}
 use Rattle.ckd_image.specs.declared.header.Geometry.{Geometry}
 use Rattle.hall_core.specs.Facts.{Attached, Facts, unit_of}
@@ -14,15 +14,12 @@ use Rattle.vol_model.specs.declared.contents.Volume.{Volume}
 use Rattle.free_rebuild.specs.Repairs.{image_named}
 use Rattle.vtoc_index.specs.declared.vol.Vol.{Vol}
 use Rattle.vtoc_index.specs.Index.{IsOfUnit}
-use Rattle.vtoc_index.specs.Kept.{IsKept}
 use Rattle.vtoc_index.specs.Names.{AreByName, name_at}
 use Rattle.shelf_machine.specs.Opening.{AreApart, AreSafe, images_named, names_of}
-use Rattle.free_rebuild.specs.Settled.{is_settled_vtoc}
-use Rattle.pds_directory.specs.Packed.{are_packed}
-pub use Rattle.mount_repair.specs.Sets.{HasRoom}
 use Rattle.shelf_machine.specs.Fronts.{behind_first}
 use Rattle.shelf_machine.specs.Pending.{puts_on}
 use Rattle.shelf_machine.specs.declared.writer.Writer.{Writer}
+use Rattle.pack_machine.specs.Ready.{IsKeptSettled}
 
 -- the shelf, or one without volumes where there is none
 abbrev pub shelf_or_none : Result Shelf UnitRefusal → Shelf
@@ -79,18 +76,13 @@ placed_in files attached vols w = record {
 abbrev pub writer_in : List File → List Attached → List Vol → Option Writer → OpenWriter
 writer_in files attached vols (Some w) = record {
   target = record { v = w.v; dsn = w.dsn; mode = w.mode };
-  puts = behind_first w.first (puts_on files attached vols w);
+  puts = behind_first w.owes_end_of_file (puts_on files attached vols w);
 }
 writer_in files attached vols None = begun (record { v = 0; dsn = record { bytes = replicate 44 0x40 }; mode = Fill })
 
--- each index has room for free runs
-abbrev pub AreRoomy : List Vol → Type 0
-AreRoomy vols = (k : ℕ) (v : Vol) → slice_get vols k ≡ Some v → HasRoom v
-
--- The indexes are those of attached units, whose names differ, as do the serials, and have room for free runs; there are at most 255.
+-- The indexes are those of attached units, whose names differ, as do the serials; there are at most 255.
 pub record AreIndexes (attached : List Attached) (vols : List Vol) : Type 0 where
   pub each : (k : ℕ) (v : Vol) → slice_get vols k ≡ Some v → IsOfUnit attached v
-  pub room : AreRoomy vols
   pub names : AreApart (names_of attached (units_of vols))
   pub serials : AreApart (serials_of vols)
   pub few : length vols ≤ 255
@@ -99,12 +91,6 @@ pub record AreIndexes (attached : List Attached) (vols : List Vol) : Type 0 wher
 abbrev pub AreInOrder : List Vol → Type 0
 AreInOrder vols = (k : ℕ) (v : Vol) → slice_get vols k ≡ Some v
     → AreByName (name_at v.slots.items) v.by_name.items
-
--- Each index is that of its unit's image, which is settled: its VTOC is, and each directory that can be read is packed.
-pub record IsKeptSettled (image : List ℕ) (v : Vol) : Type 0 where
-  pub kept : IsKept image v
-  pub settled : is_settled_vtoc image ≡ true
-  pub packed : are_packed image ≡ true
 
 abbrev pub AreKept : List File → List Attached → List Vol → Type 0
 AreKept files attached vols = (k : ℕ) (v : Vol) → slice_get vols k ≡ Some v

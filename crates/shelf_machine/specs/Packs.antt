@@ -13,11 +13,11 @@ use Rattle.mount_repair.specs.Scans.{IsScanOf, IsScanOn}
 use Rattle.mount_repair.specs.declared.scanned.Scan.{Scan}
 use Rattle.vtoc_index.specs.Index.{IsMounted}
 use Rattle.vtoc_index.specs.declared.vol.Vol.{Vol}
-use Rattle.shelf_machine.specs.Checking.{unread_in}
+use Rattle.pack_machine.specs.Checking.{unread_in}
 use Rattle.shelf_machine.specs.Known.{AreFresh, buffers_of, geometries_of}
 use Rattle.shelf_machine.specs.Machine.{AreIndexes, AreInOrder, AreKept, serials_of, units_of}
 use Rattle.shelf_machine.specs.Opening.{OpensSafely, images_named}
-use Rattle.shelf_machine.specs.declared.pack_cache.PackCache.{PackCache}
+use Rattle.pack_machine.specs.declared.pack_cache.PackCache.{PackCache}
 use Rattle.shelf_machine.specs.declared.open_failure.OpenFailure.{OpenFailure}
 
 -- the indexes of scans

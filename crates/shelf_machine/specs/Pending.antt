@@ -48,9 +48,9 @@ pub record IsWriterOn (image : List ℕ) (v : Vol) (w : Writer) : Type 0 where
   pub fits : (f : F1) → slice_get v.slots.items w.inner.slot ≡ Some (formats.F1 f)
       → fits_mode w.mode f.name (attr_of f) ≡ true
   pub first : (f : F1) → slice_get v.slots.items w.inner.slot ≡ Some (formats.F1 f)
-      → put_first w.mode (body_of_set image v f) ≡ firsts w.first
+      → put_first w.mode (body_of_set image v f) ≡ firsts w.owes_end_of_file
   pub begins : (f : F1) → slice_get v.slots.items w.inner.slot ≡ Some (formats.F1 f)
-      → BeginsWell w.first (puts_in image v f w.inner)
+      → BeginsWell w.owes_end_of_file (puts_in image v f w.inner)
   pub writing : (f : F1) → slice_get v.slots.items w.inner.slot ≡ Some (formats.F1 f)
       → IsWritingBy image v f w.inner
 

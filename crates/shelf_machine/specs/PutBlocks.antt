@@ -46,7 +46,7 @@ room_on files attached vols w c =
     let writer = placed_in files attached vols w in
     room_for (shelf_on files attached vols) writer.target writer.puts c
 
--- A content is placed as on the shelf, with extensions where they are wanted. The writer has the content, or stands as before; what was promised of stops is promised still; unless the device failed nothing is pending but by the writer.
+-- A content is placed as on the shelf, with an extension where one is wanted; the writer has it, or stands as before.
 pub record PlacesBlock (c : Content) (attached attached' : List Attached) (vols vols' : List Vol)
     (w w' : Writer) (m m' : Meaning (List File)) (n n' : ℕ)
     (result : Result Place MachErr) : Type 0 where
@@ -55,8 +55,10 @@ pub record PlacesBlock (c : Content) (attached attached' : List Attached) (vols 
       (seen (shelf_under (names_of attached' (units_of vols'))) m') n n' result
   pub records : Records result (placed_in m.state attached vols w) c
       (placed_in m'.state attached' vols' w')
+  -- what was promised of stops is promised still
   pub safe : Keeps m.clock (KeepsSafe (names_of attached (units_of vols)) vols m)
       (KeepsSafe (names_of attached' (units_of vols')) vols' m')
+  -- unless the device failed nothing is pending but what the writer put
   pub pending : sound_after result ≡ true → IsPendingBy m' attached' vols' (Some w')
 
 -- what a writer placed is the same where a call isn't done, unless the device failed
@@ -67,7 +69,7 @@ StandsAgain (Err e) old new = new ≡ old
 
 -- what is due in front of the next block of a writer
 abbrev pub due_on : List File → List Attached → List Vol → Writer → List Content
-due_on files attached vols w = due w.first (puts_on files attached vols w)
+due_on files attached vols w = due w.owes_end_of_file (puts_on files attached vols w)
 
 -- what is due where it is closed
 abbrev pub ends_on : List File → List Attached → List Vol → Writer → List Content
@@ -83,8 +85,10 @@ pub record PlacesAll {X : Type 0} (cs : List Content) (x : X) (attached attached
       (seen (shelf_under (names_of attached' (units_of vols'))) m') n n' result
   pub done : OnOk result (placed_in m'.state attached' vols' w'
       ≡ with_puts (placed_in m.state attached vols w) cs)
+  -- what was promised of stops is promised still
   pub safe : Keeps m.clock (KeepsSafe (names_of attached (units_of vols)) vols m)
       (KeepsSafe (names_of attached' (units_of vols')) vols' m')
+  -- unless the device failed nothing is pending but what the writer put
   pub pending : sound_after result ≡ true → IsPendingBy m' attached' vols' (Some w')
 
 -- A put does what one does on the shelf: it places what is due in front, and then the block.
@@ -96,6 +100,8 @@ pub record PutsBlock (c : Content) (attached attached' : List Attached) (vols vo
       (seen (shelf_under (names_of attached' (units_of vols'))) m') n n' result
   pub records : Records result (writer_in m.state attached vols (Some w)) c
       (writer_in m'.state attached' vols' (Some w'))
+  -- what was promised of stops is promised still
   pub safe : Keeps m.clock (KeepsSafe (names_of attached (units_of vols)) vols m)
       (KeepsSafe (names_of attached' (units_of vols')) vols' m')
+  -- unless the device failed nothing is pending but what the writer put
   pub pending : sound_after result ≡ true → IsPendingBy m' attached' vols' (Some w')

@@ -19,7 +19,7 @@ use Rattle.vtoc_index.specs.declared.vol.Vol.{Vol}
 use Rattle.shelf_machine.specs.Known.{AreHeld}
 use Rattle.shelf_machine.specs.Machine.{AreKept, KeepsSafe, shelf_under}
 use Rattle.shelf_machine.specs.Pending.{IsPendingBy}
-use Rattle.shelf_machine.specs.declared.pack_cache.PackCache.{PackCache}
+use Rattle.pack_machine.specs.declared.pack_cache.PackCache.{PackCache}
 use Rattle.shelf_machine.specs.declared.writer.Writer.{Writer}
 
 -- The shelf stays, whatever a stop leaves, and so does what was promised; unless the device failed the indexes and the buffers are those of the images, and nothing is pending but by the writer.
@@ -47,4 +47,4 @@ DidPut shelf w c w' (Err Device) = Unit {0}
 
 -- what a writer places first is what goes in front, if that is due
 abbrev pub IsDue : Writer → Content → Type 0
-IsDue w c = w.first ≡ true → has_put w.inner ≡ false → c ≡ end_of_file
+IsDue w c = w.owes_end_of_file ≡ true → has_put w.inner ≡ false → c ≡ end_of_file

@@ -4,23 +4,17 @@
 mod area_start;
 mod blocks;
 mod committing;
-mod entries;
 mod libraries;
 mod machine;
 mod open_err;
 mod open_failure;
 mod opening;
 mod operations;
-mod pack_cache;
 mod puts;
 mod reads;
-mod refusals;
 mod reporting;
-mod space;
-mod unread;
 mod writer;
 mod writing;
 
 pub use machine::HallShelf;
 pub use open_err::OpenErr;
-pub use unread::{Unread, unread_of};

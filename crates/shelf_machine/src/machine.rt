@@ -3,17 +3,15 @@ ghost use Rattle.std.specs.Prelude.{◌≡◌, true, false, IsTrue, refl};
 ghost use Rattle.stop_model.specs.Moments.{IsDurable};
 ghost use Rattle.stop_model.proofs.MomentLemmas.{counts_now_seen, only_now_seen};
 ghost use Rattle.shelf_machine.specs.Props.{shelf_props};
-ghost use Rattle.shelf_machine.specs.Known.{HaveBuffers};
 ghost use Rattle.shelf_machine.specs.Machine.{AreIndexes, shelf_under};
 ghost use Rattle.shelf_machine.specs.Pending.{HasSlot, IsPendingBy};
-ghost use Rattle.shelf_machine.specs.Ready.{AreReady};
+ghost use Rattle.shelf_machine.specs.ReadyPacks.{AreReady, vols_of};
 
-use crate::area_start::{AreaStart, NO_AREA_START, area_start_of};
+use crate::area_start::area_start_of;
 use crate::committing::{close_writer, left_of};
 use crate::libraries::{cached_directory, entry_at, entry_named, size_of};
 use crate::open_err::OpenErr;
 use crate::opening::open_packs;
-use crate::pack_cache::PackCache;
 use crate::puts::put_block;
 use crate::reporting::{
     fault, is_sound_block, is_sound_closed, is_sound_front, is_sound_held, is_sound_into,
@@ -24,12 +22,12 @@ use crate::writing::{abandoned, open_writer, operate_settled};
 use crate::{blocks, reads};
 use ebcdic_names::{Dsn, Name8};
 use hall_core::Hall;
+use pack_machine::{AreaStart, NO_AREA_START, Pack};
 use std::alloc::Global;
 use vol_model::{
     Block, BlockBuf, CatNode, CatPath, CheckErr, Entry, MachErr, Machine, Mode, Op, Place, ReadErr,
     Run, SetInfo, VolumeInfo, WorkErr,
 };
-use vtoc_index::Vol;
 
 /// The machine over the images of packs on 1 to 255 units; its volumes have the order of the units, from number 0.
 ///
@@ -40,19 +38,17 @@ use vtoc_index::Vol;
 #[derive(Drop)]
 pub struct HallShelf<H: Hall> {
     hall: H,
-    vols: Vec<Vol>,
-    known: Vec<PackCache>,
+    packs: Vec<Pack>,
     is_sound: bool,
     done: u64,
     writer: Option<Writer>,
     alloc: Global,
-    pub ghost indexes: { AreIndexes (H.facts hall).units vols.items } by { Prim.hlevel shelf_props },
+    pub ghost indexes: { AreIndexes (H.facts hall).units (vols_of packs.items) } by { Prim.hlevel shelf_props },
     pub ghost ready: { is_sound ≡ true → AreReady H.tells (H.facts hall) (H.meaning hall)
-        vols.items known.items } by { Prim.hlevel shelf_props },
-    pub ghost slot: { is_sound ≡ true → HasSlot vols.items writer } by { Prim.hlevel shelf_props },
+        packs.items } by { Prim.hlevel shelf_props },
+    pub ghost slot: { is_sound ≡ true → HasSlot (vols_of packs.items) writer } by { Prim.hlevel shelf_props },
     pub ghost pending: { is_sound ≡ true → IsTrue H.tells → IsPendingBy (H.meaning hall)
-        (H.facts hall).units vols.items writer } by { Prim.hlevel shelf_props },
-    pub ghost buffers: { HaveBuffers vols.items known.items } by { Prim.hlevel shelf_props },
+        (H.facts hall).units (vols_of packs.items) writer } by { Prim.hlevel shelf_props },
 }
 
 impl<H: Hall> HallShelf<H> {
@@ -65,7 +61,7 @@ impl<H: Hall> HallShelf<H> {
     ghost use Rattle.vol_model.specs.Shelf.{step};
     ghost use Rattle.vol_model.specs.Writing.{begin_refusal, begun, body_on};
     ghost use Rattle.shelf_machine.specs.Fronts.{IsFrontIn};
-    ghost use Rattle.shelf_machine.specs.Libraries.{HoldsLibrary, library_at};
+    ghost use Rattle.pack_machine.specs.Libraries.{HoldsLibrary, library_at};
     ghost use Rattle.shelf_machine.specs.Parts.{PromisesFiles, PromisesSafety, hall_of, is_sound, known_of, meaning_of, pack_names, status_of, writer_of};
 
     /// Opens the machine over the packs on these units: scans all, which walks each sequential and partitioned data set,
@@ -93,8 +89,7 @@ impl<H: Hall> HallShelf<H> {
         match open_packs(alloc, &mut hall, units) {
             Ok(packs) => Ok(HallShelf {
                 hall,
-                vols: packs.vols,
-                known: packs.known,
+                packs,
                 is_sound: true,
                 done: 0,
                 writer: None,
@@ -130,7 +125,7 @@ impl<H: Hall> HallShelf<H> {
         ensures faults { ReadCall ReadErr.Device (status_of self.old) (status_of self.new) result }
     {
         let hall = &mut self.hall;
-        let held = cached_directory(self.alloc, hall, &mut self.vols, &mut self.known, v, dsn);
+        let held = cached_directory(self.alloc, hall, &mut self.packs, v, dsn);
         self.is_sound = is_sound_held(&held);
         held
     }
@@ -169,7 +164,7 @@ impl<H: Hall> HallShelf<H> {
             return Ok(NO_AREA_START);
         };
         let hall = &mut self.hall;
-        let front = area_start_of(hall, &mut self.vols, &mut self.known, v, dsn);
+        let front = area_start_of(hall, &mut self.packs, v, dsn);
         self.is_sound = is_sound_front(&front);
         front
     }
@@ -194,7 +189,7 @@ impl<H: Hall> HallShelf<H> {
         ensures faults { MachineCall (open_at_ok result) (status_of self.old) (status_of self.new) result }
     {
         let hall = &mut self.hall;
-        match open_writer(hall, &mut self.vols, &mut self.writer, v, dsn, mode, front) {
+        match open_writer(hall, &mut self.packs, &mut self.writer, v, dsn, mode, front) {
             Ok(true) => Ok(()),
             Ok(false) => Err(MachErr::Memory),
             Err(_) => Err(fault(&mut self.is_sound, MachErr::Device)),
@@ -216,14 +211,7 @@ impl<H: Hall> HallShelf<H> {
         ensures print { IsErrOf result MachErr.Print → ⊥ }
     {
         let hall = &mut self.hall;
-        let ran = operate_settled(
-            self.alloc,
-            hall,
-            &mut self.vols,
-            &mut self.known,
-            &mut self.writer,
-            op,
-        );
+        let ran = operate_settled(self.alloc, hall, &mut self.packs, &mut self.writer, op);
         report(&mut self.is_sound, &mut self.done, ran)
     }
 }
@@ -231,7 +219,7 @@ impl<H: Hall> HallShelf<H> {
 impl<H: Hall> Machine for HallShelf<H> {
     ghost use Rattle.shelf_machine.specs.Parts.{PromisesFiles, PromisesSafety, meaning_of, pack_names, status_of, writer_of};
     ghost use Rattle.shelf_machine.specs.Lawful.{lawful_under};
-    ghost use Rattle.shelf_machine.specs.PendingShelves.{pending_durable};
+    ghost use Rattle.shelf_machine.specs.PendingShelves.{kept_in, pending_durable};
 
     ghost tells = { H.tells };
 
@@ -249,9 +237,9 @@ impl<H: Hall> Machine for HallShelf<H> {
 
     ghost stays = { λ m t files. PromisesFiles m t files };
 
-    ghost lawful = { λ m told sound. lawful_under (H.meaning m.hall).state (H.facts m.hall).units m.vols.items m.indexes.few };
+    ghost lawful = { λ m told sound. lawful_under (H.meaning m.hall).state (H.facts m.hall).units (vols_of m.packs.items) m.indexes.few };
 
-    ghost durable = { λ m told sound. pending_durable (H.meaning m.hall) (H.facts m.hall).units m.vols.items m.writer ((m.ready sound).kept told) (m.slot sound) (m.pending sound told) };
+    ghost durable = { λ m told sound. pending_durable (H.meaning m.hall) (H.facts m.hall).units (vols_of m.packs.items) m.writer (kept_in (m.ready sound) told) (m.slot sound) (m.pending sound told) };
 
     ghost leaves_state = { λ m told. ((H.meaning m.hall).state, H.leaves_state m.hall, refl) };
 
@@ -268,28 +256,28 @@ impl<H: Hall> Machine for HallShelf<H> {
     }
 
     fn volume(&self, v: u8) -> Option<VolumeInfo> {
-        reads::volume_on(&self.vols, v)
+        reads::volume_on(&self.packs, v)
     }
 
     fn name_at(&mut self, v: u8, k: u32) -> Result<Option<Dsn>, WorkErr> {
-        Ok(reads::name_on(&self.vols, v, k))
+        Ok(reads::name_on(&self.packs, v, k))
     }
 
     fn attr(&mut self, v: u8, dsn: &Dsn) -> Result<Option<SetInfo>, WorkErr> {
         let held = self.hold(v, dsn);
-        match size_of(held, &self.known, v) {
-            Ok(size) => Ok(reads::info_on(&self.vols, &self.known, v, dsn, size)),
+        match size_of(held, &self.packs, v) {
+            Ok(size) => Ok(reads::info_on(&self.packs, v, dsn, size)),
             Err(error) => Err(error),
         }
     }
 
     fn extent(&mut self, v: u8, dsn: &Dsn, k: u8) -> Result<Option<Run>, WorkErr> {
-        Ok(reads::extent_on(&self.vols, v, dsn, k))
+        Ok(reads::extent_on(&self.packs, v, dsn, k))
     }
 
     fn entry(&mut self, v: u8, dsn: &Dsn, name: &Name8) -> Result<Option<Entry>, ReadErr> {
         match self.hold(v, dsn) {
-            Ok(Some(at)) => entry_named(self.alloc, &self.known, v, at, name),
+            Ok(Some(at)) => entry_named(self.alloc, &self.packs, v, at, name),
             Ok(None) => Ok(None),
             Err(error) => Err(error),
         }
@@ -297,7 +285,7 @@ impl<H: Hall> Machine for HallShelf<H> {
 
     fn entry_at(&mut self, v: u8, dsn: &Dsn, k: u32) -> Result<Option<Entry>, ReadErr> {
         match self.hold(v, dsn) {
-            Ok(Some(at)) => entry_at(self.alloc, &self.known, v, at, k),
+            Ok(Some(at)) => entry_at(self.alloc, &self.packs, v, at, k),
             Ok(None) => Ok(None),
             Err(error) => Err(error),
         }
@@ -305,21 +293,21 @@ impl<H: Hall> Machine for HallShelf<H> {
 
     fn read_block(&mut self, v: u8, dsn: &Dsn, from: Place) -> Result<Option<Block>, ReadErr> {
         let hall = &mut self.hall;
-        let vols = &mut self.vols;
-        let read = blocks::read_block(self.alloc, hall, vols, &mut self.known, v, dsn, from);
+        let packs = &mut self.packs;
+        let read = blocks::read_block(self.alloc, hall, packs, v, dsn, from);
         self.is_sound = is_sound_block(&read);
         read
     }
 
     fn cat_node(&mut self, v: u8, _path: &CatPath) -> Result<Option<CatNode>, ReadErr> {
-        match reads::unread_catalog(&self.vols, v) {
+        match reads::unread_catalog(&self.packs, v) {
             Some(track) => Err(ReadErr::Unreadable(track)),
             None => Ok(None),
         }
     }
 
     fn cat_child_at(&mut self, v: u8, _path: &CatPath, _k: u32) -> Result<Option<Name8>, ReadErr> {
-        match reads::unread_catalog(&self.vols, v) {
+        match reads::unread_catalog(&self.packs, v) {
             Some(track) => Err(ReadErr::Unreadable(track)),
             None => Ok(None),
         }
@@ -333,8 +321,8 @@ impl<H: Hall> Machine for HallShelf<H> {
         block: &mut BlockBuf,
     ) -> Result<bool, CheckErr> {
         let hall = &mut self.hall;
-        let vols = &mut self.vols;
-        let read = blocks::read_into(hall, vols, &mut self.known, v, dsn, from, block);
+        let packs = &mut self.packs;
+        let read = blocks::read_into(hall, packs, v, dsn, from, block);
         self.is_sound = is_sound_into(&read);
         read
     }
@@ -347,7 +335,7 @@ impl<H: Hall> Machine for HallShelf<H> {
     }
 
     fn begin(&mut self, v: u8, dsn: &Dsn, mode: Mode) -> Result<(), MachErr> {
-        if let Some(refusal) = reads::write_refusal(&self.vols, &self.known, v, dsn, mode) {
+        if let Some(refusal) = reads::write_refusal(&self.packs, v, dsn, mode) {
             return Err(MachErr::Refused(refusal));
         }
         match self.front(v, dsn, mode) {
@@ -362,8 +350,7 @@ impl<H: Hall> Machine for HallShelf<H> {
         };
         let put = put_block(
             &mut self.hall,
-            &mut self.vols,
-            &mut self.known,
+            &mut self.packs,
             &mut writer,
             &mut self.done,
             key,
@@ -378,13 +365,7 @@ impl<H: Hall> Machine for HallShelf<H> {
         let Some(mut writer) = self.writer else {
             unreachable!()
         };
-        let closed = close_writer(
-            &mut self.hall,
-            &mut self.vols,
-            &mut self.known,
-            &mut writer,
-            &mut self.done,
-        );
+        let closed = close_writer(&mut self.hall, &mut self.packs, &mut writer, &mut self.done);
         self.writer = left_of(&closed, writer);
         self.is_sound = is_sound_closed(&closed);
         closed

@@ -1,28 +1,28 @@
 //! The packs of several units, scanned, compared and repaired.
-ghost use Rattle.std.specs.Prelude.{◌≡◌, ◌≢◌, ◌<◌, ◌≤◌, ℕ, ◌++◌, ◌∷◌, [], length, position, Contains, Some, None, Ok, Err, IsTrue, IfOk, IfErr, IfNone, IfSome, OnOk, slice_get, vec_capacity, vec_len};
+ghost use Rattle.std.specs.Prelude.{◌≡◌, ◌≢◌, ◌<◌, ◌≤◌, ℕ, ◌++◌, ◌∷◌, [], length, position, Contains, Some, None, Ok, Err, IsTrue, IfOk, IfErr, IfNone, IfSome, OnOk, slice_get, vec_capacity};
 ghost use Rattle.std.specs.Str.{bytes_eq};
 ghost use Rattle.hall_core.specs.Facts.{unit_of};
 ghost use Rattle.hall_core.specs.Images.{image_in};
 ghost use Rattle.stop_model.specs.Moments.{IsDurable, Same};
 ghost use Rattle.mount_repair.specs.Repairs.{RepairsPack};
-ghost use Rattle.mount_repair.specs.Scans.{IsScanOf, IsScanOn, Scans};
+ghost use Rattle.mount_repair.specs.Scans.{IsScanOf, IsScanOn};
 ghost use Rattle.pack_spec.specs.Volume.{volume_of};
-ghost use Rattle.vtoc_index.specs.declared.vol.Vol.{Vol};
-ghost use Rattle.shelf_machine.specs.Checking.{unread_in};
-ghost use Rattle.shelf_machine.specs.Known.{AreFresh, AreHeld, HaveBuffers, HoldsOn, IsFresh, KeepsLists, KnowsBodies};
+ghost use Rattle.pack_machine.specs.Checking.{unread_in};
+ghost use Rattle.shelf_machine.specs.Known.{AreHeld, KeepsLists, KnowsBodies};
+ghost use Rattle.pack_machine.specs.Known.{IsFresh};
 ghost use Rattle.shelf_machine.specs.Machine.{AreIndexes, AreInOrder, serials_of, shelf_under, units_of};
 ghost use Rattle.shelf_machine.specs.Opening.{AreApart, AreUnits, LeavesSafe, names_of};
+ghost use Rattle.shelf_machine.specs.ReadyPacks.{caches_of, vols_of};
 ghost use Rattle.shelf_machine.specs.Packs.{AreKnown, AreOfSamePacks, AreOpened, AreScanned, AreScansOf, RefusesImages, RepairsAll, StopCall, StopsAtTwice, indexes_of};
 
 use crate::open_failure::OpenFailure;
-use crate::pack_cache::{PackCache, Packs};
-use crate::unread::unread_of;
 use ebcdic_names::Serial;
 use hall_core::Hall;
-use mount_repair::{Library, Scan, repair, scan};
+use mount_repair::{Scan, repair, scan};
+use pack_machine::{Pack, PackCache, unread_of};
 use seq_access::ReadBuf;
 use std::alloc::{AllocError, Global};
-use vtoc_index::{MountErr, Vol};
+use vtoc_index::MountErr;
 
 // The packs on units: all are scanned, then their serials compared, then each that isn't settled is repaired. What was read
 // of their libraries is held. All memory is taken before the first write. After an error nothing was written, unless the
@@ -31,20 +31,19 @@ pub(crate) fn open_packs<H: Hall>(
     alloc: Global,
     hall: &mut H,
     units: &[u8],
-) -> Result<Packs, OpenFailure>
+) -> Result<Vec<Pack>, OpenFailure>
     requires units { AreUnits (H.facts hall.old).units units.now }
     requires durable { IsTrue H.tells → IsDurable (H.meaning hall.old) }
     ensures opened { IfOk result (λ packs. AreOpened (H.facts hall.old).units units.now
-        packs.vols.items) }
+        (vols_of packs.items)) }
     ensures files { IsTrue H.tells → IfOk result (λ packs. RepairsAll
-        (names_of (H.facts hall.old).units units.now) (H.facts hall.old).units packs.vols.items
+        (names_of (H.facts hall.old).units units.now) (H.facts hall.old).units (vols_of packs.items)
         (H.meaning hall.old) (H.meaning hall.new) result) }
     ensures known { IsTrue H.tells → IfOk result (λ packs. KnowsBodies (shelf_under
-        (names_of (H.facts hall.new).units (units_of packs.vols.items)) (H.meaning hall.new).state)
-        packs.known.items) }
-    ensures buffers { IfOk result (λ packs. HaveBuffers packs.vols.items packs.known.items) }
+        (names_of (H.facts hall.new).units (units_of (vols_of packs.items))) (H.meaning hall.new).state)
+        (caches_of packs.items)) }
     ensures held { IsTrue H.tells → IfOk result (λ packs. AreHeld (H.meaning hall.new).state
-        (H.facts hall.new).units packs.vols.items packs.known.items) }
+        (H.facts hall.new).units (vols_of packs.items) (caches_of packs.items)) }
     ensures refused { IsTrue H.tells → IfErr result (RefusesImages
         (names_of (H.facts hall.old).units units.now) (H.meaning hall.old).state) }
     ensures same { IsTrue H.tells → IfErr result (λ s. s.why ≢ MountErr.Device
@@ -58,10 +57,10 @@ pub(crate) fn open_packs<H: Hall>(
     if let Some(stopped) = same_serial(&scans) {
         return Err(stopped);
     }
-    let mut known = know_all(alloc, &scans)?;
-    let mut vols = room_for(alloc, &scans)?;
-    repair_all(hall, scans, &mut vols, &mut known)?;
-    Ok(Packs { vols, known })
+    let known = know_all(alloc, &scans)?;
+    let mut packs = room_for(alloc, &scans)?;
+    repair_all(hall, scans, known, &mut packs)?;
+    Ok(packs)
 }
 
 // The scans of the packs on units, in order.
@@ -202,9 +201,9 @@ fn no_memory(unit: u8) -> OpenFailure
     }
 }
 
-// Room for the indexes of packs that were scanned.
-fn room_for(alloc: Global, scans: &[Scan]) -> Result<Vec<Vol>, OpenFailure>
-    ensures room { IfOk result (λ vols. (vols.items ≡ []) × (length scans.now ≤ vec_capacity vols)) }
+// Room for packs that were scanned.
+fn room_for(alloc: Global, scans: &[Scan]) -> Result<Vec<Pack>, OpenFailure>
+    ensures room { IfOk result (λ packs. (packs.items ≡ []) × (length scans.now ≤ vec_capacity packs)) }
     ensures memory { IfErr result (λ s. s.why ≡ MountErr.Memory) }
     ensures unit { IfErr result (λ s. Contains (units_of (indexes_of scans.now)) s.unit) }
 {
@@ -212,17 +211,17 @@ fn room_for(alloc: Global, scans: &[Scan]) -> Result<Vec<Vol>, OpenFailure>
         return Ok(Vec::new(alloc));
     };
     match Vec::with_capacity(alloc, scans.len()) {
-        Ok(vols) => Ok(vols),
+        Ok(packs) => Ok(packs),
         Err(_) => Err(no_memory(first.vol.unit)),
     }
 }
 
-// Repairs each pack that isn't settled, and gives the indexes of all, and the libraries that were read of each.
+// Repairs each pack that isn't settled, and gives all, with what is known of their bodies and the libraries that were read.
 fn repair_all<H: Hall>(
     hall: &mut H,
     scans: Vec<Scan>,
-    vols: &mut Vec<Vol>,
-    known: &mut Vec<PackCache>,
+    known: Vec<PackCache>,
+    packs: &mut Vec<Pack>,
 ) -> Result<(), OpenFailure>
     requires indexes { AreIndexes (H.facts hall.old).units (indexes_of scans.items) }
     requires order { AreInOrder (indexes_of scans.items) }
@@ -230,37 +229,33 @@ fn repair_all<H: Hall>(
         → IsScanOn (H.facts hall.old).units s.vol.unit s }
     requires images { IsTrue H.tells → AreScansOf (H.meaning hall.old).state
         (H.facts hall.old).units scans.items }
-    requires room { (vols.old.items ≡ []) × (length scans.items ≤ vec_capacity vols.old) }
-    requires fresh { AreFresh known.old.items }
+    requires room { (packs.old.items ≡ []) × (length scans.items ≤ vec_capacity packs.old) }
+    requires known { AreKnown scans.items known.items }
     requires durable { IsTrue H.tells → IsDurable (H.meaning hall.old) }
     ensures files { IsTrue H.tells → RepairsAll
         (names_of (H.facts hall.old).units (units_of (indexes_of scans.items)))
-        (H.facts hall.old).units vols.new.items (H.meaning hall.old) (H.meaning hall.new) result }
-    ensures indexes { OnOk result (AreIndexes (H.facts hall.new).units vols.new.items) }
-    ensures order { OnOk result (AreInOrder vols.new.items) }
-    ensures packs { OnOk result (AreOfSamePacks (indexes_of scans.items) vols.new.items) }
-    ensures lists { KeepsLists known.old.items known.new.items }
+        (H.facts hall.old).units (vols_of packs.new.items) (H.meaning hall.old) (H.meaning hall.new)
+        result }
+    ensures indexes { OnOk result (AreIndexes (H.facts hall.new).units (vols_of packs.new.items)) }
+    ensures order { OnOk result (AreInOrder (vols_of packs.new.items)) }
+    ensures same { OnOk result (AreOfSamePacks (indexes_of scans.items) (vols_of packs.new.items)) }
+    ensures lists { OnOk result (KeepsLists known.items (caches_of packs.new.items)) }
     ensures held { IsTrue H.tells → OnOk result (AreHeld (H.meaning hall.new).state
-        (H.facts hall.new).units vols.new.items known.new.items) }
+        (H.facts hall.new).units (vols_of packs.new.items) (caches_of packs.new.items)) }
     ensures unit { IfErr result (λ s. Contains (units_of (indexes_of scans.items)) s.unit) }
     ensures device { IfErr result (λ s. s.why ≡ MountErr.Device) }
     ensures faults { StopCall (H.facts hall.old) (H.facts hall.new) result }
 {
+    let mut caches = known.into_iter();
     for scanned in scans {
         let Scan { vol, libraries, .. } = repair_pack(hall, scanned)?;
-        hold(known, vols.len(), libraries);
-        vols.push_reserved(vol);
+        let Some(mut cache) = caches.next() else {
+            unreachable!()
+        };
+        cache.libraries = libraries;
+        packs.push_reserved(Pack { vol, cache });
     }
     Ok(())
-}
-
-// Holds these libraries of the pack of a number, if something is known of it.
-fn hold(known: &mut Vec<PackCache>, k: usize, libraries: Vec<Library>)
-    ensures { HoldsOn k libraries.items known.old.items known.new.items }
-{
-    if let Some(pack) = known.get_mut(k) {
-        pack.libraries = libraries;
-    }
 }
 
 // Repairs a pack that was scanned, unless it is settled: then nothing is called.

@@ -1,358 +1,58 @@
 //! Operations on the packs of a shelf.
-ghost use Rattle.std.specs.Prelude.{◌≡◌, ◌≤◌, ◌<◌, ◌^◌, ℕ, List, false, slice_get, IsErrOf, IsTrue, OnErr, OnOk, Some};
-ghost use Rattle.hall_core.specs.Facts.{Attached, unit_of};
-ghost use Rattle.hall_core.specs.Images.{image_in};
+ghost use Rattle.std.specs.Prelude.{◌≡◌, ◌<◌, slice_get, IsErrOf, IsTrue, Some};
+ghost use Rattle.hall_core.specs.Facts.{unit_of};
 ghost use Rattle.vol_model.specs.Lawful.{IsLawfulOp};
-ghost use Rattle.vol_model.specs.Shelf.{allocate_on, empty_on, extend_on, is_catalog, rename_on, scratch_on, step_on, volume_number};
+ghost use Rattle.vol_model.specs.Shelf.{extend_on, volume_number};
 ghost use Rattle.vol_model.specs.declared.refusals.Refusal.{Refusal};
 ghost use Rattle.vol_model.specs.declared.requests.Op.{Op};
-ghost use Rattle.vtoc_index.specs.Index.{IsMounted, IsOfUnit};
-ghost use Rattle.vtoc_index.specs.Names.{AreByName, name_at};
-ghost use Rattle.pack_spec.specs.Settled.{IsSettledVtoc};
-ghost use Rattle.pack_spec.specs.Volume.{volume_of};
 ghost use Rattle.stop_model.specs.Moments.{IsDurable};
 ghost use Rattle.vol_model.specs.Calls.{IsUndone};
-ghost use Rattle.dadsm_ops.specs.Allocating.{HasDirectory, InNewSet, new_tracks};
-ghost use Rattle.dadsm_ops.specs.Operations.{InVtoc, Operates, StoreCall, image_named};
-ghost use Rattle.vtoc_sets.specs.Sets.{volume_in};
-ghost use Rattle.shelf_machine.specs.Known.{HoldLibraries, ListsBroken};
-ghost use Rattle.shelf_machine.specs.Machine.{HasRoom};
-ghost use Rattle.shelf_machine.specs.NewSets.{first_track, without_first};
-ghost use Rattle.shelf_machine.specs.Operating.{IsRoomed, IsSamePack};
-ghost use Rattle.shelf_machine.specs.Ready.{AreReady, IsReady, Leaves, LeavesPacks};
-ghost use Rattle.shelf_machine.specs.Reporting.{reported};
+ghost use Rattle.dadsm_ops.specs.Operations.{InVtoc, Operates};
+ghost use Rattle.pack_machine.specs.Ready.{IsSamePack, reported};
+ghost use Rattle.shelf_machine.specs.ReadyPacks.{AreReady, LeavesPacks, vols_of};
 
-use crate::entries::{drop_on, enter_on};
-use crate::pack_cache::PackCache;
-use crate::refusals::{slot_of, slot_to_empty, slot_to_extend};
-use crate::unread::{forget, rename as rename_unread};
-use dadsm_ops::{allocate, empty, extend, rename, scratch};
 use ebcdic_names::Dsn;
-use hall_core::{Device, Hall};
+use hall_core::Hall;
+use pack_machine::{Pack, extend_on, operate_pack};
 use std::alloc::Global;
-use vol_model::{Attr, Op, Refusal, Request, StoreErr, is_catalog};
-use vtoc_index::{Vol, find};
-use vtoc_sets::track_at;
+use vol_model::{Op, Refusal, StoreErr, volume_number};
+use vtoc_index::Vol;
 
 // Does an operation on one of the packs.
 pub(crate) fn operate<H: Hall>(
     alloc: Global,
     hall: &mut H,
-    vols: &mut Vec<Vol>,
-    known: &mut Vec<PackCache>,
+    packs: &mut Vec<Pack>,
     op: &Op,
 ) -> Result<(), StoreErr>
     requires ready { AreReady H.tells (H.facts hall.old) (H.meaning hall.old)
-        vols.old.items known.old.items }
+        packs.old.items }
     requires durable { IsTrue H.tells → IsDurable (H.meaning hall.old) }
     requires lawful { IsLawfulOp op.now }
     ensures leaves { LeavesPacks H.tells op.now (H.facts hall.old) (H.facts hall.new)
-        (H.meaning hall.old) (H.meaning hall.new) vols.old.items vols.new.items
-        known.old.items known.new.items result }
+        (H.meaning hall.old) (H.meaning hall.new) packs.old.items packs.new.items result }
 {
-    let k = usize::from(number_of(op));
-    if k >= vols.len() {
+    let k = usize::from(volume_number(op));
+    if k >= packs.len() {
         return Err(StoreErr::Refused(Refusal::NoVolume));
     }
-    operate_pack(alloc, hall, &mut vols[k], &mut known[k], op)
-}
-
-// Does an operation on a pack. One on the catalog, which isn't kept yet, answers `Memory`.
-#[tactic(auto, unfolding(vol_model::specs::Shelf::step_on))]
-fn operate_pack<H: Hall>(
-    alloc: Global,
-    hall: &mut H,
-    vol: &mut Vol,
-    known: &mut PackCache,
-    op: &Op,
-) -> Result<(), StoreErr>
-    requires ready { IsReady H.tells (H.facts hall.old) (H.meaning hall.old) vol.old known.old }
-    requires durable { IsTrue H.tells → IsDurable (H.meaning hall.old) }
-    requires lawful { IsLawfulOp op.now }
-    ensures leaves { Leaves H.tells (step_on op.now)
-        (H.facts hall.old) (H.facts hall.new) (H.meaning hall.old) (H.meaning hall.new)
-        vol.old vol.new known.old known.new result }
-{
-    match op {
-        Op::Allocate {
-            dsn,
-            attr,
-            request,
-            dir,
-            ..
-        } => allocate_on(hall, vol, known, dsn, attr, request, *dir),
-        Op::Rename { old, new, .. } => rename_on(hall, vol, known, old, new),
-        Op::Scratch { dsn, .. } => scratch_on(hall, vol, known, dsn),
-        Op::Extend { dsn, .. } => extend_on(hall, vol, known, dsn),
-        Op::Empty { dsn, attr, .. } => empty_on(hall, vol, known, dsn, attr),
-        Op::Enter {
-            dsn,
-            entry,
-            replace,
-            ..
-        } => enter_on(alloc, hall, vol, known, dsn, entry, *replace),
-        Op::Drop { dsn, name, .. } => drop_on(alloc, hall, vol, known, dsn, name),
-        _ => Err(StoreErr::Memory),
-    }
-}
-
-// The number of the volume that an operation is on.
-fn number_of(op: &Op) -> u8
-    ensures { result ≡ volume_number op.now }
-{
-    match op {
-        Op::Allocate { v, .. }
-        | Op::Extend { v, .. }
-        | Op::Scratch { v, .. }
-        | Op::Rename { v, .. }
-        | Op::Empty { v, .. }
-        | Op::Fill { v, .. }
-        | Op::Area { v, .. }
-        | Op::Enter { v, .. }
-        | Op::Drop { v, .. }
-        | Op::BuildIndex { v, .. }
-        | Op::BuildGroup { v, .. }
-        | Op::DropNode { v, .. }
-        | Op::Catalog { v, .. }
-        | Op::Uncatalog { v, .. }
-        | Op::Alias { v, .. } => *v,
-    }
-}
-
-// Makes a data set on a pack. A SYSCTLG, whose catalog isn't kept yet, answers `Memory`.
-fn allocate_on<H: Hall>(
-    hall: &mut H,
-    vol: &mut Vol,
-    known: &mut PackCache,
-    dsn: &Dsn,
-    attr: &Attr,
-    request: &Request,
-    dir: u32,
-) -> Result<(), StoreErr>
-    requires ready { IsReady H.tells (H.facts hall.old) (H.meaning hall.old) vol.old known.old }
-    requires durable { IsTrue H.tells → IsDurable (H.meaning hall.old) }
-    requires dir { dir ≤ 2000 }
-    requires quantities { request.now.secondary < 2 ^ 24 }
-    ensures leaves { Leaves H.tells (allocate_on dsn.now attr.now request.now dir)
-        (H.facts hall.old) (H.facts hall.new) (H.meaning hall.old) (H.meaning hall.new)
-        vol.old vol.new known.old known.new result }
-{
-    if is_catalog(dsn) {
-        return Err(StoreErr::Memory);
-    }
-    known.buf.forget();
-    allocate_set(hall, vol, known, dsn, attr, request, dir)
-}
-
-// Makes a data set on a volume, and forgets what was held of a scratched one that began on the same track.
-fn allocate_set<H: Hall>(
-    hall: &mut H,
-    vol: &mut Vol,
-    known: &mut PackCache,
-    dsn: &Dsn,
-    attr: &Attr,
-    request: &Request,
-    dir: u32,
-) -> Result<(), StoreErr>
-    requires unit { IsOfUnit (H.facts hall.old).units vol.old }
-    requires names { AreByName (name_at vol.old.slots.items) vol.old.by_name.items }
-    requires mounted { let image = image_in (H.meaning hall.old) (H.facts hall.old) vol.old.unit in
-        IsTrue H.tells → IsMounted image vol.old }
-    requires settled { let image = image_in (H.meaning hall.old) (H.facts hall.old) vol.old.unit in
-        IsTrue H.tells → IsSettledVtoc image }
-    requires room { HasRoom vol.old }
-    requires durable { IsTrue H.tells → IsDurable (H.meaning hall.old) }
-    requires catalog { is_catalog dsn.now.bytes ≡ false }
-    requires dir { dir ≤ 2000 }
-    requires quantities { request.now.secondary < 2 ^ 24 }
-    ensures files { IsTrue H.tells → Operates (unit_of (H.facts hall.old).units vol.old.unit).name
-        (allocate_on dsn.now attr.now request.now dir) vol.new (InNewSet request.now dir vol.new)
-        (H.meaning hall.old) (H.meaning hall.new) result }
-    ensures directory { let name = (unit_of (H.facts hall.old).units vol.old.unit).name in
-        IsTrue H.tells → OnOk result (HasDirectory (image_named (H.meaning hall.new).state name)
-        vol.new.geometry (new_tracks request.now dir
-        (volume_of (image_named (H.meaning hall.old).state name))) dir) }
-    ensures unit { IsOfUnit (H.facts hall.new).units vol.new }
-    ensures names { OnOk result (AreByName (name_at vol.new.slots.items) vol.new.by_name.items) }
-    ensures index { IsSamePack vol.old vol.new }
-    ensures refused { (r : Refusal) → IsErrOf result (StoreErr.Refused r) → vol.new ≡ vol.old }
-    ensures memory { IsErrOf result StoreErr.Memory → IsRoomed vol.old vol.new }
-    ensures known { known.new ≡ record known.old { libraries = known.new.libraries } }
-    ensures libraries { let name = (unit_of (H.facts hall.old).units vol.old.unit).name in
-        let image = image_named (H.meaning hall.new).state name in
-        IsTrue H.tells → OnOk result (known.new.libraries.items
-        ≡ without_first (first_track dsn.now.bytes (volume_in image vol.new)) known.old.libraries.items) }
-    ensures failed { OnErr result (known.new ≡ known.old) }
-    ensures faults { StoreCall (H.facts hall.old) (H.facts hall.new) result }
-{
-    allocate(hall, vol, dsn, attr, request, dir)?;
-    forget_first(vol, known, dsn);
-    Ok(())
-}
-
-// Forgets the libraries of a pack that begin where its data set of this name does.
-fn forget_first(vol: &Vol, known: &mut PackCache, dsn: &Dsn)
-    requires unit { (units : List Attached) × IsOfUnit units vol.now }
-    requires names { AreByName (name_at vol.now.slots.items) vol.now.by_name.items }
-    ensures rest { known.new ≡ record known.old { libraries = known.new.libraries } }
-    ensures libraries { (image : List ℕ) → IsMounted image vol.now → known.new.libraries.items
-        ≡ without_first (first_track dsn.now.bytes (volume_in image vol.now)) known.old.libraries.items }
-{
-    let Some((_, set)) = slot_of(vol, dsn) else {
-        return;
-    };
-    let Some(start) = track_at(vol, &set, 0) else {
-        return;
-    };
-    known.libraries.retain(|library| library.start != start);
-}
-
-// Renames a data set of a pack.
-fn rename_on<H: Hall>(
-    hall: &mut H,
-    vol: &mut Vol,
-    known: &mut PackCache,
-    old: &Dsn,
-    new: &Dsn,
-) -> Result<(), StoreErr>
-    requires ready { IsReady H.tells (H.facts hall.old) (H.meaning hall.old) vol.old known.old }
-    requires durable { IsTrue H.tells → IsDurable (H.meaning hall.old) }
-    ensures leaves { Leaves H.tells (rename_on old.now new.now)
-        (H.facts hall.old) (H.facts hall.new) (H.meaning hall.old) (H.meaning hall.new)
-        vol.old vol.new known.old known.new result }
-{
-    known.buf.forget();
-    match rename(hall, vol, old, new) {
-        Ok(()) => {
-            rename_unread(&mut known.unread, old, new);
-            Ok(())
-        }
-        Err(error) => Err(error),
-    }
-}
-
-// Removes a data set of a pack.
-fn scratch_on<H: Hall>(
-    hall: &mut H,
-    vol: &mut Vol,
-    known: &mut PackCache,
-    dsn: &Dsn,
-) -> Result<(), StoreErr>
-    requires ready { IsReady H.tells (H.facts hall.old) (H.meaning hall.old) vol.old known.old }
-    requires durable { IsTrue H.tells → IsDurable (H.meaning hall.old) }
-    ensures leaves { Leaves H.tells (scratch_on dsn.now)
-        (H.facts hall.old) (H.facts hall.new) (H.meaning hall.old) (H.meaning hall.new)
-        vol.old vol.new known.old known.new result }
-{
-    known.buf.forget();
-    match scratch_set(hall, vol, dsn) {
-        Ok(()) => {
-            forget(&mut known.unread, dsn);
-            Ok(())
-        }
-        Err(error) => Err(error),
-    }
-}
-
-// Removes a data set of a volume.
-fn scratch_set<H: Hall>(hall: &mut H, vol: &mut Vol, dsn: &Dsn) -> Result<(), StoreErr>
-    requires unit { IsOfUnit (H.facts hall.old).units vol.old }
-    requires names { AreByName (name_at vol.old.slots.items) vol.old.by_name.items }
-    requires mounted { let image = image_in (H.meaning hall.old) (H.facts hall.old) vol.old.unit in
-        IsTrue H.tells → IsMounted image vol.old }
-    requires room { HasRoom vol.old }
-    requires durable { IsTrue H.tells → IsDurable (H.meaning hall.old) }
-    ensures files { IsTrue H.tells → Operates (unit_of (H.facts hall.old).units vol.old.unit).name
-        (scratch_on dsn.now) vol.new (InVtoc vol.new) (H.meaning hall.old)
-        (H.meaning hall.new) result }
-    ensures unit { IsOfUnit (H.facts hall.new).units vol.new }
-    ensures names { OnOk result (AreByName (name_at vol.new.slots.items) vol.new.by_name.items) }
-    ensures index { IsSamePack vol.old vol.new }
-    ensures refused { (r : Refusal) → IsErrOf result (StoreErr.Refused r) → vol.new ≡ vol.old }
-    ensures memory { ¬ IsErrOf result StoreErr.Memory }
-    ensures faults { StoreCall (H.facts hall.old) (H.facts hall.new) result }
-{
-    let Some(slot) = find(vol, dsn) else {
-        return Err(StoreErr::Refused(Refusal::NoSet));
-    };
-    match scratch(hall, vol, slot) {
-        Ok(()) => Ok(()),
-        Err(Device) => Err(StoreErr::Device),
-    }
-}
-
-// Empties a data set of a pack.
-fn empty_on<H: Hall>(
-    hall: &mut H,
-    vol: &mut Vol,
-    known: &mut PackCache,
-    dsn: &Dsn,
-    attr: &Attr,
-) -> Result<(), StoreErr>
-    requires ready { IsReady H.tells (H.facts hall.old) (H.meaning hall.old) vol.old known.old }
-    requires durable { IsTrue H.tells → IsDurable (H.meaning hall.old) }
-    ensures leaves { Leaves H.tells (empty_on dsn.now attr.now)
-        (H.facts hall.old) (H.facts hall.new) (H.meaning hall.old) (H.meaning hall.new)
-        vol.old vol.new known.old known.new result }
-{
-    known.buf.forget();
-    empty_set(hall, vol, known, dsn, attr)
-}
-
-// Empties a data set of a volume. An unreadable one is refused: by that which is known of the bodies. A partitioned one wants
-// memory unless its library is held.
-fn empty_set<H: Hall>(
-    hall: &mut H,
-    vol: &mut Vol,
-    known: &PackCache,
-    dsn: &Dsn,
-    attr: &Attr,
-) -> Result<(), StoreErr>
-    requires unit { IsOfUnit (H.facts hall.old).units vol.old }
-    requires names { AreByName (name_at vol.old.slots.items) vol.old.by_name.items }
-    requires mounted { let image = image_in (H.meaning hall.old) (H.facts hall.old) vol.old.unit in
-        IsTrue H.tells → IsMounted image vol.old }
-    requires bodies { let image = image_in (H.meaning hall.old) (H.facts hall.old) vol.old.unit in
-        IsTrue H.tells → ListsBroken (volume_in image vol.old) known.now.unread.items }
-    requires library { let image = image_in (H.meaning hall.old) (H.facts hall.old) vol.old.unit in
-        IsTrue H.tells → HoldLibraries image vol.old known.now.libraries.items }
-    requires durable { IsTrue H.tells → IsDurable (H.meaning hall.old) }
-    ensures files { IsTrue H.tells → Operates (unit_of (H.facts hall.old).units vol.old.unit).name
-        (empty_on dsn.now attr.now) vol.new (InVtoc vol.new) (H.meaning hall.old)
-        (H.meaning hall.new) result }
-    ensures unit { IsOfUnit (H.facts hall.new).units vol.new }
-    ensures names { OnOk result (AreByName (name_at vol.new.slots.items) vol.new.by_name.items) }
-    ensures index { IsSamePack vol.old vol.new }
-    ensures refused { (r : Refusal) → IsErrOf result (StoreErr.Refused r) → vol.new ≡ vol.old }
-    ensures memory { IsErrOf result StoreErr.Memory → IsRoomed vol.old vol.new }
-    ensures faults { StoreCall (H.facts hall.old) (H.facts hall.new) result }
-{
-    let slot = match slot_to_empty(vol, known, dsn) {
-        Ok(slot) => slot,
-        Err(error) => return Err(error),
-    };
-    match empty(hall, vol, slot, attr) {
-        Ok(()) => Ok(()),
-        Err(Device) => Err(StoreErr::Device),
-    }
+    operate_pack(alloc, hall, &mut packs[k], op)
 }
 
 // Extends a data set of the pack of this number.
 pub(crate) fn extend_at<H: Hall>(
     hall: &mut H,
-    vols: &mut Vec<Vol>,
-    known: &mut Vec<PackCache>,
+    packs: &mut Vec<Pack>,
     v: u8,
     dsn: &Dsn,
 ) -> Result<(), StoreErr>
     requires ready { AreReady H.tells (H.facts hall.old) (H.meaning hall.old)
-        vols.old.items known.old.items }
+        packs.old.items }
     requires durable { IsTrue H.tells → IsDurable (H.meaning hall.old) }
     ensures leaves { LeavesPacks H.tells (Op.Extend v dsn.now) (H.facts hall.old) (H.facts hall.new)
-        (H.meaning hall.old) (H.meaning hall.new) vols.old.items vols.new.items
-        known.old.items known.new.items result }
-    ensures pack { (vol vol' : Vol) → slice_get vols.old.items v ≡ Some vol
-        → slice_get vols.new.items v ≡ Some vol' → IsSamePack vol vol'
+        (H.meaning hall.old) (H.meaning hall.new) packs.old.items packs.new.items result }
+    ensures pack { (vol vol' : Vol) → slice_get (vols_of packs.old.items) v ≡ Some vol
+        → slice_get (vols_of packs.new.items) v ≡ Some vol' → IsSamePack vol vol'
         × (IsUndone (reported result) → vol' ≡ vol)
         × (IsTrue H.tells → Operates (unit_of (H.facts hall.old).units vol.unit).name
         (extend_on dsn.now) vol' (InVtoc vol') (H.meaning hall.old) (H.meaning hall.new)
@@ -360,63 +60,8 @@ pub(crate) fn extend_at<H: Hall>(
     ensures memory { ¬ IsErrOf result StoreErr.Memory }
 {
     let k = usize::from(v);
-    if k >= vols.len() {
+    if k >= packs.len() {
         return Err(StoreErr::Refused(Refusal::NoVolume));
     }
-    extend_on(hall, &mut vols[k], &mut known[k], dsn)
-}
-
-// Extends a data set of a pack.
-fn extend_on<H: Hall>(
-    hall: &mut H,
-    vol: &mut Vol,
-    known: &mut PackCache,
-    dsn: &Dsn,
-) -> Result<(), StoreErr>
-    requires ready { IsReady H.tells (H.facts hall.old) (H.meaning hall.old) vol.old known.old }
-    requires durable { IsTrue H.tells → IsDurable (H.meaning hall.old) }
-    ensures leaves { Leaves H.tells (extend_on dsn.now)
-        (H.facts hall.old) (H.facts hall.new) (H.meaning hall.old) (H.meaning hall.new)
-        vol.old vol.new known.old known.new result }
-    ensures files { IsTrue H.tells → Operates (unit_of (H.facts hall.old).units vol.old.unit).name
-        (extend_on dsn.now) vol.new (InVtoc vol.new) (H.meaning hall.old)
-        (H.meaning hall.new) result }
-    ensures refused { (r : Refusal) → IsErrOf result (StoreErr.Refused r) → vol.new ≡ vol.old }
-    ensures memory { ¬ IsErrOf result StoreErr.Memory }
-{
-    known.buf.forget();
-    extend_set(hall, vol, known, dsn)
-}
-
-// More extents for a data set of a volume. An unreadable one is refused: by that which is known of the bodies.
-fn extend_set<H: Hall>(
-    hall: &mut H,
-    vol: &mut Vol,
-    known: &PackCache,
-    dsn: &Dsn,
-) -> Result<(), StoreErr>
-    requires unit { IsOfUnit (H.facts hall.old).units vol.old }
-    requires names { AreByName (name_at vol.old.slots.items) vol.old.by_name.items }
-    requires mounted { let image = image_in (H.meaning hall.old) (H.facts hall.old) vol.old.unit in
-        IsTrue H.tells → IsMounted image vol.old }
-    requires bodies { let image = image_in (H.meaning hall.old) (H.facts hall.old) vol.old.unit in
-        IsTrue H.tells → ListsBroken (volume_in image vol.old) known.now.unread.items }
-    requires settled { let image = image_in (H.meaning hall.old) (H.facts hall.old) vol.old.unit in
-        IsTrue H.tells → IsSettledVtoc image }
-    requires room { HasRoom vol.old }
-    requires durable { IsTrue H.tells → IsDurable (H.meaning hall.old) }
-    ensures files { IsTrue H.tells → Operates (unit_of (H.facts hall.old).units vol.old.unit).name
-        (extend_on dsn.now) vol.new (InVtoc vol.new) (H.meaning hall.old)
-        (H.meaning hall.new) result }
-    ensures unit { IsOfUnit (H.facts hall.new).units vol.new }
-    ensures names { OnOk result (AreByName (name_at vol.new.slots.items) vol.new.by_name.items) }
-    ensures index { IsSamePack vol.old vol.new }
-    ensures refused { (r : Refusal) → IsErrOf result (StoreErr.Refused r) → vol.new ≡ vol.old }
-    ensures memory { ¬ IsErrOf result StoreErr.Memory }
-    ensures faults { StoreCall (H.facts hall.old) (H.facts hall.new) result }
-{
-    match slot_to_extend(vol, known, dsn) {
-        Ok(slot) => extend(hall, vol, slot),
-        Err(refusal) => Err(StoreErr::Refused(refusal)),
-    }
+    extend_on(hall, &mut packs[k], dsn)
 }

@@ -1,65 +1,43 @@
 //! Blocks put by a writer on one of several packs, whose set is extended where it owns no track.
-ghost use Rattle.std.specs.Prelude.{◌≡◌, ◌≢◌, ◌<◌, ◌≤◌, ◌==◌, ◌&&◌, [], ◌∷◌, length, true, false, Some, IsErrOf, IsTrue, OnOk};
-ghost use Rattle.hall_core.specs.Facts.{ReportedCall};
+ghost use Rattle.std.specs.Prelude.{◌≡◌, ◌≢◌, ◌<◌, ◌≤◌, ◌==◌, ◌&&◌, [], ◌∷◌, length, true, false, IsErrOf, IsTrue, OnOk};
 ghost use Rattle.seq_access.specs.Writing.{has_put};
-ghost use Rattle.vol_model.specs.Calls.{sound_after};
 ghost use Rattle.vol_model.specs.Places.{end_of_file};
 ghost use Rattle.vol_model.specs.Shelf.{put_last};
 ghost use Rattle.vol_model.specs.Writing.{Wanted};
-ghost use Rattle.vol_model.specs.declared.refusals.Refusal.{Refusal};
-ghost use Rattle.vol_model.specs.declared.refusals.Refusal.TheVariants.{NoRoom};
-ghost use Rattle.shelf_machine.specs.Known.{HaveBuffers};
-ghost use Rattle.shelf_machine.specs.Machine.{AreIndexes, base_of, placed_in};
-ghost use Rattle.shelf_machine.specs.Pending.{HasSlot, IsPendingBy};
-ghost use Rattle.shelf_machine.specs.Ready.{AreReady};
+ghost use Rattle.shelf_machine.specs.Machine.{placed_in};
+ghost use Rattle.shelf_machine.specs.OpenWriters.{HasWriter, KeepsWriter};
+ghost use Rattle.shelf_machine.specs.ReadyPacks.{vols_of};
 ghost use Rattle.shelf_machine.specs.PutBlocks.{PlacesAll, PlacesBlock, PutsBlock, StandsAgain, due_on, ends_on, put_answer, room_answer, room_on};
 ghost use Rattle.shelf_machine.specs.Putting.{IsDue};
 
-use crate::pack_cache::PackCache;
 use crate::writer::Writer;
 use crate::writing::{make_room, put_on_owned_track};
 use hall_core::Hall;
+use pack_machine::Pack;
 use seq_access::PutErr;
 use vol_model::{MachErr, Mode, Place, Refusal, StoreErr};
-use vtoc_index::Vol;
 
 // Puts a block after those of the open writer, and what is due in front of the first. Its set is extended first where it
 // owns no track for one of the two.
 pub(crate) fn put_block<H: Hall>(
     hall: &mut H,
-    vols: &mut Vec<Vol>,
-    known: &mut Vec<PackCache>,
+    packs: &mut Vec<Pack>,
     writer: &mut Writer,
     done: &mut u64,
     key: &[u8],
     payload: &[u8],
 ) -> Result<Place, MachErr>
-    requires ready { AreReady H.tells (H.facts hall.old) (H.meaning hall.old)
-        vols.old.items known.old.items }
-    requires slot { HasSlot vols.old.items (Some writer.old) }
-    requires pending { IsTrue H.tells → IsPendingBy (H.meaning hall.old) (H.facts hall.old).units
-        vols.old.items (Some writer.old) }
+    requires writer { HasWriter H.tells (H.facts hall.old) (H.meaning hall.old) packs.old.items writer.old }
     requires key { length key.now ≤ 255 }
     requires payload { length payload.now ≤ 32760 }
     ensures shelf { IsTrue H.tells → PutsBlock (key.now, payload.now) (H.facts hall.old).units
-        (H.facts hall.new).units vols.old.items vols.new.items writer.old writer.new
+        (H.facts hall.new).units (vols_of packs.old.items) (vols_of packs.new.items) writer.old writer.new
         (H.meaning hall.old) (H.meaning hall.new) done.old done.new result }
-    ensures indexes { AreIndexes (H.facts hall.new).units vols.new.items }
-    ensures ready { sound_after result ≡ true → AreReady H.tells (H.facts hall.new) (H.meaning hall.new)
-        vols.new.items known.new.items }
-    ensures slot { sound_after result ≡ true → HasSlot vols.new.items (Some writer.new) }
-    ensures same { writer.new ≡ record writer.old { inner = writer.new.inner } }
-    ensures base { base_of (H.facts hall.new) vols.new.items
-        ≡ base_of (H.facts hall.old) vols.old.items }
-    ensures buffers { HaveBuffers vols.new.items known.new.items }
-    ensures refused { (r : Refusal) → IsErrOf result (MachErr.Refused r) → r ≡ NoRoom }
-    ensures memory { IsErrOf result MachErr.Memory → ⊥ }
-    ensures print { IsErrOf result MachErr.Print → ⊥ }
-    ensures faults { ReportedCall (IsErrOf result MachErr.Device) (H.facts hall.old)
-        (H.facts hall.new) }
+    ensures keeps { KeepsWriter H.tells (H.facts hall.old) (H.facts hall.new) (H.meaning hall.new)
+        packs.old.items packs.new.items writer.old writer.new result }
 {
-    match place_first(hall, vols, known, writer, done) {
-        Ok(()) => place_block(hall, vols, known, writer, done, key, payload),
+    match place_first(hall, packs, writer, done) {
+        Ok(()) => place_block(hall, packs, writer, done, key, payload),
         Err(error) => Err(error),
     }
 }
@@ -68,38 +46,22 @@ pub(crate) fn put_block<H: Hall>(
 // after the last.
 pub(crate) fn place_ends<H: Hall>(
     hall: &mut H,
-    vols: &mut Vec<Vol>,
-    known: &mut Vec<PackCache>,
+    packs: &mut Vec<Pack>,
     writer: &mut Writer,
     done: &mut u64,
 ) -> Result<(), MachErr>
-    requires ready { AreReady H.tells (H.facts hall.old) (H.meaning hall.old)
-        vols.old.items known.old.items }
-    requires slot { HasSlot vols.old.items (Some writer.old) }
-    requires pending { IsTrue H.tells → IsPendingBy (H.meaning hall.old) (H.facts hall.old).units
-        vols.old.items (Some writer.old) }
-    ensures shelf { let cs = ends_on (H.meaning hall.old).state (H.facts hall.old).units vols.old.items
+    requires writer { HasWriter H.tells (H.facts hall.old) (H.meaning hall.old) packs.old.items writer.old }
+    ensures shelf { let cs = ends_on (H.meaning hall.old).state (H.facts hall.old).units (vols_of packs.old.items)
         writer.old in
         IsTrue H.tells → PlacesAll cs tt (H.facts hall.old).units (H.facts hall.new).units
-        vols.old.items vols.new.items writer.old writer.new (H.meaning hall.old)
+        (vols_of packs.old.items) (vols_of packs.new.items) writer.old writer.new (H.meaning hall.old)
         (H.meaning hall.new) done.old done.new result }
-    ensures indexes { AreIndexes (H.facts hall.new).units vols.new.items }
-    ensures ready { sound_after result ≡ true → AreReady H.tells (H.facts hall.new) (H.meaning hall.new)
-        vols.new.items known.new.items }
-    ensures slot { sound_after result ≡ true → HasSlot vols.new.items (Some writer.new) }
-    ensures same { writer.new ≡ record writer.old { inner = writer.new.inner } }
-    ensures base { base_of (H.facts hall.new) vols.new.items
-        ≡ base_of (H.facts hall.old) vols.old.items }
-    ensures buffers { HaveBuffers vols.new.items known.new.items }
-    ensures refused { (r : Refusal) → IsErrOf result (MachErr.Refused r) → r ≡ NoRoom }
-    ensures memory { IsErrOf result MachErr.Memory → ⊥ }
-    ensures print { IsErrOf result MachErr.Print → ⊥ }
-    ensures faults { ReportedCall (IsErrOf result MachErr.Device) (H.facts hall.old)
-        (H.facts hall.new) }
+    ensures keeps { KeepsWriter H.tells (H.facts hall.old) (H.facts hall.new) (H.meaning hall.new)
+        packs.old.items packs.new.items writer.old writer.new result }
     ensures low { writer.old.inner.last.tt < 65536 }
 {
-    match place_first(hall, vols, known, writer, done) {
-        Ok(()) => place_last(hall, vols, known, writer, done),
+    match place_first(hall, packs, writer, done) {
+        Ok(()) => place_last(hall, packs, writer, done),
         Err(error) => Err(error),
     }
 }
@@ -107,35 +69,19 @@ pub(crate) fn place_ends<H: Hall>(
 // Places the end-of-file block after an area.
 fn place_last<H: Hall>(
     hall: &mut H,
-    vols: &mut Vec<Vol>,
-    known: &mut Vec<PackCache>,
+    packs: &mut Vec<Pack>,
     writer: &mut Writer,
     done: &mut u64,
 ) -> Result<(), MachErr>
-    requires ready { AreReady H.tells (H.facts hall.old) (H.meaning hall.old)
-        vols.old.items known.old.items }
-    requires slot { HasSlot vols.old.items (Some writer.old) }
-    requires pending { IsTrue H.tells → IsPendingBy (H.meaning hall.old) (H.facts hall.old).units
-        vols.old.items (Some writer.old) }
+    requires writer { HasWriter H.tells (H.facts hall.old) (H.meaning hall.old) packs.old.items writer.old }
     ensures shelf { IsTrue H.tells → PlacesAll (put_last writer.old.mode) tt (H.facts hall.old).units
-        (H.facts hall.new).units vols.old.items vols.new.items writer.old writer.new
+        (H.facts hall.new).units (vols_of packs.old.items) (vols_of packs.new.items) writer.old writer.new
         (H.meaning hall.old) (H.meaning hall.new) done.old done.new result }
-    ensures indexes { AreIndexes (H.facts hall.new).units vols.new.items }
-    ensures ready { sound_after result ≡ true → AreReady H.tells (H.facts hall.new) (H.meaning hall.new)
-        vols.new.items known.new.items }
-    ensures slot { sound_after result ≡ true → HasSlot vols.new.items (Some writer.new) }
-    ensures same { writer.new ≡ record writer.old { inner = writer.new.inner } }
-    ensures base { base_of (H.facts hall.new) vols.new.items
-        ≡ base_of (H.facts hall.old) vols.old.items }
-    ensures buffers { HaveBuffers vols.new.items known.new.items }
-    ensures refused { (r : Refusal) → IsErrOf result (MachErr.Refused r) → r ≡ NoRoom }
-    ensures memory { IsErrOf result MachErr.Memory → ⊥ }
-    ensures print { IsErrOf result MachErr.Print → ⊥ }
-    ensures faults { ReportedCall (IsErrOf result MachErr.Device) (H.facts hall.old)
-        (H.facts hall.new) }
+    ensures keeps { KeepsWriter H.tells (H.facts hall.old) (H.facts hall.new) (H.meaning hall.new)
+        packs.old.items packs.new.items writer.old writer.new result }
 {
     match writer.mode {
-        Mode::Area => place_end(hall, vols, known, writer, done),
+        Mode::Area => place_end(hall, packs, writer, done),
         Mode::Fill => Ok(()),
     }
 }
@@ -143,89 +89,57 @@ fn place_last<H: Hall>(
 // Places what is due in front of the first block that is put.
 fn place_first<H: Hall>(
     hall: &mut H,
-    vols: &mut Vec<Vol>,
-    known: &mut Vec<PackCache>,
+    packs: &mut Vec<Pack>,
     writer: &mut Writer,
     done: &mut u64,
 ) -> Result<(), MachErr>
-    requires ready { AreReady H.tells (H.facts hall.old) (H.meaning hall.old)
-        vols.old.items known.old.items }
-    requires slot { HasSlot vols.old.items (Some writer.old) }
-    requires pending { IsTrue H.tells → IsPendingBy (H.meaning hall.old) (H.facts hall.old).units
-        vols.old.items (Some writer.old) }
-    ensures shelf { let cs = due_on (H.meaning hall.old).state (H.facts hall.old).units vols.old.items
+    requires writer { HasWriter H.tells (H.facts hall.old) (H.meaning hall.old) packs.old.items writer.old }
+    ensures shelf { let cs = due_on (H.meaning hall.old).state (H.facts hall.old).units (vols_of packs.old.items)
         writer.old in
         IsTrue H.tells → PlacesAll cs tt (H.facts hall.old).units (H.facts hall.new).units
-        vols.old.items vols.new.items writer.old writer.new (H.meaning hall.old)
+        (vols_of packs.old.items) (vols_of packs.new.items) writer.old writer.new (H.meaning hall.old)
         (H.meaning hall.new) done.old done.new result }
     ensures stands { IsTrue H.tells → StandsAgain result (placed_in (H.meaning hall.old).state
-        (H.facts hall.old).units vols.old.items writer.old) (placed_in (H.meaning hall.new).state
-        (H.facts hall.new).units vols.new.items writer.new) }
-    ensures placed { OnOk result (writer.new.first ≡ true → has_put writer.new.inner ≡ true) }
+        (H.facts hall.old).units (vols_of packs.old.items) writer.old) (placed_in (H.meaning hall.new).state
+        (H.facts hall.new).units (vols_of packs.new.items) writer.new) }
+    ensures placed { OnOk result (writer.new.owes_end_of_file ≡ true → has_put writer.new.inner ≡ true) }
     ensures low { writer.old.inner.last.tt < 65536 }
-    ensures indexes { AreIndexes (H.facts hall.new).units vols.new.items }
-    ensures ready { sound_after result ≡ true → AreReady H.tells (H.facts hall.new) (H.meaning hall.new)
-        vols.new.items known.new.items }
-    ensures slot { sound_after result ≡ true → HasSlot vols.new.items (Some writer.new) }
-    ensures same { writer.new ≡ record writer.old { inner = writer.new.inner } }
-    ensures base { base_of (H.facts hall.new) vols.new.items
-        ≡ base_of (H.facts hall.old) vols.old.items }
-    ensures buffers { HaveBuffers vols.new.items known.new.items }
-    ensures refused { (r : Refusal) → IsErrOf result (MachErr.Refused r) → r ≡ NoRoom }
-    ensures memory { IsErrOf result MachErr.Memory → ⊥ }
-    ensures print { IsErrOf result MachErr.Print → ⊥ }
-    ensures faults { ReportedCall (IsErrOf result MachErr.Device) (H.facts hall.old)
-        (H.facts hall.new) }
+    ensures keeps { KeepsWriter H.tells (H.facts hall.old) (H.facts hall.new) (H.meaning hall.new)
+        packs.old.items packs.new.items writer.old writer.new result }
 {
     if !is_due(*writer) {
         return Ok(());
     }
-    place_end(hall, vols, known, writer, done)
+    place_end(hall, packs, writer, done)
 }
 
 // Whether an end-of-file block is due in front of what is put.
 fn is_due(writer: Writer) -> bool
-    ensures value { result ≡ (writer.first && writer.inner.blocks == 0) }
+    ensures value { result ≡ (writer.owes_end_of_file && writer.inner.blocks == 0) }
     ensures low { writer.inner.last.tt < 65536 }
 {
-    writer.first && writer.inner.blocks == 0
+    writer.owes_end_of_file && writer.inner.blocks == 0
 }
 
 // Places an end-of-file block after those of the open writer.
 fn place_end<H: Hall>(
     hall: &mut H,
-    vols: &mut Vec<Vol>,
-    known: &mut Vec<PackCache>,
+    packs: &mut Vec<Pack>,
     writer: &mut Writer,
     done: &mut u64,
 ) -> Result<(), MachErr>
-    requires ready { AreReady H.tells (H.facts hall.old) (H.meaning hall.old)
-        vols.old.items known.old.items }
-    requires slot { HasSlot vols.old.items (Some writer.old) }
-    requires pending { IsTrue H.tells → IsPendingBy (H.meaning hall.old) (H.facts hall.old).units
-        vols.old.items (Some writer.old) }
+    requires writer { HasWriter H.tells (H.facts hall.old) (H.meaning hall.old) packs.old.items writer.old }
     ensures shelf { IsTrue H.tells → PlacesAll (end_of_file ∷ []) tt (H.facts hall.old).units
-        (H.facts hall.new).units vols.old.items vols.new.items writer.old writer.new
+        (H.facts hall.new).units (vols_of packs.old.items) (vols_of packs.new.items) writer.old writer.new
         (H.meaning hall.old) (H.meaning hall.new) done.old done.new result }
     ensures stands { IsTrue H.tells → StandsAgain result (placed_in (H.meaning hall.old).state
-        (H.facts hall.old).units vols.old.items writer.old) (placed_in (H.meaning hall.new).state
-        (H.facts hall.new).units vols.new.items writer.new) }
+        (H.facts hall.old).units (vols_of packs.old.items) writer.old) (placed_in (H.meaning hall.new).state
+        (H.facts hall.new).units (vols_of packs.new.items) writer.new) }
     ensures placed { OnOk result (0 < writer.new.inner.blocks) }
-    ensures indexes { AreIndexes (H.facts hall.new).units vols.new.items }
-    ensures ready { sound_after result ≡ true → AreReady H.tells (H.facts hall.new) (H.meaning hall.new)
-        vols.new.items known.new.items }
-    ensures slot { sound_after result ≡ true → HasSlot vols.new.items (Some writer.new) }
-    ensures same { writer.new ≡ record writer.old { inner = writer.new.inner } }
-    ensures base { base_of (H.facts hall.new) vols.new.items
-        ≡ base_of (H.facts hall.old) vols.old.items }
-    ensures buffers { HaveBuffers vols.new.items known.new.items }
-    ensures refused { (r : Refusal) → IsErrOf result (MachErr.Refused r) → r ≡ NoRoom }
-    ensures memory { IsErrOf result MachErr.Memory → ⊥ }
-    ensures print { IsErrOf result MachErr.Print → ⊥ }
-    ensures faults { ReportedCall (IsErrOf result MachErr.Device) (H.facts hall.old)
-        (H.facts hall.new) }
+    ensures keeps { KeepsWriter H.tells (H.facts hall.old) (H.facts hall.new) (H.meaning hall.new)
+        packs.old.items packs.new.items writer.old writer.new result }
 {
-    match place_block(hall, vols, known, writer, done, &[], &[]) {
+    match place_block(hall, packs, writer, done, &[], &[]) {
         Ok(_place) => Ok(()),
         Err(error) => Err(error),
     }
@@ -234,42 +148,26 @@ fn place_end<H: Hall>(
 // Places a block after those of the open writer. Its set is extended first where it owns no track.
 pub(crate) fn place_block<H: Hall>(
     hall: &mut H,
-    vols: &mut Vec<Vol>,
-    known: &mut Vec<PackCache>,
+    packs: &mut Vec<Pack>,
     writer: &mut Writer,
     done: &mut u64,
     key: &[u8],
     payload: &[u8],
 ) -> Result<Place, MachErr>
-    requires ready { AreReady H.tells (H.facts hall.old) (H.meaning hall.old)
-        vols.old.items known.old.items }
-    requires slot { HasSlot vols.old.items (Some writer.old) }
-    requires pending { IsTrue H.tells → IsPendingBy (H.meaning hall.old) (H.facts hall.old).units
-        vols.old.items (Some writer.old) }
+    requires writer { HasWriter H.tells (H.facts hall.old) (H.meaning hall.old) packs.old.items writer.old }
     requires key { length key.now ≤ 255 }
     requires payload { length payload.now ≤ 32760 }
     requires due { IsDue writer.old (key.now, payload.now) }
     ensures shelf { IsTrue H.tells → PlacesBlock (key.now, payload.now) (H.facts hall.old).units
-        (H.facts hall.new).units vols.old.items vols.new.items writer.old writer.new
+        (H.facts hall.new).units (vols_of packs.old.items) (vols_of packs.new.items) writer.old writer.new
         (H.meaning hall.old) (H.meaning hall.new) done.old done.new result }
-    ensures indexes { AreIndexes (H.facts hall.new).units vols.new.items }
-    ensures ready { sound_after result ≡ true → AreReady H.tells (H.facts hall.new) (H.meaning hall.new)
-        vols.new.items known.new.items }
-    ensures slot { sound_after result ≡ true → HasSlot vols.new.items (Some writer.new) }
-    ensures same { writer.new ≡ record writer.old { inner = writer.new.inner } }
     ensures placed { OnOk result (0 < writer.new.inner.blocks) }
-    ensures base { base_of (H.facts hall.new) vols.new.items
-        ≡ base_of (H.facts hall.old) vols.old.items }
-    ensures buffers { HaveBuffers vols.new.items known.new.items }
-    ensures refused { (r : Refusal) → IsErrOf result (MachErr.Refused r) → r ≡ NoRoom }
-    ensures memory { IsErrOf result MachErr.Memory → ⊥ }
-    ensures print { IsErrOf result MachErr.Print → ⊥ }
-    ensures faults { ReportedCall (IsErrOf result MachErr.Device) (H.facts hall.old)
-        (H.facts hall.new) }
+    ensures keeps { KeepsWriter H.tells (H.facts hall.old) (H.facts hall.new) (H.meaning hall.new)
+        packs.old.items packs.new.items writer.old writer.new result }
 {
-    let put = put_on_owned_track(hall, vols, known, writer, key, payload);
+    let put = put_on_owned_track(hall, packs, writer, key, payload);
     if wants_extent(&put) {
-        return extend_and_place(hall, vols, known, writer, done, key, payload);
+        return extend_and_place(hall, packs, writer, done, key, payload);
     }
     answer_put(put)
 }
@@ -277,45 +175,29 @@ pub(crate) fn place_block<H: Hall>(
 // The same where the set owns no track for the block: it is extended, and then the block is placed.
 fn extend_and_place<H: Hall>(
     hall: &mut H,
-    vols: &mut Vec<Vol>,
-    known: &mut Vec<PackCache>,
+    packs: &mut Vec<Pack>,
     writer: &mut Writer,
     done: &mut u64,
     key: &[u8],
     payload: &[u8],
 ) -> Result<Place, MachErr>
-    requires ready { AreReady H.tells (H.facts hall.old) (H.meaning hall.old)
-        vols.old.items known.old.items }
-    requires slot { HasSlot vols.old.items (Some writer.old) }
-    requires pending { IsTrue H.tells → IsPendingBy (H.meaning hall.old) (H.facts hall.old).units
-        vols.old.items (Some writer.old) }
+    requires writer { HasWriter H.tells (H.facts hall.old) (H.meaning hall.old) packs.old.items writer.old }
     requires wanted { IsTrue H.tells → room_on (H.meaning hall.old).state (H.facts hall.old).units
-        vols.old.items writer.old (key.now, payload.now) ≡ Wanted }
+        (vols_of packs.old.items) writer.old (key.now, payload.now) ≡ Wanted }
     requires key { length key.now ≤ 255 }
     requires payload { length payload.now ≤ 32760 }
     requires due { IsDue writer.old (key.now, payload.now) }
     ensures shelf { IsTrue H.tells → PlacesBlock (key.now, payload.now) (H.facts hall.old).units
-        (H.facts hall.new).units vols.old.items vols.new.items writer.old writer.new
+        (H.facts hall.new).units (vols_of packs.old.items) (vols_of packs.new.items) writer.old writer.new
         (H.meaning hall.old) (H.meaning hall.new) done.old done.new result }
-    ensures indexes { AreIndexes (H.facts hall.new).units vols.new.items }
-    ensures ready { sound_after result ≡ true → AreReady H.tells (H.facts hall.new) (H.meaning hall.new)
-        vols.new.items known.new.items }
-    ensures slot { sound_after result ≡ true → HasSlot vols.new.items (Some writer.new) }
-    ensures same { writer.new ≡ record writer.old { inner = writer.new.inner } }
     ensures placed { OnOk result (0 < writer.new.inner.blocks) }
-    ensures base { base_of (H.facts hall.new) vols.new.items
-        ≡ base_of (H.facts hall.old) vols.old.items }
-    ensures buffers { HaveBuffers vols.new.items known.new.items }
-    ensures refused { (r : Refusal) → IsErrOf result (MachErr.Refused r) → r ≡ NoRoom }
-    ensures memory { IsErrOf result MachErr.Memory → ⊥ }
-    ensures print { IsErrOf result MachErr.Print → ⊥ }
-    ensures faults { ReportedCall (IsErrOf result MachErr.Device) (H.facts hall.old)
-        (H.facts hall.new) }
+    ensures keeps { KeepsWriter H.tells (H.facts hall.old) (H.facts hall.new) (H.meaning hall.new)
+        packs.old.items packs.new.items writer.old writer.new result }
 {
-    match make_room(hall, vols, known, writer) {
+    match make_room(hall, packs, writer) {
         Ok(()) => {
             *done = done.saturating_add(1);
-            answer_put(put_on_owned_track(hall, vols, known, writer, key, payload))
+            answer_put(put_on_owned_track(hall, packs, writer, key, payload))
         }
         Err(error) => Err(answer_room(error)),
     }

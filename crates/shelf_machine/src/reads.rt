@@ -1,224 +1,94 @@
 //! What the shelf of several mounted packs tells, read by read.
-ghost use Rattle.std.specs.Prelude.{◌≡◌, ◌^◌, ◌<◌, ℕ, List, Ok, IfSome, option_map, slice_get};
-ghost use Rattle.std.specs.List.{list_any};
+ghost use Rattle.std.specs.Prelude.{◌≡◌, ◌^◌, ◌<◌, List, IfSome, option_map, slice_get};
 ghost use Rattle.std.specs.Option.{option_copied};
 ghost use Rattle.hall_core.specs.Facts.{Attached};
-ghost use Rattle.ckd_image.specs.declared.header.Geometry.{Geometry};
-ghost use Rattle.pack_spec.specs.Bodies.{body_of};
-ghost use Rattle.pack_spec.specs.Rules.{is_named};
-ghost use Rattle.pack_spec.specs.Volume.{attr_of};
-ghost use Rattle.vol_model.specs.Shelf.{catalog_name};
-ghost use Rattle.vol_model.specs.Reading.{catalog_on, directory_size, extent_on, kind_of, name_on, set_info, volume_info};
+ghost use Rattle.vol_model.specs.Reading.{catalog_on, directory_size, extent_on, name_on, set_info, volume_info};
 ghost use Rattle.vol_model.specs.declared.contents.Run.{Run};
 ghost use Rattle.vol_model.specs.Writing.{begin_refusal, body_on, set_on};
-ghost use Rattle.vtoc_index.specs.Index.{IsOfUnit};
-ghost use Rattle.vtoc_index.specs.Names.{AreByName, name_at};
+ghost use Rattle.vtoc_index.specs.Names.{name_at};
 ghost use Rattle.vol_model.specs.declared.contents.Shelf.{Shelf};
 ghost use Rattle.shelf_machine.specs.Machine.{AreIndexes, AreInOrder};
-ghost use Rattle.shelf_machine.specs.Known.{HaveBuffers, KnowsBodies, ListsUnread};
-ghost use Rattle.shelf_machine.specs.Reads.{HasVolume, HasVolumes, IsSetOn, IsUnreadCatalog};
-ghost use Rattle.shelf_machine.specs.Unread.{broken_by, track_in};
+ghost use Rattle.shelf_machine.specs.Known.{KnowsBodies};
+ghost use Rattle.shelf_machine.specs.ReadyPacks.{caches_of, vols_of};
+ghost use Rattle.pack_machine.specs.Reads.{HasVolumes, IsUnreadCatalog};
 
-use crate::pack_cache::PackCache;
-use crate::space::volume_info;
-use crate::unread::track_of;
-use dscb_codec::{Dscb, F1};
 use ebcdic_names::Dsn;
-use vol_model::{Kind, Mode, Refusal, Run, SetInfo, VolumeInfo, is_catalog};
-use vtoc_index::{Vol, find, name_at};
-use vtoc_sets::{BodyKind, attr_of, body_kind, fits_mode, run_at, space_of};
+use pack_machine::{Pack, extent_in, has_catalog, info_in, volume_info, write_refusal_in};
+use vol_model::{Mode, Refusal, Run, SetInfo, VolumeInfo};
+use vtoc_index::name_at;
 
-// The index of the volume of this number.
-fn volume_at(vols: &[Vol], v: u8) -> Option<&Vol>
-    ensures { option_copied result ≡ slice_get vols.now v }
+// The pack of this number.
+pub(crate) fn pack_at(packs: &[Pack], v: u8) -> Option<&Pack>
+    ensures { option_copied result ≡ slice_get packs.now v }
 {
-    vols.get(usize::from(v))
+    packs.get(usize::from(v))
 }
 
 // The volume of this number in short.
-pub(crate) fn volume_on(vols: &[Vol], v: u8) -> Option<VolumeInfo>
-    requires units { (attached : List Attached) × AreIndexes attached vols.now }
-    ensures { (shelf : Shelf) → HasVolumes shelf vols.now
+pub(crate) fn volume_on(packs: &[Pack], v: u8) -> Option<VolumeInfo>
+    requires units { (attached : List Attached) × AreIndexes attached (vols_of packs.now) }
+    ensures { (shelf : Shelf) → HasVolumes shelf (vols_of packs.now)
         → result ≡ option_map volume_info (slice_get shelf.volumes v) }
 {
-    let vol = volume_at(vols, v)?;
-    Some(volume_info(vol))
+    let pack = pack_at(packs, v)?;
+    Some(volume_info(&pack.vol))
 }
 
 // The name of the k-th data set of a volume.
-pub(crate) fn name_on(vols: &[Vol], v: u8, k: u32) -> Option<Dsn>
-    requires order { AreInOrder vols.now }
-    ensures { (shelf : Shelf) → HasVolumes shelf vols.now → result ≡ name_on shelf v k }
+pub(crate) fn name_on(packs: &[Pack], v: u8, k: u32) -> Option<Dsn>
+    requires order { AreInOrder (vols_of packs.now) }
+    ensures { (shelf : Shelf) → HasVolumes shelf (vols_of packs.now) → result ≡ name_on shelf v k }
 {
-    let vol = volume_at(vols, v)?;
-    name_at(vol, k)
-}
-
-// The format 1 of the data set of this name.
-pub(crate) fn set_in<'a>(vol: &'a Vol, dsn: &Dsn) -> Option<&'a F1>
-    requires unit { (units : List Attached) × IsOfUnit units vol.now }
-    requires names { AreByName (name_at vol.now.slots.items) vol.now.by_name.items }
-    ensures { (shelf : Shelf) (n : ℕ) (has : HasVolume shelf n vol.now) → IsSetOn has.image vol.now
-        (set_on shelf n dsn.now.bytes) (option_copied result) }
-{
-    let slot = find(vol, dsn)?;
-    match &vol.slots[slot as usize] {
-        Dscb::F1(set) => Some(set),
-        _ => None,
-    }
-}
-
-// The kind of a data set, by its format 1 and by those that can't be read.
-pub(crate) fn kind_in(known: &PackCache, set: &F1) -> Kind
-    ensures { (g : Geometry) (tracks : List (List ℕ)) (extents : List Run) →
-        let body = body_of g tracks set.now.name (attr_of set.now) extents set.now.lstar in
-        track_in known.now.unread.items set.now.name ≡ broken_by set.now.name (attr_of set.now) body
-        → result ≡ kind_of body }
-{
-    match body_kind(set) {
-        BodyKind::Seq => match track_of(&known.unread, &Dsn { bytes: set.name }) {
-            Some(track) => Kind::Unreadable(track),
-            None => Kind::Seq,
-        },
-        BodyKind::Part => match track_of(&known.unread, &Dsn { bytes: set.name }) {
-            Some(track) => Kind::Unreadable(track),
-            None => Kind::Part,
-        },
-        BodyKind::Catalog => Kind::Unreadable(0),
-        BodyKind::Other => Kind::Other,
-    }
-}
-
-// A data set of a volume in short, which has so many directory blocks.
-#[tactic(auto, unfolding(vol_model::specs::Reading::set_info))]
-fn info_in(vol: &Vol, known: &PackCache, dsn: &Dsn, dir: u32) -> Option<SetInfo>
-    requires unit { (units : List Attached) × IsOfUnit units vol.now }
-    requires names { AreByName (name_at vol.now.slots.items) vol.now.by_name.items }
-    ensures info { (shelf : Shelf) (n : ℕ) → HasVolume shelf n vol.now
-        → ListsUnread shelf n known.now.unread.items
-        → dir ≡ directory_size (body_on shelf n dsn.now.bytes)
-        → result ≡ option_map set_info (set_on shelf n dsn.now.bytes) }
-    ensures lawful { IfSome result (λ info. info.attr.secondary < 2 ^ 24) }
-{
-    let set = set_in(vol, dsn)?;
-    let space = space_of(vol, set);
-    Some(SetInfo {
-        attr: attr_of(set),
-        kind: kind_in(known, set),
-        extents: space.extents,
-        tracks: space.tracks,
-        dir,
-    })
+    let pack = pack_at(packs, v)?;
+    name_at(&pack.vol, k)
 }
 
 // A data set in short, which has so many directory blocks.
-pub(crate) fn info_on(
-    vols: &[Vol],
-    known: &Vec<PackCache>,
-    v: u8,
-    dsn: &Dsn,
-    dir: u32,
-) -> Option<SetInfo>
-    requires units { (attached : List Attached) × AreIndexes attached vols.now }
-    requires order { AreInOrder vols.now }
-    requires buffers { HaveBuffers vols.now known.now.items }
-    ensures info { (shelf : Shelf) → HasVolumes shelf vols.now → KnowsBodies shelf known.now.items
+pub(crate) fn info_on(packs: &[Pack], v: u8, dsn: &Dsn, dir: u32) -> Option<SetInfo>
+    requires units { (attached : List Attached) × AreIndexes attached (vols_of packs.now) }
+    requires order { AreInOrder (vols_of packs.now) }
+    ensures info { (shelf : Shelf) → HasVolumes shelf (vols_of packs.now) → KnowsBodies shelf (caches_of packs.now)
         → dir ≡ directory_size (body_on shelf v dsn.now.bytes)
         → result ≡ option_map set_info (set_on shelf v dsn.now.bytes) }
     ensures lawful { IfSome result (λ info. info.attr.secondary < 2 ^ 24) }
 {
-    let vol = volume_at(vols, v)?;
-    info_in(vol, &known[usize::from(v)], dsn, dir)
-}
-
-// The k-th extent of a data set of a volume.
-fn extent_in(vol: &Vol, dsn: &Dsn, k: u8) -> Option<Run>
-    requires unit { (units : List Attached) × IsOfUnit units vol.now }
-    requires names { AreByName (name_at vol.now.slots.items) vol.now.by_name.items }
-    ensures { (shelf : Shelf) (n : ℕ) → HasVolume shelf n vol.now
-        → result ≡ extent_on shelf n dsn.now.bytes k }
-{
-    run_at(vol, set_in(vol, dsn)?, k)
+    let pack = pack_at(packs, v)?;
+    info_in(&pack.vol, &pack.cache, dsn, dir)
 }
 
 // The k-th extent of a data set.
-pub(crate) fn extent_on(vols: &[Vol], v: u8, dsn: &Dsn, k: u8) -> Option<Run>
-    requires units { (attached : List Attached) × AreIndexes attached vols.now }
-    requires order { AreInOrder vols.now }
-    ensures { (shelf : Shelf) → HasVolumes shelf vols.now
+pub(crate) fn extent_on(packs: &[Pack], v: u8, dsn: &Dsn, k: u8) -> Option<Run>
+    requires units { (attached : List Attached) × AreIndexes attached (vols_of packs.now) }
+    requires order { AreInOrder (vols_of packs.now) }
+    ensures { (shelf : Shelf) → HasVolumes shelf (vols_of packs.now)
         → result ≡ extent_on shelf v dsn.now.bytes k }
 {
-    let vol = volume_at(vols, v)?;
-    extent_in(vol, dsn, k)
-}
-
-// Why blocks can't be written to a data set of a volume, if there is a reason.
-pub(crate) fn write_refusal_in(
-    vol: &Vol,
-    known: &PackCache,
-    dsn: &Dsn,
-    mode: Mode,
-) -> Option<Refusal>
-    requires unit { (units : List Attached) × IsOfUnit units vol.now }
-    requires names { AreByName (name_at vol.now.slots.items) vol.now.by_name.items }
-    ensures { (shelf : Shelf) (n : ℕ) → HasVolume shelf n vol.now
-        → ListsUnread shelf n known.now.unread.items → result
-        ≡ begin_refusal shelf (record { v = n; dsn = dsn.now; mode = mode }) }
-{
-    let Some(set) = set_in(vol, dsn) else {
-        return Some(Refusal::NoSet);
-    };
-    if !fits_mode(set, mode) {
-        return Some(Refusal::WrongKind);
-    }
-    match kind_in(known, set) {
-        Kind::Unreadable(track) => Some(Refusal::Unreadable(track)),
-        _ => None,
-    }
+    let pack = pack_at(packs, v)?;
+    extent_in(&pack.vol, dsn, k)
 }
 
 // Why blocks can't be written to a data set, if there is a reason.
-pub(crate) fn write_refusal(
-    vols: &[Vol],
-    known: &Vec<PackCache>,
-    v: u8,
-    dsn: &Dsn,
-    mode: Mode,
-) -> Option<Refusal>
-    requires units { (attached : List Attached) × AreIndexes attached vols.now }
-    requires order { AreInOrder vols.now }
-    requires buffers { HaveBuffers vols.now known.now.items }
-    ensures { (shelf : Shelf) → HasVolumes shelf vols.now → KnowsBodies shelf known.now.items → result
+pub(crate) fn write_refusal(packs: &[Pack], v: u8, dsn: &Dsn, mode: Mode) -> Option<Refusal>
+    requires units { (attached : List Attached) × AreIndexes attached (vols_of packs.now) }
+    requires order { AreInOrder (vols_of packs.now) }
+    ensures { (shelf : Shelf) → HasVolumes shelf (vols_of packs.now) → KnowsBodies shelf (caches_of packs.now) → result
         ≡ begin_refusal shelf (record { v = v; dsn = dsn.now; mode = mode }) }
 {
-    match volume_at(vols, v) {
-        Some(vol) => write_refusal_in(vol, &known[usize::from(v)], dsn, mode),
+    match pack_at(packs, v) {
+        Some(pack) => write_refusal_in(&pack.vol, &pack.cache, dsn, mode),
         None => Some(Refusal::NoVolume),
     }
 }
 
 // The track at which the catalog of a volume can't be read; `None` where there is no catalog.
-pub(crate) fn unread_catalog(vols: &[Vol], v: u8) -> Option<u16>
-    ensures { (shelf : Shelf) → HasVolumes shelf vols.now
+pub(crate) fn unread_catalog(packs: &[Pack], v: u8) -> Option<u16>
+    ensures { (shelf : Shelf) → HasVolumes shelf (vols_of packs.now)
         → IsUnreadCatalog result (catalog_on shelf v) }
 {
-    let vol = volume_at(vols, v)?;
-    if has_catalog(vol) { Some(0) } else { None }
-}
-
-// Whether one of its data sets holds the catalog.
-fn has_catalog(vol: &Vol) -> bool
-    ensures { result ≡ list_any (λ d. is_named catalog_name (Ok d)) vol.now.slots.items }
-{
-    vol.slots.iter().any(is_named_catalog)
-}
-
-// Whether a DSCB is the format 1 of the set that holds the catalog.
-fn is_named_catalog(dscb: &Dscb) -> bool
-    ensures { result ≡ is_named catalog_name (Ok dscb.now) }
-{
-    match dscb {
-        Dscb::F1(set) => is_catalog(&Dsn { bytes: set.name }),
-        _ => false,
+    let pack = pack_at(packs, v)?;
+    if has_catalog(&pack.vol) {
+        Some(0)
+    } else {
+        None
     }
 }

@@ -3,7 +3,7 @@ ghost use Rattle.std.specs.Prelude.{◌≡◌, false, true, IsErrOf};
 ghost use Rattle.vol_model.specs.Calls.{sound_after};
 ghost use Rattle.shelf_machine.specs.Reporting.{Reports};
 
-use crate::area_start::AreaStart;
+use pack_machine::AreaStart;
 use vol_model::{Block, CheckErr, MachErr, Place, ReadErr, StoreErr};
 
 // Ends the soundness of a machine, and gives the error that it answers.

@@ -11,6 +11,6 @@ pub(crate) struct Writer {
     pub(crate) dsn: Dsn,
     pub(crate) mode: Mode,
     pub(crate) inner: seq_access::Writer,
-    pub(crate) first: bool,
+    pub(crate) owes_end_of_file: bool,
     pub(crate) is_open: bool,
 }

@@ -10,21 +10,20 @@ ghost use Rattle.vol_model.specs.declared.contents.Shelf.{Shelf};
 ghost use Rattle.vtoc_index.specs.Index.{IsOfUnit, first_named};
 ghost use Rattle.vtoc_index.specs.Names.{AreByName, name_at};
 ghost use Rattle.shelf_machine.specs.Fronts.{IsFrontIn};
-ghost use Rattle.shelf_machine.specs.Known.{HaveBuffers};
 ghost use Rattle.shelf_machine.specs.Machine.{AreIndexes, AreInOrder, AreKept, base_of, is_open_in, placed_in, shelf_under, units_of, writer_in};
 ghost use Rattle.shelf_machine.specs.Opening.{names_of};
+ghost use Rattle.shelf_machine.specs.OpenWriters.{HasWriter, KeepsPuts};
 ghost use Rattle.shelf_machine.specs.Pending.{HasSlot, IsBegunAt, IsBegunOn, IsFor, IsInSlot, IsPendingBy, Settles, closed};
-ghost use Rattle.shelf_machine.specs.Reads.{HasVolume};
+ghost use Rattle.pack_machine.specs.Reads.{HasVolume};
 ghost use Rattle.shelf_machine.specs.Putting.{DidPut, IsDue, PutsOn};
-ghost use Rattle.shelf_machine.specs.Ready.{AreReady, LeavesPacks};
-ghost use Rattle.shelf_machine.specs.Reporting.{reported};
+ghost use Rattle.shelf_machine.specs.ReadyPacks.{AreAlike, AreReady, LeavesPacks, caches_of, vols_of};
+ghost use Rattle.pack_machine.specs.Ready.{reported};
 
-use crate::area_start::AreaStart;
 use crate::operations::{extend_at, operate};
-use crate::pack_cache::{PackCache, forget_read_track};
 use crate::writer::Writer;
 use ebcdic_names::Dsn;
 use hall_core::{Device, Hall};
+use pack_machine::{AreaStart, Pack};
 use seq_access::{PutErr, abandon, begin, put};
 use std::alloc::Global;
 use vol_model::{Mode, Op, Place, StoreErr, is_catalog};
@@ -64,24 +63,22 @@ pub(crate) fn abandoned(writer: Option<Writer>) -> Option<Writer>
 pub(crate) fn operate_settled<H: Hall>(
     alloc: Global,
     hall: &mut H,
-    vols: &mut Vec<Vol>,
-    known: &mut Vec<PackCache>,
+    packs: &mut Vec<Pack>,
     writer: &mut Option<Writer>,
     op: &Op,
 ) -> Result<(), StoreErr>
     requires ready { AreReady H.tells (H.facts hall.old) (H.meaning hall.old)
-        vols.old.items known.old.items }
+        packs.old.items }
     requires lawful { IsLawfulOp op.now }
-    requires slot { HasSlot vols.old.items writer.old }
+    requires slot { HasSlot (vols_of packs.old.items) writer.old }
     requires pending { IsTrue H.tells → IsPendingBy (H.meaning hall.old) (H.facts hall.old).units
-        vols.old.items writer.old }
+        (vols_of packs.old.items) writer.old }
     ensures leaves { LeavesPacks H.tells op.now (H.facts hall.old) (H.facts hall.new)
-        (H.meaning hall.old) (H.meaning hall.new) vols.old.items vols.new.items
-        known.old.items known.new.items result }
+        (H.meaning hall.old) (H.meaning hall.new) packs.old.items packs.new.items result }
     ensures writer { sound_after (reported result) ≡ true → writer.new ≡ None }
 {
     match settle(hall, writer) {
-        Ok(()) => operate(alloc, hall, vols, known, op),
+        Ok(()) => operate(alloc, hall, packs, op),
         Err(_) => Err(StoreErr::Device),
     }
 }
@@ -89,41 +86,39 @@ pub(crate) fn operate_settled<H: Hall>(
 // Opens a writer on a data set to which blocks can be written, once nothing is pending; false where there is no such set.
 pub(crate) fn open_writer<H: Hall>(
     hall: &mut H,
-    vols: &mut Vec<Vol>,
+    packs: &mut Vec<Pack>,
     writer: &mut Option<Writer>,
     v: u8,
     dsn: &Dsn,
     mode: Mode,
     front: AreaStart,
 ) -> Result<bool, Device>
-    requires indexes { AreIndexes (H.facts hall.old).units vols.old.items }
-    requires order { AreInOrder vols.old.items }
-    requires kept { IsTrue H.tells
-        → AreKept (H.meaning hall.old).state (H.facts hall.old).units vols.old.items }
+    requires ready { AreReady H.tells (H.facts hall.old) (H.meaning hall.old)
+        packs.old.items }
     requires pending { IsTrue H.tells → IsPendingBy (H.meaning hall.old) (H.facts hall.old).units
-        vols.old.items writer.old }
-    requires slot { HasSlot vols.old.items writer.old }
-    requires well { let shelf = shelf_under (names_of (H.facts hall.old).units (units_of vols.old.items))
+        (vols_of packs.old.items) writer.old }
+    requires slot { HasSlot (vols_of packs.old.items) writer.old }
+    requires well { let shelf = shelf_under (names_of (H.facts hall.old).units (units_of (vols_of packs.old.items)))
         (H.meaning hall.old).state in
         IsTrue H.tells → begin_refusal shelf (record { v = v; dsn = dsn.now; mode = mode }) ≡ None }
-    requires front { let shelf = shelf_under (names_of (H.facts hall.old).units (units_of vols.old.items))
+    requires front { let shelf = shelf_under (names_of (H.facts hall.old).units (units_of (vols_of packs.old.items)))
         (H.meaning hall.old).state in
         IsTrue H.tells → IsFrontIn mode front (body_on shelf v dsn.now.bytes) }
     ensures files { IsTrue H.tells → Settles (H.meaning hall.old) (H.meaning hall.new) result }
     ensures opened { IfOk result (λ is. is ≡ is_open_in writer.new) }
-    ensures slot { HasSlot vols.old.items writer.new }
+    ensures slot { HasSlot (vols_of packs.old.items) writer.new }
     ensures pending { IsTrue H.tells → IsPendingBy (H.meaning hall.new) (H.facts hall.new).units
-        vols.old.items writer.new }
+        (vols_of packs.old.items) writer.new }
     ensures writer { IsTrue H.tells → IfOk result (λ is. is ≡ true
-        → writer_in (H.meaning hall.new).state (H.facts hall.new).units vols.old.items writer.new
+        → writer_in (H.meaning hall.new).state (H.facts hall.new).units (vols_of packs.old.items) writer.new
         ≡ begun (record { v = v; dsn = dsn.now; mode = mode })) }
     ensures failed { OnErr result (writer.new ≡ writer.old) }
-    ensures indexes { vols.new.items ≡ vols.old.items }
+    ensures same { AreAlike packs.old.items packs.new.items }
     ensures faults { DeviceCall (H.facts hall.old) (H.facts hall.new) result }
 {
     match settle(hall, writer) {
         Ok(()) => {
-            *writer = writer_on(hall, vols, v, dsn, mode, front);
+            *writer = writer_on(hall, packs, v, dsn, mode, front);
             Ok(writer.is_some())
         }
         Err(_) => Err(Device),
@@ -133,29 +128,29 @@ pub(crate) fn open_writer<H: Hall>(
 // A writer after the blocks of the data set of this name on the pack of this number, where there is one.
 fn writer_on<H: Hall>(
     hall: &mut H,
-    vols: &mut Vec<Vol>,
+    packs: &mut Vec<Pack>,
     v: u8,
     dsn: &Dsn,
     mode: Mode,
     front: AreaStart,
 ) -> Option<Writer>
-    requires order { AreInOrder vols.old.items }
-    ensures slot { HasSlot vols.old.items result }
+    requires order { AreInOrder (vols_of packs.old.items) }
+    ensures slot { HasSlot (vols_of packs.old.items) result }
     ensures target { IfSome result (IsFor v dsn.now mode) }
-    ensures begun { (files : List File) (attached : List Attached) → AreIndexes attached vols.old.items
-        → AreKept files attached vols.old.items
-        → let shelf = shelf_under (names_of attached (units_of vols.old.items)) files in
+    ensures begun { (files : List File) (attached : List Attached) → AreIndexes attached (vols_of packs.old.items)
+        → AreKept files attached (vols_of packs.old.items)
+        → let shelf = shelf_under (names_of attached (units_of (vols_of packs.old.items))) files in
         begin_refusal shelf (record { v = v; dsn = dsn.now; mode = mode }) ≡ None
         → IsFrontIn mode front (body_on shelf v dsn.now.bytes)
-        → IfSome result (IsBegunOn files attached vols.old.items) }
+        → IfSome result (IsBegunOn files attached (vols_of packs.old.items)) }
     ensures hall { hall.new ≡ hall.old }
-    ensures indexes { vols.new.items ≡ vols.old.items }
+    ensures same { AreAlike packs.old.items packs.new.items }
 {
     let k = usize::from(v);
-    if k >= vols.len() {
+    if k >= packs.len() {
         return None;
     }
-    writer_at(hall, &mut vols[k], v, dsn, mode, front)
+    writer_at(hall, &mut packs[k].vol, v, dsn, mode, front)
 }
 
 // The same on this pack.
@@ -190,7 +185,7 @@ fn writer_at<H: Hall>(
         dsn: *dsn,
         mode,
         inner,
-        first: front.first,
+        owes_end_of_file: front.owes_end_of_file,
         is_open: true,
     })
 }
@@ -198,77 +193,59 @@ fn writer_at<H: Hall>(
 // Puts a block after those of the open writer, where its set owns a track for it.
 pub(crate) fn put_on_owned_track<H: Hall>(
     hall: &mut H,
-    vols: &mut Vec<Vol>,
-    known: &mut Vec<PackCache>,
+    packs: &mut Vec<Pack>,
     writer: &mut Writer,
     key: &[u8],
     payload: &[u8],
 ) -> Result<Place, PutErr>
-    requires ready { AreReady H.tells (H.facts hall.old) (H.meaning hall.old)
-        vols.old.items known.old.items }
-    requires slot { HasSlot vols.old.items (Some writer.old) }
-    requires pending { IsTrue H.tells → IsPendingBy (H.meaning hall.old) (H.facts hall.old).units
-        vols.old.items (Some writer.old) }
+    requires writer { HasWriter H.tells (H.facts hall.old) (H.meaning hall.old) packs.old.items writer.old }
     requires key { length key.now ≤ 255 }
     requires payload { length payload.now ≤ 32760 }
     requires due { IsDue writer.old (key.now, payload.now) }
-    ensures files { let names = names_of (H.facts hall.old).units (units_of vols.old.items) in
-        IsTrue H.tells → PutsOn names (H.facts hall.new).units vols.old.items vols.new.items
-        known.new.items writer.new (H.meaning hall.old) (H.meaning hall.new) result }
-    ensures did { let names = names_of (H.facts hall.old).units (units_of vols.old.items) in
+    ensures files { let names = names_of (H.facts hall.old).units (units_of (vols_of packs.old.items)) in
+        IsTrue H.tells → PutsOn names (H.facts hall.new).units (vols_of packs.old.items)
+        (vols_of packs.new.items) (caches_of packs.new.items) writer.new (H.meaning hall.old) (H.meaning hall.new) result }
+    ensures did { let names = names_of (H.facts hall.old).units (units_of (vols_of packs.old.items)) in
         let files = (H.meaning hall.old).state in
         IsTrue H.tells → DidPut (shelf_under names files)
-        (placed_in files (H.facts hall.old).units vols.old.items writer.old) (key.now, payload.now)
-        (placed_in (H.meaning hall.new).state (H.facts hall.new).units vols.new.items writer.new)
+        (placed_in files (H.facts hall.old).units (vols_of packs.old.items) writer.old) (key.now, payload.now)
+        (placed_in (H.meaning hall.new).state (H.facts hall.new).units (vols_of packs.new.items) writer.new)
         result }
-    ensures indexes { AreIndexes (H.facts hall.new).units vols.new.items }
+    ensures indexes { AreIndexes (H.facts hall.new).units (vols_of packs.new.items) }
     ensures ready { ¬ IsErrOf result PutErr.Device → AreReady H.tells (H.facts hall.new) (H.meaning hall.new)
-        vols.new.items known.new.items }
-    ensures slot { HasSlot vols.new.items (Some writer.new) }
+        packs.new.items }
+    ensures slot { HasSlot (vols_of packs.new.items) (Some writer.new) }
     ensures same { writer.new ≡ record writer.old { inner = writer.new.inner } }
     ensures placed { OnOk result (0 < writer.new.inner.blocks) }
     ensures stands { OnErr result (writer.new ≡ writer.old) }
-    ensures base { base_of (H.facts hall.new) vols.new.items
-        ≡ base_of (H.facts hall.old) vols.old.items }
-    ensures buffers { HaveBuffers vols.new.items known.new.items }
+    ensures base { base_of (H.facts hall.new) (vols_of packs.new.items)
+        ≡ base_of (H.facts hall.old) (vols_of packs.old.items) }
     ensures faults { ReportedCall (IsErrOf result PutErr.Device) (H.facts hall.old)
         (H.facts hall.new) }
 {
-    let k = usize::from(writer.v);
-    forget_read_track(known, k);
-    put(hall, &mut vols[k], &mut writer.inner, key, payload)
+    let pack = &mut packs[usize::from(writer.v)];
+    pack.cache.buf.forget();
+    put(hall, &mut pack.vol, &mut writer.inner, key, payload)
 }
 
 // More tracks for the set of the open writer, once what it put is durable; it stands after the same blocks then.
 pub(crate) fn make_room<H: Hall>(
     hall: &mut H,
-    vols: &mut Vec<Vol>,
-    known: &mut Vec<PackCache>,
+    packs: &mut Vec<Pack>,
     writer: &mut Writer,
 ) -> Result<(), StoreErr>
-    requires ready { AreReady H.tells (H.facts hall.old) (H.meaning hall.old)
-        vols.old.items known.old.items }
-    requires slot { HasSlot vols.old.items (Some writer.old) }
-    requires pending { IsTrue H.tells → IsPendingBy (H.meaning hall.old) (H.facts hall.old).units
-        vols.old.items (Some writer.old) }
+    requires writer { HasWriter H.tells (H.facts hall.old) (H.meaning hall.old) packs.old.items writer.old }
     ensures leaves { LeavesPacks H.tells (Op.Extend writer.old.v writer.old.dsn) (H.facts hall.old) (H.facts hall.new)
-        (H.meaning hall.old) (H.meaning hall.new) vols.old.items vols.new.items
-        known.old.items known.new.items result }
-    ensures slot { sound_after (reported result) ≡ true → HasSlot vols.new.items (Some writer.new) }
-    ensures pending { IsTrue H.tells → sound_after (reported result) ≡ true
-        → IsPendingBy (H.meaning hall.new) (H.facts hall.new).units vols.new.items (Some writer.new) }
-    ensures puts { IsTrue H.tells → sound_after (reported result) ≡ true
-        → placed_in (H.meaning hall.new).state (H.facts hall.new).units vols.new.items writer.new
-        ≡ placed_in (H.meaning hall.old).state (H.facts hall.old).units vols.old.items writer.old }
-    ensures same { let inner = record (writer.old.inner) { slot = writer.new.inner.slot } in
-        writer.new ≡ record writer.old { inner = inner } }
+        (H.meaning hall.old) (H.meaning hall.new) packs.old.items packs.new.items result }
+    ensures stands { KeepsPuts H.tells (H.facts hall.old) (H.facts hall.new) (H.meaning hall.old)
+        (H.meaning hall.new) packs.old.items packs.new.items writer.old writer.new result }
     ensures memory { ¬ IsErrOf result StoreErr.Memory }
     ensures low { writer.old.inner.last.tt < 65536 }
 {
     // read, so that its range is known
     let _track = writer.inner.last.tt;
     match hall.sync() {
-        Ok(()) => extend_durably(hall, vols, known, writer),
+        Ok(()) => extend_durably(hall, packs, writer),
         Err(_) => Err(StoreErr::Device),
     }
 }
@@ -276,31 +253,19 @@ pub(crate) fn make_room<H: Hall>(
 // The same, where all is durable already.
 fn extend_durably<H: Hall>(
     hall: &mut H,
-    vols: &mut Vec<Vol>,
-    known: &mut Vec<PackCache>,
+    packs: &mut Vec<Pack>,
     writer: &mut Writer,
 ) -> Result<(), StoreErr>
-    requires ready { AreReady H.tells (H.facts hall.old) (H.meaning hall.old)
-        vols.old.items known.old.items }
+    requires writer { HasWriter H.tells (H.facts hall.old) (H.meaning hall.old) packs.old.items writer.old }
     requires durable { IsTrue H.tells → IsDurable (H.meaning hall.old) }
-    requires slot { HasSlot vols.old.items (Some writer.old) }
-    requires pending { IsTrue H.tells → IsPendingBy (H.meaning hall.old) (H.facts hall.old).units
-        vols.old.items (Some writer.old) }
     ensures leaves { LeavesPacks H.tells (Op.Extend writer.old.v writer.old.dsn) (H.facts hall.old) (H.facts hall.new)
-        (H.meaning hall.old) (H.meaning hall.new) vols.old.items vols.new.items
-        known.old.items known.new.items result }
-    ensures slot { sound_after (reported result) ≡ true → HasSlot vols.new.items (Some writer.new) }
-    ensures pending { IsTrue H.tells → sound_after (reported result) ≡ true
-        → IsPendingBy (H.meaning hall.new) (H.facts hall.new).units vols.new.items (Some writer.new) }
-    ensures puts { IsTrue H.tells → sound_after (reported result) ≡ true
-        → placed_in (H.meaning hall.new).state (H.facts hall.new).units vols.new.items writer.new
-        ≡ placed_in (H.meaning hall.old).state (H.facts hall.old).units vols.old.items writer.old }
-    ensures same { let inner = record (writer.old.inner) { slot = writer.new.inner.slot } in
-        writer.new ≡ record writer.old { inner = inner } }
+        (H.meaning hall.old) (H.meaning hall.new) packs.old.items packs.new.items result }
+    ensures stands { KeepsPuts H.tells (H.facts hall.old) (H.facts hall.new) (H.meaning hall.old)
+        (H.meaning hall.new) packs.old.items packs.new.items writer.old writer.new result }
     ensures memory { ¬ IsErrOf result StoreErr.Memory }
 {
-    extend_at(hall, vols, known, writer.v, &writer.dsn)?;
-    match find_slot(hall, &vols[usize::from(writer.v)], writer) {
+    extend_at(hall, packs, writer.v, &writer.dsn)?;
+    match find_slot(hall, &packs[usize::from(writer.v)].vol, writer) {
         Ok(()) => Ok(()),
         Err(Device) => Err(StoreErr::Device),
     }

@@ -1,20 +1,20 @@
 -- Data sets of which the one of a name is changed, but in its name and extents.
-use Rattle.std.proofs.Common.{◌≡◌, ◌*◌, ◌==◌, ℕ, Bool, true, false, cond, not, ◌||◌, List, [], ◌∷◌, ◌++◌, map, filter, refl, sym, ◌∙◌, ap, ap₂, subst}
+use Rattle.std.proofs.Common.{◌≡◌, ◌*◌, ℕ, Bool, true, false, cond, List, [], ◌∷◌, ◌++◌, map, filter, refl, sym, ◌∙◌, ap, ap₂, subst}
 use Rattle.std.specs.Prelude.{nat_le, nat_lt, if◌then◌else◌}
-use Rattle.std.specs.List.{count_by, flat_map, list_any, range_with_len}
+use Rattle.std.specs.List.{count_by, range_with_len}
 use Rattle.std.specs.List.Sorted.{IsSortedBy, ties}
 use Rattle.ckd_image.specs.Device.{row_of}
 use Rattle.pack_spec.specs.Owned.{overlap_faults, room_faults, volume_faults}
 use Rattle.pack_spec.specs.Label.{tracks_of}
 use Rattle.pack_spec.specs.declared.MountErr.TheVariants.{Overlap, VtocFull}
-use Rattle.shelf_laws.proofs.SetChanges.{KeepsExtents, KeepsNames, changed-ascending, filter_same, slots_kept}
+use Rattle.shelf_laws.proofs.SetChanges.{KeepsExtents, KeepsNames, all_extents, changed-ascending, filter_same, slots_kept, unowned_kept}
 use Rattle.vol_model.specs.declared.contents.DataSet.{DataSet}
 use Rattle.vol_model.specs.declared.contents.Run.{Run}
 use Rattle.vol_model.specs.declared.contents.Volume.{Volume}
 use Rattle.ebcdic_names.specs.declared.names.Dsn.{Dsn}
 use Rattle.vol_model.specs.Order.{IsAscending, in_order, is_before}
 use Rattle.vol_model.specs.Shelf.{changed, has_name, with_set}
-use Rattle.vol_model.specs.Space.{covers, free_runs, is_in, is_unowned, runs_of, usable_cylinders}
+use Rattle.vol_model.specs.Space.{free_runs, is_in, is_unowned, runs_of, usable_cylinders}
 use Rattle.vol_model.proofs.InOrder.{in_order-sorted, in_order-stable, in_order-unique}
 use Rattle.vol_model.proofs.Steps.{ascending_in_order}
 
@@ -51,31 +51,15 @@ module _ (name : List ℕ) (f : DataSet → DataSet) (names : KeepsNames f) (set
 
 -- ---- extents that stay
 
-module _ (name : List ℕ) (f : DataSet → DataSet) (extents : KeepsExtents f) where
-  extents_kept : (x : DataSet) (b : Bool) → (if b then f x else x).extents ≡ x.extents
-  extents_kept x true = extents x
-  extents_kept x false = refl
+module _ (name : List ℕ) (f : DataSet → DataSet) (extents : KeepsExtents f) (volume : Volume) where
+  pub free_kept : free_runs (with_set volume name f) ≡ free_runs volume
+  free_kept =
+      let limit = usable_cylinders volume.geometry * (row_of volume.geometry.device).heads in
+      ap runs_of (filter_same (is_unowned (with_set volume name f)) (is_unowned volume) (unowned_kept name f extents volume) (range_with_len 0 limit))
 
-  all_extents : (sets : List DataSet) → flat_map (λ (x : DataSet). x.extents) (changed name f sets) ≡ flat_map (λ (x : DataSet). x.extents) sets
-  all_extents [] = refl
-  all_extents (x ∷ sets) = ap (λ (l : List Run). l ++ flat_map (λ (x : DataSet). x.extents) (changed name f sets)) (extents_kept x (has_name name x)) ∙ ap (λ (l : List Run). x.extents ++ l) (all_extents sets)
-
-  any_extents : (track : ℕ) (sets : List DataSet) → list_any (λ (x : DataSet). covers x.extents track) (changed name f sets) ≡ list_any (λ (x : DataSet). covers x.extents track) sets
-  any_extents track [] = refl
-  any_extents track (x ∷ sets) = ap (λ (l : List Run). covers l track || list_any (λ (x : DataSet). covers x.extents track) (changed name f sets)) (extents_kept x (has_name name x)) ∙ ap (λ b. covers x.extents track || b) (any_extents track sets)
-
-  module _ (volume : Volume) where
-    unowned_kept : (track : ℕ) → is_unowned (with_set volume name f) track ≡ is_unowned volume track
-    unowned_kept track = ap (λ b. not (track == 0 || (is_in track volume.vtoc || b))) (any_extents track volume.sets)
-
-    pub free_kept : free_runs (with_set volume name f) ≡ free_runs volume
-    free_kept =
-        let limit = usable_cylinders volume.geometry * (row_of volume.geometry.device).heads in
-        ap runs_of (filter_same (is_unowned (with_set volume name f)) (is_unowned volume) unowned_kept (range_with_len 0 limit))
-
-    -- the rules that the volume breaks as a whole
-    pub faults_kept : volume_faults (with_set volume name f) ≡ volume_faults volume
-    unfolding volume_faults overlap_faults room_faults
-    faults_kept = ap₂
-        (λ (l : List Run) (n : ℕ). map Overlap (filter (λ t. nat_le 2 (count_by (is_in t) (record { start = 0; len = 1 } ∷ volume.vtoc ∷ l))) (range_with_len 0 (tracks_of volume.geometry))) ++ (if nat_lt volume.slots n then VtocFull n ∷ [] else []))
-        (all_extents volume.sets) (slots_kept name f extents volume)
+  -- the rules that the volume breaks as a whole
+  pub faults_kept : volume_faults (with_set volume name f) ≡ volume_faults volume
+  unfolding volume_faults overlap_faults room_faults
+  faults_kept = ap₂
+      (λ (l : List Run) (n : ℕ). map Overlap (filter (λ t. nat_le 2 (count_by (is_in t) (record { start = 0; len = 1 } ∷ volume.vtoc ∷ l))) (range_with_len 0 (tracks_of volume.geometry))) ++ (if nat_lt volume.slots n then VtocFull n ∷ [] else []))
+      (all_extents name f extents volume.sets) (slots_kept name f extents volume)

@@ -1,12 +1,10 @@
 -- The first and the next step in carrying out a plan, and a step that is left out.
-use Rattle.std.proofs.Common.{◌≡◌, ◌+◌, ℕ, suc, Bool, true, false, cond, not, ◌||◌, List, [], ◌∷◌, length, take, drop, Option, Some, None, Ok, refl, sym, ap, ◌∙◌, subst, arith}
-use Rattle.std.specs.Prelude.{is_none, nat_eq, nat_lt, position, slice_get}
-use Rattle.std.specs.List.{list_any, position_or_len}
-use Rattle.std.proofs.lemmas.Bool.Decides.{nat_tests}
+use Rattle.std.proofs.Common.{◌≡◌, ◌+◌, ℕ, suc, List, length, take, drop, Option, Some, None, Ok, refl, sym, ◌∙◌, subst, arith}
+use Rattle.std.specs.Prelude.{is_none, nat_eq, slice_get}
 use Rattle.chain_spec.specs.Store.{Block as Stored}
 use Rattle.dscb_codec.specs.declared.F1.{F1}
 use Rattle.hall_core.specs.Facts.{DeviceCall, Facts, ReportedCall}
-use Rattle.pack_spec.proofs.PartBodies.{part_is}
+use Rattle.pack_spec.proofs.PartBodies.{no_position, part_is}
 use Rattle.sorted_chain.specs.Plan.{after_write, after_writes}
 use Rattle.stop_model.specs.Files.{File}
 use Rattle.stop_model.specs.Moments.{Meaning}
@@ -20,20 +18,6 @@ use Rattle.pds_directory.specs.declared.dir.Dir.{Dir}
 use Rattle.pds_directory.specs.Directories.{IsReadIn, broken_in, data_in, end_in, entries_read, part_in, tracks_in}
 use Rattle.stow_ops.specs.Stores.{IsDirPlan, SoFar, store_in}
 use Rattle.stow_ops.proofs.StoreSteps.{left_out, parted}
-
-no_position : {X : Type 0} (p : X → Bool) (xs : List X) → list_any p xs ≡ false → position p xs ≡ None
-no_position {X = X} p xs none = ap (λ (n : ℕ). cond (nat_lt n (length xs)) (Some n) None) (all xs none) ∙ ap (λ (b : Bool). cond b (Some (length xs)) None) (same (length xs))
-  where
-    more : (b c : Bool) (n m : ℕ) → (b || c) ≡ false → (c ≡ false → n ≡ m) → cond (not b) (1 + n) 0 ≡ suc m
-    more true c n m none rest = absurd (cc)
-    more false c n m none rest = omega (arith, rest none)
-
-    all : (ys : List X) → list_any p ys ≡ false → position_or_len p ys ≡ length ys
-    all [] none = refl
-    all (y ∷ ys) none = more (p y) (list_any p ys) (position_or_len p ys) (length ys) none (λ rest. all ys rest)
-
-    same : (n : ℕ) → nat_lt n n ≡ false
-    same n = grind (arith, nat_tests)
 
 -- no track breaks a body that is read
 pub whole_read : (image : List ℕ) (v : Vol) (f : F1) (n : ℕ) (es : List Entry) (bs : List Block) → part_in image v f ≡ bodies.Part n (end_in image v f) es bs → broken_in image v f ≡ None

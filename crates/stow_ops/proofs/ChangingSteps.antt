@@ -40,8 +40,9 @@ module _ {T U : Type 0} (name : List ℕ) (operation : Volume → Result Volume 
     memory = λ is. cc;
   }
 
-  pub failed_as : (e : StoreErr) → Operates {T = T} name operation v Changes old new (Err e) → Operates {T = U} name operation v Changes old new (Err e)
-  failed_as e operates = record {
+  -- and so is what fails
+  pub failed_as : (result : Result U StoreErr) (e : StoreErr) → result ≡ Err e → Operates {T = T} name operation v Changes old new (Err e) → Operates {T = U} name operation v Changes old new result
+  failed_as result e is operates = subst (Operates name operation v Changes old new) (sym is) (record {
     does = record {
       volume = operates.does.volume;
       before = operates.does.before;
@@ -53,7 +54,7 @@ module _ {T U : Type 0} (name : List ℕ) (operation : Volume → Result Volume 
     refused = λ r is. let same : e ≡ errors.Refused r = cc in operates.refused r (ap Err same);
     idle = operates.idle;
     memory = λ is. let same : e ≡ errors.Memory = cc in operates.memory (ap Err same);
-  }
+  })
 
 -- it isn't begun
 pub not_memory : (r : Refusal) → errors.Refused r ≡ errors.Memory → ⊥
@@ -71,9 +72,9 @@ failed_mounted {H = H} {T = T} meaning facts h0 h1 v0 v1 e before other memory r
     as_before : (h1 ≡ h0) × (v1 ≡ v0) → IsMounted (image_in (meaning h1) (facts h1) v0.unit) v1
     as_before same = subst (λ (h : H). IsMounted (image_in (meaning h) (facts h) v0.unit) v1) (sym same.0) (subst (λ (u : Vol). IsMounted (image_in (meaning h0) (facts h0) v0.unit) u) (sym same.1) before)
 
-pub not_operated : {T : Type 0} (name : List ℕ) (operation : Volume → Result Volume Refusal) (v : Vol) (Changes : List ℕ → List ℕ → Type 0) (old : Meaning (List File)) (counts : CountsNow old) (e : StoreErr) (volume : Volume)
-    → volume_of (image_named old.state name) ≡ Ok volume → ((r : Refusal) → e ≡ errors.Refused r → operation volume ≡ Err r) → Operates {T = T} name operation v Changes old old (Err e)
-not_operated name operation v Changes old counts e volume stands refused = record {
+pub not_operated : {T : Type 0} (name : List ℕ) (operation : Volume → Result Volume Refusal) (v : Vol) (Changes : List ℕ → List ℕ → Type 0) (old : Meaning (List File)) (counts : CountsNow old) (result : Result T StoreErr) (e : StoreErr) → result ≡ Err e → (volume : Volume)
+    → volume_of (image_named old.state name) ≡ Ok volume → ((r : Refusal) → e ≡ errors.Refused r → operation volume ≡ Err r) → Operates {T = T} name operation v Changes old old result
+not_operated name operation v Changes old counts result e answer volume stands refused = subst (Operates name operation v Changes old old) (sym answer) (record {
   does = record {
     volume = volume;
     before = stands;
@@ -85,7 +86,7 @@ not_operated name operation v Changes old counts e volume stands refused = recor
   refused = λ r is. let this : e ≡ errors.Refused r = cc in refused r this;
   idle = λ r is. same_none old counts;
   memory = λ is. same_none old counts;
-}
+})
 
 -- the index is that of the image by whatever list of the same units
 pub index_by : (us us1 : List Attached) (new : Meaning (List File)) (v v1 : Vol) → us1 ≡ us → IsMounted (image_named new.state (unit_of us v.unit).name) v1 → IsMounted (image_named new.state (unit_of us1 v.unit).name) v1

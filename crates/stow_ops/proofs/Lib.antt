@@ -1,6 +1,7 @@
 pub mod BlockWrites
 pub mod CarryLemmas
 pub mod ChainSizes
+pub mod ChangedDirs
 pub mod ChangedEntries
 pub mod ChangingSteps
 pub mod DirectoryImages

@@ -1,3 +1,4 @@
+pub mod Changes
 pub mod Entries
 pub mod Stores
 pub mod Packing

@@ -1,23 +1,15 @@
 //! An entry put into a directory, or taken out.
-ghost use Rattle.std.specs.Prelude.{◌≡◌, true, is_some, slice_get, IfOk, IsErrOf, IsTrue, OnErr, OnOk, Some};
+ghost use Rattle.std.specs.Prelude.{◌≡◌, IfOk, IsErrOf};
 ghost use Rattle.chain_spec.specs.Kept.{joined, kept};
-ghost use Rattle.dscb_codec.specs.declared.F1.{F1};
-ghost use Rattle.hall_core.specs.Facts.{unit_of};
-ghost use Rattle.hall_core.specs.Images.{image_in};
-ghost use Rattle.stop_model.specs.Moments.{IsDurable};
 ghost use Rattle.pack_spec.specs.Directories.{name_number};
 ghost use Rattle.vol_model.specs.Lawful.{IsLawfulEntry};
 ghost use Rattle.vol_model.specs.Shelf.{drop_on, enter_on};
 ghost use Rattle.vol_model.specs.declared.answers.StoreErr.{StoreErr};
-ghost use Rattle.vtoc_index.specs.Index.{IsMounted, IsOfUnit};
-ghost use Rattle.vtoc_index.specs.Names.{name_at};
-ghost use Rattle.pds_directory.specs.Directories.{IsLawfulDir, IsPacked, IsReadIn, IsReadablePart, directory_in, entries_read};
-ghost use Rattle.free_rebuild.specs.Operations.{Operates, StoreCall};
-ghost use Rattle.stow_ops.specs.Stores.{DifferOn, directory_tracks};
+ghost use Rattle.pds_directory.specs.Directories.{entries_read};
+ghost use Rattle.stow_ops.specs.Changes.{ChangesDir, HasDir};
 
 use crate::entries::{with_entry, without_entry};
 use crate::storing::store;
-use dscb_codec::Dscb;
 use ebcdic_names::Name8;
 use hall_core::Hall;
 use pds_directory::{Dir, DirEntry};
@@ -50,41 +42,11 @@ pub fn enter<H: Hall>(
     entry: &Entry,
     replace: bool,
 ) -> Result<Vec<DirEntry>, StoreErr>
-    requires unit { IsOfUnit (H.facts hall.old).units vol.old }
-    requires set { is_some (name_at vol.old.slots.items slot) ≡ true }
     requires entry { IsLawfulEntry entry.now }
-    requires part { let image = image_in (H.meaning hall.old) (H.facts hall.old) vol.old.unit in
-        IsTrue H.tells → (f : F1) → slice_get vol.old.slots.items slot ≡ Some (Dscb.F1 f)
-        → IsReadablePart image vol.old f }
-    requires packed { let image = image_in (H.meaning hall.old) (H.facts hall.old) vol.old.unit in
-        IsTrue H.tells → (f : F1) → slice_get vol.old.slots.items slot ≡ Some (Dscb.F1 f)
-        → IsPacked (directory_in image vol.old f) }
-    requires dir { IsLawfulDir dir.old }
-    requires read { let image = image_in (H.meaning hall.old) (H.facts hall.old) vol.old.unit in
-        IsTrue H.tells → (f : F1) → slice_get vol.old.slots.items slot ≡ Some (Dscb.F1 f)
-        → IsReadIn image vol.old f dir.old }
-    requires durable { IsTrue H.tells → IsDurable (H.meaning hall.old) }
-    ensures files { let image = image_in (H.meaning hall.old) (H.facts hall.old) vol.old.unit in
-        IsTrue H.tells → (f : F1) → slice_get vol.old.slots.items slot ≡ Some (Dscb.F1 f)
-        → Operates (unit_of (H.facts hall.old).units vol.old.unit).name
-        (enter_on (record { bytes = f.name }) entry.now replace) vol.new
-        (DifferOn vol.old.geometry (directory_tracks image vol.old f)) (H.meaning hall.old)
-        (H.meaning hall.new) result }
-    ensures packed { let image' = image_in (H.meaning hall.new) (H.facts hall.new) vol.old.unit in
-        IsTrue H.tells → (f : F1) → slice_get vol.old.slots.items slot ≡ Some (Dscb.F1 f)
-        → OnOk result (IsPacked (directory_in image' vol.new f)) }
-    ensures dir { let image' = image_in (H.meaning hall.new) (H.facts hall.new) vol.old.unit in
-        IsTrue H.tells → (f : F1) → slice_get vol.old.slots.items slot ≡ Some (Dscb.F1 f)
-        → OnOk result (IsReadIn image' vol.new f dir.new) }
-    ensures lawful { IsLawfulDir dir.new }
-    ensures entries { IfOk result (λ entries. entries.items
-        ≡ kept name_number (joined (entries_read dir.new))) }
-    ensures stays { OnErr result (dir.new ≡ dir.old) }
-    ensures mounted { let image' = image_in (H.meaning hall.new) (H.facts hall.new) vol.old.unit in
-        IsTrue H.tells → ¬ IsErrOf result StoreErr.Device → IsMounted image' vol.new }
-    ensures others { vol.new ≡ record vol.old { buf = vol.new.buf } }
-    ensures unit { IsOfUnit (H.facts hall.new).units vol.new }
-    ensures faults { StoreCall (H.facts hall.old) (H.facts hall.new) result }
+    requires dir { HasDir H.tells (H.facts hall.old) (H.meaning hall.old) vol.old slot dir.old }
+    ensures changes { ChangesDir H.tells (λ dsn. enter_on dsn entry.now replace) (H.facts hall.old)
+        (H.facts hall.new) (H.meaning hall.old) (H.meaning hall.new) vol.old vol.new slot dir.old
+        dir.new result }
 {
     let entries = with_entry(alloc, kept_of(alloc, dir)?, entry, replace)?;
     store(alloc, hall, vol, slot, dir, &entries)?;
@@ -106,40 +68,10 @@ pub fn drop_entry<H: Hall>(
     dir: &mut Dir,
     name: &Name8,
 ) -> Result<Vec<DirEntry>, StoreErr>
-    requires unit { IsOfUnit (H.facts hall.old).units vol.old }
-    requires set { is_some (name_at vol.old.slots.items slot) ≡ true }
-    requires part { let image = image_in (H.meaning hall.old) (H.facts hall.old) vol.old.unit in
-        IsTrue H.tells → (f : F1) → slice_get vol.old.slots.items slot ≡ Some (Dscb.F1 f)
-        → IsReadablePart image vol.old f }
-    requires packed { let image = image_in (H.meaning hall.old) (H.facts hall.old) vol.old.unit in
-        IsTrue H.tells → (f : F1) → slice_get vol.old.slots.items slot ≡ Some (Dscb.F1 f)
-        → IsPacked (directory_in image vol.old f) }
-    requires dir { IsLawfulDir dir.old }
-    requires read { let image = image_in (H.meaning hall.old) (H.facts hall.old) vol.old.unit in
-        IsTrue H.tells → (f : F1) → slice_get vol.old.slots.items slot ≡ Some (Dscb.F1 f)
-        → IsReadIn image vol.old f dir.old }
-    requires durable { IsTrue H.tells → IsDurable (H.meaning hall.old) }
-    ensures files { let image = image_in (H.meaning hall.old) (H.facts hall.old) vol.old.unit in
-        IsTrue H.tells → (f : F1) → slice_get vol.old.slots.items slot ≡ Some (Dscb.F1 f)
-        → Operates (unit_of (H.facts hall.old).units vol.old.unit).name
-        (drop_on (record { bytes = f.name }) name.now) vol.new
-        (DifferOn vol.old.geometry (directory_tracks image vol.old f)) (H.meaning hall.old)
-        (H.meaning hall.new) result }
-    ensures packed { let image' = image_in (H.meaning hall.new) (H.facts hall.new) vol.old.unit in
-        IsTrue H.tells → (f : F1) → slice_get vol.old.slots.items slot ≡ Some (Dscb.F1 f)
-        → OnOk result (IsPacked (directory_in image' vol.new f)) }
-    ensures dir { let image' = image_in (H.meaning hall.new) (H.facts hall.new) vol.old.unit in
-        IsTrue H.tells → (f : F1) → slice_get vol.old.slots.items slot ≡ Some (Dscb.F1 f)
-        → OnOk result (IsReadIn image' vol.new f dir.new) }
-    ensures lawful { IsLawfulDir dir.new }
-    ensures entries { IfOk result (λ entries. entries.items
-        ≡ kept name_number (joined (entries_read dir.new))) }
-    ensures stays { OnErr result (dir.new ≡ dir.old) }
-    ensures mounted { let image' = image_in (H.meaning hall.new) (H.facts hall.new) vol.old.unit in
-        IsTrue H.tells → ¬ IsErrOf result StoreErr.Device → IsMounted image' vol.new }
-    ensures others { vol.new ≡ record vol.old { buf = vol.new.buf } }
-    ensures unit { IsOfUnit (H.facts hall.new).units vol.new }
-    ensures faults { StoreCall (H.facts hall.old) (H.facts hall.new) result }
+    requires dir { HasDir H.tells (H.facts hall.old) (H.meaning hall.old) vol.old slot dir.old }
+    ensures changes { ChangesDir H.tells (λ dsn. drop_on dsn name.now) (H.facts hall.old)
+        (H.facts hall.new) (H.meaning hall.old) (H.meaning hall.new) vol.old vol.new slot dir.old
+        dir.new result }
 {
     let entries = without_entry(kept_of(alloc, dir)?, name)?;
     store(alloc, hall, vol, slot, dir, &entries)?;

@@ -1,17 +1,17 @@
 -- What is read of a track on which records and an end marker were written after those that stand there.
-use Rattle.std.proofs.Common.{◌≡◌, ◌<◌, ◌≤◌, ◌+◌, ◌-◌, ℕ, zero, suc, Bool, true, false, cond, List, [], ◌∷◌, ◌++◌, length, take, drop, Option, Some, None, refl, sym, ◌∙◌, ap, subst, arith, length-append, length-drop, append_assoc, leb-true}
+use Rattle.std.proofs.Common.{◌≡◌, ◌≤◌, ◌+◌, ◌-◌, ℕ, zero, suc, Bool, true, false, cond, List, [], ◌∷◌, ◌++◌, length, take, drop, Option, Some, None, refl, sym, ◌∙◌, ap, subst, arith, length-append, length-drop, append_assoc}
 use Rattle.std.specs.Prelude.{slice_range, nat_le}
 use Rattle.std.specs.Option.{option_map}
 use Rattle.std.proofs.lemmas.List.{drop-drop, drop-take, drop_at, length-take-le}
-use Rattle.ckd_image.specs.Track.{Record, IsRecord, AreRecords, end_marker, record_bytes, records_bytes}
+use Rattle.ckd_image.specs.Track.{Record, AreRecords, end_marker, record_bytes, records_bytes}
 use Rattle.ckd_image.specs.Reading.{records_of, records_behind, records_up_to, records_to_end, is_front, is_at_end, is_record_at, front_record, record_length}
 use Rattle.ckd_image.proofs.GrammarRecord.{record_reads}
 use Rattle.ckd_image.proofs.GrammarWalk.{to_end_ended, to_end_stands, up_to_zero, up_to_stands}
 use Rattle.ckd_image.proofs.Grammar.{step_end, marker_ends, read_past, reads_front}
 use Rattle.stop_model.specs.Files.{patched}
 use Rattle.track_records.specs.Updates.{length_of, offset_of, StandFrom}
-use Rattle.track_records.proofs.PatchLemmas.{take-patched, drop-patched, drop-patched_behind, length-patched, range-patched, range_alike, take_alike}
-use Rattle.track_records.proofs.StandLemmas.{Stand, stand}
+use Rattle.track_records.proofs.PatchLemmas.{take-patched, length-patched, range_alike, take_alike}
+use Rattle.track_records.proofs.StandLemmas.{stand}
 use Rattle.track_records.proofs.UpdateLemmas.{same_count, same_stand, same_front, record_fits, part_lengths}
 
 -- none of the records that stand at the front begins like an end marker

@@ -1,7 +1,7 @@
 -- What an image is on which a track goes on after its records, and ends there.
-use Rattle.std.proofs.Common.{◌≡◌, ◌≢◌, ◌⊎◌, ◌<◌, ◌≤◌, ◌+◌, ◌-◌, ◌*◌, ◌/◌, ◌%◌, ℕ, zero, suc, List, [], ◌∷◌, ◌++◌, length, take, drop, get_or, replicate, Option, Some, None, refl, sym, ◌∙◌, ap, subst, ⊎_elim, arith, length-append, length-drop, append_assoc}
+use Rattle.std.proofs.Common.{◌≡◌, ◌≢◌, ◌⊎◌, ◌<◌, ◌≤◌, ◌+◌, ◌*◌, ◌/◌, ◌%◌, ℕ, List, [], ◌∷◌, ◌++◌, length, take, drop, Option, Some, None, refl, sym, ◌∙◌, ap, subst, ⊎_elim, arith, length-append, length-drop, append_assoc}
 use Rattle.std.proofs.lemmas.Bool.{cases_lt}
-use Rattle.std.proofs.lemmas.List.{length-take-le, append-nil}
+use Rattle.std.proofs.lemmas.List.{length-take-le}
 use Rattle.std.proofs.lemmas.Nat.{from_be_bytes-to_be_bytes_2}
 use Rattle.std.specs.Int.{w16, from_be_bytes, to_be_bytes}
 use Rattle.ckd_image.specs.declared.device.DiskType.{DiskType}
@@ -9,7 +9,7 @@ use Rattle.ckd_image.specs.declared.device.DiskType.TheVariants.{D2311, D2314, D
 use Rattle.ckd_image.specs.declared.header.Geometry.{Geometry}
 use Rattle.ckd_image.specs.Device.{row_of}
 use Rattle.ckd_image.specs.Header.{HasGeometry}
-use Rattle.ckd_image.specs.Track.{Record, IsRecord, AreRecords, end_marker, count_of, record_bytes, records_bytes}
+use Rattle.ckd_image.specs.Track.{Record, IsRecord, AreRecords, end_marker, record_bytes, records_bytes}
 use Rattle.ckd_image.specs.Reading.{records_of}
 use Rattle.ckd_image.specs.Writing.{front_bytes, record_on}
 use Rattle.ckd_image.proofs.WrittenTracks.{written_whole}
@@ -21,11 +21,11 @@ use Rattle.track_records.specs.Buffers.{Buffer}
 use Rattle.track_records.specs.Calls.{HasTrack}
 use Rattle.track_records.specs.Updates.{offset_of}
 use Rattle.track_records.specs.Written.{StandsOn}
-use Rattle.track_records.specs.Appends.{record_of, end_of, start_behind, front_before, bytes_behind, continuation, place_behind, MayContinue, IsContinued, IsAppended, IsSealed, with_more}
+use Rattle.track_records.specs.Appends.{record_of, end_of, start_behind, bytes_behind, continuation, place_behind, MayContinue, IsContinued, IsAppended, IsSealed, with_more}
 use Rattle.track_records.proofs.ImageLemmas.{unit_written}
 use Rattle.track_records.proofs.PatchLemmas.{take-patched, drop-patched, length-patched}
 use Rattle.track_records.proofs.WrittenLemmas.{take-patched_within, behind, before, track_behind, track_inside}
-use Rattle.track_records.proofs.BehindLemmas.{TrackContinued, track_continued}
+use Rattle.track_records.proofs.BehindLemmas.{track_continued}
 
 -- An image over a part of one track of which bytes were written.
 pub record TrackPatched (g : Geometry) (track o : ℕ) (new image zs : List ℕ) : Type 0 where

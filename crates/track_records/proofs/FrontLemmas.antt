@@ -1,8 +1,8 @@
 -- What is read of the first records of a track, and of those that stay when bytes after them are written over.
-use Rattle.std.proofs.Common.{◌≡◌, ◌<◌, ◌≤◌, ◌+◌, ◌-◌, ◌*◌, ◌/◌, ◌%◌, ℕ, zero, suc, Bool, true, false, cond, List, [], ◌∷◌, ◌++◌, length, take, drop, Option, Some, None, refl, sym, ◌∙◌, ap, subst, arith, length-take, length-drop, leb-true}
+use Rattle.std.proofs.Common.{◌≡◌, ◌<◌, ◌≤◌, ◌+◌, ◌*◌, ◌/◌, ◌%◌, ℕ, zero, suc, Bool, true, false, cond, List, [], ◌∷◌, length, take, drop, Option, Some, None, refl, sym, ◌∙◌, ap, subst, arith, length-take, length-drop, leb-true}
 use Rattle.std.specs.Prelude.{nat_le}
 use Rattle.std.specs.Option.{option_map}
-use Rattle.std.proofs.lemmas.List.{drop-drop, drop-take, length-take-le, take_all}
+use Rattle.std.proofs.lemmas.List.{drop-take, length-take-le, take_all}
 use Rattle.std.proofs.lemmas.Slice.Eq.{bytes_eq-Decides}
 use Rattle.ckd_image.specs.declared.header.Geometry.{Geometry}
 use Rattle.ckd_image.specs.Header.{HasGeometry}
@@ -10,31 +10,15 @@ use Rattle.ckd_image.specs.Track.{Record, end_marker}
 use Rattle.ckd_image.specs.Reading.{records_of, records_behind, records_up_to, records_to_end, is_at_end, is_front, is_record_at, front_record, record_length}
 use Rattle.ckd_image.proofs.Grammar.{read_past, reads_front}
 use Rattle.stop_model.specs.Files.{patched}
+use Rattle.pack_spec.proofs.FrontRecords.{count_up}
 use Rattle.pack_spec.specs.Label.{heads_of, records_on, track_bytes, tracks_of}
 use Rattle.track_records.specs.Appends.{continuation, place_behind, start_behind}
 use Rattle.track_records.specs.Buffers.{Buffer}
 use Rattle.track_records.specs.Updates.{length_of, offset_of, StandFrom}
 use Rattle.track_records.proofs.BehindLemmas.{GoOn, go_behind, kept_on, kept_stand, offset_low, behind_first, read_up, same_front_part}
-use Rattle.track_records.proofs.ContinueLemmas.{TrackPatched, track_patched}
+use Rattle.track_records.proofs.ContinueLemmas.{track_patched}
 use Rattle.track_records.proofs.PatchLemmas.{take-patched, take_alike}
 use Rattle.track_records.proofs.StandLemmas.{Stand, stand}
-use Rattle.track_records.proofs.UpdateLemmas.{part_lengths, record_fits}
-
--- so many records are read up to one of that number
-pub count_up : (n r : ℕ) (bytes : List ℕ) (xs : List Record) → records_up_to n r bytes ≡ Some xs → length xs ≡ n
-unfolding records_up_to
-count_up zero r bytes xs is = by (nat_le 8 (length bytes)) is
-  where
-    by : (b : Bool) → cond b (Some []) None ≡ Some xs → length xs ≡ 0
-    by true e = let none : [] ≡ xs = cc in ap length (sym none)
-    by false e = cc
-count_up (suc n) r bytes xs is = by (is_at_end bytes) (is_record_at r bytes) (records_up_to n (suc r) (drop (record_length bytes) bytes)) (λ ys e. count_up n (suc r) (drop (record_length bytes) bytes) ys e) is
-  where
-    by : (b c : Bool) (o : Option (List Record)) → ((ys : List Record) → o ≡ Some ys → length ys ≡ n) → cond b None (cond c (option_map (λ ys. front_record bytes ∷ ys) o) None) ≡ Some xs → length xs ≡ suc n
-    by true c o h e = cc
-    by false true (Some ys) h e = let same : front_record bytes ∷ ys ≡ xs = cc in ap length (sym same) ∙ ap suc (h ys refl)
-    by false true None h e = cc
-    by false false o h e = cc
 
 at_end_long : (bytes : List ℕ) → is_at_end bytes ≡ true → 8 ≤ length bytes
 at_end_long bytes ends =

@@ -1,17 +1,17 @@
 -- The bytes of a track into which more records and an end marker were put, and the places of its records.
-use Rattle.std.proofs.Common.{◌≡◌, ◌≢◌, ◌<◌, ◌≤◌, ◌+◌, ◌-◌, ◌*◌, ◌/◌, ◌%◌, ℕ, zero, suc, Bool, true, false, if◌then◌else◌, IsTrue, List, [], ◌∷◌, ◌++◌, length, take, drop, get_or, refl, sym, ◌∙◌, ap, subst, arith, length-append, length-drop, append_assoc, leb-true, eqb-true}
-use Rattle.std.specs.Prelude.{slice_range, slice_index, nat_le, nat_eq, ◌&&◌, ◌==◌}
+use Rattle.std.proofs.Common.{◌≡◌, ◌≤◌, ◌+◌, ◌-◌, ◌*◌, ◌/◌, ◌%◌, ℕ, zero, suc, Bool, true, false, if◌then◌else◌, IsTrue, List, [], ◌∷◌, ◌++◌, length, take, drop, get_or, refl, sym, ◌∙◌, ap, subst, arith, length-append, length-drop, append_assoc, leb-true, eqb-true}
+use Rattle.std.specs.Prelude.{slice_range, nat_le, nat_eq, ◌&&◌}
 use Rattle.std.proofs.lemmas.List.{drop-drop, drop-take, take_at, drop_at, append-nil, length-take-le, length-map}
 use Rattle.ckd_image.specs.declared.header.Geometry.{Geometry}
 use Rattle.ckd_image.specs.Track.{Record, AreRecords, end_marker, record_bytes, records_bytes}
 use Rattle.ckd_image.specs.Reading.{is_record_at, front_record, record_length}
-use Rattle.ckd_image.specs.Writing.{front_bytes, record_on}
+use Rattle.ckd_image.specs.Writing.{front_bytes}
 use Rattle.stop_model.specs.Files.{patched}
 use Rattle.pack_spec.specs.Label.{heads_of}
 use Rattle.track_records.specs.Buffers.{Buffer, records_at, are_places, places_from}
 use Rattle.track_records.specs.Updates.{length_of, offset_of, StandFrom}
 use Rattle.track_records.specs.Appends.{start_behind, front_before, bytes_behind, continuation, place_behind, IsPutBehind}
-use Rattle.track_records.proofs.PatchLemmas.{length-patched, range-patched, take-patched}
+use Rattle.track_records.proofs.PatchLemmas.{length-patched, range-patched}
 use Rattle.track_records.proofs.PlaceLemmas.{first_place, place_stands}
 use Rattle.track_records.proofs.StandLemmas.{at_places}
 use Rattle.track_records.proofs.UpdateLemmas.{record_fits, part_lengths, places_by, places_stand, places_are}

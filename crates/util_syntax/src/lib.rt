@@ -20,6 +20,3 @@ pub use listing::{Object, Outcome, item_line, jcl_line, no_dd_line, no_program_l
 pub use operands::SynErr;
 pub use program::{SYSIN, StatementFault, bad_operand, sysin_statements};
 pub use step::{DataCards, DdIn, DdTable, StepIn};
-
-#[cfg(test)]
-mod tests;

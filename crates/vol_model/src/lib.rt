@@ -28,13 +28,10 @@ pub use machine::Machine;
 pub use moving::move_ttrs;
 pub use quiet::Quiet;
 pub use refusals::Refusal;
-pub use requests::{Op, Request, SpaceUnit, is_catalog};
+pub use requests::{Op, Request, SpaceUnit, is_catalog, volume_number};
 
 /// The most units that are mounted together.
 pub const MAX_UNITS: usize = 8;
 
 /// The most blocks of a new directory.
 pub const MAX_DIR: u32 = 2_000;
-
-#[cfg(test)]
-mod tests;

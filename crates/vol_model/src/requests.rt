@@ -1,6 +1,6 @@
 //! What is asked of the volumes that are mounted.
 ghost use Rattle.std.specs.Prelude.{◌≡◌};
-ghost use Rattle.vol_model.specs.Shelf.{is_catalog};
+ghost use Rattle.vol_model.specs.Shelf.{is_catalog, volume_number};
 
 use crate::catalogs::{CatPath, VolRefs};
 use crate::contents::{Attr, Blocks, Entry};
@@ -182,4 +182,27 @@ pub enum Op {
         /// The name of the index.
         of: Name8,
     },
+}
+
+/// The number of the volume that an operation is on.
+pub fn volume_number(op: &Op) -> u8
+    ensures { result ≡ volume_number op.now }
+{
+    match op {
+        Op::Allocate { v, .. }
+        | Op::Extend { v, .. }
+        | Op::Scratch { v, .. }
+        | Op::Rename { v, .. }
+        | Op::Empty { v, .. }
+        | Op::Fill { v, .. }
+        | Op::Area { v, .. }
+        | Op::Enter { v, .. }
+        | Op::Drop { v, .. }
+        | Op::BuildIndex { v, .. }
+        | Op::BuildGroup { v, .. }
+        | Op::DropNode { v, .. }
+        | Op::Catalog { v, .. }
+        | Op::Uncatalog { v, .. }
+        | Op::Alias { v, .. } => *v,
+    }
 }

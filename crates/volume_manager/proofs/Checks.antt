@@ -12,8 +12,8 @@ use Rattle.mount_repair.proofs.SettledTests.{scan_settled}
 use Rattle.pack_spec.specs.Volume.{volume_of, volume_with}
 use Rattle.stop_model.specs.Files.{File}
 use Rattle.stop_model.specs.Moments.{Meaning}
-use Rattle.shelf_machine.specs.Checking.{all_unread, unread_in}
-use Rattle.shelf_machine.specs.declared.unread.Unread.{Unread}
+use Rattle.pack_machine.specs.Checking.{all_unread, unread_in}
+use Rattle.pack_machine.specs.declared.unread.Unread.{Unread}
 use Rattle.vol_model.specs.declared.contents.Volume.{Volume}
 use Rattle.vol_model.specs.declared.answers.Kind.{Kind}
 use Rattle.vtoc_index.specs.Index.{IsMounted}

@@ -9,7 +9,7 @@ use Rattle.deck_cards.specs.declared.reader.DeckErr.{DeckErr}
 use Rattle.deck_cards.specs.declared.reader.DeckErr.TheVariants as deck
 use Rattle.pack_spec.specs.declared.MountErr.{MountErr}
 use Rattle.pack_spec.specs.declared.MountErr.TheVariants as mount
-use Rattle.shelf_machine.specs.declared.unread.Unread.{Unread}
+use Rattle.pack_machine.specs.declared.unread.Unread.{Unread}
 
 -- a line of text
 abbrev pub line : List ℕ → List ℕ

@@ -16,9 +16,9 @@ use Rattle.pack_spec.specs.Volume.{volume_of}
 use Rattle.vol_model.specs.declared.contents.Shelf.{Shelf}
 use Rattle.vol_model.specs.declared.contents.Volume.{Volume}
 use Rattle.vol_model.specs.Events.{Item}
-use Rattle.shelf_machine.specs.Checking.{all_unread}
+use Rattle.pack_machine.specs.Checking.{all_unread}
 use Rattle.shelf_machine.specs.Opening.{images_named}
-use Rattle.shelf_machine.specs.declared.unread.Unread.{Unread}
+use Rattle.pack_machine.specs.declared.unread.Unread.{Unread}
 use Rattle.volume_manager.specs.Lines.{check_text, deck_line, exists_line, names_listing, unit_line, words_line}
 use Rattle.volume_manager.specs.Names.{names_of}
 

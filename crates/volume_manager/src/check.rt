@@ -1,7 +1,7 @@
 //! Whether a pack is settled, and which bodies on it can't be read.
 ghost use Rattle.std.specs.Prelude.{◌≡◌, ◌≤◌, ◌⊎◌, [], List, ℕ, IfOk, IsTrue};
 ghost use Rattle.mount_repair.specs.Scans.{IsScanOf};
-ghost use Rattle.shelf_machine.specs.Checking.{unread_in};
+ghost use Rattle.pack_machine.specs.Checking.{unread_in};
 ghost use Rattle.stop_model.specs.Counts.{Rose};
 ghost use Rattle.stop_model.specs.Files.{file_of};
 ghost use Rattle.vtoc_sets.specs.Sets.{volume_in};
@@ -15,7 +15,7 @@ use crate::mount::scan_file;
 use crate::text::check_text;
 use hall_core::Hall;
 use mount_repair::Scan;
-use shelf_machine::{Unread, unread_of};
+use pack_machine::{Unread, unread_of};
 use std::alloc::{AllocError, Global};
 
 /// Prints whether the pack in a file is settled, and then each data set but SYSCTLG whose body can't be read, with the

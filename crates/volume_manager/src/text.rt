@@ -5,7 +5,7 @@ ghost use Rattle.volume_manager.specs.Lines.{broken_place, check_line, check_tex
 use crate::reason::{push_deck_reason, push_number, push_reason};
 use ebcdic_names::{Serial, push_name_in_ascii};
 use job_deck::DeckErr;
-use shelf_machine::Unread;
+use pack_machine::Unread;
 use std::alloc::{AllocError, Global};
 use vtoc_index::MountErr;
 

@@ -1,9 +1,9 @@
 -- What is left ends, breaks, or begins with a record.
-use Rattle.std.proofs.Common.{◌≡◌, ◌+◌, ◌-◌, ◌≤◌, suc, true, false, length, drop, Some, sym, ap, ◌∙◌, arith}
-use Rattle.std.proofs.lemmas.List.{take_rest, length-drop}
+use Rattle.std.proofs.Common.{◌≡◌, ◌+◌, ◌-◌, suc, true, false, drop, Some, sym, ap, ◌∙◌, arith}
+use Rattle.std.proofs.lemmas.List.{take_rest}
 use Rattle.ckd_image.specs.Break.{break_to_end}
 use Rattle.ckd_image.specs.Reading.{records_to_end, is_at_end}
-use Rattle.ckd_image.proofs.Steps.{Passed-ok, Passed-err, PassedBy-more, to_end-record}
+use Rattle.ckd_image.proofs.Steps.{Passed-ok, Passed-err, StandsAt-more, to_end-record}
 use Rattle.ckd_image.proofs.GrammarWalk.{break_end_ended, to_end_ended, break_end_broken, to_end_broken, break_end_zero, to_end_zero}
 use Rattle.ckd_image.proofs.track.records_to_end.Goals as goal
 
@@ -32,13 +32,8 @@ loop-passed-preserved c =
     let rest = drop c.loop-passed.at c.args.bytes.now in
     let no_marker : is_at_end rest ≡ false = sym (rw (take_rest c.args.bytes.now c.loop-passed.at) at c.if-is_at_end.ensures) in
     let w = rw (take_rest c.args.bytes.now c.loop-passed.at) at c.in-Ok.ensures.whole in
-    let inside : c.in-Ok.len ≤ length rest = w.3 in
-    record {
-      inside = omega (arith, length-drop c.loop-passed.at c.args.bytes.now);
-      bound = omega (arith, c.in-Ok.ensures.most);
-      reading = PassedBy-more break_to_end records_to_end 255 n c.loop-passed.at c.in-Ok.len c.args.bytes.now c.loop-passed-test.true c.loop-passed.invariant.reading
-          (λ left. rw w.2 (to_end-record left (n + 1) rest no_marker w.0 w.1));
-    }
+    StandsAt-more break_to_end records_to_end 255 n c.loop-passed.at c.in-Ok.len c.args.bytes.now c.loop-passed-test.true c.loop-passed.invariant w.3 c.in-Ok.ensures.most
+    (λ left. rw w.2 (to_end-record left (n + 1) rest no_marker w.0 w.1))
 
 pub returns-then-is_at_end-2-clause-reading : goal.returns-then-is_at_end-2-clause-reading
 returns-then-is_at_end-2-clause-reading c =

@@ -3,7 +3,7 @@ use Rattle.std.proofs.Common.{◌≡◌, ◌+◌, ◌-◌, ◌<◌, ◌≤◌, s
 use Rattle.std.proofs.lemmas.List.{take_rest, length-drop}
 use Rattle.ckd_image.specs.Break.{break_up_to}
 use Rattle.ckd_image.specs.Reading.{records_up_to, is_at_end}
-use Rattle.ckd_image.proofs.Steps.{Passed-ok, Passed-err, PassedBy-more, up_to-record}
+use Rattle.ckd_image.proofs.Steps.{Passed-ok, Passed-err, StandsAt-more, up_to-record}
 use Rattle.ckd_image.proofs.GrammarWalk.{break_up_ended, up_to_ended, break_up_broken, up_to_broken, break_up_zero, up_to_zero, break_up_short, up_to_short}
 use Rattle.ckd_image.proofs.track.records_up_to.Goals as goal
 
@@ -34,13 +34,8 @@ loop-passed-preserved c =
     let rest = drop c.loop-passed.at c.args.bytes.now in
     let no_marker : is_at_end rest ≡ false = sym (rw (take_rest c.args.bytes.now c.loop-passed.at) at c.if-is_at_end.ensures) in
     let w = rw (take_rest c.args.bytes.now c.loop-passed.at) at c.in-Ok.ensures.whole in
-    let inside : c.in-Ok.len ≤ length rest = w.3 in
-    record {
-      inside = omega (arith, length-drop c.loop-passed.at c.args.bytes.now);
-      bound = omega (arith, c.in-Ok.ensures.most);
-      reading = PassedBy-more break_up_to records_up_to c.args.last n c.loop-passed.at c.in-Ok.len c.args.bytes.now c.loop-passed-test.true c.loop-passed.invariant.reading
-          (λ left. rw w.2 (up_to-record left (n + 1) rest no_marker w.0 w.1));
-    }
+    StandsAt-more break_up_to records_up_to c.args.last n c.loop-passed.at c.in-Ok.len c.args.bytes.now c.loop-passed-test.true c.loop-passed.invariant w.3 c.in-Ok.ensures.most
+    (λ left. rw w.2 (up_to-record left (n + 1) rest no_marker w.0 w.1))
 
 pub returns-then-bytes-at-ge8-clause-reading : goal.returns-then-bytes-at-ge8-clause-reading
 returns-then-bytes-at-ge8-clause-reading c =

@@ -1,4 +1,4 @@
-use Rattle.std.proofs.Common.{◌≡◌, ◌≤◌, ◌+◌, ◌∙◌, ℕ, List, false, ap, subst, sym}
+use Rattle.std.proofs.Common.{rules, ◌≡◌, ◌≤◌, ◌+◌, ◌∙◌, ℕ, List, false, ap, subst, sym}
 use Rattle.std.specs.Prelude.{Err, Ok, Result, vec_len}
 use Rattle.std.specs.Vec.{vec_capacity}
 use Rattle.std.proofs.lemmas.Result.{err_from_is_err_and}
@@ -52,13 +52,14 @@ returns-in_default-clause-index g c = order_changed c.args.vol.now c.reserve_nam
 pub carry_out-requires-clause-unit : goal.carry_out-requires-clause-unit
 carry_out-requires-clause-unit g c = unit_reordered (g.H.Hall.facts c.args.hall.now).units c.args.vol.now c.reserve_name.new.vol c.reserve_name.ensures.others c.requires.unit
 
-pub carry_out-requires-clause-names : goal.carry_out-requires-clause-names
-carry_out-requires-clause-names g c =
-    subst (λ (x : Vol). AreByName (name_at x.slots.items) c.reserve_name.new.vol.by_name.items) (sym c.reserve_name.ensures.others)
-    (subst (AreByName (name_at c.args.vol.now.slots.items)) (sym c.reserve_name.ensures.items) c.requires.names)
-
-pub carry_out-requires-clause-absent : goal.carry_out-requires-clause-absent
-carry_out-requires-clause-absent g c = subst (λ (x : Vol). IsAbsent c.args.dsn.now.bytes x.slots.items) (sym c.reserve_name.ensures.others) c.in_ok-extents.ensures.absent
+pub carry_out-requires-clause-name : goal.carry_out-requires-clause-name
+carry_out-requires-clause-name g c = record {
+  names =
+      subst (λ (x : Vol). AreByName (name_at x.slots.items) c.reserve_name.new.vol.by_name.items) (sym c.reserve_name.ensures.others)
+      (subst (AreByName (name_at c.args.vol.now.slots.items)) (sym c.reserve_name.ensures.items) c.requires.names);
+  absent = subst (λ (x : Vol). IsAbsent c.args.dsn.now.bytes x.slots.items) (sym c.reserve_name.ensures.others) c.in_ok-extents.ensures.absent;
+  room = search rules;
+}
 
 pub carry_out-requires-clause-room : goal.carry_out-requires-clause-room
 carry_out-requires-clause-room g c = subst (λ (x : Vol). vec_len x.free + 6 ≤ vec_capacity x.free) (sym c.reserve_name.ensures.others) c.requires.room

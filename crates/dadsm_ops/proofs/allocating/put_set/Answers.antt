@@ -40,7 +40,7 @@ put_durably-requires-clause-index g c told =
 pub enter_name-requires : goal.enter_name-requires
 enter_name-requires g c = record {
   room = subst (λ (x : Vol). vec_len x.by_name < vec_capacity x.by_name) (sym c.take_runs.ensures.others)
-      (subst (λ (x : Vol). vec_len x.by_name < vec_capacity x.by_name) (sym c.put_durably.ensures.others) c.requires.name_room);
+      (subst (λ (x : Vol). vec_len x.by_name < vec_capacity x.by_name) (sym c.put_durably.ensures.others) c.requires.name.room);
 }
 
 pub take_runs-requires-clause-room : goal.take_runs-requires-clause-room
@@ -100,10 +100,10 @@ pub returns-clause-names : goal.returns-clause-names
 returns-clause-names g c =
     let v = c.args.vol.now in
     let named = set_named c.new_f1-set.result c.args.dsn.now.bytes v.serial.bytes _ v.geometry _ (listed c.args.extents.now) c.args.pointer c.args.dir c.new_f1-set.ensures in
-    let put = subst (λ (x : Vol). AreByName (name_at v.slots.items) x.by_name.items) (sym c.put_durably.ensures.others) c.requires.names in
+    let put = subst (λ (x : Vol). AreByName (name_at v.slots.items) x.by_name.items) (sym c.put_durably.ensures.others) c.requires.name.names in
     let ordered = subst (λ (x : Vol). AreByName (name_at v.slots.items) x.by_name.items) (sym c.take_runs.ensures.others) put in
     let items = ap (λ (x : Vol). x.slots.items) c.take_runs.ensures.others ∙ c.in_ok-put_durably.ensures.index.items in
-    c.enter_name.ensures.names v.slots.items ordered (set_enters v c.in_ok-slot.slot c.new_f1-set.result c.args.dsn.now.bytes c.take_runs.new.vol.slots.items (found_open v c.in_ok-slot.slot c.in_ok-slot.ensures.found) named c.requires.absent items)
+    c.enter_name.ensures.names v.slots.items ordered (set_enters v c.in_ok-slot.slot c.new_f1-set.result c.args.dsn.now.bytes c.take_runs.new.vol.slots.items (found_open v c.in_ok-slot.slot c.in_ok-slot.ensures.found) named c.requires.name.absent items)
 
 pub returns-clause-index : goal.returns-clause-index
 returns-clause-index g c =

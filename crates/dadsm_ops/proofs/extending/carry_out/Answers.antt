@@ -1,5 +1,6 @@
-use Rattle.std.proofs.Common.{◌≡◌, ◌≤◌, ◌∙◌, ℕ, List, true, ap, refl, subst, sym}
+use Rattle.std.proofs.Common.{IsTrue, ◌≡◌, ◌≤◌, ◌∙◌, ℕ, List, true, ap, refl, subst, sym}
 use Rattle.std.specs.Prelude.{Ok, slice_index_or}
+use Rattle.std.specs.Vec.{vec_capacity}
 use Rattle.dscb_codec.specs.declared.Dscb.TheVariants as formats
 use Rattle.hall_core.specs.Facts.{unit_of}
 use Rattle.hall_core.specs.declared.steps.Device.{Device}
@@ -16,7 +17,7 @@ use Rattle.free_rebuild.proofs.NameLemmas.{names_kept}
 use Rattle.free_rebuild.proofs.RunCounts.{low_tracks}
 use Rattle.dadsm_ops.specs.Allocating.{Decides, open_slots}
 use Rattle.dadsm_ops.specs.Extending.{HasExtension, HoldAdded, IsReadable, added_type, further_slots}
-use Rattle.dadsm_ops.specs.Operations.{InVtoc, image_named}
+use Rattle.dadsm_ops.specs.Operations.{HasVtocOf, InVtoc, image_named}
 use Rattle.dadsm_ops.proofs.ExtendedNames.{set_marked}
 use Rattle.dadsm_ops.proofs.ExtendedIndex.{changes_then, only_slots, same_vtoc}
 use Rattle.dadsm_ops.proofs.ExtensionPlans.{further_room, readable_stays, still_extended}
@@ -24,74 +25,80 @@ use Rattle.dadsm_ops.proofs.NewIndex.{room_kept, room_then, slots_changed, vtoc_
 use Rattle.dadsm_ops.proofs.NewSetCalls.{decided_marked, name_kept, open_marked, still_marked}
 use Rattle.dadsm_ops.proofs.UpdateEnds.{ends, ends_deciding, ends_marking, ends_writing}
 use Rattle.dadsm_ops.proofs.Updating.{vtoc_goes_on}
+use Rattle.dadsm_ops.proofs.extending.carry_out.Given.{Over}
+use Rattle.dadsm_ops.proofs.extending.carry_out.Goals.{After-put_added-arg-2-1, After-put_extended-arg-2-1}
 use Rattle.dadsm_ops.proofs.extending.carry_out.Goals as goal
+
+-- ---- what was done so far: the mark, the format 3, the format 1
+
+marked_name : (g : Over) (c : After-put_added-arg-2-1 g) → (unit_of (g.H.Hall.facts c.mark.new.hall).units c.mark.new.vol.unit).name ≡ (unit_of (g.H.Hall.facts c.args.hall.now).units c.args.vol.now.unit).name
+marked_name g c = name_kept (g.H.Hall.facts c.args.hall.now).units (g.H.Hall.facts c.mark.new.hall).units c.args.vol.now c.mark.new.vol c.in_ok-mark.ensures.faults.units (slots_changed c.args.vol.now c.mark.new.vol c.mark.ensures.others)
+
+record HasAdded (g : Over) (c : After-put_extended-arg-2-1 g) : Type 0 where
+  same : HasVtocOf c.args.vol.now c.put_added.new.vol
+  name : (unit_of (g.H.Hall.facts c.put_added.new.hall).units c.put_added.new.vol.unit).name ≡ (unit_of (g.H.Hall.facts c.args.hall.now).units c.args.vol.now.unit).name
+  room : vec_capacity c.put_added.new.vol.free ≡ vec_capacity c.args.vol.now.free
+
+added : (g : Over) (c : After-put_extended-arg-2-1 g) → HasAdded g c
+added g c =
+    let v0 = c.args.vol.now in
+    let v1 = c.mark.new.vol in
+    let v2 = c.put_added.new.vol in
+    let first = slots_changed v0 v1 c.mark.ensures.others in
+    let next = slots_changed v1 v2 c.put_added.ensures.others in
+    record {
+      same = vtoc_then v0 v1 v2 first next;
+      name = name_kept (g.H.Hall.facts c.mark.new.hall).units (g.H.Hall.facts c.put_added.new.hall).units v1 v2 c.in_ok-pointer.ensures.faults.units next ∙ name_kept (g.H.Hall.facts c.args.hall.now).units (g.H.Hall.facts c.mark.new.hall).units v0 v1 c.in_ok-mark.ensures.faults.units first;
+      room = room_kept v1 v2 c.put_added.ensures.others ∙ room_kept v0 v1 c.mark.ensures.others;
+    }
+
+more : (g : Over) (c : After-put_extended-arg-2-1 g) → (unit_of (g.H.Hall.facts c.mark.new.hall).units c.mark.new.vol.unit).name ≡ (unit_of (g.H.Hall.facts c.args.hall.now).units c.args.vol.now.unit).name → IsTrue g.H.Hall.tells → Marks {T = List ℕ} {E = Device} (unit_of (g.H.Hall.facts c.args.hall.now).units c.args.vol.now.unit).name c.put_added.new.vol (g.H.Hall.meaning c.mark.new.hall) (g.H.Hall.meaning c.put_added.new.hall) (Ok c.in_ok-pointer.pointer)
+more g c by told = subst (λ (n : List ℕ). Marks {T = List ℕ} {E = Device} n c.put_added.new.vol (g.H.Hall.meaning c.mark.new.hall) (g.H.Hall.meaning c.put_added.new.hall) (Ok c.in_ok-pointer.pointer)) by (c.in_ok-pointer.ensures.files told)
 
 -- ---- how it ends
 
 pub returns-in_err-mark-clause-files : goal.returns-in_err-mark-clause-files
 returns-in_err-mark-clause-files g c dsn is told =
     let v0 = c.args.vol.now in
-    let name : List ℕ = (unit_of (g.H.Hall.facts c.args.hall.now).units v0.unit).name in
-    ends_marking name (extend_on dsn) v0 c.mark.new.vol (g.H.Hall.meaning c.args.hall.now) (c.requires.mounted told)
+    ends_marking (unit_of (g.H.Hall.facts c.args.hall.now).units c.args.vol.now.unit).name (extend_on dsn) v0 c.mark.new.vol (g.H.Hall.meaning c.args.hall.now) (c.requires.mounted told)
     (slots_changed v0 c.mark.new.vol c.mark.ensures.others) (InVtoc c.mark.new.vol) (vtoc_goes_on c.mark.new.vol _) c.from_residual.result c.from_residual.ensures.0 (c.mark.ensures.files told)
 
 pub returns-in_err-pointer-clause-files : goal.returns-in_err-pointer-clause-files
 returns-in_err-pointer-clause-files g c dsn is told =
     let v0 = c.args.vol.now in
-    let name : List ℕ = (unit_of (g.H.Hall.facts c.args.hall.now).units v0.unit).name in
     let v1 = c.mark.new.vol in
     let v2 = c.put_added.new.vol in
-    let one = slots_changed v0 v1 c.mark.ensures.others in
-    let two = slots_changed v1 v2 c.put_added.ensures.others in
-    let by1 = name_kept (g.H.Hall.facts c.args.hall.now).units (g.H.Hall.facts c.mark.new.hall).units v0 v1 c.in_ok-mark.ensures.faults.units one in
-    let more = subst (λ (n : List ℕ). Marks {T = List ℕ} {E = Device} n v2 (g.H.Hall.meaning c.mark.new.hall) (g.H.Hall.meaning c.put_added.new.hall) c.put_added.result) by1 (c.put_added.ensures.files told) in
-    ends_writing name (extend_on dsn) v0 v2 (g.H.Hall.meaning c.args.hall.now) (c.requires.mounted told) (vtoc_then v0 v1 v2 one two) (InVtoc v2) (vtoc_goes_on v2 _)
-    (c.in_ok-mark.ensures.files told) c.from_residual-in_err-pointer.result c.from_residual-in_err-pointer.ensures.0 more
+    let here = subst (λ (n : List ℕ). Marks {T = List ℕ} {E = Device} n v2 (g.H.Hall.meaning c.mark.new.hall) (g.H.Hall.meaning c.put_added.new.hall) c.put_added.result) (marked_name g (goal.at.returns-in_err-pointer-clause-files g c).After-put_added-arg-2-1) (c.put_added.ensures.files told) in
+    ends_writing (unit_of (g.H.Hall.facts c.args.hall.now).units c.args.vol.now.unit).name (extend_on dsn) v0 v2 (g.H.Hall.meaning c.args.hall.now) (c.requires.mounted told) (vtoc_then v0 v1 v2 (slots_changed v0 v1 c.mark.ensures.others) (slots_changed v1 v2 c.put_added.ensures.others)) (InVtoc v2) (vtoc_goes_on v2 _)
+    (c.in_ok-mark.ensures.files told) c.from_residual-in_err-pointer.result c.from_residual-in_err-pointer.ensures.0 here
 
 pub returns-in_err-put_extended-clause-files : goal.returns-in_err-put_extended-clause-files
 returns-in_err-put_extended-clause-files g c dsn is told =
+    let at = goal.at.returns-in_err-put_extended-clause-files g c in
+    let w = at.After-put_extended-arg-2-1 in
     let v0 = c.args.vol.now in
-    let f0 = g.H.Hall.facts c.args.hall.now in
-    let name : List ℕ = (unit_of f0.units v0.unit).name in
-    let v1 = c.mark.new.vol in
-    let f1 = g.H.Hall.facts c.mark.new.hall in
     let v2 = c.put_added.new.vol in
-    let m2 = g.H.Hall.meaning c.put_added.new.hall in
     let v3 = c.put_extended.new.vol in
-    let one = slots_changed v0 v1 c.mark.ensures.others in
-    let two = slots_changed v1 v2 c.put_added.ensures.others in
-    let by1 = name_kept f0.units f1.units v0 v1 c.in_ok-mark.ensures.faults.units one in
-    let by2 = name_kept f1.units (g.H.Hall.facts c.put_added.new.hall).units v1 v2 c.in_ok-pointer.ensures.faults.units two ∙ by1 in
-    let more = subst (λ (n : List ℕ). Marks {T = List ℕ} {E = Device} n v2 (g.H.Hall.meaning c.mark.new.hall) m2 (Ok c.in_ok-pointer.pointer)) by1 (c.in_ok-pointer.ensures.files told) in
-    let decides = subst (λ (n : List ℕ). Decides {T = Unit {0}} {E = Device} n (extend_on dsn) v3 m2 (g.H.Hall.meaning c.put_extended.new.hall) c.put_extended.result) by2 (c.put_extended.ensures.files dsn is told) in
-    ends_deciding name (extend_on dsn) v0 v3 (g.H.Hall.meaning c.args.hall.now) (c.requires.mounted told) (vtoc_then v0 v1 v3 one (vtoc_then v1 v2 v3 two (same_vtoc v2 v3 c.put_extended.ensures.index))) (InVtoc v3) (vtoc_goes_on v3 _)
-    (c.in_ok-mark.ensures.files told) more c.from_residual-in_err-put_extended.result c.from_residual-in_err-put_extended.ensures.0 decides
+    let decides = subst (λ (n : List ℕ). Decides {T = Unit {0}} {E = Device} n (extend_on dsn) v3 (g.H.Hall.meaning c.put_added.new.hall) (g.H.Hall.meaning c.put_extended.new.hall) c.put_extended.result) (added g w).name (c.put_extended.ensures.files dsn is told) in
+    ends_deciding (unit_of (g.H.Hall.facts c.args.hall.now).units c.args.vol.now.unit).name (extend_on dsn) v0 v3 (g.H.Hall.meaning c.args.hall.now) (c.requires.mounted told) (vtoc_then v0 v2 v3 (added g w).same (same_vtoc v2 v3 c.put_extended.ensures.index)) (InVtoc v3) (vtoc_goes_on v3 _)
+    (c.in_ok-mark.ensures.files told) (more g w (marked_name g at.After-put_added-arg-2-1) told) c.from_residual-in_err-put_extended.result c.from_residual-in_err-put_extended.ensures.0 decides
 
 pub returns-clause-files : goal.returns-clause-files
 returns-clause-files g c dsn is told =
+    let at = goal.at.returns-clause-files g c in
+    let w = at.After-put_extended-arg-2-1 in
+    let two = added g w in
     let v0 = c.args.vol.now in
-    let f0 = g.H.Hall.facts c.args.hall.now in
-    let name : List ℕ = (unit_of f0.units v0.unit).name in
-    let v1 = c.mark.new.vol in
-    let f1 = g.H.Hall.facts c.mark.new.hall in
     let v2 = c.put_added.new.vol in
-    let f2 = g.H.Hall.facts c.put_added.new.hall in
-    let m2 = g.H.Hall.meaning c.put_added.new.hall in
     let v3 = c.put_extended.new.vol in
     let m3 = g.H.Hall.meaning c.put_extended.new.hall in
     let v4 = c.conclude.new.vol in
-    let one = slots_changed v0 v1 c.mark.ensures.others in
-    let two = slots_changed v1 v2 c.put_added.ensures.others in
     let three = same_vtoc v2 v3 c.put_extended.ensures.index in
-    let four = slots_changed v3 v4 c.conclude.ensures.others in
-    let by1 = name_kept f0.units f1.units v0 v1 c.in_ok-mark.ensures.faults.units one in
-    let by2 = name_kept f1.units f2.units v1 v2 c.in_ok-pointer.ensures.faults.units two ∙ by1 in
-    let by3 = name_kept f2.units (g.H.Hall.facts c.put_extended.new.hall).units v2 v3 c.in_ok-put_extended.ensures.faults.units three ∙ by2 in
-    let more = subst (λ (n : List ℕ). Marks {T = List ℕ} {E = Device} n v2 (g.H.Hall.meaning c.mark.new.hall) m2 (Ok c.in_ok-pointer.pointer)) by1 (c.in_ok-pointer.ensures.files told) in
-    let decides = subst (λ (n : List ℕ). Decides {T = Unit {0}} {E = Device} n (extend_on dsn) v3 m2 m3 (Ok tt)) by2 (c.in_ok-put_extended.ensures.files dsn is told) in
+    let by3 = name_kept (g.H.Hall.facts c.put_added.new.hall).units (g.H.Hall.facts c.put_extended.new.hall).units v2 v3 c.in_ok-put_extended.ensures.faults.units three ∙ two.name in
+    let decides = subst (λ (n : List ℕ). Decides {T = Unit {0}} {E = Device} n (extend_on dsn) v3 (g.H.Hall.meaning c.put_added.new.hall) m3 (Ok tt)) two.name (c.in_ok-put_extended.ensures.files dsn is told) in
     let concludes = subst (λ (n : List ℕ). Concludes {T = Unit {0}} {E = Device} n v4 m3 (g.H.Hall.meaning c.conclude.new.hall) c.conclude.result) by3 (c.conclude.ensures.files told) in
-    ends name (extend_on dsn) v0 v4 (g.H.Hall.meaning c.args.hall.now) (c.requires.mounted told) (vtoc_then v0 v1 v4 one (vtoc_then v1 v2 v4 two (vtoc_then v2 v3 v4 three four))) (InVtoc v4) (vtoc_goes_on v4 _)
-    (c.in_ok-mark.ensures.files told) more c.conclude.result decides concludes
+    ends (unit_of (g.H.Hall.facts c.args.hall.now).units c.args.vol.now.unit).name (extend_on dsn) v0 v4 (g.H.Hall.meaning c.args.hall.now) (c.requires.mounted told) (vtoc_then v0 v2 v4 two.same (vtoc_then v2 v3 v4 three (slots_changed v3 v4 c.conclude.ensures.others))) (InVtoc v4) (vtoc_goes_on v4 _)
+    (c.in_ok-mark.ensures.files told) (more g w (marked_name g at.After-put_added-arg-2-1) told) c.conclude.result decides concludes
 
 pub returns-clause-index : goal.returns-clause-index
 returns-clause-index g c =
@@ -128,20 +135,13 @@ put_added-requires-clause-slots g c told =
     subst (λ (n : ℕ). further_slots c.args.set.now.extents runs ≤ n) (sym same) room
 
 pub put_added-requires-clause-mounted : goal.put_added-requires-clause-mounted
-put_added-requires-clause-mounted g c told =
-    let v1 = c.mark.new.vol in
-    let by1 = name_kept (g.H.Hall.facts c.args.hall.now).units (g.H.Hall.facts c.mark.new.hall).units c.args.vol.now v1 c.in_ok-mark.ensures.faults.units (slots_changed c.args.vol.now v1 c.mark.ensures.others) in
-    subst (λ (n : List ℕ). IsMounted (image_named (g.H.Hall.meaning c.mark.new.hall).state n) v1) (sym by1) (c.in_ok-mark.ensures.files told).index
+put_added-requires-clause-mounted g c told = subst (λ (n : List ℕ). IsMounted (image_named (g.H.Hall.meaning c.mark.new.hall).state n) c.mark.new.vol) (sym (marked_name g c)) (c.in_ok-mark.ensures.files told).index
 
 pub put_added-requires-clause-marked : goal.put_added-requires-clause-marked
 put_added-requires-clause-marked g c told =
-    let v0 = c.args.vol.now in
-    let f0 = g.H.Hall.facts c.args.hall.now in
     let v1 = c.mark.new.vol in
     let m1 = g.H.Hall.meaning c.mark.new.hall in
-    let by1 = name_kept f0.units (g.H.Hall.facts c.mark.new.hall).units v0 v1 c.in_ok-mark.ensures.faults.units (slots_changed v0 v1 c.mark.ensures.others) in
-    subst (λ (n : List ℕ). IsMarked (slots_of_vtoc (image_named m1.state n) v1.geometry v1.vtoc)) (sym by1)
-    (still_marked (unit_of f0.units v0.unit).name v1 (g.H.Hall.meaning c.args.hall.now) m1 (c.in_ok-mark.ensures.files told))
+    subst (λ (n : List ℕ). IsMarked (slots_of_vtoc (image_named m1.state n) v1.geometry v1.vtoc)) (sym (marked_name g c)) (still_marked (unit_of (g.H.Hall.facts c.args.hall.now).units c.args.vol.now.unit).name v1 (g.H.Hall.meaning c.args.hall.now) m1 (c.in_ok-mark.ensures.files told))
 
 pub put_added-requires-clause-durable : goal.put_added-requires-clause-durable
 put_added-requires-clause-durable g c told = (c.in_ok-mark.ensures.files told).durable
@@ -157,36 +157,17 @@ put_extended-requires-clause-room g c = room_then c.mark.new.vol c.put_added.new
 
 pub put_extended-requires-clause-plan : goal.put_extended-requires-clause-plan
 put_extended-requires-clause-plan g c told =
-    let v0 = c.args.vol.now in
-    let f0 = g.H.Hall.facts c.args.hall.now in
-    let name : List ℕ = (unit_of f0.units v0.unit).name in
-    let v1 = c.mark.new.vol in
-    let f1 = g.H.Hall.facts c.mark.new.hall in
-    let m1 = g.H.Hall.meaning c.mark.new.hall in
-    let v2 = c.put_added.new.vol in
-    let m2 = g.H.Hall.meaning c.put_added.new.hall in
     let runs = listed c.args.extents.now in
-    let by1 = name_kept f0.units f1.units v0 v1 c.in_ok-mark.ensures.faults.units (slots_changed v0 v1 c.mark.ensures.others) in
-    let by2 = name_kept f1.units (g.H.Hall.facts c.put_added.new.hall).units v1 v2 c.in_ok-pointer.ensures.faults.units (slots_changed v1 v2 c.put_added.ensures.others) ∙ by1 in
-    let more = subst (λ (n : List ℕ). Marks {T = List ℕ} {E = Device} n v2 m1 m2 (Ok c.in_ok-pointer.pointer)) by1 (c.in_ok-pointer.ensures.files told) in
-    subst (λ (n : List ℕ). HasExtension (image_named m2.state n) c.args.set.now runs) (sym by2)
-    (still_extended name v2 m1 m2 more c.args.set.now runs (still_extended name v1 (g.H.Hall.meaning c.args.hall.now) m1 (c.in_ok-mark.ensures.files told) c.args.set.now runs (c.requires.plan told)))
+    let by = marked_name g (goal.at.put_extended-requires-clause-plan g c).After-put_added-arg-2-1 in
+    subst (λ (n : List ℕ). HasExtension (image_named (g.H.Hall.meaning c.put_added.new.hall).state n) c.args.set.now runs) (sym (added g c).name)
+    (still_extended (unit_of (g.H.Hall.facts c.args.hall.now).units c.args.vol.now.unit).name c.put_added.new.vol (g.H.Hall.meaning c.mark.new.hall) (g.H.Hall.meaning c.put_added.new.hall) (more g c by told) c.args.set.now runs (still_extended (unit_of (g.H.Hall.facts c.args.hall.now).units c.args.vol.now.unit).name c.mark.new.vol (g.H.Hall.meaning c.args.hall.now) (g.H.Hall.meaning c.mark.new.hall) (c.in_ok-mark.ensures.files told) c.args.set.now runs (c.requires.plan told)))
 
 pub put_extended-requires-clause-body : goal.put_extended-requires-clause-body
 put_extended-requires-clause-body g c told =
-    let v0 = c.args.vol.now in
-    let f0 = g.H.Hall.facts c.args.hall.now in
-    let name : List ℕ = (unit_of f0.units v0.unit).name in
-    let v1 = c.mark.new.vol in
-    let f1 = g.H.Hall.facts c.mark.new.hall in
-    let m1 = g.H.Hall.meaning c.mark.new.hall in
-    let v2 = c.put_added.new.vol in
-    let m2 = g.H.Hall.meaning c.put_added.new.hall in
-    let by1 = name_kept f0.units f1.units v0 v1 c.in_ok-mark.ensures.faults.units (slots_changed v0 v1 c.mark.ensures.others) in
-    let by2 = name_kept f1.units (g.H.Hall.facts c.put_added.new.hall).units v1 v2 c.in_ok-pointer.ensures.faults.units (slots_changed v1 v2 c.put_added.ensures.others) ∙ by1 in
-    let more = subst (λ (n : List ℕ). Marks {T = List ℕ} {E = Device} n v2 m1 m2 (Ok c.in_ok-pointer.pointer)) by1 (c.in_ok-pointer.ensures.files told) in
-    subst (λ (n : List ℕ). IsReadable (image_named m2.state n) c.args.set.now.name) (sym by2)
-    (readable_stays name v2 m1 m2 more c.args.set.now.name (readable_stays name v1 (g.H.Hall.meaning c.args.hall.now) m1 (c.in_ok-mark.ensures.files told) c.args.set.now.name (c.requires.body told)))
+    let set = c.args.set.now.name in
+    let by = marked_name g (goal.at.put_extended-requires-clause-body g c).After-put_added-arg-2-1 in
+    subst (λ (n : List ℕ). IsReadable (image_named (g.H.Hall.meaning c.put_added.new.hall).state n) set) (sym (added g c).name)
+    (readable_stays (unit_of (g.H.Hall.facts c.args.hall.now).units c.args.vol.now.unit).name c.put_added.new.vol (g.H.Hall.meaning c.mark.new.hall) (g.H.Hall.meaning c.put_added.new.hall) (more g c by told) set (readable_stays (unit_of (g.H.Hall.facts c.args.hall.now).units c.args.vol.now.unit).name c.mark.new.vol (g.H.Hall.meaning c.args.hall.now) (g.H.Hall.meaning c.mark.new.hall) (c.in_ok-mark.ensures.files told) set (c.requires.body told)))
 
 pub put_extended-requires-clause-added : goal.put_extended-requires-clause-added
 put_extended-requires-clause-added g c told =
@@ -245,8 +226,8 @@ pub returns-in_err-pointer-clause-room : goal.returns-in_err-pointer-clause-room
 returns-in_err-pointer-clause-room g c = room_kept c.mark.new.vol c.put_added.new.vol c.put_added.ensures.others ∙ room_kept c.args.vol.now c.mark.new.vol c.mark.ensures.others
 
 pub returns-in_err-put_extended-clause-room : goal.returns-in_err-put_extended-clause-room
-returns-in_err-put_extended-clause-room g c = c.put_extended.ensures.room ∙ room_kept c.mark.new.vol c.put_added.new.vol c.put_added.ensures.others ∙ room_kept c.args.vol.now c.mark.new.vol c.mark.ensures.others
+returns-in_err-put_extended-clause-room g c = c.put_extended.ensures.room ∙ (added g (goal.at.returns-in_err-put_extended-clause-room g c).After-put_extended-arg-2-1).room
 
 pub returns-clause-room : goal.returns-clause-room
 returns-clause-room g c =
-    room_kept c.put_extended.new.vol c.conclude.new.vol c.conclude.ensures.others ∙ c.put_extended.ensures.room ∙ room_kept c.mark.new.vol c.put_added.new.vol c.put_added.ensures.others ∙ room_kept c.args.vol.now c.mark.new.vol c.mark.ensures.others
+    room_kept c.put_extended.new.vol c.conclude.new.vol c.conclude.ensures.others ∙ c.put_extended.ensures.room ∙ (added g (goal.at.returns-clause-room g c).After-put_extended-arg-2-1).room

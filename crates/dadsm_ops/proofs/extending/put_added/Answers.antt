@@ -1,5 +1,5 @@
 use Rattle.std.proofs.Common.{◌≡◌, ◌+◌, ◌≤◌, ◌<◌, ◌∙◌, ℕ, List, Some, length, ap, arith, lt-ltb, subst, sym}
-use Rattle.std.specs.Prelude.{Err, Ok, slice_get}
+use Rattle.std.specs.Prelude.{Err, Ok, Result, slice_get}
 use Rattle.dscb_codec.specs.declared.Dscb.{Dscb}
 use Rattle.dscb_codec.specs.declared.Dscb.TheVariants as formats
 use Rattle.dscb_codec.specs.declared.F3.{F3}
@@ -22,6 +22,8 @@ use Rattle.dadsm_ops.proofs.ExtensionPlans.{three_on}
 use Rattle.dadsm_ops.proofs.ExtendedHolds.{place_held, place_low, place_marks, place_names, place_set}
 use Rattle.dadsm_ops.proofs.NewSetCalls.{marks_as, marks_none, marks_not, put_low}
 use Rattle.dadsm_ops.proofs.Reordering.{set_there}
+use Rattle.dadsm_ops.proofs.extending.put_added.Given.{Over}
+use Rattle.dadsm_ops.proofs.extending.put_added.Goals.{After-put_durably}
 use Rattle.dadsm_ops.proofs.extending.put_added.Goals as goal
 
 -- ---- three extents or fewer
@@ -61,6 +63,13 @@ slot_address-requires-clause-slot g c =
     let p = c.in_ok-place.place in
     put_low c.args.vol.now p.0 (formats.F3 c.f3_with-more.result) c.put_durably.new.vol.slots.items (place_low c.args.vol.now c.args.set.now p.0 p.1 c.in_ok-place.ensures.found) c.in_ok-put_durably.ensures.index.items
 
+-- the write of a format 3, as one of the hall at the entry
+put_now : (g : Over) (c : After-put_durably g) → (result : Result (Unit {0}) Device) → PutsDurably {T = Unit {0}} {E = Device} (unit_of (g.H.Hall.facts c.place_for.new.hall).units c.args.vol.now.unit).name c.args.vol.now c.in_ok-place.place.0 (formats.F3 c.f3_with-more.result) c.put_durably.new.vol (g.H.Hall.meaning c.place_for.new.hall) (g.H.Hall.meaning c.put_durably.new.hall) result
+    → PutsDurably {T = Unit {0}} {E = Device} (unit_of (g.H.Hall.facts c.args.hall.now).units c.args.vol.now.unit).name c.args.vol.now c.in_ok-place.place.0 (formats.F3 (f3_with c.args.vol.now.geometry c.added_type-kind.result c.args.set.now.extents (listed c.args.extents.now) c.in_ok-place.place.1)) c.put_durably.new.vol (g.H.Hall.meaning c.args.hall.now) (g.H.Hall.meaning c.put_durably.new.hall) result
+put_now g c result puts =
+    let seen = subst (λ x. PutsDurably {T = Unit {0}} {E = Device} (unit_of (g.H.Hall.facts x).units c.args.vol.now.unit).name c.args.vol.now c.in_ok-place.place.0 (formats.F3 c.f3_with-more.result) c.put_durably.new.vol (g.H.Hall.meaning x) (g.H.Hall.meaning c.put_durably.new.hall) result) c.in_ok-place.ensures.hall puts in
+    subst (λ (d : F3). PutsDurably {T = Unit {0}} {E = Device} (unit_of (g.H.Hall.facts c.args.hall.now).units c.args.vol.now.unit).name c.args.vol.now c.in_ok-place.place.0 (formats.F3 d) c.put_durably.new.vol (g.H.Hall.meaning c.args.hall.now) (g.H.Hall.meaning c.put_durably.new.hall) result) c.f3_with-more.ensures seen
+
 pub returns-in_err-put_durably-clause-files : goal.returns-in_err-put_durably-clause-files
 returns-in_err-put_durably-clause-files g c told =
     let v = c.args.vol.now in
@@ -70,8 +79,7 @@ returns-in_err-put_durably-clause-files g c told =
     let p = c.in_ok-place.place in
     let v' = c.put_durably.new.vol in
     let n = g.H.Hall.meaning c.put_durably.new.hall in
-    let seen = subst (λ x. PutsDurably {T = Unit {0}} {E = Device} (unit_of (g.H.Hall.facts x).units v.unit).name v p.0 (formats.F3 c.f3_with-more.result) v' (g.H.Hall.meaning x) n (Err c.in_err-put_durably.field-0.0)) c.in_ok-place.ensures.hall (c.in_err-put_durably.ensures.files told) in
-    let put = subst (λ (d : F3). PutsDurably {T = Unit {0}} {E = Device} name v p.0 (formats.F3 d) v' m n (Err c.in_err-put_durably.field-0.0)) c.f3_with-more.ensures seen in
+    let put = put_now g (goal.at.returns-in_err-put_durably-clause-files g c).After-put_durably (Err c.in_err-put_durably.field-0.0) (c.in_err-put_durably.ensures.files told) in
     marks_not name v' m n c.from_residual-in_err-put_durably.result c.from_residual-in_err-put_durably.ensures.0
     (place_marks v c.args.set.now p.0 p.1 c.in_ok-place.ensures.found name v' m n (c.requires.mounted told) (low_tracks units v c.requires.unit) (c.requires.marked told) c.args.slot c.requires.set (omega arith) (omega arith) (omega arith) c.added_type-kind.result (listed c.args.extents.now) (Err c.in_err-put_durably.field-0.0) c.put_durably.ensures.others put)
 
@@ -84,8 +92,7 @@ returns-clause-files g c told =
     let p = c.in_ok-place.place in
     let v' = c.put_durably.new.vol in
     let n = g.H.Hall.meaning c.put_durably.new.hall in
-    let seen = subst (λ x. PutsDurably {T = Unit {0}} {E = Device} (unit_of (g.H.Hall.facts x).units v.unit).name v p.0 (formats.F3 c.f3_with-more.result) v' (g.H.Hall.meaning x) n (Ok tt)) c.in_ok-place.ensures.hall (c.in_ok-put_durably.ensures.files told) in
-    let put = subst (λ (d : F3). PutsDurably {T = Unit {0}} {E = Device} name v p.0 (formats.F3 d) v' m n (Ok tt)) c.f3_with-more.ensures seen in
+    let put = put_now g (goal.at.returns-clause-files g c).After-put_durably (Ok tt) (c.in_ok-put_durably.ensures.files told) in
     marks_as name v' m n
     (place_marks v c.args.set.now p.0 p.1 c.in_ok-place.ensures.found name v' m n (c.requires.mounted told) (low_tracks units v c.requires.unit) (c.requires.marked told) c.args.slot c.requires.set (omega arith) (omega arith) (omega arith) c.added_type-kind.result (listed c.args.extents.now) (Ok tt) c.put_durably.ensures.others put)
     c.slot_address.result
@@ -103,9 +110,8 @@ returns-clause-added g c told =
     let n = g.H.Hall.meaning c.put_durably.new.hall in
     let runs = listed c.args.extents.now in
     let kind : ℕ = c.added_type-kind.result in
-    let seen = subst (λ x. PutsDurably {T = Unit {0}} {E = Device} (unit_of (g.H.Hall.facts x).units v.unit).name v p.0 (formats.F3 c.f3_with-more.result) v' (g.H.Hall.meaning x) n (Ok tt)) c.in_ok-place.ensures.hall (c.in_ok-put_durably.ensures.files told) in
-    let put = subst (λ (d : F3). PutsDurably {T = Unit {0}} {E = Device} name v p.0 (formats.F3 d) v' m n (Ok tt)) c.f3_with-more.ensures seen in
-    let most = c.requires.total in
+    let put = put_now g (goal.at.returns-clause-added g c).After-put_durably (Ok tt) (c.in_ok-put_durably.ensures.files told) in
+    let most = c.requires.more.total in
     let many : 3 < set.extents + length runs = omega (arith, c.extent_count.ensures) in
     let held = place_held v set p.0 p.1 c.in_ok-place.ensures.found name v' m n (c.requires.mounted told) (low_tracks f0.units v c.requires.unit) (c.requires.marked told) c.args.slot c.requires.set (omega arith) (omega arith) (omega arith) kind runs most many put in
     let units : f2.units ≡ f0.units = c.in_ok-put_durably.ensures.faults.units ∙ ap (λ x. (g.H.Hall.facts x).units) c.in_ok-place.ensures.hall in

@@ -5,10 +5,8 @@ use Rattle.hall_core.specs.Images.{image_in}
 use Rattle.dscb_codec.specs.declared.Dscb.TheVariants as formats
 use Rattle.free_rebuild.proofs.ChainLemmas.{get_low}
 use Rattle.free_rebuild.proofs.NameLemmas.{mark_names, names_kept}
-use Rattle.free_rebuild.proofs.RepairSteps.{marks}
-use Rattle.free_rebuild.proofs.RunCounts.{low_tracks}
+use Rattle.free_rebuild.proofs.RepairSteps.{entered, marks}
 use Rattle.free_rebuild.proofs.StandLemmas.{has_front}
-use Rattle.free_rebuild.proofs.WriteLemmas.{image_there}
 use Rattle.free_rebuild.proofs.update.mark.Goals as goal
 
 pub mark_durably-requires-clause-some : goal.mark_durably-requires-clause-some
@@ -23,8 +21,8 @@ returns-clause-files g c told =
     let m = g.H.Hall.meaning c.args.hall.now in
     let units = (g.H.Hall.facts c.args.hall.now).units in
     let name : List ℕ = (unit_of units v.unit).name in
-    let there = image_there m.state units v.unit (g.met.H.Hall.whole c.args.hall.now told) c.requires.unit.attached in
-    marks name v m (low_tracks units v c.requires.unit) there (c.requires.mounted told) (c.requires.durable told) c.mark_durably.new.vol (g.H.Hall.meaning c.mark_durably.new.hall) c.mark_durably.result (c.mark_durably.ensures.files told) (on_ok_weaker c.mark_durably.result (λ is. is.items) c.mark_durably.ensures.index) c.mark_durably.ensures.others
+    let start = entered units v m (g.met.H.Hall.whole c.args.hall.now told) c.requires.unit (c.requires.mounted told) (c.requires.durable told) in
+    marks name v m start c.mark_durably.new.vol (g.H.Hall.meaning c.mark_durably.new.hall) c.mark_durably.result (c.mark_durably.ensures.files told) (on_ok_weaker c.mark_durably.result (λ is. is.items) c.mark_durably.ensures.index) c.mark_durably.ensures.others
 
 pub returns-clause-names : goal.returns-clause-names
 returns-clause-names g c ordered =

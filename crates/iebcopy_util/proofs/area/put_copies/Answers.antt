@@ -1,6 +1,7 @@
 use Rattle.std.proofs.Common.{◌≡◌, ◌<◌, List, [], ◌∷◌, ◌++◌, ap, length, vec_capacity, vec_len, arith, rules}
 use Rattle.std.specs.Prelude.{Result, Ok, Err, IsOk, is_ok, if◌then◌else◌}
 use Rattle.vol_model.specs.declared.contents.Place.{Place}
+use Rattle.record_files.proofs.CallLemmas.{puts_none, puts_then}
 use Rattle.iebcopy_util.proofs.AreaLemmas.{no_places, put_fault, put_further, put_stops, puts_begin, puts_copies, puts_done, puts_next, puts_there, puts_writer}
 use Rattle.iebcopy_util.proofs.FoundLemmas.{blocks_found, blocks_stand}
 use Rattle.iebcopy_util.proofs.area.put_copies.Goals as goal
@@ -15,9 +16,7 @@ loop-parts-init g c =
     record {
       room = c.requires.room;
       so_far = λ told has. puts_begin g.M.Machine.tells_prints c.args.from.now has.all _ c.args.at.now (g.M.Machine.writer c.args.machine.now) c.args.to.now.items (g.M.Machine.meaning c.args.machine.now) (g.M.Machine.status c.args.machine.now).done (blocks_stand has) (blocks_found has);
-      later = λ told. omega arith;
-      promise = λ told t known early kept. kept;
-      call = search rules;
+      call = puts_none g.M.Machine tt c.requires.writing;
     }
 
 pub returns-in-None-clause-works : goal.returns-in-None-clause-works
@@ -52,7 +51,5 @@ loop-parts-preserved g c =
           let next = puts_next c.in-Some.parts.0.now c.in-Some.parts.1.now c.loop-parts.rest.now c.in-Some.ensures.cases.0 so in
           put_further next (g.M.Machine.writer c.put_at.new.machine) c.in-Ok.place c.push.new.self.items
           (rw c.in-Ok.is at (c.in_ok-place.ensures.works told has.all next.here.0 next.block (puts_there so has.read) next.here.1)) (rw c.in-Ok.is at (c.in_ok-place.ensures.writer told has.all next.here.0 next.block (puts_there so has.read) next.here.1)) (pushed c.push.result c.loop-parts.to.items (c.loop-parts.to.items ++ c.in-Ok.place ∷ []) c.push.new.self.items (c.push.ensures.succeeds room) c.push.ensures.items);
-      later = λ told. omega (arith, inv.later told, c.put_at.ensures.later told);
-      promise = λ told t known early kept. c.put_at.ensures.promise told t known (omega (arith, early, inv.later told)) (inv.promise told t known early kept);
-      call = search rules;
+      call = puts_then g.M.Machine tt inv.call (rw (c.in_ok-place.was, c.in-Ok.is) at c.put_at.ensures.call);
     }

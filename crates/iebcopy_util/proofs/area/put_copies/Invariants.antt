@@ -1,8 +1,7 @@
-use Rattle.std.proofs.Common.{◌+◌, ◌≤◌, length, true, vec_capacity, vec_len, Ok}
+use Rattle.std.proofs.Common.{◌+◌, ◌≤◌, length, vec_capacity, vec_len, Ok}
 use Rattle.std.specs.Prelude.{IsTrue}
-use Rattle.vol_model.specs.Calls.{Keeps}
-use Rattle.vol_model.specs.Runs.{RunCall}
 use Rattle.util_steps.specs.Copying.{source}
+use Rattle.record_files.specs.Calls.{PutsCall}
 use Rattle.iebcopy_util.specs.Steps.{HasBlocks, blocks_at}
 use Rattle.iebcopy_util.proofs.AreaLemmas.{Puts}
 use Rattle.iebcopy_util.proofs.area.put_copies.Given as goal
@@ -16,9 +15,7 @@ invariant-loop-parts g l =
       room : vec_len l.to + length l.rest ≤ vec_capacity l.to;
       so_far : IsTrue g.M.Machine.tells → (has : HasBlocks (source (m l.fn.machine).state l.from) l.at)
           → Puts g.M.Machine.tells_prints l.from has.all (blocks_at (source (m l.fn.machine).state l.from) l.at) l.rest (w l.fn.machine) (w l.machine) l.fn.to.items l.to.items (m l.fn.machine) (m l.machine) (s l.fn.machine).done (s l.machine).done;
-      later : IsTrue g.M.Machine.tells → (m l.fn.machine).clock ≤ (m l.machine).clock;
-      promise : IsTrue g.M.Machine.tells → Keeps (m l.fn.machine).clock (g.M.Machine.promise l.fn.machine) (g.M.Machine.promise l.machine);
-      call : RunCall {T = Unit {0}} true (s l.fn.machine) (s l.machine) (Ok tt);
+      call : PutsCall {T = Unit {0}} g.M.Machine l.fn.machine l.machine (Ok tt);
     }
 
 abbrev pub decreases-loop-parts : goal.decreases-loop-parts

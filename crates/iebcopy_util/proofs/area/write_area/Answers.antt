@@ -1,4 +1,4 @@
-use Rattle.std.proofs.Common.{◌∙◌, rules, arith, sym, ap, subst}
+use Rattle.std.proofs.Common.{rules, arith, sym, ap, subst}
 use Rattle.vol_model.specs.declared.answers.Mode.TheVariants as modes
 use Rattle.vol_model.specs.declared.contents.Shelf.{Shelf}
 use Rattle.util_steps.specs.Copying.{source}
@@ -31,7 +31,7 @@ pub returns-clause-takes : goal.returns-clause-takes
 returns-clause-takes g c = record {
   works = λ told.
       filled_all c.args.out.now modes.Area _ (g.M.Machine.writer c.begin.new.machine) c.in_default.field-0 c.write_copies.result (rw c.in_default.is at (c.in_ok-fault.ensures.writer told)) (rw c.in_default.is at (c.in_ok-fault.ensures.works told))
-      (rw (ap (λ (s : Shelf). blocks_at (source s c.args.from.now) c.args.at.now) (c.begin.ensures.state told)) at (c.write_copies.ensures.works told));
-  promise = λ told t known early kept. c.write_copies.ensures.promise told t known (let begun = c.begin.ensures.works told in omega (arith, early, begun.runs.moments.later)) (c.begin.ensures.promise told t known early kept);
+      (rw (ap (λ (s : Shelf). blocks_at (source s c.args.from.now) c.args.at.now) (c.begin.ensures.state told)) at (c.write_copies.ensures.takes.works told));
+  promise = λ told t known early kept. c.write_copies.ensures.takes.promise told t known (let begun = c.begin.ensures.works told in omega (arith, early, begun.runs.moments.later)) (c.begin.ensures.promise told t known early kept);
   faults = search rules;
 }

@@ -1,6 +1,5 @@
-use Rattle.std.proofs.Common.{◌≡◌, ◌∙◌, true, false, sym, ap, subst, Ok, Err, refl}
+use Rattle.std.proofs.Common.{◌≡◌, ◌∙◌, true, false, sym, ap, subst, Err, refl}
 use Rattle.vol_model.specs.declared.contents.Shelf.{Shelf}
-use Rattle.vol_model.specs.Reading.{member}
 use Rattle.util_steps.specs.Copying.{source}
 use Rattle.util_steps.proofs.Progress.{source_blocks}
 use Rattle.util_steps.proofs.Taking.{ready_after}

@@ -1,4 +1,4 @@
-use Rattle.std.proofs.Common.{◌≡◌, ◌∙◌, sym, ap, Ok, Err, subst}
+use Rattle.std.proofs.Common.{◌≡◌, ◌∙◌, sym, ap, Err, subst}
 use Rattle.std.specs.Prelude.{Some, None}
 use Rattle.std.specs.Option.{option_copied}
 use Rattle.vol_model.specs.declared.contents.Shelf.{Shelf}
@@ -12,7 +12,7 @@ use Rattle.iebcopy_util.proofs.WholeLemmas.{whole_none, whole_read, whole_unread
 use Rattle.iebcopy_util.proofs.copying.copy_member.Goals as goal
 
 pub returns-in_err-found : goal.returns-in_err-found
-returns-in_err-found g c = whole_unread g.M.Machine (λ told. g.met.M.Machine.durable c.args.machine.now told c.requires.ready.sound) _ c.from_residual.result c.from_residual.ensures (rw c.in_err-found.was at c.look.ensures)
+returns-in_err-found g c = whole_unread g.M.Machine (λ told. g.met.M.Machine.durable c.args.machine.now told c.requires.ready.sound) _ c.from_residual.result c.from_residual.ensures (rw c.in_err-found.was at c.probe_output.ensures)
 
 pub returns-in-Err : goal.returns-in-Err
 returns-in-Err g c =

@@ -1,5 +1,4 @@
 use Rattle.vol_model.specs.declared.contents.Entry.{Entry}
-use Rattle.vol_model.specs.declared.contents.Shelf.{Shelf}
 use Rattle.vol_model.specs.declared.requests.Op.TheVariants.{Enter}
 use Rattle.util_program.specs.Outcomes.{performed}
 use Rattle.std.proofs.Common.{ap, sym}

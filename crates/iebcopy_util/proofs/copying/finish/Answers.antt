@@ -1,9 +1,8 @@
-use Rattle.std.proofs.Common.{Ok, refl}
-use Rattle.std.specs.Prelude.{Option, Some}
+use Rattle.std.proofs.Common.{Ok}
+use Rattle.std.specs.Prelude.{Some}
 use Rattle.vol_model.specs.declared.contents.Shelf.{Shelf}
 use Rattle.vol_model.specs.Did.{answered}
 use Rattle.util_steps.proofs.Taking.{ready_after}
-use Rattle.iebcopy_util.specs.declared.copying.Copy.{Copy}
 use Rattle.iebcopy_util.specs.Copying.{entered}
 use Rattle.iebcopy_util.proofs.CopyLemmas.{entered_closed}
 use Rattle.iebcopy_util.proofs.WholeLemmas.{whole_ends, whole_none, whole_stops, whole_then}

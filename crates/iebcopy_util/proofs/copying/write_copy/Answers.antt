@@ -9,7 +9,7 @@ use Rattle.iebcopy_util.proofs.copying.write_copy.Goals as goal
 
 pub returns-in_err-outcome : goal.returns-in_err-outcome
 returns-in_err-outcome g c =
-    copied_stops g.M.Machine c.args.out.now c.args.task.now c.args.blank (λ (s : Shelf). blocks_at (source s c.args.task.now.source.set) c.args.from.items) c.from_residual.result c.from_residual.ensures (rw c.in_err-outcome.was at c.ready.ensures)
+    copied_stops g.M.Machine c.args.out.now c.args.task.now c.args.blank (λ (s : Shelf). blocks_at (source s c.args.task.now.source.set) c.args.from.items) c.from_residual.result c.from_residual.ensures (rw c.in_err-outcome.was at c.set_output_attributes.ensures)
 
 pub returns-in-Err : goal.returns-in-Err
 returns-in-Err g c =

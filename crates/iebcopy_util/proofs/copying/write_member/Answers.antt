@@ -1,5 +1,5 @@
-use Rattle.std.proofs.Common.{◌≡◌, List, ◌++◌, map, sym, ◌∙◌, ap, refl, Ok, Err}
-use Rattle.std.specs.Prelude.{Result}
+use Rattle.std.proofs.Common.{◌≡◌, List, ◌++◌, map, sym, ◌∙◌, ap, Ok, Err}
+use Rattle.std.specs.Prelude.{Option, Result, slice_get, unwrap_or}
 use Rattle.vol_model.specs.declared.answers.Mode.TheVariants as modes
 use Rattle.vol_model.specs.declared.contents.Place.{Place}
 use Rattle.vol_model.specs.declared.contents.Shelf.{Shelf}
@@ -10,9 +10,7 @@ use Rattle.vol_model.proofs.Working.{done_state, has_done}
 use Rattle.util_steps.specs.declared.calls.Fault.{Fault}
 use Rattle.util_steps.specs.Copying.{source, target}
 use Rattle.util_steps.proofs.Taking.{ready_after}
-use Rattle.iebcopy_util.specs.declared.copying.Copy.{Copy}
-use Rattle.util_program.specs.Outcomes.{outcome_for}
-use Rattle.iebcopy_util.specs.Copying.{copy_made, finished, first_or}
+use Rattle.iebcopy_util.specs.Copying.{finished, first_or}
 use Rattle.iebcopy_util.specs.Steps.{blocks_at, put_places}
 use Rattle.iebcopy_util.proofs.FoundLemmas.{blocks_stand}
 use Rattle.iebcopy_util.proofs.WholeLemmas.{whole_none, whole_read, whole_roomy, whole_unread}
@@ -20,8 +18,8 @@ use Rattle.iebcopy_util.proofs.WritingLemmas.{made_is, output_read, written_ends
 use Rattle.iebcopy_util.proofs.copying.write_member.Goals as goal
 
 -- where the copy begins
-started : (start last : Place) (seen to : List Place) → (let r : Result Place Fault = Ok start in r) ≡ Ok (first_or last seen) → seen ≡ to → start ≡ first_or last to
-started start last seen to is same = let here : start ≡ first_or last seen = cc in here ∙ ap (first_or last) same
+started : (start last : Place) (first : Option Place) (to : List Place) → (let r : Result Place Fault = Ok start in r) ≡ Ok (unwrap_or first last) → first ≡ slice_get to 0 → start ≡ first_or last to
+started start last first to is same = let here : start ≡ unwrap_or first last = cc in here ∙ ap (λ (o : Option Place). unwrap_or o last) same
 
 not_refused : (f : Fault) (p : Place) → (let r : Result Place Fault = Err f in r) ≡ Ok p → ⊥
 not_refused f p is = cc
@@ -68,6 +66,7 @@ returns g c =
     let ps = put_places s0 (begun (target out modes.Area)) (map content bs) in
     let stands = rw (c.in-Ok.is, c.deref.ensures.value) at (c.in_ok-write_area.ensures.to told) in
     let to_is : c.from_vec-2.result ≡ ps = c.from_vec-2.ensures ∙ stands ∙ ap (λ (l : List Place). l ++ ps) c.requires.none in
-    let start_is = started c.in-Ok-2.start (last_place (record { tt = 0; r = 0 }) (blocks_of (body_on s1 out.v out.dsn.bytes))) c.deref-2.result.now c.from_vec-2.result (value _ read) (c.deref-2.ensures.value ∙ sym c.from_vec-2.ensures) in
+    let first : c.copied.result ≡ slice_get c.deref-2.result.now 0 = cc (c.copied.ensures, c.first.ensures.value) in
+    let start_is = started c.in-Ok-2.start (last_place (record { tt = 0; r = 0 }) (blocks_of (body_on s1 out.v out.dsn.bytes))) c.copied.result c.from_vec-2.result (value _ read) (first ∙ ap (λ (l : List Place). slice_get l 0) (c.deref-2.ensures.value ∙ sym c.from_vec-2.ensures)) in
     ap (finished s1 out t) (sym (made_is s0 s1 out t bs c.from_vec.result c.from_vec-2.result c.in-Ok-2.start (c.from_vec.ensures ∙ blocks_stand (c.requires.found told)) to_is start_is)))
     c.finish.ensures)

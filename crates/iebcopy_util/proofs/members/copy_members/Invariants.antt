@@ -1,29 +1,24 @@
-use Rattle.std.proofs.Common.{◌≡◌, ◌+◌, ◌≤◌, [], length, false, vec_capacity, vec_len}
-use Rattle.std.specs.Prelude.{IsTrue, Ok}
+use Rattle.std.proofs.Common.{◌≡◌, ◌+◌, ◌≤◌, [], length, vec_capacity, vec_len}
+use Rattle.std.specs.Prelude.{IsTrue}
 use Rattle.std.specs.List.{AllByRecursion}
-use Rattle.vol_model.specs.Calls.{Keeps}
-use Rattle.vol_model.specs.Runs.{RunCall}
+use Rattle.vol_model.specs.declared.contents.Shelf.{Shelf}
 use Rattle.util_steps.specs.Steps.{AreApart}
-use Rattle.iebcopy_util.specs.declared.tasks.Task.{Task}
+use Rattle.iebcopy_util.specs.declared.tasks.MemberCopy.{MemberCopy}
 use Rattle.iebcopy_util.specs.Items.{members}
-use Rattle.iebcopy_util.specs.Tasks.{IsLawfulTask}
-use Rattle.iebcopy_util.proofs.DoesItemsLemmas.{SoFar}
+use Rattle.iebcopy_util.specs.Tasks.{IsLawfulMemberCopy}
+use Rattle.iebcopy_util.proofs.RunLemmas.{RunsSoFar}
 use Rattle.iebcopy_util.proofs.members.copy_members.Given as goal
 
 abbrev pub invariant-loop-parts : goal.invariant-loop-parts
 invariant-loop-parts g l =
     let m = g.M.Machine.meaning in
-    let s = g.M.Machine.status in
     record {
       room : vec_len l.copies + length l.rest ≤ vec_capacity l.copies;
-      so_far : IsTrue g.M.Machine.tells → SoFar g.M.Machine.tells_prints (members (m l.fn.machine).state l.card l.out [] l.tasks).items (members (m l.machine).state l.card l.out l.copies.items l.rest).items l.code (m l.fn.machine) (m l.machine) (s l.fn.machine).done (s l.machine).done;
+      far : RunsSoFar g.M.Machine (λ (shelf : Shelf). (members shelf l.card l.out [] l.tasks).items) (λ (shelf : Shelf). (members shelf l.card l.out l.copies.items l.rest).items) l.code l.fn.machine l.machine;
       goes_on : IsTrue g.M.Machine.tells → (members (m l.machine).state l.card l.out l.copies.items l.rest).goes_on ≡ (members (m l.fn.machine).state l.card l.out [] l.tasks).goes_on;
-      apart : IsTrue g.M.Machine.tells → AllByRecursion (λ (t : Task). AreApart l.out t.source.set) l.rest;
-      lawful : AllByRecursion IsLawfulTask l.rest;
-      later : IsTrue g.M.Machine.tells → (m l.fn.machine).clock ≤ (m l.machine).clock;
-      promise : IsTrue g.M.Machine.tells → Keeps (m l.fn.machine).clock (g.M.Machine.promise l.fn.machine) (g.M.Machine.promise l.machine);
+      apart : IsTrue g.M.Machine.tells → AllByRecursion (λ (t : MemberCopy). AreApart l.out t.source.set) l.rest;
+      lawful : AllByRecursion IsLawfulMemberCopy l.rest;
       small : l.code ≤ 16;
-      call : RunCall {T = Unit {0}} false (s l.fn.machine) (s l.machine) (Ok tt);
     }
 
 abbrev pub decreases-loop-parts : goal.decreases-loop-parts

@@ -2,7 +2,8 @@ use Rattle.std.proofs.Common.{◌≡◌, List, [], ◌∷◌, ◌++◌, sym, ◌
 use Rattle.std.proofs.lemmas.List.{append-nil}
 use Rattle.iebcopy_util.specs.declared.orders.Order.{Order}
 use Rattle.iebcopy_util.specs.declared.orders.Order.TheVariants as order
-use Rattle.iebcopy_util.specs.Orders.{bad_operand, orders_of}
+use Rattle.util_syntax.specs.Program.{bad_operand}
+use Rattle.iebcopy_util.specs.Orders.{orders_of}
 use Rattle.iebcopy_util.proofs.OrderLemmas.{chosen_fault, orders_ended}
 use Rattle.iebcopy_util.proofs.orders.choose.Goals as goal
 

@@ -5,7 +5,7 @@ use Rattle.util_syntax.specs.Items.{item_view}
 use Rattle.iebcopy_util.specs.declared.orders.Order.{Order}
 use Rattle.iebcopy_util.specs.declared.orders.Order.TheVariants as order
 use Rattle.iebcopy_util.specs.declared.orders.State.{State}
-use Rattle.iebcopy_util.specs.declared.orders.StatementFault.{StatementFault}
+use Rattle.util_syntax.specs.declared.program.StatementFault.{StatementFault}
 use Rattle.iebcopy_util.specs.declared.requests.Request.{Request}
 use Rattle.iebcopy_util.specs.Orders.{asked, orders_at, orders_of, unless_ended}
 use Rattle.iebcopy_util.proofs.OrderLemmas.{at_fault, not_ended, orders_ended}

@@ -1,9 +1,8 @@
-use Rattle.std.proofs.Common.{◌≡◌, refl, arith, rules}
-use Rattle.util_steps.specs.Copying.{source}
+use Rattle.std.proofs.Common.{refl, arith, rules}
 use Rattle.util_steps.specs.Steps.{IsOnward}
 use Rattle.util_steps.proofs.Progress.{source_blocks}
 use Rattle.vol_model.specs.Reading.{member}
-use Rattle.iebcopy_util.proofs.Reading.{reads_none, reads_stops, reads_then}
+use Rattle.record_files.proofs.Reading.{reads_none, reads_stops, reads_then}
 use Rattle.iebcopy_util.proofs.WalkLemmas.{walks_all, walks_begin, walks_further}
 use Rattle.iebcopy_util.proofs.walking.walk_member.Goals as goal
 

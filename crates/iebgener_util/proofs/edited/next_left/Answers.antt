@@ -1,51 +1,32 @@
-use Rattle.std.proofs.Common.{refl, ◌∙◌, arith, rules}
-use Rattle.std.specs.Prelude.{Ok}
+use Rattle.std.proofs.Common.{refl, ◌∙◌, arith}
 use Rattle.record_files.specs.Reader.{reader_given, reader_stream}
-use Rattle.record_files.proofs.AfterLemmas.{nothing_none, nothing_then}
+use Rattle.record_files.proofs.CallLemmas.{beside_none, beside_stops, beside_then}
 use Rattle.iebgener_util.proofs.EditedLemmas.{end_left, fault_left, record_skipped}
 use Rattle.iebgener_util.proofs.edited.next_left.Goals as goal
 
 pub loop-skipped-init : goal.loop-skipped-init
-loop-skipped-init g c = record {
-  gives = λ told. refl;
-  fewer = omega arith;
-  runs = λ told. nothing_none g.M.Machine.tells_prints (g.M.Machine.meaning c.args.machine.now) (Ok tt);
-  writer = λ told. refl;
-  promise = λ told t known early kept. kept;
-  count = refl;
-  call = search rules;
-}
+loop-skipped-init g c = record { reads = beside_none g.M.Machine tt c.requires.sound (λ told. refl); fewer = omega arith }
 
 pub loop-skipped-smaller : goal.loop-skipped-smaller
 loop-skipped-smaller g c = c.in_ok-next.ensures.fewer c.in-Record.is
 
 pub loop-skipped-preserved : goal.loop-skipped-preserved
 loop-skipped-preserved g c =
-    let inv = c.loop-skipped.invariant in
     let fewer = c.in_ok-next.ensures.fewer c.in-Record.is in
-    let s = (g.M.Machine.meaning c.args.machine.now).state in
     record {
-      gives = λ told.
-          let gives = rw (c.in-Record.is, (inv.runs told).state) at (c.in_ok-next.ensures.gives told) in
+      reads = beside_then g.M.Machine c.loop-skipped.invariant.reads tt (rw c.in-Record.is at c.in_ok-next.ensures.reads) (λ told so gives.
+          let s = (g.M.Machine.meaning c.args.machine.now).state in
           let st = reader_stream c.next.new.self s in
           let passed = rw (c.last_record.ensures, c.if-not-branch.false) at (c.in_ok-take.ensures st.records) in
-          inv.gives told ∙ record_skipped c.loop-skipped.skipped c.take.new.self (reader_stream c.loop-skipped.reader s) st (reader_given c.next.new.self) gives passed;
-      fewer = omega (arith, inv.fewer, fewer);
-      runs = λ told. nothing_then (Ok tt) (inv.runs told) (c.next.ensures.runs told);
-      writer = λ told. c.next.ensures.writer told ∙ inv.writer told;
-      promise = λ told t known early kept. c.next.ensures.promise told t known (omega (arith, early, (inv.runs told).moments.later)) (inv.promise told t known early kept);
-      count = c.next.ensures.count ∙ inv.count;
-      call = search rules;
+          so ∙ record_skipped c.loop-skipped.skipped c.take.new.self (reader_stream c.loop-skipped.reader s) st (reader_given c.next.new.self) gives passed);
+      fewer = omega (arith, c.loop-skipped.invariant.fewer, fewer);
     }
 
-pub returns-in-End-clause-gives : goal.returns-in-End-clause-gives
-returns-in-End-clause-gives g c told = c.loop-skipped.invariant.gives told ∙ end_left c.loop-skipped.skipped _ (rw (c.in-End.is, (c.loop-skipped.invariant.runs told).state) at (c.in_ok-next.ensures.gives told))
+pub returns-in_err-next-clause-reads : goal.returns-in_err-next-clause-reads
+returns-in_err-next-clause-reads g c = beside_stops g.M.Machine c.loop-skipped.invariant.reads c.from_residual.result c.from_residual.ensures (rw c.in_err-next.was at c.next.ensures.reads)
 
-pub returns-in-Broken-clause-gives : goal.returns-in-Broken-clause-gives
-returns-in-Broken-clause-gives g c told = c.loop-skipped.invariant.gives told ∙ fault_left c.loop-skipped.skipped _ (rw (c.in-Broken.is, (c.loop-skipped.invariant.runs told).state) at (c.in_ok-next.ensures.gives told))
+pub returns-in-End-clause-reads : goal.returns-in-End-clause-reads
+returns-in-End-clause-reads g c = beside_then g.M.Machine c.loop-skipped.invariant.reads _ (rw c.in-End.is at c.in_ok-next.ensures.reads) (λ told so end. so ∙ end_left c.loop-skipped.skipped _ end)
 
-pub returns-in-End-clause-runs : goal.returns-in-End-clause-runs
-returns-in-End-clause-runs g c told = nothing_then _ (c.loop-skipped.invariant.runs told) (c.next.ensures.runs told)
-
-pub returns-in-Broken-clause-runs : goal.returns-in-Broken-clause-runs
-returns-in-Broken-clause-runs g c told = nothing_then _ (c.loop-skipped.invariant.runs told) (c.next.ensures.runs told)
+pub returns-in-Broken-clause-reads : goal.returns-in-Broken-clause-reads
+returns-in-Broken-clause-reads g c = beside_then g.M.Machine c.loop-skipped.invariant.reads _ (rw c.in-Broken.is at c.in_ok-next.ensures.reads) (λ told so fault. so ∙ fault_left c.loop-skipped.skipped _ fault)

@@ -3,7 +3,8 @@ use Rattle.util_steps.proofs.Taking.{runs_as}
 use Rattle.util_syntax.specs.Items.{item_view}
 use Rattle.util_syntax.specs.declared.items.Item.{Item as Read}
 use Rattle.record_files.specs.Inputs.{input_view}
-use Rattle.iebgener_util.specs.Items.{input_in, order_items, set_in}
+use Rattle.output_files.specs.Outputs.{set_in}
+use Rattle.iebgener_util.specs.Items.{input_in, order_items}
 use Rattle.iebgener_util.specs.declared.orders.State.TheVariants.{Begun}
 use Rattle.iebgener_util.specs.Orders.{orders_of}
 use Rattle.iebgener_util.proofs.StepLemmas.{all_there, no_input, no_output, no_sysin}

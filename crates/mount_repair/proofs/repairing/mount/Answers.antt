@@ -1,6 +1,3 @@
-use Rattle.std.proofs.Common.{◌≡◌, List, ℕ, ap, subst, sym}
-use Rattle.stop_model.proofs.MomentLemmas.{durable_same}
-use Rattle.mount_repair.specs.Repairs.{RepairsPack}
 use Rattle.mount_repair.proofs.PackLoops.{mounts_done_as, mounts_failed_as}
 use Rattle.mount_repair.proofs.Rebuilt.{unit_named}
 use Rattle.mount_repair.proofs.repairing.mount.Goals as goal

@@ -1,8 +1,7 @@
-use Rattle.std.proofs.Common.{◌≡◌, ◌∙◌, [], Some, ap, arith, subst, sym}
-use Rattle.std.specs.Prelude.{Err, is_some, slice_get}
+use Rattle.std.proofs.Common.{◌≡◌, ◌∙◌, [], Some, ap, sym}
+use Rattle.std.specs.Prelude.{slice_get}
 use Rattle.std.proofs.lemmas.Option.{slice_get-get_or}
 use Rattle.std.proofs.lemmas.Result.{err_from_is_err_and}
-use Rattle.vtoc_index.specs.declared.vol.Vol.{Vol}
 use Rattle.mount_repair.specs.declared.scanned.Unpacked.{Unpacked}
 use Rattle.mount_repair.proofs.PackLoops.{kept_all, left_here, mounted_here, packed_next, packed_stopped}
 use Rattle.mount_repair.proofs.repairing.pack_all.Goals as goal

@@ -1,10 +1,10 @@
-use Rattle.std.proofs.Common.{◌≡◌, ◌∷◌, [], List, ap, subst, sym}
+use Rattle.std.proofs.Common.{◌∷◌, [], List, subst, sym}
 use Rattle.dscb_codec.specs.declared.F1.{F1}
 use Rattle.hall_core.specs.Facts.{Attached, unit_of}
 use Rattle.hall_core.specs.Images.{image_in}
 use Rattle.free_rebuild.specs.Repairs.{image_named}
 use Rattle.pack_spec.specs.Settled.{IsPacked}
-use Rattle.pds_directory.specs.Directories.{IsReadablePart, directory_in}
+use Rattle.pds_directory.specs.Directories.{directory_in}
 use Rattle.stow_ops.specs.Packing.{IsPackingOf}
 use Rattle.mount_repair.specs.Scans.{KeepsLibraries}
 use Rattle.mount_repair.proofs.PackSteps.{one_done, one_failed, one_keeps}

@@ -1,8 +1,9 @@
-use Rattle.std.proofs.Common.{refl, ◌∙◌, arith, rules}
+use Rattle.std.proofs.Common.{refl, ◌∙◌}
 use Rattle.std.specs.Prelude.{Ok, Err}
 use Rattle.record_files.specs.RecordWriter.{blocks_to_come}
 use Rattle.record_files.specs.Writing.{coming_of}
 use Rattle.record_files.proofs.AdvanceLemmas.{advanced_none, advanced_then, advances_then}
+use Rattle.record_files.proofs.CallLemmas.{puts_none, puts_then}
 use Rattle.record_files.proofs.PutLemmas.{fault_alike, stops_alike}
 use Rattle.record_files.proofs.putting.pull_all.Goals as goal
 
@@ -10,18 +11,14 @@ pub loop-fault-init : goal.loop-fault-init
 loop-fault-init g c = record {
   so_far = λ told records broken. advanced_none g.M.Machine.tells_prints (coming_of (blocks_to_come c.args.writer.now records) broken) (g.M.Machine.writer c.args.machine.now) (g.M.Machine.meaning c.args.machine.now) (g.M.Machine.status c.args.machine.now).done;
   format = refl;
-  later = λ told. omega arith;
-  promise = λ told t known early kept. kept;
-  call = search rules;
+  call = puts_none g.M.Machine tt c.requires;
 }
 
 pub loop-fault-preserved : goal.loop-fault-preserved
 loop-fault-preserved g c = record {
   so_far = λ told records broken. advanced_then (c.loop-fault.invariant.so_far told records broken) (rw c.in-Ok-true.is at (c.in_ok-pull_next.ensures.advances told records broken)).step;
   format = c.pull_next.ensures.format ∙ c.loop-fault.invariant.format;
-  later = λ told. omega (arith, c.loop-fault.invariant.later told, c.pull_next.ensures.later told);
-  promise = λ told t known early kept. c.pull_next.ensures.promise told t known (omega (arith, early, c.loop-fault.invariant.later told)) (c.loop-fault.invariant.promise told t known early kept);
-  call = search rules;
+  call = puts_then g.M.Machine tt c.loop-fault.invariant.call (rw c.in_ok-pull_next.was at c.pull_next.ensures.call);
 }
 
 pub returns-in_err-pull_next-clause-advances : goal.returns-in_err-pull_next-clause-advances

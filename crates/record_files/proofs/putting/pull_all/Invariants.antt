@@ -1,9 +1,8 @@
-use Rattle.std.proofs.Common.{◌≡◌, ◌≤◌, Bool, List, [], ℕ, true, length}
+use Rattle.std.proofs.Common.{◌≡◌, Bool, List, [], ℕ, length}
 use Rattle.std.specs.Prelude.{IsTrue, Ok}
 use Rattle.record_blocks.specs.Packer.{blocks_with, format_of}
-use Rattle.vol_model.specs.Calls.{Keeps}
-use Rattle.vol_model.specs.Runs.{RunCall}
 use Rattle.record_files.specs.Advancing.{Advanced}
+use Rattle.record_files.specs.Calls.{PutsCall}
 use Rattle.record_files.specs.RecordWriter.{blocks_to_come}
 use Rattle.record_files.specs.Writing.{coming_of}
 use Rattle.record_files.proofs.putting.pull_all.Given as goal
@@ -16,9 +15,7 @@ invariant-loop-fault g l =
     record {
       so_far : IsTrue g.M.Machine.tells → (records : List (List ℕ)) (broken : Bool) → Advanced g.M.Machine.tells_prints (coming_of (blocks_to_come l.fn.writer records) broken) (coming_of (blocks_to_come l.writer records) broken) (w l.fn.machine) (w l.machine) l.fn.writer.start l.writer.start (m l.fn.machine) (m l.machine) (s l.fn.machine).done (s l.machine).done;
       format : format_of l.writer.packer ≡ format_of l.fn.writer.packer;
-      later : IsTrue g.M.Machine.tells → (m l.fn.machine).clock ≤ (m l.machine).clock;
-      promise : IsTrue g.M.Machine.tells → Keeps (m l.fn.machine).clock (g.M.Machine.promise l.fn.machine) (g.M.Machine.promise l.machine);
-      call : RunCall {T = Unit {0}} true (s l.fn.machine) (s l.machine) (Ok tt);
+      call : PutsCall {T = Unit {0}} g.M.Machine l.fn.machine l.machine (Ok tt);
     }
 
 abbrev pub decreases-loop-fault : goal.decreases-loop-fault

@@ -12,16 +12,16 @@ use Rattle.record_files.proofs.putting.pull_next.Goals as goal
 
 pub returns-in_err-pass_on-clause-advances : goal.returns-in_err-pass_on-clause-advances
 returns-in_err-pass_on-clause-advances g c told records broken =
-    advances_as (forgetting c.from_residual.result) (ap (λ (l : List (List ℕ)). coming_of (held_by c.args.writer.now ++ l) broken) (c.in-Ok.ensures.blocks records)) refl
-    (stopped_forgets _ c.from_residual.result c.from_residual.ensures.0 (c.in_err-pass_on.ensures.advances told (blocks_with c.pull.new.self records) broken))
+    advances_as (forgetting c.from_residual-in_err-pass_on.result) (ap (λ (l : List (List ℕ)). coming_of (held_by c.args.writer.now ++ l) broken) (c.in_ok-full.ensures.blocks records)) refl
+    (stopped_forgets _ c.from_residual-in_err-pass_on.result c.from_residual-in_err-pass_on.ensures.0 (c.in_err-pass_on.ensures.advances told (blocks_with c.pull.new.self records) broken))
 
-pub returns-in-Ok-2-clause-advances : goal.returns-in-Ok-2-clause-advances
-returns-in-Ok-2-clause-advances g c told records broken =
-    advances_as (Ok (Ok tt)) (ap (λ (l : List (List ℕ)). coming_of (held_by c.args.writer.now ++ l) broken) (c.in-Ok.ensures.blocks records))
+pub returns-in-Ok-clause-advances : goal.returns-in-Ok-clause-advances
+returns-in-Ok-clause-advances g c told records broken =
+    advances_as (Ok (Ok tt)) (ap (λ (l : List (List ℕ)). coming_of (held_by c.args.writer.now ++ l) broken) (c.in_ok-full.ensures.blocks records))
     (ap (λ (p : Packer). coming_of (held_by c.pass_on.new.writer ++ blocks_with p records) broken) c.pass_on.ensures.packer)
-    (record { step = (rw c.in-Ok-2.is at (c.in_ok-pass_on.ensures.advances told (blocks_with c.pull.new.self records) broken)).step })
+    (record { step = (rw c.in-Ok.is at (c.in_ok-pass_on.ensures.advances told (blocks_with c.pull.new.self records) broken)).step })
 
-pub returns-in-Err-2-clause-advances : goal.returns-in-Err-2-clause-advances
-returns-in-Err-2-clause-advances g c told records broken =
-    advances_as (Ok (Err c.in-Err-2.fault)) (ap (λ (l : List (List ℕ)). coming_of (held_by c.args.writer.now ++ l) broken) (c.in-Ok.ensures.blocks records)) refl
-    (fault_alike c.in-Err-2.fault (rw c.in-Err-2.is at (c.in_ok-pass_on.ensures.advances told (blocks_with c.pull.new.self records) broken)))
+pub returns-in-Err-clause-advances : goal.returns-in-Err-clause-advances
+returns-in-Err-clause-advances g c told records broken =
+    advances_as (Ok (Err c.in-Err.fault)) (ap (λ (l : List (List ℕ)). coming_of (held_by c.args.writer.now ++ l) broken) (c.in_ok-full.ensures.blocks records)) refl
+    (fault_alike c.in-Err.fault (rw c.in-Err.is at (c.in_ok-pass_on.ensures.advances told (blocks_with c.pull.new.self records) broken)))

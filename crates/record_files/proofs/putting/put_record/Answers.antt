@@ -2,10 +2,10 @@ use Rattle.std.proofs.Common.{◌++◌, refl, sym, ◌∙◌, ap}
 use Rattle.std.specs.Prelude.{Ok, Err}
 use Rattle.record_blocks.specs.declared.packer.Packer.{Packer}
 use Rattle.record_blocks.specs.Packer.{blocks_with, format_of}
-use Rattle.record_files.specs.RecordWriter.{held_by}
+use Rattle.record_files.specs.RecordWriter.{coming, held_by}
 use Rattle.record_files.specs.Writing.{coming_of}
 use Rattle.record_files.proofs.AdvanceLemmas.{advances_then}
-use Rattle.record_files.proofs.PutLemmas.{broken_advances, coming_packed, coming_then, coming_unchanged, fault_alike, stops_alike, works_as}
+use Rattle.record_files.proofs.PutLemmas.{coming_packed, coming_then, coming_unchanged, fault_alike, stops_alike}
 use Rattle.record_files.proofs.RecordLemmas.{advances_as, coming_long, fit}
 use Rattle.record_files.proofs.putting.put_record.Goals as goal
 
@@ -13,8 +13,7 @@ pub returns-in-Err-TooLong-clause-advances : goal.returns-in-Err-TooLong-clause-
 returns-in-Err-TooLong-clause-advances g c told st =
     let w = c.args.writer.now in
     let cause = rw c.in-Err-TooLong.field-0-is at c.in-Err-TooLong.ensures.err in
-    broken_advances c.break_off.result c.break_off.ensures.broken
-    (works_as (g.M.Machine.writer c.args.machine.now) c.break_off.result (coming_long w c.args.rec.now st cause.1 ∙ sym (coming_unchanged w _ refl c.in-Err-TooLong.ensures.unchanged)) (c.break_off.ensures.works told))
+    advances_as c.break_off.result (coming_long w c.args.rec.now st cause.1 ∙ sym (coming_unchanged w _ refl c.in-Err-TooLong.ensures.unchanged)) refl (c.break_off.ensures.advances told (coming c.break_off.new.writer st) c.break_off.new.writer.start)
 
 pub returns-in_err-fault-clause-advances : goal.returns-in_err-fault-clause-advances
 returns-in_err-fault-clause-advances g c told st =

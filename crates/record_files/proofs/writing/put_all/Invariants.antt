@@ -1,9 +1,8 @@
-use Rattle.std.proofs.Common.{◌≡◌, ◌≤◌, true, false}
+use Rattle.std.proofs.Common.{◌≡◌, false}
 use Rattle.std.specs.Prelude.{IsTrue, Ok}
 use Rattle.record_blocks.specs.Packer.{is_waiting}
-use Rattle.vol_model.specs.Calls.{Keeps}
-use Rattle.vol_model.specs.Runs.{RunCall}
 use Rattle.record_files.specs.Advancing.{Advanced}
+use Rattle.record_files.specs.Calls.{PutsCall}
 use Rattle.record_files.specs.RecordWriter.{coming}
 use Rattle.record_files.proofs.writing.put_all.Given as goal
 
@@ -16,9 +15,7 @@ invariant-loop-machine g l =
     record {
       so_far : IsTrue g.M.Machine.tells → Advanced g.M.Machine.tells_prints (coming l.fn.writer (stream l.fn.records (m l.fn.machine).state)) (coming l.writer (stream l.records (m l.machine).state)) (w l.fn.machine) (w l.machine) l.fn.writer.start l.writer.start (m l.fn.machine) (m l.machine) (s l.fn.machine).done (s l.machine).done;
       idle : is_waiting l.writer.packer ≡ false;
-      later : IsTrue g.M.Machine.tells → (m l.fn.machine).clock ≤ (m l.machine).clock;
-      promise : IsTrue g.M.Machine.tells → Keeps (m l.fn.machine).clock (g.M.Machine.promise l.fn.machine) (g.M.Machine.promise l.machine);
-      call : RunCall {T = Unit {0}} true (s l.fn.machine) (s l.machine) (Ok tt);
+      call : PutsCall {T = Unit {0}} g.M.Machine l.fn.machine l.machine (Ok tt);
     }
 
 abbrev pub decreases-loop-machine : goal.decreases-loop-machine

@@ -9,18 +9,18 @@ use Rattle.record_files.proofs.writing.put_records.Goals as goal
 
 pub returns-in_err-put_all-clause-advances : goal.returns-in_err-put_all-clause-advances
 returns-in_err-put_all-clause-advances g c told =
-    let writer = c.in-Ok.ensures in
-    let all = sym (new_coming c.in-Ok.writer c.args.format writer.blocks writer.format (g.R.RecordSource.stream c.args.records.now (g.M.Machine.meaning c.args.machine.now).state)) in
-    advances_as (forgetting c.from_residual.result) all refl (stopped_forgets _ c.from_residual.result c.from_residual.ensures.0 (c.in_err-put_all.ensures.advances told))
+    let writer = c.in_ok-writer.ensures in
+    let all = sym (new_coming c.in_ok-writer.writer c.args.format writer.blocks writer.format (g.R.RecordSource.stream c.args.records.now (g.M.Machine.meaning c.args.machine.now).state)) in
+    advances_as (forgetting c.from_residual-in_err-put_all.result) all refl (stopped_forgets _ c.from_residual-in_err-put_all.result c.from_residual-in_err-put_all.ensures.0 (c.in_err-put_all.ensures.advances told))
 
-pub returns-in-Ok-2-clause-advances : goal.returns-in-Ok-2-clause-advances
-returns-in-Ok-2-clause-advances g c told =
-    let writer = c.in-Ok.ensures in
-    let all = sym (new_coming c.in-Ok.writer c.args.format writer.blocks writer.format (g.R.RecordSource.stream c.args.records.now (g.M.Machine.meaning c.args.machine.now).state)) in
-    advances_from (Ok (Ok tt)) writer.start refl (advances_as (Ok (Ok tt)) all refl (rw c.in-Ok-2.is at (c.in_ok-put_all.ensures.advances told)))
+pub returns-in-Ok-clause-advances : goal.returns-in-Ok-clause-advances
+returns-in-Ok-clause-advances g c told =
+    let writer = c.in_ok-writer.ensures in
+    let all = sym (new_coming c.in_ok-writer.writer c.args.format writer.blocks writer.format (g.R.RecordSource.stream c.args.records.now (g.M.Machine.meaning c.args.machine.now).state)) in
+    advances_from (Ok (Ok tt)) writer.start refl (advances_as (Ok (Ok tt)) all refl (rw c.in-Ok.is at (c.in_ok-put_all.ensures.advances told)))
 
 pub returns-clause-advances : goal.returns-clause-advances
 returns-clause-advances g c told =
-    let writer = c.in-Ok.ensures in
-    let all = sym (new_coming c.in-Ok.writer c.args.format writer.blocks writer.format (g.R.RecordSource.stream c.args.records.now (g.M.Machine.meaning c.args.machine.now).state)) in
-    advances_as (Ok (Err c.in-Err-2.fault)) all refl (fault_alike c.in-Err-2.fault (rw c.in-Err-2.is at (c.in_ok-put_all.ensures.advances told)))
+    let writer = c.in_ok-writer.ensures in
+    let all = sym (new_coming c.in_ok-writer.writer c.args.format writer.blocks writer.format (g.R.RecordSource.stream c.args.records.now (g.M.Machine.meaning c.args.machine.now).state)) in
+    advances_as (Ok (Err c.in-Err.fault)) all refl (fault_alike c.in-Err.fault (rw c.in-Err.is at (c.in_ok-put_all.ensures.advances told)))

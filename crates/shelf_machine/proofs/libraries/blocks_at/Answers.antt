@@ -1,5 +1,5 @@
 use Rattle.std.proofs.Common.{ap, arith}
-use Rattle.shelf_machine.specs.Libraries.{size_held}
+use Rattle.pack_machine.specs.Libraries.{size_held}
 use Rattle.shelf_machine.proofs.libraries.blocks_at.Goals as goal
 
 pub returns-in-Some : goal.returns-in-Some

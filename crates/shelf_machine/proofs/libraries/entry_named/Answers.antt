@@ -2,8 +2,8 @@ use Rattle.std.proofs.Common.{Option, subst, sym}
 use Rattle.std.specs.Prelude.{IfSome}
 use Rattle.vol_model.specs.Lawful.{IsLawfulEntry}
 use Rattle.vol_model.specs.declared.contents.Entry.{Entry}
-use Rattle.shelf_machine.specs.Libraries.{entry_has}
-use Rattle.shelf_machine.proofs.HeldLibraries.{copied_lawful, found_lawful}
+use Rattle.pack_machine.specs.Libraries.{entry_has}
+use Rattle.pack_machine.proofs.HeldLibraries.{copied_lawful, found_lawful}
 use Rattle.shelf_machine.proofs.libraries.entry_named.Goals as goal
 
 pub returns-in-Some-clause-lawful : goal.returns-in-Some-clause-lawful

@@ -1,55 +1,68 @@
 -- A put on the pack of the open writer, by what the call on the index of that pack ensures.
-use Rattle.std.proofs.Common.{◌≡◌, List, Some, set, ℕ, sym, ap, ap₂, subst, ◌∙◌, arith}
+use Rattle.std.proofs.Common.{◌≡◌, List, Some, set, ℕ, sym, ap, ap₂, subst, ◌∙◌}
 use Rattle.std.specs.Prelude.{IsTrue, slice_get}
-use Rattle.std.proofs.lemmas.Option.{slice_get-get_or}
 use Rattle.hall_core.specs.Facts.{unit_of}
 use Rattle.vtoc_index.specs.declared.vol.Vol.{Vol}
 use Rattle.dadsm_ops.proofs.FoundSets.{set_found}
 use Rattle.vol_model.specs.declared.contents.Shelf.{Shelf}
-use Rattle.shelf_machine.proofs.Machines.{same_base}
 use Rattle.shelf_machine.specs.Known.{ForgetsOn, KnowsBodies}
-use Rattle.shelf_machine.specs.Machine.{placed_in, shelf_under, units_of}
+use Rattle.shelf_machine.specs.Machine.{AreIndexes, base_of, placed_in, shelf_under, units_of}
 use Rattle.shelf_machine.specs.Opening.{names_of}
+use Rattle.shelf_machine.specs.Pending.{HasSlot}
+use Rattle.shelf_machine.specs.PendingShelves.{kept_in}
 use Rattle.shelf_machine.specs.Putting.{DidPut, PutsOn}
+use Rattle.shelf_machine.specs.ReadyPacks.{caches_of, vols_of}
+use Rattle.pack_machine.specs.declared.pack.Pack.{Pack}
+use Rattle.pack_machine.specs.declared.pack_cache.PackCache.{PackCache}
 use Rattle.shelf_machine.specs.declared.writer.Writer.{Writer}
-use Rattle.shelf_machine.proofs.ForgottenTracks.{knows_still}
-use Rattle.shelf_machine.proofs.OwnedPuts.{Puts, base_put, buffers_put, indexes_put, writing_here, order_put, owned_did, owned_puts, slot_put}
+use Rattle.shelf_machine.proofs.ForgottenTracks.{forgets, knows_still}
+use Rattle.pack_machine.proofs.ListPlaces.{get_map}
+use Rattle.shelf_machine.proofs.Machines.{same_base}
+use Rattle.shelf_machine.proofs.OwnedPuts.{Puts, base_put, indexes_put, writing_here, order_put, owned_did, owned_puts, slot_put}
+use Rattle.shelf_machine.proofs.ReadyPacks.{bodies_in, held_in, index_vol, order_in, pack_of, ready_set, vols_set}
+use Rattle.shelf_machine.proofs.PutOnPacks.{puts_set}
 use Rattle.shelf_machine.proofs.writing.put_on_owned_track.Given.{Over}
 use Rattle.shelf_machine.proofs.writing.put_on_owned_track.Goals as goal
 
--- the index of the pack of the writer's number, before the put
-here : (g : Over) (c : goal.After-put-arg-2-1 g) → slice_get c.args.vols.now.items c.from-k.result ≡ Some c.index_mut.result.now
-here g c =
-    slice_get-get_or c.args.vols.now.items c.from-k.result _ (omega (arith, c.from-k.ensures, c.requires.slot.0)) ∙ ap (λ (x : Vol). Some x) (sym c.index_mut.ensures.value)
-
 pub put-requires-clause-unit : goal.put-requires-clause-unit
-put-requires-clause-unit g c = c.requires.ready.indexes.each c.from-k.result c.index_mut.result.now (here g c)
+put-requires-clause-unit g c = (c.requires.writer.ready.each c.from.result c.index_mut-pack.result.now (pack_of c.args.packs.now.items c.from.result _ c.index_mut-pack.result.now c.from.ensures c.requires.writer.slot.0 c.index_mut-pack.ensures.value)).unit
 
 pub put-requires-clause-slot : goal.put-requires-clause-slot
 put-requires-clause-slot g c =
-    let items = c.index_mut.result.now.slots.items in
-    let at : slice_get c.args.vols.now.items c.args.writer.now.v ≡ Some c.index_mut.result.now = ap (slice_get c.args.vols.now.items) (sym c.from-k.ensures) ∙ here g c in
-    (set_found c.args.writer.now.dsn.bytes items c.args.writer.now.inner.slot (c.requires.slot.1 c.index_mut.result.now at).0).low
+    let v = c.index_mut-pack.result.now.vol in
+    let here = index_vol c.args.packs.now.items c.from.result _ c.index_mut-pack.result.now c.from.ensures c.requires.writer.slot.0 c.index_mut-pack.ensures.value in
+    (set_found c.args.writer.now.dsn.bytes v.slots.items c.args.writer.now.inner.slot (c.requires.writer.slot.1 v here).0).low
 
 pub put-requires-clause-writing : goal.put-requires-clause-writing
 put-requires-clause-writing g c told =
-    writing_here (g.H.Hall.facts c.args.hall.now) c.args.vols.now.items (g.H.Hall.meaning c.args.hall.now) (c.requires.ready.kept told) c.args.writer.now c.index_mut.result.now
-    (ap (slice_get c.args.vols.now.items) (sym c.from-k.ensures) ∙ here g c) c.requires.slot (c.requires.pending told)
+    writing_here (g.H.Hall.facts c.args.hall.now) (vols_of c.args.packs.now.items) (g.H.Hall.meaning c.args.hall.now) (kept_in c.requires.writer.ready told) c.args.writer.now c.index_mut-pack.result.now.vol
+    (index_vol c.args.packs.now.items c.from.result _ c.index_mut-pack.result.now c.from.ensures c.requires.writer.slot.0 c.index_mut-pack.ensures.value) c.requires.writer.slot (c.requires.writer.pending told)
 
--- the same after it
-there : (g : Over) (c : goal.After-vols-1 g) → slice_get c.args.vols.now.items c.from-k.result ≡ Some c.index_mut.result.now
-there g c =
-    slice_get-get_or c.args.vols.now.items c.from-k.result _ (omega (arith, c.from-k.ensures, c.requires.slot.0)) ∙ ap (λ (x : Vol). Some x) (sym c.index_mut.ensures.value)
+-- the pack of the writer's number, and its index
+there : (g : Over) (c : goal.After-packs-1 g) → slice_get c.args.packs.now.items c.from.result ≡ Some c.index_mut-pack.result.now
+there g c = pack_of c.args.packs.now.items c.from.result _ c.index_mut-pack.result.now c.from.ensures c.requires.writer.slot.0 c.index_mut-pack.ensures.value
 
-at : (g : Over) (c : goal.After-vols-1 g) → slice_get c.args.vols.now.items c.args.writer.now.v ≡ Some c.index_mut.result.now
-at g c = ap (slice_get c.args.vols.now.items) (sym c.from-k.ensures) ∙ there g c
+here : (g : Over) (c : goal.After-packs-1 g) → slice_get (vols_of c.args.packs.now.items) c.from.result ≡ Some c.index_mut-pack.result.now.vol
+here g c = get_map (λ (p : Pack). p.vol) c.args.packs.now.items c.from.result c.index_mut-pack.result.now (there g c)
 
-puts : (g : Over) (c : goal.After-vols-1 g) (told : IsTrue g.H.Hall.tells)
-    → Puts (writing_here (g.H.Hall.facts c.args.hall.now) c.args.vols.now.items (g.H.Hall.meaning c.args.hall.now) (c.requires.ready.kept told) c.args.writer.now c.index_mut.result.now (at g c) c.requires.slot (c.requires.pending told))
-    (unit_of (g.H.Hall.facts c.args.hall.now).units c.index_mut.result.now.unit).name (unit_of (g.H.Hall.facts c.put.new.hall).units c.index_mut.result.now.unit).name (c.args.key.now, c.args.payload.now)
+at : (g : Over) (c : goal.After-packs-1 g) → slice_get (vols_of c.args.packs.now.items) c.args.writer.now.v ≡ Some c.index_mut-pack.result.now.vol
+at g c = index_vol c.args.packs.now.items c.from.result _ c.index_mut-pack.result.now c.from.ensures c.requires.writer.slot.0 c.index_mut-pack.ensures.value
+
+-- what is known of it, without its track
+abbrev forgotten : (g : Over) (c : goal.After-packs-1 g) → PackCache
+forgotten g c = record (c.index_mut-pack.result.now.cache) { buf = c.forget.new.self }
+
+forgot : (g : Over) (c : goal.After-packs-1 g) → ForgetsOn c.from.result (caches_of c.args.packs.now.items) (set (caches_of c.args.packs.now.items) c.from.result (forgotten g c))
+forgot g c =
+    let p : Pack = c.index_mut-pack.result.now in
+    forgets (caches_of c.args.packs.now.items) c.from.result p.cache (forgotten g c) (get_map (λ (q : Pack). q.cache) c.args.packs.now.items c.from.result p (there g c)) (ap (λ r. record (p.cache) { buf = r }) c.forget.ensures)
+
+puts : (g : Over) (c : goal.After-packs-1 g) (told : IsTrue g.H.Hall.tells)
+    → Puts (writing_here (g.H.Hall.facts c.args.hall.now) (vols_of c.args.packs.now.items) (g.H.Hall.meaning c.args.hall.now) (kept_in c.requires.writer.ready told) c.args.writer.now c.index_mut-pack.result.now.vol (at g c) c.requires.writer.slot (c.requires.writer.pending told))
+    (unit_of (g.H.Hall.facts c.args.hall.now).units c.index_mut-pack.result.now.vol.unit).name (unit_of (g.H.Hall.facts c.put.new.hall).units c.index_mut-pack.result.now.vol.unit).name (c.args.key.now, c.args.payload.now)
     c.put.new.vol c.put.new.writer (g.H.Hall.meaning c.args.hall.now) (g.H.Hall.meaning c.put.new.hall) c.put.result
 puts g c told =
-    let stands = writing_here (g.H.Hall.facts c.args.hall.now) c.args.vols.now.items (g.H.Hall.meaning c.args.hall.now) (c.requires.ready.kept told) c.args.writer.now c.index_mut.result.now (at g c) c.requires.slot (c.requires.pending told) in record {
+    let stands = writing_here (g.H.Hall.facts c.args.hall.now) (vols_of c.args.packs.now.items) (g.H.Hall.meaning c.args.hall.now) (kept_in c.requires.writer.ready told) c.args.writer.now c.index_mut-pack.result.now.vol (at g c) c.requires.writer.slot (c.requires.writer.pending told) in record {
       put = c.put.ensures.put told;
       spares = c.put.ensures.spares told stands;
       long = c.put.ensures.long;
@@ -62,75 +75,94 @@ puts g c told =
       slot = c.put.ensures.slot;
     }
 
-pub returns-clause-files : goal.returns-clause-files
-returns-clause-files g c told =
-    let vols = c.args.vols.now.items in
+files : (g : Over) (c : goal.After-packs-1 g) (told : IsTrue g.H.Hall.tells)
+    → PutsOn (names_of (g.H.Hall.facts c.args.hall.now).units (units_of (vols_of c.args.packs.now.items))) (g.H.Hall.facts c.put.new.hall).units (vols_of c.args.packs.now.items) (set (vols_of c.args.packs.now.items) c.from.result c.put.new.vol)
+    (set (caches_of c.args.packs.now.items) c.from.result (forgotten g c)) (record (c.args.writer.now) { inner = c.put.new.writer }) (g.H.Hall.meaning c.args.hall.now) (g.H.Hall.meaning c.put.new.hall) c.put.result
+files g c told =
+    let vols = vols_of c.args.packs.now.items in
+    let known = caches_of c.args.packs.now.items in
+    let known' = set known c.from.result (forgotten g c) in
     let old = g.H.Hall.facts c.args.hall.now in
     let new = g.H.Hall.facts c.put.new.hall in
     let m = g.H.Hall.meaning c.args.hall.now in
     let m' = g.H.Hall.meaning c.put.new.hall in
     let w : Writer = c.args.writer.now in
     let w' : Writer = record w { inner = c.put.new.writer } in
-    let number = c.from-k.ensures in
-    subst (λ (k : ℕ). PutsOn (names_of old.units (units_of vols)) new.units vols (set vols k c.put.new.vol) c.forget_read_track.new.known.items w' m m' c.put.result) (sym number)
-    (owned_puts old vols m (c.requires.ready.kept told) w c.index_mut.result.now (at g c) c.requires.slot (c.requires.pending told) new c.requires.ready.indexes m'
+    let number = c.from.ensures in
+    subst (λ (k : ℕ). PutsOn (names_of old.units (units_of vols)) new.units vols (set vols k c.put.new.vol) known' w' m m' c.put.result) (sym number)
+    (owned_puts old vols m (kept_in c.requires.writer.ready told) w c.index_mut-pack.result.now.vol (at g c) c.requires.writer.slot (c.requires.writer.pending told) new c.requires.writer.ready.indexes m'
     (g.met.H.Hall.counts_now c.args.hall.now) (g.met.H.Hall.leaves_state c.args.hall.now) c.put.ensures.faults.units
     (c.args.key.now, c.args.payload.now) c.requires.due c.put.new.vol c.put.ensures.others c.put.new.writer c.put.result (puts g c told)
-    c.args.known.now.items c.forget_read_track.new.known.items (subst (λ (k : ℕ). ForgetsOn k c.args.known.now.items c.forget_read_track.new.known.items) number c.forget_read_track.ensures) (c.requires.ready.held told))
+    known known' (subst (λ (k : ℕ). ForgetsOn k known known') number (forgot g c)) (held_in c.requires.writer.ready told))
+
+pub returns-clause-files : goal.returns-clause-files
+returns-clause-files g c told =
+    let packs = c.args.packs.now.items in
+    let vols = vols_of packs in
+    let names = names_of (g.H.Hall.facts c.args.hall.now).units (units_of vols) in
+    let us = (g.H.Hall.facts c.put.new.hall).units in
+    let w' : Writer = record (c.args.writer.now) { inner = c.put.new.writer } in
+    let m = g.H.Hall.meaning c.args.hall.now in
+    let m' = g.H.Hall.meaning c.put.new.hall in
+    puts_set packs c.from.result _ names us w' m m' c.put.result (files g c told)
 
 pub returns-clause-did : goal.returns-clause-did
 returns-clause-did g c told =
-    let vols = c.args.vols.now.items in
+    let packs = c.args.packs.now.items in
+    let vols = vols_of packs in
     let old = g.H.Hall.facts c.args.hall.now in
     let new = g.H.Hall.facts c.put.new.hall in
     let m = g.H.Hall.meaning c.args.hall.now in
     let m' = g.H.Hall.meaning c.put.new.hall in
     let w : Writer = c.args.writer.now in
     let w' : Writer = record w { inner = c.put.new.writer } in
-    let number = c.from-k.ensures in
-    subst (λ (k : ℕ). DidPut (shelf_under (names_of old.units (units_of vols)) m.state) (placed_in m.state old.units vols w) (c.args.key.now, c.args.payload.now)
+    let number = c.from.ensures in
+    subst (λ (vs : List Vol). DidPut (shelf_under (names_of old.units (units_of vols)) m.state) (placed_in m.state old.units vols w) (c.args.key.now, c.args.payload.now) (placed_in m'.state new.units vs w') c.put.result) (sym (vols_set packs c.from.result _))
+    (subst (λ (k : ℕ). DidPut (shelf_under (names_of old.units (units_of vols)) m.state) (placed_in m.state old.units vols w) (c.args.key.now, c.args.payload.now)
     (placed_in m'.state new.units (set vols k c.put.new.vol) w') c.put.result) (sym number)
-    (owned_did old vols m (c.requires.ready.kept told) w c.index_mut.result.now (at g c) c.requires.slot (c.requires.pending told) new c.requires.ready.indexes m'
+    (owned_did old vols m (kept_in c.requires.writer.ready told) w c.index_mut-pack.result.now.vol (at g c) c.requires.writer.slot (c.requires.writer.pending told) new c.requires.writer.ready.indexes m'
     (g.met.H.Hall.counts_now c.args.hall.now) (g.met.H.Hall.leaves_state c.args.hall.now) c.put.ensures.faults.units
-    (c.args.key.now, c.args.payload.now) c.requires.due c.put.new.vol c.put.ensures.others c.put.new.writer c.put.result (puts g c told))
+    (c.args.key.now, c.args.payload.now) c.requires.due c.put.new.vol c.put.ensures.others c.put.new.writer c.put.result (puts g c told)))
+
+indexes : (g : Over) (c : goal.After-packs-1 g) → AreIndexes (g.H.Hall.facts c.put.new.hall).units (set (vols_of c.args.packs.now.items) c.from.result c.put.new.vol)
+indexes g c =
+    indexes_put (g.H.Hall.facts c.args.hall.now) (g.H.Hall.facts c.put.new.hall) (vols_of c.args.packs.now.items) c.from.result c.index_mut-pack.result.now.vol c.put.new.vol (here g c)
+    c.put.ensures.others c.put.ensures.faults.units c.requires.writer.ready.indexes c.put.ensures.unit
+
+base : (g : Over) (c : goal.After-packs-1 g) → base_of (g.H.Hall.facts c.put.new.hall) (set (vols_of c.args.packs.now.items) c.from.result c.put.new.vol) ≡ base_of (g.H.Hall.facts c.args.hall.now) (vols_of c.args.packs.now.items)
+base g c =
+    base_put (g.H.Hall.facts c.args.hall.now) (g.H.Hall.facts c.put.new.hall) (vols_of c.args.packs.now.items) c.from.result c.index_mut-pack.result.now.vol c.put.new.vol (here g c)
+    c.put.ensures.others c.put.ensures.faults.units c.put.ensures.faults.references
 
 pub returns-clause-indexes : goal.returns-clause-indexes
-returns-clause-indexes g c =
-    indexes_put (g.H.Hall.facts c.args.hall.now) (g.H.Hall.facts c.put.new.hall) c.args.vols.now.items c.from-k.result c.index_mut.result.now c.put.new.vol (there g c)
-    c.put.ensures.others c.put.ensures.faults.units c.requires.ready.indexes c.put.ensures.unit
+returns-clause-indexes g c = subst (AreIndexes (g.H.Hall.facts c.put.new.hall).units) (sym (vols_set c.args.packs.now.items c.from.result _)) (indexes g c)
 
 pub returns-clause-slot : goal.returns-clause-slot
 returns-clause-slot g c =
-    slot_put c.args.vols.now.items c.from-k.result c.index_mut.result.now c.put.new.vol (there g c) c.put.ensures.others
-    c.args.writer.now c.put.new.writer (sym c.from-k.ensures) c.put.ensures.slot c.requires.slot
+    subst (λ (vs : List Vol). HasSlot vs (Some (record (c.args.writer.now) { inner = c.put.new.writer }))) (sym (vols_set c.args.packs.now.items c.from.result _))
+    (slot_put (vols_of c.args.packs.now.items) c.from.result c.index_mut-pack.result.now.vol c.put.new.vol (here g c) c.put.ensures.others
+    c.args.writer.now c.put.new.writer (sym c.from.ensures) c.put.ensures.slot c.requires.writer.slot)
 
 pub returns-clause-base : goal.returns-clause-base
-returns-clause-base g c =
-    base_put (g.H.Hall.facts c.args.hall.now) (g.H.Hall.facts c.put.new.hall) c.args.vols.now.items c.from-k.result c.index_mut.result.now c.put.new.vol (there g c)
-    c.put.ensures.others c.put.ensures.faults.units c.put.ensures.faults.references
-
-pub returns-clause-buffers : goal.returns-clause-buffers
-returns-clause-buffers g c =
-    buffers_put c.args.vols.now.items c.from-k.result c.index_mut.result.now c.put.new.vol (there g c) c.put.ensures.others
-    c.args.known.now.items c.forget_read_track.new.known.items c.forget_read_track.ensures c.requires.ready.buffers
+returns-clause-base g c = ap (base_of (g.H.Hall.facts c.put.new.hall)) (vols_set c.args.packs.now.items c.from.result _) ∙ base g c
 
 pub returns-clause-ready : goal.returns-clause-ready
 returns-clause-ready g c fit =
-    let vols = c.args.vols.now.items in
+    let packs = c.args.packs.now.items in
+    let vols = vols_of packs in
+    let known = caches_of packs in
+    let k = c.from.result in
     let old = g.H.Hall.facts c.args.hall.now in
     let new = g.H.Hall.facts c.put.new.hall in
     let m = g.H.Hall.meaning c.args.hall.now in
     let m' = g.H.Hall.meaning c.put.new.hall in
-    let known' = c.forget_read_track.new.known.items in
-    let vols' = set vols c.from-k.result c.put.new.vol in
-    let base = same_base old new vols vols' (returns-clause-base g c) in
-    let names : names_of new.units (units_of vols') ≡ names_of old.units (units_of vols) = ap₂ names_of base.attached base.numbers in
-    record {
-      indexes = returns-clause-indexes g c;
-      order = order_put (g.H.Hall.facts c.args.hall.now) (g.H.Hall.facts c.put.new.hall) c.args.vols.now.items c.from-k.result c.index_mut.result.now c.put.new.vol (there g c) c.put.ensures.others c.put.ensures.faults.units c.requires.ready.order;
-      buffers = returns-clause-buffers g c;
-      kept = λ told. (returns-clause-files g c told).kept fit;
-      bodies = λ told. subst (λ (s : Shelf). KnowsBodies s known') (sym (ap (λ (ns : List (List ℕ)). shelf_under ns m'.state) names ∙ (returns-clause-files g c told).state))
-          (knows_still c.from-k.result c.args.known.now.items known' c.forget_read_track.ensures (shelf_under (names_of old.units (units_of vols)) m.state) (c.requires.ready.bodies told));
-      held = λ told. (returns-clause-files g c told).held fit;
-    }
+    let known' = set known k (forgotten g c) in
+    let vols' = set vols k c.put.new.vol in
+    let same = same_base old new vols vols' (base g c) in
+    let names : names_of new.units (units_of vols') ≡ names_of old.units (units_of vols) = ap₂ names_of same.attached same.numbers in
+    ready_set g.H.Hall.tells new m' packs k _ (indexes g c)
+    (order_put old new vols k c.index_mut-pack.result.now.vol c.put.new.vol (here g c) c.put.ensures.others c.put.ensures.faults.units (order_in c.requires.writer.ready))
+    (λ told. (files g c told).kept fit)
+    (λ told. subst (λ (s : Shelf). KnowsBodies s known') (sym (ap (λ (ns : List (List ℕ)). shelf_under ns m'.state) names ∙ (files g c told).state))
+    (knows_still k known known' (forgot g c) (shelf_under (names_of old.units (units_of vols)) m.state) (bodies_in c.requires.writer.ready told)))
+    (λ told. (files g c told).held fit)

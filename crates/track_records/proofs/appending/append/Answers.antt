@@ -1,11 +1,11 @@
-use Rattle.std.proofs.Common.{◌≡◌, ◌<◌, ◌≤◌, ◌+◌, ◌/◌, ◌%◌, ◌++◌, [], ◌∷◌, arith, ℕ, List, refl, sym, ap, subst, ◌∙◌, length, take, drop}
+use Rattle.std.proofs.Common.{◌≡◌, ◌/◌, ◌%◌, ◌++◌, [], ◌∷◌, arith, ℕ, List, sym, ap, subst, ◌∙◌, length, take, drop}
 use Rattle.std.proofs.lemmas.List.{take_at}
-use Rattle.ckd_image.specs.Track.{Record, AreRecords}
+use Rattle.ckd_image.specs.Track.{Record}
 use Rattle.hall_core.specs.Facts.{unit_of}
 use Rattle.hall_core.specs.Images.{image_of}
 use Rattle.pack_spec.specs.Label.{heads_of}
 use Rattle.track_records.specs.Buffers.{Buffer, records_at}
-use Rattle.track_records.specs.Appends.{start_behind, continuation, record_of, with_more}
+use Rattle.track_records.specs.Appends.{record_of, with_more}
 use Rattle.track_records.specs.Written.{StandsOn}
 use Rattle.track_records.proofs.ContinueLemmas.{appended, next_stands, stands_continued, unit_continued, unit_fits, length-behind}
 use Rattle.track_records.proofs.PutLemmas.{PartOf, part_of}

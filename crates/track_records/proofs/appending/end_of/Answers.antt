@@ -1,8 +1,8 @@
-use Rattle.std.proofs.Common.{◌≡◌, ◌≤◌, ◌+◌, ◌-◌, arith, ap, length, drop, get_or, List, ℕ, ◌∙◌, sym, length-drop, eqb-true}
+use Rattle.std.proofs.Common.{◌≡◌, ◌-◌, arith, ap, length, drop, get_or, List, ℕ, ◌∙◌, length-drop}
 use Rattle.std.proofs.lemmas.List.{take_rest}
 use Rattle.ckd_image.specs.Reading.{is_record_at, record_length}
 use Rattle.track_records.proofs.PlaceLemmas.{found_some}
-use Rattle.track_records.proofs.PutLemmas.{LastPlace, last_place, none_end, some_there}
+use Rattle.track_records.proofs.PutLemmas.{LastPlace, last_place, some_there}
 use Rattle.track_records.proofs.appending.end_of.Goals as goal
 use Rattle.track_records.proofs.appending.end_of.Goals.{After-record_at}
 

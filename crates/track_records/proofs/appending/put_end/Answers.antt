@@ -1,7 +1,6 @@
-use Rattle.std.proofs.Common.{◌≡◌, ◌+◌, ◌-◌, ◌/◌, ◌%◌, ◌++◌, [], arith, ℕ, List, refl, sym, ap, ◌∙◌, if◌then◌else◌, length}
+use Rattle.std.proofs.Common.{◌≡◌, ◌+◌, ◌-◌, ◌/◌, ◌%◌, [], arith, ℕ, List, refl, sym, ap, ◌∙◌, if◌then◌else◌, length}
 use Rattle.std.proofs.lemmas.List.{append-nil}
 use Rattle.stop_model.specs.Files.{patched}
-use Rattle.ckd_image.specs.Track.{end_marker}
 use Rattle.ckd_image.specs.Writing.{front_bytes}
 use Rattle.pack_spec.specs.Label.{heads_of}
 use Rattle.track_records.proofs.PutLemmas.{put_all, put_here}

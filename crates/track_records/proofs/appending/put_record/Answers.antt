@@ -1,4 +1,4 @@
-use Rattle.std.proofs.Common.{◌≡◌, ◌≤◌, ◌+◌, ◌++◌, ◌∷◌, [], arith, length, get_or, List, ℕ, refl, ap, ◌∙◌}
+use Rattle.std.proofs.Common.{◌≡◌, ◌+◌, ◌++◌, ◌∷◌, [], arith, length, get_or, List, ℕ, ap, ◌∙◌}
 use Rattle.std.specs.Int.{w16, to_be_bytes}
 use Rattle.stop_model.specs.Files.{patched}
 use Rattle.ckd_image.specs.Track.{count_of}

@@ -1,6 +1,6 @@
 use Rattle.std.proofs.Common.{◌≡◌, ◌∙◌, ⊎_elim, inl, inr, List, ℕ, subst, arith}
 use Rattle.stop_model.proofs.MomentLemmas.{same_none}
-use Rattle.shelf_machine.specs.Checking.{unread_in}
+use Rattle.pack_machine.specs.Checking.{unread_in}
 use Rattle.volume_manager.specs.Lines.{check_text}
 use Rattle.volume_manager.specs.Run.{PrintsText, status_of}
 use Rattle.volume_manager.specs.Task.{check_code}

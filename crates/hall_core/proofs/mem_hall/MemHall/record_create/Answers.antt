@@ -1,4 +1,4 @@
-use Rattle.std.proofs.Common.{rules, ◌≡◌, ◌+◌, ◌∙◌, ◌++◌, ◌∷◌, [], ℕ, List, length, replicate, ap, sym, subst, arith}
+use Rattle.std.proofs.Common.{refl, rules, ◌≡◌, ◌+◌, ◌∙◌, ◌++◌, ◌∷◌, [], ℕ, List, length, replicate, ap, sym, subst, arith}
 use Rattle.std.proofs.lemmas.List.{map-append, length-map, length-replicate}
 use Rattle.std.proofs.lemmas.List.Elements.{All-pop}
 use Rattle.std.specs.Prelude.{Option, String, Vec}
@@ -12,7 +12,7 @@ use Rattle.hall_core.specs.Images.{zeros_named}
 use Rattle.hall_core.specs.Memory.{facts_of}
 use Rattle.hall_core.specs.Replay.{IsReplay}
 use Rattle.hall_core.specs.declared.mem_hall.step.Step.TheVariants.{Create}
-use Rattle.hall_core.proofs.RecordLemmas.{IsMore, create_more, first_stays}
+use Rattle.hall_core.proofs.RecordLemmas.{IsMore, records_by, create_more, first_stays}
 use Rattle.hall_core.proofs.UnitLemmas.{spare_less, spares_less}
 use Rattle.hall_core.proofs.mem_hall.MemHall.record_create.Goals as goal
 use Rattle.hall_core.proofs.mem_hall.MemHall.record_create.Goals.{After-note}
@@ -56,12 +56,7 @@ invariant_of-self-clause-spares_room c =
     spares_less c.pop.new.self.items s.room_bytes _ (omega arith) (All-pop (IsSpare s.room_bytes) s.spares.items c.pop.new.self.items c.pop.result c.pop.ensures.items s.spares_room).0
 
 pub returns-clause-noted : goal.returns-clause-noted
-returns-clause-noted c = record {
-  calls = c.note.ensures.calls;
-  events = (created_more (goal.at.returns-clause-noted c).After-note).0.events;
-  room_calls = omega (arith, c.requires.room.calls);
-  room_bytes = omega (arith, c.requires.room.bytes);
-}
+returns-clause-noted c = records_by c.requires.room c.note.ensures.calls (created_more (goal.at.returns-clause-noted c).After-note).0.events refl refl
 
 pub returns-clause-facts : goal.returns-clause-facts
 returns-clause-facts c =

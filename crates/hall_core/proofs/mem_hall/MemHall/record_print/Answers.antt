@@ -1,8 +1,8 @@
 use Rattle.hall_core.proofs.UnitLemmas.{spares_less}
-use Rattle.std.proofs.Common.{arith}
+use Rattle.std.proofs.Common.{refl, arith}
 use Rattle.hall_core.specs.Held.{files_of, first_pairs}
 use Rattle.hall_core.specs.History.{printed}
-use Rattle.hall_core.proofs.RecordLemmas.{IsMore, print_more}
+use Rattle.hall_core.proofs.RecordLemmas.{IsMore, records_by, print_more}
 use Rattle.hall_core.proofs.mem_hall.MemHall.record_print.Goals as goal
 use Rattle.hall_core.proofs.mem_hall.MemHall.record_print.Goals.{After-note}
 
@@ -15,12 +15,7 @@ pub invariant_of-self-clause-replay : goal.invariant_of-self-clause-replay
 invariant_of-self-clause-replay c = (more c).replay
 
 pub returns-clause-noted : goal.returns-clause-noted
-returns-clause-noted c = record {
-  calls = c.note.ensures.calls;
-  events = (more (goal.at.returns-clause-noted c).After-note).events;
-  room_calls = omega (arith, c.requires.calls);
-  room_bytes = omega (arith, c.requires.bytes);
-}
+returns-clause-noted c = records_by c.requires c.note.ensures.calls (more (goal.at.returns-clause-noted c).After-note).events refl refl
 
 pub invariant_of-self-clause-spares_room : goal.invariant_of-self-clause-spares_room
 invariant_of-self-clause-spares_room c = spares_less c.args.self.now.spares.items c.args.self.now.room_bytes _ (omega arith) c.args.self.now.spares_room

@@ -1,11 +1,11 @@
 use Rattle.hall_core.proofs.UnitLemmas.{spares_less}
-use Rattle.std.proofs.Common.{◌∙◌, ap, sym, subst, arith, List, if◌then◌else◌}
+use Rattle.std.proofs.Common.{refl, ◌∙◌, ap, sym, subst, arith, List, if◌then◌else◌}
 use Rattle.hall_core.specs.Held.{files_of, first_pairs, shapes_of, units_at}
 use Rattle.hall_core.specs.Facts.{Attached, unit_of}
 use Rattle.stop_model.specs.Files.{File, written}
 use Rattle.hall_core.specs.History.{wrote}
 use Rattle.hall_core.specs.Replay.{IsReplay}
-use Rattle.hall_core.proofs.RecordLemmas.{IsMore, write_more, first_stays}
+use Rattle.hall_core.proofs.RecordLemmas.{IsMore, records_by, write_more, first_stays}
 use Rattle.hall_core.proofs.UnitLemmas.{place_read}
 use Rattle.hall_core.proofs.mem_hall.MemHall.record_write.Goals as goal
 use Rattle.hall_core.proofs.mem_hall.MemHall.record_write.Goals.{After-note}
@@ -31,12 +31,7 @@ invariant_of-self-clause-replay c =
     subst (λ (l : List File). IsReplay l (files_of c.write_file.new.files.items) s.units.items c.note.new.steps.items c.append-start.new.pool.items s.printed.items) (ap files_of (sym stays)) (more c).replay
 
 pub returns-clause-noted : goal.returns-clause-noted
-returns-clause-noted c = record {
-  calls = c.note.ensures.calls;
-  events = (more (goal.at.returns-clause-noted c).After-note).events;
-  room_calls = omega (arith, c.requires.room.calls);
-  room_bytes = omega (arith, c.requires.room.bytes);
-}
+returns-clause-noted c = records_by c.requires.room c.note.ensures.calls (more (goal.at.returns-clause-noted c).After-note).events refl refl
 
 pub invariant_of-self-clause-spares_room : goal.invariant_of-self-clause-spares_room
 invariant_of-self-clause-spares_room c = spares_less c.args.self.now.spares.items c.args.self.now.room_bytes _ (omega arith) c.args.self.now.spares_room

@@ -1,11 +1,9 @@
 -- A writer that has just begun can commit.
-use Rattle.std.proofs.Common.{◌≡◌, false, List, sym, subst, ap, ◌∙◌}
-use Rattle.std.specs.Prelude.{Option, None, is_some}
-use Rattle.map_machine.specs.Open.{CanCommit}
+use Rattle.std.proofs.Common.{List, sym, subst, ap, ◌∙◌}
+use Rattle.std.specs.Prelude.{is_some}
 use Rattle.shelf_laws.specs.Ready.{IsReady}
 use Rattle.vol_model.specs.Places.{Content}
 use Rattle.vol_model.specs.Writing.{Target}
-use Rattle.vol_model.specs.declared.refusals.Refusal.{Refusal}
 use Rattle.map_machine.proofs.machine.MapMachineMachine.begin.Goals as goal
 
 pub invariant_of-self : goal.invariant_of-self

@@ -2,7 +2,6 @@
 use Rattle.std.proofs.Common.{sym}
 use Rattle.std.specs.Prelude.{slice_get}
 use Rattle.std.specs.Option.{option_copied}
-use Rattle.vol_model.specs.declared.contents.Entry.{Entry}
 use Rattle.vol_model.specs.Lawful.{IsLawfulEntry}
 use Rattle.vol_model.specs.Reading.{entries_in}
 use Rattle.map_machine.specs.Reads.{body_in}

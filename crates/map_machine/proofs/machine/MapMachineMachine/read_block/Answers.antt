@@ -1,5 +1,5 @@
 -- The first block at or after the place is picked, and those of a lawful shelf are lawful.
-use Rattle.std.proofs.Common.{◌≡◌, false, List, not, sym, subst}
+use Rattle.std.proofs.Common.{◌≡◌, false, not, sym, subst}
 use Rattle.std.specs.Prelude.{find}
 use Rattle.std.specs.Option.{option_copied}
 use Rattle.vol_model.specs.declared.contents.Block.{Block}

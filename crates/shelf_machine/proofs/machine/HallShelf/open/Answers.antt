@@ -4,26 +4,23 @@ use Rattle.shelf_machine.specs.Machine.{AreIndexes, AreKept, KeepsSafe, shelf_or
 use Rattle.shelf_machine.specs.Opening.{AreSettledImages, names_of}
 use Rattle.shelf_machine.proofs.HallShelves.{kept_settled}
 use Rattle.shelf_machine.proofs.Openings.{opened_safe}
+use Rattle.shelf_machine.specs.ReadyPacks.{vols_of}
+use Rattle.shelf_machine.proofs.ReadyPacks.{ready_by}
 use Rattle.shelf_machine.proofs.machine.HallShelf.open.Goals as goal
 
 pub invariant_of-result : goal.invariant_of-result
 invariant_of-result g c =
     let files = (g.H.Hall.meaning c.open_packs.new.hall).state in
-    let vols = c.in-Ok.packs.vols.items in
+    let vols = vols_of c.in-Ok.packs.items in
     let units = c.in-Ok.ensures.faults.units in
     record {
       indexes = subst (λ (us : List Attached). AreIndexes us vols) (sym units) c.in-Ok.ensures.opened.indexes;
-      ready = λ sound. record {
-        indexes = subst (λ (us : List Attached). AreIndexes us vols) (sym units) c.in-Ok.ensures.opened.indexes;
-        order = c.in-Ok.ensures.opened.order;
-        buffers = c.in-Ok.ensures.buffers;
-        kept = λ told. subst (λ (us : List Attached). AreKept files us vols) (sym units) (c.in-Ok.ensures.files told).kept;
-        bodies = λ told. c.in-Ok.ensures.known told;
-        held = λ told. c.in-Ok.ensures.held told;
-      };
+      ready = λ sound. ready_by g.H.Hall.tells (g.H.Hall.facts c.open_packs.new.hall) (g.H.Hall.meaning c.open_packs.new.hall) c.in-Ok.packs.items
+          (subst (λ (us : List Attached). AreIndexes us vols) (sym units) c.in-Ok.ensures.opened.indexes) c.in-Ok.ensures.opened.order
+          (λ told. subst (λ (us : List Attached). AreKept files us vols) (sym units) (c.in-Ok.ensures.files told).kept)
+          (λ told. c.in-Ok.ensures.known told) (λ told. c.in-Ok.ensures.held told);
       slot = λ sound. tt;
       pending = λ sound told. (c.in-Ok.ensures.files told).durable;
-      buffers = c.in-Ok.ensures.buffers;
     }
 
 pub returns-in-Ok-clause-shelf : goal.returns-in-Ok-clause-shelf
@@ -32,7 +29,7 @@ returns-in-Ok-clause-shelf g c told =
     let now = (g.H.Hall.facts c.open_packs.new.hall).units in
     let m = g.H.Hall.meaning c.args.hall in
     let m' = g.H.Hall.meaning c.open_packs.new.hall in
-    let vols = c.in-Ok.packs.vols.items in
+    let vols = vols_of c.in-Ok.packs.items in
     let opened = c.in-Ok.ensures.opened in
     let run = c.in-Ok.ensures.files told in
     let numbers : names_of attached (units_of vols) ≡ names_of attached c.args.units.now = ap (names_of attached) opened.numbers in

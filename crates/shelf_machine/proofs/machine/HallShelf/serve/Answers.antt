@@ -4,18 +4,18 @@ use Rattle.shelf_machine.specs.Pending.{HasSlot, IsPendingBy}
 use Rattle.vol_model.specs.Calls.{sound_after}
 use Rattle.shelf_machine.proofs.Machines.{by_files}
 use Rattle.shelf_machine.proofs.ReportLemmas.{applies_reported, idle_reported, machine_call, not_print, still_sound}
+use Rattle.shelf_machine.specs.ReadyPacks.{vols_of}
 use Rattle.shelf_machine.proofs.machine.HallShelf.serve.Goals as goal
 
 pub invariant_of-self : goal.invariant_of-self
 invariant_of-self g c = record {
   indexes = c.operate_settled-ran.ensures.leaves.indexes;
   ready = λ sound. c.operate_settled-ran.ensures.leaves.ready (still_sound c.report.ensures c.requires.sound sound);
-  slot = λ sound. subst (HasSlot c.operate_settled-ran.new.vols.items) (sym (c.operate_settled-ran.ensures.writer (still_sound c.report.ensures c.requires.sound sound))) tt;
+  slot = λ sound. subst (HasSlot (vols_of c.operate_settled-ran.new.packs.items)) (sym (c.operate_settled-ran.ensures.writer (still_sound c.report.ensures c.requires.sound sound))) tt;
   pending = λ sound told.
       let still = still_sound c.report.ensures c.requires.sound sound in
-      subst (IsPendingBy (g.H.Hall.meaning c.operate_settled-ran.new.hall) (g.H.Hall.facts c.operate_settled-ran.new.hall).units c.operate_settled-ran.new.vols.items) (sym (c.operate_settled-ran.ensures.writer still))
+      subst (IsPendingBy (g.H.Hall.meaning c.operate_settled-ran.new.hall) (g.H.Hall.facts c.operate_settled-ran.new.hall).units (vols_of c.operate_settled-ran.new.packs.items)) (sym (c.operate_settled-ran.ensures.writer still))
       ((c.operate_settled-ran.ensures.leaves.shelf told).durable still);
-  buffers = c.operate_settled-ran.ensures.leaves.buffers;
 }
 
 pub returns-clause-shelf : goal.returns-clause-shelf
@@ -29,7 +29,7 @@ returns-clause-stays g c told idle = (c.operate_settled-ran.ensures.leaves.shelf
 
 pub returns-clause-faults : goal.returns-clause-faults
 returns-clause-faults g c =
-    machine_call c.report.ensures (g.H.Hall.facts c.args.self.now.hall) (g.H.Hall.facts c.operate_settled-ran.new.hall) c.args.self.now.vols.items c.operate_settled-ran.new.vols.items c.args.self.now.writer c.operate_settled-ran.new.writer
+    machine_call c.report.ensures (g.H.Hall.facts c.args.self.now.hall) (g.H.Hall.facts c.operate_settled-ran.new.hall) (vols_of c.args.self.now.packs.items) (vols_of c.operate_settled-ran.new.packs.items) c.args.self.now.writer c.operate_settled-ran.new.writer
     c.requires.sound (λ still. ap is_open_in (c.operate_settled-ran.ensures.writer (ap sound_after (sym c.report.ensures.answer) ∙ still))) c.operate_settled-ran.ensures.leaves.base c.operate_settled-ran.ensures.leaves.faults
 
 pub returns-clause-print : goal.returns-clause-print

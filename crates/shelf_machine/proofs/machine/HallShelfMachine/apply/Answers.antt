@@ -5,16 +5,17 @@ use Rattle.vol_model.specs.Shelf.{step}
 use Rattle.stop_model.proofs.MomentLemmas.{counts_now_seen}
 use Rattle.shelf_machine.specs.Machine.{shelf_under}
 use Rattle.shelf_machine.specs.Parts.{meaning_of, pack_names}
-use Rattle.shelf_machine.specs.PendingShelves.{pending_durable}
+use Rattle.shelf_machine.specs.PendingShelves.{kept_in, pending_durable}
 use Rattle.shelf_machine.proofs.MachineLibraries.{call_behind, keeps_behind, stopped_call, stopped_count, stopped_shelf}
 use Rattle.shelf_machine.proofs.Settling.{applies_behind}
+use Rattle.shelf_machine.specs.ReadyPacks.{vols_of}
 use Rattle.shelf_machine.proofs.machine.HallShelfMachine.apply.Goals as goal
 
 pub returns-in-Ok-clause-shelf : goal.returns-in-Ok-clause-shelf
 returns-in-Ok-clause-shelf g c told =
     let was = c.args.self.now in
     applies_behind c.args.op.now (meaning_of was) (meaning_of c.prepare.new.self)
-    (pending_durable (g.H.Hall.meaning was.hall) (g.H.Hall.facts was.hall).units was.vols.items was.writer ((was.ready c.requires.sound).kept told) (was.slot c.requires.sound) (was.pending c.requires.sound told))
+    (pending_durable (g.H.Hall.meaning was.hall) (g.H.Hall.facts was.hall).units (vols_of was.packs.items) was.writer (kept_in (was.ready c.requires.sound) told) (was.slot c.requires.sound) (was.pending c.requires.sound told))
     (c.in-Ok.ensures.idle told).same (meaning_of c.serve.new.self) c.serve.result (c.serve.ensures.shelf told)
 
 pub returns-in-Ok-clause-promise : goal.returns-in-Ok-clause-promise
@@ -41,7 +42,7 @@ pub returns-in-Err-clause-shelf : goal.returns-in-Err-clause-shelf
 returns-in-Err-clause-shelf g c told =
     let was = c.args.self.now in
     stopped_shelf c.in-Err.error c.in-Err.ensures.error c.args.op.now (meaning_of was) (meaning_of c.prepare.new.self)
-    (pending_durable (g.H.Hall.meaning was.hall) (g.H.Hall.facts was.hall).units was.vols.items was.writer ((was.ready c.requires.sound).kept told) (was.slot c.requires.sound) (was.pending c.requires.sound told))
+    (pending_durable (g.H.Hall.meaning was.hall) (g.H.Hall.facts was.hall).units (vols_of was.packs.items) was.writer (kept_in (was.ready c.requires.sound) told) (was.slot c.requires.sound) (was.pending c.requires.sound told))
     (c.in-Err.ensures.idle told).same (counts_now_seen (shelf_under (pack_names c.prepare.new.self)) (g.H.Hall.meaning c.prepare.new.self.hall) (g.met.H.Hall.counts_now c.prepare.new.self.hall))
 
 pub returns-in-Err-clause-promise : goal.returns-in-Err-clause-promise

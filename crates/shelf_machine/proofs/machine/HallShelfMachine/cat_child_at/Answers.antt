@@ -1,6 +1,6 @@
 use Rattle.shelf_machine.proofs.HallShelves.{machine_volumes}
 use Rattle.std.proofs.Common.{[]}
-use Rattle.shelf_machine.proofs.ShelfReads.{no_child, picks_none}
+use Rattle.pack_machine.proofs.ShelfReads.{no_child, picks_none}
 use Rattle.shelf_machine.proofs.Machines.{idles}
 use Rattle.shelf_machine.proofs.machine.HallShelfMachine.cat_child_at.Goals as goal
 

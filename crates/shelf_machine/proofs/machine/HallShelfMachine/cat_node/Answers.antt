@@ -1,6 +1,6 @@
 use Rattle.shelf_machine.proofs.HallShelves.{machine_volumes}
 use Rattle.std.proofs.Common.{[], refl}
-use Rattle.shelf_machine.proofs.ShelfReads.{picks_none}
+use Rattle.pack_machine.proofs.ShelfReads.{picks_none}
 use Rattle.shelf_machine.proofs.Machines.{idles}
 use Rattle.shelf_machine.proofs.machine.HallShelfMachine.cat_node.Goals as goal
 

@@ -4,9 +4,10 @@ use Rattle.std.specs.Str.{bytes_eq}
 use Rattle.vol_model.specs.declared.answers.ReadErr.TheVariants as errors
 use Rattle.vol_model.specs.declared.contents.Entry.{Entry}
 use Rattle.vol_model.specs.Writing.{body_on}
-use Rattle.shelf_machine.specs.Libraries.{HoldsLibrary, library_at}
+use Rattle.pack_machine.specs.Libraries.{HoldsLibrary, library_at}
 use Rattle.shelf_machine.specs.Parts.{known_of, meaning_of}
-use Rattle.shelf_machine.proofs.MachineLibraries.{not_device, picks_entry, picks_nothing, picks_unread, read_as}
+use Rattle.pack_machine.proofs.StillPacks.{not_device}
+use Rattle.shelf_machine.proofs.MachineLibraries.{picks_entry, picks_nothing, picks_unread, read_as}
 use Rattle.shelf_machine.proofs.machine.HallShelfMachine.entry.Goals as goal
 
 pub returns-in-Ok-Some-clause-value : goal.returns-in-Ok-Some-clause-value

@@ -1,6 +1,4 @@
-use Rattle.shelf_machine.specs.Machine.{AreInOrder}
-use Rattle.std.proofs.Common.{sym, subst}
-use Rattle.shelf_machine.proofs.HallShelves.{machine_volumes}
+use Rattle.shelf_machine.proofs.HallShelves.{machine_order, machine_volumes}
 use Rattle.shelf_machine.proofs.Machines.{idles}
 use Rattle.shelf_machine.proofs.machine.HallShelfMachine.extent.Goals as goal
 
@@ -11,4 +9,4 @@ pub returns-clause-idle : goal.returns-clause-idle
 returns-clause-idle g c told = idles _ _ (g.met.H.Hall.counts_now c.args.self.now.hall)
 
 pub extent_on-requires-clause-order : goal.extent_on-requires-clause-order
-extent_on-requires-clause-order g c = subst AreInOrder (sym c.deref.ensures.value) ((c.args.self.now.ready c.requires.sound).order)
+extent_on-requires-clause-order g c = machine_order c.args.self.now c.deref.result.now c.deref.ensures.value c.requires.sound

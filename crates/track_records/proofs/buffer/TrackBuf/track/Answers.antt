@@ -1,5 +1,4 @@
 use Rattle.std.proofs.Common.{rules}
-use Rattle.track_records.proofs.PutLemmas.{put_behind}
 use Rattle.track_records.proofs.buffer.TrackBuf.track.Goals as goal
 
 pub returns : goal.returns

@@ -1,0 +1,11 @@
+pub mod DoneWrites
+pub mod Found
+pub mod KeptSteps
+pub mod LeftBlocks
+pub mod LookedUp
+pub mod OneChain
+pub mod OrderedWays
+pub mod PlainTurns
+pub mod ReadAll
+pub mod ThinnedWrites
+pub mod WayPlaces

@@ -1,0 +1,9 @@
+pub mod Branches
+pub mod Cuts
+pub mod Finding
+pub mod Left
+pub mod Located
+pub mod Orders
+pub mod Reads
+pub mod Stops
+pub mod Thinned

@@ -1,0 +1,12 @@
+pub mod Blocks
+pub mod Checking
+pub mod Entries
+pub mod Fronts
+pub mod Known
+pub mod Libraries
+pub mod NewSets
+pub mod Reads
+pub mod Ready
+pub mod Refusals
+pub mod Standing
+pub mod Unread

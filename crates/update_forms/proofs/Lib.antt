@@ -1,0 +1,6 @@
+mod LawLemmas
+mod MergeLemmas
+pub mod NumberLemmas
+mod OrderLemmas
+mod PutLemmas
+mod Rows
